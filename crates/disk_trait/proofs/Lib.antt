@@ -1,0 +1,3 @@
+mod Files
+mod Left
+mod Next

@@ -1,0 +1,78 @@
+-- One call more, in the record of a disk in memory.
+use Rattle.std.proofs.Common.{◌≡◌, ◌⊎◌, inl, inr, ⊎_elim, ℕ, ◌+◌, ◌<◌, ◌≤◌, List, [], ◌∷◌, ◌++◌, length, refl, sym, ap, subst, arith, length-append}
+use Rattle.std.proofs.lemmas.List.{take_all, take-append-le}
+use Rattle.std.proofs.lemmas.Bool.{cases_lt}
+use Rattle.disk_trait.specs.Disk.{Image, OnHalf, Partly, Elapses}
+use Rattle.disk_trait.specs.Replay.{Present, PartOf, settled, after_what, where_same, after_call, after_calls, MayLeave, LeftSince, told, Follows}
+use Rattle.disk_trait.specs.declared.call.Call.{Call}
+use Rattle.disk_trait.specs.declared.call.What.{What}
+use Rattle.disk_trait.specs.declared.half.Half.{Half}
+use Rattle.disk_trait.specs.declared.half.Half.TheVariants.{A, B}
+
+abbrev pub one : Half → What → List Call
+one half what = record { half = half; what = what } ∷ []
+
+after_calls-push : (half : Half) (calls : List Call) (call : Call) (p : Present) → after_calls half (calls ++ call ∷ []) p ≡ after_call half call (after_calls half calls p)
+after_calls-push half [] call p = refl
+after_calls-push half (first ∷ calls) call p = after_calls-push half calls call (after_call half first p)
+
+pub reads-push : (half on : Half) (what : What) (calls : List Call) (p : Present) → (after_calls half (calls ++ one on what) p).reads ≡ (where_same half on (after_what what (after_calls half calls p)) (after_calls half calls p)).reads
+reads-push half on what calls p = ap (λ (q : Present). q.reads) (after_calls-push half calls (record { half = on; what = what }) p)
+
+left-push : (half on : Half) (what : What) (calls : List Call) (p : Present) (c : List ℕ) → (after_calls half (calls ++ one on what) p).may_leave c → (where_same half on (after_what what (after_calls half calls p)) (after_calls half calls p)).may_leave c
+left-push half on what calls p c left = subst (λ (q : Present). q.may_leave c) (after_calls-push half calls (record { half = on; what = what }) p) left
+
+elapses_push : (start : Image) (calls : List Call) (call : Call) (failures later_failures : ℕ) → Elapses (told start calls failures) (told start (calls ++ call ∷ []) later_failures)
+elapses_push start calls call failures later_failures = record {
+  later = omega (arith, length-append calls (call ∷ []));
+  nothing_else = λ t c le left. earlier t c left (cases_lt left.moment (length calls + 1));
+  keeps = λ t c le left. record {
+    moment = left.moment;
+    not_before = left.not_before;
+    not_after = omega (arith, left.not_after, length-append calls (call ∷ []));
+    left = subst (λ (l : List Call). MayLeave start l c) (sym (take-append-le left.moment calls (call ∷ []) left.not_after)) left.left;
+  };
+}
+  where
+    earlier : (t : ℕ) (c : Image) (left : LeftSince start (calls ++ call ∷ []) t c) → (left.moment < length calls + 1) ⊎ (length calls + 1 ≤ left.moment) → LeftSince start calls t c ⊎ MayLeave start (calls ++ call ∷ []) c
+    earlier t c left (inl below) =
+        let within : left.moment ≤ length calls = omega (arith, below) in
+        inl (record {
+          moment = left.moment;
+          not_before = left.not_before;
+          not_after = within;
+          left = subst (λ (l : List Call). MayLeave start l c) (take-append-le left.moment calls (call ∷ []) within) left.left;
+        })
+    earlier t c left (inr last) =
+        let whole : length (calls ++ call ∷ []) ≤ left.moment = omega (arith, last, length-append calls (call ∷ [])) in
+        inr (subst (λ (l : List Call). MayLeave start l c) (take_all left.moment (calls ++ call ∷ []) whole) left.left)
+
+next : (start : Image) (calls : List Call) (half : Half) (what : What) (failures later_failures : ℕ) → Follows half what (told start calls failures) (told start (calls ++ one half what) later_failures)
+next start calls A what failures later_failures = record {
+  changed = reads-push A A what calls (settled start.a);
+  other = reads-push B A what calls (settled start.b);
+  crash = λ c left. from c (left-push A A what calls (settled start.a) c.a left.0) (left-push B A what calls (settled start.b) c.b left.1);
+  binds = λ c left. (left-push A A what calls (settled start.a) c.a left.0).1;
+  time = elapses_push start calls (record { half = A; what = what }) failures later_failures;
+}
+  where
+    from : (c : Image) → (after_what what (after_calls A calls (settled start.a))).may_leave c.a → (after_calls B calls (settled start.b)).may_leave c.b → (d : Image) × MayLeave start calls d × Partly (OnHalf A (PartOf what)) d c
+    from c left other =
+        let d : Image = record { a = left.0.0; b = c.b } in
+        (d, (left.0.1, other), ⊎_elim (λ same. inl (ap (λ (x : List ℕ). let i : Image = record { a = x; b = c.b } in i) same)) (λ part. inr (record { changed = part; other = refl })) left.0.2)
+next start calls B what failures later_failures = record {
+  changed = reads-push B B what calls (settled start.b);
+  other = reads-push A B what calls (settled start.a);
+  crash = λ c left. from c (left-push A B what calls (settled start.a) c.a left.0) (left-push B B what calls (settled start.b) c.b left.1);
+  binds = λ c left. (left-push B B what calls (settled start.b) c.b left.1).1;
+  time = elapses_push start calls (record { half = B; what = what }) failures later_failures;
+}
+  where
+    from : (c : Image) → (after_calls A calls (settled start.a)).may_leave c.a → (after_what what (after_calls B calls (settled start.b))).may_leave c.b → (d : Image) × MayLeave start calls d × Partly (OnHalf B (PartOf what)) d c
+    from c other left =
+        let d : Image = record { a = c.a; b = left.0.0 } in
+        (d, (other, left.0.1), ⊎_elim (λ same. inl (ap (λ (x : List ℕ). let i : Image = record { a = c.a; b = x } in i) same)) (λ part. inr (record { changed = part; other = refl })) left.0.2)
+
+-- the same, of a list that is known to be longer by the call
+pub next_is : (start : Image) (calls later : List Call) (half : Half) (what : What) (failures later_failures : ℕ) → later ≡ calls ++ one half what → Follows half what (told start calls failures) (told start later later_failures)
+next_is start calls later half what failures later_failures is = subst (λ (l : List Call). Follows half what (told start calls failures) (told start l later_failures)) (sym is) (next start calls half what failures later_failures)

@@ -1,0 +1,128 @@
+-- What a disk of two files is: what a read gives, what a crash may leave, and what each call does to both.
+use Rattle.std.specs.Prelude.{◌≡◌, ◌⊎◌, ◌↔◌, ℕ, ◌+◌, ◌<◌, ◌≤◌, max, Bool, List, [], ◌++◌, length, take, drop, Result, MatchResult, IsTrue}
+use Rattle.std.specs.List.{AllByRecursion}
+use Rattle.disk_trait.specs.declared.disk.DeviceFault.{DeviceFault}
+use Rattle.disk_trait.specs.declared.half.Half.{Half}
+use Rattle.disk_trait.specs.declared.half.Half.TheVariants.{A, B}
+
+-- the bytes of the two files
+pub record Image : Type 0 where
+  pub a : List ℕ
+  pub b : List ℕ
+
+abbrev pub file_of : Half → Image → List ℕ
+file_of A image = image.a
+file_of B image = image.b
+
+-- the file of the other half
+abbrev pub other_of : Half → Image → List ℕ
+other_of A image = image.b
+other_of B image = image.a
+
+pub record State : Type 1 where
+  -- the disk keeps the rules below; nothing is claimed of one that isn't
+  pub honest : Bool
+  -- what a read gives
+  pub reads : Image
+  -- the images that a crash now may leave
+  pub may_leave : Image → Type 0
+  -- a clock, which never falls
+  pub moment : ℕ
+  -- the images that a crash at some moment from that one on might have left
+  pub left_since : ℕ → Image → Type 0
+  -- how often a call has failed
+  pub failures : ℕ
+
+abbrev pub IsHonest : State → Type 0
+IsHonest s = IsTrue s.honest
+
+-- a crash leaves what a read gives, and nothing else
+abbrev pub IsDurable : State → Type 0
+IsDurable s = (c : Image) → s.may_leave c → c ≡ s.reads
+
+-- two empty files, nothing of them pending, and no failure yet
+pub record IsFresh (s : State) : Type 0 where
+  pub honest : IsHonest s
+  pub a : s.reads.a ≡ []
+  pub b : s.reads.b ≡ []
+  pub durable : IsDurable s
+  pub failures : s.failures ≡ 0
+
+-- one disk stands as the other does, but for the count of failures
+pub record IsSame (s t : State) : Type 0 where
+  pub honest : s.honest ≡ t.honest
+  pub reads : s.reads ≡ t.reads
+  pub may_leave : (c : Image) → (s.may_leave c ↔ t.may_leave c)
+  pub moment : s.moment ≡ t.moment
+  pub left_since : (moment : ℕ) (c : Image) → (s.left_since moment c ↔ t.left_since moment c)
+
+-- ---- what a call does to a file
+
+-- the file with these bytes in place of its own from there on; it grows where they pass its end
+abbrev pub written : ℕ → List ℕ → List ℕ → List ℕ
+written at bytes old = take at old ++ bytes ++ drop (at + length bytes) old
+
+abbrev pub AreBytes : List ℕ → Type 0
+AreBytes bytes = AllByRecursion (λ byte. byte < 256) bytes
+
+-- a write of n bytes that a crash cuts short: any bytes in the range, past the old end any number of them, the rest as before
+pub record Torn (at n : ℕ) (old new : List ℕ) : Type 0 where
+  pub middle : List ℕ
+  pub bytes : AreBytes middle
+  pub parts : new ≡ take at old ++ middle ++ drop (at + n) old
+  pub no_shorter : length old ≤ length new
+  pub no_longer : length new ≤ max (length old) (at + n)
+
+-- a cut to n bytes that a crash cuts short: the old length, the new one or one between, and any bytes between
+pub record Cut (n : ℕ) (old new : List ℕ) : Type 0 where
+  pub middle : List ℕ
+  pub bytes : AreBytes middle
+  pub parts : new ≡ take n old ++ middle
+  pub no_longer : length new ≤ length old
+
+-- the step is taken on this half's file, and the other half's stays
+pub record OnHalf (half : Half) (step : List ℕ → List ℕ → Type 0) (old new : Image) : Type 0 where
+  pub changed : step (file_of half old) (file_of half new)
+  pub other : other_of half new ≡ other_of half old
+
+-- nothing is done yet, or the step is
+abbrev pub Partly : (Image → Image → Type 0) → Image → Image → Type 0
+Partly step old new = (new ≡ old) ⊎ step old new
+
+-- ---- what the calls promise
+
+-- Of every disk: no call changes its honesty, and the count of failures rises by one with each fault and else stays.
+pub record Counts {T : Type 0} (old new : State) (result : Result T DeviceFault) : Type 0 where
+  pub honest : new.honest ≡ old.honest
+  pub failures : MatchResult result (λ _. new.failures ≡ old.failures) (λ _. new.failures ≡ old.failures + 1)
+
+-- Time goes on: a crash since t might have left what it might have left before, or what it may leave now.
+pub record Elapses (old new : State) : Type 0 where
+  pub later : old.moment ≤ new.moment
+  pub nothing_else : (t : ℕ) (c : Image) → t ≤ old.moment → new.left_since t c → old.left_since t c ⊎ new.may_leave c
+  pub keeps : (t : ℕ) (c : Image) → t ≤ old.moment → old.left_since t c → new.left_since t c
+
+-- a call that writes nothing
+pub record Looks (old new : State) : Type 0 where
+  pub reads : new.reads ≡ old.reads
+  pub crash : (c : Image) → new.may_leave c → old.may_leave c
+  pub time : Elapses old new
+
+-- a call that takes this step or fails in it; until a sync a crash may leave it undone, or any part of it done
+pub record Changes (step : Image → Image → Type 0) (old new : State) : Type 0 where
+  pub reads : Partly step old.reads new.reads
+  pub crash : (c : Image) → new.may_leave c → (d : Image) × old.may_leave d × Partly step d c
+  pub time : Elapses old new
+
+-- Between calls: what a read gives may be left; the moments since t have this one among them; since this one there is no other.
+pub record IsSound (s : State) : Type 0 where
+  pub reads_stay : s.may_leave s.reads
+  pub counts_now : (t : ℕ) (c : Image) → t ≤ s.moment → s.may_leave c → s.left_since t c
+  pub only_now : (c : Image) → s.left_since s.moment c → s.may_leave c
+
+-- a crash at any moment since the old state, inside a call too, leaves an image with P
+pub record Throughout (old new : State) (P : Image → Type 0) : Type 0 where
+  pub later : old.moment ≤ new.moment
+  pub each : (c : Image) → new.left_since old.moment c → P c
+  -- for a run that began earlier
+  pub before : (t : ℕ) (c : Image) → t ≤ old.moment → new.left_since t c → old.left_since t c ⊎ P c

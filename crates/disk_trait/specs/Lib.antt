@@ -1,0 +1,9 @@
+pub mod Crash
+pub mod Disk
+pub mod Half
+pub mod Host
+pub mod Memory
+pub mod Moments
+pub mod Once
+pub mod Replay
+pub mod ReplayLaws

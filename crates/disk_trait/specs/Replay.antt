@@ -1,0 +1,93 @@
+-- What a disk in memory holds, told from its start and the calls that it took: each file apart, one call after the other.
+use Rattle.std.specs.Prelude.{◌≡◌, ◌⊎◌, ℕ, ◌≤◌, true, List, [], ◌∷◌, length, take}
+use Rattle.disk_trait.specs.Disk.{Image, State, Elapses, file_of, other_of, written, Torn, Cut, OnHalf, Partly}
+use Rattle.disk_trait.specs.declared.call.Call.{Call}
+use Rattle.disk_trait.specs.declared.call.What.{What}
+use Rattle.disk_trait.specs.declared.call.What.TheVariants.{Looked, Wrote, Shortened, Synced}
+use Rattle.disk_trait.specs.declared.half.Half.{Half}
+use Rattle.disk_trait.specs.declared.half.Half.TheVariants.{A, B}
+
+-- one file: what a read gives, and what a crash may leave
+pub record Present : Type 1 where
+  pub reads : List ℕ
+  pub may_leave : List ℕ → Type 0
+
+-- nothing is pending
+abbrev pub settled : List ℕ → Present
+settled file = record { reads = file; may_leave = λ c. c ≡ file }
+
+-- what a read gives after the call
+abbrev pub reads_after : What → List ℕ → List ℕ
+reads_after Looked file = file
+reads_after (Wrote at bytes) file = written at bytes.items file
+reads_after (Shortened len) file = take len file
+reads_after Synced file = file
+
+-- what a crash may make of a file on which the call is pending, beside leaving it undone
+abbrev pub PartOf : What → List ℕ → List ℕ → Type 0
+PartOf Looked old new = ⊥
+PartOf (Wrote at bytes) old new = Torn at (length bytes.items) old new ⊎ (new ≡ written at bytes.items old)
+PartOf (Shortened len) old new = Cut len old new
+PartOf Synced old new = ⊥
+
+-- after a sync a crash leaves what a read gives
+abbrev pub Binds : What → List ℕ → List ℕ → Type 0
+Binds Synced file left = left ≡ file
+Binds _ file left = Unit {0}
+
+abbrev pub MayFollow : What → Present → List ℕ → Type 0
+MayFollow what before c = (d : List ℕ) × before.may_leave d × ((c ≡ d) ⊎ PartOf what d c)
+
+abbrev pub after_what : What → Present → Present
+after_what what before = record {
+  reads = reads_after what before.reads;
+  may_leave = λ c. MayFollow what before c × Binds what before.reads c;
+}
+
+-- the first of the two where the halves are the same, else the second
+abbrev pub where_same : Half → Half → Present → Present → Present
+where_same A A same other = same
+where_same A B same other = other
+where_same B A same other = other
+where_same B B same other = same
+
+-- a call of the other half changes nothing
+abbrev pub after_call : Half → Call → Present → Present
+after_call half call before = where_same half call.half (after_what call.what before) before
+
+-- the calls in turn, the oldest first
+abbrev pub after_calls : Half → List Call → Present → Present
+after_calls half [] before = before
+after_calls half (call ∷ calls) before = after_calls half calls (after_call half call before)
+
+-- what a crash after these calls may leave
+abbrev pub MayLeave : Image → List Call → Image → Type 0
+MayLeave start calls c = (after_calls A calls (settled start.a)).may_leave c.a × (after_calls B calls (settled start.b)).may_leave c.b
+
+-- what a crash might have left at some moment from t on: a moment is the number of calls before it
+pub record LeftSince (start : Image) (calls : List Call) (t : ℕ) (c : Image) : Type 0 where
+  pub moment : ℕ
+  pub not_before : t ≤ moment
+  pub not_after : moment ≤ length calls
+  pub left : MayLeave start (take moment calls) c
+
+abbrev pub told : Image → List Call → ℕ → State
+told start calls failures = record {
+  honest = true;
+  reads = record {
+    a = (after_calls A calls (settled start.a)).reads;
+    b = (after_calls B calls (settled start.b)).reads;
+  };
+  may_leave = MayLeave start calls;
+  moment = length calls;
+  left_since = LeftSince start calls;
+  failures = failures;
+}
+
+-- the new disk has taken one call more
+pub record Follows (half : Half) (what : What) (old new : State) : Type 0 where
+  pub changed : file_of half new.reads ≡ reads_after what (file_of half old.reads)
+  pub other : other_of half new.reads ≡ other_of half old.reads
+  pub crash : (c : Image) → new.may_leave c → (d : Image) × old.may_leave d × Partly (OnHalf half (PartOf what)) d c
+  pub binds : (c : Image) → new.may_leave c → Binds what (file_of half old.reads) (file_of half c)
+  pub time : Elapses old new

@@ -1,0 +1,79 @@
+// A disk as the log sees it: two files of bytes, of which a crash may leave less than a read gives.
+ghost use Rattle.std.specs.Prelude.{◌≡◌, ◌<◌, ◌≤◌, ◌-◌, ◌^◌, length, take, drop, IfOk, OnOk};
+ghost use Rattle.disk_trait.specs.Disk.{Image, State, file_of, written, Torn, Cut, OnHalf, IsHonest, IsSound, Counts, Looks, Changes};
+
+use crate::Half;
+use thiserror::Error;
+
+/// A call of the device failed. It may have done any part of its work; a sync that failed has synced nothing.
+#[derive(Clone, Copy, Debug, PartialEq, Eq, Error)]
+#[error("the device failed")]
+pub struct DeviceFault;
+
+/// Two files of bytes. What is written lasts through a crash only after a sync of its half.
+///
+/// A disk claims to be honest or claims nothing. The clauses that begin with `IsHonest` bind an honest one;
+/// the others bind every disk.
+pub trait Disk {
+    /// What the disk holds, what a crash may leave of it, and how often it has failed.
+    ghost state: { Self → State };
+
+    /// How often a call of this disk has failed.
+    fn failures(&self) -> u64
+        ensures { result ≡ (state self.now).failures };
+
+    /// The length of a half's file in bytes.
+    fn len(&mut self, half: Half) -> Result<u64, DeviceFault>
+        requires { (state self.old).failures < 2 ^ 64 - 1 }
+        ensures counts { Counts (state self.old) (state self.new) result }
+        ensures looks { IsHonest (state self.old) → Looks (state self.old) (state self.new) }
+        ensures length { IfOk result (λ n. IsHonest (state self.old)
+            → n ≡ length (file_of half (state self.old).reads)) };
+
+    /// Reads from offset `at` on: as many bytes as the file has there, up to the length of `buffer`.
+    /// Answers how many.
+    fn read(&mut self, half: Half, at: u64, buffer: &mut [u8]) -> Result<usize, DeviceFault>
+        requires { (state self.old).failures < 2 ^ 64 - 1 }
+        ensures counts { Counts (state self.old) (state self.new) result }
+        ensures looks { IsHonest (state self.old) → Looks (state self.old) (state self.new) }
+        ensures within { IfOk result (λ count. count ≤ length buffer.old) }
+        ensures bytes { IfOk result (λ count. IsHonest (state self.old)
+            → take count buffer.new
+            ≡ take (length buffer.old) (drop at (file_of half (state self.old).reads))) };
+
+    /// Writes `bytes` from offset `at` on, over what is there and past the end.
+    fn write_at(&mut self, half: Half, at: u64, bytes: &[u8]) -> Result<(), DeviceFault>
+        requires count { (state self.old).failures < 2 ^ 64 - 1 }
+        requires place { IsHonest (state self.old)
+            → at ≤ length (file_of half (state self.old).reads) }
+        ensures counts { Counts (state self.old) (state self.new) result }
+        ensures tears { IsHonest (state self.old)
+            → Changes (OnHalf half (Torn at (length bytes.now))) (state self.old) (state self.new) }
+        ensures done { OnOk result (IsHonest (state self.old)
+            → OnHalf half (λ old new. new ≡ written at bytes.now old)
+            (state self.old).reads (state self.new).reads) };
+
+    /// Cuts a half's file to `len` bytes.
+    fn cut(&mut self, half: Half, len: u64) -> Result<(), DeviceFault>
+        requires count { (state self.old).failures < 2 ^ 64 - 1 }
+        requires place { IsHonest (state self.old)
+            → len ≤ length (file_of half (state self.old).reads) }
+        ensures counts { Counts (state self.old) (state self.new) result }
+        ensures tears { IsHonest (state self.old)
+            → Changes (OnHalf half (Cut len)) (state self.old) (state self.new) }
+        ensures done { OnOk result (IsHonest (state self.old)
+            → OnHalf half (λ old new. new ≡ take len old)
+            (state self.old).reads (state self.new).reads) };
+
+    /// After it a crash leaves of this half what a read gives.
+    fn sync(&mut self, half: Half) -> Result<(), DeviceFault>
+        requires { (state self.old).failures < 2 ^ 64 - 1 }
+        ensures counts { Counts (state self.old) (state self.new) result }
+        ensures looks { IsHonest (state self.old) → Looks (state self.old) (state self.new) }
+        ensures done { OnOk result (IsHonest (state self.old)
+            → ((c : Image) → (state self.new).may_leave c
+            → file_of half c ≡ file_of half (state self.old).reads)) };
+
+    /// How an honest disk stands between calls.
+    ghost sound: { (disk : Self) → IsHonest (state disk) → IsSound (state disk) };
+}

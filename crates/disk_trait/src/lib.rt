@@ -1,0 +1,34 @@
+//! A disk of two files: what each call gives, and what a crash at any moment may leave.
+//!
+//! The trait `Disk` (module `disk`) promises the layer above, of a disk that claims to be honest: a read gives
+//! what was written; until a sync a crash may leave each write and each cut undone, done, or torn in the range
+//! that it touches; after a sync it leaves what a read gives. Of every disk it promises that `failures` counts
+//! the calls that failed. The definitions are in `specs/Disk.antt`, and the laws by which runs of calls are told,
+//! moment by moment, in `specs/Moments.antt`.
+//!
+//! - `Half` (module `half`) names one of the two files, and `DeviceFault` is the answer of a call that failed.
+//! - `MemoryDisk` (module `memory`) is an honest disk in memory. It keeps a record of its calls (module `call`),
+//!   so that it can crash: `Crash` (module `crash`) says what is then left.
+//! - `FuseDisk` (module `fuse`) and `OnceDisk` (module `once`) let calls of another disk fail, for tests.
+//! - `HostDisk` (module `host`) is two files of the operating system. It claims no honesty.
+#![tactic(auto)]
+
+mod call;
+mod crash;
+mod disk;
+mod fuse;
+mod half;
+mod host;
+mod memory;
+mod once;
+
+pub use crash::Crash;
+pub use disk::{DeviceFault, Disk};
+pub use fuse::FuseDisk;
+pub use half::Half;
+pub use host::HostDisk;
+pub use memory::MemoryDisk;
+pub use once::OnceDisk;
+
+#[cfg(test)]
+mod tests;
