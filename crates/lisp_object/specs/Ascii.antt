@@ -1,0 +1,5 @@
+-- The characters of the standard character set and its semi-standard ones: the bytes below 128.
+use Rattle.std.specs.Prelude.{ℕ, Bool, nat_lt}
+
+abbrev pub is_ascii : ℕ → Bool
+is_ascii byte = nat_lt byte 128

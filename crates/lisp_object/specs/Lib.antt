@@ -1,0 +1,7 @@
+pub mod Ascii
+pub mod Datum
+pub mod Lowest
+pub mod Object
+pub mod ObjectCode
+pub mod Quotient
+pub mod formers

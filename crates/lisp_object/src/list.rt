@@ -1,0 +1,66 @@
+//! Lists of items.
+ghost use Rattle.std.specs.Prelude.{◌≡◌, ◌≢◌, ◌<◌, length, true, map, IfOk, codes};
+ghost use Rattle.std.specs.List.{list_all};
+ghost use Rattle.std.specs.Option.{option_map_or};
+ghost use Rattle.lisp_object.specs.Object.{nil, pairs};
+ghost use Rattle.lisp_object.specs.Datum.{object_of, is_proper};
+
+use crate::{Boxed, Datum, Items};
+use std::alloc::{AllocError, Global};
+
+impl Datum {
+    /// The list of these items that ends in `tail`, or in NIL where there is none; the tail itself where there are no
+    /// items. A tail that is a list is joined, so that proper parts give a proper list.
+    pub fn list(alloc: Global, items: Vec<Datum>, tail: Option<Datum>) -> Result<Datum, AllocError>
+        ensures object { IfOk result
+            (λ d. object_of d ≡ pairs (map object_of items.items) (option_map_or object_of tail nil)) }
+        ensures proper { IfOk result
+            (λ d. list_all is_proper items.items ≡ true → option_map_or is_proper tail true ≡ true → is_proper d ≡ true) }
+    {
+        let items = Items::from_vec(items);
+        match tail {
+            None => proper_list(alloc, items),
+            Some(tail) => {
+                if items.is_empty() {
+                    Ok(tail)
+                } else if tail.is_nil() {
+                    proper_list(alloc, items)
+                } else {
+                    joined(alloc, items, tail)
+                }
+            }
+        }
+    }
+}
+
+// The list of these items that ends in NIL.
+fn proper_list(alloc: Global, items: Items<Datum>) -> Result<Datum, AllocError>
+    ensures object { IfOk result (λ d. object_of d ≡ pairs (map object_of items) nil) }
+    ensures proper { IfOk result (λ d. list_all is_proper items ≡ true → is_proper d ≡ true) }
+{
+    if items.is_empty() {
+        Datum::nil(alloc)
+    } else {
+        Ok(Datum::List { items, tail: None })
+    }
+}
+
+// The items, and behind them the items and the end of a tail that is a list.
+fn joined(alloc: Global, items: Items<Datum>, tail: Datum) -> Result<Datum, AllocError>
+    requires some { 0 < length items }
+    requires not_nil { tail ≢ Datum.Symbol (codes "COMMON-LISP") (codes "NIL") }
+    ensures object { IfOk result (λ d. object_of d ≡ pairs (map object_of items) (object_of tail)) }
+    ensures proper { IfOk result
+        (λ d. list_all is_proper items ≡ true → is_proper tail ≡ true → is_proper d ≡ true) }
+{
+    match tail {
+        Datum::List { items: more, tail } => Ok(Datum::List {
+            items: items.followed_by(more)?,
+            tail,
+        }),
+        other => Ok(Datum::List {
+            items,
+            tail: Some(Boxed::new(alloc, other)?),
+        }),
+    }
+}
