@@ -1,0 +1,4 @@
+pub mod NameBytes
+pub mod Standard
+pub mod Sound
+pub mod Put

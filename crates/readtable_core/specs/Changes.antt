@@ -1,0 +1,41 @@
+-- The changes of a readtable (standard 23.2): each puts one entry in place of another.
+use Rattle.std.specs.Prelude.{ℕ, Bool, not, if◌then◌else◌, List, [], set, replicate, Option, Some, None}
+use Rattle.readtable_core.specs.declared.characters.Syntax.{Syntax}
+use Rattle.readtable_core.specs.declared.characters.Syntax.TheVariants.{TerminatingMacro, NonTerminatingMacro}
+use Rattle.readtable_core.specs.declared.refusal.DispatchRefusal.{DispatchRefusal}
+use Rattle.readtable_core.specs.declared.refusal.DispatchRefusal.TheVariants.{NotDispatching, DigitSubcharacter}
+use Rattle.readtable_core.specs.Characters.{upper_case, is_digit}
+use Rattle.readtable_core.specs.Names.{dispatch_name}
+use Rattle.readtable_core.specs.Tables.{Entry, Table, entry_at}
+use Rattle.readtable_core.specs.Sound.{is_dispatching}
+
+abbrev pub with_entry : Table → ℕ → Entry → Table
+with_entry table c e = record table { entries = set table.entries c e }
+
+abbrev pub macro_syntax : Bool → Syntax
+macro_syntax non_terminating = if non_terminating then NonTerminatingMacro else TerminatingMacro
+
+-- a macro character with this function; what was dispatched there is gone
+abbrev pub macro_entry : List ℕ → Bool → Entry
+macro_entry name non_terminating =
+    record { syntax = macro_syntax non_terminating; function = Some name; dispatch = [] }
+
+-- a dispatching macro character with no function at any sub-character
+abbrev pub dispatching_entry : Bool → Entry
+dispatching_entry non_terminating =
+    record { syntax = macro_syntax non_terminating; function = Some dispatch_name; dispatch = replicate 128 None }
+
+-- the entry with this function at the sub-character, which is taken in upper case
+abbrev pub with_function : Entry → ℕ → List ℕ → Entry
+with_function e sub name = record e { dispatch = set e.dispatch (upper_case sub) (Some name) }
+
+-- why a function cannot be set at the sub-character: the first reason that holds
+abbrev pub dispatch_refusal : Table → ℕ → ℕ → Option DispatchRefusal
+dispatch_refusal table c sub =
+    if not (is_dispatching (entry_at table c)) then Some NotDispatching
+    else (if is_digit sub then Some DigitSubcharacter else None)
+
+-- the numbers by which these refusals are answered
+abbrev pub dispatch_refusal_number : DispatchRefusal → ℕ
+dispatch_refusal_number NotDispatching = 42
+dispatch_refusal_number DigitSubcharacter = 43

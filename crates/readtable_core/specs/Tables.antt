@@ -1,0 +1,78 @@
+-- Readtables (standard 2.1.1, 23.2): a case, and for each character its syntax type, its reader macro function and its
+-- dispatch table.
+use Rattle.std.specs.Prelude.{ℕ, ◌==◌, if◌then◌else◌, List, [], ◌∷◌, map, get_or, Option, Some, None, codes}
+use Rattle.std.specs.List.{range_with_len}
+use Rattle.std.specs.Char.{char_set_contains}
+use Rattle.readtable_core.specs.declared.characters.Syntax.{Syntax}
+use Rattle.readtable_core.specs.declared.characters.Syntax.TheVariants.{Invalid}
+use Rattle.readtable_core.specs.declared.table.Case.{Case}
+use Rattle.readtable_core.specs.declared.table.Case.TheVariants.{Upcase}
+use Rattle.readtable_core.specs.Characters.{upper_case, standard_syntax}
+use Rattle.readtable_core.specs.Names.{dispatch_name}
+
+-- What stands at one character. The dispatch table is the list of the functions of the sub-characters 0 to 127 at a
+-- dispatching character, and empty elsewhere.
+pub record Entry : Type 0 where
+  pub syntax : Syntax
+  pub function : Option (List ℕ)
+  pub dispatch : List (Option (List ℕ))
+
+-- the entries of the characters 0 to 127, in order
+pub record Table : Type 0 where
+  pub letters : Case
+  pub entries : List Entry
+
+-- what stands beyond 127
+abbrev pub no_entry : Entry
+no_entry = record { syntax = Invalid; function = None; dispatch = [] }
+
+abbrev pub entry_at : Table → ℕ → Entry
+entry_at table c = get_or table.entries c no_entry
+
+-- the function at the sub-character, which is taken in upper case
+abbrev pub dispatch_at : Table → ℕ → ℕ → Option (List ℕ)
+dispatch_at table c sub = get_or (entry_at table c).dispatch (upper_case sub) None
+
+-- The functions of the macro characters of the standard readtable: 34 the double quote, 35 #, 39 the quote, 40 and 41 the
+-- parentheses, 59 the semicolon, 44 and 96 comma and backquote.
+abbrev pub standard_function : ℕ → Option (List ℕ)
+standard_function c =
+    if c == 34 then Some (codes "STD-STRING")
+    else (if c == 35 then Some dispatch_name
+    else (if c == 39 then Some (codes "STD-QUOTE")
+    else (if c == 40 then Some (codes "STD-LIST")
+    else (if c == 41 then Some (codes "STD-CLOSE")
+    else (if c == 59 then Some (codes "STD-COMMENT")
+    else (if c == 44 then Some (codes "STD-OUT")
+    else (if c == 96 then Some (codes "STD-OUT")
+    else None)))))))
+
+-- the sub-characters of # that are outside the profile: = # + - . * A C P S
+abbrev pub standard_out : List ℕ
+standard_out = 61 ∷ 35 ∷ 43 ∷ 45 ∷ 46 ∷ 42 ∷ 65 ∷ 67 ∷ 80 ∷ 83 ∷ []
+
+-- The functions of the sub-characters of # in the standard readtable: 92 the backslash, 39 the quote, 40 the parenthesis,
+-- 58 the colon, 124 the bar, and the letters B, O, X and R.
+abbrev pub standard_sub_function : ℕ → Option (List ℕ)
+standard_sub_function sub =
+    if sub == 92 then Some (codes "STD-CHAR")
+    else (if sub == 39 then Some (codes "STD-FUNCTION")
+    else (if sub == 40 then Some (codes "STD-VECTOR")
+    else (if sub == 58 then Some (codes "STD-UNINTERNED")
+    else (if sub == 124 then Some (codes "STD-BLOCK")
+    else (if sub == 66 then Some (codes "STD-BINARY")
+    else (if sub == 79 then Some (codes "STD-OCTAL")
+    else (if sub == 88 then Some (codes "STD-HEX")
+    else (if sub == 82 then Some (codes "STD-RADIX")
+    else (if char_set_contains standard_out sub then Some (codes "STD-OUT")
+    else None)))))))))
+
+abbrev pub standard_dispatch : ℕ → List (Option (List ℕ))
+standard_dispatch c = if c == 35 then map standard_sub_function (range_with_len 0 128) else []
+
+abbrev pub standard_entry : ℕ → Entry
+standard_entry c = record { syntax = standard_syntax c; function = standard_function c; dispatch = standard_dispatch c }
+
+-- the standard readtable; its entry at each character is `standard_entry` (`standard_at` of proofs/Standard.antt)
+unfoldable pub standard : Table
+standard = record { letters = Upcase; entries = map standard_entry (range_with_len 0 128) }
