@@ -1,0 +1,20 @@
+-- What is read from a reader and written to a writer that tell their bytes.
+use Rattle.std.specs.Prelude.{◌≡◌, ℕ, List, [], ◌++◌, Option, Some}
+
+-- all that the reader had left was read, and is this
+abbrev pub ReadsAll : Option (List ℕ) → Option (List ℕ) → List ℕ → Type 0
+ReadsAll old new text = (left : List ℕ) → old ≡ Some left → (text ≡ left) × (new ≡ Some [])
+
+-- the text stands behind what the writer held
+abbrev pub Writes : Option (List ℕ) → Option (List ℕ) → List ℕ → Type 0
+Writes old new text = (held : List ℕ) → old ≡ Some held → new ≡ Some (held ++ text)
+
+-- the writer got a part of the text, from its front
+pub record IsPart (held : List ℕ) (new : Option (List ℕ)) (text : List ℕ) : Type 0 where
+  pub front : List ℕ
+  pub rest : List ℕ
+  pub parts : text ≡ front ++ rest
+  pub written : new ≡ Some (held ++ front)
+
+abbrev pub WritesPart : Option (List ℕ) → Option (List ℕ) → List ℕ → Type 0
+WritesPart old new text = (held : List ℕ) → old ≡ Some held → IsPart held new text

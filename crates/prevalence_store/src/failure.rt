@@ -1,0 +1,42 @@
+// Why a form was not accepted, inside the crate.
+ghost use Rattle.std.specs.Prelude.{◌≡◌};
+ghost use Rattle.prevalence_store.specs.Causes.{is_device, number_of};
+
+use lisp_object::refusal::{DEVICE, LOG_FULL, NO_MEMORY};
+
+/// Why a form that was read was not accepted.
+#[derive(Clone, Copy, Debug, PartialEq, Eq)]
+pub(crate) enum Failure {
+    /// Evaluation refused it, with this number.
+    Refused(u16),
+    /// Its record would pass the half's limit.
+    Full,
+    /// The device failed.
+    Device,
+    /// There was no memory.
+    Memory,
+}
+
+impl Failure {
+    /// The number of the refusal.
+    pub(crate) fn number(self) -> u16
+        ensures { result ≡ number_of self }
+    {
+        match self {
+            Failure::Refused(number) => number,
+            Failure::Full => LOG_FULL,
+            Failure::Device => DEVICE,
+            Failure::Memory => NO_MEMORY,
+        }
+    }
+
+    /// Whether the device failed.
+    pub(crate) fn is_device(self) -> bool
+        ensures { result ≡ is_device self }
+    {
+        match self {
+            Failure::Device => true,
+            Failure::Refused(_) | Failure::Full | Failure::Memory => false,
+        }
+    }
+}
