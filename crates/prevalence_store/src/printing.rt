@@ -8,7 +8,6 @@ ghost use Rattle.lisp_object.specs.Object.{Object, rational, character, symbol, 
 ghost use Rattle.lisp_object.specs.Datum.{object_of, is_proper, is_list};
 ghost use Rattle.prevalence_store.specs.Printing.{printed, printed_rest, printed_items, printed_atom, printed_prefix, printed_name, is_plain, begins_plain, goes_on_plain, is_escaped_in_bars, is_invalid};
 
-use itoa::Buffer;
 use lisp_object::{Boxed, Datum, Items, Ratio};
 use std::alloc::{AllocError, Global};
 
@@ -119,13 +118,15 @@ fn write_space(text: &mut Vec<u8>, index: usize) -> Result<(), AllocError>
 fn write_integer(text: &mut Vec<u8>, n: i128) -> Result<(), AllocError>
     ensures { OnOk result (text.new.items ≡ text.old.items ++ signed_decimal n) }
 {
-    text.extend_from_slice(Buffer::new().format(n).as_bytes())
+    let digits = n.to_string(*text.allocator())?;
+    text.extend_from_slice(digits.as_bytes())
 }
 
 fn write_unsigned(text: &mut Vec<u8>, n: u128) -> Result<(), AllocError>
     ensures { OnOk result (text.new.items ≡ text.old.items ++ decimal n) }
 {
-    text.extend_from_slice(Buffer::new().format(n).as_bytes())
+    let digits = n.to_string(*text.allocator())?;
+    text.extend_from_slice(digits.as_bytes())
 }
 
 fn write_character(text: &mut Vec<u8>, c: u8) -> Result<(), AllocError>

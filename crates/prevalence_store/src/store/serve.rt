@@ -32,7 +32,8 @@ impl<D: Disk> Store<D> {
     /// where the half has no room for a record; 60 where the device failed; 68 where a write failed or took nothing; 90 where
     /// a growth was refused. Of these nothing is written.
     pub fn serve<R: Read, W: Write>(&mut self, reader: &mut R, writer: &mut W, mode: Mode) -> Ending
-        ensures reopen { self.old.world ≡ None → (result ≡ Ending.Store REOPEN) × (self.new ≡ self.old) }
+        ensures reopen { self.old.world ≡ None → (result ≡ Ending.Store REOPEN) × (self.new ≡ self.old)
+            × (reader.new ≡ reader.old) × (writer.new ≡ writer.old) }
         ensures served { (w : LispWorld) (input held : List ℕ) → self.old.world ≡ Some w
             → R.remaining reader.old ≡ Some input → W.contents writer.old ≡ Some held
             → Serves self.new (output w mode input) held (W.contents writer.new) result }
