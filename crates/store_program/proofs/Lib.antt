@@ -1,0 +1,3 @@
+pub mod CommandLineLaws
+pub mod Sessions
+pub mod Statuses

@@ -1,0 +1,54 @@
+-- Exit statuses, and when each comes.
+use Rattle.std.specs.Prelude.{◌≡◌, ◌≤◌, ◌⊎◌, ℕ}
+use Rattle.clap.specs.declared.error.kind.ErrorKind.{ErrorKind}
+use Rattle.clap.specs.declared.error.kind.ErrorKind.TheVariants.{DisplayHelp, DisplayVersion, OutOfMemory}
+use Rattle.lisp_object.specs.declared.refusal.TheConstants.{DEVICE, OUTPUT, NO_MEMORY}
+use Rattle.prevalence_store.specs.declared.outcome.Ending.{Ending}
+use Rattle.prevalence_store.specs.declared.outcome.Ending.TheVariants.{End, Reader, Store}
+use Rattle.store_program.specs.declared.status.Status.{Status}
+use Rattle.store_program.specs.declared.status.Status.TheVariants.{Served, Helped, ReaderRefused, WordsRefused, Fault}
+
+-- the exit status
+abbrev pub code_of : Status → ℕ
+code_of Served = 0
+code_of Helped = 0
+code_of ReaderRefused = 1
+code_of WordsRefused = 2
+code_of (Fault number) = 3
+
+-- after a session
+abbrev pub status_of_ending : Ending → Status
+status_of_ending End = Served
+status_of_ending (Reader number) = ReaderRefused
+status_of_ending (Store number) = Fault number
+
+-- after words that gave no command: help that was asked for, want of memory, or words that are refused
+abbrev pub status_of_kind : ErrorKind → Status
+status_of_kind DisplayHelp = Helped
+status_of_kind DisplayVersion = Helped
+status_of_kind OutOfMemory = Fault NO_MEMORY
+status_of_kind _ = WordsRefused
+
+-- the input was served to its end, or to what the reader refused
+abbrev pub EndsAfterSession : Status → Type 0
+EndsAfterSession status = (status ≡ Served) ⊎ (status ≡ ReaderRefused)
+
+-- the number is of the device, the files, their limit, the input or the output, or of memory
+abbrev pub IsFaultNumber : ℕ → Type 0
+IsFaultNumber number = ((DEVICE ≤ number) × (number ≤ OUTPUT)) ⊎ (number ≡ NO_MEMORY)
+
+-- where the status is that of a fault, it has the number of one
+abbrev pub HasFaultNumber : Status → Type 0
+HasFaultNumber status = (number : ℕ) → status ≡ Fault number → IsFaultNumber number
+
+-- the words were taken: neither were they refused, nor did they ask for help
+abbrev pub TakesWords : Status → Type 0
+TakesWords Helped = ⊥
+TakesWords WordsRefused = ⊥
+TakesWords Served = Unit {0}
+TakesWords ReaderRefused = Unit {0}
+TakesWords (Fault number) = Unit {0}
+
+-- after words that gave no command: that of their kind of error, or a fault of the output where help was not written
+abbrev pub IsAfterWords : ErrorKind → Status → Type 0
+IsAfterWords kind status = (status ≡ status_of_kind kind) ⊎ ((status_of_kind kind ≡ Helped) × (status ≡ Fault OUTPUT))

@@ -1,0 +1,119 @@
+//! The program: its words, its statuses, and real files.
+
+use super::{BrokenReader, FullWriter};
+use crate::program::program;
+use std::alloc::Global;
+use std::test::Fail;
+use std::{env, fs, process};
+
+/// What the program wrote, and its status.
+#[derive(Drop)]
+struct Ran {
+    status: u8,
+    output: Vec<u8>,
+    faults: Vec<u8>,
+}
+
+fn run(rt: &HostRuntime, words: &[&str], input: &[u8]) -> Ran {
+    let mut reader = input;
+    let mut output = Vec::new(rt.alloc());
+    let mut faults = Vec::new(rt.alloc());
+    let status = program(rt, words, &mut reader, &mut output, &mut faults).code();
+    Ran {
+        status,
+        output,
+        faults,
+    }
+}
+
+/// A place for files of a test.
+fn place(rt: &HostRuntime, name: &str) -> std::io::Result<String> {
+    let folder = env::temp_dir(rt)?;
+    let id = process::id(rt.process());
+    Ok(format!(in rt.alloc(); "{}/store_program-{name}-{id}", folder.display())?)
+}
+
+#[test]
+fn words_are_judged_first(rt: HostRuntime) {
+    let cases: [(&[&str], u8, bool, bool); 7] = [
+        (&[], 2, false, true),
+        (&["store_program"], 2, false, true),
+        (&["store_program", "walk", "/dev/null"], 2, false, true),
+        (&["store_program", "run"], 2, false, true),
+        (
+            &["store_program", "run", "/dev/null", "more"],
+            2,
+            false,
+            true,
+        ),
+        (&["store_program", "--help"], 0, true, false),
+        (&["store_program", "run", "--help"], 0, true, false),
+    ];
+    for (words, status, has_output, has_faults) in cases {
+        let found = run(&rt, words, b"7");
+        let shape = (found.status, found.output.len() > 0, found.faults.len() > 0);
+        assert_eq!(rt; shape, (status, has_output, has_faults), "{words:?}");
+    }
+}
+
+#[test]
+fn files_stay_between_runs(rt: HostRuntime) -> Result<(), Fail> {
+    let place = place(&rt, "files")?;
+    let words = ["store_program", "run", place.as_str()];
+    let cases: [(&[u8], u8, &[u8]); 3] = [
+        (b"(SETF (GET 'A 'B) 7)\n", 0, b"7\n"),
+        (b"(GET 'A 'B)\n", 0, b"7\n"),
+        (b"(GET 'A 'B)\n)\n(GET 'A 'B)\n", 1, b"7\n! 4 STRAY-CLOSE\n"),
+    ];
+    for (input, status, output) in cases {
+        let found = run(&rt, words.as_slice(), input);
+        assert_eq!(rt; found.status, status);
+        assert_eq!(rt; found.output.as_slice(), output);
+        assert_eq!(rt; found.faults.len(), 0);
+    }
+    fs::remove_dir_all(&rt, place.as_str())?;
+    Ok(())
+}
+
+#[test]
+fn a_file_is_no_folder(rt: HostRuntime) -> Result<(), Fail> {
+    let place = place(&rt, "file")?;
+    fs::write(&rt, place.as_str(), "")?;
+    let found = run(&rt, &["store_program", "run", place.as_str()], b"7");
+    fs::remove_file(&rt, place.as_str())?;
+    assert_eq!(rt; found.status, 3);
+    assert_eq!(rt; found.output.len(), 0);
+    assert_eq!(rt; found.faults.as_slice(), b"! 60 DEVICE\n".as_slice());
+    Ok(())
+}
+
+#[test]
+fn broken_streams_are_faults(rt: HostRuntime) -> Result<(), Fail> {
+    let place = place(&rt, "streams")?;
+    let words = ["store_program", "run", place.as_str()];
+    let mut faults = Vec::new(rt.alloc());
+    let mut output = Vec::new(rt.alloc());
+    let mut reader = BrokenReader { has_begun: false };
+    let unread = program(&rt, &words, &mut reader, &mut output, &mut faults);
+    let mut reader: &[u8] = b"7";
+    let unwritten = program(&rt, &words, &mut reader, &mut FullWriter, &mut faults);
+    let mut reader: &[u8] = b"7";
+    let helpless = program(
+        &rt,
+        &["store_program", "--help"],
+        &mut reader,
+        &mut FullWriter,
+        &mut faults,
+    );
+    fs::remove_dir_all(&rt, place.as_str())?;
+    assert_eq!(rt;
+        (unread.code(), unwritten.code(), helpless.code()),
+        (3, 3, 3)
+    );
+    assert_eq!(rt; output.len(), 0);
+    assert_eq!(rt;
+        faults.as_slice(),
+        b"! 67 INPUT\n! 68 OUTPUT\n! 68 OUTPUT\n".as_slice()
+    );
+    Ok(())
+}
