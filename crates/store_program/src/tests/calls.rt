@@ -3,7 +3,7 @@
 use super::{AMPLE, Trouble, opened};
 use disk_trait::{Disk, FuseDisk, MemoryDisk};
 use lisp_object::Datum;
-use prevalence_store::{Ending, Mode, Outcome, Store, Symbol, World};
+use prevalence_store::{Ending, Mode, Outcome, Property, Store, Symbol, World, refusal_name};
 use std::alloc::{AllocError, Global};
 use std::test::Fail;
 
@@ -20,9 +20,34 @@ fn property(alloc: Global, world: &World) -> Result<Option<i128>, AllocError> {
     let symbol = Symbol::from_bytes(alloc, b"COMMON-LISP-USER", b"A")?;
     let indicator = Symbol::from_bytes(alloc, b"COMMON-LISP-USER", b"B")?;
     Ok(match world.get(&symbol, &indicator) {
-        Some(Datum::Integer(n)) if world.plist(&symbol).len() == 1 => Some(*n),
+        Some(Datum::Integer(n)) if is_only(world.plist(&symbol), *n) => Some(*n),
         _ => None,
     })
+}
+
+/// Whether the list has one property, B, with this number.
+fn is_only(plist: &[Property], number: i128) -> bool {
+    let [only] = plist else {
+        return false;
+    };
+    if only.indicator().name() != b"B".as_slice() {
+        return false;
+    }
+    match only.value() {
+        Datum::Integer(n) => *n == number,
+        _ => false,
+    }
+}
+
+#[test]
+fn a_symbol_is_told_by_its_names(rt: HostRuntime) -> Result<(), Fail> {
+    let symbol = Symbol::from_bytes(rt.alloc(), b"COMMON-LISP", b"GET")?;
+    let copied = symbol.copy(rt.alloc())?;
+    assert_eq!(rt; copied.home(), b"COMMON-LISP".as_slice());
+    assert_eq!(rt; copied.name(), b"GET".as_slice());
+    assert_eq!(rt; refusal_name(64), "LOG-FULL");
+    assert_eq!(rt; refusal_name(47), "");
+    Ok(())
 }
 
 /// The refusals of two texts that are not one form.
