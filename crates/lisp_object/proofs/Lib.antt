@@ -6,3 +6,4 @@ pub mod Quotients
 pub mod Restored
 pub mod Sizes
 pub mod Sound
+pub mod Tree

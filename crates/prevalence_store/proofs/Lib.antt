@@ -21,5 +21,4 @@ pub mod ServingLaws
 pub mod Shapes
 pub mod StreamLemmas
 pub mod SymbolOrder
-pub mod Tree
 pub mod Undoing

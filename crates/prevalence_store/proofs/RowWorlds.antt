@@ -14,7 +14,7 @@ use Rattle.prevalence_store.specs.Symbol.{symbol_of}
 use Rattle.prevalence_store.specs.World as world
 use Rattle.prevalence_store.specs.World.{World, Plist, symbol_cmp, same_symbol, with_value, plist, with_property}
 use Rattle.prevalence_store.specs.Rows.{numbers_of, number_of, with_plist, properties_in, world_in, IsNumbered}
-use Rattle.prevalence_store.proofs.Tree.{read, find_read-insert}
+use Rattle.lisp_object.proofs.Tree.{read, find_read-insert}
 use Rattle.prevalence_store.proofs.SymbolOrder.{symbol_cmp_total, symbol_cmp_exact, one_symbol}
 
 -- a list that is kept: an empty one is not

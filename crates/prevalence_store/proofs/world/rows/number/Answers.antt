@@ -2,7 +2,7 @@ use Rattle.std.proofs.Common.{sym, ◌∙◌}
 use Rattle.std.proofs.lemmas.Iterator.Adapters.{option_map_id}
 use Rattle.prevalence_store.specs.World.{symbol_cmp}
 use Rattle.prevalence_store.specs.Symbol.{symbol_of}
-use Rattle.prevalence_store.proofs.Tree.{find_read}
+use Rattle.lisp_object.proofs.Tree.{find_read}
 use Rattle.prevalence_store.proofs.world.rows.number.Goals as goal
 
 pub returns : goal.returns
