@@ -1,0 +1,6 @@
+pub mod Steps
+pub mod Spelled
+pub mod Split
+pub mod Standing
+pub mod Forwards
+pub mod Rows

@@ -1,0 +1,5 @@
+pub mod Refusals
+pub mod Marks
+pub mod Tokens
+pub mod Spelling
+pub mod Scans

@@ -1,0 +1,22 @@
+-- What holds of marks.
+use Rattle.std.specs.Prelude.{ℕ, nat_lt, Bool, true, false, not, List, count_by}
+use Rattle.std.specs.List.{list_all}
+use Rattle.token_scan.specs.declared.mark.Mark.{Mark}
+use Rattle.token_scan.specs.declared.mark.Mark.TheVariants.{Plain, Quoted, Bar}
+
+abbrev pub is_bar : Mark → Bool
+is_bar Bar = true
+is_bar _ = false
+
+-- how many characters a token has
+abbrev pub character_count : List Mark → ℕ
+character_count marks = count_by (λ mark. not (is_bar mark)) marks
+
+abbrev pub is_ascii_mark : Mark → Bool
+is_ascii_mark (Plain c) = nat_lt c 128
+is_ascii_mark (Quoted c) = nat_lt c 128
+is_ascii_mark Bar = true
+
+-- the characters are numbers from 0 to 127
+abbrev pub are_ascii : List Mark → Bool
+are_ascii marks = list_all is_ascii_mark marks

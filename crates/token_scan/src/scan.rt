@@ -1,0 +1,267 @@
+//! Tokens, fed byte by byte.
+ghost use Rattle.std.specs.Prelude.{◌≡◌, ◌+◌, ◌-◌, ◌<◌, ℕ, if◌then◌else◌, false, is_ok, Err, List, [], ◌∷◌, ◌++◌, length, IsTrue, Ok, IsOk, IfOk, OnOk, OnErr, IfErr, MatchResult};
+ghost use Rattle.readtable_core.specs.declared.characters.Syntax.TheVariants.{Constituent};
+ghost use Rattle.token_scan.specs.declared.mark.Mark.TheVariants.{Plain, Quoted};
+ghost use Rattle.token_scan.specs.Marks.{is_ascii_mark, are_ascii};
+ghost use Rattle.token_scan.specs.Tokens.{TypedByte, met, kind, behind, one_more, plain, quoted, escaped, outside, inside, token, fault};
+ghost use Rattle.token_scan.specs.declared.stage.Stage.TheVariants.{Outside, Inside, EscapedOutside, EscapedInside, Refused};
+
+use crate::stage::Stage;
+use crate::{Mark, TokenRefusal};
+use readtable_core::{Syntax, traits_of};
+use smallvec::SmallVec;
+use std::alloc::{AllocError, Global};
+use std::marker::Model;
+
+/// What a byte is to a token.
+#[derive(Clone, Copy, Debug, PartialEq, Eq)]
+pub enum Fed {
+    /// The byte was taken, and the token goes on.
+    More,
+    /// The token ends before the byte, which was not taken.
+    Ended,
+    /// The token is refused at the byte.
+    Refused(TokenRefusal),
+}
+
+/// A token as far as it was fed.
+#[derive(Drop)]
+pub struct TokenScan {
+    marks: SmallVec<Mark, 32>,
+    left: usize,
+    stage: Stage,
+}
+
+impl Model for TokenScan {
+    ghost use Rattle.token_scan.specs.Scans.{Scan};
+
+    ghost Value = { Scan };
+
+    ghost use Rattle.std.specs.Prelude.{◌≤◌, IsTrue};
+    ghost use Rattle.token_scan.specs.Marks.{are_ascii};
+
+    ghost view = { λ t. record { marks = t.marks.items; left = t.left; stage = t.stage } };
+
+    ghost invariant = { λ t. (32 ≤ t.marks.capacity) × IsTrue (are_ascii t.marks.items) };
+}
+
+impl TokenScan {
+    ghost use Rattle.token_scan.specs.declared.scan.Fed.TheVariants.{Refused as FedRefused};
+    ghost use Rattle.token_scan.specs.Scans.{begun, refused, from_stage, token_from, fed_gives, LeavesBy, Leaves};
+
+    /// An empty token of at most `limit` characters, which bars and escapes are not. It keeps `alloc` for its marks, of
+    /// which 32 need no memory.
+    pub fn begin(alloc: Global, limit: usize) -> TokenScan
+        ensures value { result ≡ begun limit }
+        ensures token { (at : ℕ) (text : List TypedByte) → token_from result at text ≡ token limit at text }
+    {
+        TokenScan {
+            marks: SmallVec::new(alloc),
+            left: limit,
+            stage: Stage::Outside,
+        }
+    }
+
+    /// Feeds `byte`, which has the syntax type `syntax` in the readtable in force (standard 2.2, steps 8 and 9). A byte
+    /// over 127 is invalid whatever `syntax` is. After a refusal each call answers that refusal again.
+    ///
+    /// # Errors
+    ///
+    /// Want of memory for a mark; then nothing has changed.
+    #[tactic(auto, unfolding(crate::specs::Tokens::outside))]
+    pub fn feed(&mut self, syntax: Syntax, byte: u8) -> Result<Fed, AllocError>
+        ensures gives { (at : ℕ) (more : List TypedByte) → IfOk result (λ fed.
+            token_from self.old at (met syntax byte ∷ more) ≡ fed_gives fed self.new at (met syntax byte) more) }
+        ensures leaves { IfOk result (λ fed. Leaves fed self.old (met syntax byte) self.new) }
+        ensures unchanged { OnErr result (self.new ≡ self.old) }
+        ensures repeats { (refusal : TokenRefusal) → self.old.stage ≡ Refused refusal
+            → result ≡ Ok (FedRefused refusal) }
+        ensures inline { length self.old.marks < 32 → IsOk result }
+    {
+        match self.stage {
+            Stage::Outside => self.feed_outside(syntax, byte),
+            Stage::Inside => self.feed_inside(syntax, byte),
+            Stage::EscapedOutside => self.feed_escaped(byte, Stage::Outside),
+            Stage::EscapedInside => self.feed_escaped(byte, Stage::Inside),
+            Stage::Refused(refusal) => Ok(Fed::Refused(refusal)),
+        }
+    }
+
+    /// Ends the token at the end of the input (standard 2.2, steps 8 and 9). It takes no memory.
+    ///
+    /// # Errors
+    ///
+    /// `EndOfFile` behind a single escape or between multiple escapes, and an earlier refusal. Each later call answers it
+    /// again.
+    #[tactic(auto, unfolding(crate::specs::Tokens::outside))]
+    pub fn finish(&mut self) -> Result<(), TokenRefusal>
+        ensures gives { (at : ℕ) → MatchResult result
+            (λ _. token_from self.old at [] ≡ Ok (self.old.marks, at, []))
+            (λ refusal. token_from self.old at [] ≡ fault refusal at) }
+        ensures leaves { MatchResult result (λ _. (self.new ≡ self.old) × (self.old.stage ≡ Outside))
+            (λ refusal. self.new ≡ refused self.old refusal) }
+        ensures repeats { (refusal : TokenRefusal) → self.old.stage ≡ Refused refusal → result ≡ Err refusal }
+    {
+        match self.stage {
+            Stage::Outside => Ok(()),
+            Stage::Refused(refusal) => Err(refusal),
+            _ => {
+                self.stage = Stage::Refused(TokenRefusal::EndOfFile);
+                Err(TokenRefusal::EndOfFile)
+            }
+        }
+    }
+
+    /// The marks so far, whose characters are below 128. It takes no memory.
+    pub fn marks(&self) -> &[Mark]
+        ensures value { result.now ≡ self.now.marks }
+        ensures ascii { IsTrue (are_ascii self.now.marks) }
+    {
+        self.marks.as_slice()
+    }
+
+    // Takes a byte outside multiple escapes.
+    #[tactic(auto, unfolding(crate::specs::Tokens::outside))]
+    fn feed_outside(&mut self, syntax: Syntax, byte: u8) -> Result<Fed, AllocError>
+        requires { self.old.stage ≡ Outside }
+        ensures gives { (at : ℕ) (more : List TypedByte) → IfOk result (λ fed.
+            behind self.old.marks (outside self.old.left at (met syntax byte ∷ more))
+            ≡ fed_gives fed self.new at (met syntax byte) more) }
+        ensures leaves { IfOk result (λ fed. Leaves fed self.old (met syntax byte) self.new) }
+        ensures unchanged { OnErr result (self.new ≡ self.old) }
+        ensures inline { length self.old.marks < 32 → IsOk result }
+    {
+        match kind_of(syntax, byte) {
+            Syntax::Whitespace | Syntax::TerminatingMacro => Ok(Fed::Ended),
+            Syntax::Constituent | Syntax::NonTerminatingMacro => self.feed_plain(byte),
+            Syntax::SingleEscape => {
+                self.stage = Stage::EscapedOutside;
+                Ok(Fed::More)
+            }
+            Syntax::MultipleEscape => {
+                self.add(Mark::Bar, Stage::Inside)?;
+                Ok(Fed::More)
+            }
+            Syntax::Invalid => Ok(self.refuse(TokenRefusal::InvalidCharacter)),
+        }
+    }
+
+    // Takes a character that stands for itself.
+    fn feed_plain(&mut self, byte: u8) -> Result<Fed, AllocError>
+        requires { byte < 128 }
+        ensures gives { (x : TypedByte) (at : ℕ) (more : List TypedByte) → IfOk result (λ fed.
+            behind self.old.marks (one_more self.old.left at (λ left. plain byte at (outside left (at + 1) more)))
+            ≡ fed_gives fed self.new at x more) }
+        ensures leaves { IfOk result (λ fed. LeavesBy (Plain byte ∷ []) false fed self.old self.new) }
+        ensures unchanged { OnErr result (self.new ≡ self.old) }
+        ensures inline { length self.old.marks < 32 → IsOk result }
+    {
+        if self.left == 0 {
+            return Ok(self.refuse(TokenRefusal::TokenTooLong));
+        }
+        if traits_of(byte).is_invalid() {
+            return Ok(self.refuse(TokenRefusal::InvalidTrait));
+        }
+        self.add_character(Mark::Plain(byte), Stage::Outside)?;
+        Ok(Fed::More)
+    }
+
+    // Takes a byte between multiple escapes.
+    #[tactic(auto, unfolding(crate::specs::Tokens::outside))]
+    fn feed_inside(&mut self, syntax: Syntax, byte: u8) -> Result<Fed, AllocError>
+        requires { self.old.stage ≡ Inside }
+        ensures gives { (at : ℕ) (more : List TypedByte) → IfOk result (λ fed.
+            behind self.old.marks (inside self.old.left at (met syntax byte ∷ more))
+            ≡ fed_gives fed self.new at (met syntax byte) more) }
+        ensures leaves { IfOk result (λ fed. Leaves fed self.old (met syntax byte) self.new) }
+        ensures unchanged { OnErr result (self.new ≡ self.old) }
+        ensures inline { length self.old.marks < 32 → IsOk result }
+    {
+        match kind_of(syntax, byte) {
+            Syntax::SingleEscape => {
+                self.stage = Stage::EscapedInside;
+                Ok(Fed::More)
+            }
+            Syntax::MultipleEscape => {
+                self.add(Mark::Bar, Stage::Outside)?;
+                Ok(Fed::More)
+            }
+            Syntax::Invalid => Ok(self.refuse(TokenRefusal::InvalidCharacter)),
+            _ => self.feed_quoted(byte, Stage::Inside),
+        }
+    }
+
+    // Takes a byte behind a single escape.
+    fn feed_escaped(&mut self, byte: u8, back: Stage) -> Result<Fed, AllocError>
+        ensures gives { (syntax : Syntax) (at : ℕ) (more : List TypedByte) → IfOk result (λ fed.
+            behind self.old.marks
+            (escaped (met syntax byte) self.old.left at (λ left. from_stage back left (at + 1) more))
+            ≡ fed_gives fed self.new at (met syntax byte) more) }
+        ensures leaves { IfOk result (λ fed. LeavesBy (Quoted byte ∷ []) false fed self.old self.new) }
+        ensures unchanged { OnErr result (self.new ≡ self.old) }
+        ensures inline { length self.old.marks < 32 → IsOk result }
+    {
+        if byte >= 128 {
+            return Ok(self.refuse(TokenRefusal::InvalidCharacter));
+        }
+        self.feed_quoted(byte, back)
+    }
+
+    // Takes a character that is quoted, behind which the next byte stands at `back`.
+    fn feed_quoted(&mut self, byte: u8, back: Stage) -> Result<Fed, AllocError>
+        requires { byte < 128 }
+        ensures gives { (x : TypedByte) (at : ℕ) (more : List TypedByte) → IfOk result (λ fed.
+            behind self.old.marks (one_more self.old.left at (λ left. quoted byte (from_stage back left (at + 1) more)))
+            ≡ fed_gives fed self.new at x more) }
+        ensures leaves { IfOk result (λ fed. LeavesBy (Quoted byte ∷ []) false fed self.old self.new) }
+        ensures unchanged { OnErr result (self.new ≡ self.old) }
+        ensures inline { length self.old.marks < 32 → IsOk result }
+    {
+        if self.left == 0 {
+            return Ok(self.refuse(TokenRefusal::TokenTooLong));
+        }
+        self.add_character(Mark::Quoted(byte), back)?;
+        Ok(Fed::More)
+    }
+
+    // Adds the mark of a character.
+    fn add_character(&mut self, mark: Mark, stage: Stage) -> Result<(), AllocError>
+        requires left { 0 < self.old.left }
+        requires ascii { IsTrue (is_ascii_mark mark) }
+        ensures after { self.new ≡ (if is_ok result
+            then record { marks = self.old.marks ++ mark ∷ []; left = self.old.left - 1; stage = stage }
+            else self.old) }
+        ensures inline { length self.old.marks < 32 → IsOk result }
+    {
+        self.add(mark, stage)?;
+        self.left -= 1;
+        Ok(())
+    }
+
+    fn add(&mut self, mark: Mark, stage: Stage) -> Result<(), AllocError>
+        requires { IsTrue (is_ascii_mark mark) }
+        ensures after { self.new ≡ (if is_ok result
+            then record self.old { marks = self.old.marks ++ mark ∷ []; stage = stage }
+            else self.old) }
+        ensures inline { length self.old.marks < 32 → IsOk result }
+    {
+        self.marks.push(mark)?;
+        self.stage = stage;
+        Ok(())
+    }
+
+    fn refuse(&mut self, refusal: TokenRefusal) -> Fed
+        ensures value { result ≡ FedRefused refusal }
+        ensures after { self.new ≡ refused self.old refusal }
+    {
+        self.stage = Stage::Refused(refusal);
+        Fed::Refused(refusal)
+    }
+}
+
+/// The syntax type that counts.
+fn kind_of(syntax: Syntax, byte: u8) -> Syntax
+    ensures { result ≡ kind (met syntax byte) }
+{
+    if byte < 128 { syntax } else { Syntax::Invalid }
+}
