@@ -1,0 +1,11 @@
+pub mod Ascii
+pub mod Cuts
+pub mod Digits
+pub mod Forms
+pub mod Loops
+pub mod Parts
+pub mod Patterns
+pub mod Rows
+pub mod Signs
+pub mod Spelled
+pub mod Sums

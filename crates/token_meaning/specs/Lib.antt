@@ -1,0 +1,6 @@
+pub mod Folding
+pub mod Numerals
+pub mod Numbers
+pub mod Grammar
+pub mod Meanings
+pub mod Results

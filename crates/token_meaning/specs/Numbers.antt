@@ -1,0 +1,86 @@
+-- The syntax of numbers (standard 2.3.1, 2.3.2), of a text that is cut at its sign, its point, its slash and its exponent
+-- marker. The forms are looked for in the order integer, ratio, float: so letters are digits before they are exponent markers.
+use Rattle.std.specs.Prelude.{ℕ, ◌^◌, Bool, false, not, ◌&&◌, ◌||◌, ◌==◌, nat_lt, if◌then◌else◌, List, Option, Some, None, Result, Ok, Err, codes}
+use Rattle.std.specs.Option.{option_or, ok_or}
+use Rattle.std.specs.Char.{char_set_contains}
+use Rattle.lisp_object.specs.Object.{Object, integer}
+use Rattle.lisp_object.specs.Quotient.{quotient}
+use Rattle.token_meaning.specs.declared.refusal.TokenRefusal.{TokenRefusal}
+use Rattle.token_meaning.specs.declared.refusal.TokenRefusal.TheVariants.{FloatToken, NumberRange, ZeroDenominator}
+use Rattle.token_meaning.specs.Numerals.{is_empty, is_numeral, are_digits, value, without_sign, is_negative, signed, is_in_range, cut}
+
+abbrev pub is_point : ℕ → Bool
+is_point c = c == 46
+
+abbrev pub is_slash : ℕ → Bool
+is_slash c = c == 47
+
+-- e, s, f, d and l in either case (standard 2.3.2.2)
+abbrev pub is_exponent_marker : ℕ → Bool
+is_exponent_marker c = char_set_contains (codes "eEsSfFdDlL") c
+
+-- ---- what numbers give
+
+-- an integer, in the range of 128 bits with a sign
+abbrev pub integer_of : Bool → ℕ → Result Object TokenRefusal
+integer_of negative size =
+    if is_in_range negative size then Ok (integer (signed negative size)) else Err NumberRange
+
+-- A quotient in lowest terms, which has no value where the denominator is zero. The parts have to be in range as they are
+-- written, but that is not asked where the denominator is zero.
+abbrev pub ratio_of : Bool → ℕ → ℕ → Result Object TokenRefusal
+ratio_of negative numerator denominator =
+    if denominator == 0 || (is_in_range negative numerator && nat_lt denominator (2 ^ 128))
+    then ok_or (quotient (signed negative numerator) denominator) ZeroDenominator
+    else Err NumberRange
+
+-- ---- the forms, of a text without its sign, and of its parts where it was cut
+
+-- an integer: digits in the base
+abbrev pub integer_form : ℕ → Bool → List ℕ → Option (Result Object TokenRefusal)
+integer_form base negative text =
+    if is_numeral base text then Some (integer_of negative (value base text)) else None
+
+-- an integer: decimal digits, and the point at the end
+abbrev pub decimal_form : Bool → Option (List ℕ × List ℕ) → Option (Result Object TokenRefusal)
+decimal_form negative None = None
+decimal_form negative (Some (whole, fraction)) =
+    if is_numeral 10 whole && is_empty fraction then Some (integer_of negative (value 10 whole)) else None
+
+-- a ratio: digits in the base on both sides of the slash
+abbrev pub ratio_form : ℕ → Bool → Option (List ℕ × List ℕ) → Option (Result Object TokenRefusal)
+ratio_form base negative None = None
+ratio_form base negative (Some (numerator, denominator)) =
+    if is_numeral base numerator && is_numeral base denominator
+    then Some (ratio_of negative (value base numerator) (value base denominator)) else None
+
+-- a float without an exponent: decimal digits behind the point, and perhaps before it
+abbrev pub is_pointed : Option (List ℕ × List ℕ) → Bool
+is_pointed None = false
+is_pointed (Some (whole, fraction)) = are_digits 10 whole && is_numeral 10 fraction
+
+-- before an exponent the digits may also stand before the point alone
+abbrev pub is_mantissa : List ℕ → Option (List ℕ × List ℕ) → Bool
+is_mantissa text None = is_numeral 10 text
+is_mantissa text (Some (whole, fraction)) =
+    are_digits 10 whole && are_digits 10 fraction && not (is_empty whole && is_empty fraction)
+
+-- a float with an exponent, which may have a sign
+abbrev pub is_scaled : Option (List ℕ × List ℕ) → Bool
+is_scaled None = false
+is_scaled (Some (mantissa, exponent)) = is_mantissa mantissa (cut is_point mantissa) && is_numeral 10 (without_sign exponent)
+
+abbrev pub is_float : List ℕ → Bool
+is_float text = is_pointed (cut is_point text) || is_scaled (cut is_exponent_marker text)
+
+abbrev pub float_form : List ℕ → Option (Result Object TokenRefusal)
+float_form text = if is_float text then Some (Err FloatToken) else None
+
+abbrev pub unsigned_number : ℕ → Bool → List ℕ → Option (Result Object TokenRefusal)
+unsigned_number base negative text =
+    option_or (integer_form base negative text) (option_or (decimal_form negative (cut is_point text))
+    (option_or (ratio_form base negative (cut is_slash text)) (float_form text)))
+
+-- what the text gives as a number in the base; None where it is in no syntax of numbers
+abbrev pub number_of : ℕ → List ℕ → Option (Result Object TokenRefusal)
+number_of base text = unsigned_number base (is_negative text) (without_sign text)
