@@ -75,7 +75,7 @@ ends_list (symbol home name) = is_nil home name
 ends_list _ = false
 
 abbrev mutual
-  -- an object: a list (standard 22.1.3.5), a vector (standard 22.1.3.8), or one that has no parts
+  -- an object: a list (standard 22.1.3.5), a vector (standard 22.1.3.7), or one that has no parts
   pub printed : Object → List ℕ
   printed (pair a b) = codes "(" ++ printed a ++ printed_rest b
   printed (vector xs) = codes "#(" ++ printed_elements xs
