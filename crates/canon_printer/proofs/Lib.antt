@@ -1,0 +1,5 @@
+pub mod Externals
+pub mod Lists
+pub mod Named
+pub mod PrintedRows
+pub mod ProperLists

@@ -1,0 +1,26 @@
+-- Objects as they are printed, where the packages find these symbols.
+use Rattle.std.proofs.Common.{◌≡◌, Some, None, pos, codes, refl, [], ◌∷◌}
+use Rattle.std.specs.Fmt.{digits}
+use Rattle.lisp_object.specs.Object.{integer, character, text, symbol, uninterned, pair, vector, nil, list_of}
+use Rattle.package_table.specs.Table.{Name, Table, common_lisp, keyword}
+use Rattle.package_table.specs.Lookup.{found, external_home}
+use Rattle.canon_printer.specs.Printed.{printed}
+
+module _ (t : Table) (p : Name) where
+  -- P has a NIL of its own
+  other_nil : found t p (codes "NIL") ≡ Some (codes "P") → external_home t common_lisp (codes "NIL") ≡ Some common_lisp
+      → printed t p (list_of (symbol (codes "P") (codes "NIL") ∷ nil ∷ [])) ≡ codes "(NIL COMMON-LISP:NIL)"
+  other_nil own standard = rw (own, standard) refl
+
+  keyword_elsewhere : found t p (codes "K") ≡ None → printed t p (symbol keyword (codes "K")) ≡ codes ":K"
+  keyword_elsewhere none = rw none refl
+
+  -- X is external in P, and Y is not
+  behind_markers : found t p (codes "X") ≡ None → found t p (codes "Y z") ≡ None
+      → external_home t (codes "P") (codes "X") ≡ Some (codes "P") → external_home t (codes "P") (codes "Y z") ≡ None
+      → printed t p (pair (symbol (codes "P") (codes "X")) (symbol (codes "P") (codes "Y z"))) ≡ codes "(P:X . P::|Y z|)"
+  behind_markers x y shown hidden = rw (x, y, shown, hidden) refl
+
+  atoms : printed t p (vector (list_of (integer (pos 1) ∷ text (codes "a\"\\") ∷ character 10 ∷ uninterned (codes "1+") ∷ uninterned [] ∷ []))) ≡ codes "#(1 \"a\\\"\\\\\" #\\Newline #:|1+| #:||)"
+  unfolding digits
+  atoms = refl

@@ -1,0 +1,211 @@
+-- What each call that writes makes of sound packages is sound.
+--     kept_after      after a call, whether it is refused or not
+--     kept_make, kept_intern, kept_export, kept_import, kept_use      where it is not refused
+--     counted_new      the count after a new symbol
+use Rattle.std.proofs.Common.{◌≡◌, ◌≢◌, ◌==◌, ◌<◌, ◌≤◌, ◌+◌, ◌&&◌, ◌||◌, not, ℕ, Bool, true, false, cond, List, [], ◌∷◌, length, Option, None, Some, Result, Ok, Err, IfErr, is_some, bytes_eq, nat_le, nat_lt, All, codes, refl, sym, ap, subst, ◌∙◌, arith, leb-false, ltb-false}
+use Rattle.std.proofs.lemmas.Bool.{false≢true}
+use Rattle.std.specs.Option.{option_map, option_map_or, option_and_then}
+use Rattle.std.specs.List.{list_any}
+use Rattle.std.specs.declared.cmp.Ordering.{Ordering}
+use Rattle.std.specs.Ordering.{eq_by_cmp}
+use Rattle.std.specs.FinMap as finite
+use Rattle.std.specs.FinMap.Entries.{find}
+use Rattle.package_table.specs.declared.error.PackageError.{PackageError}
+use Rattle.package_table.specs.declared.error.PackageError.TheVariants.{EmptyName, NoSuchPackage, PackageExists, PackageIsLocked, NameConflict, NotAccessible, Limit}
+use Rattle.package_table.specs.Table.{Name, name_cmp, Entry, Package, Table, entry_at, full_name, is_locked, package_named, common_lisp, common_lisp_user, keyword, IsPackage, IsPresent, IsExternal, Uses, Finds, IsSound, IsPackageName, symbol_count, with_entry, with_used, with_new_package}
+use Rattle.package_table.specs.Lookup.{found}
+use Rattle.package_table.specs.Changes.{after_make, after_intern, after_export, after_import, after_use, finds_this, finds_other, user_finds_other, finds_other_than_shown, is_used, Gives}
+use Rattle.package_table.proofs.Names.{tied_same, same_some, none_some}
+use Rattle.package_table.proofs.Frames.{equal_names, unequal_names}
+use Rattle.package_table.proofs.Found.{found_finds, found_is, found_none}
+use Rattle.package_table.proofs.Counting.{symbols_new, symbols_with_used, symbols_with_new}
+use Rattle.package_table.proofs.KeptSound.{used_is_package, no_entry, count_imported, count_exported, sound_interned, sound_imported, sound_exported, sound_used, sound_made}
+
+ne_zero : (k : ℕ) → (k == 0) ≡ false → 0 < k
+ne_zero k test = grind (arith, test)
+
+-- a test that was not met, and what follows it
+passes : {A : Type 0} (b : Bool) (e : PackageError) (rest : Result A PackageError) (x : A) → cond b (Err e) rest ≡ Ok x → (b ≡ false) × (rest ≡ Ok x)
+passes true e rest x is = absurd (let other : Err e ≡ Ok x = is in cc)
+passes false e rest x is = (refl, is)
+
+neither : (a b : Bool) → (a || b) ≡ false → (a ≡ false) × (b ≡ false)
+neither true b e = absurd (false≢true (sym e))
+neither false b e = (refl, e)
+
+holds : (b : Bool) → not b ≡ false → b ≡ true
+holds true e = refl
+holds false e = absurd (false≢true (sym e))
+
+open_to_change : (p : Name) → is_locked p ≡ false → (p ≢ common_lisp) × (p ≢ keyword)
+open_to_change p e =
+    elim (bytes_eq p common_lisp) as (λ b. bytes_eq p common_lisp ≡ b → cond b true (bytes_eq p keyword) ≡ false → (p ≢ common_lisp) × (p ≢ keyword)) [
+      | true ↦ λ _ locked. absurd (false≢true (sym locked))
+      | false ↦ λ other last. (unequal_names p common_lisp other, unequal_names p keyword last)
+    ] refl e
+
+pub kept_after : {A B : Type 0} (P : Table → Type 0) (t u : Table) (view : A → B) (r : Result A PackageError) (said : Result B PackageError) → Gives view r said → IfErr r (λ _. u ≡ t) → ((x : A) → said ≡ Ok (view x) → P u) → P t → P u
+kept_after P t u view (Ok x) said gives unchanged kept before = kept x gives
+kept_after P t u view (Err e) said gives unchanged kept before = subst P (sym unchanged) before
+
+-- what p finds by the name n, if anything, is the symbol of home h
+only_this : (t : Table) (p h n : Name) → IsSound t → finds_other t p h n ≡ false → (g : Name) → Finds t p n g → g ≡ h
+only_this t p h n sound alike g finds =
+    let is : found t p n ≡ Some g = found_is t n sound.joined p g finds in
+    let same : not (bytes_eq g h) ≡ false = sym (ap (λ o. option_map_or (λ g. not (bytes_eq g h)) o false) is) ∙ alike in
+    equal_names g h (holds (bytes_eq g h) same)
+
+-- the symbol of home h is found
+this_found : (t : Table) (p h n : Name) → finds_this t p h n ≡ true → Finds t p n h
+this_found t p h n this =
+    elim (found t p n) as (λ o. found t p n ≡ o → option_map_or (λ g. bytes_eq g h) o false ≡ true → Finds t p n h) [
+      | None ↦ λ _ no. absurd (false≢true no)
+      | Some g ↦ λ is same. found_finds t n p h (is ∙ ap Some (equal_names g h same))
+    ] refl this
+
+-- no entry has a property that none of the list has
+none_of : {K X : Type 0} (R : K → K → Ordering) (test : K × X → Bool) (q : K) (x : X) (es : List (K × X)) → ((k : K) → eq_by_cmp R q k ≡ true → q ≡ k) → list_any test es ≡ false → find R q es ≡ Some x → test (q, x) ≡ false
+none_of R test q x [] exact none there = absurd (none_some x there)
+none_of R test q x (e ∷ es) exact none there =
+    elim (eq_by_cmp R q e.0) as (λ b. eq_by_cmp R q e.0 ≡ b → cond b (Some e.1) (find R q es) ≡ Some x → test (q, x) ≡ false) [
+      | true ↦ λ same here. (λ i. test (exact e.0 same i, sym (same_some e.1 x here) i)) ∙ (neither (test e) (list_any test es) none).0
+      | false ↦ λ _ later. none_of R test q x es exact (neither (test e) (list_any test es) none).1 later
+    ] refl there
+
+none_in : {X : Type 0} (test : Name × X → Bool) (m : finite.FinMap name_cmp X) (q : Name) (x : X) → list_any test (finite.entries m) ≡ false → finite.get m q ≡ Some x → test (q, x) ≡ false
+none_in test m q x none there = none_of name_cmp test q x (finite.entries m) (tied_same q) none (sym (finite.get-entries m q) ∙ there)
+
+second_false : (a b : Bool) → (a && b) ≡ false → a ≡ true → b ≡ false
+second_false true b e _ = e
+second_false false b e is = absurd (false≢true is)
+
+users_agree : (t : Table) (p h n : Name) → IsSound t → user_finds_other t p h n ≡ false → (q g : Name) → Uses t q p → Finds t q n g → g ≡ h
+users_agree t p h n sound none q g used finds =
+    elim (finite.get t q) as (λ o. finite.get t q ≡ o → option_map (λ (k : Package). finite.contains_key k.uses p) o ≡ Some true → g ≡ h) [
+      | None ↦ λ _ no. absurd (none_some true no)
+      | Some k ↦ λ there uses.
+          only_this t q h n sound
+          (second_false (finite.contains_key k.uses p) (finds_other t q h n) (none_in (λ (r : Name × Package). finite.contains_key r.1.uses p && finds_other t r.0 h n) t q k none there) (same_some (finite.contains_key k.uses p) true uses))
+          g finds
+    ] refl used
+
+shown_agree : (t : Table) (p q : Name) → IsSound t → finds_other_than_shown t p q ≡ false → (n g h : Name) → Finds t p n g → IsExternal t q n → IsPresent t q n h → g ≡ h
+shown_agree t p q sound none n g h finds shown there =
+    elim (finite.get t q) as (λ o. list_any (λ (s : Name × Entry). s.1.external && finds_other t p s.1.home s.0) (option_map_or (λ (k : Package). finite.entries k.symbols) o []) ≡ false
+    → option_map (λ (e : Entry). e.external) (option_and_then (λ (k : Package). finite.get k.symbols n) o) ≡ Some true → option_map (λ (e : Entry). e.home) (option_and_then (λ (k : Package). finite.get k.symbols n) o) ≡ Some h → g ≡ h) [
+      | None ↦ λ _ no _. absurd (none_some true no)
+      | Some k ↦ λ none shown there.
+          elim (finite.get k.symbols n) as (λ o. finite.get k.symbols n ≡ o → option_map (λ (e : Entry). e.external) o ≡ Some true → option_map (λ (e : Entry). e.home) o ≡ Some h → g ≡ h) [
+            | None ↦ λ _ no _. absurd (none_some true no)
+            | Some e ↦ λ here external home.
+                only_this t p e.home n sound
+                (second_false e.external (finds_other t p e.home n) (none_in (λ (s : Name × Entry). s.1.external && finds_other t p s.1.home s.0) k.symbols n e none here) (same_some e.external true external))
+                g finds
+                ∙ same_some e.home h home
+          ] refl shown there
+    ] none shown there
+
+-- a name by which no package is named is no nickname
+fresh_name : (t : Table) (n : Name) → IsSound t → is_some (package_named t n) ≡ false → (full_name n ≡ n) × (finite.get t n ≡ None)
+fresh_name t n sound fresh =
+    elim (bytes_eq n (codes "CL")) as (λ b. is_some (cond (finite.contains_key t (cond b common_lisp (cond (bytes_eq n (codes "CL-USER")) common_lisp_user n))) (Some (cond b common_lisp (cond (bytes_eq n (codes "CL-USER")) common_lisp_user n))) None) ≡ false → (cond b common_lisp (cond (bytes_eq n (codes "CL-USER")) common_lisp_user n) ≡ n) × (finite.get t n ≡ None)) [
+      | true ↦ λ no. absurd (false≢true (sym (not_there t common_lisp no) ∙ ap is_some sound.first.fixed))
+      | false ↦
+          elim (bytes_eq n (codes "CL-USER")) as (λ b. is_some (cond (finite.contains_key t (cond b common_lisp_user n)) (Some (cond b common_lisp_user n)) None) ≡ false → (cond b common_lisp_user n ≡ n) × (finite.get t n ≡ None)) [
+            | true ↦ λ no. absurd (false≢true (sym (not_there t common_lisp_user no) ∙ used_is_package t common_lisp_user common_lisp sound.first.user))
+            | false ↦ λ no. (refl, nothing (finite.get t n) (not_there t n no))
+          ]
+    ] fresh
+  where
+    not_there : (t : Table) (q : Name) → is_some (cond (finite.contains_key t q) (Some q) None) ≡ false → finite.contains_key t q ≡ false
+    not_there t q = elim (finite.contains_key t q) as (λ b. is_some (cond b (Some q) None) ≡ false → b ≡ false) [ true ↦ λ no. absurd (false≢true (sym no)) | false ↦ λ _. refl ]
+
+    nothing : (o : Option Package) → is_some o ≡ false → o ≡ None
+    nothing None e = refl
+    nothing (Some k) e = absurd (false≢true (sym e))
+
+same_ok : {A : Type 0} (x y : A) → ◌≡◌ {A = Result A PackageError} (Ok x) (Ok y) → x ≡ y
+same_ok x y e = cc
+
+pub kept_make : (t : Table) (n : Name) (u : Table) → IsSound t → All (λ b. b < 128) n → after_make t n ≡ Ok u → IsSound u × (symbol_count u ≡ symbol_count t)
+kept_make t n u sound ascii is =
+    let some = passes (length n == 0) EmptyName _ u is in
+    let fresh = passes (is_some (package_named t n)) PackageExists _ u some.1 in
+    let within = passes (nat_le 1000 (finite.len t) || nat_lt 256 (length n)) Limit _ u fresh.1 in
+    let made : with_new_package t n ≡ u = same_ok (with_new_package t n) u within.1 in
+    let name = fresh_name t n sound fresh.0 in
+    let limits = neither (nat_le 1000 (finite.len t)) (nat_lt 256 (length n)) within.0 in
+    let few : finite.len t < 1000 = leb-false 1000 (finite.len t) limits.0 in
+    let short : length n ≤ 256 = ltb-false 256 (length n) limits.1 in
+    let good : IsPackageName n = record { some = not_empty (length n) some.0; short = short; full = name.0; ascii = ascii } in
+    subst (λ (u : Table). IsSound u × (symbol_count u ≡ symbol_count t)) made (sound_made t n sound name.1 good few, symbols_with_new t n name.1)
+  where
+    not_empty : (k : ℕ) → (k == 0) ≡ false → 0 < k
+    not_empty k zero_not = ne_zero k zero_not
+
+pub counted_new : (t : Table) (p n : Name) → finite.contains_key t p ≡ true → found t p n ≡ None → symbol_count (with_entry t p n (record { home = p; external = bytes_eq p keyword })) ≡ symbol_count t + 1
+counted_new t p n there none = symbols_new t p n (record { home = p; external = bytes_eq p keyword }) there (no_entry t p n (found_none t n p none)) refl
+
+module _ (t : Table) (p n : Name) (sound : IsSound t) where
+  pub kept_intern : (h : Name) (u : Table) → All (λ b. b < 128) n → after_intern t p n ≡ Ok (h, u) → IsSound u
+  kept_intern h u ascii is =
+      let there = passes (not (finite.contains_key t p)) NoSuchPackage _ (h, u) is in
+      elim (found t p n) as (λ o. found t p n ≡ o → option_map_or {U = Result (Name × Table) PackageError} (λ g. Ok (g, t)) o (cond (bytes_eq p common_lisp) (Err PackageIsLocked) (cond (nat_lt 4096 (length n) || nat_le 1000000 (symbol_count t)) (Err Limit) (Ok (p, with_entry t p n (record { home = p; external = bytes_eq p keyword }))))) ≡ Ok (h, u) → IsSound u) [
+        | Some g ↦ λ _ same. subst IsSound (ap (λ (x : Name × Table). x.1) (same_ok (g, t) (h, u) same)) sound
+        | None ↦ λ none new.
+            let open_to = passes (bytes_eq p common_lisp) PackageIsLocked _ (h, u) new in
+            let within = passes (nat_lt 4096 (length n) || nat_le 1000000 (symbol_count t)) Limit _ (h, u) open_to.1 in
+            let limits = neither (nat_lt 4096 (length n)) (nat_le 1000000 (symbol_count t)) within.0 in
+            let made = ap (λ (x : Name × Table). x.1) (same_ok (p, with_entry t p n (record { home = p; external = bytes_eq p keyword })) (h, u) within.1) in
+            subst IsSound made
+            (sound_interned t p n sound (holds _ there.0) (unequal_names p common_lisp open_to.0) (found_none t n p none)
+            (record { short = ltb-false 4096 (length n) limits.0; ascii = ascii }) (leb-false 1000000 (symbol_count t) limits.1))
+      ] refl there.1
+
+  module _ (h : Name) (u : Table) where
+    pub kept_export : after_export t p h n ≡ Ok u → IsSound u × (symbol_count u ≡ symbol_count t)
+    kept_export is =
+        let there = passes (not (finite.contains_key t p)) NoSuchPackage _ u is in
+        let open_to = passes (is_locked p) PackageIsLocked _ u there.1 in
+        let this = passes (not (finds_this t p h n)) NotAccessible _ u open_to.1 in
+        let users = passes (user_finds_other t p h n) NameConflict _ u this.1 in
+        let apart = open_to_change p open_to.0 in
+        let is_package : IsPackage t p = holds _ there.0 in
+        let finds : Finds t p n h = this_found t p h n (holds _ this.0) in
+        let agree = users_agree t p h n sound users.0 in
+        subst (λ (u : Table). IsSound u × (symbol_count u ≡ symbol_count t)) (same_ok (with_entry t p n (record { home = h; external = true })) u users.1)
+        (sound_exported t p n sound is_package apart.0 h apart.1 finds agree, count_exported t p n sound is_package apart.0 h apart.1 finds agree)
+
+    pub kept_import : IsPresent t h n h → after_import t p h n ≡ Ok u → IsSound u × (symbol_count u ≡ symbol_count t)
+    kept_import at_home is =
+        let there = passes (not (finite.contains_key t p)) NoSuchPackage _ u is in
+        let open_to = passes (is_locked p) PackageIsLocked _ u there.1 in
+        let alike = passes (finds_other t p h n) NameConflict _ u open_to.1 in
+        let apart = open_to_change p open_to.0 in
+        let is_package : IsPackage t p = holds _ there.0 in
+        let only = only_this t p h n sound alike.0 in
+        elim (entry_at t p n) as (λ o. entry_at t p n ≡ o → ◌≡◌ {A = Result Table PackageError} (Ok (cond (is_some o) t (with_entry t p n (record { home = h; external = false })))) (Ok u) → IsSound u × (symbol_count u ≡ symbol_count t)) [
+          | Some e ↦ λ _ same. subst (λ (u : Table). IsSound u × (symbol_count u ≡ symbol_count t)) (same_ok t u same) (sound, refl)
+          | None ↦ λ none made.
+              subst (λ (u : Table). IsSound u × (symbol_count u ≡ symbol_count t)) (same_ok (with_entry t p n (record { home = h; external = false })) u made)
+              (sound_imported t p n sound is_package apart.0 h apart.1 at_home only none, count_imported t p n sound is_package apart.0 h apart.1 at_home none)
+        ] refl alike.1
+
+pub kept_use : (t : Table) (p q : Name) (sound : IsSound t) (u : Table) → after_use t p q ≡ Ok u → IsSound u × (symbol_count u ≡ symbol_count t)
+kept_use t p q sound u is =
+    let there = passes (not (finite.contains_key t p) || not (finite.contains_key t q)) NoSuchPackage _ u is in
+    let open_to = passes (is_locked p || bytes_eq q keyword) PackageIsLocked _ u there.1 in
+    let packages = neither (not (finite.contains_key t p)) (not (finite.contains_key t q)) there.0 in
+    let locks = neither (is_locked p) (bytes_eq q keyword) open_to.0 in
+    let apart = open_to_change p locks.0 in
+    elim (bytes_eq p q || is_used t p q) as (λ b. (bytes_eq p q || is_used t p q) ≡ b → cond b (Ok t) (cond (finds_other_than_shown t p q) (Err NameConflict) (Ok (with_used t p q))) ≡ Ok u → IsSound u × (symbol_count u ≡ symbol_count t)) [
+      | true ↦ λ _ same. subst (λ (u : Table). IsSound u × (symbol_count u ≡ symbol_count t)) (same_ok t u same) (sound, refl)
+      | false ↦ λ other rest.
+          let agree = passes (finds_other_than_shown t p q) NameConflict _ u rest in
+          let differ : p ≢ q = unequal_names p q (neither (bytes_eq p q) (is_used t p q) other).0 in
+          let is_package : IsPackage t p = holds _ packages.0 in
+          subst (λ (u : Table). IsSound u × (symbol_count u ≡ symbol_count t)) (same_ok (with_used t p q) u agree.1) (
+            sound_used t p q sound is_package apart.0 apart.1 (holds _ packages.1) (unequal_names q keyword locks.1) (λ (e : q ≡ p). differ (sym e)) (shown_agree t p q sound agree.0),
+            symbols_with_used t p q is_package,
+          )
+    ] refl open_to.1

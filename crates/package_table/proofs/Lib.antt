@@ -1,0 +1,15 @@
+pub mod CallRows
+pub mod Conflicts
+pub mod Copies
+pub mod Counting
+pub mod First
+pub mod Found
+pub mod Frames
+pub mod Keeping
+pub mod KeptChanges
+pub mod KeptSound
+pub mod Names
+pub mod Places
+pub mod Rows
+pub mod Seen
+pub mod Starting

@@ -1,0 +1,10 @@
+use Rattle.std.proofs.Common.{◌≡◌, map, take, true}
+use Rattle.std.specs.FinMap as finite
+use Rattle.package_table.specs.Shown.{as_map, entry_of}
+use Rattle.package_table.proofs.initial.package_of_names.Given as goal
+
+-- the names so far are at home in the package and external
+abbrev pub invariant-loop-name : goal.invariant-loop-name
+invariant-loop-name l =
+    as_map entry_of l.symbols.entries
+    ≡ finite.from_entries (map (λ n. (n.now, record { home = l.owner; external = true })) (take l.name-index l.names))

@@ -1,0 +1,13 @@
+use Rattle.std.proofs.Common.{◌∙◌, ap}
+use Rattle.std.specs.FinMap as finite
+use Rattle.package_table.specs.Table.{user_package}
+use Rattle.package_table.specs.Shown.{as_map, as_set, entry_of}
+use Rattle.package_table.proofs.Copies.{as_set-insert}
+use Rattle.package_table.proofs.initial.user_package.Goals as goal
+
+pub returns : goal.returns
+unfolding user_package
+returns c =
+    let used = ap as_set c.in_ok-insert.ensures.keys ∙ as_set-insert c.in_ok-lisp.lisp c.new-uses.result.keys
+    ∙ (λ i. finite.insert (as_set (c.new-uses.ensures.empty i)) (c.in_ok-lisp.ensures.items i) tt) in
+    λ i. record { symbols = as_map entry_of (c.new.ensures.empty i); uses = used i }

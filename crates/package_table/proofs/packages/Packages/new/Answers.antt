@@ -1,0 +1,10 @@
+use Rattle.std.proofs.Common.{◌∙◌, ap, sym, subst}
+use Rattle.package_table.specs.Table.{IsSound, symbol_count}
+use Rattle.package_table.proofs.First.{sound, first_count}
+use Rattle.package_table.proofs.packages.Packages.new.Goals as goal
+
+pub invariant_of-result : goal.invariant_of-result
+invariant_of-result c = record {
+  sound = subst IsSound (sym c.in_ok-initial_table.ensures) sound;
+  counted = sym (ap symbol_count c.in_ok-initial_table.ensures ∙ first_count);
+}

@@ -1,0 +1,11 @@
+use Rattle.std.proofs.Common.{◌++◌, ◌∙◌, ap}
+use Rattle.package_table.specs.Readers.{imported_among}
+use Rattle.package_table.specs.Shown.{table_of, entry_of}
+use Rattle.package_table.proofs.Seen.{read, present-read}
+use Rattle.package_table.proofs.readers.imports.Goals as goal
+
+pub loop-name-init : goal.loop-name-init
+loop-name-init c =
+    let all = c.into_iter-name-iterator.ensures.into_iter_gives in
+    (λ i. c.new-names.ensures i ++ imported_among c.args.owner.now (read entry_of (all.0 i)))
+    ∙ ap (imported_among c.args.owner.now) (present-read (table_of c.args.table.now) c.args.owner.now c.in-Some.contents.now c.in-Some.ensures all.5)

@@ -1,0 +1,21 @@
+-- The look-up of a name in a package, as a function. `Finds` of Table.antt says the same; where no package finds two
+-- symbols by one name, the two agree (proofs/Found.antt).
+use Rattle.std.specs.Prelude.{cond, List, [], ◌∷◌, Option, Some, None}
+use Rattle.std.specs.Option.{option_map_or}
+use Rattle.std.specs.FinMap as finite
+use Rattle.package_table.specs.Table.{Name, Table, entry_at}
+
+-- the home of the symbol that is external in p by the name n
+abbrev pub external_home : Table → Name → Name → Option Name
+external_home t p n = option_map_or (λ e. cond e.external (Some e.home) None) (entry_at t p n) None
+
+-- the first of these packages that has an external symbol by that name, and its home
+abbrev pub first_external : Table → Name → List Name → Option Name
+first_external t n [] = None
+first_external t n (q ∷ qs) = option_map_or (λ h. Some h) (external_home t q n) (first_external t n qs)
+
+-- the home of the symbol that p finds by the name n
+abbrev pub found : Table → Name → Name → Option Name
+found t p n =
+    option_map_or (λ k. option_map_or (λ e. Some e.home) (finite.get k.symbols n) (first_external t n (finite.keys k.uses)))
+    (finite.get t p) None

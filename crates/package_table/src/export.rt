@@ -1,0 +1,75 @@
+//! `export`: a symbol becomes external.
+ghost use Rattle.std.specs.Prelude.{◌≡◌, IfErr};
+ghost use Rattle.package_table.specs.Changes.{after_export, with_external, Gives};
+ghost use Rattle.package_table.specs.Shown.{table_of};
+
+use crate::entry::{Contents, Symbol};
+use crate::put::put_entry;
+use crate::users::{finds_this, has_package, is_locked, user_finds_other};
+use crate::{PackageError, Packages};
+use std::alloc::Global;
+use std::collections::BTreeMap;
+
+// The first reason to refuse that this symbol becomes external in `owner`.
+fn export_refusal(
+    table: &BTreeMap<Vec<u8>, Contents>,
+    owner: &[u8],
+    home: &[u8],
+    name: &[u8],
+) -> Result<(), PackageError>
+    ensures { let t = table_of table.now in
+        Gives (λ _. with_external t owner.now home.now name.now) result
+        (after_export t owner.now home.now name.now) }
+{
+    if !has_package(table, owner) {
+        return Err(PackageError::NoSuchPackage);
+    }
+    if is_locked(owner) {
+        return Err(PackageError::PackageIsLocked);
+    }
+    if !finds_this(table, owner, home, name) {
+        return Err(PackageError::NotAccessible);
+    }
+    if user_finds_other(table, owner, home, name) {
+        return Err(PackageError::NameConflict);
+    }
+    Ok(())
+}
+
+fn export_symbol(
+    alloc: Global,
+    table: &mut BTreeMap<Vec<u8>, Contents>,
+    owner: &[u8],
+    home: &[u8],
+    name: &[u8],
+) -> Result<(), PackageError>
+    ensures gives { Gives (λ _. table_of table.new) result
+        (after_export (table_of table.old) owner.now home.now name.now) }
+    ensures unchanged { IfErr result (λ _. table_of table.new ≡ table_of table.old) }
+{
+    export_refusal(table, owner, home, name)?;
+    let symbol = Symbol {
+        home: Vec::from_slice(alloc, home)?,
+        external: true,
+    };
+    put_entry(table, owner, Vec::from_slice(alloc, name)?, symbol)?;
+    Ok(())
+}
+
+impl Packages {
+    /// Makes the symbol of this home and name external in `owner` (standard 11.2, `export`). One that `owner` inherits is
+    /// imported first.
+    ///
+    /// # Errors
+    /// `NoSuchPackage` where no package has the name `owner`; `PackageIsLocked` for COMMON-LISP and KEYWORD;
+    /// `NotAccessible` where `owner` does not find this symbol by its name; `NameConflict` where a package that uses
+    /// `owner` finds another symbol by that name; `OutOfMemory` where a growth is refused. Nothing is changed then.
+    pub fn export(&mut self, owner: &[u8], home: &[u8], name: &[u8]) -> Result<(), PackageError>
+        ensures gives { Gives (λ _. self.new.0) result
+            (after_export self.old.0 owner.now home.now name.now) }
+        ensures unchanged { IfErr result (λ _. self.new ≡ self.old) }
+        ensures marked { self.new.1 ≡ self.old.1 }
+    {
+        export_symbol(self.alloc, &mut self.table, owner, home, name)
+    }
+}

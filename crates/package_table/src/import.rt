@@ -1,0 +1,77 @@
+//! `import`: a symbol becomes present.
+ghost use Rattle.std.specs.Prelude.{◌≡◌, IfErr};
+ghost use Rattle.package_table.specs.Table.{IsPresent};
+ghost use Rattle.package_table.specs.Changes.{after_import, with_present, Gives};
+ghost use Rattle.package_table.specs.Shown.{table_of};
+
+use crate::entry::{Contents, Symbol};
+use crate::put::put_entry;
+use crate::users::{finds_other, has_package, is_locked, is_present};
+use crate::{PackageError, Packages};
+use std::alloc::Global;
+use std::collections::BTreeMap;
+
+// The first reason to refuse that this symbol becomes present in `owner`.
+fn import_refusal(
+    table: &BTreeMap<Vec<u8>, Contents>,
+    owner: &[u8],
+    home: &[u8],
+    name: &[u8],
+) -> Result<(), PackageError>
+    ensures { let t = table_of table.now in
+        Gives (λ _. with_present t owner.now home.now name.now) result
+        (after_import t owner.now home.now name.now) }
+{
+    if !has_package(table, owner) {
+        return Err(PackageError::NoSuchPackage);
+    }
+    if is_locked(owner) {
+        return Err(PackageError::PackageIsLocked);
+    }
+    if finds_other(table, owner, home, name) {
+        return Err(PackageError::NameConflict);
+    }
+    Ok(())
+}
+
+fn import_symbol(
+    alloc: Global,
+    table: &mut BTreeMap<Vec<u8>, Contents>,
+    owner: &[u8],
+    home: &[u8],
+    name: &[u8],
+) -> Result<(), PackageError>
+    ensures gives { Gives (λ _. table_of table.new) result
+        (after_import (table_of table.old) owner.now home.now name.now) }
+    ensures unchanged { IfErr result (λ _. table_of table.new ≡ table_of table.old) }
+{
+    import_refusal(table, owner, home, name)?;
+    if is_present(table, owner, name) {
+        return Ok(());
+    }
+    let symbol = Symbol {
+        home: Vec::from_slice(alloc, home)?,
+        external: false,
+    };
+    put_entry(table, owner, Vec::from_slice(alloc, name)?, symbol)?;
+    Ok(())
+}
+
+impl Packages {
+    /// Makes the symbol of this home and name present in `owner` (standard 11.2, `import`). One that `owner` inherits
+    /// becomes present; one that is present stays as it is, external or not.
+    ///
+    /// # Errors
+    /// `NoSuchPackage` where no package has the name `owner`; `PackageIsLocked` for COMMON-LISP and KEYWORD;
+    /// `NameConflict` where `owner` finds another symbol by that name; `OutOfMemory` where a growth is refused. Nothing is
+    /// changed then.
+    pub fn import(&mut self, owner: &[u8], home: &[u8], name: &[u8]) -> Result<(), PackageError>
+        requires { IsPresent self.old.0 home.now name.now home.now }
+        ensures gives { Gives (λ _. self.new.0) result
+            (after_import self.old.0 owner.now home.now name.now) }
+        ensures unchanged { IfErr result (λ _. self.new ≡ self.old) }
+        ensures marked { self.new.1 ≡ self.old.1 }
+    {
+        import_symbol(self.alloc, &mut self.table, owner, home, name)
+    }
+}

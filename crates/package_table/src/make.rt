@@ -1,0 +1,69 @@
+//! `make`: a new package.
+ghost use Rattle.std.specs.Prelude.{◌≡◌, ◌<◌, All, IfErr};
+ghost use Rattle.std.specs.FinMap as finite;
+ghost use Rattle.package_table.specs.Table.{with_new_package};
+ghost use Rattle.package_table.specs.Changes.{after_make, Gives};
+ghost use Rattle.package_table.specs.Shown.{table_of};
+
+use crate::entry::Contents;
+use crate::find::package_name;
+use crate::put::put_package;
+use crate::{PackageError, Packages};
+use std::alloc::Global;
+use std::collections::BTreeMap;
+
+// The number of packages.
+fn package_count(table: &BTreeMap<Vec<u8>, Contents>) -> usize
+    ensures { result ≡ finite.len (table_of table.now) }
+{
+    table.len()
+}
+
+// The first reason to refuse a new package of this name.
+fn make_refusal(table: &BTreeMap<Vec<u8>, Contents>, name: &[u8]) -> Result<(), PackageError>
+    ensures { let t = table_of table.now in
+        Gives (λ _. with_new_package t name.now) result (after_make t name.now) }
+{
+    if name.is_empty() {
+        return Err(PackageError::EmptyName);
+    }
+    if package_name(table, name).is_some() {
+        return Err(PackageError::PackageExists);
+    }
+    if package_count(table) >= 1000 || name.len() > 256 {
+        return Err(PackageError::Limit);
+    }
+    Ok(())
+}
+
+fn make_package(
+    alloc: Global,
+    table: &mut BTreeMap<Vec<u8>, Contents>,
+    name: &[u8],
+) -> Result<(), PackageError>
+    ensures gives { Gives (λ _. table_of table.new) result
+        (after_make (table_of table.old) name.now) }
+    ensures unchanged { IfErr result (λ _. table_of table.new ≡ table_of table.old) }
+{
+    make_refusal(table, name)?;
+    let name = Vec::from_slice(alloc, name)?;
+    put_package(alloc, table, name)?;
+    Ok(())
+}
+
+impl Packages {
+    /// Adds a package of this name, which has no symbols and uses nothing (standard 11.2, `make-package`).
+    ///
+    /// # Errors
+    /// `EmptyName` for the empty name; `PackageExists` where a package has `name` as its name or nickname; `Limit` where
+    /// there are 1,000 packages or the name is longer than 256 bytes; `OutOfMemory` where a growth is refused. Nothing is
+    /// changed then.
+    pub fn make(&mut self, name: &[u8]) -> Result<(), PackageError>
+        requires { All (λ b. b < 128) name.now }
+        ensures gives { Gives (λ _. self.new.0) result (after_make self.old.0 name.now) }
+        ensures unchanged { IfErr result (λ _. self.new ≡ self.old) }
+        ensures marked { self.new.1 ≡ self.old.1 }
+    {
+        make_package(self.alloc, &mut self.table, name)
+    }
+}

@@ -1,0 +1,178 @@
+//! The packages, and the calls on them.
+ghost use Rattle.std.specs.Prelude.{◌≡◌, [], Ok, Err, IfOk, IfErr, MatchResult, option_map};
+ghost use Rattle.package_table.specs.Table.{initial, is_locked, package_named, IsPackage, IsSound};
+ghost use Rattle.package_table.specs.Resolving.{resolution, external_resolution, internal_resolution, resolution_of};
+ghost use Rattle.package_table.specs.Readers.{package_names, used_names, own_names, external_names, imports, ListRefused};
+
+use crate::entry::Contents;
+use crate::find::package_name;
+use crate::initial::initial_table;
+use crate::resolve::{resolve_external, resolve_in, resolve_internal};
+use crate::users::is_locked;
+use crate::{PackageError, Resolved, copy, readers};
+use lisp_object::{Bytes, Items};
+use std::alloc::{AllocError, Global};
+use std::collections::BTreeMap;
+use std::marker::Model;
+
+/// Packages (standard 11.1). Contracts see them as a `Table`, and behind it the list of the tables that were marked.
+#[derive(Drop)]
+pub struct Packages {
+    pub(crate) alloc: Global,
+    pub(crate) table: BTreeMap<Vec<u8>, Contents>,
+    // The number of symbols, each counted in its home.
+    pub(crate) count: u64,
+}
+
+impl Model for Packages {
+    ghost use Rattle.package_table.specs.Table.{Tables, tables_code};
+
+    ghost Value = { Tables };
+
+    ghost coded = { tables_code };
+
+    ghost use Rattle.package_table.specs.Shown.{tables_of, IsKept};
+
+    ghost view = { tables_of };
+
+    ghost invariant = { IsKept };
+}
+
+impl Packages {
+    /// The first packages: COMMON-LISP, COMMON-LISP-USER, which uses it, and KEYWORD. They keep `alloc` for later changes.
+    pub fn new(alloc: Global) -> Result<Packages, AllocError>
+        ensures { IfOk result (λ packages. packages ≡ (initial, [])) }
+    {
+        Ok(Packages {
+            alloc,
+            table: initial_table(alloc)?,
+            count: 53,
+        })
+    }
+
+    /// The same packages, on their own memory, and nothing marked.
+    pub fn copy(&self, alloc: Global) -> Result<Packages, AllocError>
+        ensures { IfOk result (λ packages. packages ≡ (self.now.0, [])) }
+    {
+        Ok(Packages {
+            alloc,
+            table: copy::copy_table(alloc, &self.table)?,
+            count: self.count,
+        })
+    }
+
+    /// What holds of all packages: no package finds two symbols by one name, and so on. For proofs: it does nothing.
+    pub fn soundness(&self)
+        ensures { IsSound self.now.0 }
+    {
+        let _ = &self.table;
+    }
+
+    /// The names of the packages, sorted by their bytes.
+    pub fn names(&self, alloc: Global) -> Result<Items<Bytes>, AllocError>
+        ensures { IfOk result (λ names. names ≡ package_names self.now.0) }
+    {
+        readers::names(alloc, &self.table)
+    }
+
+    /// The names of the packages that `owner` uses, sorted by their bytes.
+    ///
+    /// # Errors
+    /// `NoSuchPackage` where no package has the name `owner`; `OutOfMemory` where a growth is refused.
+    pub fn uses(&self, alloc: Global, owner: &[u8]) -> Result<Items<Bytes>, PackageError>
+        ensures list { IfOk result (λ names. names ≡ used_names self.now.0 owner.now) }
+        ensures there { IfOk result (λ _. IsPackage self.now.0 owner.now) }
+        ensures refused { IfErr result (ListRefused self.now.0 owner.now) }
+    {
+        readers::uses(alloc, &self.table, owner)
+    }
+
+    /// The names of the symbols at home in `owner`, sorted by their bytes.
+    ///
+    /// # Errors
+    /// `NoSuchPackage` where no package has the name `owner`; `OutOfMemory` where a growth is refused.
+    pub fn own(&self, alloc: Global, owner: &[u8]) -> Result<Items<Bytes>, PackageError>
+        ensures list { IfOk result (λ names. names ≡ own_names self.now.0 owner.now) }
+        ensures there { IfOk result (λ _. IsPackage self.now.0 owner.now) }
+        ensures refused { IfErr result (ListRefused self.now.0 owner.now) }
+    {
+        readers::own(alloc, &self.table, owner)
+    }
+
+    /// The names that are external in `owner`, sorted by their bytes.
+    ///
+    /// # Errors
+    /// `NoSuchPackage` where no package has the name `owner`; `OutOfMemory` where a growth is refused.
+    pub fn externals(&self, alloc: Global, owner: &[u8]) -> Result<Items<Bytes>, PackageError>
+        ensures list { IfOk result (λ names. names ≡ external_names self.now.0 owner.now) }
+        ensures there { IfOk result (λ _. IsPackage self.now.0 owner.now) }
+        ensures refused { IfErr result (ListRefused self.now.0 owner.now) }
+    {
+        readers::externals(alloc, &self.table, owner)
+    }
+
+    /// The names that are present in `owner` with another home, each with the name of that home, sorted by their bytes.
+    ///
+    /// # Errors
+    /// `NoSuchPackage` where no package has the name `owner`; `OutOfMemory` where a growth is refused.
+    pub fn imports(
+        &self,
+        alloc: Global,
+        owner: &[u8],
+    ) -> Result<Items<(Bytes, Bytes)>, PackageError>
+        ensures list { IfOk result (λ names. names ≡ imports self.now.0 owner.now) }
+        ensures there { IfOk result (λ _. IsPackage self.now.0 owner.now) }
+        ensures refused { IfErr result (ListRefused self.now.0 owner.now) }
+    {
+        readers::imports(alloc, &self.table, owner)
+    }
+
+    /// The name of the package that has `name` as its name or nickname: CL stands for COMMON-LISP, and CL-USER for
+    /// COMMON-LISP-USER. Takes no memory.
+    pub fn find(&self, name: &[u8]) -> Option<&[u8]>
+        ensures { option_map (λ p. p.now) result ≡ package_named self.now.0 name.now }
+    {
+        package_name(&self.table, name)
+    }
+
+    /// Whether the package of this name is locked: COMMON-LISP, to which no name is added, and KEYWORD. Takes no memory.
+    pub fn is_locked(&self, owner: &[u8]) -> bool
+        ensures { result ≡ is_locked owner.now }
+    {
+        is_locked(owner)
+    }
+
+    /// What `name` stands for in the package `current`, which exists (standard 2.3.5): the symbol that it finds, or a new
+    /// one. Takes no memory.
+    ///
+    /// # Errors
+    /// `LockedPackage` for a new name in COMMON-LISP.
+    pub fn resolve(&self, current: &[u8], name: &[u8]) -> Result<Resolved<'_>, PackageError>
+        requires { IsPackage self.now.0 current.now }
+        ensures { MatchResult result (λ r. resolution self.now.0 current.now name.now ≡ Ok (resolution_of r)) (λ e. resolution self.now.0 current.now name.now ≡ Err e) }
+    {
+        resolve_in(&self.table, current, name)
+    }
+
+    /// The home of the external symbol `name` of the package that `prefix` names, by name or nickname (standard 2.3.5).
+    /// Takes no memory.
+    ///
+    /// # Errors
+    /// `NoPackage` where `prefix` names no package, then `NotExternal` where `name` is not external there.
+    pub fn resolve_external(&self, prefix: &[u8], name: &[u8]) -> Result<&[u8], PackageError>
+        ensures { MatchResult result (λ h. external_resolution self.now.0 prefix.now name.now ≡ Ok h.now) (λ e. external_resolution self.now.0 prefix.now name.now ≡ Err e) }
+    {
+        resolve_external(&self.table, prefix, name)
+    }
+
+    /// What `name` stands for in the package that `prefix` names, by name or nickname (standard 2.3.5): the symbol that it
+    /// finds, or a new one. Takes no memory.
+    ///
+    /// # Errors
+    /// `NoPackage` where `prefix` names no package, then `LockedPackage` for a new name in COMMON-LISP.
+    pub fn resolve_internal(&self, prefix: &[u8], name: &[u8]) -> Result<Resolved<'_>, PackageError>
+        ensures { MatchResult result (λ r. internal_resolution self.now.0 prefix.now name.now ≡ Ok (resolution_of r)) (λ e. internal_resolution self.now.0 prefix.now name.now ≡ Err e) }
+    {
+        resolve_internal(&self.table, prefix, name)
+    }
+}

@@ -1,0 +1,114 @@
+//! Lists of names, each sorted by its bytes.
+ghost use Rattle.std.specs.Prelude.{◌≡◌, IfOk, IfErr};
+ghost use Rattle.package_table.specs.Table.{IsPackage};
+ghost use Rattle.package_table.specs.Readers.{package_names, used_names, own_names, external_names, imports, ListRefused};
+ghost use Rattle.package_table.specs.Shown.{table_of};
+
+use crate::PackageError;
+use crate::entry::Contents;
+use crate::find::contents_of;
+use lisp_object::{Bytes, Items};
+use std::alloc::{AllocError, Global};
+use std::collections::BTreeMap;
+
+/// The names of the packages.
+pub(crate) fn names(
+    alloc: Global,
+    table: &BTreeMap<Vec<u8>, Contents>,
+) -> Result<Items<Bytes>, AllocError>
+    ensures { IfOk result (λ names. names ≡ package_names (table_of table.now)) }
+{
+    let mut names = Items::new(alloc);
+    for owner in table.keys() {
+        names.push(Bytes::from_slice(alloc, owner.as_slice())?)?;
+    }
+    Ok(names)
+}
+
+/// The names of the packages that `owner` uses.
+pub(crate) fn uses(
+    alloc: Global,
+    table: &BTreeMap<Vec<u8>, Contents>,
+    owner: &[u8],
+) -> Result<Items<Bytes>, PackageError>
+    ensures list { IfOk result (λ names. names ≡ used_names (table_of table.now) owner.now) }
+    ensures there { IfOk result (λ _. IsPackage (table_of table.now) owner.now) }
+    ensures refused { IfErr result (ListRefused (table_of table.now) owner.now) }
+{
+    let Some(contents) = contents_of(table, owner) else {
+        return Err(PackageError::NoSuchPackage);
+    };
+    let mut names = Items::new(alloc);
+    for used in &contents.uses {
+        names.push(Bytes::from_slice(alloc, used.as_slice())?)?;
+    }
+    Ok(names)
+}
+
+/// The names at home in `owner`.
+pub(crate) fn own(
+    alloc: Global,
+    table: &BTreeMap<Vec<u8>, Contents>,
+    owner: &[u8],
+) -> Result<Items<Bytes>, PackageError>
+    ensures list { IfOk result (λ names. names ≡ own_names (table_of table.now) owner.now) }
+    ensures there { IfOk result (λ _. IsPackage (table_of table.now) owner.now) }
+    ensures refused { IfErr result (ListRefused (table_of table.now) owner.now) }
+{
+    let Some(contents) = contents_of(table, owner) else {
+        return Err(PackageError::NoSuchPackage);
+    };
+    let mut names = Items::new(alloc);
+    for (name, symbol) in &contents.symbols {
+        if symbol.home.as_slice() == owner {
+            names.push(Bytes::from_slice(alloc, name.as_slice())?)?;
+        }
+    }
+    Ok(names)
+}
+
+/// The names external in `owner`.
+pub(crate) fn externals(
+    alloc: Global,
+    table: &BTreeMap<Vec<u8>, Contents>,
+    owner: &[u8],
+) -> Result<Items<Bytes>, PackageError>
+    ensures list { IfOk result (λ names. names ≡ external_names (table_of table.now) owner.now) }
+    ensures there { IfOk result (λ _. IsPackage (table_of table.now) owner.now) }
+    ensures refused { IfErr result (ListRefused (table_of table.now) owner.now) }
+{
+    let Some(contents) = contents_of(table, owner) else {
+        return Err(PackageError::NoSuchPackage);
+    };
+    let mut names = Items::new(alloc);
+    for (name, symbol) in &contents.symbols {
+        if symbol.external {
+            names.push(Bytes::from_slice(alloc, name.as_slice())?)?;
+        }
+    }
+    Ok(names)
+}
+
+/// The names present in `owner` with another home, each with that home.
+pub(crate) fn imports(
+    alloc: Global,
+    table: &BTreeMap<Vec<u8>, Contents>,
+    owner: &[u8],
+) -> Result<Items<(Bytes, Bytes)>, PackageError>
+    ensures list { IfOk result (λ names. names ≡ imports (table_of table.now) owner.now) }
+    ensures there { IfOk result (λ _. IsPackage (table_of table.now) owner.now) }
+    ensures refused { IfErr result (ListRefused (table_of table.now) owner.now) }
+{
+    let Some(contents) = contents_of(table, owner) else {
+        return Err(PackageError::NoSuchPackage);
+    };
+    let mut names = Items::new(alloc);
+    for (name, symbol) in &contents.symbols {
+        if symbol.home.as_slice() != owner {
+            let name = Bytes::from_slice(alloc, name.as_slice())?;
+            let home = Bytes::from_slice(alloc, symbol.home.as_slice())?;
+            names.push((name, home))?;
+        }
+    }
+    Ok(names)
+}

@@ -1,0 +1,71 @@
+//! What the name in a token stands for (standard 2.3.5).
+ghost use Rattle.std.specs.Prelude.{◌≡◌, Ok, Err, MatchResult};
+ghost use Rattle.package_table.specs.Table.{IsPackage};
+ghost use Rattle.package_table.specs.Resolving.{resolution, external_resolution, internal_resolution, resolution_of};
+ghost use Rattle.package_table.specs.Shown.{table_of};
+
+use crate::PackageError;
+use crate::entry::Contents;
+use crate::find::{external_home, home_of, package_name, stored_name};
+use std::collections::BTreeMap;
+
+/// What a name stands for in a package.
+#[derive(Clone, Copy, Debug, PartialEq, Eq)]
+pub enum Resolved<'a> {
+    /// A symbol that is there, by the name of its home.
+    Found(&'a [u8]),
+    /// A new symbol, by the name of the package that would be its home.
+    New(&'a [u8]),
+}
+
+/// What the name stands for in the package `owner`, which exists.
+pub(crate) fn resolve_in<'a>(
+    table: &'a BTreeMap<Vec<u8>, Contents>,
+    owner: &[u8],
+    name: &[u8],
+) -> Result<Resolved<'a>, PackageError>
+    requires { IsPackage (table_of table.now) owner.now }
+    ensures { MatchResult result (λ r. resolution (table_of table.now) owner.now name.now ≡ Ok (resolution_of r)) (λ e. resolution (table_of table.now) owner.now name.now ≡ Err e) }
+{
+    if let Some(home) = home_of(table, owner, name) {
+        return Ok(Resolved::Found(home));
+    }
+    if owner == b"COMMON-LISP".as_slice() {
+        return Err(PackageError::LockedPackage);
+    }
+    match stored_name(table, owner) {
+        Some(stored) => Ok(Resolved::New(stored)),
+        None => unreachable!(),
+    }
+}
+
+/// The home of the external symbol behind one package marker.
+pub(crate) fn resolve_external<'a>(
+    table: &'a BTreeMap<Vec<u8>, Contents>,
+    prefix: &[u8],
+    name: &[u8],
+) -> Result<&'a [u8], PackageError>
+    ensures { MatchResult result (λ h. external_resolution (table_of table.now) prefix.now name.now ≡ Ok h.now) (λ e. external_resolution (table_of table.now) prefix.now name.now ≡ Err e) }
+{
+    let Some(owner) = package_name(table, prefix) else {
+        return Err(PackageError::NoPackage);
+    };
+    match external_home(table, owner, name) {
+        Some(home) => Ok(home),
+        None => Err(PackageError::NotExternal),
+    }
+}
+
+/// What the name stands for behind two package markers.
+pub(crate) fn resolve_internal<'a>(
+    table: &'a BTreeMap<Vec<u8>, Contents>,
+    prefix: &[u8],
+    name: &[u8],
+) -> Result<Resolved<'a>, PackageError>
+    ensures { MatchResult result (λ r. internal_resolution (table_of table.now) prefix.now name.now ≡ Ok (resolution_of r)) (λ e. internal_resolution (table_of table.now) prefix.now name.now ≡ Err e) }
+{
+    match package_name(table, prefix) {
+        Some(owner) => resolve_in(table, owner, name),
+        None => Err(PackageError::NoPackage),
+    }
+}
