@@ -1,5 +1,3 @@
-pub mod Externals
 pub mod Lists
-pub mod Named
 pub mod PrintedRows
-pub mod ProperLists
+pub mod Resolved

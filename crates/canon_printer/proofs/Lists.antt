@@ -1,53 +1,39 @@
--- What is written behind a list's last item, and the items of lists.
-use Rattle.std.proofs.Common.{◌≡◌, ◌<◌, ◌++◌, List, [], ◌∷◌, Option, Some, None, Bool, true, false, not, ◌&&◌, ℕ, ◌+◌, ◌≤◌, get_or, take, length, map, codes, refl, sym, ap, ◌∙◌, subst, append_assoc, arith, append-nil}
+-- What is written after a list's last item, and the items of lists.
+use Rattle.std.proofs.Common.{◌≡◌, ◌<◌, ◌++◌, List, [], ◌∷◌, Option, Some, None, true, false, not, ◌&&◌, ℕ, ◌+◌, ◌≤◌, get_or, take, length, map, codes, refl, sym, ap, ◌∙◌, subst, append_assoc, arith, append-nil}
 use Rattle.std.specs.Prelude.{◌==◌, if◌then◌else◌}
 use Rattle.std.proofs.lemmas.Grind.{flat_map-append}
 use Rattle.std.proofs.lemmas.Bool.Decides.{nat_tests}
 use Rattle.std.specs.Option.{option_map_or}
-use Rattle.std.proofs.lemmas.Bool.{and_parts}
+use Rattle.std.proofs.lemmas.Bool.{and_parts, not-true}
 use Rattle.std.proofs.lemmas.List.{length-map, length-take-le, take_more, map-append}
 use Rattle.lisp_object.specs.declared.datum.Datum
-use Rattle.lisp_object.specs.declared.datum.Datum.{Datum, fold-Datum, fold-roll-Datum, out-Datum, roll-Datum, roll-out-Datum}
-use Rattle.lisp_object.specs.declared.datum.Datum.TheOpen.{Datum-F}
-use Rattle.lisp_object.specs.Object.{Object, vector, nil, is_nil, pairs}
-use Rattle.lisp_object.specs.Datum.{object_of, object_step, is_proper, is_list, standing_step}
+use Rattle.lisp_object.specs.declared.datum.Datum.{Datum}
+use Rattle.lisp_object.specs.Object as o
+use Rattle.lisp_object.specs.Object.{Object, vector, nil, pairs, object_is_list}
+use Rattle.lisp_object.specs.Datum.{object_of, is_proper, is_list}
 use Rattle.lisp_object.proofs.Objects.{object_of-List, object_of-dotted, object_of-Vector}
-use Rattle.canon_printer.proofs.ProperLists.{items_of_proper}
+use Rattle.lisp_object.proofs.ProperLists.{items_of_proper, no_list_object}
 use Rattle.canon_printer.specs.Written.{written, written_rest, written_others, written_items}
 
 module _ (prefix : List ℕ → List ℕ → List ℕ) where
-  abbrev step : Datum-F Datum → Type 0
-  step x = is_list (roll-Datum x) ≡ false
-      → written_rest prefix (object_of (roll-Datum x)) ≡ codes " . " ++ written prefix (object_of (roll-Datum x)) ++ codes ")"
+  -- what ends a list after a dot
+  pub written_rest_dotted : (x : Object) → object_is_list x ≡ false → written_rest prefix x ≡ codes " . " ++ written prefix x ++ codes ")"
+  written_rest_dotted (o.symbol home name) other = rw other refl
+  written_rest_dotted (o.pair a b) other = absurd (cc)
+  written_rest_dotted (o.vector xs) other = refl
+  written_rest_dotted (o.integer n) other = refl
+  written_rest_dotted (o.rational n d) other = refl
+  written_rest_dotted (o.character c) other = refl
+  written_rest_dotted (o.text bytes) other = refl
+  written_rest_dotted (o.uninterned name) other = refl
 
-  behind_dot : (x : Datum-F Datum) → step x
-  behind_dot (Datum-F.Integer n) e = rw (fold-roll-Datum Object object_step (Datum-F.Integer n)) refl
-  behind_dot (Datum-F.Rational r) e = rw (fold-roll-Datum Object object_step (Datum-F.Rational r)) refl
-  behind_dot (Datum-F.Char c) e = rw (fold-roll-Datum Object object_step (Datum-F.Char c)) refl
-  behind_dot (Datum-F.Text bytes) e = rw (fold-roll-Datum Object object_step (Datum-F.Text bytes)) refl
-  behind_dot (Datum-F.Symbol home name) e =
-      let no : is_nil home name ≡ false = sym (ap (λ p. p.1) (fold-roll-Datum (Bool × Bool) standing_step (Datum-F.Symbol home name))) ∙ e in
-      rw (fold-roll-Datum Object object_step (Datum-F.Symbol home name), no) refl
-  behind_dot (Datum-F.Uninterned name) e = rw (fold-roll-Datum Object object_step (Datum-F.Uninterned name)) refl
-  behind_dot (Datum-F.List items tail) e =
-      let yes : true ≡ false = sym (ap (λ p. p.1) (fold-roll-Datum (Bool × Bool) standing_step (Datum-F.List items tail))) ∙ e in
-      absurd (cc)
-  behind_dot (Datum-F.Vector items) e = rw (fold-roll-Datum Object object_step (Datum-F.Vector items)) refl
-
-  pub written_rest_dotted : (d : Datum) → is_list d ≡ false → written_rest prefix (object_of d) ≡ codes " . " ++ written prefix (object_of d) ++ codes ")"
-  written_rest_dotted d =
-      subst (λ z. is_list z ≡ false → written_rest prefix (object_of z) ≡ codes " . " ++ written prefix (object_of z) ++ codes ")") (roll-out-Datum d) (behind_dot (out-Datum d))
-
-  not_true : (b : Bool) → not b ≡ true → b ≡ false
-  not_true true e = sym e
-  not_true false e = refl
-
-  -- the same of a datum that may be a list's tail, behind any text
+  -- the same of a datum that may be a list's tail, after any text
   pub written_tail : (s : List ℕ) (d : Datum) → (is_proper d && not (is_list d)) ≡ true
       → ((s ++ codes " . ") ++ written prefix (object_of d)) ++ codes ")" ≡ s ++ written_rest prefix (object_of d)
   written_tail s d e =
-      let not_list : is_list d ≡ false = not_true (is_list d) ((and_parts (is_proper d) (not (is_list d)) e).1) in
-      rw (written_rest_dotted d not_list) (simp append_assoc)
+      let parts : (is_proper d ≡ true) × (not (is_list d) ≡ true) = and_parts (is_proper d) (not (is_list d)) e in
+      let other : object_is_list (object_of d) ≡ false = no_list_object d parts.0 (not-true (is_list d) parts.1) in
+      rw (written_rest_dotted (object_of d) other) (simp append_assoc)
 
   -- one item more
   pub written_items_more : (s : List ℕ) (xs : List Object) (x : Object)

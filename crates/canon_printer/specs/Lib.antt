@@ -1,3 +1,4 @@
 pub mod Names
 pub mod Printed
+pub mod Symbols
 pub mod Written

@@ -16,7 +16,7 @@ escaped test = flat_map (λ c. if test c then codes "\\" ++ c ∷ [] else c ∷ 
 abbrev pub begins_plain : ℕ → Bool
 begins_plain c = is_ascii_uppercase c || is_among (codes "*!$<>=?%&_") c
 
--- what may stand behind it
+-- what may come after it
 abbrev pub goes_on_plain : ℕ → Bool
 goes_on_plain c = begins_plain c || is_ascii_digit c || is_among (codes "+-/") c
 

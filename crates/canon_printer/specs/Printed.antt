@@ -1,10 +1,10 @@
 -- The text of an object, as the printer writes it with these packages in the current one (standard 22.1.3).
-use Rattle.std.specs.Prelude.{Bool, false, if◌then◌else◌, List, [], ◌++◌, ℕ, codes, Option}
+use Rattle.std.specs.Prelude.{Bool, false, ◌&&◌, if◌then◌else◌, List, [], ◌++◌, ℕ, codes, Option}
 use Rattle.std.specs.Option.{option_map_or}
 use Rattle.std.specs.Str.{bytes_eq}
 use Rattle.lisp_object.specs.Object.{Object}
 use Rattle.package_table.specs.Table.{Name, Table, keyword}
-use Rattle.package_table.specs.Lookup.{found, external_home}
+use Rattle.package_table.specs.Lookup.{found, is_symbol, is_external}
 use Rattle.canon_printer.specs.Names.{printed_name}
 use Rattle.canon_printer.specs.Written.{written}
 
@@ -12,21 +12,18 @@ use Rattle.canon_printer.specs.Written.{written}
 abbrev pub has_home : Option Name → Name → Bool
 has_home found_home home = option_map_or (λ h. bytes_eq h home) found_home false
 
--- the symbol is external in its home (standard 11.1.1.2.1)
-abbrev pub is_external : Table → Name → Name → Bool
-is_external packages home name = has_home (external_home packages home name) home
-
 module _ (packages : Table) (current : Name) where
   -- the current package finds this very symbol by its name (it is accessible, standard 11.1.1.2.3)
   abbrev pub is_accessible : Name → Name → Bool
   is_accessible home name = has_home (found packages current name) home
 
-  -- what stands before a symbol's name (standard 22.1.3.3.1)
+  -- what comes before a symbol's name (standard 22.1.3.3.1): nothing where it is accessible, one package marker where its
+  -- home has this very symbol external, else two
   abbrev pub printed_prefix : Name → Name → List ℕ
   printed_prefix home name =
       if is_accessible home name then []
       else (if bytes_eq home keyword then codes ":"
-      else (if is_external packages home name then printed_name home ++ codes ":"
+      else (if is_symbol packages home name && is_external packages home name then printed_name home ++ codes ":"
       else printed_name home ++ codes "::"))
 
   abbrev pub printed_symbol : Name → Name → List ℕ

@@ -61,7 +61,7 @@ module _ (prefix : List ℕ → List ℕ → List ℕ) where
     written (vector xs) = codes "#(" ++ written_elements xs
     written x = written_atom x
 
-    -- what stands behind an element of a list, up to the parenthesis that closes the list: an end other than NIL has a
+    -- what comes after an element of a list, up to the parenthesis that closes the list: an end other than NIL has a
     -- dot before it
     pub written_rest : Object → List ℕ
     written_rest (pair a b) = codes " " ++ written a ++ written_rest b
@@ -73,7 +73,7 @@ module _ (prefix : List ℕ → List ℕ → List ℕ) where
     written_elements (pair a b) = written a ++ written_rest b
     written_elements _ = codes ")"
 
-  -- what stands behind the first one of a row of objects: each behind a space
+  -- what comes after the first one of a row of objects: each after a space
   abbrev pub written_others : List Object → List ℕ
   written_others = flat_map (λ x. codes " " ++ written x)
 

@@ -20,7 +20,7 @@ pub(crate) fn write_name(text: &mut Vec<u8>, name: &[u8]) -> Result<(), AllocErr
     Ok(())
 }
 
-/// Writes the character, behind a backslash where it needs one.
+/// Writes the character, after a backslash where it needs one.
 pub(crate) fn write_escaped(text: &mut Vec<u8>, c: u8, is_escaped: bool) -> Result<(), AllocError>
     ensures { OnOk result (text.new.items ≡ text.old.items ++ (if is_escaped then codes "\\" ++ c ∷ [] else c ∷ [])) }
 {

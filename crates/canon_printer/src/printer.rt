@@ -20,7 +20,7 @@ use std::alloc::{AllocError, Global};
 /// most for each symbol; the stack takes a call for each level of nesting.
 ///
 /// # Errors
-/// Want of memory.
+/// Out of memory.
 pub fn print(
     alloc: Global,
     datum: &Datum,
@@ -95,7 +95,7 @@ fn write_items(
     Ok(())
 }
 
-// What stands behind a list's last item.
+// What is written after a list's last item.
 #[cycle(writing)]
 #[tactic(auto, using(crate::proofs::Lists::written_tail))]
 fn write_tail(

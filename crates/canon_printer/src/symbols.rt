@@ -2,13 +2,13 @@
 ghost use Rattle.std.specs.Prelude.{◌≡◌, ◌++◌, OnOk};
 ghost use Rattle.package_table.specs.Table.{IsPackage};
 ghost use Rattle.canon_printer.specs.Written.{printed_uninterned};
-ghost use Rattle.canon_printer.specs.Printed.{is_accessible, is_external, printed_prefix, printed_symbol};
+ghost use Rattle.canon_printer.specs.Printed.{is_accessible, printed_prefix, printed_symbol};
 
 use crate::names::write_name;
 use package_table::{Packages, Resolved};
 use std::alloc::AllocError;
 
-/// Writes a symbol, behind a prefix where the current package does not find it by its name (standard 22.1.3.3.1).
+/// Writes a symbol, after a prefix where the current package does not find it by its name (standard 22.1.3.3.1).
 pub(crate) fn write_symbol(
     text: &mut Vec<u8>,
     home: &[u8],
@@ -31,7 +31,7 @@ pub(crate) fn write_uninterned(text: &mut Vec<u8>, name: &[u8]) -> Result<(), Al
     write_name(text, name)
 }
 
-// What stands before the name of a symbol.
+// What comes before the name of a symbol.
 fn write_prefix(
     text: &mut Vec<u8>,
     home: &[u8],
@@ -49,7 +49,7 @@ fn write_prefix(
         return text.extend_from_slice(b":");
     }
     write_name(text, home)?;
-    if is_external(home, name, packages) {
+    if packages.is_symbol(home, name) && packages.is_external(home, name) {
         return text.extend_from_slice(b":");
     }
     text.extend_from_slice(b"::")
@@ -66,17 +66,5 @@ fn is_accessible(home: &[u8], name: &[u8], packages: &Packages, current: &[u8]) 
     match resolved {
         Resolved::Found(found) => found == home,
         Resolved::New(_) => false,
-    }
-}
-
-/// Whether the symbol is external in its home.
-#[tactic(auto, using(crate::proofs::Externals::external_found, crate::proofs::Externals::external_missing))]
-pub(crate) fn is_external(home: &[u8], name: &[u8], packages: &Packages) -> bool
-    ensures { result ≡ is_external packages.now.0 home.now name.now }
-{
-    packages.soundness();
-    match packages.resolve_external(home, name) {
-        Ok(found) => found == home,
-        Err(_) => false,
     }
 }

@@ -1,13 +1,11 @@
 //! Objects printed in packages of which one has a NIL of its own.
 use crate::print;
-use crate::symbols::is_external;
 use lisp_object::{Bytes, Datum, Items, Ratio};
 use package_table::Packages;
 use std::alloc::{AllocError, Global};
 use std::test::Fail;
 
 /// The text of a proper datum in the package of this name.
-#[tactic(auto, using(crate::proofs::Named::named_package))]
 fn text_in(
     alloc: Global,
     datum: &Datum,
@@ -45,10 +43,9 @@ fn make(alloc: Global, packages: &mut Packages, name: &str) -> Result<(), Fail> 
     Ok(())
 }
 
-#[tactic(auto, using(crate::proofs::Externals::external_present))]
 fn import(packages: &mut Packages, owner: &str, home: &str, name: &str) -> Result<(), Fail> {
-    if !is_external(home.as_bytes(), name.as_bytes(), packages) {
-        return Err("not external".into());
+    if !packages.is_symbol(home.as_bytes(), name.as_bytes()) {
+        return Err("no symbol".into());
     }
     packages.import(owner.as_bytes(), home.as_bytes(), name.as_bytes())?;
     Ok(())
@@ -99,59 +96,67 @@ fn symbols(rt: HostRuntime) -> Result<(), Fail> {
     Ok(())
 }
 
+/// `((1 . 2) #(#\a) NIL #())`
+fn list(alloc: Global) -> Result<Datum, AllocError> {
+    let one = vec![in alloc; Datum::Integer(1)]?;
+    let dotted = Datum::list(alloc, one, Some(Datum::Integer(2)))?;
+    let letter = Datum::Vector(Items::from_vec(vec![in alloc; Datum::Char(b'a')]?));
+    let empty = Datum::Vector(Items::new(alloc));
+    let items = vec![in alloc; dotted, letter, Datum::nil(alloc)?, empty]?;
+    Datum::list(alloc, items, None)
+}
+
+/// 1 in so many lists, one in another.
+fn nested(alloc: Global, levels: u64) -> Result<Datum, AllocError> {
+    let mut datum = Datum::Integer(1);
+    for _ in 0..levels {
+        datum = Datum::list(alloc, vec![in alloc; datum]?, None)?;
+    }
+    Ok(datum)
+}
+
+fn made(alloc: Global, kind: &str) -> Result<Datum, AllocError> {
+    match kind {
+        "integer" => Ok(Datum::Integer(i128::MIN)),
+        "ratio" => Ok(Ratio::reduce(-4, 6).unwrap_or(Datum::Integer(0))),
+        "text" => Ok(Datum::Text(bytes(alloc, r#"a"\"#)?)),
+        "uninterned" => Ok(Datum::Uninterned(bytes(alloc, "G1")?)),
+        "list" => list(alloc),
+        _ => nested(alloc, 40),
+    }
+}
+
 #[test]
-fn atoms(rt: HostRuntime) -> Result<(), Fail> {
+fn objects(rt: HostRuntime) -> Result<(), Fail> {
     let alloc = rt.alloc();
     let packages = Packages::new(alloc)?;
-    let rows = [
-        (
-            Datum::Integer(i128::MIN),
-            "-170141183460469231731687303715884105728",
-        ),
-        (Ratio::reduce(-4, 6).ok_or("a ratio")?, "-2/3"),
-        (Datum::Text(bytes(alloc, "a\"")?), "\"a\\\"\""),
-        (Datum::Text(bytes(alloc, r"a\b")?), "\"a\\\\b\""),
-        (Datum::Uninterned(bytes(alloc, "G1")?), "#:G1"),
-        (Datum::Char(8), r"#\Backspace"),
-        (Datum::Char(b'\t'), r"#\Tab"),
-        (Datum::Char(b'\n'), r"#\Newline"),
-        (Datum::Char(12), r"#\Page"),
-        (Datum::Char(b'\r'), r"#\Return"),
-        (Datum::Char(b' '), r"#\Space"),
-        (Datum::Char(127), r"#\Rubout"),
-        (Datum::Char(b'a'), r"#\a"),
-    ];
-    for (datum, text) in &rows {
-        let printed = text_in(alloc, datum, &packages, "CL-USER")?;
+    for (kind, text) in [
+        ("integer", "-170141183460469231731687303715884105728"),
+        ("ratio", "-2/3"),
+        ("text", r#""a\"\\""#),
+        ("uninterned", "#:G1"),
+        ("list", r"((1 . 2) #(#\a) NIL #())"),
+        ("nested", NESTED),
+    ] {
+        let printed = text_in(alloc, &made(alloc, kind)?, &packages, "CL-USER")?;
+        assert_eq!(rt; printed.as_slice(), text.as_bytes(), "{kind}");
+    }
+    for (c, text) in [
+        (8, r"#\Backspace"),
+        (b'\t', r"#\Tab"),
+        (b'\n', r"#\Newline"),
+        (12, r"#\Page"),
+        (b'\r', r"#\Return"),
+        (b' ', r"#\Space"),
+        (127, r"#\Rubout"),
+        (b'a', r"#\a"),
+    ] {
+        let printed = text_in(alloc, &Datum::Char(c), &packages, "CL-USER")?;
         assert_eq!(rt; printed.as_slice(), text.as_bytes());
     }
     Ok(())
 }
 
-/// `(1 . 2)`
-fn dotted(alloc: Global) -> Result<Datum, AllocError> {
-    let items = vec![in alloc; Datum::Integer(1)]?;
-    Datum::list(alloc, items, Some(Datum::Integer(2)))
-}
-
-/// `#(#\a "x")`
-fn vector(alloc: Global) -> Result<Datum, AllocError> {
-    let text = Datum::Text(bytes(alloc, "x")?);
-    let items = vec![in alloc; Datum::Char(b'a'), text]?;
-    Ok(Datum::Vector(Items::from_vec(items)))
-}
-
-#[test]
-fn lists(rt: HostRuntime) -> Result<(), Fail> {
-    let alloc = rt.alloc();
-    let packages = Packages::new(alloc)?;
-    let empty = Datum::Vector(Items::new(alloc));
-    let items = vec![in alloc; dotted(alloc)?, vector(alloc)?, Datum::nil(alloc)?, empty]?;
-    let list = Datum::list(alloc, items, None)?;
-    let printed = text_in(alloc, &list, &packages, "CL-USER")?;
-    assert_eq!(rt;
-        printed.as_slice(),
-        b"((1 . 2) #(#\\a \"x\") NIL #())".as_slice()
-    );
-    Ok(())
-}
+/// 1 in 40 lists.
+const NESTED: &str =
+    "((((((((((((((((((((((((((((((((((((((((1))))))))))))))))))))))))))))))))))))))))";

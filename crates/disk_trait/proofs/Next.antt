@@ -2,7 +2,7 @@
 use Rattle.std.proofs.Common.{◌≡◌, ◌⊎◌, inl, inr, ⊎_elim, ℕ, ◌+◌, ◌<◌, ◌≤◌, List, [], ◌∷◌, ◌++◌, length, refl, sym, ap, subst, arith, length-append}
 use Rattle.std.proofs.lemmas.List.{take_all, take-append-le}
 use Rattle.std.proofs.lemmas.Bool.{cases_lt}
-use Rattle.disk_trait.specs.Disk.{Image, OnHalf, Partly, Elapses}
+use Rattle.disk_trait.specs.Disk.{Image, other_of, OnHalf, Partly, Elapses}
 use Rattle.disk_trait.specs.Replay.{Present, PartOf, settled, after_what, where_same, after_call, after_calls, MayLeave, LeftSince, told, Follows}
 use Rattle.disk_trait.specs.declared.call.Call.{Call}
 use Rattle.disk_trait.specs.declared.call.What.{What}
@@ -21,6 +21,9 @@ reads-push half on what calls p = ap (λ (q : Present). q.reads) (after_calls-pu
 
 left-push : (half on : Half) (what : What) (calls : List Call) (p : Present) (c : List ℕ) → (after_calls half (calls ++ one on what) p).may_leave c → (where_same half on (after_what what (after_calls half calls p)) (after_calls half calls p)).may_leave c
 left-push half on what calls p c left = subst (λ (q : Present). q.may_leave c) (after_calls-push half calls (record { half = on; what = what }) p) left
+
+left-pull : (half on : Half) (what : What) (calls : List Call) (p : Present) (c : List ℕ) → (where_same half on (after_what what (after_calls half calls p)) (after_calls half calls p)).may_leave c → (after_calls half (calls ++ one on what) p).may_leave c
+left-pull half on what calls p c left = subst (λ (q : Present). q.may_leave c) (sym (after_calls-push half calls (record { half = on; what = what }) p)) left
 
 elapses_push : (start : Image) (calls : List Call) (call : Call) (failures later_failures : ℕ) → Elapses (told start calls failures) (told start (calls ++ call ∷ []) later_failures)
 elapses_push start calls call failures later_failures = record {
@@ -47,12 +50,21 @@ elapses_push start calls call failures later_failures = record {
         let whole : length (calls ++ call ∷ []) ≤ left.moment = omega (arith, last, length-append calls (call ∷ [])) in
         inr (subst (λ (l : List Call). MayLeave start l c) (take_all left.moment (calls ++ call ∷ []) whole) left.left)
 
+-- the other half stays, where a step on this one is undone or taken
+beside : {step : List ℕ → List ℕ → Type 0} (half : Half) (d c : Image) → Partly (OnHalf half step) d c → other_of half c ≡ other_of half d
+beside half d c (inl same) = ap (other_of half) same
+beside half d c (inr step) = step.other
+
 next : (start : Image) (calls : List Call) (half : Half) (what : What) (failures later_failures : ℕ) → Follows half what (told start calls failures) (told start (calls ++ one half what) later_failures)
 next start calls A what failures later_failures = record {
   changed = reads-push A A what calls (settled start.a);
   other = reads-push B A what calls (settled start.b);
   crash = λ c left. from c (left-push A A what calls (settled start.a) c.a left.0) (left-push B A what calls (settled start.b) c.b left.1);
   binds = λ c left. (left-push A A what calls (settled start.a) c.a left.0).1;
+  allows = λ d c left step binds. (
+    left-pull A A what calls (settled start.a) c.a ((d.a, left.0, ⊎_elim (λ same. inl (ap (λ (i : Image). i.a) same)) (λ part. inr part.changed) step), binds),
+    left-pull B A what calls (settled start.b) c.b (subst (λ (l : List ℕ). (after_calls B calls (settled start.b)).may_leave l) (sym (beside A d c step)) left.1),
+  );
   time = elapses_push start calls (record { half = A; what = what }) failures later_failures;
 }
   where
@@ -65,6 +77,10 @@ next start calls B what failures later_failures = record {
   other = reads-push A B what calls (settled start.a);
   crash = λ c left. from c (left-push A B what calls (settled start.a) c.a left.0) (left-push B B what calls (settled start.b) c.b left.1);
   binds = λ c left. (left-push B B what calls (settled start.b) c.b left.1).1;
+  allows = λ d c left step binds. (
+    left-pull A B what calls (settled start.a) c.a (subst (λ (l : List ℕ). (after_calls A calls (settled start.a)).may_leave l) (sym (beside B d c step)) left.0),
+    left-pull B B what calls (settled start.b) c.b ((d.b, left.1, ⊎_elim (λ same. inl (ap (λ (i : Image). i.b) same)) (λ part. inr part.changed) step), binds),
+  );
   time = elapses_push start calls (record { half = B; what = what }) failures later_failures;
 }
   where

@@ -1,5 +1,5 @@
 -- What a disk of two files is: what a read gives, what a crash may leave, and what each call does to both.
-use Rattle.std.specs.Prelude.{◌≡◌, ◌⊎◌, ◌↔◌, ℕ, ◌+◌, ◌<◌, ◌≤◌, max, Bool, List, [], ◌++◌, length, take, drop, Result, MatchResult, IsTrue}
+use Rattle.std.specs.Prelude.{◌≡◌, ◌⊎◌, ℕ, ◌+◌, ◌<◌, ◌≤◌, max, Bool, true, false, List, [], ◌++◌, length, take, drop, Result, MatchResult, IsTrue}
 use Rattle.std.specs.List.{AllByRecursion}
 use Rattle.disk_trait.specs.declared.disk.DeviceFault.{DeviceFault}
 use Rattle.disk_trait.specs.declared.half.Half.{Half}
@@ -40,6 +40,13 @@ IsHonest s = IsTrue s.honest
 abbrev pub IsDurable : State → Type 0
 IsDurable s = (c : Image) → s.may_leave c → c ≡ s.reads
 
+abbrev pub AreBytes : List ℕ → Type 0
+AreBytes bytes = AllByRecursion (λ byte. byte < 256) bytes
+
+-- both files hold bytes
+abbrev pub HoldsBytes : Image → Type 0
+HoldsBytes image = AreBytes image.a × AreBytes image.b
+
 -- two empty files, nothing of them pending, and no failure yet
 pub record IsFresh (s : State) : Type 0 where
   pub honest : IsHonest s
@@ -48,22 +55,11 @@ pub record IsFresh (s : State) : Type 0 where
   pub durable : IsDurable s
   pub failures : s.failures ≡ 0
 
--- one disk stands as the other does, but for the count of failures
-pub record IsSame (s t : State) : Type 0 where
-  pub honest : s.honest ≡ t.honest
-  pub reads : s.reads ≡ t.reads
-  pub may_leave : (c : Image) → (s.may_leave c ↔ t.may_leave c)
-  pub moment : s.moment ≡ t.moment
-  pub left_since : (moment : ℕ) (c : Image) → (s.left_since moment c ↔ t.left_since moment c)
-
 -- ---- what a call does to a file
 
 -- the file with these bytes in place of its own from there on; it grows where they pass its end
 abbrev pub written : ℕ → List ℕ → List ℕ → List ℕ
 written at bytes old = take at old ++ bytes ++ drop (at + length bytes) old
-
-abbrev pub AreBytes : List ℕ → Type 0
-AreBytes bytes = AllByRecursion (λ byte. byte < 256) bytes
 
 -- a write of n bytes that a crash cuts short: any bytes in the range, past the old end any number of them, the rest as before
 pub record Torn (at n : ℕ) (old new : List ℕ) : Type 0 where
@@ -91,10 +87,27 @@ Partly step old new = (new ≡ old) ⊎ step old new
 
 -- ---- what the calls promise
 
--- Of every disk: no call changes its honesty, and the count of failures rises by one with each fault and else stays.
-pub record Counts {T : Type 0} (old new : State) (result : Result T DeviceFault) : Type 0 where
+-- a count of failures rises by one where the device failed, and else stays
+abbrev pub Rises : Bool → ℕ → ℕ → Type 0
+Rises true old new = new ≡ old + 1
+Rises false old new = new ≡ old
+
+-- Of every disk, between two of its states: its honesty stays, and the count of failures rises exactly with a fault of the device.
+pub record Told (is_fault : Bool) (old new : State) : Type 0 where
   pub honest : new.honest ≡ old.honest
-  pub failures : MatchResult result (λ _. new.failures ≡ old.failures) (λ _. new.failures ≡ old.failures + 1)
+  pub failures : Rises is_fault old.failures new.failures
+
+-- The same of a call that answers beside its disk, with some errors that are a fault of the device and some that are none.
+pub record Tells {T E : Type 0} (is_fault : E → Bool) (old new : State) (result : Result T E) : Type 0 where
+  pub honest : new.honest ≡ old.honest
+  pub failures : MatchResult result (λ _. new.failures ≡ old.failures) (λ e. Rises (is_fault e) old.failures new.failures)
+
+-- a call of the disk itself, which has no other error
+abbrev pub is_fault : DeviceFault → Bool
+is_fault fault = true
+
+abbrev pub Counts : {T : Type 0} → State → State → Result T DeviceFault → Type 0
+Counts old new result = Tells is_fault old new result
 
 -- Time goes on: a crash since t might have left what it might have left before, or what it may leave now.
 pub record Elapses (old new : State) : Type 0 where
@@ -114,11 +127,17 @@ pub record Changes (step : Image → Image → Type 0) (old new : State) : Type 
   pub crash : (c : Image) → new.may_leave c → (d : Image) × old.may_leave d × Partly step d c
   pub time : Elapses old new
 
--- Between calls: what a read gives may be left; the moments since t have this one among them; since this one there is no other.
+-- A crash may leave no less than this: all that it might have left before, with the step undone or taken, in whole or in part.
+abbrev pub Allows : (Image → Image → Type 0) → State → State → Type 0
+Allows step old new = (d c : Image) → old.may_leave d → Partly step d c → new.may_leave c
+
+-- Between calls: what a read gives may be left; the moments since t have this one among them; since this one there is no other;
+-- and all that a crash might have left since any moment, so what it may leave now and what a read gives too, is bytes.
 pub record IsSound (s : State) : Type 0 where
   pub reads_stay : s.may_leave s.reads
   pub counts_now : (t : ℕ) (c : Image) → t ≤ s.moment → s.may_leave c → s.left_since t c
   pub only_now : (c : Image) → s.left_since s.moment c → s.may_leave c
+  pub bytes : (t : ℕ) (c : Image) → s.left_since t c → HoldsBytes c
 
 -- a crash at any moment since the old state, inside a call too, leaves an image with P
 pub record Throughout (old new : State) (P : Image → Type 0) : Type 0 where

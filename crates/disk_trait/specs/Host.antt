@@ -1,5 +1,7 @@
--- A disk of which nothing is claimed but its count of failures.
-use Rattle.std.specs.Prelude.{ℕ, false, []}
+-- A disk of which nothing is claimed but its count of failures, and the descriptors of its files.
+use Rattle.std.specs.Prelude.{ℕ, false, [], pos, ◌<ℤ◌}
+use Rattle.std.specs.Fd.{file_raw_fd}
+use Rattle.std.specs.declared.fs.File.{File}
 use Rattle.disk_trait.specs.Disk.{State, IsHonest, IsSound}
 
 abbrev pub unclaimed : ℕ → State
@@ -14,3 +16,7 @@ unclaimed failures = record {
 
 pub sound_unclaimed : (failures : ℕ) → IsHonest (unclaimed failures) → IsSound (unclaimed failures)
 sound_unclaimed failures honest = absurd (cc)
+
+-- The file's descriptor is none of the three standard streams: 0, 1 and 2.
+abbrev pub IsAboveStreams : File → Type 0
+IsAboveStreams file = pos 2 <ℤ file_raw_fd file

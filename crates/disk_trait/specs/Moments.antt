@@ -1,6 +1,6 @@
 -- How runs of calls are told, moment by moment.
-use Rattle.std.proofs.Common.{inl, inr, ⊎_elim, ℕ, arith}
-use Rattle.disk_trait.specs.Disk.{Image, State, Elapses, IsSound, Throughout}
+use Rattle.std.proofs.Common.{inl, inr, ⊎_elim, ℕ, ◌≤◌, arith}
+use Rattle.disk_trait.specs.Disk.{Image, State, HoldsBytes, Elapses, IsSound, Throughout}
 
 -- one call, from a disk whose crash would have left an image with P, to one whose crash leaves such an image
 pub one_call : (old new : State) (P : Image → Type 0) → IsSound old → Elapses old new → ((c : Image) → old.may_leave c → P c) → ((c : Image) → new.may_leave c → P c) → Throughout old new P
@@ -28,4 +28,8 @@ weaker a b P Q run weaken = record {
 
 -- the count of failures has no part in it
 pub recounted_sound : (s : State) (failures : ℕ) → IsSound s → IsSound (record s { failures = failures })
-recounted_sound s failures sound = record { reads_stay = sound.reads_stay; counts_now = sound.counts_now; only_now = sound.only_now }
+recounted_sound s failures sound = record { reads_stay = sound.reads_stay; counts_now = sound.counts_now; only_now = sound.only_now; bytes = sound.bytes }
+
+-- all that an honest disk might have left is bytes
+pub bytes_since : (old new : State) → old.moment ≤ new.moment → IsSound new → Throughout old new HoldsBytes
+bytes_since old new later sound = record { later = later; each = λ c left. sound.bytes old.moment c left; before = λ t c le left. inr (sound.bytes t c left) }

@@ -1,5 +1,6 @@
 -- What a disk in memory holds, told from its start and the calls that it took: each file apart, one call after the other.
-use Rattle.std.specs.Prelude.{◌≡◌, ◌⊎◌, ℕ, ◌≤◌, true, List, [], ◌∷◌, length, take}
+use Rattle.std.specs.Prelude.{◌≡◌, ◌⊎◌, ℕ, ◌≤◌, Bool, true, ◌&&◌, List, [], ◌∷◌, length, take, nat_lt}
+use Rattle.std.specs.List.{list_all}
 use Rattle.disk_trait.specs.Disk.{Image, State, Elapses, file_of, other_of, written, Torn, Cut, OnHalf, Partly}
 use Rattle.disk_trait.specs.declared.call.Call.{Call}
 use Rattle.disk_trait.specs.declared.call.What.{What}
@@ -64,6 +65,24 @@ after_calls half (call ∷ calls) before = after_calls half calls (after_call ha
 abbrev pub MayLeave : Image → List Call → Image → Type 0
 MayLeave start calls c = (after_calls A calls (settled start.a)).may_leave c.a × (after_calls B calls (settled start.b)).may_leave c.b
 
+-- each of these numbers is a byte
+abbrev pub are_bytes : List ℕ → Bool
+are_bytes bytes = list_all (λ byte. nat_lt byte 256) bytes
+
+-- what a call writes is bytes
+abbrev pub writes_bytes : What → Bool
+writes_bytes Looked = true
+writes_bytes (Wrote at bytes) = are_bytes bytes.items
+writes_bytes (Shortened len) = true
+writes_bytes Synced = true
+
+-- the files began with bytes, and the calls wrote bytes
+abbrev pub began_with_bytes : Image → Bool
+began_with_bytes start = are_bytes start.a && are_bytes start.b
+
+abbrev pub wrote_bytes : List Call → Bool
+wrote_bytes calls = list_all (λ call. writes_bytes call.what) calls
+
 -- what a crash might have left at some moment from t on: a moment is the number of calls before it
 pub record LeftSince (start : Image) (calls : List Call) (t : ℕ) (c : Image) : Type 0 where
   pub moment : ℕ
@@ -90,4 +109,5 @@ pub record Follows (half : Half) (what : What) (old new : State) : Type 0 where
   pub other : other_of half new.reads ≡ other_of half old.reads
   pub crash : (c : Image) → new.may_leave c → (d : Image) × old.may_leave d × Partly (OnHalf half (PartOf what)) d c
   pub binds : (c : Image) → new.may_leave c → Binds what (file_of half old.reads) (file_of half c)
+  pub allows : (d c : Image) → old.may_leave d → Partly (OnHalf half (PartOf what)) d c → Binds what (file_of half old.reads) (file_of half c) → new.may_leave c
   pub time : Elapses old new

@@ -1,8 +1,9 @@
 -- How a disk that is told from its calls stands between two of them.
-use Rattle.std.proofs.Common.{inl, inr, ℕ, List, [], ◌∷◌, length, take, refl, sym, subst, arith, append-nil, length-take}
+use Rattle.std.proofs.Common.{inl, inr, ℕ, IsTrue, List, [], ◌∷◌, length, take, refl, sym, subst, arith, append-nil, length-take}
 use Rattle.std.proofs.lemmas.List.{take_all}
 use Rattle.disk_trait.specs.Disk.{Image, Cut, IsSound}
-use Rattle.disk_trait.specs.Replay.{Present, settled, after_what, where_same, after_call, after_calls, MayLeave, told}
+use Rattle.disk_trait.specs.Replay.{Present, settled, after_what, where_same, after_call, after_calls, MayLeave, told, began_with_bytes, wrote_bytes}
+use Rattle.disk_trait.specs.ReplayBytes.{left_bytes}
 use Rattle.disk_trait.specs.declared.call.Call.{Call}
 use Rattle.disk_trait.specs.declared.call.What.{What}
 use Rattle.disk_trait.specs.declared.call.What.TheVariants.{Looked, Wrote, Shortened, Synced}
@@ -32,8 +33,8 @@ pub stay : (half : Half) (calls : List Call) (p : Present) → Stays p → Stays
 stay half [] p stays = stays
 stay half (call ∷ calls) p stays = stay half calls (after_call half call p) (stay_where half call.half (after_what call.what p) p (stay_what call.what p stays) stays)
 
-pub sound_told : (start : Image) (calls : List Call) (failures : ℕ) → IsSound (told start calls failures)
-sound_told start calls failures = record {
+pub sound_told : (start : Image) (calls : List Call) (failures : ℕ) → IsTrue (began_with_bytes start) → IsTrue (wrote_bytes calls) → IsSound (told start calls failures)
+sound_told start calls failures began wrote = record {
   reads_stay = (stay A calls (settled start.a) refl, stay B calls (settled start.b) refl);
   counts_now = λ t c le left. record {
     moment = length calls;
@@ -42,4 +43,5 @@ sound_told start calls failures = record {
     left = subst (λ (l : List Call). MayLeave start l c) (sym (take_all (length calls) calls (omega arith))) left;
   };
   only_now = λ c left. subst (λ (l : List Call). MayLeave start l c) (take_all left.moment calls left.not_before) left.left;
+  bytes = λ t c left. left_bytes start calls t c began wrote left;
 }

@@ -1,9 +1,12 @@
+pub mod Atoms
 pub mod Depths
 pub mod Lists
 pub mod Objects
+pub mod ProperLists
 pub mod Properness
 pub mod Quotients
 pub mod Restored
 pub mod Sizes
 pub mod Sound
 pub mod Tree
+pub mod TreeEntries

@@ -1,12 +1,13 @@
 -- The greatest divisor, and what is left when both parts are divided by it.
-use Rattle.std.proofs.Common.{◌≡◌, ℕ, zero, suc, ◌*◌, ◌/◌, ◌%◌, ◌<◌, ◌≤◌, ◌^◌, ℤ, pos, negsuc, neg_ℤ, true, false, ◌&&◌, refl, sym, subst, inl, inr, arith}
-use Rattle.std.specs.Prelude.{unsigned_abs, int_div, FitsSigned}
+use Rattle.std.proofs.Common.{◌≡◌, ℕ, zero, suc, ◌*◌, ◌/◌, ◌%◌, ◌<◌, ◌≤◌, ◌^◌, ℤ, pos, negsuc, neg_ℤ, ap, true, false, ◌&&◌, refl, sym, subst, inl, inr, arith}
+use Rattle.std.specs.Prelude.{unsigned_abs, int_div, FitsSigned, ◌==◌, Some}
 use Rattle.std.specs.Int.{IsGcd, int_signum, w128}
 use Prim.Native.Nat.{◌∣◌}
-use Rattle.std.proofs.Math.Nat.{dvd_of_mod-eq-zero, mod-eq-zero_of_dvd, le_of_dvd, one-dvd, mul-div_cancel', mul-dvd-mul_left, dvd_of_mul-dvd-mul_left, pos_of_dvd_of_pos, eq-zero-or-pos, div-eq_of_lt, div_self}
-use Rattle.std.proofs.lemmas.Bool.{cases_Bool, cases_lt, both_ways, and_parts, and_from, eqb-true, eq-eqb}
+use Rattle.std.proofs.Math.Nat.{dvd_of_mod-eq-zero, mod-eq-zero_of_dvd, le_of_dvd, one-dvd, mul-div_cancel', mul-dvd-mul_left, dvd_of_mul-dvd-mul_left, pos_of_dvd_of_pos, eq-zero-or-pos, div-eq_of_lt, div_self, div-one}
+use Rattle.std.proofs.lemmas.Bool.{cases_Bool, cases_lt, both_ways, and_parts, and_from, eqb-true, eq-eqb, ne_eqb}
 use Rattle.lisp_object.specs.Lowest.{IsLowest}
-use Rattle.lisp_object.specs.Quotient.{divides, greatest_divisor, gcd}
+use Rattle.lisp_object.specs.Object.{rational}
+use Rattle.lisp_object.specs.Quotient.{divides, greatest_divisor, gcd, quotient}
 
 divides_both : (a b k : ℕ) → (divides k a && divides k b) ≡ true → (k ∣ a) × (k ∣ b)
 divides_both a b k h =
@@ -86,3 +87,16 @@ signum-div (negsuc a) k fits large h =
     let below : a < 2 ^ 127 = fits.sfits in
     let same : k ≡ suc a = omega (arith, below, large, le_of_dvd (omega arith) h) in
     rw (same, div_self {n = suc a} (omega arith)) refl
+
+by_one : (n : ℤ) → int_div n (pos 1) ≡ n
+by_one (pos n) = ap (λ (m : ℕ). pos m) (div-one n)
+by_one (negsuc n) = ap (λ (m : ℕ). neg_ℤ (pos m)) (div-one (suc n))
+
+-- what is in lowest terms is its own quotient
+pub lowest_stays : (n : ℤ) (d : ℕ) → IsLowest n d → quotient n d ≡ Some (rational n d)
+lowest_stays n d is =
+    let over : 1 < d = is.over_one in
+    let one : 1 ≡ gcd (unsigned_abs n) d = gcd_from_IsGcd (unsigned_abs n) d 1 (omega arith) is.coprime in
+    let some : (d == 0) ≡ false = ne_eqb d 0 (λ e. omega arith) in
+    let more : (d == 1) ≡ false = ne_eqb d 1 (λ e. omega arith) in
+    rw (some, ← one, div-one d, more, by_one n) refl

@@ -11,6 +11,7 @@ use Rattle.lisp_object.specs.Ascii.{is_ascii}
 use Rattle.lisp_object.specs.Object.{Object, IsSound, nil, pairs}
 use Rattle.lisp_object.specs.Datum.{object_of, standing, is_proper}
 use Rattle.lisp_object.proofs.Objects.{object_of-List, object_of-dotted, object_of-Vector}
+use Rattle.lisp_object.proofs.ProperLists.{proper_pairs}
 
 pub all_below : (bytes : List ℕ) → list_all is_ascii bytes ≡ true → All (λ b. b < 128) bytes
 all_below [] h = All-nil (λ b. b < 128)
@@ -33,7 +34,9 @@ sound_List items (Some t) d is all end =
     subst IsSound (sym (ap object_of is ∙ object_of-dotted items t)) (sound_pairs items (object_of t) all end)
 
 pub sound_Vector : (items : List Datum) (d : Datum) → d ≡ Datum.Vector items → All (λ x. IsSound (object_of x)) items → IsSound (object_of d)
-sound_Vector items d is all = subst IsSound (sym (ap object_of is ∙ object_of-Vector items)) (sound_pairs items nil all sound_nil)
+sound_Vector items d is all =
+    subst IsSound (sym (ap object_of is ∙ object_of-Vector items))
+    (sound_pairs items nil all sound_nil, proper_pairs (map object_of items))
 
 -- an item that is not proper, and one more that is
 pub not_all_proper : (xs : List Datum) (i : ℕ) (x : Datum) → i < length xs → x ≡ slice_index_or xs i x → is_proper x ≡ false

@@ -1,9 +1,10 @@
 -- A `BTreeMap` read as a finite map: f reads its keys and g its values, and its keys are in the order R of what f reads.
+-- Where a call takes a key that is only borrowed, as a slice for a `Vec`, the query q is what is read of a key (`.._at`).
 --     read, as_map      its entries, and the finite map, as read
---     find_read, got      what `get` gives
+--     find_at, got_at, find_read, got      what `get` gives
 --     read-insert_entry, find_read-insert, as_map-insert      what `insert` leaves, from its clause `entries`
---     find_read-remove_entry, as_map-remove      what `remove` leaves, from its clause `entries`, where the keys were in order (clause `ordered` of `len`)
---     find_read-set_value, as_map-set_value      what a write through `get_mut` leaves
+--     find_remove_at, as_map-remove_at, find_read-remove_entry, as_map-remove      what `remove` leaves, from its clause `entries`, where the keys were in order (clause `ordered` of `len`)
+--     find_set_at, as_map-set_at, find_read-set_value, as_map-set_value      what a write through `get_mut` leaves
 --     insert_same      what is there, put again
 use Rattle.std.proofs.Common.{◌≡◌, Bool, true, false, cond, Option, None, Some, List, [], ◌∷◌, map, refl, sym, ap, ◌∙◌}
 use Rattle.std.specs.declared.cmp.Ordering.{Ordering}
@@ -15,15 +16,13 @@ use Rattle.std.specs.List.Sorted.{IsStrictlySortedBy}
 use Rattle.std.proofs.lemmas.Bool.{false≢true}
 use Rattle.std.specs.Map.{lookup, keys_of, remove_entry, set_value}
 use Rattle.std.specs.BTreeMap.{is_at, insert_entry}
-use Rattle.std.specs.Cmp.{IsTotalOrder, alike_right}
+use Rattle.std.specs.Cmp.{IsTotalOrder, Equal-is, alike_right}
 use Rattle.std.specs.FinMap as finite
 use Rattle.std.specs.FinMap.{FinMap, IsAntisymmetric, find, put, get-from_entries, get-insert, get-remove, get_tied, same_map}
 use Rattle.std.specs.FinMap.Entries.{find-put, by_order}
 
 is_equal : (r : Ordering) → is_eq r ≡ true → r ≡ Equal
-is_equal Less t = absurd (false≢true t)
-is_equal Equal t = refl
-is_equal Greater t = absurd (false≢true t)
+is_equal r = (Equal-is r).0
 
 no_value : {Y : Type 0} (b : Bool) → ◌≡◌ {A = Option Y} None (cond b None None)
 no_value true = refl
@@ -40,14 +39,21 @@ module _ {A X K V : Type 0} (f : A → K) (g : X → V) (R : K → K → Orderin
   abbrev pub by_read : A → A → Ordering
   by_read a b = R (f a) (f b)
 
+  -- the keys that a query finds
+  abbrev pub at : K → A → Bool
+  at q = is_at (λ a. R q (f a))
+
   -- a look-up among the entries is one among what is read
-  pub find_read : (q : A) (es : List (A × X)) → find R (f q) (read es) ≡ option_map g (lookup (is_at (by_read q)) es)
-  find_read q [] = refl
-  find_read q (e ∷ es) =
-      elim (is_eq (R (f q) (f e.0))) as (λ b. cond b (Some (g e.1)) (find R (f q) (read es)) ≡ option_map g (cond b (Some e.1) (lookup (is_at (by_read q)) es))) [
+  pub find_at : (q : K) (es : List (A × X)) → find R q (read es) ≡ option_map g (lookup (at q) es)
+  find_at q [] = refl
+  find_at q (e ∷ es) =
+      elim (is_eq (R q (f e.0))) as (λ b. cond b (Some (g e.1)) (find R q (read es)) ≡ option_map g (cond b (Some e.1) (lookup (at q) es))) [
         | true ↦ refl
-        | false ↦ find_read q es
+        | false ↦ find_at q es
       ]
+
+  pub find_read : (q : A) (es : List (A × X)) → find R (f q) (read es) ≡ option_map g (lookup (is_at (by_read q)) es)
+  find_read q = find_at (f q)
 
   -- to insert an entry is to put what is read of it
   pub read-insert_entry : (k : A) (v : X) (es : List (A × X)) → read (insert_entry by_read es k v) ≡ put R (f k) (g v) (read es)
@@ -60,8 +66,11 @@ module _ {A X K V : Type 0} (f : A → K) (g : X → V) (R : K → K → Orderin
       ]
 
   module _ (o : IsTotalOrder R) where
+    pub got_at : (q : K) (es : List (A × X)) → finite.get (as_map es) q ≡ option_map g (lookup (at q) es)
+    got_at q es = get-from_entries o (read es) q ∙ find_at q es
+
     pub got : (q : A) (es : List (A × X)) → finite.get (as_map es) (f q) ≡ option_map g (lookup (is_at (by_read q)) es)
-    got q es = get-from_entries o (read es) (f q) ∙ find_read q es
+    got q = got_at (f q)
 
     pub find_read-insert : (k : A) (v : X) (es : List (A × X)) (q : K) → find R q (read (insert_entry by_read es k v)) ≡ cond (eq_by_cmp R q (f k)) (Some (g v)) (find R q (read es))
     find_read-insert k v es q = ap (find R q) (read-insert_entry k v es) ∙ find-put R o q (f k) (g v) (read es)
@@ -71,7 +80,7 @@ module _ {A X K V : Type 0} (f : A → K) (g : X → V) (R : K → K → Orderin
         get-from_entries o (read (insert_entry by_read es k v)) q ∙ find_read-insert k v es q
         ∙ sym (get-insert o (as_map es) (f k) (g v) q ∙ ap (cond (eq_by_cmp R q (f k)) (Some (g v))) (get-from_entries o (read es) q)))
 
-    -- keys that are in order: none is behind the first that ties with it
+    -- keys that are in order: none after the first that ties with it does
     find_past : (q : K) (e : A × X) (es : List (A × X)) → eq_by_cmp R q (f e.0) ≡ true → AllByRecursion (λ y. by_read e.0 y ≡ Less) (keys_of es) → find R q (read es) ≡ None
     find_past q e [] t below = refl
     find_past q e (x ∷ es) t below =
@@ -92,43 +101,55 @@ module _ {A X K V : Type 0} (f : A → K) (g : X → V) (R : K → K → Orderin
     repeated true x y z = refl
     repeated false x y z = refl
 
-    pub find_read-remove_entry : (k : A) (es : List (A × X)) (q : K) → IsStrictlySortedBy by_read (keys_of es) → find R q (read (remove_entry (is_at (by_read k)) es)) ≡ cond (eq_by_cmp R q (f k)) None (find R q (read es))
+    pub find_remove_at : (k : K) (es : List (A × X)) (q : K) → IsStrictlySortedBy by_read (keys_of es) → find R q (read (remove_entry (at k) es)) ≡ cond (eq_by_cmp R q k) None (find R q (read es))
     unfolding IsStrictlySortedBy
-    find_read-remove_entry k [] q sorted = no_value (eq_by_cmp R q (f k))
-    find_read-remove_entry k (e ∷ es) q sorted =
-        elim (is_eq (R (f k) (f e.0))) as (λ b. is_eq (R (f k) (f e.0)) ≡ b → find R q (read (cond b es (e ∷ remove_entry (is_at (by_read k)) es))) ≡ cond (eq_by_cmp R q (f k)) None (cond (eq_by_cmp R q (f e.0)) (Some (g e.1)) (find R q (read es)))) [
+    find_remove_at k [] q sorted = no_value (eq_by_cmp R q k)
+    find_remove_at k (e ∷ es) q sorted =
+        elim (is_eq (R k (f e.0))) as (λ b. is_eq (R k (f e.0)) ≡ b → find R q (read (cond b es (e ∷ remove_entry (at k) es))) ≡ cond (eq_by_cmp R q k) None (cond (eq_by_cmp R q (f e.0)) (Some (g e.1)) (find R q (read es)))) [
           | true ↦ λ t.
               elim (eq_by_cmp R q (f e.0)) as (λ b. eq_by_cmp R q (f e.0) ≡ b → find R q (read es) ≡ cond b None (cond b (Some (g e.1)) (find R q (read es)))) [
                 | true ↦ λ u. find_past q e es u sorted.0
                 | false ↦ λ u. refl
               ] refl
-              ∙ ap (λ r. cond (is_eq r) None (cond (eq_by_cmp R q (f e.0)) (Some (g e.1)) (find R q (read es)))) (sym (alike_right o (f k) (f e.0) q (is_equal (R (f k) (f e.0)) t)))
+              ∙ ap (λ r. cond (is_eq r) None (cond (eq_by_cmp R q (f e.0)) (Some (g e.1)) (find R q (read es)))) (sym (alike_right o k (f e.0) q (is_equal (R k (f e.0)) t)))
           | false ↦ λ t.
-              ap (cond (eq_by_cmp R q (f e.0)) (Some (g e.1))) (find_read-remove_entry k es q sorted.1)
-              ∙ exchanged (eq_by_cmp R q (f e.0)) (eq_by_cmp R q (f k)) (Some (g e.1)) None (find R q (read es)) (λ u v. apart_of q (f k) (f e.0) t v u)
+              ap (cond (eq_by_cmp R q (f e.0)) (Some (g e.1))) (find_remove_at k es q sorted.1)
+              ∙ exchanged (eq_by_cmp R q (f e.0)) (eq_by_cmp R q k) (Some (g e.1)) None (find R q (read es)) (λ u v. apart_of q k (f e.0) t v u)
         ] refl
 
-    pub as_map-remove : IsAntisymmetric R → (k : A) (es : List (A × X)) → IsStrictlySortedBy by_read (keys_of es) → as_map (remove_entry (is_at (by_read k)) es) ≡ finite.remove (as_map es) (f k)
-    as_map-remove exact k es sorted = same_map o exact _ _ (λ q.
-        get-from_entries o (read (remove_entry (is_at (by_read k)) es)) q ∙ find_read-remove_entry k es q sorted
-        ∙ sym (get-remove o (as_map es) (f k) q ∙ ap (cond (eq_by_cmp R q (f k)) None) (get-from_entries o (read es) q)))
+    pub find_read-remove_entry : (k : A) (es : List (A × X)) (q : K) → IsStrictlySortedBy by_read (keys_of es) → find R q (read (remove_entry (is_at (by_read k)) es)) ≡ cond (eq_by_cmp R q (f k)) None (find R q (read es))
+    find_read-remove_entry k = find_remove_at (f k)
 
-    pub find_read-set_value : (k : A) (w : X) (es : List (A × X)) (q : K) → IsSome (lookup (is_at (by_read k)) es) → find R q (read (set_value (is_at (by_read k)) es w)) ≡ cond (eq_by_cmp R q (f k)) (Some (g w)) (find R q (read es))
-    find_read-set_value k w [] q there = absurd (false≢true there)
-    find_read-set_value k w (e ∷ es) q there =
-        elim (is_eq (R (f k) (f e.0))) as (λ b. is_eq (R (f k) (f e.0)) ≡ b → IsSome (cond b (Some e.1) (lookup (is_at (by_read k)) es)) → find R q (read (cond b ((e.0, w) ∷ es) (e ∷ set_value (is_at (by_read k)) es w))) ≡ cond (eq_by_cmp R q (f k)) (Some (g w)) (cond (eq_by_cmp R q (f e.0)) (Some (g e.1)) (find R q (read es)))) [
+    pub as_map-remove_at : IsAntisymmetric R → (k : K) (es : List (A × X)) → IsStrictlySortedBy by_read (keys_of es) → as_map (remove_entry (at k) es) ≡ finite.remove (as_map es) k
+    as_map-remove_at exact k es sorted = same_map o exact _ _ (λ q.
+        get-from_entries o (read (remove_entry (at k) es)) q ∙ find_remove_at k es q sorted
+        ∙ sym (get-remove o (as_map es) k q ∙ ap (cond (eq_by_cmp R q k) None) (get-from_entries o (read es) q)))
+
+    pub as_map-remove : IsAntisymmetric R → (k : A) (es : List (A × X)) → IsStrictlySortedBy by_read (keys_of es) → as_map (remove_entry (is_at (by_read k)) es) ≡ finite.remove (as_map es) (f k)
+    as_map-remove exact k = as_map-remove_at exact (f k)
+
+    pub find_set_at : (k : K) (w : X) (es : List (A × X)) (q : K) → IsSome (lookup (at k) es) → find R q (read (set_value (at k) es w)) ≡ cond (eq_by_cmp R q k) (Some (g w)) (find R q (read es))
+    find_set_at k w [] q there = absurd (false≢true there)
+    find_set_at k w (e ∷ es) q there =
+        elim (is_eq (R k (f e.0))) as (λ b. is_eq (R k (f e.0)) ≡ b → IsSome (cond b (Some e.1) (lookup (at k) es)) → find R q (read (cond b ((e.0, w) ∷ es) (e ∷ set_value (at k) es w))) ≡ cond (eq_by_cmp R q k) (Some (g w)) (cond (eq_by_cmp R q (f e.0)) (Some (g e.1)) (find R q (read es)))) [
           | true ↦ λ t here.
               repeated (eq_by_cmp R q (f e.0)) (Some (g w)) (Some (g e.1)) (find R q (read es))
-              ∙ ap (λ r. cond (is_eq r) (Some (g w)) (cond (eq_by_cmp R q (f e.0)) (Some (g e.1)) (find R q (read es)))) (sym (alike_right o (f k) (f e.0) q (is_equal (R (f k) (f e.0)) t)))
+              ∙ ap (λ r. cond (is_eq r) (Some (g w)) (cond (eq_by_cmp R q (f e.0)) (Some (g e.1)) (find R q (read es)))) (sym (alike_right o k (f e.0) q (is_equal (R k (f e.0)) t)))
           | false ↦ λ t later.
-              ap (cond (eq_by_cmp R q (f e.0)) (Some (g e.1))) (find_read-set_value k w es q later)
-              ∙ exchanged (eq_by_cmp R q (f e.0)) (eq_by_cmp R q (f k)) (Some (g e.1)) (Some (g w)) (find R q (read es)) (λ u v. apart_of q (f k) (f e.0) t v u)
+              ap (cond (eq_by_cmp R q (f e.0)) (Some (g e.1))) (find_set_at k w es q later)
+              ∙ exchanged (eq_by_cmp R q (f e.0)) (eq_by_cmp R q k) (Some (g e.1)) (Some (g w)) (find R q (read es)) (λ u v. apart_of q k (f e.0) t v u)
         ] refl there
 
+    pub find_read-set_value : (k : A) (w : X) (es : List (A × X)) (q : K) → IsSome (lookup (is_at (by_read k)) es) → find R q (read (set_value (is_at (by_read k)) es w)) ≡ cond (eq_by_cmp R q (f k)) (Some (g w)) (find R q (read es))
+    find_read-set_value k = find_set_at (f k)
+
+    pub as_map-set_at : IsAntisymmetric R → (k : K) (w : X) (es : List (A × X)) → IsSome (lookup (at k) es) → as_map (set_value (at k) es w) ≡ finite.insert (as_map es) k (g w)
+    as_map-set_at exact k w es there = same_map o exact _ _ (λ q.
+        get-from_entries o (read (set_value (at k) es w)) q ∙ find_set_at k w es q there
+        ∙ sym (get-insert o (as_map es) k (g w) q ∙ ap (cond (eq_by_cmp R q k) (Some (g w))) (get-from_entries o (read es) q)))
+
     pub as_map-set_value : IsAntisymmetric R → (k : A) (w : X) (es : List (A × X)) → IsSome (lookup (is_at (by_read k)) es) → as_map (set_value (is_at (by_read k)) es w) ≡ finite.insert (as_map es) (f k) (g w)
-    as_map-set_value exact k w es there = same_map o exact _ _ (λ q.
-        get-from_entries o (read (set_value (is_at (by_read k)) es w)) q ∙ find_read-set_value k w es q there
-        ∙ sym (get-insert o (as_map es) (f k) (g w) q ∙ ap (cond (eq_by_cmp R q (f k)) (Some (g w))) (get-from_entries o (read es) q)))
+    as_map-set_value exact k = as_map-set_at exact (f k)
 
     pub insert_same : IsAntisymmetric R → (m : FinMap R V) (k : K) (v : V) → finite.get m k ≡ Some v → finite.insert m k v ≡ m
     insert_same exact m k v there = same_map o exact _ _ (λ q.

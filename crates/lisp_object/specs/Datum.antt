@@ -38,7 +38,7 @@ size_step (Datum-F.List items tail) = sum items + unwrap_or tail 0 + 1
 size_step (Datum-F.Vector items) = sum items + 1
 size_step _ = 1
 
--- an atom has size 1, and a list or a vector 1 and the sizes of its items and of its tail
+-- an atom has size 1, and a list or a vector 1 and the sizes of its items and of its tail; the NIL that ends a list counts 0
 abbrev pub size : Datum → ℕ
 size = fold-Datum ℕ size_step
 

@@ -4,4 +4,5 @@ pub mod Lowest
 pub mod Object
 pub mod ObjectCode
 pub mod Quotient
+pub mod Refusal
 pub mod formers

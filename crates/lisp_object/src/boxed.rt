@@ -1,4 +1,4 @@
-//! A value behind a pointer that contracts see as the value.
+//! A value on the heap that contracts see as the value.
 ghost use Rattle.std.specs.Prelude.{◌≡◌, IfOk};
 
 use std::alloc::{AllocError, Global};

@@ -1,7 +1,7 @@
 //! Lisp objects as data.
-ghost use Rattle.std.specs.Prelude.{◌≡◌, ◌↔◌, IsTrue, IfOk, codes};
-ghost use Rattle.lisp_object.specs.Object.{is_nil};
-ghost use Rattle.lisp_object.specs.Datum.{is_list};
+ghost use Rattle.std.specs.Prelude.{◌≡◌, ◌↔◌, true, IsTrue, IfOk, codes};
+ghost use Rattle.lisp_object.specs.Object.{is_nil, object_is_list};
+ghost use Rattle.lisp_object.specs.Datum.{object_of, is_proper, is_list};
 
 use crate::{Boxed, Bytes, Items, Ratio};
 use std::alloc::{AllocError, Global};
@@ -59,8 +59,10 @@ impl Datum {
     }
 
     /// Whether it is a list: a `List`, or NIL.
+    #[tactic(auto, using(crate::proofs::ProperLists::list_object))]
     pub fn is_list(&self) -> bool
-        ensures { result ≡ is_list self.now }
+        ensures value { result ≡ is_list self.now }
+        ensures object { is_proper self.now ≡ true → result ≡ object_is_list (object_of self.now) }
     {
         match self {
             Datum::List { .. } => true,

@@ -70,7 +70,7 @@ impl<T> Items<T> {
 }
 
 impl<T: Drop> Items<T> {
-    /// Adds an element behind the others, or leaves them alone where memory is refused.
+    /// Adds an element after the others. Where memory is refused it changes nothing.
     pub fn push(&mut self, item: T) -> Result<(), AllocError>
         ensures ok { OnOk result (self.new ≡ self.old ++ item ∷ []) }
         ensures err { OnErr result (self.new ≡ self.old) }
@@ -79,7 +79,7 @@ impl<T: Drop> Items<T> {
         Ok(())
     }
 
-    /// These elements, and those of `more` behind them.
+    /// These elements, and those of `more` after them.
     pub fn followed_by(self, more: Items<T>) -> Result<Items<T>, AllocError>
         ensures { IfOk result (λ it. it ≡ self ++ more) }
     {

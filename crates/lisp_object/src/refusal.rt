@@ -1,11 +1,14 @@
-//! The numbers of refusals. A call that refuses answers one of these, and `NO_MEMORY` only where a growth was refused.
+//! The refusals: a number and a name for each. A call that refuses answers one of these numbers, and `NO_MEMORY` only where
+//! a growth was refused. No number is written anywhere else: code and definitions cite it by its name.
+ghost use Rattle.std.specs.Prelude.{◌≡◌};
+ghost use Rattle.lisp_object.specs.Refusal.{name_of, name_among, rows_of};
 
 // Reading: 1 to 26.
 
 /// The input ends within an object, an escape, bars, a text, a block or a dispatch.
 pub const END_OF_FILE: u16 = 1;
 
-/// A byte over 127, or a character whose syntax type is invalid where an object or a token stands.
+/// A byte over 127, or a character whose syntax type is invalid where an object or a token is read.
 pub const INVALID_CHARACTER: u16 = 2;
 
 /// A character in a token, not escaped, that has the trait invalid.
@@ -14,10 +17,10 @@ pub const INVALID_TRAIT: u16 = 3;
 /// A closing parenthesis with nothing open that it closes.
 pub const STRAY_CLOSE: u16 = 4;
 
-/// A dot out of place, or a list that goes on behind its object after the dot.
+/// A dot out of place, or a second object after the dot of a list.
 pub const DOT_CONTEXT: u16 = 5;
 
-/// A token of several dots alone.
+/// A token of two or more dots and nothing else.
 pub const DOTS_ONLY: u16 = 6;
 
 /// A token in the syntax of a float.
@@ -35,7 +38,7 @@ pub const PACKAGE_MARKERS: u16 = 10;
 /// A token's prefix that no package has as its name.
 pub const NO_PACKAGE: u16 = 11;
 
-/// A symbol behind one package marker that is not external there.
+/// A symbol after one package marker that is not external there.
 pub const NOT_EXTERNAL: u16 = 12;
 
 /// A new name in COMMON-LISP.
@@ -62,7 +65,7 @@ pub const UNINTERNED_TOKEN: u16 = 19;
 /// A macro function refused what it gathered.
 pub const MACRO_REFUSED: u16 = 20;
 
-/// A macro function answered an object that may not stand there.
+/// A macro function answered an object that may not be part of a form.
 pub const MACRO_ANSWER: u16 = 21;
 
 /// More open calls that read objects than the nesting allows.
@@ -77,7 +80,7 @@ pub const TOKEN_TOO_LONG: u16 = 24;
 /// Syntax of the standard that is left out here.
 pub const OUT_OF_PROFILE: u16 = 25;
 
-/// More text behind the form.
+/// More text after the form.
 pub const TEXT_LEFT_OVER: u16 = 26;
 
 // Evaluation: 30 to 46.
@@ -164,3 +167,80 @@ pub const OUTPUT: u16 = 68;
 
 /// A growth was refused.
 pub const NO_MEMORY: u16 = 90;
+
+// Each refusal by its number, with its name as it stands in an answer, in the order of the numbers.
+pub(crate) const NAMES: [(u16, &str); 53] = [
+    (END_OF_FILE, "END-OF-FILE"),
+    (INVALID_CHARACTER, "INVALID-CHARACTER"),
+    (INVALID_TRAIT, "INVALID-TRAIT"),
+    (STRAY_CLOSE, "STRAY-CLOSE"),
+    (DOT_CONTEXT, "DOT-CONTEXT"),
+    (DOTS_ONLY, "DOTS-ONLY"),
+    (FLOAT_TOKEN, "FLOAT-TOKEN"),
+    (NUMBER_RANGE, "NUMBER-RANGE"),
+    (ZERO_DENOMINATOR, "ZERO-DENOMINATOR"),
+    (PACKAGE_MARKERS, "PACKAGE-MARKERS"),
+    (NO_PACKAGE, "NO-PACKAGE"),
+    (NOT_EXTERNAL, "NOT-EXTERNAL"),
+    (LOCKED_PACKAGE, "LOCKED-PACKAGE"),
+    (NO_DISPATCH, "NO-DISPATCH"),
+    (NUMERIC_ARGUMENT, "NUMERIC-ARGUMENT"),
+    (CHARACTER_NAME, "CHARACTER-NAME"),
+    (RADIX_TOKEN, "RADIX-TOKEN"),
+    (VECTOR_LENGTH, "VECTOR-LENGTH"),
+    (UNINTERNED_TOKEN, "UNINTERNED-TOKEN"),
+    (MACRO_REFUSED, "MACRO-REFUSED"),
+    (MACRO_ANSWER, "MACRO-ANSWER"),
+    (TOO_DEEP, "TOO-DEEP"),
+    (FORM_TOO_LONG, "FORM-TOO-LONG"),
+    (TOKEN_TOO_LONG, "TOKEN-TOO-LONG"),
+    (OUT_OF_PROFILE, "OUT-OF-PROFILE"),
+    (TEXT_LEFT_OVER, "TEXT-LEFT-OVER"),
+    (NOT_A_FORM, "NOT-A-FORM"),
+    (UNKNOWN_OPERATOR, "UNKNOWN-OPERATOR"),
+    (ARGUMENT_COUNT, "ARGUMENT-COUNT"),
+    (ARGUMENT_KIND, "ARGUMENT-KIND"),
+    (NO_SUCH_PACKAGE, "NO-SUCH-PACKAGE"),
+    (PACKAGE_EXISTS, "PACKAGE-EXISTS"),
+    (PACKAGE_IS_LOCKED, "PACKAGE-IS-LOCKED"),
+    (NAME_CONFLICT, "NAME-CONFLICT"),
+    (NOT_ACCESSIBLE, "NOT-ACCESSIBLE"),
+    (NO_READTABLE, "NO-READTABLE"),
+    (STANDARD_READTABLE, "STANDARD-READTABLE"),
+    (NO_MACRO, "NO-MACRO"),
+    (NOT_DISPATCHING, "NOT-DISPATCHING"),
+    (DIGIT_SUBCHARACTER, "DIGIT-SUBCHARACTER"),
+    (INTEGER_RANGE, "INTEGER-RANGE"),
+    (VALUE_TOO_DEEP, "VALUE-TOO-DEEP"),
+    (LIMIT, "LIMIT"),
+    (DEVICE, "DEVICE"),
+    (REOPEN, "REOPEN"),
+    (DAMAGED, "DAMAGED"),
+    (MISSING_MACRO, "MISSING-MACRO"),
+    (LOG_FULL, "LOG-FULL"),
+    (SNAPSHOT_TOO_LARGE, "SNAPSHOT-TOO-LARGE"),
+    (VERSION, "VERSION"),
+    (INPUT, "INPUT"),
+    (OUTPUT, "OUTPUT"),
+    (NO_MEMORY, "NO-MEMORY"),
+];
+
+/// The name of a refusal by its number, as it stands in an answer; empty for a number that is none. It takes no memory.
+#[tactic(auto, unfolding(crate::specs::Refusal::name_of))]
+pub fn name_of(number: u16) -> &'static str
+    ensures { result.now ≡ name_of number }
+{
+    name_in(&NAMES, number)
+}
+
+// The name beside the number in these rows.
+fn name_in(rows: &'static [(u16, &'static str)], number: u16) -> &'static str
+    ensures { result.now ≡ name_among (rows_of rows.now) number }
+{
+    'rows: for (known, name) in rows {
+        if *known == number {
+            return name;
+        }
+    }
+    ""
+}

@@ -6,8 +6,8 @@ ghost use Rattle.lisp_object.specs.Datum.{object_of, is_proper, size};
 use crate::{Boxed, Datum, Items};
 
 impl Datum {
-    /// An atom has size 1, and a list or a vector 1 and the sizes of its items and of its tail. More than 2^64-1 counts
-    /// as that.
+    /// An atom has size 1, and a list or a vector 1 and the sizes of its items and of its tail; the NIL that ends a list
+    /// counts 0. More than 2^64-1 counts as that.
     #[tactic(auto, using(crate::proofs::Sizes::size_object))]
     pub fn size(&self) -> u64
         ensures value { result ≡ min (size self.now) (2 ^ 64 - 1) }

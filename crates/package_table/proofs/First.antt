@@ -5,10 +5,11 @@ use Rattle.std.specs.List.{list_any, list_all}
 use Rattle.std.specs.Ordering.{eq_by_cmp}
 use Rattle.std.specs.FinMap as finite
 use Rattle.std.specs.FinMap.{find, get-from_entries, get-empty, len-entries}
-use Rattle.std.proofs.lemmas.Bool.{false≢true, leb-true}
+use Rattle.std.proofs.lemmas.Bool.{and_parts, false≢true, leb-true}
 use Rattle.lisp_object.specs.Ascii.{is_ascii}
 use Rattle.lisp_object.proofs.Sound.{all_below}
 use Rattle.std.proofs.lemmas.Slice.Eq.{bytes_eq-Decides}
+use Rattle.package_table.specs.Limits.{most_packages, most_symbols, longest_symbol_name}
 use Rattle.package_table.specs.Table.{Name, name_cmp, Entry, Package, common_lisp, common_lisp_user, keyword, package_of_names, common_lisp_names, keyword_names, common_lisp_package, keyword_package, user_package, initial, entry_at, IsPackage, IsPresent, Uses, Finds, IsPackageName, IsSymbolName, IsJoined, HasFirst, IsWithin, IsSound, symbol_count, own_count}
 use Rattle.package_table.proofs.Names.{name_total, tied_same, same_tied, same_some, none_some}
 use Rattle.package_table.proofs.Seen.{entries_in_order}
@@ -33,7 +34,7 @@ one_of_three false true d x y z k e = inr (inl (refl, sym (same_some y k e)))
 one_of_three false false true x y z k e = inr (inr (refl, sym (same_some z k e)))
 one_of_three false false false x y z k e = absurd (none_some k e)
 
--- what stands at a package's name at first
+-- what is at a package's name at first
 where_first : (p : Name) (k : Package) → finite.get initial p ≡ Some k
     → ((p ≡ common_lisp) × (k ≡ common_lisp_package)) ⊎ (((p ≡ common_lisp_user) × (k ≡ user_package)) ⊎ ((p ≡ keyword) × (k ≡ keyword_package)))
 where_first p k e =
@@ -204,16 +205,12 @@ three_names p e =
     ]
 
 abbrev is_good : Name → Bool
-is_good n = leb (length n) 4096 && list_all is_ascii n
-
-and_both : (a b : Bool) → (a && b) ≡ true → (a ≡ true) × (b ≡ true)
-and_both true b e = (refl, e)
-and_both false b e = absurd (false≢true e)
+is_good n = leb (length n) longest_symbol_name && list_all is_ascii n
 
 good_name : (n : Name) → is_good n ≡ true → IsSymbolName n
 good_name n e =
-    let parts = and_both (leb (length n) 4096) (list_all is_ascii n) e in
-    record { short = leb-true (length n) 4096 parts.0; ascii = all_below n parts.1 }
+    let parts = and_parts (leb (length n) longest_symbol_name) (list_all is_ascii n) e in
+    record { short = leb-true (length n) longest_symbol_name parts.0; ascii = all_below n parts.1 }
 
 lisp_good : list_all is_good common_lisp_names ≡ true
 unfolding common_lisp_names
@@ -226,7 +223,7 @@ keyword_good = refl
 each_good : (ns : List Name) (n : Name) → list_all is_good ns ≡ true → has ns n ≡ true → is_good n ≡ true
 each_good [] n all e = absurd (false≢true e)
 each_good (x ∷ ns) n all e =
-    let parts = and_both (is_good x) (list_all is_good ns) all in
+    let parts = and_parts (is_good x) (list_all is_good ns) all in
     elim (eq_by_cmp name_cmp n x) as (λ b. eq_by_cmp name_cmp n x ≡ b → (b || has ns n) ≡ true → is_good n ≡ true) [
       | true ↦ λ same _. ap is_good (tied_same n x same) ∙ parts.0
       | false ↦ λ _ rest. each_good ns n parts.1 rest
@@ -269,8 +266,8 @@ within = record {
     | inl w ↦ good_name n (each_good common_lisp_names n lisp_good w.2)
     | inr w ↦ good_name n (each_good keyword_names n keyword_good w.2)
   ];
-  packages = subst (λ n. n ≤ 1000) (sym length_first) (omega arith);
-  symbols = subst (λ n. n ≤ 1000000) (sym first_count) (omega arith);
+  packages = subst (λ n. n ≤ most_packages) (sym length_first) (omega arith);
+  symbols = subst (λ n. n ≤ most_symbols) (sym first_count) (omega arith);
 }
 
 pub sound : IsSound initial

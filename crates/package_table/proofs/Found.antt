@@ -2,16 +2,19 @@
 --     found_finds      what the function gives is found
 --     found_is      what is found is what the function gives
 --     found_none, finds_none      where it gives nothing, nothing is found;  and the other way round
+--     present_found      what is present is found
+--     external_shows, shows_external, external_entry      what `is_external` says
+--     used_shows      what `is_used` says
 use Rattle.std.proofs.Common.{◌≡◌, Bool, true, false, cond, Option, None, Some, List, [], ◌∷◌, refl, sym, ap, ◌∙◌, inl, inr}
-use Rattle.std.specs.Prelude.{◌||◌, ◌⊎◌, option_map, option_and_then}
+use Rattle.std.specs.Prelude.{◌||◌, ◌⊎◌, is_some, option_map, option_and_then}
 use Rattle.std.specs.Option.{option_map_or}
 use Rattle.std.specs.List.{list_any}
 use Rattle.std.specs.Ordering.{eq_by_cmp}
 use Rattle.std.specs.FinMap as finite
 use Rattle.std.specs.FinMap.{contains_key-keys}
-use Rattle.std.proofs.lemmas.Bool.{false≢true}
-use Rattle.package_table.specs.Table.{Name, name_cmp, Entry, Package, Table, entry_at, Finds, FindsNone, IsJoined}
-use Rattle.package_table.specs.Lookup.{external_home, first_external, found}
+use Rattle.std.proofs.lemmas.Bool.{false≢true, or_right}
+use Rattle.package_table.specs.Table.{Name, name_cmp, Entry, Package, Table, entry_at, IsPresent, IsExternal, Uses, Finds, FindsNone, IsJoined}
+use Rattle.package_table.specs.Lookup.{external_home, first_external, found, is_external, is_used}
 use Rattle.package_table.proofs.Names.{tied_same, same_tied, same_some, none_some}
 
 -- an external symbol, as the function has it
@@ -24,18 +27,42 @@ external_is (Some x) h e =
       | false ↦ λ is. absurd (none_some h is)
     ] e
 
-is_external : (o : Option Entry) (h : Name) → option_map (λ e. e.external) o ≡ Some true → option_map (λ e. e.home) o ≡ Some h
+external_home_is : (o : Option Entry) (h : Name) → option_map (λ e. e.external) o ≡ Some true → option_map (λ e. e.home) o ≡ Some h
     → option_map_or (λ e. cond e.external (Some e.home) None) o None ≡ Some h
-is_external None h e p = absurd (none_some true e)
-is_external (Some x) h e p = ap (λ b. cond b (Some x.home) None) (same_some x.external true e) ∙ p
+external_home_is None h e p = absurd (none_some true e)
+external_home_is (Some x) h e p = ap (λ b. cond b (Some x.home) None) (same_some x.external true e) ∙ p
+
+shown : (b : Bool) (h : Name) → is_some (cond b (Some h) None) ≡ true → b ≡ true
+shown true h e = refl
+shown false h e = absurd (false≢true e)
+
+pub external_shows : (t : Table) (p n : Name) → IsExternal t p n → is_external t p n ≡ true
+external_shows t p n e =
+    elim (entry_at t p n) as (λ o. option_map (λ (e : Entry). e.external) o ≡ Some true → is_some (option_map_or (λ (e : Entry). cond e.external (Some e.home) None) o None) ≡ true) [
+      | None ↦ λ e. absurd (none_some true e)
+      | Some x ↦ λ e. ap (λ b. is_some (cond b (Some x.home) None)) (same_some x.external true e)
+    ] e
+
+pub external_entry : (t : Table) (p n : Name) → is_external t p n ≡ true → (h : Name) × (entry_at t p n ≡ Some (record { home = h; external = true }))
+external_entry t p n e =
+    elim (entry_at t p n) as (λ o. is_some (option_map_or (λ (e : Entry). cond e.external (Some e.home) None) o None) ≡ true → (h : Name) × (o ≡ Some (record { home = h; external = true }))) [
+      | None ↦ λ e. absurd (false≢true e)
+      | Some x ↦ λ e. (x.home, λ i. Some (record { home = x.home; external = shown x.external x.home e i }))
+    ] e
+
+pub shows_external : (t : Table) (p n : Name) → is_external t p n ≡ true → IsExternal t p n
+shows_external t p n e = ap (option_map (λ (e : Entry). e.external)) (external_entry t p n e).1
+
+pub used_shows : (t : Table) (p q : Name) → Uses t p q → is_used t p q ≡ true
+used_shows t p q e =
+    elim (finite.get t p) as (λ o. option_map (λ (k : Package). finite.contains_key k.uses q) o ≡ Some true → option_map_or (λ (k : Package). finite.contains_key k.uses q) o false ≡ true) [
+      | None ↦ λ e. absurd (none_some true e)
+      | Some k ↦ λ e. same_some (finite.contains_key k.uses q) true e
+    ] e
 
 present_at : (o : Option Entry) (other : Option Name) (h : Name) → option_map (λ e. e.home) o ≡ Some h → option_map_or (λ e. Some e.home) o other ≡ Some h
 present_at None other h e = absurd (none_some h e)
 present_at (Some x) other h e = e
-
-or_right : (a b : Bool) → b ≡ true → (a || b) ≡ true
-or_right true b e = refl
-or_right false b e = e
 
 not_left : (a b : Bool) → (a || b) ≡ true → (a ≡ true → ⊥) → b ≡ true
 not_left true b e no_a = absurd (no_a refl)
@@ -63,7 +90,7 @@ module _ (t : Table) (n : Name) where
         | None ↦ λ none. has_first qs q h (not_left _ _ among (λ tied. none_some h (sym none ∙ ap (λ p. external_home t p n) (sym (tied_same q x tied)) ∙ e))) e
       ] refl
 
-  -- the look-up in what stands at the package's name
+  -- the look-up in what is at the package's name
   abbrev look : Option Package → Option Name
   look o = option_map_or (λ k. option_map_or (λ e. Some e.home) (finite.get k.symbols n) (first_external t n (finite.keys k.uses))) o None
 
@@ -104,9 +131,13 @@ module _ (t : Table) (n : Name) where
         | inr used ↦ let home = external_is (entry_at t used.0 n) h used.2 in inr (used.0, used.1, home.0, home.1)
       ]
 
+  -- a present symbol comes before the inherited ones
+  pub present_found : (p h : Name) → IsPresent t p n h → found t p n ≡ Some h
+  present_found p h here = present_look (finite.get t p) h here
+
   some_found : (p h : Name) → Finds t p n h → (g : Name) × (found t p n ≡ Some g)
   some_found p h (inl here) = (h, present_look (finite.get t p) h here)
-  some_found p h (inr used) = inherited_look (finite.get t p) used.0 h used.1 (is_external (entry_at t used.0 n) h used.2 used.3)
+  some_found p h (inr used) = inherited_look (finite.get t p) used.0 h used.1 (external_home_is (entry_at t used.0 n) h used.2 used.3)
 
   pub found_is : IsJoined t → (p h : Name) → Finds t p n h → found t p n ≡ Some h
   found_is joined p h finds =

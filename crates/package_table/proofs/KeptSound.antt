@@ -6,6 +6,7 @@ use Rattle.std.proofs.Common.{◌≡◌, ◌≢◌, ◌<◌, ◌≤◌, true, fa
 use Rattle.std.proofs.lemmas.Bool.{false≢true}
 use Rattle.std.specs.Option.{option_map}
 use Rattle.std.specs.FinMap as finite
+use Rattle.package_table.specs.Limits.{most_packages, most_symbols}
 use Rattle.package_table.specs.Table.{Name, Entry, Package, Table, entry_at, IsPackage, IsPresent, IsExternal, Uses, Finds, FindsNone, HasFirst, IsWithin, IsSound, IsPackageName, IsSymbolName, common_lisp, common_lisp_user, keyword, symbol_count, with_entry, with_used, with_new_package, empty_package}
 use Rattle.package_table.proofs.Frames.{place_cases, name_cases, equal_names, get_with_other, get_kept, entry_new, entry_other, uses_with_entry, package_with_entry, entry_with_used, uses_either, uses_still, package_with_used, entry_with_new, uses_with_new, uses_beside_new, other_than_new}
 use Rattle.package_table.proofs.Keeping.{present_at_home, present_either, present_kept, uses_kept, joined_with_entry, joined_with_used, joined_with_new}
@@ -80,7 +81,7 @@ no_entry t p n none =
       | Some old ↦ λ e. absurd (none old.home (inl (ap (option_map (λ (e : Entry). e.home)) e)))
     ] refl
 
-within_with_entry : (t : Table) (p n : Name) (e : Entry) → IsPackage t p → IsSymbolName n → symbol_count (with_entry t p n e) ≤ 1000000 → IsWithin t → IsWithin (with_entry t p n e)
+within_with_entry : (t : Table) (p n : Name) (e : Entry) → IsPackage t p → IsSymbolName n → symbol_count (with_entry t p n e) ≤ most_symbols → IsWithin t → IsWithin (with_entry t p n e)
 within_with_entry t p n e there good count within = record {
   package_names = λ q found. within.package_names q (sym (package_with_entry t p n e q) ∙ found);
   symbol_names = λ q m h found.
@@ -93,7 +94,7 @@ within_with_entry t p n e there good count within = record {
 }
 
 module _ (t : Table) (p n : Name) (sound : IsSound t) (there : IsPackage t p) (open_to : p ≢ common_lisp) where
-  pub sound_interned : FindsNone t p n → IsSymbolName n → symbol_count t < 1000000 → IsSound (with_entry t p n (record { home = p; external = bytes_eq p keyword }))
+  pub sound_interned : FindsNone t p n → IsSymbolName n → symbol_count t < most_symbols → IsSound (with_entry t p n (record { home = p; external = bytes_eq p keyword }))
   sound_interned none good few =
       let e : Entry = record { home = p; external = bytes_eq p keyword } in
       let finds : (g : Name) → Finds t p n g → g ≡ e.home = λ g found. absurd (none g found) in
@@ -160,7 +161,7 @@ module _ (t : Table) (p q : Name) (sound : IsSound t) (there : IsPackage t p) (o
     };
   }
 
-pub sound_made : (t : Table) (p : Name) → IsSound t → finite.get t p ≡ None → IsPackageName p → finite.len t < 1000 → IsSound (with_new_package t p)
+pub sound_made : (t : Table) (p : Name) → IsSound t → finite.get t p ≡ None → IsPackageName p → finite.len t < most_packages → IsSound (with_new_package t p)
 sound_made t p sound absent good few = record {
   joined = joined_with_new t p absent sound.joined;
   first = first_with_new t p absent sound.first;

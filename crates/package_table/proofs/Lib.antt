@@ -1,10 +1,11 @@
+pub mod Alone
 pub mod CallRows
 pub mod Conflicts
-pub mod Copies
 pub mod Counting
 pub mod First
 pub mod Found
 pub mod Frames
+pub mod Growing
 pub mod Keeping
 pub mod KeptChanges
 pub mod KeptSound

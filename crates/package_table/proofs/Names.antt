@@ -1,12 +1,12 @@
 -- The order of names, and equality of names and of options.
-use Rattle.std.proofs.Common.{◌≡◌, true, Option, None, Some, refl, ap}
+use Rattle.std.proofs.Common.{◌≡◌, true, Option, None, Some, ap}
 use Rattle.std.specs.Prelude.{unwrap_or, is_some}
-use Rattle.std.specs.declared.cmp.Ordering.{Ordering}
-use Rattle.std.specs.declared.cmp.Ordering.TheVariants.{Less, Equal, Greater}
 use Rattle.std.specs.Ordering.{is_eq, eq_by_cmp}
 use Rattle.std.specs.Cmp.{IsTotalOrder, tied_itself}
 use Rattle.std.specs.Cmp.Lexicographic.{nat_list_cmp_total}
-use Rattle.std.specs.FinMap.{IsAntisymmetric, nat_cmp-IsAntisymmetric, slice_cmp-IsAntisymmetric}
+use Rattle.std.specs.FinMap.{IsAntisymmetric}
+use Rattle.std.proofs.lemmas.Map.Views.{tells_apart}
+use Rattle.std.proofs.lemmas.Map.Lookups.{exact_bytes}
 use Rattle.std.proofs.lemmas.Bool.{false≢true}
 use Rattle.package_table.specs.Table.{Name, name_cmp}
 
@@ -14,16 +14,11 @@ pub name_total : IsTotalOrder name_cmp
 name_total = nat_list_cmp_total
 
 pub name_exact : IsAntisymmetric name_cmp
-name_exact = slice_cmp-IsAntisymmetric nat_cmp-IsAntisymmetric
-
-is_equal : (r : Ordering) → is_eq r ≡ true → r ≡ Equal
-is_equal Less t = absurd (false≢true t)
-is_equal Equal t = refl
-is_equal Greater t = absurd (false≢true t)
+name_exact = exact_bytes
 
 -- names that tie are equal, and a name ties with itself
 pub tied_same : (p q : Name) → eq_by_cmp name_cmp p q ≡ true → p ≡ q
-tied_same p q t = name_exact p q (is_equal (name_cmp p q) t)
+tied_same = tells_apart exact_bytes
 
 pub same_tied : (p : Name) → eq_by_cmp name_cmp p p ≡ true
 same_tied p = ap is_eq (tied_itself name_total p)

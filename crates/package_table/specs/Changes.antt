@@ -1,13 +1,14 @@
 -- What the calls that write make of the packages, or the first reason for which they refuse. Which symbol a package finds by
 -- a name, `found` of Lookup.antt says.
-use Rattle.std.specs.Prelude.{◌≡◌, ◌≢◌, Bool, true, false, not, ◌&&◌, ◌||◌, ◌==◌, nat_lt, nat_le, length, is_some, bytes_eq, if◌then◌else◌, Result, Ok, Err}
+use Rattle.std.specs.Prelude.{◌≡◌, Bool, true, false, not, ◌&&◌, ◌||◌, ◌==◌, nat_lt, nat_le, length, is_none, is_some, bytes_eq, if◌then◌else◌, Result, Ok, Err, IsOk}
 use Rattle.std.specs.List.{list_any}
 use Rattle.std.specs.Option.{option_map_or}
 use Rattle.std.specs.FinMap as finite
 use Rattle.package_table.specs.declared.error.PackageError.{PackageError}
 use Rattle.package_table.specs.declared.error.PackageError.TheVariants.{EmptyName, NoSuchPackage, PackageExists, PackageIsLocked, NameConflict, NotAccessible, Limit, OutOfMemory}
-use Rattle.package_table.specs.Table.{Name, Table, common_lisp, keyword, is_locked, entry_at, package_named, symbol_count, with_entry, with_used, with_new_package}
-use Rattle.package_table.specs.Lookup.{found}
+use Rattle.package_table.specs.Limits.{most_packages, most_symbols, longest_package_name, longest_symbol_name}
+use Rattle.package_table.specs.Table.{Name, Table, common_lisp, keyword, is_locked, package_named, symbol_count, with_entry, with_used, with_new_package}
+use Rattle.package_table.specs.Lookup.{found, is_present, is_external, is_used}
 use Rattle.package_table.specs.Readers.{present}
 
 -- MAKE-PACKAGE (standard 11.2): a package of the name n, which has no symbols and uses nothing
@@ -15,7 +16,7 @@ abbrev pub after_make : Table → Name → Result Table PackageError
 after_make t n =
     if length n == 0 then Err EmptyName
     else (if is_some (package_named t n) then Err PackageExists
-    else (if nat_le 1000 (finite.len t) || nat_lt 256 (length n) then Err Limit
+    else (if nat_le most_packages (finite.len t) || nat_lt longest_package_name (length n) then Err Limit
     else Ok (with_new_package t n)))
 
 -- the table with a new symbol, which is at home in p. Symbols of KEYWORD are external.
@@ -28,7 +29,7 @@ after_intern t p n =
     if not (finite.contains_key t p) then Err NoSuchPackage
     else option_map_or (λ h. Ok (h, t)) (found t p n)
     (if bytes_eq p common_lisp then Err PackageIsLocked
-    else (if nat_lt 4096 (length n) || nat_le 1000000 (symbol_count t) then Err Limit
+    else (if nat_lt longest_symbol_name (length n) || nat_le most_symbols (symbol_count t) then Err Limit
     else Ok (p, with_new_symbol t p n)))
 
 -- p finds the symbol of home h by the name n
@@ -58,7 +59,7 @@ after_export t p h n =
 
 -- the table where the symbol of home h and name n is present in p. One that was present stays as it was.
 abbrev pub with_present : Table → Name → Name → Name → Table
-with_present t p h n = if is_some (entry_at t p n) then t else with_entry t p n (record { home = h; external = false })
+with_present t p h n = if is_present t p n then t else with_entry t p n (record { home = h; external = false })
 
 -- IMPORT (standard 11.2). A symbol that p inherits becomes present.
 abbrev pub after_import : Table → Name → Name → Name → Result Table PackageError
@@ -72,10 +73,6 @@ after_import t p h n =
 abbrev pub finds_other_than_shown : Table → Name → Name → Bool
 finds_other_than_shown t p q = list_any (λ s. s.1.external && finds_other t p s.1.home s.0) (present t q)
 
--- p uses q
-abbrev pub is_used : Table → Name → Name → Bool
-is_used t p q = option_map_or (λ k. finite.contains_key k.uses q) (finite.get t p) false
-
 -- USE-PACKAGE (standard 11.2). A package that is used already, and p itself, are passed over.
 abbrev pub after_use : Table → Name → Name → Result Table PackageError
 after_use t p q =
@@ -85,7 +82,21 @@ after_use t p q =
     else (if finds_other_than_shown t p q then Err NameConflict
     else Ok (with_used t p q))))
 
--- a call answers what the definition says, or that a growth was refused
+-- whether a call that is not refused changes the packages
+abbrev pub intern_changes : Table → Name → Name → Bool
+intern_changes t p n = is_none (found t p n)
+
+abbrev pub export_changes : Table → Name → Name → Bool
+export_changes t p n = not (is_external t p n)
+
+abbrev pub import_changes : Table → Name → Name → Bool
+import_changes t p n = not (is_present t p n)
+
+abbrev pub use_changes : Table → Name → Name → Bool
+use_changes t p q = not (bytes_eq p q || is_used t p q)
+
+-- A call answers what the definition says. That a growth was refused it answers only where the definition refuses nothing.
 abbrev pub Gives : {A B : Type 0} → (A → B) → Result A PackageError → Result B PackageError → Type 0
 Gives view (Ok x) said = said ≡ Ok (view x)
-Gives view (Err e) said = e ≢ OutOfMemory → said ≡ Err e
+Gives view (Err OutOfMemory) said = IsOk said
+Gives view (Err e) said = said ≡ Err e

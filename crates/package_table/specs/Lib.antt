@@ -1,7 +1,9 @@
+pub mod Limits
 pub mod Errors
 pub mod Table
 pub mod Lookup
 pub mod Resolving
 pub mod Readers
 pub mod Changes
+pub mod Growth
 pub mod Shown

@@ -14,7 +14,7 @@ package_names t = finite.keys t
 abbrev pub used_names : Table → Name → List Name
 used_names t p = option_map_or (λ k. finite.keys k.uses) (finite.get t p) []
 
--- the names that are present in p, and what stands there
+-- the names that are present in p, and what is there
 abbrev pub present : Table → Name → List (Name × Entry)
 present t p = option_map_or (λ k. finite.entries k.symbols) (finite.get t p) []
 
@@ -43,5 +43,5 @@ imports t p = imported_among p (present t p)
 -- why a list of p is not given
 abbrev pub ListRefused : Table → Name → PackageError → Type 0
 ListRefused t p NoSuchPackage = ¬ (IsPackage t p)
-ListRefused t p OutOfMemory = Unit {0}
+ListRefused t p OutOfMemory = IsPackage t p
 ListRefused t p _ = ⊥

@@ -1,4 +1,4 @@
--- What the name in a token stands for (standard 2.3.5): in the current package, behind one package marker, behind two.
+-- What the name in a token stands for (standard 2.3.5): in the current package, after one package marker, after two.
 use Rattle.std.specs.Prelude.{if◌then◌else◌, bytes_eq, Result, Ok, Err}
 use Rattle.std.specs.Option.{option_map_or}
 use Rattle.package_table.specs.declared.error.PackageError.{PackageError}
@@ -28,11 +28,11 @@ abbrev pub resolution : Table → Name → Name → Result Resolution PackageErr
 resolution t p n =
     option_map_or (λ h. Ok (found_at h)) (found t p n) (if bytes_eq p common_lisp then Err LockedPackage else Ok (new_in p))
 
--- a name behind one package marker: an external symbol, by its home
+-- a name after one package marker: an external symbol, by its home
 abbrev pub external_resolution : Table → Name → Name → Result Name PackageError
 external_resolution t prefix n =
     option_map_or (λ p. option_map_or (λ h. Ok h) (external_home t p n) (Err NotExternal)) (package_named t prefix) (Err NoPackage)
 
--- a name behind two package markers
+-- a name after two package markers
 abbrev pub internal_resolution : Table → Name → Name → Result Resolution PackageError
 internal_resolution t prefix n = option_map_or (λ p. resolution t p n) (package_named t prefix) (Err NoPackage)

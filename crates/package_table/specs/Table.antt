@@ -8,6 +8,8 @@ use Rattle.std.specs.Cmp.Lexicographic.{slice_cmp}
 use Rattle.std.specs.Coded.{Coded, code_by, coded×, coded_ℕ, coded_list, coded_bool}
 use Rattle.std.specs.FinMap as finite
 use Rattle.std.specs.FinSet as set
+use Rattle.package_table.specs.Limits.{most_packages, most_symbols, longest_package_name, longest_symbol_name}
+use Rattle.package_table.specs.declared.standardized.TheConstants.{COMMON_LISP, COMMON_LISP_USER, KEYWORD, CL, CL_USER}
 
 -- a name of a package or of a symbol, by its bytes
 abbrev pub Name : Type 0
@@ -17,7 +19,7 @@ Name = List ℕ
 abbrev pub name_cmp : Name → Name → Ordering
 name_cmp = slice_cmp nat_cmp
 
--- what stands at a name that is present in a package: the symbol, by its home, and whether it is external there
+-- what a package has at a name that is present: the symbol, by its home, and whether it is external there
 pub record Entry : Type 0 where
   pub home : Name
   pub external : Bool
@@ -46,7 +48,7 @@ package_code =
 abbrev pub table_code : Coded Table
 table_code = finite.code name_code package_code
 
--- The table now, and behind it the tables that were marked, to which the packages can go back.
+-- The table now, and after it the tables that were marked, to which the packages can go back.
 abbrev pub Tables : Type 0
 Tables = Table × List Table
 
@@ -54,19 +56,19 @@ abbrev pub tables_code : Coded Tables
 tables_code = coded× table_code (coded_list table_code)
 
 abbrev pub common_lisp : Name
-common_lisp = codes "COMMON-LISP"
+common_lisp = COMMON_LISP.now
 
 abbrev pub common_lisp_user : Name
-common_lisp_user = codes "COMMON-LISP-USER"
+common_lisp_user = COMMON_LISP_USER.now
 
 abbrev pub keyword : Name
-keyword = codes "KEYWORD"
+keyword = KEYWORD.now
 
--- the name behind a nickname: CL is COMMON-LISP, and CL-USER is COMMON-LISP-USER
+-- the name for which a nickname stands: CL is COMMON-LISP, and CL-USER is COMMON-LISP-USER
 abbrev pub full_name : Name → Name
 full_name n =
-    if bytes_eq n (codes "CL") then common_lisp
-    else (if bytes_eq n (codes "CL-USER") then common_lisp_user else n)
+    if bytes_eq n CL.now then common_lisp
+    else (if bytes_eq n CL_USER.now then common_lisp_user else n)
 
 -- a package whose symbols are fixed or made by reading alone
 abbrev pub is_locked : Name → Bool
@@ -114,7 +116,7 @@ symbol_count t = sum_by (λ r. own_count r.0 r.1) (finite.entries t)
 abbrev pub with_package : Table → Name → (Package → Package) → Table
 with_package t p change = option_map_or (λ k. finite.insert t p (change k)) (finite.get t p) t
 
--- the table where e stands at the name n in p
+-- the table where e is at the name n in p
 abbrev pub with_entry : Table → Name → Name → Entry → Table
 with_entry t p n e = with_package t p (λ k. record k { symbols = finite.insert k.symbols n e })
 
@@ -171,13 +173,13 @@ initial = finite.from_entries ((common_lisp, common_lisp_package) ∷ (common_li
 -- a name that a package may have: no nickname, 1 to 256 characters
 pub record IsPackageName (p : Name) : Type 0 where
   pub some : 0 < length p
-  pub short : length p ≤ 256
+  pub short : length p ≤ longest_package_name
   pub full : full_name p ≡ p
   pub ascii : All (λ b. b < 128) p
 
 -- a name that a symbol may have: at most 4,096 characters
 pub record IsSymbolName (n : Name) : Type 0 where
-  pub short : length n ≤ 4096
+  pub short : length n ≤ longest_symbol_name
   pub ascii : All (λ b. b < 128) n
 
 -- Each symbol is present in its home, what is used is a package, no package uses itself, and none finds two symbols by
@@ -203,8 +205,8 @@ pub record HasFirst (t : Table) : Type 0 where
 pub record IsWithin (t : Table) : Type 0 where
   pub package_names : (p : Name) → IsPackage t p → IsPackageName p
   pub symbol_names : (p n h : Name) → IsPresent t p n h → IsSymbolName n
-  pub packages : finite.len t ≤ 1000
-  pub symbols : symbol_count t ≤ 1000000
+  pub packages : finite.len t ≤ most_packages
+  pub symbols : symbol_count t ≤ most_symbols
 
 -- what holds of all packages
 pub record IsSound (t : Table) : Type 0 where

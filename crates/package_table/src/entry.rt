@@ -1,4 +1,4 @@
-//! What stands at the name of a package, and at the name of a symbol in it.
+//! What the table has at the name of a package, and at the name of a symbol in it.
 use std::collections::{BTreeMap, BTreeSet};
 
 /// A symbol that is present in a package: the name of its home, and whether it is external in that package.

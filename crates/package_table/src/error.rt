@@ -10,7 +10,7 @@ use std::alloc::AllocError;
 pub enum PackageError {
     /// A token's prefix names no package.
     NoPackage,
-    /// The symbol behind one package marker is not external there.
+    /// The symbol after one package marker is not external there.
     NotExternal,
     /// A token has a new name in COMMON-LISP.
     LockedPackage,
@@ -28,7 +28,7 @@ pub enum PackageError {
     NotAccessible,
     /// There are too many packages or symbols, or a name is too long.
     Limit,
-    /// A growth was refused.
+    /// Memory ran out.
     OutOfMemory,
 }
 

@@ -1,9 +1,11 @@
 //! `export`: a symbol becomes external.
-ghost use Rattle.std.specs.Prelude.{◌≡◌, IfErr};
-ghost use Rattle.package_table.specs.Changes.{after_export, with_external, Gives};
+ghost use Rattle.std.specs.Prelude.{◌≡◌, IfErr, IfOk};
+ghost use Rattle.package_table.specs.Changes.{after_export, export_changes, with_external, Gives};
+ghost use Rattle.package_table.specs.Growth.{Grows, Tells};
 ghost use Rattle.package_table.specs.Shown.{table_of};
 
 use crate::entry::{Contents, Symbol};
+use crate::find::external_home;
 use crate::put::put_entry;
 use crate::users::{finds_this, has_package, is_locked, user_finds_other};
 use crate::{PackageError, Packages};
@@ -42,31 +44,38 @@ fn export_symbol(
     owner: &[u8],
     home: &[u8],
     name: &[u8],
-) -> Result<(), PackageError>
+) -> Result<bool, PackageError>
     ensures gives { Gives (λ _. table_of table.new) result
         (after_export (table_of table.old) owner.now home.now name.now) }
+    ensures changed { IfOk result (λ changed. changed ≡ export_changes (table_of table.old) owner.now name.now) }
     ensures unchanged { IfErr result (λ _. table_of table.new ≡ table_of table.old) }
 {
     export_refusal(table, owner, home, name)?;
+    if external_home(table, owner, name).is_some() {
+        return Ok(false);
+    }
     let symbol = Symbol {
         home: Vec::from_slice(alloc, home)?,
         external: true,
     };
     put_entry(table, owner, Vec::from_slice(alloc, name)?, symbol)?;
-    Ok(())
+    Ok(true)
 }
 
 impl Packages {
     /// Makes the symbol of this home and name external in `owner` (standard 11.2, `export`). One that `owner` inherits is
-    /// imported first.
+    /// imported first. Gives whether the packages changed: not where it was external there.
     ///
     /// # Errors
     /// `NoSuchPackage` where no package has the name `owner`; `PackageIsLocked` for COMMON-LISP and KEYWORD;
     /// `NotAccessible` where `owner` does not find this symbol by its name; `NameConflict` where a package that uses
-    /// `owner` finds another symbol by that name; `OutOfMemory` where a growth is refused. Nothing is changed then.
-    pub fn export(&mut self, owner: &[u8], home: &[u8], name: &[u8]) -> Result<(), PackageError>
+    /// `owner` finds another symbol by that name; `OutOfMemory` where memory runs out. Nothing is changed then.
+    pub fn export(&mut self, owner: &[u8], home: &[u8], name: &[u8]) -> Result<bool, PackageError>
         ensures gives { Gives (λ _. self.new.0) result
             (after_export self.old.0 owner.now home.now name.now) }
+        ensures changed { IfOk result (λ changed. changed ≡ export_changes self.old.0 owner.now name.now) }
+        ensures exactly { IfOk result (λ changed. Tells changed self.old.0 self.new.0) }
+        ensures grows { Grows self.old.0 self.new.0 }
         ensures unchanged { IfErr result (λ _. self.new ≡ self.old) }
         ensures marked { self.new.1 ≡ self.old.1 }
     {

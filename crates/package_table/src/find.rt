@@ -6,17 +6,18 @@ ghost use Rattle.package_table.specs.Lookup.{external_home, first_external, foun
 ghost use Rattle.package_table.specs.Shown.{table_of, package_of, entry_of, as_set};
 
 use crate::entry::{Contents, Symbol};
+use crate::standardized::{CL, CL_USER, COMMON_LISP, COMMON_LISP_USER};
 use std::collections::{BTreeMap, BTreeSet};
 
 /// The name that a name or a nickname stands for.
 pub(crate) fn full_name(name: &[u8]) -> &[u8]
     ensures { result.now ≡ full_name name.now }
 {
-    if name == b"CL".as_slice() {
-        return b"COMMON-LISP";
+    if name == CL {
+        return COMMON_LISP;
     }
-    if name == b"CL-USER".as_slice() {
-        return b"COMMON-LISP-USER";
+    if name == CL_USER {
+        return COMMON_LISP_USER;
     }
     name
 }

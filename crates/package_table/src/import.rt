@@ -1,7 +1,8 @@
 //! `import`: a symbol becomes present.
-ghost use Rattle.std.specs.Prelude.{◌≡◌, IfErr};
+ghost use Rattle.std.specs.Prelude.{◌≡◌, IfErr, IfOk};
 ghost use Rattle.package_table.specs.Table.{IsPresent};
-ghost use Rattle.package_table.specs.Changes.{after_import, with_present, Gives};
+ghost use Rattle.package_table.specs.Changes.{after_import, import_changes, with_present, Gives};
+ghost use Rattle.package_table.specs.Growth.{Grows, Tells};
 ghost use Rattle.package_table.specs.Shown.{table_of};
 
 use crate::entry::{Contents, Symbol};
@@ -40,35 +41,40 @@ fn import_symbol(
     owner: &[u8],
     home: &[u8],
     name: &[u8],
-) -> Result<(), PackageError>
+) -> Result<bool, PackageError>
     ensures gives { Gives (λ _. table_of table.new) result
         (after_import (table_of table.old) owner.now home.now name.now) }
+    ensures changed { IfOk result (λ changed. changed ≡ import_changes (table_of table.old) owner.now name.now) }
     ensures unchanged { IfErr result (λ _. table_of table.new ≡ table_of table.old) }
 {
     import_refusal(table, owner, home, name)?;
     if is_present(table, owner, name) {
-        return Ok(());
+        return Ok(false);
     }
     let symbol = Symbol {
         home: Vec::from_slice(alloc, home)?,
         external: false,
     };
     put_entry(table, owner, Vec::from_slice(alloc, name)?, symbol)?;
-    Ok(())
+    Ok(true)
 }
 
 impl Packages {
     /// Makes the symbol of this home and name present in `owner` (standard 11.2, `import`). One that `owner` inherits
-    /// becomes present; one that is present stays as it is, external or not.
+    /// becomes present; one that is present stays as it is, external or not. Gives whether the packages changed. Whether
+    /// there is such a symbol, `is_symbol` tells.
     ///
     /// # Errors
     /// `NoSuchPackage` where no package has the name `owner`; `PackageIsLocked` for COMMON-LISP and KEYWORD;
-    /// `NameConflict` where `owner` finds another symbol by that name; `OutOfMemory` where a growth is refused. Nothing is
+    /// `NameConflict` where `owner` finds another symbol by that name; `OutOfMemory` where memory runs out. Nothing is
     /// changed then.
-    pub fn import(&mut self, owner: &[u8], home: &[u8], name: &[u8]) -> Result<(), PackageError>
+    pub fn import(&mut self, owner: &[u8], home: &[u8], name: &[u8]) -> Result<bool, PackageError>
         requires { IsPresent self.old.0 home.now name.now home.now }
         ensures gives { Gives (λ _. self.new.0) result
             (after_import self.old.0 owner.now home.now name.now) }
+        ensures changed { IfOk result (λ changed. changed ≡ import_changes self.old.0 owner.now name.now) }
+        ensures exactly { IfOk result (λ changed. Tells changed self.old.0 self.new.0) }
+        ensures grows { Grows self.old.0 self.new.0 }
         ensures unchanged { IfErr result (λ _. self.new ≡ self.old) }
         ensures marked { self.new.1 ≡ self.old.1 }
     {

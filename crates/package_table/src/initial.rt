@@ -4,6 +4,7 @@ ghost use Rattle.package_table.specs.Table.{initial, package_of_names, common_li
 ghost use Rattle.package_table.specs.Shown.{table_of, package_of};
 
 use crate::entry::{Contents, Symbol};
+use crate::standardized::{COMMON_LISP, COMMON_LISP_USER, KEYWORD};
 use std::alloc::{AllocError, Global};
 use std::collections::{BTreeMap, BTreeSet};
 
@@ -87,14 +88,14 @@ fn package_of_names(alloc: Global, owner: &[u8], names: &[&[u8]]) -> Result<Cont
 fn lisp_package(alloc: Global) -> Result<Contents, AllocError>
     ensures { IfOk result (λ c. package_of c ≡ common_lisp_package) }
 {
-    package_of_names(alloc, b"COMMON-LISP", &COMMON_LISP_NAMES)
+    package_of_names(alloc, COMMON_LISP, &COMMON_LISP_NAMES)
 }
 
 // KEYWORD.
 fn keyword_package(alloc: Global) -> Result<Contents, AllocError>
     ensures { IfOk result (λ c. package_of c ≡ keyword_package) }
 {
-    package_of_names(alloc, b"KEYWORD", &KEYWORD_NAMES)
+    package_of_names(alloc, KEYWORD, &KEYWORD_NAMES)
 }
 
 // COMMON-LISP-USER.
@@ -102,7 +103,7 @@ fn user_package(alloc: Global) -> Result<Contents, AllocError>
     ensures { IfOk result (λ c. package_of c ≡ user_package) }
 {
     let mut uses = BTreeSet::new(alloc);
-    let lisp = Vec::from_slice(alloc, b"COMMON-LISP")?;
+    let lisp = Vec::from_slice(alloc, COMMON_LISP)?;
     uses.insert(lisp)?;
     Ok(Contents {
         symbols: BTreeMap::new(alloc),
@@ -115,13 +116,13 @@ pub(crate) fn initial_table(alloc: Global) -> Result<BTreeMap<Vec<u8>, Contents>
     ensures { IfOk result (λ t. table_of t ≡ initial) }
 {
     let mut table = BTreeMap::new(alloc);
-    let name = Vec::from_slice(alloc, b"KEYWORD")?;
+    let name = Vec::from_slice(alloc, KEYWORD)?;
     let contents = keyword_package(alloc)?;
     table.insert(name, contents)?;
-    let name = Vec::from_slice(alloc, b"COMMON-LISP-USER")?;
+    let name = Vec::from_slice(alloc, COMMON_LISP_USER)?;
     let contents = user_package(alloc)?;
     table.insert(name, contents)?;
-    let name = Vec::from_slice(alloc, b"COMMON-LISP")?;
+    let name = Vec::from_slice(alloc, COMMON_LISP)?;
     let contents = lisp_package(alloc)?;
     table.insert(name, contents)?;
     Ok(table)

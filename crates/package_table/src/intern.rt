@@ -1,17 +1,28 @@
 //! `intern`: the symbol of a name in a package, new where there is none.
-ghost use Rattle.std.specs.Prelude.{◌≡◌, ◌<◌, All, IfErr, OnOk};
+ghost use Rattle.std.specs.Prelude.{◌≡◌, ◌<◌, All, Some, IfErr, IfOk, OnOk};
 ghost use Rattle.package_table.specs.Table.{IsPackage, symbol_count};
-ghost use Rattle.package_table.specs.Changes.{after_intern, with_new_symbol, Gives};
+ghost use Rattle.package_table.specs.Lookup.{found};
+ghost use Rattle.package_table.specs.Changes.{after_intern, intern_changes, with_new_symbol, Gives};
+ghost use Rattle.package_table.specs.Growth.{Grows, IsSameBut, Tells};
 ghost use Rattle.package_table.specs.Shown.{table_of};
 
 use crate::entry::{Contents, Symbol};
 use crate::find::home_of;
+use crate::limits::{MAX_SYMBOL_NAME, MAX_SYMBOLS};
 use crate::put::put_entry;
+use crate::standardized::{COMMON_LISP, KEYWORD};
 use crate::users::has_package;
 use crate::{PackageError, Packages};
 use lisp_object::Bytes;
 use std::alloc::{AllocError, Global};
 use std::collections::BTreeMap;
+
+/// The symbol that `intern` gives: the name of its home, and whether it was made.
+#[derive(Debug, Drop)]
+pub struct Interned {
+    pub home: Bytes,
+    pub is_new: bool,
+}
 
 // Makes a new symbol of the package `owner`, which exists, present there.
 fn put_new(
@@ -27,7 +38,7 @@ fn put_new(
 {
     let symbol = Symbol {
         home: Vec::from_slice(alloc, owner)?,
-        external: owner == b"KEYWORD".as_slice(),
+        external: owner == KEYWORD,
     };
     put_entry(table, owner, Vec::from_slice(alloc, name)?, symbol)?;
     Ok(())
@@ -39,10 +50,11 @@ fn intern_symbol(
     count: &mut u64,
     owner: &[u8],
     name: &[u8],
-) -> Result<Bytes, PackageError>
+) -> Result<Interned, PackageError>
     requires { count.old ≡ symbol_count (table_of table.old) }
-    ensures gives { Gives (λ home. (home, table_of table.new)) result
+    ensures gives { Gives (λ interned. (interned.home, table_of table.new)) result
         (after_intern (table_of table.old) owner.now name.now) }
+    ensures is_new { IfOk result (λ interned. interned.is_new ≡ intern_changes (table_of table.old) owner.now name.now) }
     ensures unchanged { IfErr result (λ _. table_of table.new ≡ table_of table.old) }
     ensures counted { count.new ≡ symbol_count (table_of table.new) }
 {
@@ -50,32 +62,41 @@ fn intern_symbol(
         return Err(PackageError::NoSuchPackage);
     }
     if let Some(home) = home_of(table, owner, name) {
-        return Ok(Bytes::from_slice(alloc, home)?);
+        let home = Bytes::from_slice(alloc, home)?;
+        return Ok(Interned {
+            home,
+            is_new: false,
+        });
     }
-    if owner == b"COMMON-LISP".as_slice() {
+    if owner == COMMON_LISP {
         return Err(PackageError::PackageIsLocked);
     }
-    if name.len() > 4096 || *count >= 1_000_000 {
+    if name.len() > MAX_SYMBOL_NAME || *count >= MAX_SYMBOLS {
         return Err(PackageError::Limit);
     }
     let home = Bytes::from_slice(alloc, owner)?;
     put_new(alloc, table, owner, name)?;
     *count += 1;
-    Ok(home)
+    Ok(Interned { home, is_new: true })
 }
 
 impl Packages {
-    /// The home of the symbol that `owner` finds by `name`, or of the new symbol that is made, whose home is `owner`
-    /// (standard 11.2, `intern`). A new symbol of KEYWORD is external.
+    /// The symbol that `owner` finds by `name`, or the new symbol that is made, whose home is `owner` (standard 11.2,
+    /// `intern`). A new symbol of KEYWORD is external. No other name finds another symbol than before.
     ///
     /// # Errors
     /// `NoSuchPackage` where no package has the name `owner`; for a new name, `PackageIsLocked` in COMMON-LISP, and `Limit`
-    /// where it is longer than 4,096 bytes or there are 1,000,000 symbols; `OutOfMemory` where a growth is refused. Nothing
+    /// where it is longer than 4,096 bytes or there are 1,000,000 symbols; `OutOfMemory` where memory runs out. Nothing
     /// is changed then.
-    pub fn intern(&mut self, owner: &[u8], name: &[u8]) -> Result<Bytes, PackageError>
+    pub fn intern(&mut self, owner: &[u8], name: &[u8]) -> Result<Interned, PackageError>
         requires { All (λ b. b < 128) name.now }
-        ensures gives { Gives (λ home. (home, self.new.0)) result
+        ensures gives { Gives (λ interned. (interned.home, self.new.0)) result
             (after_intern self.old.0 owner.now name.now) }
+        ensures is_new { IfOk result (λ interned. interned.is_new ≡ intern_changes self.old.0 owner.now name.now) }
+        ensures exactly { IfOk result (λ interned. Tells interned.is_new self.old.0 self.new.0) }
+        ensures finds { IfOk result (λ interned. found self.new.0 owner.now name.now ≡ Some interned.home) }
+        ensures others { IsSameBut self.old.0 self.new.0 owner.now name.now }
+        ensures grows { Grows self.old.0 self.new.0 }
         ensures unchanged { IfErr result (λ _. self.new ≡ self.old) }
         ensures marked { self.new.1 ≡ self.old.1 }
     {

@@ -2,17 +2,30 @@
 //!
 //! Contracts see `Packages` as a finite map from the names of the packages to their contents (`Table` of
 //! `specs/Table.antt`): the symbols that are present, each by its name with its home and whether it is external, and the
-//! packages that are used. `Finds` says which symbol a package finds by a name, and `found` (specs/Lookup.antt) computes it.
-//! A call that is refused changes nothing.
+//! packages that are used. `Finds` says which symbol a package finds by a name, `found` (specs/Lookup.antt) computes it, and
+//! `look_up_laws` says that the two agree. A call that is refused changes nothing, no call loses anything (`Grows` of
+//! specs/Growth.antt), and `OutOfMemory` comes only where a call would not be refused.
 //!
 //! - `packages`: `Packages`, and its calls
-//! - `entry`: what stands at a package's name, and at a symbol's
+//! - `queries`: what callers ask of them
+//! - `entry`: what the table has at a package's name, and at a symbol's
+//! - `standardized`, `limits`: the names of the first packages, and how much there may be
 //! - `initial`: the first packages
 //! - `readers`: the lists of names
 //! - `find`, `resolve`: look-ups, which take no memory
 //! - `make`, `intern`, `export`, `import`, `use_package`: the calls that write, over `users` (what is asked before a change) and
-//!   `put` (single changes). `specs/Changes.antt` says what each makes of a table, or why it refuses.
+//!   `put` (single changes). `specs/Changes.antt` says what each makes of a table, or why it refuses, and whether it
+//!   changes it.
+//! - `laws`: `look_up_laws`
 //! - `error`: `PackageError`
+//!
+//! Proofs of crates above may cite these lemmas; they keep their names. On look-ups (proofs/Found.antt): `found_is`,
+//! `found_finds`, `found_none`, `finds_none`, `present_found`, `external_shows`, `shows_external`, `used_shows`. On symbols at
+//! home (proofs/Keeping.antt): `present_at_home`, `present_once`. On growth (proofs/Growing.antt): `grows_same`,
+//! `grows_both`, `finds_grown`. On names and on one change of a table (proofs/Frames.antt): `equal_names`, `unequal_names`,
+//! `equal_itself`, `entry_new`, `entry_other`, `package_with_entry`, `uses_with_entry`, `entry_with_used`, `uses_still`,
+//! `entry_with_new`. On the first packages (proofs/First.antt): `sound`, `first_count`, `lisp_is_package`,
+//! `user_is_package`.
 #![tactic(auto)]
 
 mod copy;
@@ -23,15 +36,21 @@ mod find;
 mod import;
 mod initial;
 mod intern;
+mod laws;
+pub mod limits;
 mod make;
 mod packages;
 mod put;
+mod queries;
 mod readers;
 mod resolve;
+pub mod standardized;
 mod use_package;
 mod users;
 
 pub use error::PackageError;
+pub use intern::Interned;
+pub use laws::look_up_laws;
 pub use packages::Packages;
 pub use resolve::Resolved;
 

@@ -3,10 +3,12 @@ ghost use Rattle.std.specs.Prelude.{◌≡◌, ◌<◌, All, IfErr};
 ghost use Rattle.std.specs.FinMap as finite;
 ghost use Rattle.package_table.specs.Table.{with_new_package};
 ghost use Rattle.package_table.specs.Changes.{after_make, Gives};
+ghost use Rattle.package_table.specs.Growth.{Grows};
 ghost use Rattle.package_table.specs.Shown.{table_of};
 
 use crate::entry::Contents;
 use crate::find::package_name;
+use crate::limits::{MAX_PACKAGE_NAME, MAX_PACKAGES};
 use crate::put::put_package;
 use crate::{PackageError, Packages};
 use std::alloc::Global;
@@ -30,7 +32,7 @@ fn make_refusal(table: &BTreeMap<Vec<u8>, Contents>, name: &[u8]) -> Result<(), 
     if package_name(table, name).is_some() {
         return Err(PackageError::PackageExists);
     }
-    if package_count(table) >= 1000 || name.len() > 256 {
+    if package_count(table) >= MAX_PACKAGES || name.len() > MAX_PACKAGE_NAME {
         return Err(PackageError::Limit);
     }
     Ok(())
@@ -56,11 +58,12 @@ impl Packages {
     ///
     /// # Errors
     /// `EmptyName` for the empty name; `PackageExists` where a package has `name` as its name or nickname; `Limit` where
-    /// there are 1,000 packages or the name is longer than 256 bytes; `OutOfMemory` where a growth is refused. Nothing is
+    /// there are 1,000 packages or the name is longer than 256 bytes; `OutOfMemory` where memory runs out. Nothing is
     /// changed then.
     pub fn make(&mut self, name: &[u8]) -> Result<(), PackageError>
         requires { All (λ b. b < 128) name.now }
         ensures gives { Gives (λ _. self.new.0) result (after_make self.old.0 name.now) }
+        ensures grows { Grows self.old.0 self.new.0 }
         ensures unchanged { IfErr result (λ _. self.new ≡ self.old) }
         ensures marked { self.new.1 ≡ self.old.1 }
     {

@@ -1,5 +1,5 @@
 //! The packages, and the calls on them.
-ghost use Rattle.std.specs.Prelude.{◌≡◌, [], Ok, Err, IfOk, IfErr, MatchResult, option_map};
+ghost use Rattle.std.specs.Prelude.{◌≡◌, [], Ok, Err, IfOk, IfErr, IfSome, MatchResult, option_map};
 ghost use Rattle.package_table.specs.Table.{initial, is_locked, package_named, IsPackage, IsSound};
 ghost use Rattle.package_table.specs.Resolving.{resolution, external_resolution, internal_resolution, resolution_of};
 ghost use Rattle.package_table.specs.Readers.{package_names, used_names, own_names, external_names, imports, ListRefused};
@@ -15,7 +15,7 @@ use std::alloc::{AllocError, Global};
 use std::collections::BTreeMap;
 use std::marker::Model;
 
-/// Packages (standard 11.1). Contracts see them as a `Table`, and behind it the list of the tables that were marked.
+/// Packages (standard 11.1). Contracts see them as a `Table`, and after it the list of the tables that were marked.
 #[derive(Drop)]
 pub struct Packages {
     pub(crate) alloc: Global,
@@ -78,7 +78,7 @@ impl Packages {
     /// The names of the packages that `owner` uses, sorted by their bytes.
     ///
     /// # Errors
-    /// `NoSuchPackage` where no package has the name `owner`; `OutOfMemory` where a growth is refused.
+    /// `NoSuchPackage` where no package has the name `owner`; `OutOfMemory` where memory runs out.
     pub fn uses(&self, alloc: Global, owner: &[u8]) -> Result<Items<Bytes>, PackageError>
         ensures list { IfOk result (λ names. names ≡ used_names self.now.0 owner.now) }
         ensures there { IfOk result (λ _. IsPackage self.now.0 owner.now) }
@@ -90,7 +90,7 @@ impl Packages {
     /// The names of the symbols at home in `owner`, sorted by their bytes.
     ///
     /// # Errors
-    /// `NoSuchPackage` where no package has the name `owner`; `OutOfMemory` where a growth is refused.
+    /// `NoSuchPackage` where no package has the name `owner`; `OutOfMemory` where memory runs out.
     pub fn own(&self, alloc: Global, owner: &[u8]) -> Result<Items<Bytes>, PackageError>
         ensures list { IfOk result (λ names. names ≡ own_names self.now.0 owner.now) }
         ensures there { IfOk result (λ _. IsPackage self.now.0 owner.now) }
@@ -102,7 +102,7 @@ impl Packages {
     /// The names that are external in `owner`, sorted by their bytes.
     ///
     /// # Errors
-    /// `NoSuchPackage` where no package has the name `owner`; `OutOfMemory` where a growth is refused.
+    /// `NoSuchPackage` where no package has the name `owner`; `OutOfMemory` where memory runs out.
     pub fn externals(&self, alloc: Global, owner: &[u8]) -> Result<Items<Bytes>, PackageError>
         ensures list { IfOk result (λ names. names ≡ external_names self.now.0 owner.now) }
         ensures there { IfOk result (λ _. IsPackage self.now.0 owner.now) }
@@ -114,7 +114,7 @@ impl Packages {
     /// The names that are present in `owner` with another home, each with the name of that home, sorted by their bytes.
     ///
     /// # Errors
-    /// `NoSuchPackage` where no package has the name `owner`; `OutOfMemory` where a growth is refused.
+    /// `NoSuchPackage` where no package has the name `owner`; `OutOfMemory` where memory runs out.
     pub fn imports(
         &self,
         alloc: Global,
@@ -130,7 +130,8 @@ impl Packages {
     /// The name of the package that has `name` as its name or nickname: CL stands for COMMON-LISP, and CL-USER for
     /// COMMON-LISP-USER. Takes no memory.
     pub fn find(&self, name: &[u8]) -> Option<&[u8]>
-        ensures { option_map (λ p. p.now) result ≡ package_named self.now.0 name.now }
+        ensures named { option_map (λ p. p.now) result ≡ package_named self.now.0 name.now }
+        ensures there { IfSome result (λ p. IsPackage self.now.0 p.now) }
     {
         package_name(&self.table, name)
     }

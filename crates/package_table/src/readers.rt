@@ -1,8 +1,9 @@
 //! Lists of names, each sorted by its bytes.
-ghost use Rattle.std.specs.Prelude.{◌≡◌, IfOk, IfErr};
+ghost use Rattle.std.specs.Prelude.{◌≡◌, Some, IfOk, IfErr, MatchResult};
+ghost use Rattle.std.specs.FinMap as finite;
 ghost use Rattle.package_table.specs.Table.{IsPackage};
 ghost use Rattle.package_table.specs.Readers.{package_names, used_names, own_names, external_names, imports, ListRefused};
-ghost use Rattle.package_table.specs.Shown.{table_of};
+ghost use Rattle.package_table.specs.Shown.{package_of, table_of};
 
 use crate::PackageError;
 use crate::entry::Contents;
@@ -25,6 +26,19 @@ pub(crate) fn names(
     Ok(names)
 }
 
+// What the package of this name holds, of which a list is given.
+fn listed<'a>(
+    table: &'a BTreeMap<Vec<u8>, Contents>,
+    owner: &[u8],
+) -> Result<&'a Contents, PackageError>
+    ensures { MatchResult result (λ c. Some (package_of c.now) ≡ finite.get (table_of table.now) owner.now) (ListRefused (table_of table.now) owner.now) }
+{
+    match contents_of(table, owner) {
+        Some(contents) => Ok(contents),
+        None => Err(PackageError::NoSuchPackage),
+    }
+}
+
 /// The names of the packages that `owner` uses.
 pub(crate) fn uses(
     alloc: Global,
@@ -35,9 +49,7 @@ pub(crate) fn uses(
     ensures there { IfOk result (λ _. IsPackage (table_of table.now) owner.now) }
     ensures refused { IfErr result (ListRefused (table_of table.now) owner.now) }
 {
-    let Some(contents) = contents_of(table, owner) else {
-        return Err(PackageError::NoSuchPackage);
-    };
+    let contents = listed(table, owner)?;
     let mut names = Items::new(alloc);
     for used in &contents.uses {
         names.push(Bytes::from_slice(alloc, used.as_slice())?)?;
@@ -55,9 +67,7 @@ pub(crate) fn own(
     ensures there { IfOk result (λ _. IsPackage (table_of table.now) owner.now) }
     ensures refused { IfErr result (ListRefused (table_of table.now) owner.now) }
 {
-    let Some(contents) = contents_of(table, owner) else {
-        return Err(PackageError::NoSuchPackage);
-    };
+    let contents = listed(table, owner)?;
     let mut names = Items::new(alloc);
     for (name, symbol) in &contents.symbols {
         if symbol.home.as_slice() == owner {
@@ -77,9 +87,7 @@ pub(crate) fn externals(
     ensures there { IfOk result (λ _. IsPackage (table_of table.now) owner.now) }
     ensures refused { IfErr result (ListRefused (table_of table.now) owner.now) }
 {
-    let Some(contents) = contents_of(table, owner) else {
-        return Err(PackageError::NoSuchPackage);
-    };
+    let contents = listed(table, owner)?;
     let mut names = Items::new(alloc);
     for (name, symbol) in &contents.symbols {
         if symbol.external {
@@ -99,9 +107,7 @@ pub(crate) fn imports(
     ensures there { IfOk result (λ _. IsPackage (table_of table.now) owner.now) }
     ensures refused { IfErr result (ListRefused (table_of table.now) owner.now) }
 {
-    let Some(contents) = contents_of(table, owner) else {
-        return Err(PackageError::NoSuchPackage);
-    };
+    let contents = listed(table, owner)?;
     let mut names = Items::new(alloc);
     for (name, symbol) in &contents.symbols {
         if symbol.home.as_slice() != owner {

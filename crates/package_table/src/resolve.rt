@@ -7,6 +7,7 @@ ghost use Rattle.package_table.specs.Shown.{table_of};
 use crate::PackageError;
 use crate::entry::Contents;
 use crate::find::{external_home, home_of, package_name, stored_name};
+use crate::standardized::COMMON_LISP;
 use std::collections::BTreeMap;
 
 /// What a name stands for in a package.
@@ -30,7 +31,7 @@ pub(crate) fn resolve_in<'a>(
     if let Some(home) = home_of(table, owner, name) {
         return Ok(Resolved::Found(home));
     }
-    if owner == b"COMMON-LISP".as_slice() {
+    if owner == COMMON_LISP {
         return Err(PackageError::LockedPackage);
     }
     match stored_name(table, owner) {
@@ -39,7 +40,7 @@ pub(crate) fn resolve_in<'a>(
     }
 }
 
-/// The home of the external symbol behind one package marker.
+/// The home of the external symbol after one package marker.
 pub(crate) fn resolve_external<'a>(
     table: &'a BTreeMap<Vec<u8>, Contents>,
     prefix: &[u8],
@@ -56,7 +57,7 @@ pub(crate) fn resolve_external<'a>(
     }
 }
 
-/// What the name stands for behind two package markers.
+/// What the name stands for after two package markers.
 pub(crate) fn resolve_internal<'a>(
     table: &'a BTreeMap<Vec<u8>, Contents>,
     prefix: &[u8],

@@ -1,7 +1,8 @@
 //! The first packages, and look-ups in them.
+use crate::standardized::{CL, CL_USER, COMMON_LISP, COMMON_LISP_USER, KEYWORD};
 use crate::{PackageError, Packages, Resolved};
 use lisp_object::{Bytes, Items};
-use std::alloc::{AllocError, Global};
+use std::alloc::Global;
 use std::test::Fail;
 
 const OPERATORS: [&[u8]; 25] = [
@@ -66,118 +67,140 @@ const KEYWORDS: [&[u8]; 22] = [
     b"STD-DISPATCH",
 ];
 
-fn listed(alloc: Global, names: &[&[u8]]) -> Result<Items<Bytes>, AllocError> {
-    let mut list = Items::new(alloc);
-    for name in names {
-        list.push(Bytes::from_slice(alloc, name)?)?;
+const FIRST_SYMBOLS: [(&[u8], &[&[u8]]); 3] = [
+    (COMMON_LISP, &OPERATORS),
+    (COMMON_LISP, &OTHERS),
+    (KEYWORD, &KEYWORDS),
+];
+
+// A name, the package that it names, and whether the name is that of a locked package.
+const NAMES: [(&[u8], Option<&[u8]>, bool); 6] = [
+    (b"CL", Some(COMMON_LISP), false),
+    (b"CL-USER", Some(COMMON_LISP_USER), false),
+    (COMMON_LISP, Some(COMMON_LISP), true),
+    (KEYWORD, Some(KEYWORD), true),
+    (COMMON_LISP_USER, Some(COMMON_LISP_USER), false),
+    (b"P", None, false),
+];
+
+// A prefix, a name, and what the name is after one and after two package markers.
+const PREFIXED: [(
+    &[u8],
+    &[u8],
+    Result<&[u8], u16>,
+    Result<Resolved<'static>, u16>,
+); 7] = [
+    (
+        CL,
+        b"LIST",
+        Ok(COMMON_LISP),
+        Ok(Resolved::Found(COMMON_LISP)),
+    ),
+    (CL_USER, b"LIST", Err(12), Ok(Resolved::Found(COMMON_LISP))),
+    (CL_USER, b"X", Err(12), Ok(Resolved::New(COMMON_LISP_USER))),
+    (KEYWORD, b"X", Err(12), Ok(Resolved::New(KEYWORD))),
+    (COMMON_LISP, b"FOO", Err(12), Err(13)),
+    (b"NO", b"X", Err(11), Err(11)),
+    (b"", b"X", Err(11), Err(11)),
+];
+
+// Whether a list was given that has exactly these names.
+fn lists(list: Result<Items<Bytes>, PackageError>, names: &[&[u8]]) -> bool {
+    let Ok(list) = list else {
+        return false;
+    };
+    if list.len() != names.len() {
+        return false;
     }
-    Ok(list)
+    for (listed, name) in list.as_slice().iter().zip(names) {
+        if listed.as_slice() != *name {
+            return false;
+        }
+    }
+    true
+}
+
+fn uses_nothing(alloc: Global, packages: &Packages, owner: &[u8]) -> bool {
+    lists(packages.uses(alloc, owner), &[])
+}
+
+// COMMON-LISP-USER has no symbols, and uses COMMON-LISP.
+fn is_user_first(alloc: Global, packages: &Packages) -> bool {
+    let user = COMMON_LISP_USER;
+    let Ok(imports) = packages.imports(alloc, user) else {
+        return false;
+    };
+    lists(packages.uses(alloc, user), &[COMMON_LISP])
+        && lists(packages.own(alloc, user), &[])
+        && lists(packages.externals(alloc, user), &[])
+        && imports.is_empty()
+}
+
+// Whether these are symbols of `owner` and external there.
+fn shows(packages: &Packages, owner: &[u8], names: &[&[u8]]) -> bool {
+    for name in names {
+        let there = packages.is_symbol(owner, name) && packages.is_present(owner, name);
+        if !there || !packages.is_external(owner, name) {
+            return false;
+        }
+    }
+    true
+}
+
+// Whether a name names this package, and is the name of a locked one.
+fn names(packages: &Packages, name: &[u8], package: Option<&[u8]>, locked: bool) -> bool {
+    packages.find(name) == package
+        && packages.is_locked(name) == locked
+        && packages.has_package(name) == (package == Some(name))
+        && packages.is_used(name, COMMON_LISP) == (name == COMMON_LISP_USER)
+}
+
+// Whether the name means this in the package of this name.
+fn means(
+    packages: &Packages,
+    owner: &[u8],
+    name: &[u8],
+    meaning: Result<Resolved<'_>, u16>,
+) -> bool {
+    if packages.has_package(owner) {
+        packages.resolve(owner, name).map_err(PackageError::number) == meaning
+    } else {
+        true
+    }
+}
+
+// Whether the name means this after one package marker, and this after two.
+fn prefixed(
+    packages: &Packages,
+    prefix: &[u8],
+    name: &[u8],
+    one: Result<&[u8], u16>,
+    two: Result<Resolved<'_>, u16>,
+) -> bool {
+    let external = packages.resolve_external(prefix, name);
+    let internal = packages.resolve_internal(prefix, name);
+    external.map_err(PackageError::number) == one && internal.map_err(PackageError::number) == two
 }
 
 #[test]
 fn first_packages(rt: HostRuntime) -> Result<(), Fail> {
     let alloc = rt.alloc();
     let packages = Packages::new(alloc)?.copy(alloc)?;
-    let user = b"COMMON-LISP-USER".as_slice();
-    let names = listed(alloc, &[b"COMMON-LISP", user, b"KEYWORD"])?;
-    assert_eq!(rt; packages.names(alloc), Ok(names));
-    let used = listed(alloc, &[b"COMMON-LISP"])?;
-    assert_eq!(rt; packages.uses(alloc, user), Ok(used));
-    assert_eq!(rt; packages.own(alloc, user), Ok(Items::new(alloc)));
-    assert_eq!(rt; packages.externals(alloc, user), Ok(Items::new(alloc)));
-    assert_eq!(rt; packages.imports(alloc, user), Ok(Items::new(alloc)));
-    assert_eq!(rt; packages.externals(alloc, b"COMMON-LISP")?.len(), 31);
-    assert_eq!(rt; packages.own(alloc, b"KEYWORD")?.len(), 22);
-    assert_eq!(rt;
-        packages.uses(alloc, b"CL"),
-        Err(PackageError::NoSuchPackage)
-    );
-    Ok(())
-}
-
-#[test]
-fn first_symbols(rt: HostRuntime) -> Result<(), Fail> {
-    let packages = Packages::new(rt.alloc())?;
-    for names in [OPERATORS.as_slice(), &OTHERS] {
-        for name in names {
-            assert_eq!(rt;
-                packages.resolve_external(b"CL", name),
-                Ok(b"COMMON-LISP".as_slice())
-            );
-        }
+    let all: [&[u8]; 3] = [COMMON_LISP, COMMON_LISP_USER, KEYWORD];
+    assert!(rt; lists(Ok(packages.names(alloc)?), &all));
+    assert!(rt; is_user_first(alloc, &packages));
+    assert!(rt; uses_nothing(alloc, &packages, COMMON_LISP) && !uses_nothing(alloc, &packages, CL));
+    assert_eq!(rt; packages.externals(alloc, COMMON_LISP)?.len(), 31);
+    assert_eq!(rt; packages.own(alloc, KEYWORD)?.len(), 22);
+    for (owner, names) in FIRST_SYMBOLS {
+        assert!(rt; shows(&packages, owner, names));
     }
-    for name in KEYWORDS {
-        assert_eq!(rt;
-            packages.resolve_external(b"KEYWORD", name),
-            Ok(b"KEYWORD".as_slice())
-        );
+    for (name, package, locked) in NAMES {
+        assert!(rt; names(&packages, name, package, locked));
     }
-    Ok(())
-}
-
-#[test]
-fn look_ups(rt: HostRuntime) -> Result<(), Fail> {
-    let packages = Packages::new(rt.alloc())?;
-    let lisp = b"COMMON-LISP".as_slice();
-    let user = b"COMMON-LISP-USER".as_slice();
-    let keyword = b"KEYWORD".as_slice();
-    for (name, package, locked) in [
-        (b"CL".as_slice(), Some(lisp), false),
-        (b"CL-USER", Some(user), false),
-        (lisp, Some(lisp), true),
-        (keyword, Some(keyword), true),
-        (user, Some(user), false),
-        (b"P", None, false),
-    ] {
-        assert_eq!(rt; packages.find(name), package);
-        assert_eq!(rt; packages.is_locked(name), locked);
+    for (prefix, name, one, two) in PREFIXED {
+        assert!(rt; prefixed(&packages, prefix, name, one, two));
+        assert!(rt; means(&packages, prefix, name, two));
     }
-    for (prefix, name, external, internal) in [
-        (
-            b"CL".as_slice(),
-            b"LIST".as_slice(),
-            Ok(lisp),
-            Ok(Resolved::Found(lisp)),
-        ),
-        (b"CL-USER", b"LIST", Err(12), Ok(Resolved::Found(lisp))),
-        (b"CL-USER", b"X", Err(12), Ok(Resolved::New(user))),
-        (b"KEYWORD", b"X", Err(12), Ok(Resolved::New(keyword))),
-        (b"CL", b"FOO", Err(12), Err(13)),
-        (b"NO", b"X", Err(11), Err(11)),
-        (b"", b"X", Err(11), Err(11)),
-    ] {
-        assert_eq!(rt;
-            packages
-                .resolve_external(prefix, name)
-                .map_err(PackageError::number),
-            external
-        );
-        assert_eq!(rt;
-            packages
-                .resolve_internal(prefix, name)
-                .map_err(PackageError::number),
-            internal
-        );
-    }
-    Ok(())
-}
-
-#[test]
-fn resolves(rt: HostRuntime) -> Result<(), Fail> {
-    let packages = Packages::new(rt.alloc())?;
-    let lisp = b"COMMON-LISP".as_slice();
-    let user = b"COMMON-LISP-USER".as_slice();
-    for (name, answer) in [
-        (b"LIST".as_slice(), Resolved::Found(lisp)),
-        (b"NIL", Resolved::Found(lisp)),
-        (b"X", Resolved::New(user)),
-        (b"STANDARD", Resolved::New(user)),
-    ] {
-        assert_eq!(rt; packages.resolve(user, name), Ok(answer));
-    }
-    assert_eq!(rt;
-        packages.resolve(lisp, b"CAR"),
-        Err(PackageError::LockedPackage)
-    );
     Ok(())
 }

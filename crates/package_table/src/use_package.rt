@@ -1,39 +1,42 @@
 //! `use_package`: a package uses another.
-ghost use Rattle.std.specs.Prelude.{◌≡◌, if◌then◌else◌, IfErr};
+ghost use Rattle.std.specs.Prelude.{◌≡◌, if◌then◌else◌, IfErr, IfOk};
 ghost use Rattle.package_table.specs.Table.{with_used};
-ghost use Rattle.package_table.specs.Changes.{after_use, Gives};
+ghost use Rattle.package_table.specs.Changes.{after_use, use_changes, Gives};
+ghost use Rattle.package_table.specs.Growth.{Grows, Tells};
 ghost use Rattle.package_table.specs.Shown.{table_of};
 
 use crate::entry::Contents;
 use crate::put::put_use;
+use crate::standardized::KEYWORD;
 use crate::users::{finds_other_than_shown, has_package, is_locked, is_used};
 use crate::{PackageError, Packages};
 use std::alloc::Global;
 use std::collections::BTreeMap;
 
-// The first reason to refuse that `owner` uses `used`, and else whether `used` is passed over.
+// The first reason to refuse that `owner` uses `used`, and else whether it does not use it yet.
 fn use_refusal(
     table: &BTreeMap<Vec<u8>, Contents>,
     owner: &[u8],
     used: &[u8],
 ) -> Result<bool, PackageError>
-    ensures { let t = table_of table.now in
-        Gives (λ passed. if passed then t else with_used t owner.now used.now) result
+    ensures gives { let t = table_of table.now in
+        Gives (λ changes. if changes then with_used t owner.now used.now else t) result
         (after_use t owner.now used.now) }
+    ensures changes { IfOk result (λ changes. changes ≡ use_changes (table_of table.now) owner.now used.now) }
 {
     if !has_package(table, owner) || !has_package(table, used) {
         return Err(PackageError::NoSuchPackage);
     }
-    if is_locked(owner) || used == b"KEYWORD".as_slice() {
+    if is_locked(owner) || used == KEYWORD {
         return Err(PackageError::PackageIsLocked);
     }
     if owner == used || is_used(table, owner, used) {
-        return Ok(true);
+        return Ok(false);
     }
     if finds_other_than_shown(table, owner, used) {
         return Err(PackageError::NameConflict);
     }
-    Ok(false)
+    Ok(true)
 }
 
 fn use_other(
@@ -41,28 +44,32 @@ fn use_other(
     table: &mut BTreeMap<Vec<u8>, Contents>,
     owner: &[u8],
     used: &[u8],
-) -> Result<(), PackageError>
+) -> Result<bool, PackageError>
     ensures gives { Gives (λ _. table_of table.new) result
         (after_use (table_of table.old) owner.now used.now) }
+    ensures changed { IfOk result (λ changed. changed ≡ use_changes (table_of table.old) owner.now used.now) }
     ensures unchanged { IfErr result (λ _. table_of table.new ≡ table_of table.old) }
 {
-    if use_refusal(table, owner, used)? {
-        return Ok(());
+    if !use_refusal(table, owner, used)? {
+        return Ok(false);
     }
     put_use(table, owner, Vec::from_slice(alloc, used)?)?;
-    Ok(())
+    Ok(true)
 }
 
 impl Packages {
     /// Makes `owner` use `used`, so that it finds its external symbols (standard 11.2, `use-package`). A package that is
-    /// used already, and `owner` itself, are passed over.
+    /// used already, and `owner` itself, are passed over. Gives whether the packages changed.
     ///
     /// # Errors
     /// `NoSuchPackage` where one of the two names names no package; `PackageIsLocked` where `owner` is COMMON-LISP or
     /// KEYWORD, or `used` is KEYWORD; `NameConflict` where `owner` finds another symbol by the name of one that is external
-    /// in `used`; `OutOfMemory` where a growth is refused. Nothing is changed then.
-    pub fn use_package(&mut self, owner: &[u8], used: &[u8]) -> Result<(), PackageError>
+    /// in `used`; `OutOfMemory` where memory runs out. Nothing is changed then.
+    pub fn use_package(&mut self, owner: &[u8], used: &[u8]) -> Result<bool, PackageError>
         ensures gives { Gives (λ _. self.new.0) result (after_use self.old.0 owner.now used.now) }
+        ensures changed { IfOk result (λ changed. changed ≡ use_changes self.old.0 owner.now used.now) }
+        ensures exactly { IfOk result (λ changed. Tells changed self.old.0 self.new.0) }
+        ensures grows { Grows self.old.0 self.new.0 }
         ensures unchanged { IfErr result (λ _. self.new ≡ self.old) }
         ensures marked { self.new.1 ≡ self.old.1 }
     {

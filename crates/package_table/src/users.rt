@@ -1,13 +1,16 @@
 //! What is asked of the table before a change: above all, whether a package would find two symbols by one name.
-ghost use Rattle.std.specs.Prelude.{◌≡◌, ◌&&◌, is_some};
+ghost use Rattle.std.specs.Prelude.{◌≡◌, ◌&&◌, false, bytes_eq};
+ghost use Rattle.std.specs.Option.{option_map_or};
 ghost use Rattle.std.specs.List.{list_any};
 ghost use Rattle.std.specs.FinMap as finite;
-ghost use Rattle.package_table.specs.Table.{entry_at, is_locked};
-ghost use Rattle.package_table.specs.Changes.{is_used, finds_this, finds_other, user_finds_other, finds_other_than_shown};
+ghost use Rattle.package_table.specs.Table.{is_locked};
+ghost use Rattle.package_table.specs.Lookup.{is_present, is_symbol, is_used};
+ghost use Rattle.package_table.specs.Changes.{finds_this, finds_other, user_finds_other, finds_other_than_shown};
 ghost use Rattle.package_table.specs.Shown.{package_of, table_of};
 
 use crate::entry::Contents;
 use crate::find::{contents_of, home_of, symbol_at};
+use crate::standardized::{COMMON_LISP, KEYWORD};
 use std::collections::BTreeMap;
 
 /// Whether a package has this name.
@@ -21,15 +24,35 @@ pub(crate) fn has_package(table: &BTreeMap<Vec<u8>, Contents>, owner: &[u8]) -> 
 pub(crate) fn is_locked(owner: &[u8]) -> bool
     ensures { result ≡ is_locked owner.now }
 {
-    owner == b"COMMON-LISP".as_slice() || owner == b"KEYWORD".as_slice()
+    owner == COMMON_LISP || owner == KEYWORD
 }
 
 /// Whether a symbol is present in `owner` by this name.
 pub(crate) fn is_present(table: &BTreeMap<Vec<u8>, Contents>, owner: &[u8], name: &[u8]) -> bool
-    ensures { result ≡ is_some (entry_at (table_of table.now) owner.now name.now) }
+    ensures { result ≡ is_present (table_of table.now) owner.now name.now }
 {
     match contents_of(table, owner) {
         Some(contents) => symbol_at(contents, name).is_some(),
+        None => false,
+    }
+}
+
+/// Whether there is a symbol of this home and name.
+pub(crate) fn is_symbol(table: &BTreeMap<Vec<u8>, Contents>, home: &[u8], name: &[u8]) -> bool
+    ensures { result ≡ is_symbol (table_of table.now) home.now name.now }
+{
+    match contents_of(table, home) {
+        Some(contents) => is_own(contents, home, name),
+        None => false,
+    }
+}
+
+// Whether the symbol that is present by this name has this home.
+fn is_own(contents: &Contents, home: &[u8], name: &[u8]) -> bool
+    ensures { result ≡ option_map_or (λ e. bytes_eq e.home home.now) (finite.get (package_of contents.now).symbols name.now) false }
+{
+    match symbol_at(contents, name) {
+        Some(symbol) => symbol.home.as_slice() == home,
         None => false,
     }
 }

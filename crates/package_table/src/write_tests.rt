@@ -1,18 +1,11 @@
 //! The calls that write.
-ghost use Rattle.std.specs.Prelude.{◌≡◌, ◌<◌, All, IsTrue, option_map};
-ghost use Rattle.package_table.specs.Lookup.{found};
+ghost use Rattle.std.specs.Prelude.{◌<◌, All, IsTrue};
 
-use crate::{PackageError, Packages, find};
-use lisp_object::{Bytes, Items};
+use crate::limits::{MAX_PACKAGE_NAME, MAX_PACKAGES, MAX_SYMBOL_NAME, MAX_SYMBOLS};
+use crate::standardized::{CL, CL_USER, COMMON_LISP, COMMON_LISP_USER, KEYWORD};
+use crate::{PackageError, Packages};
+use std::alloc::{AllocError, Global};
 use std::test::Fail;
-
-const LISP: &[u8] = b"COMMON-LISP";
-
-const USER: &[u8] = b"COMMON-LISP-USER";
-
-const KEYWORD: &[u8] = b"KEYWORD";
-
-const LONG: [u8; 4097] = [b'A'; 4097];
 
 #[derive(Clone, Copy)]
 enum Call<'a> {
@@ -29,145 +22,174 @@ fn is_ascii(name: &[u8]) -> bool
     name.iter().all(|byte| *byte < 128)
 }
 
-// The home of the symbol that `owner` finds by `name`.
-fn home_of<'a>(packages: &'a Packages, owner: &[u8], name: &[u8]) -> Option<&'a [u8]>
-    ensures { option_map (λ h. h.now) result ≡ found packages.now.0 owner.now name.now }
-{
-    find::home_of(&packages.table, owner, name)
-}
+const WRITES: [(Call<'static>, Result<bool, u16>); 47] = [
+    (Call::Make(b""), Err(33)),
+    (Call::Make(CL), Err(35)),
+    (Call::Make(CL_USER), Err(35)),
+    (Call::Make(KEYWORD), Err(35)),
+    (Call::Make(b"P"), Ok(true)),
+    (Call::Make(b"P"), Err(35)),
+    (Call::Make(b"Q"), Ok(true)),
+    (Call::Intern(b"NO", b"Q"), Err(34)),
+    (Call::Intern(COMMON_LISP, b"LIST"), Ok(false)),
+    (Call::Intern(COMMON_LISP_USER, b"LIST"), Ok(false)),
+    (Call::Intern(COMMON_LISP, b"FOO"), Err(36)),
+    (Call::Intern(KEYWORD, b"K"), Ok(true)),
+    (Call::Intern(b"P", b"X"), Ok(true)),
+    (Call::Intern(b"P", b"X"), Ok(false)),
+    (Call::Intern(COMMON_LISP_USER, b"X"), Ok(true)),
+    (Call::Export(b"NO", b"P", b"X"), Err(34)),
+    (Call::Export(KEYWORD, COMMON_LISP_USER, b"A"), Err(36)),
+    (Call::Export(COMMON_LISP, COMMON_LISP, b"LIST"), Err(36)),
+    (Call::Export(b"P", COMMON_LISP_USER, b"X"), Err(38)),
+    (Call::Export(b"P", b"P", b"Z"), Err(38)),
+    (Call::Import(b"NO", COMMON_LISP_USER, b"X"), Err(34)),
+    (Call::Import(KEYWORD, COMMON_LISP_USER, b"X"), Err(36)),
+    (Call::Import(b"P", COMMON_LISP_USER, b"X"), Err(37)),
+    (Call::Import(b"P", b"P", b"X"), Ok(false)),
+    (Call::Intern(b"Q", b"X"), Ok(true)),
+    (Call::Export(b"Q", b"Q", b"X"), Ok(true)),
+    (Call::Export(b"Q", b"Q", b"X"), Ok(false)),
+    (Call::Use(b"P", b"NO"), Err(34)),
+    (Call::Use(b"NO", b"P"), Err(34)),
+    (Call::Use(COMMON_LISP, COMMON_LISP), Err(36)),
+    (Call::Use(b"P", KEYWORD), Err(36)),
+    (Call::Use(b"P", b"P"), Ok(false)),
+    (Call::Use(b"P", b"Q"), Err(37)),
+    // R inherits X of Q, so that it can't use P, where another X is external.
+    (Call::Make(b"R"), Ok(true)),
+    (Call::Use(b"R", b"Q"), Ok(true)),
+    (Call::Use(b"R", b"Q"), Ok(false)),
+    (Call::Export(b"P", b"P", b"X"), Ok(true)),
+    (Call::Use(b"R", b"P"), Err(37)),
+    // S has its own Y, so that P, which it uses, can't make another external.
+    (Call::Make(b"S"), Ok(true)),
+    (Call::Use(b"S", b"P"), Ok(true)),
+    (Call::Intern(b"S", b"Y"), Ok(true)),
+    (Call::Intern(b"P", b"Y"), Ok(true)),
+    (Call::Export(b"P", b"P", b"Y"), Err(37)),
+    // A symbol that R inherits becomes present and external, and stays so.
+    (Call::Intern(b"R", b"X"), Ok(false)),
+    (Call::Export(b"R", b"Q", b"X"), Ok(true)),
+    (Call::Import(b"R", b"Q", b"X"), Ok(false)),
+    (Call::Import(b"R", b"P", b"Y"), Ok(true)),
+];
 
-fn import(
-    packages: &mut Packages,
-    owner: &[u8],
-    home: &[u8],
-    name: &[u8],
-) -> Result<(), PackageError> {
-    packages.soundness();
-    let Some(found) = home_of(packages, home, name) else {
-        return Err(PackageError::NoPackage);
-    };
-    if found != home {
-        return Err(PackageError::NoPackage);
-    }
-    packages.import(owner, home, name)
-}
-
-// The number of the refusal, or 0.
-fn number(packages: &mut Packages, call: Call<'_>) -> u16 {
+// Whether the packages changed, or the number of the refusal; 0 for a call that may not be made.
+fn answer(packages: &mut Packages, call: Call<'_>) -> Result<bool, u16> {
     let answer = match call {
-        Call::Make(name) if is_ascii(name) => packages.make(name),
-        Call::Intern(owner, name) if is_ascii(name) => packages.intern(owner, name).map(|_| ()),
+        Call::Make(name) if is_ascii(name) => packages.make(name).map(|_| true),
+        Call::Intern(owner, name) if is_ascii(name) => packages
+            .intern(owner, name)
+            .map(|interned| interned.is_new),
         Call::Export(owner, home, name) => packages.export(owner, home, name),
-        Call::Import(owner, home, name) => import(packages, owner, home, name),
+        Call::Import(owner, home, name) if packages.is_symbol(home, name) => {
+            packages.import(owner, home, name)
+        }
         Call::Use(owner, used) => packages.use_package(owner, used),
-        _ => Err(PackageError::NoPackage),
+        _ => return Err(0),
     };
-    match answer {
-        Ok(()) => 0,
-        Err(refused) => refused.number(),
-    }
+    answer.map_err(PackageError::number)
 }
 
-#[test]
-fn refusals(rt: HostRuntime) -> Result<(), Fail> {
-    let mut packages = Packages::new(rt.alloc())?;
-    let (p, q, r) = (b"P".as_slice(), b"Q".as_slice(), b"R".as_slice());
-    let (x, y) = (b"X".as_slice(), b"Y".as_slice());
-    for (i, (call, refusal)) in [
-        (Call::Make(b""), 33),
-        (Call::Make(b"CL"), 35),
-        (Call::Make(b"CL-USER"), 35),
-        (Call::Make(KEYWORD), 35),
-        (Call::Make(&LONG[..257]), 46),
-        (Call::Make(&LONG[..256]), 0),
-        (Call::Make(p), 0),
-        (Call::Make(p), 35),
-        (Call::Make(q), 0),
-        (Call::Intern(b"NO", b"Q"), 34),
-        (Call::Intern(LISP, b"LIST"), 0),
-        (Call::Intern(LISP, b"FOO"), 36),
-        (Call::Intern(LISP, &LONG), 36),
-        (Call::Intern(p, &LONG), 46),
-        (Call::Intern(p, &LONG[..4096]), 0),
-        (Call::Intern(KEYWORD, b"K"), 0),
-        (Call::Intern(p, x), 0),
-        (Call::Intern(USER, x), 0),
-        (Call::Export(b"NO", p, x), 34),
-        (Call::Export(KEYWORD, USER, b"A"), 36),
-        (Call::Export(LISP, LISP, b"LIST"), 36),
-        (Call::Export(p, USER, x), 38),
-        (Call::Export(p, p, b"Z"), 38),
-        (Call::Import(b"NO", USER, x), 34),
-        (Call::Import(KEYWORD, USER, x), 36),
-        (Call::Import(p, USER, x), 37),
-        (Call::Import(p, p, x), 0),
-        (Call::Intern(q, x), 0),
-        (Call::Export(q, q, x), 0),
-        (Call::Use(p, b"NO"), 34),
-        (Call::Use(b"NO", p), 34),
-        (Call::Use(LISP, LISP), 36),
-        (Call::Use(p, KEYWORD), 36),
-        (Call::Use(p, p), 0),
-        (Call::Use(p, q), 37),
-        // R inherits X of Q, so that it can't use P, where another X is external.
-        (Call::Make(r), 0),
-        (Call::Use(r, q), 0),
-        (Call::Use(r, q), 0),
-        (Call::Export(p, p, x), 0),
-        (Call::Use(r, p), 37),
-        // S has its own Y, so that P, which it uses, can't make another external.
-        (Call::Make(b"S"), 0),
-        (Call::Use(b"S", p), 0),
-        (Call::Intern(b"S", y), 0),
-        (Call::Intern(p, y), 0),
-        (Call::Export(p, p, y), 37),
-    ]
-    .iter()
-    .enumerate()
-    {
-        assert_eq!(rt; number(&mut packages, *call), *refusal, "call {i}");
+// Whether each call is answered so.
+fn answers(packages: &mut Packages, rows: &[(Call<'_>, Result<bool, u16>)]) -> bool {
+    for (call, wanted) in rows {
+        if answer(packages, *call) != *wanted {
+            return false;
+        }
     }
-    Ok(())
+    true
 }
 
+// R has no symbol of its own, an external X, and imports X of Q and Y of P.
+fn is_r_at_last(alloc: Global, packages: &Packages) -> bool {
+    let r = b"R".as_slice();
+    let (Ok(own), Ok(externals)) = (packages.own(alloc, r), packages.externals(alloc, r)) else {
+        return false;
+    };
+    own.is_empty() && externals.len() == 1 && packages.is_external(r, b"X")
+}
+
+fn imports_of_r(alloc: Global, packages: &Packages) -> bool {
+    let Ok(imports) = packages.imports(alloc, b"R") else {
+        return false;
+    };
+    let [first, second] = imports.as_slice() else {
+        return false;
+    };
+    first.0.as_slice() == b"X".as_slice()
+        && first.1.as_slice() == b"Q".as_slice()
+        && second.0.as_slice() == b"Y".as_slice()
+        && second.1.as_slice() == b"P".as_slice()
+}
+
+// A name of five letters, another for each number below 16^5.
+fn name_of(number: u64) -> [u8; 5] {
+    let letter = |place: u64| b'A' + ((number >> place) & 15) as u8;
+    [letter(16), letter(12), letter(8), letter(4), letter(0)]
+}
+
+// Whether names are taken up to their limits, and not beyond.
+fn keeps_lengths(alloc: Global, packages: &mut Packages) -> Result<bool, AllocError> {
+    let name = vec![in alloc; b'A'; MAX_SYMBOL_NAME + 1]?;
+    let name = name.as_slice();
+    Ok(
+        answer(packages, Call::Make(&name[..MAX_PACKAGE_NAME + 1])) == Err(46)
+            && answer(packages, Call::Make(&name[..MAX_PACKAGE_NAME])) == Ok(true)
+            && answer(packages, Call::Intern(COMMON_LISP, name)) == Err(36)
+            && answer(packages, Call::Intern(KEYWORD, name)) == Err(46)
+            && answer(packages, Call::Intern(KEYWORD, &name[..MAX_SYMBOL_NAME])) == Ok(true),
+    )
+}
+
+// Whether packages can be made up to the limit.
+fn makes_packages(packages: &mut Packages) -> bool {
+    for i in 3..MAX_PACKAGES as u64 {
+        let name = name_of(i);
+        if answer(packages, Call::Make(&name)) != Ok(true) {
+            return false;
+        }
+    }
+    true
+}
+
+// Whether symbols of COMMON-LISP-USER can be made up to the limit.
+fn makes_symbols(packages: &mut Packages) -> bool {
+    for i in 53..MAX_SYMBOLS {
+        let name = name_of(i);
+        if answer(packages, Call::Intern(COMMON_LISP_USER, &name)) != Ok(true) {
+            return false;
+        }
+    }
+    true
+}
+
+// What is asked at the limits: an imported symbol is none more.
+const AT_LIMITS: [(Call<'static>, Result<bool, u16>); 11] = [
+    (Call::Make(b"ONE-MORE"), Err(46)),
+    (Call::Make(b"CL-USER"), Err(35)),
+    (Call::Make(b""), Err(33)),
+    (Call::Intern(COMMON_LISP_USER, b"ONE-MORE"), Err(46)),
+    (Call::Intern(KEYWORD, b"ONE-MORE"), Err(46)),
+    (Call::Intern(COMMON_LISP, b"ONE-MORE"), Err(36)),
+    (Call::Intern(b"NO", b"ONE-MORE"), Err(34)),
+    (Call::Intern(COMMON_LISP_USER, b"LIST"), Ok(false)),
+    (Call::Intern(COMMON_LISP_USER, b"PAPAP"), Ok(false)),
+    (Call::Import(KEYWORD, COMMON_LISP_USER, b"PAPAP"), Err(36)),
+    (Call::Import(b"AAAAP", COMMON_LISP_USER, b"PAPAP"), Ok(true)),
+];
+
 #[test]
-fn changes(rt: HostRuntime) -> Result<(), Fail> {
+fn writes(rt: HostRuntime) -> Result<(), Fail> {
     let alloc = rt.alloc();
     let mut packages = Packages::new(alloc)?;
-    let (p, q, x) = (b"P".as_slice(), b"Q".as_slice(), b"X".as_slice());
-    for (i, call) in [
-        Call::Make(p),
-        Call::Make(q),
-        Call::Intern(KEYWORD, x),
-        Call::Intern(q, x),
-        Call::Intern(q, b"Y"),
-        Call::Export(q, q, x),
-        Call::Use(p, q),
-        Call::Intern(p, x),
-        // a symbol that P inherits becomes present and external
-        Call::Export(p, q, x),
-        // and stays so
-        Call::Import(p, q, x),
-        Call::Import(p, q, b"Y"),
-    ]
-    .iter()
-    .enumerate()
-    {
-        assert_eq!(rt; number(&mut packages, *call), 0, "call {i}");
-    }
-    assert_eq!(rt; packages.intern(p, x)?.as_slice(), q);
-    assert_eq!(rt; packages.resolve_external(KEYWORD, x), Ok(KEYWORD));
-    assert_eq!(rt; packages.own(alloc, p), Ok(Items::new(alloc)));
-    assert_eq!(rt; packages.uses(alloc, p)?.len(), 1);
-    assert_eq!(rt; packages.externals(alloc, p)?.len(), 1);
-    assert_eq!(rt; packages.externals(alloc, q)?.len(), 1);
-    let mut imported = Items::new(alloc);
-    for name in [x, b"Y"] {
-        imported.push((
-            Bytes::from_slice(alloc, name)?,
-            Bytes::from_slice(alloc, q)?,
-        ))?;
-    }
-    assert_eq!(rt; packages.imports(alloc, p), Ok(imported));
+    assert!(rt; answers(&mut packages, &WRITES));
+    assert_eq!(rt; packages.resolve_external(KEYWORD, b"K"), Ok(KEYWORD));
+    assert!(rt; is_r_at_last(alloc, &packages) && imports_of_r(alloc, &packages));
+    assert!(rt; keeps_lengths(alloc, &mut packages)?);
+    let mut packages = Packages::new(alloc)?;
+    assert!(rt; makes_packages(&mut packages) && makes_symbols(&mut packages));
+    assert!(rt; answers(&mut packages, &AT_LIMITS));
     Ok(())
 }

@@ -7,7 +7,7 @@ use Rattle.prevalence_store.specs.declared.world.symbol.Symbol.{Symbol}
 use Rattle.prevalence_store.specs.declared.world.undo.Undo.{Undo}
 use Rattle.prevalence_store.specs.World as world
 use Rattle.prevalence_store.specs.World.{Plist, with_value, with_property}
-use Rattle.prevalence_store.specs.Worlds.{Worlds}
+use Rattle.prevalence_store.specs.Marking.{Worlds}
 use Rattle.prevalence_store.specs.Rows.{number_of, world_in, reverted, undone, IsNumbered}
 use Rattle.prevalence_store.proofs.RowWorlds.{world_in-with_property}
 use Rattle.prevalence_store.proofs.Undoing.{undone-push, undone_one-set}

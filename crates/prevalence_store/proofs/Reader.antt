@@ -6,6 +6,7 @@ pub mod Forms
 pub mod Framing
 pub mod Lists
 pub mod Names
+pub mod Numbered
 pub mod Outermost
 pub mod Places
 pub mod Rows

@@ -1,6 +1,8 @@
 -- Which texts a world accepts as forms, and the world after a list of forms.
 use Rattle.std.specs.Prelude.{ℕ, ◌==◌, ◌-◌, if◌then◌else◌, List, [], ◌∷◌, length, take, drop, Option, None, Some, Result, Ok, Err}
+use Rattle.gate_log.specs.Layout.{Entry}
 use Rattle.lisp_object.specs.Object.{Object}
+use Rattle.lisp_object.specs.declared.refusal.TheConstants.{END_OF_FILE, TEXT_LEFT_OVER}
 use Rattle.readtable_core.specs.Tables.{standard}
 use Rattle.prevalence_store.specs.declared.mode.Mode.{Mode}
 use Rattle.prevalence_store.specs.declared.mode.Mode.TheVariants.{Current, Rescue}
@@ -8,7 +10,6 @@ use Rattle.prevalence_store.specs.World.{World}
 use Rattle.prevalence_store.specs.Parses.{form_limits}
 use Rattle.prevalence_store.specs.Reading.{Reading, form, empty, refused, reads}
 use Rattle.prevalence_store.specs.Evaluation.{value}
-use Rattle.prevalence_store.specs.Layout.{Entry}
 
 -- what an accepted form gives: its value, the world that it leaves, and the text of its object alone
 pub record Acceptance : Type 0 where
@@ -25,17 +26,21 @@ abbrev pub acceptance_of : List ℕ → Result (Object × World) ℕ → Result 
 acceptance_of text (Ok given) = Ok (record { value = given.0; world = given.1; text = text })
 acceptance_of text (Err number) = Err number
 
--- 1 is END-OF-FILE, where no object stands; 26 is TEXT-LEFT-OVER, where more stands behind it
+-- by what was read: a text without an object is refused, and one with more after it
 abbrev pub accepted_of : World → List ℕ → Reading → Result Acceptance ℕ
 accepted_of world text (form object start end next) =
-    if next == length text then acceptance_of (between start end text) (value world object) else Err 26
-accepted_of world text empty = Err 1
+    if next == length text then acceptance_of (between start end text) (value world object) else Err TEXT_LEFT_OVER
+accepted_of world text empty = Err END_OF_FILE
 accepted_of world text (refused number place) = Err number
 
--- What a text gives in a world: the form is read whole, and then evaluated. For now both modes read under the standard
--- readtable, in COMMON-LISP-USER.
+-- What a text begins with, as it is read in this world and mode. For now both modes read under the standard readtable, in
+-- COMMON-LISP-USER.
+abbrev pub read_in : World → Mode → List ℕ → Reading
+read_in world mode text = reads form_limits standard text
+
+-- What a text gives in a world: the form is read whole, and then evaluated.
 abbrev pub accepts : World → Mode → List ℕ → Result Acceptance ℕ
-accepts world mode text = accepted_of world text (reads form_limits standard text)
+accepts world mode text = accepted_of world text (read_in world mode text)
 
 -- the byte that says in which mode a record is read
 abbrev pub kind_of : Mode → ℕ

@@ -1,33 +1,85 @@
--- What `execute` answers, each answer with its cause and with what stands after it.
-use Rattle.std.specs.Prelude.{◌≡◌, ◌⊎◌, ℕ, ◌+◌, ◌<◌, ◌≤◌, List, length, None, Some, Ok, Err}
-use Rattle.disk_trait.specs.Disk.{State, IsHonest}
+-- What `execute` answers, each answer with its cause and with what is left after it.
+use Rattle.std.specs.Prelude.{◌≡◌, ◌⊎◌, ℕ, ◌+◌, ◌<◌, ◌≤◌, ◌==◌, if◌then◌else◌, List, [], ◌∷◌, length, None, Some, Result, Ok, Err}
+use Rattle.disk_trait.specs.Disk.{Image, State, IsHonest}
+use Rattle.gate_log.specs.Layout.{Contents, Entry, with_entry}
+use Rattle.gate_log.specs.Log as gated
 use Rattle.lisp_object.specs.Object.{Object}
 use Rattle.lisp_object.specs.Datum.{object_of}
+use Rattle.lisp_object.specs.declared.datum.Datum.{Datum}
 use Rattle.lisp_object.specs.declared.refusal.TheConstants.{DEVICE, REOPEN, LOG_FULL, NO_MEMORY}
+use Rattle.prevalence_store.specs.declared.failure.Failure.{Failure}
+use Rattle.prevalence_store.specs.declared.failure.Failure.TheVariants as failure
 use Rattle.prevalence_store.specs.declared.mode.Mode.{Mode}
 use Rattle.prevalence_store.specs.declared.outcome.Outcome.{Outcome}
 use Rattle.prevalence_store.specs.declared.outcome.Outcome.TheVariants.{Accepted, Refused}
 use Rattle.prevalence_store.specs.Acceptance.{Acceptance, accepts, logged}
-use Rattle.prevalence_store.specs.Layout.{Contents, HalfHolds, with_entry}
-use Rattle.prevalence_store.specs.Meaning.{Means}
 use Rattle.prevalence_store.specs.Session.{Session}
+use Rattle.prevalence_store.specs.Theorem.{Keeps, Survives}
 use Rattle.prevalence_store.specs.World.{World}
 
+-- the log holds what it held, or this record more
+abbrev pub IsBeforeOrAfter : Contents → Entry → Image → Type 0
+IsBeforeOrAfter k entry image = gated.Means (Some k) image ⊎ gated.Means (Some (with_entry k entry)) image
+
+-- ---- the forms that a call took, and how many of them it acknowledged
+
+abbrev pub record_of : Mode → Result Acceptance ℕ → List Entry
+record_of mode (Ok given) = logged mode given.text ∷ []
+record_of mode (Err number) = []
+
+-- the record of the text, where the world accepts it
+abbrev pub form_in : World → Mode → List ℕ → List Entry
+form_in world mode text = record_of mode (accepts world mode text)
+
+-- its one form, where it was accepted, and where it was under way as the device failed
+abbrev pub taken_by : World → Mode → List ℕ → Outcome → List Entry
+taken_by world mode text (Accepted value) = form_in world mode text
+taken_by world mode text (Refused number) = if number == DEVICE then form_in world mode text else []
+
+abbrev pub acknowledged_by : Outcome → ℕ
+acknowledged_by (Accepted value) = 1
+acknowledged_by (Refused number) = 0
+
+-- the same of a form that was read
+abbrev pub taken_in : Mode → List ℕ → Result Datum Failure → List Entry
+taken_in mode text (Ok value) = logged mode text ∷ []
+taken_in mode text (Err failure.DeviceFault) = logged mode text ∷ []
+taken_in mode text (Err (failure.Refused number)) = []
+taken_in mode text (Err failure.Full) = []
+taken_in mode text (Err failure.OutOfMemory) = []
+
+abbrev pub acknowledged_in : Result Datum Failure → ℕ
+acknowledged_in (Ok value) = 1
+acknowledged_in (Err failure) = 0
+
 module _ {D : Type 0} (state : D → State) (old new : Session D) where
+  -- what a crash leaves: on an honest disk of which each crash would have left the world that was there
+  abbrev pub SurvivesAs : World → List Entry → ℕ → Type 0
+  SurvivesAs world taken acknowledged =
+      old.world ≡ Some world → IsHonest (state old.disk) → Keeps (state old.disk) world
+      → Survives (state old.disk) (state new.disk) world taken acknowledged new.world
+
   -- A form with this text was logged, and left this world. On an honest disk its record, which is its mode and its text,
-  -- stands behind those that were there.
+  -- comes after those that were there.
   pub record Logs (mode : Mode) (text : List ℕ) (world : World) : Type 0 where
     pub left : new.world ≡ Some world
+    pub half : new.half ≡ old.half
+    pub generation : new.generation ≡ old.generation
+    pub record_count : new.record_count ≡ old.record_count + 1
     pub size : new.size ≡ old.size + (6 + length text)
     pub fits : new.size ≤ old.limit
     pub limit : new.limit ≡ old.limit
-    pub record_ : (k : Contents) → IsHonest (state old.disk) → HalfHolds k (state old.disk).reads.a
-        → HalfHolds (with_entry k (logged mode text)) (state new.disk).reads.a
+    pub appended : (k : Contents) → IsHonest (state old.disk) → gated.Means (Some k) (state old.disk).reads
+        → gated.Means (Some (with_entry k (logged mode text))) (state new.disk).reads
     pub failures : (state new.disk).failures ≡ (state old.disk).failures
 
   -- The device failed in the call. Nothing is known of the world until the store is opened again.
   pub record Fails : Type 0 where
     pub unknown : new.world ≡ None
+    pub half : new.half ≡ old.half
+    pub generation : new.generation ≡ old.generation
+    pub record_count : new.record_count ≡ old.record_count
+    pub size : new.size ≡ old.size
     pub limit : new.limit ≡ old.limit
     pub failures : (state new.disk).failures ≡ (state old.disk).failures + 1
 
@@ -35,7 +87,7 @@ module _ {D : Type 0} (state : D → State) (old new : Session D) where
     -- the world accepts the text, and it was logged
     pub record IsAccepted (value : Object) : Type 0 where
       pub world : World
-      pub stood : old.world ≡ Some world
+      pub known : old.world ≡ Some world
       pub given : Acceptance
       pub accepted : accepts world mode text ≡ Ok given
       pub answered : value ≡ given.value
@@ -50,7 +102,7 @@ module _ {D : Type 0} (state : D → State) (old new : Session D) where
     -- the world does not accept the text, and this is why
     pub record IsTurnedDown (number : ℕ) : Type 0 where
       pub world : World
-      pub stood : old.world ≡ Some world
+      pub known : old.world ≡ Some world
       pub refused : accepts world mode text ≡ Err number
       pub unchanged : new ≡ old
 
@@ -58,7 +110,7 @@ module _ {D : Type 0} (state : D → State) (old new : Session D) where
     pub record IsFull (number : ℕ) : Type 0 where
       pub full : number ≡ LOG_FULL
       pub world : World
-      pub stood : old.world ≡ Some world
+      pub known : old.world ≡ Some world
       pub given : Acceptance
       pub accepted : accepts world mode text ≡ Ok given
       pub over : old.limit < old.size + (6 + length given.text)
@@ -68,7 +120,7 @@ module _ {D : Type 0} (state : D → State) (old new : Session D) where
     pub record IsFault (number : ℕ) : Type 0 where
       pub device : number ≡ DEVICE
       pub world : World
-      pub stood : old.world ≡ Some world
+      pub known : old.world ≡ Some world
       pub given : Acceptance
       pub accepted : accepts world mode text ≡ Ok given
       pub fits : old.size + (6 + length given.text) ≤ old.limit
@@ -78,14 +130,10 @@ module _ {D : Type 0} (state : D → State) (old new : Session D) where
     pub record IsOutOfMemory (number : ℕ) : Type 0 where
       pub memory : number ≡ NO_MEMORY
       pub world : World
-      pub stood : old.world ≡ Some world
+      pub known : old.world ≡ Some world
       pub unchanged : new ≡ old
 
     abbrev pub Executes : Outcome → Type 0
     Executes (Accepted value) = IsAccepted (object_of value)
     Executes (Refused number) =
         IsToBeReopened number ⊎ (IsTurnedDown number ⊎ (IsFull number ⊎ (IsFault number ⊎ IsOutOfMemory number)))
-
--- An honest disk means the world of the session, where it has one.
-abbrev pub Keeps : {D : Type 0} → (D → State) → Session D → Type 0
-Keeps state session = (world : World) → session.world ≡ Some world → IsHonest (state session.disk) → Means (state session.disk).reads world

@@ -1,50 +1,70 @@
--- What a session writes: a line for each form, in order.
-use Rattle.std.specs.Prelude.{ℕ, suc, zero, List, [], ◌∷◌, ◌++◌, length, drop, Option, None, Some, Result, Ok, Err, codes}
+-- What comes of the forms of a text, one after the other: the world, the records, and a line for each.
+use Rattle.std.specs.Prelude.{ℕ, suc, zero, List, [], ◌∷◌, ◌++◌, drop, Option, None, Some, Result, Ok, Err, codes}
 use Rattle.std.specs.Prelude.{decimal}
+use Rattle.std.specs.Option.{option_map, option_and_then}
+use Rattle.gate_log.specs.Layout.{Entry}
 use Rattle.lisp_object.specs.Object.{Object}
-use Rattle.readtable_core.specs.Tables.{standard}
 use Rattle.prevalence_store.specs.declared.mode.Mode.{Mode}
 use Rattle.prevalence_store.specs.World.{World}
-use Rattle.prevalence_store.specs.Parses.{form_limits}
-use Rattle.prevalence_store.specs.Reading.{Reading, form, empty, refused, reads}
+use Rattle.prevalence_store.specs.Acceptance.{between, logged, read_in}
+use Rattle.prevalence_store.specs.Reading.{Reading, form, empty, refused}
 use Rattle.prevalence_store.specs.Evaluation.{value}
 use Rattle.prevalence_store.specs.Printing.{printed}
 use Rattle.prevalence_store.specs.Refusals.{name_of}
 
--- the lines, the world after them, and the number of the reader refusal that ended the session, if one did
-pub record Answers : Type 0 where
-  pub text : List ℕ
-  pub world : World
-  pub ended : Option ℕ
-
--- a value and a newline
-abbrev pub value_line : Object → List ℕ
-value_line x = printed x ++ 10 ∷ []
+-- a value, as it is printed in the world after its form, and a newline
+abbrev pub value_line : World → Object → List ℕ
+value_line world x = printed x ++ 10 ∷ []
 
 -- an exclamation mark, the number of a refusal, its name, and a newline
 abbrev pub refusal_line : ℕ → List ℕ
 refusal_line number = codes "! " ++ decimal number ++ 32 ∷ name_of number ++ 10 ∷ []
 
--- a line, and what is answered after it
-abbrev pub behind : List ℕ → Answers → Answers
-behind line answers = record answers { text = line ++ answers.text }
+-- How far a session has come: its world, the text that is left, the records of the forms that were accepted, and the lines of
+-- all forms.
+pub record Progress : Type 0 where
+  pub world : World
+  pub rest : List ℕ
+  pub taken : List Entry
+  pub lines : List ℕ
 
--- The line of a form, and the answers to what stands behind it, in the world that the form leaves.
-abbrev pub answered : (World → Answers) → World → Result (Object × World) ℕ → Answers
-answered more world (Ok given) = behind (value_line given.0) (more given.1)
-answered more world (Err number) = behind (refusal_line number) (more world)
+-- before the first form
+abbrev pub begun : World → List ℕ → Progress
+begun world text = record { world = world; rest = text; taken = []; lines = [] }
 
--- one step of a session: what was read is answered; a reader refusal ends it, as where the next form begins is undecided
-abbrev pub output_step : (World → List ℕ → Answers) → World → List ℕ → Reading → Answers
-output_step more world bytes empty = record { text = []; world = world; ended = None }
-output_step more world bytes (refused number place) = record { text = refusal_line number; world = world; ended = Some number }
-output_step more world bytes (form object start end next) = answered (λ w. more w (drop next bytes)) world (value world object)
+-- and what came of the rest
+abbrev pub onward : Progress → Progress → Progress
+onward p q = record { world = q.world; rest = q.rest; taken = p.taken ++ q.taken; lines = p.lines ++ q.lines }
 
--- What a session writes for these bytes. The number bounds the forms; the length of the bytes is always enough.
-unfoldable pub output_in : ℕ → World → List ℕ → Answers
-output_in zero world bytes = record { text = []; world = world; ended = None }
-output_in (suc n) world bytes = output_step (output_in n) world bytes (reads form_limits standard bytes)
+-- What comes of a form with this text of its own, after which this is left, by what its evaluation gave. A form that is refused
+-- leaves no record.
+abbrev pub evaluated : World → Mode → List ℕ → List ℕ → Result (Object × World) ℕ → Progress
+evaluated world mode own rest (Ok given) = record {
+  world = given.1;
+  rest = rest;
+  taken = logged mode own ∷ [];
+  lines = value_line given.1 given.0;
+}
+evaluated world mode own rest (Err number) = record { world = world; rest = rest; taken = []; lines = refusal_line number }
 
--- For now both modes read alike.
-unfoldable pub output : World → Mode → List ℕ → Answers
-output world mode bytes = output_in (suc (length bytes)) world bytes
+-- of what the text begins with, where that is a form
+abbrev pub one_form : World → Mode → List ℕ → Reading → Option Progress
+one_form world mode text (form object start end next) =
+    Some (evaluated world mode (between start end text) (drop next text) (value world object))
+one_form world mode text empty = None
+one_form world mode text (refused number place) = None
+
+-- one form more
+abbrev pub one_more : Mode → Progress → Option Progress
+one_more mode p = option_map (onward p) (one_form p.world mode p.rest (read_in p.world mode p.rest))
+
+-- After so many forms of a text, each read in the world that the ones before it left. None where it has not so many.
+abbrev pub after_forms : ℕ → World → Mode → List ℕ → Option Progress
+after_forms zero world mode text = Some (begun world text)
+after_forms (suc n) world mode text = option_and_then (one_more mode) (after_forms n world mode text)
+
+-- the line that ends a session at a refusal of the reader
+abbrev pub last_line : Reading → List ℕ
+last_line (form object start end next) = []
+last_line empty = []
+last_line (refused number place) = refusal_line number

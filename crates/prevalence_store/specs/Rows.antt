@@ -1,5 +1,5 @@
 -- How the world is kept: a row of properties for each symbol that was ever written, and a journal of the writes since
--- the last `settle`, the newest last, by which they are taken back.
+-- the last `mark`, the newest last, by which they are taken back.
 use Rattle.std.specs.Prelude.{◌≡◌, ℕ, zero, suc, ◌-◌, ◌<◌, true, List, [], ◌∷◌, map, length, take, All, Option, Some, slice_set, slice_index_or}
 use Rattle.std.specs.FinMap as finite
 use Rattle.std.specs.FinMap.{FinMap}
@@ -17,7 +17,7 @@ use Rattle.prevalence_store.specs.Property.{property_of}
 use Rattle.prevalence_store.specs.Symbol.{symbol_of}
 use Rattle.prevalence_store.specs.World as world
 use Rattle.prevalence_store.specs.World.{World, Plist, symbol_cmp}
-use Rattle.prevalence_store.specs.Worlds.{Worlds}
+use Rattle.prevalence_store.specs.Marking.{Worlds}
 
 -- the properties in a row
 abbrev pub plist_of : Vec Property → Plist

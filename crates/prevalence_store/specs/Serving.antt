@@ -1,61 +1,163 @@
--- How a session ends, and what it has written and left by then.
-use Rattle.std.specs.Prelude.{◌≡◌, ◌⊎◌, ℕ, ◌+◌, ◌<◌, List, [], ◌++◌, length, Option, None, Some, IsSome, Ok}
-use Rattle.disk_trait.specs.Disk.{State}
+-- How a session goes, and how it ends: one relation, with a case for each ending.
+use Rattle.std.specs.Prelude.{◌≡◌, ◌⊎◌, ℕ, ◌+◌, ◌<◌, ◌≤◌, max, List, [], ◌∷◌, ◌++◌, length, Option, None, Some}
+use Rattle.std.specs.List.{sum_by}
+use Rattle.disk_trait.specs.Disk.{State, IsHonest}
+use Rattle.gate_log.specs.Layout.{Contents, Entry}
+use Rattle.gate_log.specs.Log as gated
 use Rattle.lisp_object.specs.declared.refusal.TheConstants.{DEVICE, LOG_FULL, INPUT, OUTPUT, NO_MEMORY}
 use Rattle.prevalence_store.specs.declared.mode.Mode.{Mode}
 use Rattle.prevalence_store.specs.declared.outcome.Ending.{Ending}
 use Rattle.prevalence_store.specs.declared.outcome.Ending.TheVariants.{End, Reader, Store}
-use Rattle.prevalence_store.specs.Acceptance.{Acceptance, accepts}
-use Rattle.prevalence_store.specs.Output.{Answers}
+use Rattle.prevalence_store.specs.Acceptance.{read_in}
+use Rattle.prevalence_store.specs.Execution.{SurvivesAs}
+use Rattle.prevalence_store.specs.Output.{Progress, after_forms, last_line, one_form, refusal_line}
+use Rattle.prevalence_store.specs.Reading.{empty, refused}
 use Rattle.prevalence_store.specs.Session.{Session}
-use Rattle.prevalence_store.specs.Streams.{IsPart}
+use Rattle.prevalence_store.specs.Streams.{Writes}
 use Rattle.prevalence_store.specs.World.{World}
 
--- all the answers were written, the store has the world after them, and the session ended so
-pub record IsAnswered {D : Type 0} (new : Session D) (answers : Answers) (held : List ℕ) (written : Option (List ℕ)) (ended : Option ℕ) : Type 0 where
-  pub all : written ≡ Some (held ++ answers.text)
-  pub left : new.world ≡ Some answers.world
-  pub ending : answers.ended ≡ ended
+-- the contents with these records more
+abbrev pub with_entries : Contents → List Entry → Contents
+with_entries k entries = record k { entries = k.entries ++ entries }
 
--- What a session has written behind what the writer held, where the answers to its input are these: all of them at the end
--- of the input or at a reader refusal; at a fault, a part of them from their front.
-abbrev pub Serves : {D : Type 0} → Session D → Answers → List ℕ → Option (List ℕ) → Ending → Type 0
-Serves new answers held written End = IsAnswered new answers held written None
-Serves new answers held written (Reader number) = IsAnswered new answers held written (Some number)
-Serves new answers held written (Store number) = IsPart held written answers.text
+-- the bytes that these records take in a half
+abbrev pub room_of : List Entry → ℕ
+room_of = sum_by (λ entry. 6 + length entry.text)
 
-module _ {D : Type 0} (state : D → State) (old new : Session D) (mode : Mode) where
-  -- the device failed in the session
-  pub record EndsByDevice (number : ℕ) : Type 0 where
-    pub device : number ≡ DEVICE
-    pub unknown : new.world ≡ None
-    pub failures : (state new.disk).failures ≡ (state old.disk).failures + 1
-
-  -- the world accepts a form, and the half would pass its limit by the record
-  pub record EndsFull (number : ℕ) : Type 0 where
-    pub full : number ≡ LOG_FULL
-    pub world : World
-    pub stood : new.world ≡ Some world
-    pub text : List ℕ
-    pub given : Acceptance
-    pub accepted : accepts world mode text ≡ Ok given
-    pub over : new.limit < new.size + (6 + length given.text)
+module _ {D : Type 0} (state : D → State) (old new : Session D) where
+  -- The device has not failed: the world, the records and the size are those after these forms.
+  pub record IsAfter (far : Progress) : Type 0 where
+    pub left : new.world ≡ Some far.world
+    pub half : new.half ≡ old.half
+    pub generation : new.generation ≡ old.generation
+    pub record_count : new.record_count ≡ old.record_count + length far.taken
+    pub size : new.size ≡ old.size + room_of far.taken
+    -- each record had room
+    pub fits : new.size ≤ max old.size old.limit
+    pub limit : new.limit ≡ old.limit
+    pub appended : (k : Contents) → IsHonest (state old.disk) → gated.Means (Some k) (state old.disk).reads
+        → gated.Means (Some (with_entries k far.taken)) (state new.disk).reads
     pub failures : (state new.disk).failures ≡ (state old.disk).failures
 
-  -- a read or a write failed, or a growth was refused
-  pub record EndsOutside (number : ℕ) : Type 0 where
-    pub which : (number ≡ INPUT) ⊎ ((number ≡ OUTPUT) ⊎ (number ≡ NO_MEMORY))
-    pub known : IsSome new.world
-    pub failures : (state new.disk).failures ≡ (state old.disk).failures
+  module _ (world : World) (mode : Mode) (text : List ℕ) (held written : Option (List ℕ)) where
+    -- the first forms of the text were taken and answered, each line whole
+    pub record Advances (forms : ℕ) (far : Progress) : Type 0 where
+      pub far_is : after_forms forms world mode text ≡ Some far
+      pub lines : Writes held written far.lines
+      pub after : IsAfter far
+      pub survives : SurvivesAs state old new world far.taken (length far.taken)
 
-  -- how often the device has failed by the end, and which faults there are
-  abbrev pub Ends : Ending → Type 0
-  Ends End = (state new.disk).failures ≡ (state old.disk).failures
-  Ends (Reader number) = (state new.disk).failures ≡ (state old.disk).failures
-  Ends (Store number) = EndsByDevice number ⊎ (EndsFull number ⊎ EndsOutside number)
+    -- ---- how a session ends: the forms that were taken, those whose lines were written whole, and the part of the next line
 
--- where a session ended after its input was read, nothing is left of it
-abbrev pub ReadsToEnd : Ending → Option (List ℕ) → Type 0
-ReadsToEnd End left = left ≡ Some []
-ReadsToEnd (Reader number) left = left ≡ Some []
-ReadsToEnd (Store number) left = Unit {0}
+    module _ (forms : ℕ) (far : Progress) (lines : ℕ) (answered : Progress) (part : List ℕ) where
+      -- nothing but discarded text is left
+      pub record IsDone : Type 0 where
+        pub all : lines ≡ forms
+        pub no_part : part ≡ []
+        pub nothing_left : read_in far.world mode far.rest ≡ empty
+        pub after : IsAfter far
+
+      -- the reader refused what is left, and that was answered
+      pub record IsRefused (number : ℕ) : Type 0 where
+        pub all : lines ≡ forms
+        pub place : ℕ
+        pub reads : read_in far.world mode far.rest ≡ refused number place
+        pub line : part ≡ refusal_line number
+        pub after : IsAfter far
+
+      -- the device failed in the last form, which was accepted; it was not answered, and nothing is known of the world
+      pub record IsStopped (number : ℕ) : Type 0 where
+        pub device : number ≡ DEVICE
+        pub one_open : forms ≡ lines + 1
+        pub was_accepted : length far.taken ≡ length answered.taken + 1
+        pub no_part : part ≡ []
+        pub unknown : new.world ≡ None
+        pub half : new.half ≡ old.half
+        pub generation : new.generation ≡ old.generation
+        pub record_count : new.record_count ≡ old.record_count + length answered.taken
+        pub size : new.size ≡ old.size + room_of answered.taken
+        -- its record had room
+        pub fits : old.size + room_of far.taken ≤ old.limit
+        pub limit : new.limit ≡ old.limit
+        pub failures : (state new.disk).failures ≡ (state old.disk).failures + 1
+
+      -- the next form is accepted in that world, and has no room
+      pub record IsFull (number : ℕ) : Type 0 where
+        pub full : number ≡ LOG_FULL
+        pub all : lines ≡ forms
+        pub no_part : part ≡ []
+        pub next : Progress
+        pub next_is : one_form far.world mode far.rest (read_in far.world mode far.rest) ≡ Some next
+        pub record_ : Entry
+        pub is_taken : next.taken ≡ record_ ∷ []
+        pub over : new.limit < new.size + (6 + length record_.text)
+        pub after : IsAfter far
+
+      -- a read failed
+      pub record IsUnread (number : ℕ) : Type 0 where
+        pub input : number ≡ INPUT
+        pub all : lines ≡ forms
+        pub no_part : part ≡ []
+        pub after : IsAfter far
+
+      -- a write failed, or took nothing: the lines so far are the first part of what was to be written
+      pub record IsUnwritten (number : ℕ) : Type 0 where
+        pub output : number ≡ OUTPUT
+        pub unwritten : List ℕ
+        pub front : far.lines ++ last_line (read_in far.world mode far.rest) ≡ answered.lines ++ part ++ unwritten
+        pub after : IsAfter far
+
+      -- a growth was refused
+      pub record IsOutOfMemory (number : ℕ) : Type 0 where
+        pub memory : number ≡ NO_MEMORY
+        pub no_part : part ≡ []
+        pub after : IsAfter far
+
+      abbrev pub Ends : Ending → Type 0
+      Ends End = IsDone
+      Ends (Reader number) = IsRefused number
+      Ends (Store number) =
+          IsStopped number ⊎ (IsFull number ⊎ (IsUnread number ⊎ (IsUnwritten number ⊎ IsOutOfMemory number)))
+
+    -- A session over this text: its first forms were taken, each read in the world that the ones before it left, in this mode,
+    -- and logged by its own text where it was accepted. Each was answered before the next was taken.
+    pub record Serves (ending : Ending) : Type 0 where
+      pub forms : ℕ
+      pub far : Progress
+      pub far_is : after_forms forms world mode text ≡ Some far
+      -- of these so many were answered whole
+      pub lines : ℕ
+      pub answered : Progress
+      pub answered_is : after_forms lines world mode text ≡ Some answered
+      pub at_most : lines ≤ forms
+      pub in_turn : forms ≤ lines + 1
+      -- and a part of the next line was written
+      pub part : List ℕ
+      pub output : Writes held written (answered.lines ++ part)
+      pub survives : SurvivesAs state old new world far.taken (length answered.taken)
+      pub ends : Ends forms far lines answered part ending
+
+-- where the reader refused the text, it refuses it with more after it too, and the forms before are the same
+abbrev pub StaysRefused : {D : Type 0} (state : D → State) (old new : Session D) (world : World) (mode : Mode) (text : List ℕ)
+    (held written : Option (List ℕ)) (number : ℕ) → Serves state old new world mode text held written (Reader number) → Type 0
+StaysRefused state old new world mode text held written number served = (more : List ℕ)
+    → (after_forms served.forms world mode (text ++ more) ≡ Some (record served.far { rest = served.far.rest ++ more }))
+    × ((place : ℕ) × (read_in served.far.world mode (served.far.rest ++ more) ≡ refused number place))
+
+-- How much a session has read when it ends: at the end of the input all of it; at a refusal of the reader all of it, or so much
+-- that what follows makes no difference; else what the reader has left is what was not read. Where a read failed or memory was
+-- refused before the first form, it is not told how much was read.
+abbrev pub HasRead : {D : Type 0} (state : D → State) (old new : Session D) (world : World) (mode : Mode) (text : List ℕ)
+    (held written : Option (List ℕ)) (ending : Ending) → Serves state old new world mode text held written ending → List ℕ → Option (List ℕ) → Type 0
+HasRead state old new world mode text held written End served left reader = (left ≡ []) × (reader ≡ Some left)
+HasRead state old new world mode text held written (Reader number) served left reader =
+    ((left ≡ []) ⊎ StaysRefused state old new world mode text held written number served) × (reader ≡ Some left)
+HasRead state old new world mode text held written (Store number) served left reader =
+    ((served.forms ≡ 0) × ((number ≡ INPUT) ⊎ (number ≡ NO_MEMORY))) ⊎ (reader ≡ Some left)
+
+-- A session over what a reader gives: what the reader had is what was read and what is left.
+pub record ServesInput {D : Type 0} (state : D → State) (old new : Session D) (world : World) (mode : Mode) (had has held written : Option (List ℕ)) (ending : Ending) : Type 0 where
+  pub text : List ℕ
+  pub serves : Serves state old new world mode text held written ending
+  pub reads : (all : List ℕ) → had ≡ Some all
+      → (left : List ℕ) × (all ≡ text ++ left) × HasRead state old new world mode text held written ending serves left has

@@ -5,7 +5,7 @@ use Rattle.std.specs.Prelude.{◌≡◌, ℕ, List, [], ◌++◌, Option, Some}
 abbrev pub ReadsAll : Option (List ℕ) → Option (List ℕ) → List ℕ → Type 0
 ReadsAll old new text = (left : List ℕ) → old ≡ Some left → (text ≡ left) × (new ≡ Some [])
 
--- the text stands behind what the writer held
+-- the text comes after what the writer held
 abbrev pub Writes : Option (List ℕ) → Option (List ℕ) → List ℕ → Type 0
 Writes old new text = (held : List ℕ) → old ≡ Some held → new ≡ Some (held ++ text)
 

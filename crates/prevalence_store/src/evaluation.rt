@@ -35,21 +35,22 @@ impl From<AllocError> for EvaluationError {
 
 use EvaluationError::Refused;
 
-/// The value of a form, and its effect on the world. A form that is refused, or for which memory is refused, leaves the
-/// world as it was. It takes as long as the form is, and a call for each level of nesting.
-pub(crate) fn accept(
+/// The value of a form, and its effect on the world, which is marked first: `back` takes the form back. A form that is
+/// refused, or for which memory is refused, leaves the world as it was. It takes as long as the form is, and a call for
+/// each level of nesting.
+pub(crate) fn evaluate_form(
     alloc: Global,
     world: &mut World,
     form: &Datum,
 ) -> Result<Datum, EvaluationError>
     requires proper { is_proper form.now ≡ true }
-    requires settled { world.old.present ≡ world.old.marked }
     ensures value { IfOk result (λ d. value world.old.present (object_of form.now) ≡ Ok (object_of d, world.new.present)) }
     ensures proper { IfOk result (λ d. is_proper d ≡ true) }
-    ensures marked { world.new.marked ≡ world.old.marked }
+    ensures marked { world.new.marked ≡ world.old.present }
     ensures refused { IfRefused result (λ code. value world.old.present (object_of form.now) ≡ Err code) }
-    ensures unchanged { OnErr result (world.new ≡ world.old) }
+    ensures unchanged { OnErr result (world.new.present ≡ world.old.present) }
 {
+    world.mark();
     match evaluate(alloc, world, form) {
         Ok(value) => Ok(value),
         Err(error) => {

@@ -12,9 +12,9 @@ pub(crate) enum Failure {
     /// Its record would pass the half's limit.
     Full,
     /// The device failed.
-    Device,
+    DeviceFault,
     /// There was no memory.
-    Memory,
+    OutOfMemory,
 }
 
 impl Failure {
@@ -25,8 +25,8 @@ impl Failure {
         match self {
             Failure::Refused(number) => number,
             Failure::Full => LOG_FULL,
-            Failure::Device => DEVICE,
-            Failure::Memory => NO_MEMORY,
+            Failure::DeviceFault => DEVICE,
+            Failure::OutOfMemory => NO_MEMORY,
         }
     }
 
@@ -35,8 +35,8 @@ impl Failure {
         ensures { result ≡ is_device self }
     {
         match self {
-            Failure::Device => true,
-            Failure::Refused(_) | Failure::Full | Failure::Memory => false,
+            Failure::DeviceFault => true,
+            Failure::Refused(_) | Failure::Full | Failure::OutOfMemory => false,
         }
     }
 }

@@ -1,7 +1,7 @@
 // What a session reads.
 ghost use Rattle.std.specs.Prelude.{◌≡◌, IfOk};
 ghost use Rattle.prevalence_store.specs.Streams.{ReadsAll};
-ghost use Rattle.prevalence_store.specs.declared.input.InputError.TheVariants.{Memory};
+ghost use Rattle.prevalence_store.specs.declared.input.InputError.TheVariants.{OutOfMemory};
 
 use std::alloc::{AllocError, Global};
 use std::io::Read;
@@ -13,16 +13,16 @@ const MOST_READS: u64 = 1 << 40;
 #[derive(Clone, Copy, Debug, PartialEq, Eq)]
 pub(crate) enum InputError {
     /// There was no memory for it.
-    Memory,
+    OutOfMemory,
     /// A read failed, or there were too many.
     Fault,
 }
 
 impl From<AllocError> for InputError {
-    ghost from_gives = { λ _ e. e ≡ Memory };
+    ghost from_gives = { λ _ e. e ≡ OutOfMemory };
 
     fn from(_error: AllocError) -> InputError {
-        InputError::Memory
+        InputError::OutOfMemory
     }
 }
 

@@ -2,28 +2,40 @@
 //!
 //! # What it promises the crate above
 //!
-//! - `Store::open` gives the world that the files of an honest disk mean, or the number of the first refusal that holds, and
-//!   then the disk back.
-//! - `Store::execute` answers what acceptance gives for a text in that world, and takes the world that it leaves; its record
-//!   then stands in the log. Each refusal has its cause, and changes nothing.
-//! - `Store::serve` writes the output that the forms of a reader's bytes have, a line for each, or a part of it from its front.
-//! - `Store::close` gives a disk that means the world of the store.
+//! The statement is `specs/Theorem.antt`. Of an honest disk (`disk_trait`), which after a stop reads as one of its images:
+//!
+//! - *What a call survives* (`Survives`): a crash at any moment of the call, inside a device call too, leaves files that mean
+//!   the world after some of the forms that the call took, in order, from the first on; once it has ended, at least after
+//!   those that it acknowledged. `execute` takes its one form, and acknowledges it where it answers `Accepted`; `serve` takes
+//!   the forms that it reads and accepts, and has acknowledged all whose answers were written whole; `close` takes none.
+//! - *What opening gives* (`Reopens`): where the files mean a world, `Store::open` gives that world, or a refusal that is no
+//!   word on the files. While it opens, a crash leaves what the files might have meant before. A refusal gives the disk back.
+//! - *The two together* (`headline`): after any calls in a row, a crash at any moment and an opening of what it leaves give
+//!   the world after some of all the forms, from the first on, and after all that were acknowledged.
+//!
+//! Of every disk: each call returns; 60 comes exactly where the device's count of failures rose, and after it each call but
+//! `close`, `world`, `half`, `generation` and `record_count` answers 61; a refusal of 1 to 46, 64 or 90 changes nothing.
+//!
+//! - `Store::execute` answers what acceptance gives for a text in the world (`Executes`), each answer with its cause.
+//! - `Store::serve` is told by one relation (`Serves`): how many forms were taken and answered, in which mode, what of the
+//!   lines was written, and a case for each ending with its cause.
 //!
 //! # Modules
 //!
-//! - `store` with `open`, `execute` and `serve`: the store. `commit` evaluates a form and logs it; `replay` makes the world
-//!   again from the records of a log; `input` and `output` are the streams of a session.
-//! - `mode`, `outcome`, `refusals`: the words of its calls. `failure`, `open_fault`, `turn`: their inner reasons.
+//! - `store` with `open`, `execute` and `serve`: the store, on the log of `gate_log`. `commit` evaluates a form and logs it;
+//!   `replay` makes the world again from the records of a log; `input` and `output` are the streams of a session.
+//! - `mode`, `outcome`, `open_fault`, `refusals`: the words of its calls. `failure`, `turn`: their inner reasons.
+//! - `laws`: the headline, that an image means one world, and which numbers refuse a form.
 //! - `world`: the property lists, with the way back from a form that is refused.
-//! - `reading` (`read_one`), `evaluation` (`accept`), `printing` (`print`) and `halves` (`open`, `append`, `records`): each a
-//!   layer of its own, behind the call that a crate of its own will offer.
+//! - `reading` (`read_one`), `evaluation` (`evaluate_form`) and `printing` (`print`): each a layer of its own, after the call
+//!   that a crate of its own will offer.
 #![tactic(auto)]
 
 mod commit;
 mod evaluation;
 mod failure;
-mod halves;
 mod input;
+mod laws;
 mod mode;
 mod open_fault;
 mod outcome;
@@ -36,7 +48,9 @@ mod store;
 mod turn;
 mod world;
 
+pub use laws::{form_numbers, headline, one_world};
 pub use mode::Mode;
+pub use open_fault::OpenFault;
 pub use outcome::{Ending, Outcome};
 pub use refusals::refusal_name;
 pub use store::{Store, Unopened};

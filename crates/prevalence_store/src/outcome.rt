@@ -7,7 +7,7 @@ use lisp_object::Datum;
 pub enum Outcome {
     /// It was accepted, with this value, and is logged.
     Accepted(Datum),
-    /// It was refused, with the number of the refusal; nothing of it stands.
+    /// It was refused, with the number of the refusal; nothing of it is left.
     Refused(u16),
 }
 

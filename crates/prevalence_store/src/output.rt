@@ -4,6 +4,7 @@ ghost use Rattle.lisp_object.specs.Datum.{object_of, is_proper};
 ghost use Rattle.prevalence_store.specs.Output.{refusal_line, value_line};
 ghost use Rattle.prevalence_store.specs.Turns.{IsLineOf, IsStop};
 ghost use Rattle.prevalence_store.specs.Streams.{Writes, WritesPart};
+ghost use Rattle.prevalence_store.specs.World.{World as LispWorld};
 
 use crate::failure::Failure;
 use crate::printing::print;
@@ -38,7 +39,7 @@ pub(crate) fn write_text<W: Write>(writer: &mut W, text: &[u8]) -> Result<(), Ou
 /// The line that answers a form which was accepted: its value as the printer writes it.
 pub(crate) fn line_of_value(alloc: Global, value: &Datum) -> Result<Vec<u8>, AllocError>
     requires { is_proper value.now ≡ true }
-    ensures { IfOk result (λ line. line.items ≡ value_line (object_of value.now)) }
+    ensures { IfOk result (λ line. (world : LispWorld) → line.items ≡ value_line world (object_of value.now)) }
 {
     let mut line = print(alloc, value)?;
     line.push(b'\n')?;
@@ -62,19 +63,21 @@ pub(crate) fn line_of_refusal(alloc: Global, number: u16) -> Result<Vec<u8>, All
 ///
 /// # Errors
 ///
-/// The number of the fault where the form ends the session, or of want of memory.
+/// The number of the fault where the form ends the session, or of memory that was refused.
 pub(crate) fn line_of_answer(alloc: Global, answer: &Result<Datum, Failure>) -> Result<Vec<u8>, u16>
     requires { IfOk answer.now (λ value. is_proper value ≡ true) }
-    ensures line { IfOk result (λ line. IsLineOf answer.now line.items) }
+    ensures line { IfOk result (λ line. (world : LispWorld) → IsLineOf world answer.now line.items) }
     ensures stop { IfErr result (IsStop answer.now) }
 {
-    let line = match answer {
-        Ok(value) => line_of_value(alloc, value),
-        Err(Failure::Refused(number)) => line_of_refusal(alloc, *number),
-        Err(failure) => return Err(failure.number()),
-    };
-    match line {
-        Ok(line) => Ok(line),
-        Err(_) => Err(NO_MEMORY),
+    match answer {
+        Ok(value) => match line_of_value(alloc, value) {
+            Ok(line) => Ok(line),
+            Err(_) => Err(NO_MEMORY),
+        },
+        Err(Failure::Refused(number)) => match line_of_refusal(alloc, *number) {
+            Ok(line) => Ok(line),
+            Err(_) => Err(NO_MEMORY),
+        },
+        Err(failure) => Err(failure.number()),
     }
 }

@@ -18,14 +18,14 @@ use std::alloc::{AllocError, Global};
 use std::marker::Model;
 pub use symbol::Symbol;
 
-/// The property lists of symbols (standard 10.1), and the world to which `back` returns: the one at the last `settle`.
+/// The property lists of symbols (standard 10.1), and the world to which `back` returns: the one at the last `mark`.
 #[derive(Drop)]
 pub struct World {
     rows: Rows,
 }
 
 impl Model for World {
-    ghost use Rattle.prevalence_store.specs.Worlds.{Worlds, worlds_code};
+    ghost use Rattle.prevalence_store.specs.Marking.{Worlds, worlds_code};
 
     ghost Value = { Worlds };
 
@@ -89,10 +89,10 @@ impl World {
         self.rows.back();
     }
 
-    /// Makes the present world the marked one. Takes no memory.
-    pub(crate) fn settle(&mut self)
+    /// Marks the present world. Takes no memory.
+    pub(crate) fn mark(&mut self)
         ensures { self.new ≡ record { present = self.old.present; marked = self.old.present } }
     {
-        self.rows.settle();
+        self.rows.mark();
     }
 }

@@ -1,4 +1,4 @@
 pub mod NameBytes
 pub mod Standard
 pub mod Sound
-pub mod Put
+pub mod Named

@@ -1,29 +1,30 @@
 -- Every change keeps what holds of every readtable.
-use Rattle.std.proofs.Common.{◌≡◌, ℕ, ◌≤◌, ◌<◌, Bool, true, false, ◌||◌, List, [], get_or, length, map, set, replicate, refl, arith, rules, ◌∙◌, sym, ap, subst, zero-add, Option, Some, None, is_some, inl, inr, IsTrue, IsFalse, length-set, get_or-set_same, get_or-set_other, ◌≢◌, ◌==◌, if◌then◌else◌}
+use Rattle.std.proofs.Common.{◌≡◌, ℕ, ◌<◌, Bool, true, false, ◌||◌, List, [], get_or, length, map, set, replicate, refl, arith, rules, ◌∙◌, sym, ap, subst, Option, Some, None, is_some, inl, inr, IsTrue, IsFalse, length-set, get_or-set_same, get_or-set_other, ◌≢◌, ◌==◌, if◌then◌else◌}
 use Rattle.std.specs.List.{range_with_len}
+use Rattle.std.specs.Char.{to_ascii_uppercase}
 use Rattle.std.proofs.lemmas.Grind.{common_steps}
-use Rattle.std.proofs.lemmas.List.FromFn.{get_or-map-range_with_len, length-map-range_with_len}
+use Rattle.std.proofs.lemmas.List.FromFn.{length-map-range_with_len}
 use Rattle.std.proofs.lemmas.List.{get_or_past, get_or-replicate, length-replicate}
-use Rattle.std.proofs.lemmas.Bool.{cases_lt, cases_eq, le-leb}
+use Rattle.std.proofs.lemmas.Bool.{cases_lt, cases_eq}
 use Rattle.readtable_core.specs.Characters.{standard_syntax, is_lower_case, is_digit, upper_case}
-use Rattle.readtable_core.specs.Names.{is_dispatch_name}
+use Rattle.readtable_core.specs.Names.{is_function_name, is_dispatch_name}
 use Rattle.readtable_core.specs.Tables.{Entry, Table, standard, standard_entry, standard_function, standard_sub_function, no_entry}
-use Rattle.readtable_core.specs.Sound.{IsEntry, IsReadtable, is_macro, is_dispatching, dispatches, is_short}
+use Rattle.readtable_core.specs.Sound.{IsEntry, IsReadtable, is_macro, is_dispatching, dispatches, is_none_or_name}
 use Rattle.readtable_core.specs.Changes.{with_entry, macro_entry, macro_syntax, dispatching_entry, with_function}
-use Rattle.readtable_core.proofs.Standard.{standard_at}
+use Rattle.readtable_core.proofs.Standard.{standard_at, sub_at}
 
 macro_is_macro : (b : Bool) → true ≡ is_macro (macro_syntax b)
 macro_is_macro true = refl
 macro_is_macro false = refl
 
-pub macro_sound : (name : List ℕ) (b : Bool) → IsFalse (is_dispatch_name name) → length name ≤ 32 → IsEntry (macro_entry name b)
+pub macro_sound : (name : List ℕ) (b : Bool) → IsFalse (is_dispatch_name name) → IsTrue (is_function_name name) → IsEntry (macro_entry name b)
 macro_sound name b h fits = record {
   function = macro_is_macro b;
   places = rw h refl;
   keys = λ sub _. refl;
   values = λ sub. search rules;
-  short = le-leb (length name) 32 fits;
-  short_values = λ sub. search rules;
+  name = fits;
+  names = λ sub. search rules;
 }
 
 none_filled : (sub : ℕ) → let none : Option (List ℕ) = None in get_or (replicate 128 none) sub None ≡ None
@@ -37,19 +38,9 @@ dispatching_sound b = record {
   places = refl;
   keys = λ sub _. none_filled sub;
   values = λ sub. rw none_filled (search rules);
-  short = refl;
-  short_values = λ sub. rw none_filled (search rules);
+  name = refl;
+  names = λ sub. rw none_filled (search rules);
 }
-
-pub sub_past : (sub : ℕ) → 128 ≤ sub → standard_sub_function sub ≡ None
-sub_past sub h = grind (arith, common_steps)
-
-pub sub_at : (sub : ℕ) → get_or (map standard_sub_function (range_with_len 0 128)) sub None ≡ standard_sub_function sub
-sub_at sub =
-    elim (cases_lt sub 128) [
-      | inl below ↦ get_or-map-range_with_len standard_sub_function 0 128 sub sub None below (zero-add sub)
-      | inr past ↦ get_or_past (map standard_sub_function (range_with_len 0 128)) sub None (rw length-map-range_with_len past) ∙ sym (sub_past sub past)
-    ]
 
 pub sub_keys : (sub : ℕ) → IsTrue (is_lower_case sub || is_digit sub) → standard_sub_function sub ≡ None
 sub_keys sub h = grind (arith, common_steps)
@@ -57,11 +48,11 @@ sub_keys sub h = grind (arith, common_steps)
 pub sub_values : (sub : ℕ) → IsFalse (dispatches (standard_sub_function sub))
 sub_values sub = grind (arith, common_steps)
 
-pub sub_short : (sub : ℕ) → IsTrue (is_short (standard_sub_function sub))
-sub_short sub = grind (arith, common_steps)
+pub sub_named : (sub : ℕ) → IsTrue (is_none_or_name (standard_sub_function sub))
+sub_named sub = grind (arith, common_steps)
 
-pub function_short : (c : ℕ) → IsTrue (is_short (standard_function c))
-function_short c = grind (arith, common_steps)
+pub function_named : (c : ℕ) → IsTrue (is_none_or_name (standard_function c))
+function_named c = grind (arith, common_steps)
 
 pub function_macro : (c : ℕ) → is_some (standard_function c) ≡ is_macro (standard_syntax c)
 function_macro c = grind (arith, common_steps)
@@ -87,10 +78,10 @@ unfolding dispatch_of_hash
 values_by true sub = ap dispatches (sub_at sub) ∙ sub_values sub
 values_by false sub = refl
 
-short_by : (b : Bool) (sub : ℕ) → IsTrue (is_short (get_or (dispatch_of_hash b) sub None))
+names_by : (b : Bool) (sub : ℕ) → IsTrue (is_none_or_name (get_or (dispatch_of_hash b) sub None))
 unfolding dispatch_of_hash
-short_by true sub = ap is_short (sub_at sub) ∙ sub_short sub
-short_by false sub = refl
+names_by true sub = ap is_none_or_name (sub_at sub) ∙ sub_named sub
+names_by false sub = refl
 
 pub standard_entry_sound : (c : ℕ) → IsEntry (standard_entry c)
 unfolding dispatch_of_hash
@@ -99,8 +90,8 @@ standard_entry_sound c = record {
   places = rw function_dispatches (places_by (c == 35));
   keys = keys_by (c == 35);
   values = values_by (c == 35);
-  short = function_short c;
-  short_values = short_by (c == 35);
+  name = function_named c;
+  names = names_by (c == 35);
 }
 
 pub standard_sound : IsReadtable standard
@@ -122,6 +113,9 @@ kept t c e below s i = record {
 upper_is_no_key : (k sub : ℕ) → IsTrue (is_lower_case k || is_digit k) → IsFalse (is_digit sub) → k ≢ upper_case sub
 upper_is_no_key k sub h g = grind (arith, common_steps)
 
+pub upper_is : (c : ℕ) → to_ascii_uppercase c ≡ upper_case c
+upper_is c = grind (arith, common_steps)
+
 upper_below : (sub : ℕ) → sub < 128 → upper_case sub < 128
 upper_below sub below = grind (arith, common_steps)
 
@@ -134,14 +128,14 @@ each_place test b places i name below new old k = elim (cases_eq k i) [
 ]
 
 pub function_sound : (e : Entry) (sub : ℕ) (name : List ℕ) → IsEntry e → upper_case sub < length e.dispatch → IsFalse (is_digit sub)
-    → IsFalse (is_dispatch_name name) → length name ≤ 32 → IsEntry (with_function e sub name)
+    → IsFalse (is_dispatch_name name) → IsTrue (is_function_name name) → IsEntry (with_function e sub name)
 function_sound e sub name s below digit other fits = record {
   function = s.function;
   places = length-set e.dispatch (upper_case sub) (Some name) ∙ s.places;
   keys = λ k h. get_or-set_other e.dispatch (upper_case sub) k (Some name) None (upper_is_no_key k sub h digit) ∙ s.keys k h;
   values = each_place dispatches false e.dispatch (upper_case sub) name below other s.values;
-  short = s.short;
-  short_values = each_place is_short true e.dispatch (upper_case sub) name below (le-leb (length name) 32 fits) s.short_values;
+  name = s.name;
+  names = each_place is_none_or_name true e.dispatch (upper_case sub) name below fits s.names;
 }
 
 pub place_of : (e : Entry) (sub : ℕ) → IsEntry e → is_dispatching e ≡ true → sub < 128 → upper_case sub < length e.dispatch

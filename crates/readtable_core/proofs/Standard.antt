@@ -1,5 +1,5 @@
 -- The standard readtable at each character.
-use Rattle.std.proofs.Common.{◌≡◌, ℕ, ◌+◌, ◌≤◌, List, [], ◌∷◌, ◌++◌, map, arith, ◌∙◌, sym, ap, zero-add, None, inl, inr}
+use Rattle.std.proofs.Common.{◌≡◌, ℕ, ◌+◌, ◌≤◌, List, [], ◌∷◌, ◌++◌, map, arith, ◌∙◌, sym, ap, zero-add, get_or, Option, None, inl, inr}
 use Rattle.std.specs.List.{range_with_len}
 use Rattle.std.proofs.lemmas.Grind.{common_steps}
 use Rattle.std.proofs.lemmas.List.FromFn.{get_or-map-range_with_len, length-map-range_with_len, map-range_with_len_more}
@@ -7,8 +7,8 @@ use Rattle.std.proofs.lemmas.List.{get_or_past}
 use Rattle.std.proofs.lemmas.Bool.{cases_lt}
 use Rattle.readtable_core.specs.declared.table.Case.TheVariants.{Upcase}
 use Rattle.readtable_core.specs.declared.characters.Syntax.TheVariants.{Invalid}
-use Rattle.readtable_core.specs.Characters.{standard_syntax}
-use Rattle.readtable_core.specs.Tables.{Entry, standard, standard_entry, standard_function, standard_dispatch, entry_at, no_entry}
+use Rattle.readtable_core.specs.Characters.{standard_syntax, upper_case}
+use Rattle.readtable_core.specs.Tables.{Entry, standard, standard_entry, standard_function, standard_dispatch, standard_sub_function, entry_at, dispatch_at, no_entry}
 
 -- one more element of a table that is made in order
 pub range_grown : {X : Type 0} (f : ℕ → X) (xs : List X) (n : ℕ) (y : X)
@@ -41,6 +41,16 @@ standard_at c =
           ∙ sym (entry_past c past)
     ]
 
+pub sub_past : (sub : ℕ) → 128 ≤ sub → standard_sub_function sub ≡ None
+sub_past sub h = grind (arith, common_steps)
+
+pub sub_at : (sub : ℕ) → get_or (map standard_sub_function (range_with_len 0 128)) sub None ≡ standard_sub_function sub
+sub_at sub =
+    elim (cases_lt sub 128) [
+      | inl below ↦ get_or-map-range_with_len standard_sub_function 0 128 sub sub None below (zero-add sub)
+      | inr past ↦ get_or_past (map standard_sub_function (range_with_len 0 128)) sub None (rw length-map-range_with_len past) ∙ sym (sub_past sub past)
+    ]
+
 -- for the layers above: the syntax type and the function of each character of the standard readtable
 pub standard_syntax_at : (c : ℕ) → (entry_at standard c).syntax ≡ standard_syntax c
 standard_syntax_at c = ap (λ (e : Entry). e.syntax) (standard_at c)
@@ -50,3 +60,8 @@ standard_function_at c = ap (λ (e : Entry). e.function) (standard_at c)
 
 pub standard_dispatch_at : (c : ℕ) → (entry_at standard c).dispatch ≡ standard_dispatch c
 standard_dispatch_at c = ap (λ (e : Entry). e.dispatch) (standard_at c)
+
+-- the function at a sub-character of #, the only dispatching character of the standard readtable
+pub standard_sub_function_at : (sub : ℕ) → dispatch_at standard 35 sub ≡ standard_sub_function (upper_case sub)
+standard_sub_function_at sub =
+    ap (λ (places : List (Option (List ℕ))). get_or places (upper_case sub) None) (standard_dispatch_at 35) ∙ sub_at (upper_case sub)

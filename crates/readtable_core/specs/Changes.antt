@@ -34,8 +34,3 @@ abbrev pub dispatch_refusal : Table → ℕ → ℕ → Option DispatchRefusal
 dispatch_refusal table c sub =
     if not (is_dispatching (entry_at table c)) then Some NotDispatching
     else (if is_digit sub then Some DigitSubcharacter else None)
-
--- the numbers by which these refusals are answered
-abbrev pub dispatch_refusal_number : DispatchRefusal → ℕ
-dispatch_refusal_number NotDispatching = 42
-dispatch_refusal_number DigitSubcharacter = 43

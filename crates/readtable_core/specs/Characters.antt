@@ -8,6 +8,16 @@ use Rattle.readtable_core.specs.declared.characters.Syntax.TheVariants.{Whitespa
 use Rattle.readtable_core.specs.declared.characters.Traits.{Traits}
 use Rattle.readtable_core.specs.declared.characters.Traits.TheVariants.{Invalid as InvalidTrait, PackageMarker, PlusSign, MinusSign, RatioMarker, Dot, Digit, Letter, Alphabetic}
 
+-- the numbers of the syntax types in files
+abbrev pub syntax_number : Syntax → ℕ
+syntax_number Whitespace = 0
+syntax_number Constituent = 1
+syntax_number TerminatingMacro = 2
+syntax_number NonTerminatingMacro = 3
+syntax_number SingleEscape = 4
+syntax_number MultipleEscape = 5
+syntax_number Invalid = 6
+
 abbrev pub is_upper_case : ℕ → Bool
 is_upper_case c = nat_le 65 c && nat_le c 90
 
@@ -53,38 +63,9 @@ traits c =
     else (if is_upper_case c || is_lower_case c then Letter
     else Alphabetic)))))))
 
--- the kinds of a trait
 abbrev pub is_invalid : Traits → Bool
 is_invalid InvalidTrait = true
 is_invalid _ = false
-
-abbrev pub is_package_marker : Traits → Bool
-is_package_marker PackageMarker = true
-is_package_marker _ = false
-
-abbrev pub is_sign : Traits → Bool
-is_sign PlusSign = true
-is_sign MinusSign = true
-is_sign _ = false
-
-abbrev pub is_ratio_marker : Traits → Bool
-is_ratio_marker RatioMarker = true
-is_ratio_marker _ = false
-
-abbrev pub is_dot : Traits → Bool
-is_dot Dot = true
-is_dot _ = false
-
-abbrev pub is_decimal_digit : Traits → Bool
-is_decimal_digit Digit = true
-is_decimal_digit _ = false
-
-abbrev pub is_letter : Traits → Bool
-is_letter Letter = true
-is_letter _ = false
-
-abbrev pub is_alphadigit : Traits → Bool
-is_alphadigit t = is_decimal_digit t || is_letter t
 
 -- an unescaped constituent with this trait is refused in a token
 abbrev pub has_invalid_trait : ℕ → Bool

@@ -1,6 +1,9 @@
 pub mod Characters
 pub mod Names
+pub mod Cases
 pub mod Tables
-pub mod Rows
+pub mod Named
 pub mod Sound
 pub mod Changes
+pub mod Entries
+pub mod Kept

@@ -1,6 +1,6 @@
 -- Readtables (standard 2.1.1, 23.2): a case, and for each character its syntax type, its reader macro function and its
 -- dispatch table.
-use Rattle.std.specs.Prelude.{ℕ, ◌==◌, if◌then◌else◌, List, [], ◌∷◌, map, get_or, Option, Some, None, codes}
+use Rattle.std.specs.Prelude.{ℕ, ◌==◌, if◌then◌else◌, List, [], ◌∷◌, map, get_or, Option, Some, None}
 use Rattle.std.specs.List.{range_with_len}
 use Rattle.std.specs.Char.{char_set_contains}
 use Rattle.readtable_core.specs.declared.characters.Syntax.{Syntax}
@@ -8,6 +8,7 @@ use Rattle.readtable_core.specs.declared.characters.Syntax.TheVariants.{Invalid}
 use Rattle.readtable_core.specs.declared.table.Case.{Case}
 use Rattle.readtable_core.specs.declared.table.Case.TheVariants.{Upcase}
 use Rattle.readtable_core.specs.Characters.{upper_case, standard_syntax}
+use Rattle.readtable_core.specs.Names.{std_list, std_close, std_quote, std_comment, std_string, std_out, std_char, std_function, std_vector, std_uninterned, std_block, std_binary, std_octal, std_hex, std_radix}
 use Rattle.readtable_core.specs.Names.{dispatch_name}
 
 -- What stands at one character. The dispatch table is the list of the functions of the sub-characters 0 to 127 at a
@@ -37,14 +38,14 @@ dispatch_at table c sub = get_or (entry_at table c).dispatch (upper_case sub) No
 -- parentheses, 59 the semicolon, 44 and 96 comma and backquote.
 abbrev pub standard_function : ℕ → Option (List ℕ)
 standard_function c =
-    if c == 34 then Some (codes "STD-STRING")
+    if c == 34 then Some std_string
     else (if c == 35 then Some dispatch_name
-    else (if c == 39 then Some (codes "STD-QUOTE")
-    else (if c == 40 then Some (codes "STD-LIST")
-    else (if c == 41 then Some (codes "STD-CLOSE")
-    else (if c == 59 then Some (codes "STD-COMMENT")
-    else (if c == 44 then Some (codes "STD-OUT")
-    else (if c == 96 then Some (codes "STD-OUT")
+    else (if c == 39 then Some std_quote
+    else (if c == 40 then Some std_list
+    else (if c == 41 then Some std_close
+    else (if c == 59 then Some std_comment
+    else (if c == 44 then Some std_out
+    else (if c == 96 then Some std_out
     else None)))))))
 
 -- the sub-characters of # that are outside the profile: = # + - . * A C P S
@@ -55,16 +56,16 @@ standard_out = 61 ∷ 35 ∷ 43 ∷ 45 ∷ 46 ∷ 42 ∷ 65 ∷ 67 ∷ 80 ∷ 83
 -- 58 the colon, 124 the bar, and the letters B, O, X and R.
 abbrev pub standard_sub_function : ℕ → Option (List ℕ)
 standard_sub_function sub =
-    if sub == 92 then Some (codes "STD-CHAR")
-    else (if sub == 39 then Some (codes "STD-FUNCTION")
-    else (if sub == 40 then Some (codes "STD-VECTOR")
-    else (if sub == 58 then Some (codes "STD-UNINTERNED")
-    else (if sub == 124 then Some (codes "STD-BLOCK")
-    else (if sub == 66 then Some (codes "STD-BINARY")
-    else (if sub == 79 then Some (codes "STD-OCTAL")
-    else (if sub == 88 then Some (codes "STD-HEX")
-    else (if sub == 82 then Some (codes "STD-RADIX")
-    else (if char_set_contains standard_out sub then Some (codes "STD-OUT")
+    if sub == 92 then Some std_char
+    else (if sub == 39 then Some std_function
+    else (if sub == 40 then Some std_vector
+    else (if sub == 58 then Some std_uninterned
+    else (if sub == 124 then Some std_block
+    else (if sub == 66 then Some std_binary
+    else (if sub == 79 then Some std_octal
+    else (if sub == 88 then Some std_hex
+    else (if sub == 82 then Some std_radix
+    else (if char_set_contains standard_out sub then Some std_out
     else None)))))))))
 
 abbrev pub standard_dispatch : ℕ → List (Option (List ℕ))

@@ -1,6 +1,6 @@
 //! Syntax types and constituent traits of characters.
-ghost use Rattle.std.specs.Prelude.{◌≡◌};
-ghost use Rattle.readtable_core.specs.Characters.{standard_syntax, traits, is_invalid, is_package_marker, is_sign, is_ratio_marker, is_dot, is_decimal_digit, is_letter, is_alphadigit};
+ghost use Rattle.std.specs.Prelude.{◌≡◌, is_some, nat_le, IfSome};
+ghost use Rattle.readtable_core.specs.Characters.{standard_syntax, syntax_number, traits, is_invalid};
 
 /// The syntax type of a character in a readtable (standard 2.1.4).
 #[derive(Clone, Copy, Debug, PartialEq, Eq)]
@@ -12,6 +12,32 @@ pub enum Syntax {
     SingleEscape,
     MultipleEscape,
     Invalid,
+}
+
+impl Syntax {
+    /// The number by which files name this type: 0 to 6, in the order of the variants.
+    pub fn number(self) -> u8
+        ensures { result ≡ syntax_number self }
+    {
+        self as u8
+    }
+
+    /// The type with this number, or `None` where it is over 6.
+    pub fn from_number(number: u8) -> Option<Syntax>
+        ensures variant { is_some result ≡ nat_le number 6 }
+        ensures some { IfSome result (λ syntax. syntax_number syntax ≡ number) }
+    {
+        match number {
+            0 => Some(Syntax::Whitespace),
+            1 => Some(Syntax::Constituent),
+            2 => Some(Syntax::TerminatingMacro),
+            3 => Some(Syntax::NonTerminatingMacro),
+            4 => Some(Syntax::SingleEscape),
+            5 => Some(Syntax::MultipleEscape),
+            6 => Some(Syntax::Invalid),
+            _ => None,
+        }
+    }
 }
 
 /// The constituent traits of a character (standard 2.1.4.2), of which each character has one kind. `Digit` and `Letter`
@@ -35,55 +61,6 @@ impl Traits {
         ensures { result ≡ is_invalid self }
     {
         matches!(self, Traits::Invalid)
-    }
-
-    /// Whether the character is a package marker, the colon.
-    pub fn is_package_marker(self) -> bool
-        ensures { result ≡ is_package_marker self }
-    {
-        matches!(self, Traits::PackageMarker)
-    }
-
-    /// Whether the character is a plus or a minus sign.
-    pub fn is_sign(self) -> bool
-        ensures { result ≡ is_sign self }
-    {
-        matches!(self, Traits::PlusSign | Traits::MinusSign)
-    }
-
-    /// Whether the character is the ratio marker, the slash.
-    pub fn is_ratio_marker(self) -> bool
-        ensures { result ≡ is_ratio_marker self }
-    {
-        matches!(self, Traits::RatioMarker)
-    }
-
-    /// Whether the character is the dot, which is the decimal point as well.
-    pub fn is_dot(self) -> bool
-        ensures { result ≡ is_dot self }
-    {
-        matches!(self, Traits::Dot)
-    }
-
-    /// Whether the character is one of 0 to 9.
-    pub fn is_decimal_digit(self) -> bool
-        ensures { result ≡ is_decimal_digit self }
-    {
-        matches!(self, Traits::Digit)
-    }
-
-    /// Whether the character is a letter of either case.
-    pub fn is_letter(self) -> bool
-        ensures { result ≡ is_letter self }
-    {
-        matches!(self, Traits::Letter)
-    }
-
-    /// Whether the character is an alphadigit: alphabetic, or a digit in a base that is large enough.
-    pub fn is_alphadigit(self) -> bool
-        ensures { result ≡ is_alphadigit self }
-    {
-        matches!(self, Traits::Digit | Traits::Letter)
     }
 }
 

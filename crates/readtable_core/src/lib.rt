@@ -7,20 +7,40 @@
 //!
 //! - `characters`: `Syntax`, `Traits`, `traits_of`
 //! - `names`: `FnName`, the name of a reader macro function
+//! - `standard_names`: the names of the functions of the standard readtable
+//! - `entry`: `CharacterEntry`, what stands at one character
 //! - `table`: `Case`, `Readtable` and the calls that read or change it
 //! - `refusal`: `DispatchRefusal`
-//! - `row`: what stands at one character
-//! - `standard_table`: the rows of the standard readtable
+//! - `standard_table`: the functions of the standard readtable, character by character
+//!
+//! Journals keep entries: `entry` copies one, and `put_entry` puts one back and takes no memory. Snapshots write the
+//! entries that differ from the standard ones (`same_entry`), by numbers (`Syntax::number`) and names (`Case::name`). What
+//! a readtable names is `functions_of` of `specs/Named.antt`; a caller goes through `entries`, as `covers` of user_macros.
+//!
+//! Crates above cite these lemmas, and they keep their names:
+//!
+//! - of `proofs/Standard.antt`: `standard_at`, `standard_syntax_at`, `standard_function_at`, `standard_dispatch_at` and
+//!   `standard_sub_function_at`, what the standard readtable has at a character and at a sub-character of `#`;
+//! - of `proofs/Sound.antt`: `standard_sound`; `kept`, which says that a readtable with one more sound entry is sound;
+//!   `macro_sound`, `dispatching_sound` and `function_sound`, which say that the entries of the changes are; and
+//!   `upper_is`, by which std's upper case is the one of the definitions;
+//! - of `proofs/Named.antt`: `same_is` and `same_itself`, by which `same_entry` is equality; `same_number`, by which a
+//!   syntax type is told by its number; `all_functions` and `all_named`, which take a test of all named functions apart;
+//!   `named_at`, `named_function` and `named_sub_function`, what such a test says at a character; `named_after`,
+//!   `named_with_function` and `named_by_dispatching`, what a change leaves of it; and
+//!   `standard_named`, by which the standard readtable names standard functions and STD-DISPATCH alone.
 #![tactic(auto)]
 
 mod characters;
+mod entry;
 mod names;
 mod refusal;
-mod row;
+pub mod standard_names;
 mod standard_table;
 mod table;
 
 pub use characters::{Syntax, Traits, traits_of};
+pub use entry::CharacterEntry;
 pub use names::FnName;
 pub use refusal::DispatchRefusal;
 pub use table::{Case, Readtable};

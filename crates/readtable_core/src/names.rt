@@ -1,37 +1,21 @@
 //! The name of a reader macro function.
-ghost use Rattle.std.specs.Prelude.{◌≡◌, ◌≤◌, ◌↔◌, IsSome, IfSome, Some, length, nat_eq, refl};
-ghost use Rattle.std.specs.List.{list_any};
+ghost use Rattle.std.specs.Prelude.{◌≡◌, IsTrue, IfSome, Some, is_some, nat_eq, refl};
+ghost use Rattle.std.specs.List.{list_any, list_all};
+ghost use Rattle.std.specs.Char.{is_ascii};
 ghost use Rattle.std.specs.Ordering.{nat_cmp};
 ghost use Rattle.std.specs.Cmp.{partial_equiv_from_equiv};
 ghost use Rattle.std.specs.Cmp.Lexicographic.{pointwise, slice_cmp, nat_list_eq_equiv, nat_list_cmp_total, texts_po, texts_ties};
-ghost use Rattle.readtable_core.specs.Names.{is_standard, is_dispatch_name, same_name};
+ghost use Rattle.readtable_core.specs.Names.{is_function_name, is_standard, is_dispatch_name, same_name};
 
+use crate::standard_names::{STANDARD_NAMES, STD_DISPATCH};
 use std::cmp::Ordering;
 use std::marker::Model;
 
 /// The most bytes that a name has.
 const CAPACITY: usize = 32;
 
-/// The functions of the standard readtable.
-static STANDARD_NAMES: [&[u8]; 15] = [
-    b"STD-LIST",
-    b"STD-CLOSE",
-    b"STD-QUOTE",
-    b"STD-COMMENT",
-    b"STD-STRING",
-    b"STD-OUT",
-    b"STD-CHAR",
-    b"STD-FUNCTION",
-    b"STD-VECTOR",
-    b"STD-UNINTERNED",
-    b"STD-BLOCK",
-    b"STD-BINARY",
-    b"STD-OCTAL",
-    b"STD-HEX",
-    b"STD-RADIX",
-];
-
-/// The name of a reader macro function: at most 32 bytes, held in the value itself. Contracts see the list of its bytes.
+/// The name of a reader macro function: at most 32 bytes, each below 128, held in the value itself. Contracts see the list of
+/// its bytes.
 #[derive(Clone, Copy, Debug)]
 pub struct FnName {
     bytes: [u8; 32],
@@ -46,8 +30,12 @@ impl Model for FnName {
 
     ghost view = { λ n. take n.size n.bytes };
 
+    ghost use Rattle.std.specs.List.{list_all};
+    ghost use Rattle.std.specs.Char.{is_ascii};
+    ghost use Rattle.std.specs.Prelude.{IsTrue};
+
     ghost invariant = { λ n. (n.size ≤ 32) × (length n.bytes ≡ 32)
-        × (take n.size n.bytes ++ replicate (32 - n.size) 0 ≡ n.bytes) };
+        × (take n.size n.bytes ++ replicate (32 - n.size) 0 ≡ n.bytes) × IsTrue (list_all is_ascii (take n.size n.bytes)) };
 
     ghost inverse = { λ name. record { bytes = name ++ replicate (32 - length name) 0; size = length name } };
 
@@ -58,12 +46,12 @@ impl Model for FnName {
 }
 
 impl FnName {
-    /// The name of these bytes, or `None` where they are more than 32. Takes no memory.
+    /// The name of these bytes, or `None` where they are more than 32 or one of them is over 127. Takes no memory.
     pub fn new(bytes: &[u8]) -> Option<FnName>
-        ensures variant { IsSome result ↔ (length bytes.now ≤ 32) }
+        ensures variant { is_some result ≡ is_function_name bytes.now }
         ensures some { IfSome result (λ name. name ≡ bytes.now) }
     {
-        if bytes.len() > CAPACITY {
+        if bytes.len() > CAPACITY || !are_ascii(bytes) {
             return None;
         }
         let mut held = [0; 32];
@@ -77,7 +65,7 @@ impl FnName {
     /// The bytes of the name.
     pub fn as_bytes(&self) -> &[u8]
         ensures value { result.now ≡ self.now }
-        ensures fits { length self.now ≤ 32 }
+        ensures sound { IsTrue (is_function_name self.now) }
     {
         &self.bytes[..usize::from(self.size)]
     }
@@ -94,16 +82,22 @@ impl FnName {
     pub fn is_dispatch(&self) -> bool
         ensures { result ≡ is_dispatch_name self.now }
     {
-        b"STD-DISPATCH".as_slice() == self.as_bytes()
+        STD_DISPATCH == self.as_bytes()
     }
 }
 
-/// The name of these bytes, which are at most 32.
+/// The name of these bytes, which are a name.
 pub(crate) fn named(bytes: &[u8]) -> FnName
-    requires { length bytes.now ≤ 32 }
+    requires { IsTrue (is_function_name bytes.now) }
     ensures { result ≡ bytes.now }
 {
     FnName::new(bytes).unwrap()
+}
+
+fn are_ascii(bytes: &[u8]) -> bool
+    ensures { result ≡ list_all is_ascii bytes.now }
+{
+    bytes.iter().all(|byte| byte.is_ascii())
 }
 
 fn is_one_of(names: &[&[u8]], bytes: &[u8]) -> bool

@@ -1,32 +1,17 @@
-//! The rows of the standard readtable.
-ghost use Rattle.std.specs.Prelude.{◌≡◌, ◌<◌, ◌≤◌, IfOk, map, length};
+//! The functions of the standard readtable.
+ghost use Rattle.std.specs.Prelude.{◌≡◌, IfOk, map};
 ghost use Rattle.std.specs.List.{range_with_len};
-ghost use Rattle.readtable_core.specs.Tables.{standard_entry, standard_function, standard_sub_function};
-ghost use Rattle.readtable_core.specs.Rows.{entry_of};
+ghost use Rattle.readtable_core.specs.Tables.{standard_function, standard_sub_function};
 
-use crate::characters::standard_syntax_of;
 use crate::names::{FnName, named};
-use crate::row::Row;
+use crate::standard_names::{
+    STD_BINARY, STD_BLOCK, STD_CHAR, STD_CLOSE, STD_COMMENT, STD_DISPATCH, STD_FUNCTION, STD_HEX,
+    STD_LIST, STD_OCTAL, STD_OUT, STD_QUOTE, STD_RADIX, STD_STRING, STD_UNINTERNED, STD_VECTOR,
+};
 use std::alloc::{AllocError, Global};
 
-/// The row of `c` in the standard readtable.
-pub fn standard_row(alloc: Global, c: u8) -> Result<Row, AllocError>
-    ensures { IfOk result (λ row. entry_of row ≡ standard_entry c) }
-{
-    let dispatch = if c == b'#' {
-        standard_dispatch(alloc)?
-    } else {
-        Vec::new(alloc)
-    };
-    Ok(Row {
-        syntax: standard_syntax_of(c),
-        function: standard_function_of(c),
-        dispatch,
-    })
-}
-
 /// The dispatch table of `#` in the standard readtable.
-fn standard_dispatch(alloc: Global) -> Result<Vec<Option<FnName>>, AllocError>
+pub(crate) fn standard_dispatch(alloc: Global) -> Result<Vec<Option<FnName>>, AllocError>
     ensures { IfOk result (λ v. v.items ≡ map standard_sub_function (range_with_len 0 128)) }
 {
     let mut dispatch = Vec::with_capacity(alloc, 128)?;
@@ -37,17 +22,17 @@ fn standard_dispatch(alloc: Global) -> Result<Vec<Option<FnName>>, AllocError>
 }
 
 /// The function of a macro character of the standard readtable.
-fn standard_function_of(c: u8) -> Option<FnName>
+pub(crate) fn standard_function_of(c: u8) -> Option<FnName>
     ensures { result ≡ standard_function c }
 {
     match c {
-        b'"' => Some(named(b"STD-STRING")),
-        b'#' => Some(named(b"STD-DISPATCH")),
-        b'\'' => Some(named(b"STD-QUOTE")),
-        b'(' => Some(named(b"STD-LIST")),
-        b')' => Some(named(b"STD-CLOSE")),
-        b';' => Some(named(b"STD-COMMENT")),
-        b',' | b'`' => Some(named(b"STD-OUT")),
+        b'"' => Some(named(STD_STRING)),
+        b'#' => Some(named(STD_DISPATCH)),
+        b'\'' => Some(named(STD_QUOTE)),
+        b'(' => Some(named(STD_LIST)),
+        b')' => Some(named(STD_CLOSE)),
+        b';' => Some(named(STD_COMMENT)),
+        b',' | b'`' => Some(named(STD_OUT)),
         _ => None,
     }
 }
@@ -57,18 +42,18 @@ fn standard_sub_function_of(sub: u8) -> Option<FnName>
     ensures { result ≡ standard_sub_function sub }
 {
     match sub {
-        b'\\' => Some(named(b"STD-CHAR")),
-        b'\'' => Some(named(b"STD-FUNCTION")),
-        b'(' => Some(named(b"STD-VECTOR")),
-        b':' => Some(named(b"STD-UNINTERNED")),
-        b'|' => Some(named(b"STD-BLOCK")),
-        b'B' => Some(named(b"STD-BINARY")),
-        b'O' => Some(named(b"STD-OCTAL")),
-        b'X' => Some(named(b"STD-HEX")),
-        b'R' => Some(named(b"STD-RADIX")),
-        b'=' | b'#' | b'+' | b'-' | b'.' | b'*' | b'A' | b'C' | b'P' | b'S' => Some(named(
-            b"STD-OUT",
-        )),
+        b'\\' => Some(named(STD_CHAR)),
+        b'\'' => Some(named(STD_FUNCTION)),
+        b'(' => Some(named(STD_VECTOR)),
+        b':' => Some(named(STD_UNINTERNED)),
+        b'|' => Some(named(STD_BLOCK)),
+        b'B' => Some(named(STD_BINARY)),
+        b'O' => Some(named(STD_OCTAL)),
+        b'X' => Some(named(STD_HEX)),
+        b'R' => Some(named(STD_RADIX)),
+        b'=' | b'#' | b'+' | b'-' | b'.' | b'*' | b'A' | b'C' | b'P' | b'S' => {
+            Some(named(STD_OUT))
+        }
         _ => None,
     }
 }

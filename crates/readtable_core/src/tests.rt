@@ -1,78 +1,92 @@
 //! Rows of the tables of the standard, read and changed.
 use crate::{Case, DispatchRefusal, FnName, Readtable, Syntax, Traits, traits_of};
+use std::alloc::{AllocError, Global};
 use std::test::Fail;
 
 #[test]
-fn standard_table(rt: HostRuntime) -> Result<(), Fail> {
+fn standard_readtable(rt: HostRuntime) -> Result<(), Fail> {
     let table = Readtable::standard(rt.alloc())?;
-    let rows: [(u8, Syntax, Option<FnName>); 12] = [
-        (b' ', Syntax::Whitespace, None),
-        (127, Syntax::Whitespace, None),
-        (8, Syntax::Constituent, None),
-        (b'~', Syntax::Constituent, None),
-        (b'(', Syntax::TerminatingMacro, FnName::new(b"STD-LIST")),
-        (b'`', Syntax::TerminatingMacro, FnName::new(b"STD-OUT")),
-        (
-            b'#',
-            Syntax::NonTerminatingMacro,
-            FnName::new(b"STD-DISPATCH"),
-        ),
-        (b'\\', Syntax::SingleEscape, None),
-        (b'|', Syntax::MultipleEscape, None),
-        (11, Syntax::Invalid, None),
-        (31, Syntax::Invalid, None),
-        (200, Syntax::Invalid, None),
+    // A character, the number of its type, its traits, and its function.
+    let rows: [(u8, u8, Traits, Option<FnName>); 15] = [
+        (b' ', 0, Traits::Invalid, None),
+        (127, 0, Traits::Invalid, None),
+        (8, 1, Traits::Invalid, None),
+        (b'~', 1, Traits::Alphabetic, None),
+        (b':', 1, Traits::PackageMarker, None),
+        (b'-', 1, Traits::MinusSign, None),
+        (b'/', 1, Traits::RatioMarker, None),
+        (b'.', 1, Traits::Dot, None),
+        (b'9', 1, Traits::Digit, None),
+        (b'z', 1, Traits::Letter, None),
+        (b'`', 2, Traits::Alphabetic, FnName::new(b"STD-OUT")),
+        (b'#', 3, Traits::Alphabetic, FnName::new(b"STD-DISPATCH")),
+        (b'\\', 4, Traits::Alphabetic, None),
+        (b'|', 5, Traits::Alphabetic, None),
+        (200, 6, Traits::Invalid, None),
     ];
-    for (c, syntax, function) in rows {
-        assert_eq!(rt; table.syntax(c), syntax);
-        assert_eq!(rt; table.macro_of(c), function);
+    for (c, number, traits, function) in rows {
+        let found = (table.syntax(c).number(), traits_of(c), table.macro_of(c));
+        assert!(rt; found == (number, traits, function), "at {c}");
+        assert!(rt;
+            Syntax::from_number(number) == Some(table.syntax(c)),
+            "at {c}"
+        );
     }
-    assert_eq!(rt; table.case(), Case::Upcase);
-    assert_eq!(rt; table.dispatch_of(b'#', b'b'), FnName::new(b"STD-BINARY"));
-    assert_eq!(rt; table.dispatch_of(b'#', b'5'), None);
+    Ok(())
+}
+
+// A readtable of this case, in which `!` dispatches and has SQUARE at `S`, and `%` has what `!` has.
+fn changed(alloc: Global, standard: &Readtable, letters: Case) -> Result<Readtable, AllocError> {
+    let mut table = standard.copy(alloc)?;
+    table.set_case(letters);
+    table.make_dispatch(b'!', true)?;
+    let _ = table.set_dispatch(b'!', b's', FnName::new(b"SQUARE").unwrap());
+    table.set_syntax_from_char(b'$', b'"', standard)?;
+    table.copy_syntax(b'%', b'!')?;
+    Ok(table)
+}
+
+#[test]
+fn changes_in_each_case(rt: HostRuntime) -> Result<(), Fail> {
+    let standard = Readtable::standard(rt.alloc())?;
+    let cases: [(&[u8], Case); 4] = [
+        (b"UPCASE", Case::Upcase),
+        (b"DOWNCASE", Case::Downcase),
+        (b"PRESERVE", Case::Preserve),
+        (b"INVERT", Case::Invert),
+    ];
+    for (name, letters) in cases {
+        assert!(rt; Case::from_name(name) == Some(letters) && letters.name() == name);
+        let table = changed(rt.alloc(), &standard, letters)?;
+        let copy = table.copy(rt.alloc())?;
+        assert!(rt; copy.case() == letters);
+        for c in 0..=255 {
+            let is_changed = c == b'!' || c == b'$' || c == b'%';
+            assert!(rt; copy.same_entry(&table, c), "at {c}");
+            assert!(rt; copy.same_entry(&standard, c) != is_changed, "at {c}");
+        }
+        assert!(rt; copy.dispatch_of(b'%', b'S') == FnName::new(b"SQUARE"));
+        assert!(rt; copy.macro_of(b'$') == FnName::new(b"STD-STRING"));
+    }
     Ok(())
 }
 
 #[test]
-fn traits(rt: HostRuntime) {
-    let rows = [
-        (8, Traits::Invalid),
-        (b' ', Traits::Invalid),
-        (127, Traits::Invalid),
-        (b':', Traits::PackageMarker),
-        (b'-', Traits::MinusSign),
-        (b'/', Traits::RatioMarker),
-        (b'.', Traits::Dot),
-        (b'9', Traits::Digit),
-        (b'z', Traits::Letter),
-        (b'^', Traits::Alphabetic),
+fn refusals_and_entries(rt: HostRuntime) -> Result<(), Fail> {
+    let square = FnName::new(b"SQUARE").unwrap();
+    let mut table = Readtable::standard(rt.alloc())?;
+    let refusals = [
+        (b'!', b's', Err(DispatchRefusal::NotDispatching)),
+        (b'#', b'5', Err(DispatchRefusal::DigitSubcharacter)),
+        (b'#', b's', Ok(())),
     ];
-    for (c, traits) in rows {
-        assert_eq!(rt; traits_of(c), traits);
+    for (c, sub, answer) in refusals {
+        assert!(rt; table.set_dispatch(c, sub, square) == answer, "at {c}");
     }
-}
-
-#[test]
-fn changes(rt: HostRuntime) -> Result<(), Fail> {
-    let square = FnName::new(b"SQUARE").ok_or("32 bytes")?;
-    let standard = Readtable::standard(rt.alloc())?;
-    let mut table = standard.copy(rt.alloc())?;
-    assert_eq!(rt;
-        table.set_dispatch(b'!', b's', square),
-        Err(DispatchRefusal::NotDispatching)
-    );
-    table.make_dispatch(b'!', true)?;
-    assert_eq!(rt; table.set_dispatch(b'!', b's', square), Ok(()));
-    assert_eq!(rt; table.dispatch_of(b'!', b'S'), Some(square));
-    assert_eq!(rt;
-        table.set_dispatch(b'!', b'5', square),
-        Err(DispatchRefusal::DigitSubcharacter)
-    );
-    table.set_macro(b'[', square, false);
-    assert_eq!(rt; table.syntax(b'['), Syntax::TerminatingMacro);
-    table.set_syntax_from_char(b'$', b'"', &standard)?;
-    assert_eq!(rt; table.macro_of(b'$'), FnName::new(b"STD-STRING"));
-    table.set_case(Case::Invert);
-    assert_eq!(rt; table.case(), Case::Invert);
+    let hash = table.entry(rt.alloc(), b'#')?;
+    table.set_macro(b'#', square, false);
+    assert!(rt; table.syntax(b'#') == Syntax::TerminatingMacro);
+    let _ = table.put_entry(b'#', hash);
+    assert!(rt; table.dispatch_of(b'#', b's') == Some(square));
     Ok(())
 }

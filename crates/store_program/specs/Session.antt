@@ -1,15 +1,47 @@
--- What a session over the files of a folder has written. Of what these files hold no clause can say a thing.
-use Rattle.std.specs.Prelude.{◌≡◌, ℕ, List, ◌++◌, Option, None, Some}
+-- What a session over a disk does, and what it has written. Of what the files of a folder hold no clause can say a thing.
+use Rattle.std.specs.Prelude.{◌≡◌, ℕ, List, [], ◌++◌, Option, None, Some}
+use Rattle.disk_trait.specs.Disk.{State}
 use Rattle.prevalence_store.specs.declared.mode.Mode.TheVariants.{Current}
-use Rattle.prevalence_store.specs.Output.{output}
+use Rattle.prevalence_store.specs.declared.outcome.Ending.{Ending}
+use Rattle.prevalence_store.specs.Acceptance.{read_in}
+use Rattle.prevalence_store.specs.Opening.{IsOpened}
+use Rattle.prevalence_store.specs.Output.{Progress, after_forms, refusal_line}
+use Rattle.prevalence_store.specs.Reading.{empty, refused}
+use Rattle.prevalence_store.specs.Serving.{ServesInput}
+use Rattle.prevalence_store.specs.Session.{Session}
 use Rattle.prevalence_store.specs.World.{World}
 use Rattle.store_program.specs.declared.status.Status.{Status}
 use Rattle.store_program.specs.declared.status.Status.TheVariants.{Served, Helped, ReaderRefused, WordsRefused, Fault}
 
+-- The store that a disk holds was opened, it served the input in the mode Current, and it was closed: this is its disk.
+pub record IsSession {D : Type 0} (state : D → State) (disk : D) (limit : ℕ) (had has held written : Option (List ℕ)) (ending : Ending) (back : D) : Type 0 where
+  pub opened : Session D
+  pub is_opened : IsOpened state disk limit opened
+  pub closed : Session D
+  pub serves : ServesInput state opened closed is_opened.world Current had has held written ending
+  pub disk_is : back ≡ closed.disk
+
+-- the lines of so many forms of the input were written, and this last line
+pub record IsWritten (world : World) (input held : List ℕ) (written : Option (List ℕ)) (last : List ℕ) : Type 0 where
+  pub forms : ℕ
+  pub far : Progress
+  pub far_is : after_forms forms world Current input ≡ Some far
+  pub all : written ≡ Some (held ++ (far.lines ++ last))
+
 -- The input was answered as the store of some world answers it: to its end, or to what the reader refused.
 abbrev pub AnswersInput : Status → List ℕ → List ℕ → Option (List ℕ) → Type 0
-AnswersInput Served input held written = (world : World) × (((output world Current input).ended ≡ None) × (written ≡ Some (held ++ (output world Current input).text)))
-AnswersInput ReaderRefused input held written = (world : World) × ((number : ℕ) × (((output world Current input).ended ≡ Some number) × (written ≡ Some (held ++ (output world Current input).text))))
+AnswersInput Served input held written = (world : World) × (lines : IsWritten world input held written []) × (read_in lines.far.world Current lines.far.rest ≡ empty)
+AnswersInput ReaderRefused input held written =
+    (world : World) × (number : ℕ) × (lines : IsWritten world input held written (refusal_line number))
+    × ((place : ℕ) × (read_in lines.far.world Current lines.far.rest ≡ refused number place))
 AnswersInput Helped input held written = Unit {0}
 AnswersInput WordsRefused input held written = Unit {0}
 AnswersInput (Fault number) input held written = Unit {0}
+
+-- at the end of the input nothing of it is left
+abbrev pub ReadsToEnd : Status → Option (List ℕ) → Type 0
+ReadsToEnd Served left = left ≡ Some []
+ReadsToEnd ReaderRefused left = Unit {0}
+ReadsToEnd Helped left = Unit {0}
+ReadsToEnd WordsRefused left = Unit {0}
+ReadsToEnd (Fault number) left = Unit {0}

@@ -1,18 +1,19 @@
 // What the words of the command line ask for.
-ghost use Rattle.std.specs.Prelude.{◌≡◌, ◌⊎◌, ℕ, List, [], Some, map};
-ghost use Rattle.prevalence_store.specs.Serving.{ReadsToEnd};
+ghost use Rattle.std.specs.Prelude.{◌≡◌, ◌⊎◌, ◌<◌, ◌-◌, ◌^◌, ℕ, List, Some, map, IfOk, IfErr};
+ghost use Rattle.prevalence_store.specs.Opening.{IsUnopened};
 ghost use Rattle.clap.specs.Words.{kind_of};
 ghost use Rattle.store_program.specs.CommandLine.{NamesFolder};
-ghost use Rattle.store_program.specs.Session.{AnswersInput};
+ghost use Rattle.store_program.specs.Session.{AnswersInput, IsSession, ReadsToEnd};
 ghost use Rattle.store_program.specs.Status.{EndsAfterSession, HasFaultNumber, IsAfterWords, TakesWords, status_of_ending};
 
 use crate::fault::write_fault;
 use crate::status::Status;
 use crate::words::directory_in;
 use clap::Error;
-use disk_trait::HostDisk;
+use disk_trait::{Disk, HostDisk};
 use lisp_object::refusal::{DEVICE, OUTPUT};
 use prevalence_store::{Ending, Mode, Store, Unopened};
+use std::alloc::Global;
 use std::convert::AsStr;
 use std::fs::File;
 use std::io::{Read, Write};
@@ -43,7 +44,7 @@ where
     ensures quiet { EndsAfterSession result → faults.new ≡ faults.old }
     ensures helped { result ≡ Status.Helped → (faults.new ≡ faults.old) × (input.new ≡ input.old) }
     ensures refused { result ≡ Status.WordsRefused → (output.new ≡ output.old) × (input.new ≡ input.old) }
-    ensures read { (text : List ℕ) → I.remaining input.old ≡ Some text → EndsAfterSession result → I.remaining input.new ≡ Some [] }
+    ensures read { (text : List ℕ) → I.remaining input.old ≡ Some text → ReadsToEnd result (I.remaining input.new) }
     ensures answered { (text held : List ℕ) → I.remaining input.old ≡ Some text → O.contents output.old ≡ Some held
         → AnswersInput result text held (O.contents output.new) }
     ensures fault { HasFaultNumber result }
@@ -87,13 +88,13 @@ fn answer_words<O: Write, F: Write>(error: &Error, output: &mut O, faults: &mut 
     }
 }
 
-// A session over the store in a folder. The store is closed behind it, and its files are let go.
+// A session over the store in a folder. The store is closed after it, and its files are let go.
 fn run<R, I, O>(rt: &R, directory: &str, input: &mut I, output: &mut O) -> Ending
 where
     R: Files<File = File> + AllocGlobal,
     I: Read,
     O: Write,
-    ensures read { (text : List ℕ) → I.remaining input.old ≡ Some text → ReadsToEnd result (I.remaining input.new) }
+    ensures read { (text : List ℕ) → I.remaining input.old ≡ Some text → ReadsToEnd (status_of_ending result) (I.remaining input.new) }
     ensures answered { (text held : List ℕ) → I.remaining input.old ≡ Some text → O.contents output.old ≡ Some held
         → AnswersInput (status_of_ending result) text held (O.contents output.new) }
     ensures fault { HasFaultNumber (status_of_ending result) }
@@ -101,14 +102,34 @@ where
     let Ok(disk) = HostDisk::open(rt, directory) else {
         return Ending::Store(DEVICE);
     };
-    let mut store = match Store::open(rt.alloc(), disk, HALF_LIMIT) {
-        Ok(store) => store,
-        Err(unopened) => {
-            let Unopened { number, disk: _ } = unopened;
-            return Ending::Store(number);
-        }
-    };
+    match serve_on(rt.alloc(), disk, input, output) {
+        Ok((ending, _disk)) => ending,
+        Err(Unopened { number, disk: _ }) => Ending::Store(number),
+    }
+}
+
+/// A session over the store that a disk holds, in the mode Current. The disk is given back as the store left it.
+///
+/// # Errors
+///
+/// Those of opening the store. Nothing is read or written then.
+pub fn serve_on<D, I, O>(
+    alloc: Global,
+    disk: D,
+    input: &mut I,
+    output: &mut O,
+) -> Result<(Ending, D), Unopened<D>>
+where
+    D: Disk,
+    I: Read,
+    O: Write,
+    requires { (D.state disk).failures < 2 ^ 64 - 1 }
+    ensures served { IfOk result (λ p. IsSession D.state disk HALF_LIMIT (I.remaining input.old) (I.remaining input.new)
+        (O.contents output.old) (O.contents output.new) p.0 p.1) }
+    ensures refused { IfErr result (λ e. IsUnopened D.state disk HALF_LIMIT e.number e.disk
+        × (input.new ≡ input.old) × (output.new ≡ output.old)) }
+{
+    let mut store = Store::open(alloc, disk, HALF_LIMIT)?;
     let ending = store.serve(input, output, Mode::Current);
-    let _disk = store.close();
-    ending
+    Ok((ending, store.close()))
 }

@@ -76,7 +76,7 @@ numeral_unsigned base (d ∷ ds) rest top e =
       | inr f ↦ f
     ]
 
--- nor do digits with a point behind them
+-- nor do digits with a point after them
 pub digits_unsigned : (ds rest : List ℕ) → are_digits 10 ds ≡ true → is_signed (ds ++ 46 ∷ rest) ≡ false
 digits_unsigned [] rest e = refl
 digits_unsigned (d ∷ ds) rest e = numeral_unsigned 10 (d ∷ ds) (46 ∷ rest) (lit≤ tt) e

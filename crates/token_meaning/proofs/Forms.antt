@@ -4,11 +4,11 @@ use Rattle.std.specs.Prelude.{if◌then◌else◌}
 use Rattle.std.specs.Option.{option_or}
 use Rattle.std.proofs.lemmas.Bool.{eqb-true, and_parts, or_cases}
 use Rattle.lisp_object.specs.Object.{Object}
-use Rattle.token_meaning.specs.declared.refusal.TokenRefusal.{TokenRefusal}
-use Rattle.token_meaning.specs.declared.refusal.TokenRefusal.TheVariants.{FloatToken}
+use Rattle.token_meaning.specs.declared.refusal.MeaningRefusal.{MeaningRefusal}
+use Rattle.token_meaning.specs.declared.refusal.MeaningRefusal.TheVariants.{FloatToken}
 use Rattle.token_meaning.specs.Numerals.{is_empty, is_numeral, are_digits, value, without_sign, is_negative, cut}
-use Rattle.token_meaning.specs.Numbers.{is_point, is_slash, is_exponent_marker, integer_of, ratio_of, decimal_form, ratio_form, is_pointed, is_mantissa, is_scaled, is_float, number_of}
-use Rattle.token_meaning.specs.Grammar.{spelled, IsDigits, IsDecimal, IsRatio, IsExponent, IsFloat, IsNumber}
+use Rattle.token_meaning.specs.Numbers.{is_point, is_slash, is_exponent_marker, integer_of, ratio_of, decimal_form, ratio_form, is_pointed, is_mantissa, is_scaled, is_float, number_of, rational_number}
+use Rattle.token_meaning.specs.Grammar.{spelled, IsDigits, IsDecimal, IsRatio, IsExponent, IsFloat, IsRational, IsNumber}
 use Rattle.token_meaning.proofs.Parts.{IsCut, CutAt, cut_parts}
 use Rattle.token_meaning.proofs.Signs.{has_sign}
 
@@ -77,7 +77,7 @@ pointed_is text (Some parts) at e =
       parts = sign.joined ∙ ap (λ (xs : List ℕ). spelled sign.sign ++ xs) (at.joined ∙ ap (λ (n : ℕ). parts.0 ++ n ∷ parts.1) mark ∙ ap (λ (xs : List ℕ). parts.0 ++ 46 ∷ xs) (sym (append-nil parts.1)));
     })
 
--- what stands behind a mantissa, with the exponent marker
+-- what comes after a mantissa, with the exponent marker
 exponent_is : (marker : ℕ) (text : List ℕ) → is_exponent_marker marker ≡ true → is_numeral 10 (without_sign text) ≡ true → IsExponent (marker ∷ text)
 exponent_is marker text e f =
     let sign = has_sign text in
@@ -151,10 +151,10 @@ float_is text e =
 
 -- ---- numbers
 
-Found : ℕ → List ℕ → Option (Result Object TokenRefusal) → Type 0
+Found : ℕ → List ℕ → Option (Result Object MeaningRefusal) → Type 0
 Found base text o = IfSome o (IsNumber base text)
 
-first_found : (base : ℕ) (text : List ℕ) (o p : Option (Result Object TokenRefusal)) → IfSome o (IsNumber base text) → IfSome p (IsNumber base text) → IfSome (option_or o p) (IsNumber base text)
+first_found : (base : ℕ) (text : List ℕ) (o p : Option (Result Object MeaningRefusal)) → IfSome o (IsNumber base text) → IfSome p (IsNumber base text) → IfSome (option_or o p) (IsNumber base text)
 first_found base text None p f g = g
 first_found base text (Some given) p f g = f
 
@@ -188,6 +188,31 @@ float_cases base text false e = tt
 pub found : (base : ℕ) (text : List ℕ) → IfSome (number_of base text) (IsNumber base text)
 found base text =
     let body = without_sign text in
-    first_found base text _ _ (integer_found base text (is_numeral base body) refl)
-    (first_found base text _ _ (decimal_found base text _ (cut_parts is_point body))
-    (first_found base text _ _ (ratio_found base text _ (cut_parts is_slash body)) (float_cases base text (is_float body) refl)))
+    first_found base text _ _
+    (first_found base text _ _ (integer_found base text (is_numeral base body) refl) (ratio_found base text _ (cut_parts is_slash body)))
+    (first_found base text _ _ (decimal_found base text _ (cut_parts is_point body)) (float_cases base text (is_float body) refl))
+
+-- ---- rationals of digits alone
+
+first_rational : (base : ℕ) (text : List ℕ) (o p : Option (Result Object MeaningRefusal)) → IfSome o (IsRational base text) → IfSome p (IsRational base text) → IfSome (option_or o p) (IsRational base text)
+first_rational base text None p f g = g
+first_rational base text (Some given) p f g = f
+
+digits_rational : (base : ℕ) (text : List ℕ) (b : Bool) → is_numeral base (without_sign text) ≡ b
+    → IfSome (if b then Some (integer_of (is_negative text) (value base (without_sign text))) else None) (IsRational base text)
+digits_rational base text true e = inl (is_negative text, value base (without_sign text), digits_form base text e, refl)
+digits_rational base text false e = tt
+
+ratio_choice : (base : ℕ) (text : List ℕ) (parts : List ℕ × List ℕ) → IsCut is_slash (without_sign text) parts → (b : Bool) → (is_numeral base parts.0 && is_numeral base parts.1) ≡ b
+    → IfSome (if b then Some (ratio_of (is_negative text) (value base parts.0) (value base parts.1)) else None) (IsRational base text)
+ratio_choice base text parts at true e = inr (is_negative text, value base parts.0, value base parts.1, ratio_is base text parts at e, refl)
+ratio_choice base text parts at false e = tt
+
+ratio_rational : (base : ℕ) (text : List ℕ) (o : Option (List ℕ × List ℕ)) → CutAt is_slash (without_sign text) o → IfSome (ratio_form base (is_negative text) o) (IsRational base text)
+ratio_rational base text None at = tt
+ratio_rational base text (Some parts) at = ratio_choice base text parts at (is_numeral base parts.0 && is_numeral base parts.1) refl
+
+pub rational_found : (base : ℕ) (text : List ℕ) → IfSome (rational_number base text) (IsRational base text)
+rational_found base text =
+    let body = without_sign text in
+    first_rational base text _ _ (digits_rational base text (is_numeral base body) refl) (ratio_rational base text _ (cut_parts is_slash body))

@@ -1,11 +1,16 @@
 pub mod Ascii
+pub mod Codes
 pub mod Cuts
+pub mod Decimals
 pub mod Digits
+pub mod Folds
 pub mod Forms
+pub mod Fronts
 pub mod Loops
+pub mod Meant
 pub mod Parts
 pub mod Patterns
+pub mod Rationals
 pub mod Rows
 pub mod Signs
 pub mod Spelled
-pub mod Sums

@@ -1,5 +1,5 @@
--- A list is cut at an element where it is what stands before it, the element, and what stands behind it.
-use Rattle.std.proofs.Common.{◌≡◌, Bool, true, false, ◌||◌, List, [], ◌∷◌, ◌++◌, Option, None, Some, refl, ap}
+-- A list is cut at an element where it is what is before it, the element, and what comes after it.
+use Rattle.std.proofs.Common.{◌≡◌, Bool, true, false, ◌||◌, List, [], ◌∷◌, ◌++◌, Option, None, Some, refl, ap, ◌∙◌}
 use Rattle.std.specs.Prelude.{if◌then◌else◌}
 use Rattle.std.specs.List.{list_any}
 use Rattle.std.specs.Option.{option_map}
@@ -19,7 +19,24 @@ cut_without p (x ∷ xs) e =
     as (λ b. (b || list_any p xs) ≡ false → (if b then Some ([], xs) else option_map (with_first x) (cut p xs)) ≡ None)
     [ true ↦ λ f. absurd cc | false ↦ λ f. rw (cut_without p xs f) refl ] e
 
--- the element that stands between both parts
+-- an element that does not pass stays in front
+abbrev pub onto_front : {X : Type 0} → List X → X → List X × List X → List X × List X
+onto_front xs y parts = (xs ++ y ∷ parts.0, parts.1)
+
+longer_front : {X : Type 0} (x : X) (xs : List X) (y : X) (o : Option (List X × List X))
+    → option_map (with_first x) (option_map (onto_front xs y) o) ≡ option_map (onto_front (x ∷ xs) y) o
+longer_front x xs y None = refl
+longer_front x xs y (Some parts) = refl
+
+pub cut_past : {X : Type 0} (p : X → Bool) (xs : List X) (y : X) (ys : List X) → list_any p xs ≡ false → p y ≡ false
+    → cut p (xs ++ y ∷ ys) ≡ option_map (onto_front xs y) (cut p ys)
+cut_past p [] y ys before here = rw here refl
+cut_past p (x ∷ xs) y ys before here =
+    elim (p x)
+    as (λ b. (b || list_any p xs) ≡ false → (if b then Some ([], xs ++ y ∷ ys) else option_map (with_first x) (cut p (xs ++ y ∷ ys))) ≡ option_map (onto_front (x ∷ xs) y) (cut p ys))
+    [ true ↦ λ e. absurd cc | false ↦ λ e. ap (option_map (with_first x)) (cut_past p xs y ys e here) ∙ longer_front x xs y (cut p ys) ] before
+
+-- the element between both parts
 pub record IsCut {X : Type 0} (p : X → Bool) (whole : List X) (parts : List X × List X) : Type 0 where
   pub mark : X
   pub passes : p mark ≡ true

@@ -1,13 +1,14 @@
--- The package patterns, of what stands before the first package marker and behind it.
+-- The package patterns, of what is before the first package marker and after it.
 use Rattle.std.proofs.Common.{◌≡◌, Bool, true, false, not, ◌&&◌, ◌||◌, if◌then◌else◌, List, [], ◌∷◌, Option, None, Some, Ok, Err, refl, subst}
 use Rattle.std.specs.Option.{option_map}
 use Rattle.std.specs.List.{list_any, slice_split, onto_first}
 use Rattle.token_scan.specs.declared.mark.Mark.{Mark}
-use Rattle.token_meaning.specs.declared.refusal.TokenRefusal.TheVariants.{PackageMarkers}
-use Rattle.token_meaning.specs.declared.token.Markers.TheVariants.{None as NoMarker, One, Two}
+use Rattle.token_meaning.specs.declared.refusal.MeaningRefusal.TheVariants.{PackageMarkers}
+use Rattle.token_meaning.specs.declared.token.TokenName.TheVariants.{Unqualified, Keyword, External, Internal}
 use Rattle.token_meaning.specs.Numerals.{is_empty, cut, with_first}
-use Rattle.token_meaning.specs.Meanings.{name, characters, is_package_marker, pattern, name_of}
-use Rattle.token_meaning.specs.Results.{begins_with_marker, is_one_part, prefix_name}
+use Rattle.token_scan.specs.Marks.{characters}
+use Rattle.token_meaning.specs.Meanings.{name, is_package_marker, pattern, name_of}
+use Rattle.token_meaning.specs.Results.{begins_with_marker, is_one_part}
 
 -- ---- the parts between package markers
 
@@ -83,13 +84,17 @@ one_refused prefix (m ∷ ms) first one =
     as (λ b. b ≡ false → not (b || list_any is_package_marker ms) ≡ false → pattern (prefix ∷ (if b then [] ∷ parts ms else onto_first m (parts ms))) ≡ Err PackageMarkers)
     [ true ↦ λ e f. absurd cc | false ↦ λ e f. one_apart prefix m (parts ms) (two_parts ms (not_false _ f)) ] first one
 
-one_named : (prefix : List Mark) (m : Mark) (own : List Mark) → pattern (prefix ∷ (m ∷ own) ∷ []) ≡ Ok (name (prefix_name prefix) One (characters (m ∷ own)))
-one_named [] m own = refl
-one_named (p ∷ ps) m own = refl
+pub keyword_given : (prefix own : List Mark) → is_empty prefix ≡ true → is_one_part own ≡ true
+    → pattern (prefix ∷ slice_split is_package_marker own) ≡ Ok (name (Keyword (characters own)))
+keyword_given [] [] none one = absurd cc
+keyword_given [] (m ∷ ms) none one = rw (whole_part (m ∷ ms) (not_true _ one)) refl
+keyword_given (p ∷ ps) own none one = absurd cc
 
-pub one_given : (prefix own : List Mark) → is_one_part own ≡ true → pattern (prefix ∷ slice_split is_package_marker own) ≡ Ok (name (prefix_name prefix) One (characters own))
-one_given prefix [] one = absurd cc
-one_given prefix (m ∷ ms) one = rw (whole_part (m ∷ ms) (not_true _ one)) (one_named prefix m ms)
+pub external_given : (prefix own : List Mark) → is_empty prefix ≡ false → is_one_part own ≡ true
+    → pattern (prefix ∷ slice_split is_package_marker own) ≡ Ok (name (External (characters prefix) (characters own)))
+external_given [] own some one = absurd cc
+external_given (p ∷ ps) [] some one = absurd cc
+external_given (p ∷ ps) (m ∷ ms) some one = rw (whole_part (m ∷ ms) (not_true _ one)) refl
 
 -- ---- two package markers
 
@@ -100,15 +105,20 @@ two_more p ps (m ∷ ms) more rest = refl
 two_apart : (p : Mark) (ps : List Mark) (qs : List (List Mark)) → Second qs → pattern ((p ∷ ps) ∷ [] ∷ qs) ≡ Err PackageMarkers
 two_apart p ps qs two = rw two.is (two_more p ps two.first two.second two.rest)
 
-pub two_refused : (prefix own : List Mark) → (not (is_empty prefix) && is_one_part own) ≡ false → pattern (prefix ∷ [] ∷ slice_split is_package_marker own) ≡ Err PackageMarkers
-two_refused [] own one = refl
-two_refused (p ∷ ps) [] one = refl
-two_refused (p ∷ ps) (m ∷ ms) one = two_apart p ps (parts (m ∷ ms)) (two_parts (m ∷ ms) (not_false _ one))
+pub no_prefix : (prefix own : List Mark) → is_empty prefix ≡ true → pattern (prefix ∷ [] ∷ slice_split is_package_marker own) ≡ Err PackageMarkers
+no_prefix [] own none = refl
+no_prefix (p ∷ ps) own none = absurd cc
 
-pub two_given : (prefix own : List Mark) → (not (is_empty prefix) && is_one_part own) ≡ true → pattern (prefix ∷ [] ∷ slice_split is_package_marker own) ≡ Ok (name (Some (characters prefix)) Two (characters own))
-two_given [] own one = absurd cc
-two_given (p ∷ ps) [] one = absurd cc
-two_given (p ∷ ps) (m ∷ ms) one = rw (whole_part (m ∷ ms) (not_true _ one)) refl
+pub two_refused : (prefix own : List Mark) → is_empty prefix ≡ false → is_one_part own ≡ false → pattern (prefix ∷ [] ∷ slice_split is_package_marker own) ≡ Err PackageMarkers
+two_refused [] own some one = absurd cc
+two_refused (p ∷ ps) [] some one = refl
+two_refused (p ∷ ps) (m ∷ ms) some one = two_apart p ps (parts (m ∷ ms)) (two_parts (m ∷ ms) (not_false _ one))
+
+pub internal_given : (prefix own : List Mark) → is_empty prefix ≡ false → is_one_part own ≡ true
+    → pattern (prefix ∷ [] ∷ slice_split is_package_marker own) ≡ Ok (name (Internal (characters prefix) (characters own)))
+internal_given [] own some one = absurd cc
+internal_given (p ∷ ps) [] some one = absurd cc
+internal_given (p ∷ ps) (m ∷ ms) some one = rw (whole_part (m ∷ ms) (not_true _ one)) refl
 
 -- ---- the first package marker
 
@@ -123,10 +133,10 @@ none_marked (m ∷ ms) e =
     as (λ b. (if b then Some ([], ms) else option_map (with_first m) (cut is_package_marker ms)) ≡ None → (b || list_any is_package_marker ms) ≡ false)
     [ true ↦ λ f. absurd cc | false ↦ λ f. none_marked ms (behind_none m _ f) ] e
 
-pub unmarked : (marks : List Mark) → cut is_package_marker marks ≡ None → name_of marks ≡ Ok (name None NoMarker (characters marks))
+pub unmarked : (marks : List Mark) → cut is_package_marker marks ≡ None → name_of marks ≡ Ok (name (Unqualified (characters marks)))
 unmarked marks e = rw (whole_part marks (none_marked marks e)) refl
 
--- the parts of a token are what stands before the first package marker and the parts behind it
+-- the parts of a token are what is before the first package marker and the parts after it
 abbrev CutParts : List (List Mark) → Option (List Mark × List Mark) → Type 0
 CutParts whole None = Unit {0}
 CutParts whole (Some pair) = whole ≡ pair.0 ∷ parts pair.1

@@ -1,21 +1,21 @@
 -- Rows of the definitions.
 use Rattle.std.proofs.Common.{◌≡◌, ℕ, ◌++◌, List, [], ◌∷◌, map, replicate, pos, negsuc, codes, refl, None, Some, Ok, Err}
-use Rattle.std.specs.Prelude.{Result}
-use Rattle.lisp_object.specs.Object.{integer, rational}
+use Rattle.std.specs.Prelude.{Option, Result}
+use Rattle.lisp_object.specs.Object.{Object, integer, rational}
 use Rattle.lisp_object.specs.Quotient.{greatest_divisor}
 use Rattle.readtable_core.specs.declared.table.Case.{Case}
 use Rattle.readtable_core.specs.declared.table.Case.TheVariants.{Upcase, Downcase, Preserve, Invert}
 use Rattle.token_scan.specs.declared.mark.Mark.{Mark}
 use Rattle.token_scan.specs.declared.mark.Mark.TheVariants.{Plain, Quoted, Bar}
-use Rattle.token_meaning.specs.declared.refusal.TokenRefusal.{TokenRefusal}
-use Rattle.token_meaning.specs.declared.refusal.TokenRefusal.TheVariants.{DotsOnly, FloatToken, NumberRange, ZeroDenominator, PackageMarkers}
-use Rattle.token_meaning.specs.declared.token.Markers.TheVariants.{None as NoMarker, One, Two}
+use Rattle.token_meaning.specs.declared.refusal.MeaningRefusal.{MeaningRefusal}
+use Rattle.token_meaning.specs.declared.refusal.MeaningRefusal.TheVariants.{DotsOnly, FloatToken, NumberRange, ZeroDenominator, PackageMarkers}
+use Rattle.token_meaning.specs.declared.token.TokenName.TheVariants.{Unqualified, Keyword, External, Internal}
 use Rattle.token_meaning.specs.Folding.{folded}
 use Rattle.token_meaning.specs.Numerals.{value}
-use Rattle.token_meaning.specs.Meanings.{Meaning, number, dot, name, meaning_of}
+use Rattle.token_meaning.specs.Meanings.{Meaning, number, dot, name, meaning_of, rational_of}
 
 -- what a token of characters that were not escaped means
-unfoldable reads : ℕ → List ℕ → Result Meaning TokenRefusal
+unfoldable reads : ℕ → List ℕ → Result Meaning MeaningRefusal
 reads base text = meaning_of base (map Plain text)
 
 ratio : reads 10 (codes "+4/6") ≡ Ok (number (rational (pos 2) 3))
@@ -70,11 +70,11 @@ one_dot : reads 10 (codes ".") ≡ Ok dot
 unfolding reads value greatest_divisor
 one_dot = refl
 
-plus_and_dot : reads 10 (codes "+.") ≡ Ok (name None NoMarker (codes "+."))
+plus_and_dot : reads 10 (codes "+.") ≡ Ok (name (Unqualified (codes "+.")))
 unfolding reads value greatest_divisor
 plus_and_dot = refl
 
-minus : reads 10 (codes "-") ≡ Ok (name None NoMarker (codes "-"))
+minus : reads 10 (codes "-") ≡ Ok (name (Unqualified (codes "-")))
 unfolding reads value greatest_divisor
 minus = refl
 
@@ -82,7 +82,7 @@ plus_one : reads 10 (codes "+1") ≡ Ok (number (integer (pos 1)))
 unfolding reads value greatest_divisor
 plus_one = refl
 
-one_plus : reads 10 (codes "1+") ≡ Ok (name None NoMarker (codes "1+"))
+one_plus : reads 10 (codes "1+") ≡ Ok (name (Unqualified (codes "1+")))
 unfolding reads value greatest_divisor
 one_plus = refl
 
@@ -94,7 +94,7 @@ point_and_exponent : reads 10 (codes "1.e-5") ≡ Err FloatToken
 unfolding reads value greatest_divisor
 point_and_exponent = refl
 
-point_behind_a_ratio : reads 10 (codes "1/2.") ≡ Ok (name None NoMarker (codes "1/2."))
+point_behind_a_ratio : reads 10 (codes "1/2.") ≡ Ok (name (Unqualified (codes "1/2.")))
 unfolding reads value greatest_divisor
 point_behind_a_ratio = refl
 
@@ -102,7 +102,7 @@ digits_of_base_36 : reads 36 (codes "rZ") ≡ Ok (number (integer (pos 1007)))
 unfolding reads value greatest_divisor
 digits_of_base_36 = refl
 
-no_digit_of_base_2 : reads 2 (codes "12") ≡ Ok (name None NoMarker (codes "12"))
+no_digit_of_base_2 : reads 2 (codes "12") ≡ Ok (name (Unqualified (codes "12")))
 unfolding reads value greatest_divisor
 no_digit_of_base_2 = refl
 
@@ -110,15 +110,15 @@ decimal_in_base_2 : reads 2 (codes "29.") ≡ Ok (number (integer (pos 29)))
 unfolding reads value greatest_divisor
 decimal_in_base_2 = refl
 
-keyword : reads 10 (codes ":12") ≡ Ok (name None One (codes "12"))
+keyword : reads 10 (codes ":12") ≡ Ok (name (Keyword (codes "12")))
 unfolding reads value greatest_divisor
 keyword = refl
 
-prefix : reads 10 (codes "a:b") ≡ Ok (name (Some (codes "a")) One (codes "b"))
+prefix : reads 10 (codes "a:b") ≡ Ok (name (External (codes "a") (codes "b")))
 unfolding reads value greatest_divisor
 prefix = refl
 
-prefix_and_two : reads 10 (codes "a::b") ≡ Ok (name (Some (codes "a")) Two (codes "b"))
+prefix_and_two : reads 10 (codes "a::b") ≡ Ok (name (Internal (codes "a") (codes "b")))
 unfolding reads value greatest_divisor
 prefix_and_two = refl
 
@@ -138,21 +138,37 @@ markers_apart : reads 10 (codes "A:B:C") ≡ Err PackageMarkers
 unfolding reads value greatest_divisor
 markers_apart = refl
 
-escaped_digit : meaning_of 10 (Quoted 49 ∷ []) ≡ Ok (name None NoMarker (codes "1"))
+escaped_digit : meaning_of 10 (Quoted 49 ∷ []) ≡ Ok (name (Unqualified (codes "1")))
 unfolding reads value greatest_divisor
 escaped_digit = refl
 
-escaped_colon : meaning_of 10 (Plain 97 ∷ Quoted 58 ∷ Plain 98 ∷ []) ≡ Ok (name None NoMarker (codes "a:b"))
+escaped_colon : meaning_of 10 (Plain 97 ∷ Quoted 58 ∷ Plain 98 ∷ []) ≡ Ok (name (Unqualified (codes "a:b")))
 unfolding reads value greatest_divisor
 escaped_colon = refl
 
-bars_alone : meaning_of 10 (Bar ∷ Bar ∷ Plain 58 ∷ Bar ∷ Bar ∷ []) ≡ Ok (name (Some []) One [])
+bars_alone : meaning_of 10 (Bar ∷ Bar ∷ Plain 58 ∷ Bar ∷ Bar ∷ []) ≡ Ok (name (External [] []))
 unfolding reads value greatest_divisor
 bars_alone = refl
 
-bar_in_a_name : meaning_of 10 (Plain 65 ∷ Bar ∷ Quoted 32 ∷ []) ≡ Ok (name None NoMarker (codes "A "))
+bar_in_a_name : meaning_of 10 (Plain 65 ∷ Bar ∷ Quoted 32 ∷ []) ≡ Ok (name (Unqualified (codes "A ")))
 unfolding reads value greatest_divisor
 bar_in_a_name = refl
+
+-- the rational that such a token is
+unfoldable rationals : ℕ → List ℕ → Option (Result Object MeaningRefusal)
+rationals base text = rational_of base (map Plain text)
+
+hexadecimal : rationals 16 (codes "-Ff/1e") ≡ Some (Ok (rational (negsuc 16) 2))
+unfolding rationals value greatest_divisor
+hexadecimal = refl
+
+no_trailing_point : rationals 16 (codes "12.") ≡ None
+unfolding rationals value greatest_divisor
+no_trailing_point = refl
+
+no_escaped_rational : rational_of 10 (Plain 49 ∷ Bar ∷ []) ≡ None
+unfolding rationals value greatest_divisor
+no_escaped_rational = refl
 
 -- what becomes of the case of such a token
 unfoldable folds : Case → List ℕ → List Mark

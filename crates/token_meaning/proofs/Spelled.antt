@@ -6,10 +6,10 @@ use Rattle.std.specs.Option.{option_or}
 use Rattle.std.proofs.lemmas.Bool.{and_from, and_left, and_right, cases_Bool, both_ways}
 use Rattle.std.proofs.lemmas.List.Folds.{list_any-append}
 use Rattle.lisp_object.specs.Object.{Object}
-use Rattle.token_meaning.specs.declared.refusal.TokenRefusal.{TokenRefusal}
-use Rattle.token_meaning.specs.declared.refusal.TokenRefusal.TheVariants.{FloatToken}
+use Rattle.token_meaning.specs.declared.refusal.MeaningRefusal.{MeaningRefusal}
+use Rattle.token_meaning.specs.declared.refusal.MeaningRefusal.TheVariants.{FloatToken}
 use Rattle.token_meaning.specs.Numerals.{is_empty, is_numeral, are_digits, value, without_sign, is_negative, cut}
-use Rattle.token_meaning.specs.Numbers.{is_point, is_slash, is_exponent_marker, integer_of, ratio_of, decimal_form, ratio_form, is_pointed, is_mantissa, is_scaled, is_float, unsigned_number, number_of}
+use Rattle.token_meaning.specs.Numbers.{is_point, is_slash, is_exponent_marker, integer_of, ratio_of, decimal_form, ratio_form, is_pointed, is_mantissa, is_scaled, is_float, rational_form, unsigned_number, number_of, rational_number}
 use Rattle.token_meaning.specs.Grammar.{Sign, absent, plus, minus, spelled, is_minus, IsDigits, IsDecimal, IsInteger, IsRatio, IsExponent, IsPointed, IsScaled, IsFloat}
 use Rattle.token_meaning.proofs.Parts.{cut_with, cut_without, CutAt, cut_parts}
 use Rattle.token_meaning.proofs.Signs.{is_signed, behind_sign}
@@ -26,16 +26,27 @@ at_body base text sign body negative parts first below =
     let body_there : without_sign text ≡ body = ap without_sign parts ∙ both.0 in
     ap (λ (b : Bool). unsigned_number base b (without_sign text)) minus_there ∙ ap (λ (xs : List ℕ). unsigned_number base negative xs) body_there
 
-taken : (b : Bool) (given : Result Object TokenRefusal) → b ≡ true → (if b then Some given else None) ≡ Some given
+rational_body : (base : ℕ) (text : List ℕ) (sign : Sign) (body : List ℕ) (negative : Bool) → text ≡ spelled sign ++ body → is_signed body ≡ false → negative ≡ is_minus sign
+    → rational_number base text ≡ rational_form base negative body
+rational_body base text sign body negative parts first below =
+    let both = behind_sign sign body first in
+    let minus_there : is_negative text ≡ negative = ap is_negative parts ∙ both.1 ∙ sym below in
+    let body_there : without_sign text ≡ body = ap without_sign parts ∙ both.0 in
+    ap (λ (b : Bool). rational_form base b (without_sign text)) minus_there ∙ ap (λ (xs : List ℕ). rational_form base negative xs) body_there
+
+taken : (b : Bool) (given : Result Object MeaningRefusal) → b ≡ true → (if b then Some given else None) ≡ Some given
 taken b given e = rw e refl
 
-passed_over : (b : Bool) (given : Result Object TokenRefusal) → b ≡ false → (if b then Some given else None) ≡ None
+passed_over : (b : Bool) (given : Result Object MeaningRefusal) → b ≡ false → (if b then Some given else None) ≡ None
 passed_over b given e = rw e refl
 
-by_first : (o p : Option (Result Object TokenRefusal)) (given : Result Object TokenRefusal) → o ≡ Some given → option_or o p ≡ Some given
+by_first : (o p : Option (Result Object MeaningRefusal)) (given : Result Object MeaningRefusal) → o ≡ Some given → option_or o p ≡ Some given
 by_first o p given e = rw e refl
 
-by_second : (o p : Option (Result Object TokenRefusal)) (given : Result Object TokenRefusal) → o ≡ None → p ≡ Some given → option_or o p ≡ Some given
+both_none : (o p : Option (Result Object MeaningRefusal)) → o ≡ None → p ≡ None → option_or o p ≡ None
+both_none o p e f = rw (e, f) refl
+
+by_second : (o p : Option (Result Object MeaningRefusal)) (given : Result Object MeaningRefusal) → o ≡ None → p ≡ Some given → option_or o p ≡ Some given
 by_second o p given e f = rw (e, f) refl
 
 -- ---- integers
@@ -44,7 +55,7 @@ pub digits_given : (base : ℕ) (text : List ℕ) (negative : Bool) (size : ℕ)
 digits_given base text negative size top h =
     let unsigned : is_signed h.digits ≡ false = subst (λ (xs : List ℕ). is_signed xs ≡ false) (append-nil h.digits) (numeral_unsigned base h.digits [] top h.numeral) in
     at_body base text h.sign h.digits negative h.parts unsigned h.below_zero
-    ∙ by_first _ _ _ (taken (is_numeral base h.digits) _ h.numeral)
+    ∙ by_first _ _ _ (by_first _ _ _ (taken (is_numeral base h.digits) _ h.numeral))
     ∙ ap (λ (n : ℕ). Some (integer_of negative n)) (sym h.worth)
 
 -- digits hold no point and no slash
@@ -57,31 +68,50 @@ no_slash base ds top e = none_among base is_slash (λ c f. slash_no_digit base c
 no_marker : (ds : List ℕ) → are_digits 10 ds ≡ true → list_any is_exponent_marker ds ≡ false
 no_marker ds e = none_among 10 is_exponent_marker marker_no_digit ds e
 
+none_in : (p : ℕ → Bool) (xs : List ℕ) (y : ℕ) (ys : List ℕ) → list_any p xs ≡ false → p y ≡ false → list_any p ys ≡ false → list_any p (xs ++ y ∷ ys) ≡ false
+none_in p xs y ys before here behind = list_any-append p xs (y ∷ ys) ∙ (rw (before, here, behind) refl)
+
 pub decimal_given : (base : ℕ) (text : List ℕ) (negative : Bool) (size : ℕ) → base ≤ 36 → IsDecimal text negative size → number_of base text ≡ Some (integer_of negative size)
 decimal_given base text negative size top h =
     let digits = numeral_digits 10 h.digits h.numeral in
+    let no_cut : cut is_slash (h.digits ++ 46 ∷ []) ≡ None = cut_without is_slash (h.digits ++ 46 ∷ []) (none_in is_slash h.digits 46 [] (no_slash 10 h.digits (lit≤ tt) digits) refl refl) in
     let there : cut is_point (h.digits ++ 46 ∷ []) ≡ Some (h.digits, []) = cut_with is_point h.digits 46 [] (no_point 10 h.digits (lit≤ tt) digits) refl in
     at_body base text h.sign (h.digits ++ 46 ∷ []) negative h.parts (digits_unsigned h.digits [] digits) h.below_zero
-    ∙ by_second _ _ _ (passed_over (is_numeral base (h.digits ++ 46 ∷ [])) _ (mixed base h.digits 46 [] (point_no_digit base 46 top refl)))
+    ∙ by_second _ _ _ (both_none _ _ (passed_over (is_numeral base (h.digits ++ 46 ∷ [])) _ (mixed base h.digits 46 [] (point_no_digit base 46 top refl)))
+    (ap (ratio_form base negative) no_cut))
     (by_first _ _ _ (ap (decimal_form negative) there ∙ taken (is_numeral 10 h.digits && true) _ (and_from _ _ h.numeral refl)))
     ∙ ap (λ (n : ℕ). Some (integer_of negative n)) (sym h.worth)
 
 -- ---- ratios
-
-none_in : (p : ℕ → Bool) (xs : List ℕ) (y : ℕ) (ys : List ℕ) → list_any p xs ≡ false → p y ≡ false → list_any p ys ≡ false → list_any p (xs ++ y ∷ ys) ≡ false
-none_in p xs y ys before here behind = list_any-append p xs (y ∷ ys) ∙ (rw (before, here, behind) refl)
 
 pub ratio_given : (base : ℕ) (text : List ℕ) (negative : Bool) (numerator denominator : ℕ) → base ≤ 36 → IsRatio base text negative numerator denominator
     → number_of base text ≡ Some (ratio_of negative numerator denominator)
 ratio_given base text negative numerator denominator top h =
     let above = numeral_digits base h.above h.numeral_above in
     let below = numeral_digits base h.below h.numeral_below in
-    let no_cut : cut is_point (h.above ++ 47 ∷ h.below) ≡ None = cut_without is_point (h.above ++ 47 ∷ h.below) (none_in is_point h.above 47 h.below (no_point base h.above top above) refl (no_point base h.below top below)) in
     let there : cut is_slash (h.above ++ 47 ∷ h.below) ≡ Some (h.above, h.below) = cut_with is_slash h.above 47 h.below (no_slash base h.above top above) refl in
     at_body base text h.sign (h.above ++ 47 ∷ h.below) negative h.parts (numeral_unsigned base h.above (47 ∷ h.below) top h.numeral_above) h.below_zero
+    ∙ by_first _ _ _ (by_second _ _ _ (passed_over (is_numeral base (h.above ++ 47 ∷ h.below)) _ (mixed base h.above 47 h.below (slash_no_digit base 47 top refl)))
+    (ap (ratio_form base negative) there ∙ taken (is_numeral base h.above && is_numeral base h.below) _ (and_from _ _ h.numeral_above h.numeral_below)))
+    ∙ ap (λ (p : ℕ × ℕ). Some (ratio_of negative p.0 p.1)) (let both : (value base h.above, value base h.below) ≡ (numerator, denominator) = rw (h.worth_above, h.worth_below) refl in both)
+
+-- ---- the rationals of digits alone
+
+pub rational_of_digits : (base : ℕ) (text : List ℕ) (negative : Bool) (size : ℕ) → base ≤ 36 → IsDigits base text negative size → rational_number base text ≡ Some (integer_of negative size)
+rational_of_digits base text negative size top h =
+    let unsigned : is_signed h.digits ≡ false = subst (λ (xs : List ℕ). is_signed xs ≡ false) (append-nil h.digits) (numeral_unsigned base h.digits [] top h.numeral) in
+    rational_body base text h.sign h.digits negative h.parts unsigned h.below_zero
+    ∙ by_first _ _ _ (taken (is_numeral base h.digits) _ h.numeral)
+    ∙ ap (λ (n : ℕ). Some (integer_of negative n)) (sym h.worth)
+
+pub rational_of_ratio : (base : ℕ) (text : List ℕ) (negative : Bool) (numerator denominator : ℕ) → base ≤ 36 → IsRatio base text negative numerator denominator
+    → rational_number base text ≡ Some (ratio_of negative numerator denominator)
+rational_of_ratio base text negative numerator denominator top h =
+    let above = numeral_digits base h.above h.numeral_above in
+    let there : cut is_slash (h.above ++ 47 ∷ h.below) ≡ Some (h.above, h.below) = cut_with is_slash h.above 47 h.below (no_slash base h.above top above) refl in
+    rational_body base text h.sign (h.above ++ 47 ∷ h.below) negative h.parts (numeral_unsigned base h.above (47 ∷ h.below) top h.numeral_above) h.below_zero
     ∙ by_second _ _ _ (passed_over (is_numeral base (h.above ++ 47 ∷ h.below)) _ (mixed base h.above 47 h.below (slash_no_digit base 47 top refl)))
-    (by_second _ _ _ (ap (decimal_form negative) no_cut)
-    (by_first _ _ _ (ap (ratio_form base negative) there ∙ taken (is_numeral base h.above && is_numeral base h.below) _ (and_from _ _ h.numeral_above h.numeral_below))))
+    (ap (ratio_form base negative) there ∙ taken (is_numeral base h.above && is_numeral base h.below) _ (and_from _ _ h.numeral_above h.numeral_below))
     ∙ ap (λ (p : ℕ × ℕ). Some (ratio_of negative p.0 p.1)) (let both : (value base h.above, value base h.below) ≡ (numerator, denominator) = rw (h.worth_above, h.worth_below) refl in both)
 
 -- ---- floats
@@ -104,7 +134,7 @@ no_digits base text none =
       | inr e ↦ e
     ]
 
--- what stands behind the sign of a float
+-- what comes after the sign of a float
 record IsFloating (body : List ℕ) : Type 0 where
   first : is_signed body ≡ false
   slash : list_any is_slash body ≡ false
@@ -116,10 +146,10 @@ float_body base text sign body parts none h =
     let there : without_sign text ≡ body = ap without_sign parts ∙ (behind_sign sign body h.first).0 in
     let slash : list_any is_slash (without_sign text) ≡ false = ap (list_any is_slash) there ∙ h.slash in
     let float : is_float (without_sign text) ≡ true = ap is_float there ∙ h.float in
-    by_second _ _ _ (passed_over (is_numeral base (without_sign text)) _ (no_digits base text none))
+    by_second _ _ _ (both_none _ _ (passed_over (is_numeral base (without_sign text)) _ (no_digits base text none))
+    (ap (ratio_form base (is_negative text)) (cut_without is_slash (without_sign text) slash)))
     (by_second _ _ _ (no_decimal base text (cut is_point (without_sign text)) none (cut_parts is_point (without_sign text)))
-    (by_second _ _ _ (ap (ratio_form base (is_negative text)) (cut_without is_slash (without_sign text) slash))
-    (taken (is_float (without_sign text)) _ float)))
+    (taken (is_float (without_sign text)) _ float))
 
 or_left : (x y : Bool) → x ≡ true → (x || y) ≡ true
 or_left x y e = rw e refl
@@ -138,7 +168,7 @@ pointed_floating whole fraction e f =
       float = or_left _ _ (ap is_pointed there ∙ and_from (are_digits 10 whole) (is_numeral 10 fraction) e f);
     }
 
--- what stands before an exponent
+-- what is before an exponent
 record IsMantissa (text : List ℕ) : Type 0 where
   first : (rest : List ℕ) → is_signed (text ++ rest) ≡ false
   slash : list_any is_slash text ≡ false

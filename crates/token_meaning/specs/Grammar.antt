@@ -1,9 +1,9 @@
 -- The syntax of numbers by its grammar (standard 2.3.1, 2.3.2): a text is a number of a form where it is the parts of that
--- form, one behind the other. `number_of` gives what this grammar says (laws.rt).
+-- form, one after the other. `number_of` gives what this grammar says (laws.rt).
 use Rattle.std.specs.Prelude.{◌≡◌, ℕ, Bool, true, false, List, [], ◌∷◌, ◌++◌, ◌⊎◌, Result, Err}
 use Rattle.lisp_object.specs.Object.{Object}
-use Rattle.token_meaning.specs.declared.refusal.TokenRefusal.{TokenRefusal}
-use Rattle.token_meaning.specs.declared.refusal.TokenRefusal.TheVariants.{FloatToken}
+use Rattle.token_meaning.specs.declared.refusal.MeaningRefusal.{MeaningRefusal}
+use Rattle.token_meaning.specs.declared.refusal.MeaningRefusal.TheVariants.{FloatToken}
 use Rattle.token_meaning.specs.Numerals.{is_numeral, are_digits, value}
 use Rattle.token_meaning.specs.Numbers.{is_exponent_marker, integer_of, ratio_of}
 
@@ -97,8 +97,15 @@ pub record IsScaled (text : List ℕ) : Type 0 where
 abbrev pub IsFloat : List ℕ → Type 0
 IsFloat text = IsPointed text ⊎ IsScaled text
 
+-- what a rational of digits gives
+abbrev pub IsRational : ℕ → List ℕ → Result Object MeaningRefusal → Type 0
+IsRational base text given =
+    ((negative : Bool) × (size : ℕ) × IsDigits base text negative size × (given ≡ integer_of negative size))
+    ⊎ ((negative : Bool) × (numerator : ℕ) × (denominator : ℕ) × IsRatio base text negative numerator denominator
+    × (given ≡ ratio_of negative numerator denominator))
+
 -- what a number of each form gives
-abbrev pub IsNumber : ℕ → List ℕ → Result Object TokenRefusal → Type 0
+abbrev pub IsNumber : ℕ → List ℕ → Result Object MeaningRefusal → Type 0
 IsNumber base text given =
     ((negative : Bool) × (size : ℕ) × IsInteger base text negative size × (given ≡ integer_of negative size))
     ⊎ (((negative : Bool) × (numerator : ℕ) × (denominator : ℕ) × IsRatio base text negative numerator denominator

@@ -4,3 +4,4 @@ pub mod Numbers
 pub mod Grammar
 pub mod Meanings
 pub mod Results
+pub mod Leading

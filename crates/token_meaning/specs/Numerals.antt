@@ -49,7 +49,7 @@ is_in_range false size = nat_lt size (2 ^ 127)
 abbrev pub with_first : {X : Type 0} → X → List X × List X → List X × List X
 with_first x parts = (x ∷ parts.0, parts.1)
 
--- what stands before the first element that passes, and what stands behind it; None where none passes
+-- what is before the first element that passes, and what comes after it; None where none passes
 abbrev pub cut : {X : Type 0} → (X → Bool) → List X → Option (List X × List X)
 cut test [] = None
 cut test (x ∷ xs) = if test x then Some ([], xs) else option_map (with_first x) (cut test xs)

@@ -1,6 +1,7 @@
 //! The case of a token's letters.
-ghost use Rattle.std.specs.Prelude.{◌≡◌};
+ghost use Rattle.std.specs.Prelude.{◌≡◌, IsTrue};
 ghost use Rattle.readtable_core.specs.Characters.{upper_case};
+ghost use Rattle.token_scan.specs.Marks.{are_ascii};
 ghost use Rattle.token_meaning.specs.Folding.{lower_case, on_plain, in_upper_case, in_lower_case, has_upper_case, has_lower_case, inverted, folded};
 
 use readtable_core::Case;
@@ -10,6 +11,13 @@ use token_scan::Mark;
 /// included. Letters that were escaped stay as they are. `Invert` turns all the letters to the other case where they have
 /// one case, and else none. Takes no memory.
 pub fn fold_case(case: Case, marks: &mut [Mark])
+    ensures value { marks.new ≡ folded case marks.old }
+    ensures ascii { IsTrue (are_ascii marks.old) → IsTrue (are_ascii marks.new) }
+{
+    fold(case, marks);
+}
+
+fn fold(case: Case, marks: &mut [Mark])
     ensures { marks.new ≡ folded case marks.old }
 {
     match case {

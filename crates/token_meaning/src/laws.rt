@@ -1,10 +1,10 @@
 //! Laws of the syntax of numbers, as the contract of a function that does nothing.
 ghost use Rattle.std.specs.Prelude.{◌≡◌, ◌≤◌, ℕ, Bool, List, Some, Err, IfSome};
-ghost use Rattle.token_meaning.specs.declared.refusal.TokenRefusal.TheVariants.{FloatToken};
-ghost use Rattle.token_meaning.specs.Numbers.{integer_of, ratio_of, number_of};
-ghost use Rattle.token_meaning.specs.Grammar.{IsInteger, IsRatio, IsFloat, IsNumber};
+ghost use Rattle.token_meaning.specs.declared.refusal.MeaningRefusal.TheVariants.{FloatToken};
+ghost use Rattle.token_meaning.specs.Numbers.{integer_of, ratio_of, number_of, rational_number};
+ghost use Rattle.token_meaning.specs.Grammar.{IsDigits, IsInteger, IsRatio, IsRational, IsFloat, IsNumber};
 
-/// The numbers are those of the grammar, in which a text is the parts of its form, one behind the other: an integer and a
+/// The numbers are those of the grammar, in which a text is the parts of its form, one after the other: an integer and a
 /// ratio give their value, a float that is no integer is refused, and what gives a value or is refused is in one of the
 /// forms. A ratio is no integer and no float. A text in the forms of an integer and of a float, as `1e5` in base 16, is
 /// the integer.
@@ -23,4 +23,15 @@ pub fn numbers_are_concatenations()
     ensures ratio_is_no_float { (base : ℕ) (text : List ℕ) (negative : Bool) (numerator denominator : ℕ)
         → IsRatio base text negative numerator denominator → IsFloat text → ⊥ }
     ensures found { (base : ℕ) (text : List ℕ) → IfSome (number_of base text) (IsNumber base text) }
+{}
+
+/// The rationals of digits alone are those of the grammar: a sign and digits, or a sign and digits on both sides of a slash.
+/// A point is in none.
+pub fn rationals_are_concatenations()
+    ensures integer { (base : ℕ) (text : List ℕ) (negative : Bool) (size : ℕ)
+        → base ≤ 36 → IsDigits base text negative size → rational_number base text ≡ Some (integer_of negative size) }
+    ensures ratio { (base : ℕ) (text : List ℕ) (negative : Bool) (numerator denominator : ℕ)
+        → base ≤ 36 → IsRatio base text negative numerator denominator
+        → rational_number base text ≡ Some (ratio_of negative numerator denominator) }
+    ensures found { (base : ℕ) (text : List ℕ) → IfSome (rational_number base text) (IsRational base text) }
 {}

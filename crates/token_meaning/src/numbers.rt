@@ -1,218 +1,140 @@
-//! The syntax of numbers, and what they give.
-ghost use Rattle.std.specs.Prelude.{◌≡◌, ◌≤◌, ◌<◌, true, length, position, IfOk, IfSome, option_map};
+//! The syntax of numbers, read from left to right with checked sums. In base 10 each character is looked at once; in another
+//! base the digits at the front are looked at twice where the token is no rational in that base.
+ghost use Rattle.std.specs.Prelude.{◌≡◌, ◌≤◌, ◌<◌, ℕ, List, ◌∷◌, true, ◌&&◌, IfOk, IfSome, option_map};
 ghost use Rattle.lisp_object.specs.Datum.{is_proper};
-ghost use Rattle.token_meaning.specs.Numerals.{are_digits, value, cut};
-ghost use Rattle.token_meaning.specs.Numbers.{is_point, is_slash, is_exponent_marker, integer_of, ratio_of, decimal_form, ratio_form, is_pointed, is_mantissa, is_scaled, is_float, number_of};
-ghost use Rattle.token_meaning.specs.Results.{view_number, IsSigned, parts_of};
+ghost use Rattle.token_meaning.specs.Numbers.{is_exponent_marker, integer_of, ratio_of, rational_form, decimal_or_float_form, number_of, rational_number};
+ghost use Rattle.token_meaning.specs.Leading.{codes_of, IsLeading, after_code, is_exponent};
+ghost use Rattle.token_meaning.specs.Results.{view_number, IsSigned, IsWorth};
 
-use crate::TokenRefusal;
-use crate::cut::cut_at;
-use crate::numerals::{are_digits, is_negative, is_numeral, numeral_value, without_sign};
+use crate::MeaningRefusal;
+use crate::numerals::{Leading, is_end, is_negative, leading_digits, numeral, without_sign};
 use lisp_object::{Datum, Ratio};
+use token_scan::Mark;
 
-/// What `text` gives as a number in `base`, which is 2 to 36 (standard 2.3.1, 2.3.2); None where it is in no syntax of
-/// numbers. Takes no memory.
-pub(crate) fn number(text: &[u8], base: u8) -> Option<Result<Datum, TokenRefusal>>
+/// What the marks give as a number in `base`, which is 2 to 36 (standard 2.3.1, 2.3.2); None where they are in no syntax of
+/// numbers. An escaped character and a bar are in none. Takes no memory.
+pub(crate) fn number(marks: &[Mark], base: u8) -> Option<Result<Datum, MeaningRefusal>>
     requires lowest_base { 2 ≤ base }
     requires highest_base { base ≤ 36 }
-    ensures gives { number_of base text.now ≡ option_map view_number result }
+    ensures gives { number_of base (codes_of marks.now) ≡ option_map view_number result }
     ensures proper { IfSome result (λ given. IfOk given (λ datum. is_proper datum ≡ true)) }
 {
-    let digits = without_sign(text);
-    let negative = is_negative(text);
-    if is_numeral(digits, base) {
-        return Some(integer(negative, digits, base));
-    }
-    if let Some(given) = decimal_number(negative, digits) {
+    let text = without_sign(marks);
+    let negative = is_negative(marks);
+    let whole = leading_digits(text, base);
+    if let Some(given) = rational_form(negative, whole, base) {
         return Some(given);
     }
-    if let Some(given) = ratio_number(negative, digits, base) {
-        return Some(given);
+    if base == 10 {
+        decimal_or_float(negative, whole)
+    } else {
+        decimal_or_float(negative, leading_digits(text, 10))
     }
-    if is_float(digits) {
-        return Some(Err(TokenRefusal::FloatToken));
-    }
-    None
 }
 
-/// An integer in decimal digits with the point at the end (standard 2.3.1).
-fn decimal_number(negative: bool, text: &[u8]) -> Option<Result<Datum, TokenRefusal>>
-    ensures gives { decimal_form negative (cut is_point text.now) ≡ option_map view_number result }
-    ensures proper { IfSome result (λ given. IfOk given (λ datum. is_proper datum ≡ true)) }
-{
-    let (whole, fraction) = cut_at_point(text)?;
-    if is_numeral(whole, 10) && fraction.is_empty() {
-        return Some(integer(negative, whole, 10));
-    }
-    None
-}
-
-/// A ratio in `base`, which is 2 to 36 (standard 2.3.2.1.1).
-fn ratio_number(negative: bool, text: &[u8], base: u8) -> Option<Result<Datum, TokenRefusal>>
+/// What the marks give as an integer or a ratio of digits in `base`, which is 2 to 36; None where they are none. Takes no
+/// memory.
+pub(crate) fn rational_number(marks: &[Mark], base: u8) -> Option<Result<Datum, MeaningRefusal>>
     requires lowest_base { 2 ≤ base }
     requires highest_base { base ≤ 36 }
-    ensures gives { ratio_form base negative (cut is_slash text.now) ≡ option_map view_number result }
+    ensures gives { rational_number base (codes_of marks.now) ≡ option_map view_number result }
     ensures proper { IfSome result (λ given. IfOk given (λ datum. is_proper datum ≡ true)) }
 {
-    let (numerator, denominator) = cut_at_slash(text)?;
-    if is_numeral(numerator, base) && is_numeral(denominator, base) {
-        return Some(ratio(negative, numerator, denominator, base));
-    }
-    None
+    let whole = leading_digits(without_sign(marks), base);
+    rational_form(is_negative(marks), whole, base)
 }
 
-// ---- what the digits give
-
-/// The integer of these digits in `base`, which is 2 to 36.
-fn integer(negative: bool, digits: &[u8], base: u8) -> Result<Datum, TokenRefusal>
-    requires lowest_base { 2 ≤ base }
-    requires highest_base { base ≤ 36 }
-    requires digits { are_digits base digits.now ≡ true }
-    ensures gives { view_number result ≡ integer_of negative (value base digits.now) }
-    ensures proper { IfOk result (λ datum. is_proper datum ≡ true) }
-{
-    let n = signed_value(negative, digits, base)?;
-    Ok(Datum::Integer(n))
-}
-
-/// The quotient of these digits in `base`, which is 2 to 36.
-fn ratio(
+/// An integer or a ratio of digits in `base`, which begins with the digits `whole`.
+fn rational_form(
     negative: bool,
-    numerator: &[u8],
-    denominator: &[u8],
+    whole: Leading<'_>,
     base: u8,
-) -> Result<Datum, TokenRefusal>
+) -> Option<Result<Datum, MeaningRefusal>>
     requires lowest_base { 2 ≤ base }
     requires highest_base { base ≤ 36 }
-    requires numerator { are_digits base numerator.now ≡ true }
-    requires denominator { are_digits base denominator.now ≡ true }
-    ensures gives { view_number result ≡ ratio_of negative (value base numerator.now) (value base denominator.now) }
-    ensures proper { IfOk result (λ datum. is_proper datum ≡ true) }
+    ensures gives { (text : List ℕ) → IsLeading base text whole.entry.some whole.entry.size (codes_of whole.entry.rest.now)
+        → rational_form base negative text ≡ option_map view_number result }
+    ensures proper { IfSome result (λ given. IfOk given (λ datum. is_proper datum ≡ true)) }
 {
-    let Some(d) = numeral_value(denominator, base) else {
-        return Err(TokenRefusal::NumberRange);
-    };
-    if d == 0 {
-        return Err(TokenRefusal::ZeroDenominator);
+    if !whole.some {
+        return None;
     }
-    let n = signed_value(negative, numerator, base)?;
-    match Ratio::reduce(n, d) {
-        Some(datum) => Ok(datum),
-        None => Err(TokenRefusal::ZeroDenominator),
+    if is_end(whole.rest) {
+        return Some(integer(negative, whole.size));
     }
+    let below = after(b'/', whole.rest)?;
+    let denominator = numeral(below, base)?;
+    Some(ratio(negative, whole.size, denominator))
 }
 
-/// The number of these digits in `base`, which is 2 to 36, below zero or not.
-fn signed_value(negative: bool, digits: &[u8], base: u8) -> Result<i128, TokenRefusal>
-    requires lowest_base { 2 ≤ base }
-    requires highest_base { base ≤ 36 }
-    requires digits { are_digits base digits.now ≡ true }
-    ensures { IsSigned negative (value base digits.now) result }
+/// An integer in decimal digits with the point at the end (standard 2.3.1), or a float (standard 2.3.2.2), which begins with
+/// the decimal digits `whole`.
+fn decimal_or_float(negative: bool, whole: Leading<'_>) -> Option<Result<Datum, MeaningRefusal>>
+    ensures gives { (text : List ℕ) → IsLeading 10 text whole.entry.some whole.entry.size (codes_of whole.entry.rest.now)
+        → decimal_or_float_form negative text ≡ option_map view_number result }
+    ensures proper { IfSome result (λ given. IfOk given (λ datum. is_proper datum ≡ true)) }
 {
-    match numeral_value(digits, base) {
-        Some(size) => signed(negative, size),
-        None => Err(TokenRefusal::NumberRange),
+    match after(b'.', whole.rest) {
+        Some(rest) => after_point(negative, whole, leading_digits(rest, 10)),
+        None if has_exponent(whole.some, whole.rest) => Some(Err(MeaningRefusal::FloatToken)),
+        None => None,
     }
 }
 
-/// The number of this size, below zero or not.
-fn signed(negative: bool, size: u128) -> Result<i128, TokenRefusal>
-    ensures { IsSigned negative size result }
+/// The same where the point comes after the digits `whole`, and the digits `fraction` after the point.
+fn after_point(
+    negative: bool,
+    whole: Leading<'_>,
+    fraction: Leading<'_>,
+) -> Option<Result<Datum, MeaningRefusal>>
+    ensures gives { (text after : List ℕ) → IsLeading 10 text whole.entry.some whole.entry.size (46 ∷ after)
+        → IsLeading 10 after fraction.entry.some fraction.entry.size (codes_of fraction.entry.rest.now)
+        → decimal_or_float_form negative text ≡ option_map view_number result }
+    ensures proper { IfSome result (λ given. IfOk given (λ datum. is_proper datum ≡ true)) }
 {
-    match i128::try_from(size) {
-        Ok(n) if negative => Ok(-n),
-        Ok(n) => Ok(n),
-        Err(_) if negative && size == 1 << 127 => Ok(i128::MIN),
-        Err(_) => Err(TokenRefusal::NumberRange),
-    }
-}
-
-// ---- floats (standard 2.3.2.2)
-
-fn is_float(text: &[u8]) -> bool
-    ensures { result ≡ is_float text.now }
-{
-    is_pointed(text) || is_scaled(text)
-}
-
-/// Whether decimal digits stand behind a point, and perhaps before it.
-fn is_pointed(text: &[u8]) -> bool
-    ensures { result ≡ is_pointed (cut is_point text.now) }
-{
-    match cut_at_point(text) {
-        Some((whole, fraction)) => are_digits(whole, 10) && is_numeral(fraction, 10),
-        None => false,
-    }
-}
-
-/// Whether it ends in an exponent.
-fn is_scaled(text: &[u8]) -> bool
-    ensures { result ≡ is_scaled (cut is_exponent_marker text.now) }
-{
-    match cut_at_exponent(text) {
-        Some((mantissa, exponent)) => {
-            is_mantissa(mantissa) && is_numeral(without_sign(exponent), 10)
+    if !is_end(fraction.rest) {
+        if has_exponent(whole.some | fraction.some, fraction.rest) {
+            return Some(Err(MeaningRefusal::FloatToken));
         }
-        None => false,
+        return None;
+    }
+    if fraction.some {
+        return Some(Err(MeaningRefusal::FloatToken));
+    }
+    if whole.some {
+        return Some(integer(negative, whole.size));
+    }
+    None
+}
+
+/// What comes after the character `c`, where it is the first.
+fn after(c: u8, marks: &[Mark]) -> Option<&[Mark]>
+    requires { 0 < c }
+    ensures { option_map (λ rest. codes_of rest.now) result ≡ after_code c (codes_of marks.now) }
+{
+    match marks {
+        [Mark::Plain(first), rest @ ..] if *first == c => Some(rest),
+        _ => None,
     }
 }
 
-/// Whether it may stand before an exponent.
-fn is_mantissa(text: &[u8]) -> bool
-    ensures { result ≡ is_mantissa text.now (cut is_point text.now) }
+/// Whether there are digits, and an exponent comes after them.
+fn has_exponent(some: bool, marks: &[Mark]) -> bool
+    ensures { result ≡ (some && is_exponent (codes_of marks.now)) }
 {
-    match cut_at_point(text) {
-        Some((whole, fraction)) => {
-            are_digits(whole, 10)
-                && are_digits(fraction, 10)
-                && !(whole.is_empty() && fraction.is_empty())
+    some && is_exponent(marks)
+}
+
+/// Whether it is an exponent marker and decimal digits, perhaps with a sign between them (standard 2.3.2.2).
+fn is_exponent(marks: &[Mark]) -> bool
+    ensures { result ≡ is_exponent (codes_of marks.now) }
+{
+    match marks {
+        [Mark::Plain(c), rest @ ..] if is_exponent_marker(*c) => {
+            numeral(without_sign(rest), 10).is_some()
         }
-        None => is_numeral(text, 10),
+        _ => false,
     }
-}
-
-// ---- where a text is cut
-
-#[tactic(auto, using(crate::proofs::Cuts::cut_is))]
-fn cut_at_point(text: &[u8]) -> Option<(&[u8], &[u8])>
-    ensures { option_map parts_of result ≡ cut is_point text.now }
-{
-    cut_at(text, first_point(text))
-}
-
-#[tactic(auto, using(crate::proofs::Cuts::cut_is))]
-fn cut_at_slash(text: &[u8]) -> Option<(&[u8], &[u8])>
-    ensures { option_map parts_of result ≡ cut is_slash text.now }
-{
-    cut_at(text, first_slash(text))
-}
-
-#[tactic(auto, using(crate::proofs::Cuts::cut_is))]
-fn cut_at_exponent(text: &[u8]) -> Option<(&[u8], &[u8])>
-    ensures { option_map parts_of result ≡ cut is_exponent_marker text.now }
-{
-    cut_at(text, first_exponent_marker(text))
-}
-
-fn first_point(text: &[u8]) -> Option<usize>
-    ensures value { result ≡ position is_point text.now }
-    ensures within { IfSome result (λ i. i < length text.now) }
-{
-    text.iter().position(|c| *c == b'.')
-}
-
-fn first_slash(text: &[u8]) -> Option<usize>
-    ensures value { result ≡ position is_slash text.now }
-    ensures within { IfSome result (λ i. i < length text.now) }
-{
-    text.iter().position(|c| *c == b'/')
-}
-
-fn first_exponent_marker(text: &[u8]) -> Option<usize>
-    ensures value { result ≡ position is_exponent_marker text.now }
-    ensures within { IfSome result (λ i. i < length text.now) }
-{
-    text.iter().position(|c| is_exponent_marker(*c))
 }
 
 fn is_exponent_marker(c: u8) -> bool
@@ -222,4 +144,59 @@ fn is_exponent_marker(c: u8) -> bool
         c,
         b'e' | b'E' | b's' | b'S' | b'f' | b'F' | b'd' | b'D' | b'l' | b'L'
     )
+}
+
+// ---- what the digits give
+
+/// The integer of this size; None is a size beyond 128 bits.
+fn integer(negative: bool, size: Option<u128>) -> Result<Datum, MeaningRefusal>
+    ensures gives { (worth : ℕ) → IsWorth size worth → view_number result ≡ integer_of negative worth }
+    ensures proper { IfOk result (λ datum. is_proper datum ≡ true) }
+{
+    let n = signed_value(negative, size)?;
+    Ok(Datum::Integer(n))
+}
+
+/// The quotient of these sizes.
+fn ratio(
+    negative: bool,
+    numerator: Option<u128>,
+    denominator: Option<u128>,
+) -> Result<Datum, MeaningRefusal>
+    ensures gives { (above below : ℕ) → IsWorth numerator above → IsWorth denominator below
+        → view_number result ≡ ratio_of negative above below }
+    ensures proper { IfOk result (λ datum. is_proper datum ≡ true) }
+{
+    let Some(d) = denominator else {
+        return Err(MeaningRefusal::NumberRange);
+    };
+    if d == 0 {
+        return Err(MeaningRefusal::ZeroDenominator);
+    }
+    let n = signed_value(negative, numerator)?;
+    match Ratio::reduce(n, d) {
+        Some(datum) => Ok(datum),
+        None => Err(MeaningRefusal::ZeroDenominator),
+    }
+}
+
+/// The number of this size, below zero or not.
+fn signed_value(negative: bool, size: Option<u128>) -> Result<i128, MeaningRefusal>
+    ensures { (worth : ℕ) → IsWorth size worth → IsSigned negative worth result }
+{
+    match size {
+        Some(size) => signed(negative, size),
+        None => Err(MeaningRefusal::NumberRange),
+    }
+}
+
+fn signed(negative: bool, size: u128) -> Result<i128, MeaningRefusal>
+    ensures { IsSigned negative size result }
+{
+    match i128::try_from(size) {
+        Ok(n) if negative => Ok(-n),
+        Ok(n) => Ok(n),
+        Err(_) if negative && size == 1 << 127 => Ok(i128::MIN),
+        Err(_) => Err(MeaningRefusal::NumberRange),
+    }
 }

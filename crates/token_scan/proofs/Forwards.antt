@@ -1,5 +1,5 @@
--- No place that a token gives lies before its first byte.
-use Rattle.std.proofs.Common.{◌≡◌, ◌≤◌, ◌+◌, ◌-◌, ◌==◌, ◌||◌, ℕ, Bool, true, false, if◌then◌else◌, List, [], ◌∷◌, Ok, Err, MatchResult, IsTrue, refl, ap, arith}
+-- No place that a token gives is before its first byte, and a token that has begun has a mark.
+use Rattle.std.proofs.Common.{◌≡◌, ◌≤◌, ◌<◌, length, not, ◌+◌, ◌-◌, ◌==◌, ◌||◌, ℕ, Bool, true, false, if◌then◌else◌, List, [], ◌∷◌, Ok, Err, MatchResult, IsTrue, refl, ap, arith}
 use Rattle.readtable_core.specs.declared.characters.Syntax.{Syntax}
 use Rattle.readtable_core.specs.declared.characters.Syntax.TheVariants.{Whitespace, Constituent, TerminatingMacro, NonTerminatingMacro, SingleEscape, MultipleEscape, Invalid}
 use Rattle.readtable_core.specs.Characters.{has_invalid_trait}
@@ -7,17 +7,17 @@ use Rattle.token_scan.specs.declared.mark.Mark.{Mark}
 use Rattle.token_scan.specs.declared.mark.Mark.TheVariants.{Plain, Quoted, Bar}
 use Rattle.token_scan.specs.declared.stage.Stage.{Stage}
 use Rattle.token_scan.specs.declared.stage.Stage.TheVariants.{Outside, Inside, EscapedOutside, EscapedInside, Refused}
-use Rattle.token_scan.specs.Tokens.{TypedByte, kind, is_character, Scanned, behind, escaped, outside, inside}
+use Rattle.token_scan.specs.Tokens.{TypedByte, kind, is_character, Scanned, with_front, escaped, outside, inside}
 use Rattle.token_scan.specs.Spelling.{is_plain, ends_tokens}
-use Rattle.token_scan.specs.Scans.{Scan, from_stage, token_from}
+use Rattle.token_scan.specs.Scans.{Scan, from_stage, is_empty, has_begun, token_from}
 use Rattle.token_scan.proofs.Steps.{outside_ends, outside_plain, outside_escape, outside_bar, outside_invalid, inside_between, inside_escape, inside_bar, inside_invalid}
 
 abbrev pub Forwards : ℕ → Scanned → Type 0
 Forwards at r = MatchResult r (λ t. at ≤ t.1) (λ e. at ≤ e.at)
 
-put_behind : (front : List Mark) (at : ℕ) (r : Scanned) → Forwards at r → Forwards at (behind front r)
-put_behind front at (Ok t) h = h
-put_behind front at (Err e) h = h
+put_after : (front : List Mark) (at : ℕ) (r : Scanned) → Forwards at r → Forwards at (with_front front r)
+put_after front at (Ok t) h = h
+put_after front at (Err e) h = h
 
 from_next : (at : ℕ) (r : Scanned) → Forwards (at + 1) r → Forwards at r
 from_next at (Ok t) h = omega arith
@@ -35,13 +35,13 @@ plain_forwards : (x : TypedByte) (xs : List TypedByte) (left at : ℕ) → IsTru
 plain_forwards x xs left at is after =
     rw (outside_plain x xs left at is) (chosen (left == 0) at _ _ (omega arith)
     (chosen (has_invalid_trait x.byte) at _ _ (omega arith)
-    (put_behind (Plain x.byte ∷ []) at _ (from_next at _ (after Outside (left - 1) (at + 1))))))
+    (put_after (Plain x.byte ∷ []) at _ (from_next at _ (after Outside (left - 1) (at + 1))))))
 
 between_forwards : (x : TypedByte) (xs : List TypedByte) (left at : ℕ) → IsTrue (is_plain (kind x) || ends_tokens (kind x)) → After xs
     → Forwards at (inside left at (x ∷ xs))
 between_forwards x xs left at is after =
     rw (inside_between x xs left at is) (chosen (left == 0) at _ _ (omega arith)
-    (put_behind (Quoted x.byte ∷ []) at _ (from_next at _ (after Inside (left - 1) (at + 1)))))
+    (put_after (Quoted x.byte ∷ []) at _ (from_next at _ (after Inside (left - 1) (at + 1)))))
 
 outside_forwards : (x : TypedByte) (xs : List TypedByte) (left at : ℕ) → After xs → Forwards at (outside left at (x ∷ xs))
 outside_forwards x xs left at after = by_kind (kind x) refl
@@ -52,7 +52,7 @@ outside_forwards x xs left at after = by_kind (kind x) refl
     by_kind Constituent e = plain_forwards x xs left at (ap is_plain e) after
     by_kind NonTerminatingMacro e = plain_forwards x xs left at (ap is_plain e) after
     by_kind SingleEscape e = rw (outside_escape x xs left at e) (from_next at _ (after EscapedOutside left (at + 1)))
-    by_kind MultipleEscape e = rw (outside_bar x xs left at e) (put_behind (Bar ∷ []) at _ (from_next at _ (after Inside left (at + 1))))
+    by_kind MultipleEscape e = rw (outside_bar x xs left at e) (put_after (Bar ∷ []) at _ (from_next at _ (after Inside left (at + 1))))
     by_kind Invalid e = rw (outside_invalid x xs left at e) (omega arith)
 
 inside_forwards : (x : TypedByte) (xs : List TypedByte) (left at : ℕ) → After xs → Forwards at (inside left at (x ∷ xs))
@@ -64,13 +64,13 @@ inside_forwards x xs left at after = by_kind (kind x) refl
     by_kind Constituent e = between_forwards x xs left at (rw e refl) after
     by_kind NonTerminatingMacro e = between_forwards x xs left at (rw e refl) after
     by_kind SingleEscape e = rw (inside_escape x xs left at e) (from_next at _ (after EscapedInside left (at + 1)))
-    by_kind MultipleEscape e = rw (inside_bar x xs left at e) (put_behind (Bar ∷ []) at _ (from_next at _ (after Outside left (at + 1))))
+    by_kind MultipleEscape e = rw (inside_bar x xs left at e) (put_after (Bar ∷ []) at _ (from_next at _ (after Outside left (at + 1))))
     by_kind Invalid e = rw (inside_invalid x xs left at e) (omega arith)
 
 escaped_forwards : (x : TypedByte) (left at : ℕ) (more : ℕ → Scanned) → Forwards (at + 1) (more (left - 1)) → Forwards at (escaped x left at more)
 escaped_forwards x left at more h =
     chosen (is_character x) at _ _
-    (chosen (left == 0) at _ _ (omega arith) (put_behind (Quoted x.byte ∷ []) at _ (from_next at _ h)))
+    (chosen (left == 0) at _ _ (omega arith) (put_after (Quoted x.byte ∷ []) at _ (from_next at _ h)))
     (omega arith)
 
 stage_forwards : (text : List TypedByte) → After text
@@ -89,4 +89,13 @@ stage_forwards (x ∷ xs) EscapedInside left at =
 stage_forwards (x ∷ xs) (Refused refusal) left at = omega arith
 
 pub forwards : (scan : Scan) (at : ℕ) (text : List TypedByte) → Forwards at (token_from scan at text)
-forwards scan at text = put_behind scan.marks at _ (stage_forwards text scan.stage scan.left at)
+forwards scan at text = put_after scan.marks at _ (stage_forwards text scan.stage scan.left at)
+
+-- a token that has begun has a mark where it may end
+pub begun_has_mark : (scan : Scan) → IsTrue (has_begun scan) → scan.stage ≡ Outside → 0 < length scan.marks
+begun_has_mark scan begun outside = by scan.marks scan.stage begun outside
+  where
+    by : (marks : List Mark) (stage : Stage) → IsTrue (not (is_empty marks stage)) → stage ≡ Outside → 0 < length marks
+    by [] Outside begun e = absurd cc
+    by [] stage begun e = absurd cc
+    by (m ∷ ms) stage begun e = omega arith

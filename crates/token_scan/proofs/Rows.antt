@@ -3,15 +3,15 @@ use Rattle.std.proofs.Common.{◌≡◌, ℕ, List, [], ◌∷◌, ◌++◌, cod
 use Rattle.readtable_core.specs.Tables.{standard}
 use Rattle.token_scan.specs.declared.mark.Mark.{Mark}
 use Rattle.token_scan.specs.declared.mark.Mark.TheVariants.{Plain, Quoted, Bar}
-use Rattle.token_scan.specs.declared.refusal.TokenRefusal.{TokenRefusal}
-use Rattle.token_scan.specs.declared.refusal.TokenRefusal.TheVariants.{EndOfFile, InvalidCharacter, InvalidTrait, TokenTooLong}
+use Rattle.token_scan.specs.declared.refusal.ScanRefusal.{ScanRefusal}
+use Rattle.token_scan.specs.declared.refusal.ScanRefusal.TheVariants.{EndOfFile, InvalidCharacter, InvalidTrait, TokenTooLong}
 use Rattle.token_scan.specs.Tokens.{TokenFault, token_in, outside}
 
 -- the token of at most two characters at the start of the text
 short : List ℕ → Result (List Mark × ℕ × List ℕ) TokenFault
 short text = token_in standard 2 0 text
 
-refused_at : TokenRefusal → ℕ → Result (List Mark × ℕ × List ℕ) TokenFault
+refused_at : ScanRefusal → ℕ → Result (List Mark × ℕ × List ℕ) TokenFault
 refused_at refusal at = Err (record { refusal = refusal; at = at })
 
 whitespace_ends : short (codes "a# b") ≡ Ok (Plain 97 ∷ Plain 35 ∷ [], 2, codes " b")

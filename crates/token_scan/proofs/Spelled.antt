@@ -5,9 +5,9 @@ use Rattle.readtable_core.specs.declared.characters.Syntax.{Syntax}
 use Rattle.readtable_core.specs.declared.characters.Syntax.TheVariants.{SingleEscape, MultipleEscape, Invalid}
 use Rattle.token_scan.specs.declared.mark.Mark.{Mark}
 use Rattle.token_scan.specs.declared.mark.Mark.TheVariants.{Plain, Quoted, Bar}
-use Rattle.token_scan.specs.Tokens.{TypedByte, is_character, kind, Scanned, behind, plain, quoted, escaped, outside, inside}
+use Rattle.token_scan.specs.Tokens.{TypedByte, is_character, kind, Scanned, with_front, plain, quoted, escaped, outside, inside, escaped_token}
 use Rattle.token_scan.specs.Marks.{character_count, is_ascii_mark, are_ascii}
-use Rattle.token_scan.specs.Spelling.{Spells, nothing, plain as spells_plain, between, escaped as spells_escaped, bar, may_end, is_plain, ends_tokens}
+use Rattle.token_scan.specs.Spelling.{Spells, nothing, plain as spells_plain, between, escaped as spells_escaped, bar, SpellsEscaped, first as spells_first, may_end, is_plain, ends_tokens}
 use Rattle.token_scan.proofs.Steps.{outside_ends, outside_plain, outside_escape, outside_bar, inside_between, inside_escape, inside_bar, room, plain_taken, escaped_taken}
 
 -- what a text gives, where the test says whether it stands between multiple escapes
@@ -31,8 +31,8 @@ bar_counts marks = sum_by-cons _ Bar marks ∙ (let h : 0 + character_count mark
 
 -- one more mark in front
 more : (mark : Mark) (marks : List Mark) (rest : List TypedByte) (there place : ℕ) (r : Scanned)
-    → r ≡ Ok (marks, there, rest) → there ≡ place → behind (mark ∷ []) r ≡ Ok (mark ∷ marks, place, rest)
-more mark marks rest there place r e p = ap (behind (mark ∷ [])) e ∙ (λ i. Ok (mark ∷ marks, p i, rest))
+    → r ≡ Ok (marks, there, rest) → there ≡ place → with_front (mark ∷ []) r ≡ Ok (mark ∷ marks, place, rest)
+more mark marks rest there place r e p = ap (with_front (mark ∷ [])) e ∙ (λ i. Ok (mark ∷ marks, p i, rest))
 
 pub escape_at : (bars : Bool) (escape x : TypedByte) (xs : List TypedByte) (left at : ℕ) → kind escape ≡ SingleEscape
     → from_bars bars left at (escape ∷ x ∷ xs) ≡ escaped x left (at + 1) (λ left. from_bars bars left (at + 1 + 1) xs)
@@ -41,7 +41,7 @@ escape_at false escape x xs left at e = outside_escape escape (x ∷ xs) left at
 escape_at true escape x xs left at e = inside_escape escape (x ∷ xs) left at e
 
 pub bar_at : (bars : Bool) (x : TypedByte) (xs : List TypedByte) (left at : ℕ) → kind x ≡ MultipleEscape
-    → from_bars bars left at (x ∷ xs) ≡ behind (Bar ∷ []) (from_bars (not bars) left (at + 1) xs)
+    → from_bars bars left at (x ∷ xs) ≡ with_front (Bar ∷ []) (from_bars (not bars) left (at + 1) xs)
 bar_at false x xs left at e = outside_bar x xs left at e
 bar_at true x xs left at e = inside_bar x xs left at e
 
@@ -66,6 +66,15 @@ spelled_gives (bar bars x xs marks is s) left at rest fits ends =
     bar_at bars x (xs ++ rest) left at is
     ∙ more Bar marks rest _ _ _ (spelled_gives s left (at + 1) rest (omega (arith, fits, bar_counts marks)) ends) (omega arith)
 
+-- the same where the first character is taken as an escaped one
+pub escaped_gives : {taken : List TypedByte} {marks : List Mark} → SpellsEscaped taken marks
+    → (left at : ℕ) (rest : List TypedByte) → character_count marks ≤ left → IsTrue (may_end rest)
+    → escaped_token left at (taken ++ rest) ≡ Ok (marks, at + length taken, rest)
+unfolding outside
+escaped_gives (spells_first x xs marks character s) left at rest fits ends =
+    escaped_taken x left at (λ left. outside left (at + 1) (xs ++ rest)) character (omega (arith, fits, quoted_counts x.byte marks))
+    ∙ more (Quoted x.byte) marks rest _ _ _ (spelled_gives s (left - 1) (at + 1) rest (omega (arith, fits, quoted_counts x.byte marks)) ends) (omega arith)
+
 -- ---- the characters are below 128
 
 no_invalid : (p : Syntax → Bool) (b : Bool) (syntax : Syntax) → p Invalid ≡ false → IsTrue (p (if b then syntax else Invalid)) → IsTrue b
@@ -83,3 +92,6 @@ spelled_ascii (between x xs marks is s) =
     front_ascii (Quoted x.byte) marks (no_invalid (λ k. is_plain k || ends_tokens k) (is_character x) x.syntax refl is) (spelled_ascii s)
 spelled_ascii (spells_escaped bars escape x xs marks is character s) = front_ascii (Quoted x.byte) marks character (spelled_ascii s)
 spelled_ascii (bar bars x xs marks is s) = front_ascii Bar marks refl (spelled_ascii s)
+
+pub spelled_escaped_ascii : {taken : List TypedByte} {marks : List Mark} → SpellsEscaped taken marks → IsTrue (are_ascii marks)
+spelled_escaped_ascii (spells_first x xs marks character s) = front_ascii (Quoted x.byte) marks character (spelled_ascii s)

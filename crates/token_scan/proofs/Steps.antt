@@ -4,8 +4,8 @@ use Rattle.readtable_core.specs.declared.characters.Syntax.{Syntax}
 use Rattle.readtable_core.specs.declared.characters.Syntax.TheVariants.{Whitespace, Constituent, TerminatingMacro, NonTerminatingMacro, SingleEscape, MultipleEscape, Invalid}
 use Rattle.readtable_core.specs.Characters.{has_invalid_trait}
 use Rattle.token_scan.specs.declared.mark.Mark.TheVariants.{Plain, Bar}
-use Rattle.token_scan.specs.declared.refusal.TokenRefusal.TheVariants.{InvalidCharacter}
-use Rattle.token_scan.specs.Tokens.{TypedByte, kind, is_character, Scanned, fault, behind, one_more, plain, quoted, escaped, outside, inside, escaped_outside, escaped_inside}
+use Rattle.token_scan.specs.declared.refusal.ScanRefusal.TheVariants.{InvalidCharacter}
+use Rattle.token_scan.specs.Tokens.{TypedByte, kind, is_character, Scanned, fault, with_front, one_more, plain, quoted, escaped, outside, inside, escaped_outside, escaped_inside}
 use Rattle.token_scan.specs.Spelling.{is_plain, ends_tokens}
 
 -- ---- outside multiple escapes
@@ -37,7 +37,7 @@ unfolding outside
 outside_escape x xs left at e = rw (e, outside) refl
 
 pub outside_bar : (x : TypedByte) (xs : List TypedByte) (left at : ℕ) → kind x ≡ MultipleEscape
-    → outside left at (x ∷ xs) ≡ behind (Bar ∷ []) (inside left (at + 1) xs)
+    → outside left at (x ∷ xs) ≡ with_front (Bar ∷ []) (inside left (at + 1) xs)
 unfolding outside
 outside_bar x xs left at e = rw (e, outside) refl
 
@@ -67,7 +67,7 @@ unfolding outside
 inside_escape x xs left at e = rw (e, inside) refl
 
 pub inside_bar : (x : TypedByte) (xs : List TypedByte) (left at : ℕ) → kind x ≡ MultipleEscape
-    → inside left at (x ∷ xs) ≡ behind (Bar ∷ []) (outside left (at + 1) xs)
+    → inside left at (x ∷ xs) ≡ with_front (Bar ∷ []) (outside left (at + 1) xs)
 unfolding outside
 inside_bar x xs left at e = rw (e, inside) refl
 
@@ -81,7 +81,7 @@ inside_invalid x xs left at e = rw (e, inside) refl
 pub room : (left at : ℕ) (more : ℕ → Scanned) → 0 < left → one_more left at more ≡ more (left - 1)
 room left at more h = search (rules, arith)
 
-pub plain_taken : (c left at : ℕ) (more : Scanned) → has_invalid_trait c ≡ false → plain c at more ≡ behind (Plain c ∷ []) more
+pub plain_taken : (c left at : ℕ) (more : Scanned) → has_invalid_trait c ≡ false → plain c at more ≡ with_front (Plain c ∷ []) more
 plain_taken c left at more e = rw e refl
 
 pub escaped_taken : (x : TypedByte) (left at : ℕ) (more : ℕ → Scanned) → IsTrue (is_character x) → 0 < left

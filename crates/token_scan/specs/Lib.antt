@@ -1,4 +1,3 @@
-pub mod Refusals
 pub mod Marks
 pub mod Tokens
 pub mod Spelling

@@ -1,12 +1,21 @@
 -- What holds of marks.
-use Rattle.std.specs.Prelude.{ℕ, nat_lt, Bool, true, false, not, List, count_by}
-use Rattle.std.specs.List.{list_all}
+use Rattle.std.specs.Prelude.{ℕ, nat_lt, Bool, true, false, not, List, Option, Some, None, count_by}
+use Rattle.std.specs.List.{list_all, filter_map}
 use Rattle.token_scan.specs.declared.mark.Mark.{Mark}
 use Rattle.token_scan.specs.declared.mark.Mark.TheVariants.{Plain, Quoted, Bar}
 
 abbrev pub is_bar : Mark → Bool
 is_bar Bar = true
 is_bar _ = false
+
+abbrev pub character_of : Mark → Option ℕ
+character_of (Plain c) = Some c
+character_of (Quoted c) = Some c
+character_of Bar = None
+
+-- the characters of the marks, in their case, without bars and escapes
+abbrev pub characters : List Mark → List ℕ
+characters marks = filter_map character_of marks
 
 -- how many characters a token has
 abbrev pub character_count : List Mark → ℕ

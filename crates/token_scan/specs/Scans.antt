@@ -4,15 +4,15 @@ use Rattle.readtable_core.specs.declared.characters.Syntax.{Syntax}
 use Rattle.readtable_core.specs.declared.characters.Syntax.TheVariants.{SingleEscape, MultipleEscape}
 use Rattle.token_scan.specs.declared.mark.Mark.{Mark}
 use Rattle.token_scan.specs.declared.mark.Mark.TheVariants.{Plain, Quoted, Bar}
-use Rattle.token_scan.specs.declared.refusal.TokenRefusal.{TokenRefusal}
+use Rattle.token_scan.specs.declared.refusal.ScanRefusal.{ScanRefusal}
 use Rattle.token_scan.specs.declared.stage.Stage.{Stage}
 use Rattle.token_scan.specs.declared.stage.Stage.TheVariants.{Outside, Inside, EscapedOutside, EscapedInside, Refused}
 use Rattle.token_scan.specs.declared.scan.Fed.{Fed}
 use Rattle.token_scan.specs.declared.scan.Fed.TheVariants.{More, Ended, Refused as FedRefused}
 use Rattle.token_scan.specs.Spelling.{ends_tokens}
-use Rattle.token_scan.specs.Tokens.{TypedByte, kind, Scanned, fault, behind, outside, inside, escaped_outside, escaped_inside}
+use Rattle.token_scan.specs.Tokens.{TypedByte, kind, Scanned, fault, with_front, outside, inside, escaped_outside, escaped_inside}
 
--- the marks so far, how many characters may still come, and where the next byte stands
+-- the marks so far, how many characters may still come, and where the next byte is
 pub record Scan : Type 0 where
   pub marks : List Mark
   pub left : ℕ
@@ -21,6 +21,10 @@ pub record Scan : Type 0 where
 -- nothing was fed yet
 abbrev pub begun : ℕ → Scan
 begun limit = record { marks = []; left = limit; stage = Outside }
+
+-- nothing was fed yet, and the first character is taken as an escaped one
+abbrev pub begun_escaped : ℕ → Scan
+begun_escaped limit = record { marks = []; left = limit; stage = EscapedOutside }
 
 abbrev pub from_stage : Stage → ℕ → ℕ → List TypedByte → Scanned
 from_stage Outside left at text = outside left at text
@@ -31,7 +35,7 @@ from_stage (Refused refusal) left at text = fault refusal at
 
 -- what the token gives if this text follows, from this place on
 abbrev pub token_from : Scan → ℕ → List TypedByte → Scanned
-token_from scan at text = behind scan.marks (from_stage scan.stage scan.left at text)
+token_from scan at text = with_front scan.marks (from_stage scan.stage scan.left at text)
 
 abbrev pub is_empty : List Mark → Stage → Bool
 is_empty [] Outside = true
@@ -41,7 +45,7 @@ is_empty _ _ = false
 abbrev pub has_begun : Scan → Bool
 has_begun scan = not (is_empty scan.marks scan.stage)
 
-abbrev pub refused : Scan → TokenRefusal → Scan
+abbrev pub refused : Scan → ScanRefusal → Scan
 refused scan refusal = record scan { stage = Refused refusal }
 
 -- ---- what a byte does

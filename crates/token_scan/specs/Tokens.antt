@@ -6,8 +6,8 @@ use Rattle.readtable_core.specs.Characters.{has_invalid_trait}
 use Rattle.readtable_core.specs.Tables.{Table, entry_at}
 use Rattle.token_scan.specs.declared.mark.Mark.{Mark}
 use Rattle.token_scan.specs.declared.mark.Mark.TheVariants.{Plain, Quoted, Bar}
-use Rattle.token_scan.specs.declared.refusal.TokenRefusal.{TokenRefusal}
-use Rattle.token_scan.specs.declared.refusal.TokenRefusal.TheVariants.{EndOfFile, InvalidCharacter, InvalidTrait, TokenTooLong}
+use Rattle.token_scan.specs.declared.refusal.ScanRefusal.{ScanRefusal}
+use Rattle.token_scan.specs.declared.refusal.ScanRefusal.TheVariants.{EndOfFile, InvalidCharacter, InvalidTrait, TokenTooLong}
 
 -- a byte as a reader meets it, with the syntax type that it has in the readtable in force
 pub record TypedByte : Type 0 where
@@ -28,20 +28,20 @@ kind x = if is_character x then x.syntax else Invalid
 
 -- why and where a token is refused
 pub record TokenFault : Type 0 where
-  pub refusal : TokenRefusal
+  pub refusal : ScanRefusal
   pub at : ℕ
 
--- The marks of the token, the place behind it and the rest of the text, or the first fault. Places count the bytes.
+-- The marks of the token, the place after it and the rest of the text, or the first fault. Places count the bytes.
 abbrev pub Scanned : Type 0
 Scanned = Result (List Mark × ℕ × List TypedByte) TokenFault
 
-abbrev pub fault : TokenRefusal → ℕ → Scanned
+abbrev pub fault : ScanRefusal → ℕ → Scanned
 fault refusal at = Err (record { refusal = refusal; at = at })
 
 -- the token with these marks in front
-abbrev pub behind : List Mark → Scanned → Scanned
-behind front (Ok (marks, at, rest)) = Ok (front ++ marks, at, rest)
-behind front (Err e) = Err e
+abbrev pub with_front : List Mark → Scanned → Scanned
+with_front front (Ok (marks, at, rest)) = Ok (front ++ marks, at, rest)
+with_front front (Err e) = Err e
 
 -- a character at this place, where so many may still come
 abbrev pub one_more : ℕ → ℕ → (ℕ → Scanned) → Scanned
@@ -49,13 +49,13 @@ one_more left at more = if left == 0 then fault TokenTooLong at else more (left 
 
 -- a character that stands for itself
 abbrev pub plain : ℕ → ℕ → Scanned → Scanned
-plain c at more = if has_invalid_trait c then fault InvalidTrait at else behind (Plain c ∷ []) more
+plain c at more = if has_invalid_trait c then fault InvalidTrait at else with_front (Plain c ∷ []) more
 
--- a character behind a single escape or between multiple escapes
+-- a character after a single escape or between multiple escapes
 abbrev pub quoted : ℕ → Scanned → Scanned
-quoted c more = behind (Quoted c ∷ []) more
+quoted c more = with_front (Quoted c ∷ []) more
 
--- what stands behind a single escape: any character, whatever its syntax type
+-- what comes after a single escape: any character, whatever its syntax type
 abbrev pub escaped : TypedByte → ℕ → ℕ → (ℕ → Scanned) → Scanned
 escaped x left at more =
     if is_character x then one_more left at (λ left. quoted x.byte (more left)) else fault InvalidCharacter at
@@ -73,7 +73,7 @@ unfoldable mutual
         | Constituent ↦ one_more left at (λ left. plain x.byte at (outside left (at + 1) xs))
         | NonTerminatingMacro ↦ one_more left at (λ left. plain x.byte at (outside left (at + 1) xs))
         | SingleEscape ↦ escaped_outside left (at + 1) xs
-        | MultipleEscape ↦ behind (Bar ∷ []) (inside left (at + 1) xs)
+        | MultipleEscape ↦ with_front (Bar ∷ []) (inside left (at + 1) xs)
         | Invalid ↦ fault InvalidCharacter at
       ]
 
@@ -87,11 +87,11 @@ unfoldable mutual
         | Constituent ↦ one_more left at (λ left. quoted x.byte (inside left (at + 1) xs))
         | NonTerminatingMacro ↦ one_more left at (λ left. quoted x.byte (inside left (at + 1) xs))
         | SingleEscape ↦ escaped_inside left (at + 1) xs
-        | MultipleEscape ↦ behind (Bar ∷ []) (outside left (at + 1) xs)
+        | MultipleEscape ↦ with_front (Bar ∷ []) (outside left (at + 1) xs)
         | Invalid ↦ fault InvalidCharacter at
       ]
 
-  -- behind a single escape, outside and between
+  -- after a single escape, outside and between
   pub escaped_outside : ℕ → ℕ → List TypedByte → Scanned
   escaped_outside left at [] = fault EndOfFile at
   escaped_outside left at (x ∷ xs) = escaped x left at (λ left. outside left (at + 1) xs)
@@ -104,6 +104,11 @@ unfoldable mutual
 abbrev pub token : ℕ → ℕ → List TypedByte → Scanned
 token limit at text = outside limit at text
 
+-- The token whose first character is taken as an escaped one is, whatever its syntax type, as that of a character's name is
+-- (standard 2.4.8.1). That character counts.
+abbrev pub escaped_token : ℕ → ℕ → List TypedByte → Scanned
+escaped_token limit at text = escaped_outside limit at text
+
 -- ---- the same of a text of bytes under a readtable
 
 abbrev pub typed : Table → ℕ → TypedByte
@@ -112,9 +117,16 @@ typed table c = met (entry_at table c).syntax c
 abbrev pub typed_text : Table → List ℕ → List TypedByte
 typed_text table text = map (typed table) text
 
-abbrev pub in_bytes : Scanned → Result (List Mark × ℕ × List ℕ) TokenFault
+-- the marks, the place after the token and the rest of the bytes, or the first fault
+abbrev pub ScannedBytes : Type 0
+ScannedBytes = Result (List Mark × ℕ × List ℕ) TokenFault
+
+abbrev pub in_bytes : Scanned → ScannedBytes
 in_bytes (Ok (marks, at, rest)) = Ok (marks, at, map (λ x. x.byte) rest)
 in_bytes (Err e) = Err e
 
-abbrev pub token_in : Table → ℕ → ℕ → List ℕ → Result (List Mark × ℕ × List ℕ) TokenFault
+abbrev pub token_in : Table → ℕ → ℕ → List ℕ → ScannedBytes
 token_in table limit at text = in_bytes (token limit at (typed_text table text))
+
+abbrev pub escaped_token_in : Table → ℕ → ℕ → List ℕ → ScannedBytes
+escaped_token_in table limit at text = in_bytes (escaped_token limit at (typed_text table text))

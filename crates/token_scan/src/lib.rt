@@ -2,16 +2,28 @@
 //!
 //! A reader feeds a token byte by byte, each byte with the syntax type that it has in the readtable in force.
 //! `specs/Tokens.antt` says what a token is, as steps 8 and 9 of the reader algorithm do (standard 2.2), on a whole
-//! text: the marks, the place behind the token and the rest of the text, or the first fault and its place. `TokenScan`
+//! text: the marks, the place after the token and the rest of the text, or the first fault and its place. `TokenScan`
 //! gives the same, whatever follows: `token_from` of `specs/Scans.antt` says what a token under way gives if a text
 //! follows, and each call of `feed` and `finish` is one equation on it. `token_laws` says what holds of every token:
 //! the text splits into the bytes that spell the marks (`Spells` of `specs/Spelling.antt`) and the rest.
 //!
-//! - `mark`: `Mark`
-//! - `refusal`: `TokenRefusal`
+//! - `mark`: `Mark`, `Marks`, `characters`
+//! - `refusal`: `ScanRefusal`, which has no number: `token_meaning` gives it
 //! - `scan`: `TokenScan`, `Fed`
-//! - `stage`: where the next byte of a token stands
-//! - `laws`: `token_laws`
+//! - `stage`: where the next byte of a token is
+//! - `laws`: `token_laws`, `escaped_token_laws`
+//!
+//! # For proofs above
+//!
+//! These lemmas stay under these names:
+//!
+//! - `proofs/Spelled.antt`: `spelled_gives` (the bytes that spell marks give them; build a `Spells`, and never unfold
+//!   `outside`), `escaped_gives`; `plain_counts`, `quoted_counts`, `bar_counts`
+//! - `proofs/Split.antt`: `splits`, `escaped_token_splits`
+//! - `proofs/Standing.antt`: `token_stands`, `escaped_token_stands`; `bytes_typed`, `typed_again`
+//! - `proofs/Forwards.antt`: `forwards`, `begun_has_mark`
+//!
+//! Rows on literal texts open `outside`, and `standard` of readtable_core.
 #![tactic(auto)]
 
 mod laws;
@@ -20,9 +32,9 @@ mod refusal;
 mod scan;
 mod stage;
 
-pub use laws::token_laws;
-pub use mark::Mark;
-pub use refusal::TokenRefusal;
+pub use laws::{escaped_token_laws, token_laws};
+pub use mark::{Mark, Marks, characters};
+pub use refusal::ScanRefusal;
 pub use scan::{Fed, TokenScan};
 
 #[cfg(test)]

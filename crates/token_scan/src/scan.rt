@@ -2,12 +2,13 @@
 ghost use Rattle.std.specs.Prelude.{◌≡◌, ◌+◌, ◌-◌, ◌<◌, ℕ, if◌then◌else◌, false, is_ok, Err, List, [], ◌∷◌, ◌++◌, length, IsTrue, Ok, IsOk, IfOk, OnOk, OnErr, IfErr, MatchResult};
 ghost use Rattle.readtable_core.specs.declared.characters.Syntax.TheVariants.{Constituent};
 ghost use Rattle.token_scan.specs.declared.mark.Mark.TheVariants.{Plain, Quoted};
+ghost use Rattle.token_scan.specs.declared.refusal.ScanRefusal.TheVariants.{EndOfFile};
 ghost use Rattle.token_scan.specs.Marks.{is_ascii_mark, are_ascii};
-ghost use Rattle.token_scan.specs.Tokens.{TypedByte, met, kind, behind, one_more, plain, quoted, escaped, outside, inside, token, fault};
+ghost use Rattle.token_scan.specs.Tokens.{TypedByte, met, kind, with_front, one_more, plain, quoted, escaped, outside, inside, token, escaped_token, fault};
 ghost use Rattle.token_scan.specs.declared.stage.Stage.TheVariants.{Outside, Inside, EscapedOutside, EscapedInside, Refused};
 
 use crate::stage::Stage;
-use crate::{Mark, TokenRefusal};
+use crate::{Mark, Marks, ScanRefusal};
 use readtable_core::{Syntax, traits_of};
 use smallvec::SmallVec;
 use std::alloc::{AllocError, Global};
@@ -21,13 +22,13 @@ pub enum Fed {
     /// The token ends before the byte, which was not taken.
     Ended,
     /// The token is refused at the byte.
-    Refused(TokenRefusal),
+    Refused(ScanRefusal),
 }
 
 /// A token as far as it was fed.
 #[derive(Drop)]
 pub struct TokenScan {
-    marks: SmallVec<Mark, 32>,
+    marks: Marks,
     left: usize,
     stage: Stage,
 }
@@ -47,7 +48,7 @@ impl Model for TokenScan {
 
 impl TokenScan {
     ghost use Rattle.token_scan.specs.declared.scan.Fed.TheVariants.{Refused as FedRefused};
-    ghost use Rattle.token_scan.specs.Scans.{begun, refused, from_stage, token_from, fed_gives, LeavesBy, Leaves};
+    ghost use Rattle.token_scan.specs.Scans.{begun, begun_escaped, refused, from_stage, token_from, fed_gives, LeavesBy, Leaves};
 
     /// An empty token of at most `limit` characters, which bars and escapes are not. It keeps `alloc` for its marks, of
     /// which 32 need no memory.
@@ -55,11 +56,16 @@ impl TokenScan {
         ensures value { result ≡ begun limit }
         ensures token { (at : ℕ) (text : List TypedByte) → token_from result at text ≡ token limit at text }
     {
-        TokenScan {
-            marks: SmallVec::new(alloc),
-            left: limit,
-            stage: Stage::Outside,
-        }
+        TokenScan::starting(alloc, limit, Stage::Outside)
+    }
+
+    /// The same, but the first character is taken as an escaped one is, whatever its syntax type, as that of a character's
+    /// name is (standard 2.4.8.1).
+    pub fn begin_escaped(alloc: Global, limit: usize) -> TokenScan
+        ensures value { result ≡ begun_escaped limit }
+        ensures token { (at : ℕ) (text : List TypedByte) → token_from result at text ≡ escaped_token limit at text }
+    {
+        TokenScan::starting(alloc, limit, Stage::EscapedOutside)
     }
 
     /// Feeds `byte`, which has the syntax type `syntax` in the readtable in force (standard 2.2, steps 8 and 9). A byte
@@ -67,16 +73,17 @@ impl TokenScan {
     ///
     /// # Errors
     ///
-    /// Want of memory for a mark; then nothing has changed.
+    /// Out of memory for a mark; then nothing has changed.
     #[tactic(auto, unfolding(crate::specs::Tokens::outside))]
     pub fn feed(&mut self, syntax: Syntax, byte: u8) -> Result<Fed, AllocError>
         ensures gives { (at : ℕ) (more : List TypedByte) → IfOk result (λ fed.
             token_from self.old at (met syntax byte ∷ more) ≡ fed_gives fed self.new at (met syntax byte) more) }
         ensures leaves { IfOk result (λ fed. Leaves fed self.old (met syntax byte) self.new) }
         ensures unchanged { OnErr result (self.new ≡ self.old) }
-        ensures repeats { (refusal : TokenRefusal) → self.old.stage ≡ Refused refusal
+        ensures repeats { (refusal : ScanRefusal) → self.old.stage ≡ Refused refusal
             → result ≡ Ok (FedRefused refusal) }
         ensures inline { length self.old.marks < 32 → IsOk result }
+        ensures no_end { result ≡ Ok (FedRefused EndOfFile) → self.old.stage ≡ Refused EndOfFile }
     {
         match self.stage {
             Stage::Outside => self.feed_outside(syntax, byte),
@@ -91,23 +98,23 @@ impl TokenScan {
     ///
     /// # Errors
     ///
-    /// `EndOfFile` behind a single escape or between multiple escapes, and an earlier refusal. Each later call answers it
+    /// `EndOfFile` after a single escape or between multiple escapes, and an earlier refusal. Each later call answers it
     /// again.
     #[tactic(auto, unfolding(crate::specs::Tokens::outside))]
-    pub fn finish(&mut self) -> Result<(), TokenRefusal>
+    pub fn finish(&mut self) -> Result<(), ScanRefusal>
         ensures gives { (at : ℕ) → MatchResult result
             (λ _. token_from self.old at [] ≡ Ok (self.old.marks, at, []))
             (λ refusal. token_from self.old at [] ≡ fault refusal at) }
         ensures leaves { MatchResult result (λ _. (self.new ≡ self.old) × (self.old.stage ≡ Outside))
             (λ refusal. self.new ≡ refused self.old refusal) }
-        ensures repeats { (refusal : TokenRefusal) → self.old.stage ≡ Refused refusal → result ≡ Err refusal }
+        ensures repeats { (refusal : ScanRefusal) → self.old.stage ≡ Refused refusal → result ≡ Err refusal }
     {
         match self.stage {
             Stage::Outside => Ok(()),
             Stage::Refused(refusal) => Err(refusal),
             _ => {
-                self.stage = Stage::Refused(TokenRefusal::EndOfFile);
-                Err(TokenRefusal::EndOfFile)
+                self.stage = Stage::Refused(ScanRefusal::EndOfFile);
+                Err(ScanRefusal::EndOfFile)
             }
         }
     }
@@ -120,16 +127,35 @@ impl TokenScan {
         self.marks.as_slice()
     }
 
+    /// The marks so far, whose characters are below 128, moved out. It takes no memory.
+    pub fn into_marks(self) -> Marks
+        ensures value { result.items ≡ self.marks }
+        ensures ascii { IsTrue (are_ascii self.marks) }
+    {
+        self.marks
+    }
+
+    fn starting(alloc: Global, limit: usize, stage: Stage) -> TokenScan
+        ensures { result ≡ record { marks = []; left = limit; stage = stage } }
+    {
+        TokenScan {
+            marks: SmallVec::new(alloc),
+            left: limit,
+            stage,
+        }
+    }
+
     // Takes a byte outside multiple escapes.
     #[tactic(auto, unfolding(crate::specs::Tokens::outside))]
     fn feed_outside(&mut self, syntax: Syntax, byte: u8) -> Result<Fed, AllocError>
         requires { self.old.stage ≡ Outside }
         ensures gives { (at : ℕ) (more : List TypedByte) → IfOk result (λ fed.
-            behind self.old.marks (outside self.old.left at (met syntax byte ∷ more))
+            with_front self.old.marks (outside self.old.left at (met syntax byte ∷ more))
             ≡ fed_gives fed self.new at (met syntax byte) more) }
         ensures leaves { IfOk result (λ fed. Leaves fed self.old (met syntax byte) self.new) }
         ensures unchanged { OnErr result (self.new ≡ self.old) }
         ensures inline { length self.old.marks < 32 → IsOk result }
+        ensures no_end { result ≡ Ok (FedRefused EndOfFile) → ⊥ }
     {
         match kind_of(syntax, byte) {
             Syntax::Whitespace | Syntax::TerminatingMacro => Ok(Fed::Ended),
@@ -142,7 +168,7 @@ impl TokenScan {
                 self.add(Mark::Bar, Stage::Inside)?;
                 Ok(Fed::More)
             }
-            Syntax::Invalid => Ok(self.refuse(TokenRefusal::InvalidCharacter)),
+            Syntax::Invalid => Ok(self.refuse(ScanRefusal::InvalidCharacter)),
         }
     }
 
@@ -150,17 +176,18 @@ impl TokenScan {
     fn feed_plain(&mut self, byte: u8) -> Result<Fed, AllocError>
         requires { byte < 128 }
         ensures gives { (x : TypedByte) (at : ℕ) (more : List TypedByte) → IfOk result (λ fed.
-            behind self.old.marks (one_more self.old.left at (λ left. plain byte at (outside left (at + 1) more)))
+            with_front self.old.marks (one_more self.old.left at (λ left. plain byte at (outside left (at + 1) more)))
             ≡ fed_gives fed self.new at x more) }
         ensures leaves { IfOk result (λ fed. LeavesBy (Plain byte ∷ []) false fed self.old self.new) }
         ensures unchanged { OnErr result (self.new ≡ self.old) }
         ensures inline { length self.old.marks < 32 → IsOk result }
+        ensures no_end { result ≡ Ok (FedRefused EndOfFile) → ⊥ }
     {
         if self.left == 0 {
-            return Ok(self.refuse(TokenRefusal::TokenTooLong));
+            return Ok(self.refuse(ScanRefusal::TokenTooLong));
         }
         if traits_of(byte).is_invalid() {
-            return Ok(self.refuse(TokenRefusal::InvalidTrait));
+            return Ok(self.refuse(ScanRefusal::InvalidTrait));
         }
         self.add_character(Mark::Plain(byte), Stage::Outside)?;
         Ok(Fed::More)
@@ -171,11 +198,12 @@ impl TokenScan {
     fn feed_inside(&mut self, syntax: Syntax, byte: u8) -> Result<Fed, AllocError>
         requires { self.old.stage ≡ Inside }
         ensures gives { (at : ℕ) (more : List TypedByte) → IfOk result (λ fed.
-            behind self.old.marks (inside self.old.left at (met syntax byte ∷ more))
+            with_front self.old.marks (inside self.old.left at (met syntax byte ∷ more))
             ≡ fed_gives fed self.new at (met syntax byte) more) }
         ensures leaves { IfOk result (λ fed. Leaves fed self.old (met syntax byte) self.new) }
         ensures unchanged { OnErr result (self.new ≡ self.old) }
         ensures inline { length self.old.marks < 32 → IsOk result }
+        ensures no_end { result ≡ Ok (FedRefused EndOfFile) → ⊥ }
     {
         match kind_of(syntax, byte) {
             Syntax::SingleEscape => {
@@ -186,39 +214,41 @@ impl TokenScan {
                 self.add(Mark::Bar, Stage::Outside)?;
                 Ok(Fed::More)
             }
-            Syntax::Invalid => Ok(self.refuse(TokenRefusal::InvalidCharacter)),
+            Syntax::Invalid => Ok(self.refuse(ScanRefusal::InvalidCharacter)),
             _ => self.feed_quoted(byte, Stage::Inside),
         }
     }
 
-    // Takes a byte behind a single escape.
+    // Takes a byte after a single escape.
     fn feed_escaped(&mut self, byte: u8, back: Stage) -> Result<Fed, AllocError>
         ensures gives { (syntax : Syntax) (at : ℕ) (more : List TypedByte) → IfOk result (λ fed.
-            behind self.old.marks
+            with_front self.old.marks
             (escaped (met syntax byte) self.old.left at (λ left. from_stage back left (at + 1) more))
             ≡ fed_gives fed self.new at (met syntax byte) more) }
         ensures leaves { IfOk result (λ fed. LeavesBy (Quoted byte ∷ []) false fed self.old self.new) }
         ensures unchanged { OnErr result (self.new ≡ self.old) }
         ensures inline { length self.old.marks < 32 → IsOk result }
+        ensures no_end { result ≡ Ok (FedRefused EndOfFile) → ⊥ }
     {
         if byte >= 128 {
-            return Ok(self.refuse(TokenRefusal::InvalidCharacter));
+            return Ok(self.refuse(ScanRefusal::InvalidCharacter));
         }
         self.feed_quoted(byte, back)
     }
 
-    // Takes a character that is quoted, behind which the next byte stands at `back`.
+    // Takes a character that is quoted, after which the next byte is at `back`.
     fn feed_quoted(&mut self, byte: u8, back: Stage) -> Result<Fed, AllocError>
         requires { byte < 128 }
         ensures gives { (x : TypedByte) (at : ℕ) (more : List TypedByte) → IfOk result (λ fed.
-            behind self.old.marks (one_more self.old.left at (λ left. quoted byte (from_stage back left (at + 1) more)))
+            with_front self.old.marks (one_more self.old.left at (λ left. quoted byte (from_stage back left (at + 1) more)))
             ≡ fed_gives fed self.new at x more) }
         ensures leaves { IfOk result (λ fed. LeavesBy (Quoted byte ∷ []) false fed self.old self.new) }
         ensures unchanged { OnErr result (self.new ≡ self.old) }
         ensures inline { length self.old.marks < 32 → IsOk result }
+        ensures no_end { result ≡ Ok (FedRefused EndOfFile) → ⊥ }
     {
         if self.left == 0 {
-            return Ok(self.refuse(TokenRefusal::TokenTooLong));
+            return Ok(self.refuse(ScanRefusal::TokenTooLong));
         }
         self.add_character(Mark::Quoted(byte), back)?;
         Ok(Fed::More)
@@ -250,7 +280,7 @@ impl TokenScan {
         Ok(())
     }
 
-    fn refuse(&mut self, refusal: TokenRefusal) -> Fed
+    fn refuse(&mut self, refusal: ScanRefusal) -> Fed
         ensures value { result ≡ FedRefused refusal }
         ensures after { self.new ≡ refused self.old refusal }
     {

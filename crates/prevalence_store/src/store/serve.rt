@@ -1,14 +1,11 @@
 // A session: forms from a reader, answers to a writer.
-ghost use Rattle.std.specs.Prelude.{◌≡◌, ◌≤◌, ◌<◌, ◌-◌, None, Some, IsSome, true, length, List, ℕ};
+ghost use Rattle.std.specs.Prelude.{◌≡◌, ◌≤◌, ◌<◌, Some, None, IsSome, true, length};
 ghost use Rattle.lisp_object.specs.Datum.{object_of, is_proper};
 ghost use Rattle.lisp_object.specs.declared.refusal.TheConstants.{REOPEN};
-ghost use Rattle.readtable_core.specs.Tables.{standard};
-ghost use Rattle.prevalence_store.specs.Execution.{Keeps};
-ghost use Rattle.prevalence_store.specs.Output.{output};
-ghost use Rattle.prevalence_store.specs.Parses.{form_limits};
-ghost use Rattle.prevalence_store.specs.Reading.{reads, form};
-ghost use Rattle.prevalence_store.specs.Serving.{Serves, Ends, ReadsToEnd};
-ghost use Rattle.prevalence_store.specs.Turns.{EndsAtFault, Takes, TurnEnds, WritesFault};
+ghost use Rattle.prevalence_store.specs.Acceptance.{read_in};
+ghost use Rattle.prevalence_store.specs.Reading.{form};
+ghost use Rattle.prevalence_store.specs.Serving.{Serves, ServesInput};
+ghost use Rattle.prevalence_store.specs.Turns.{AnswersFault, GoesOn, TurnsInto};
 ghost use Rattle.prevalence_store.specs.World.{World as LispWorld};
 
 use crate::input::{InputError, read_all};
@@ -34,32 +31,28 @@ impl<D: Disk> Store<D> {
     pub fn serve<R: Read, W: Write>(&mut self, reader: &mut R, writer: &mut W, mode: Mode) -> Ending
         ensures reopen { self.old.world ≡ None → (result ≡ Ending.Store REOPEN) × (self.new ≡ self.old)
             × (reader.new ≡ reader.old) × (writer.new ≡ writer.old) }
-        ensures served { (w : LispWorld) (input held : List ℕ) → self.old.world ≡ Some w
-            → R.remaining reader.old ≡ Some input → W.contents writer.old ≡ Some held
-            → Serves self.new (output w mode input) held (W.contents writer.new) result }
-        ensures read { (input : List ℕ) → R.remaining reader.old ≡ Some input → ReadsToEnd result (R.remaining reader.new) }
-        ensures ends { IsSome self.old.world → Ends D.state self.old self.new mode result }
-        ensures means { Keeps D.state self.new }
+        ensures serves { (world : LispWorld) → self.old.world ≡ Some world
+            → ServesInput D.state self.old self.new world mode (R.remaining reader.old) (R.remaining reader.new)
+            (W.contents writer.old) (W.contents writer.new) result }
+        ensures honest { (D.state self.new.disk).honest ≡ (D.state self.old.disk).honest }
     {
         if !self.is_open() {
             return Ending::Store(REOPEN);
         }
         let input = match read_all(self.alloc, reader) {
             Ok(input) => input,
-            Err(InputError::Memory) => return Ending::Store(NO_MEMORY),
+            Err(InputError::OutOfMemory) => return Ending::Store(NO_MEMORY),
             Err(InputError::Fault) => return Ending::Store(INPUT),
         };
         self.answer_all(writer, mode, input.as_slice())
     }
 
-    // Answers the forms of a text one behind the other.
+    // Answers the forms of a text one after the other.
     fn answer_all<W: Write>(&mut self, writer: &mut W, mode: Mode, input: &[u8]) -> Ending
         requires known { IsSome self.old.world }
-        requires means { Keeps D.state self.old }
-        ensures served { (w : LispWorld) (held : List ℕ) → self.old.world ≡ Some w → W.contents writer.old ≡ Some held
-            → Serves self.new (output w mode input.now) held (W.contents writer.new) result }
-        ensures ends { Ends D.state self.old self.new mode result }
-        ensures means { Keeps D.state self.new }
+        ensures serves { (world : LispWorld) → self.old.world ≡ Some world
+            → Serves D.state self.old self.new world mode input.now (W.contents writer.old) (W.contents writer.new) result }
+        ensures honest { (D.state self.new.disk).honest ≡ (D.state self.old.disk).honest }
     {
         let mut rest = input;
         'forms: loop {
@@ -73,11 +66,10 @@ impl<D: Disk> Store<D> {
     // Answers what a text begins with.
     fn answer_next<W: Write>(&mut self, writer: &mut W, mode: Mode, text: &[u8]) -> Turn
         requires known { IsSome self.old.world }
-        requires means { Keeps D.state self.old }
-        ensures taken { (w : LispWorld) (held : List ℕ) → self.old.world ≡ Some w → W.contents writer.old ≡ Some held
-            → Takes self.new w mode text.now held (W.contents writer.new) result }
-        ensures ends { TurnEnds D.state self.old self.new mode text.now result }
-        ensures means { Keeps D.state self.new }
+        ensures turn { (world : LispWorld) → self.old.world ≡ Some world
+            → TurnsInto D.state self.old self.new world mode text.now (W.contents writer.old) (W.contents writer.new) result }
+        ensures goes_on { GoesOn self.new text.now result }
+        ensures honest { (D.state self.new.disk).honest ≡ (D.state self.old.disk).honest }
     {
         let read = match read_one(self.alloc, &Limits::form(), &self.readtable, text) {
             Ok(read) => read,
@@ -92,10 +84,7 @@ impl<D: Disk> Store<D> {
 
     // Answers a refusal of the reader, and ends the session.
     fn answer_fault<W: Write>(&mut self, writer: &mut W, number: u16) -> Turn
-        requires known { IsSome self.old.world }
-        ensures ends { EndsAtFault number result }
-        ensures written { (held : List ℕ) → W.contents writer.old ≡ Some held
-            → WritesFault number held (W.contents writer.new) result }
+        ensures answers { AnswersFault number (W.contents writer.old) (W.contents writer.new) result }
         ensures same { self.new ≡ self.old }
     {
         let Ok(line) = line_of_refusal(self.alloc, number) else {
@@ -116,16 +105,15 @@ impl<D: Disk> Store<D> {
         text: &[u8],
     ) -> Turn
         requires known { IsSome self.old.world }
-        requires means { Keeps D.state self.old }
-        requires read { reads form_limits standard text.now ≡ form (object_of found.now.datum) found.now.start found.now.end found.now.next }
+        requires read { (w : LispWorld) → read_in w mode text.now ≡ form (object_of found.now.datum) found.now.start found.now.end found.now.next }
         requires proper { is_proper found.now.datum ≡ true }
         requires places { (found.now.start < found.now.end) × (found.now.end ≤ found.now.next) × (found.now.next ≤ length text.now) }
-        ensures taken { (w : LispWorld) (held : List ℕ) → self.old.world ≡ Some w → W.contents writer.old ≡ Some held
-            → Takes self.new w mode text.now held (W.contents writer.new) result }
-        ensures ends { TurnEnds D.state self.old self.new mode text.now result }
-        ensures means { Keeps D.state self.new }
+        ensures turn { (world : LispWorld) → self.old.world ≡ Some world
+            → TurnsInto D.state self.old self.new world mode text.now (W.contents writer.old) (W.contents writer.new) result }
+        ensures goes_on { GoesOn self.new text.now result }
+        ensures honest { (D.state self.new.disk).honest ≡ (D.state self.old.disk).honest }
     {
-        let answer = self.accept(mode, &found.datum, &text[found.start..found.end]);
+        let answer = self.take_form(mode, &found.datum, &text[found.start..found.end]);
         let line = match line_of_answer(self.alloc, &answer) {
             Ok(line) => line,
             Err(number) => return Turn::Ended(Ending::Store(number)),

@@ -15,7 +15,7 @@ use lisp_object::Datum;
 use std::alloc::{AllocError, Global};
 use std::collections::BTreeMap;
 
-/// The rows of properties, the number of each symbol's row, and the writes since the last `settle`.
+/// The rows of properties, the number of each symbol's row, and the writes since the last `mark`.
 #[derive(Drop)]
 pub(super) struct Rows {
     alloc: Global,
@@ -141,7 +141,7 @@ impl Rows {
         }
     }
 
-    /// Takes the writes since the last `settle` back.
+    /// Takes the writes since the last `mark` back.
     pub(super) fn back(&mut self)
         requires { IsKept self.old }
         ensures worlds { worlds_of self.new
@@ -152,7 +152,7 @@ impl Rows {
     }
 
     /// Forgets how the writes so far are taken back.
-    pub(super) fn settle(&mut self)
+    pub(super) fn mark(&mut self)
         requires { IsKept self.old }
         ensures worlds { worlds_of self.new
             ≡ record { present = (worlds_of self.old).present; marked = (worlds_of self.old).present } }

@@ -1,7 +1,8 @@
 //! Files that were altered while no store was open.
 
 use super::{AMPLE, Trouble, bytes_of, disk_of, fresh_session, opened, session_over};
-use disk_trait::Half;
+use disk_trait::{Disk, Half};
+use prevalence_store::{Store, Unopened};
 use std::alloc::Global;
 use std::test::Fail;
 
@@ -62,6 +63,83 @@ fn a_cut_file_is_found(rt: HostRuntime) -> Result<(), Fail> {
         );
     }
     assert_eq!(rt; refusal_of(alloc, bytes.as_slice(), bytes.as_slice())?, 62);
+    Ok(())
+}
+
+#[test]
+fn the_greater_generation_is_in_use(rt: HostRuntime) -> Result<(), Fail> {
+    let alloc = rt.alloc();
+    let a = half_a(alloc)?;
+    let mut b = half_a(alloc)?;
+    assert_eq!(rt; (a.len(), b.len()), (177, 177));
+    b[10] = 2;
+    b[174] = b'9';
+    let mut found = session_over(
+        alloc,
+        disk_of(alloc, a.as_slice(), b.as_slice())?,
+        b"(GET 'A 'B)",
+    )?;
+    assert_eq!(rt; found.answers.as_slice(), b"9\n".as_slice());
+    assert_eq!(rt;
+        bytes_of(alloc, &mut found.disk, Half::A)?.as_slice(),
+        a.as_slice()
+    );
+    assert_eq!(rt; bytes_of(alloc, &mut found.disk, Half::B)?.len(), 194);
+    let store = opened(alloc, found.disk, AMPLE)?;
+    let seen = (store.half(), store.generation(), store.record_count());
+    let _disk = store.close();
+    assert_eq!(rt; seen, (Half::B, 2, 2));
+    Ok(())
+}
+
+/// The number of a refusal to open a disk, and the bytes of the disk that is given back.
+fn given_back(
+    alloc: Global,
+    a: &[u8],
+    b: &[u8],
+    limit: u64,
+) -> Result<(u16, Vec<u8>, Vec<u8>), Trouble> {
+    let disk = disk_of(alloc, a, b)?;
+    if disk.failures() > 0 {
+        return Err(Trouble::Device);
+    }
+    match Store::open(alloc, disk, limit) {
+        Ok(store) => {
+            let mut disk = store.close();
+            let a = bytes_of(alloc, &mut disk, Half::A)?;
+            let b = bytes_of(alloc, &mut disk, Half::B)?;
+            Ok((0, a, b))
+        }
+        Err(unopened) => {
+            let Unopened { number, mut disk } = unopened;
+            let a = bytes_of(alloc, &mut disk, Half::A)?;
+            let b = bytes_of(alloc, &mut disk, Half::B)?;
+            Ok((number, a, b))
+        }
+    }
+}
+
+#[test]
+fn a_disk_that_is_refused_is_as_it_was(rt: HostRuntime) -> Result<(), Fail> {
+    let alloc = rt.alloc();
+    let whole = half_a(alloc)?;
+    let mut other = half_a(alloc)?;
+    assert_eq!(rt; (whole.len(), other.len()), (177, 177));
+    other[2] = 9;
+    let mut cut = half_a(alloc)?;
+    cut.truncate(100);
+    let cases: [(&[u8], &[u8], u64, u16); 5] = [
+        (whole.as_slice(), whole.as_slice(), AMPLE, 62),
+        (cut.as_slice(), b"", AMPLE, 62),
+        (other.as_slice(), b"", AMPLE, 66),
+        (b"", b"", 150, 65),
+        (whole.as_slice(), b"", 150, 0),
+    ];
+    for (a, b, limit, number) in cases {
+        let (found, left_a, left_b) = given_back(alloc, a, b, limit)?;
+        assert_eq!(rt; found, number);
+        assert_eq!(rt; (left_a.as_slice(), left_b.as_slice()), (a, b));
+    }
     Ok(())
 }
 

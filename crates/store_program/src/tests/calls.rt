@@ -1,14 +1,14 @@
 //! Calls of the store: its refusals, its limit, and a device that fails.
 
-use super::{AMPLE, Trouble, opened};
-use disk_trait::{Disk, FuseDisk, MemoryDisk};
+use super::{AMPLE, Trouble, bytes_of, opened};
+use disk_trait::{Disk, FuseDisk, Half, MemoryDisk};
 use lisp_object::Datum;
 use prevalence_store::{Ending, Mode, Outcome, Property, Store, Symbol, World, refusal_name};
 use std::alloc::{AllocError, Global};
 use std::test::Fail;
 
 /// The number of the refusal of a form, if it is refused.
-fn refused<D: Disk>(store: &mut Store<D>, text: &[u8]) -> Option<u16> {
+pub(super) fn refused<D: Disk>(store: &mut Store<D>, text: &[u8]) -> Option<u16> {
     match store.execute(Mode::Current, text) {
         Outcome::Accepted(_) => None,
         Outcome::Refused(number) => Some(number),
@@ -79,6 +79,22 @@ fn fill(alloc: Global) -> Result<(Option<u16>, Option<u16>, Option<i128>), Troub
     };
     let _disk = store.close();
     Ok((first, second, property?))
+}
+
+/// The byte of the mode in the record of a form.
+fn mode_byte(alloc: Global, mode: Mode) -> Result<Option<u8>, Trouble> {
+    let mut store = opened(alloc, MemoryDisk::new(alloc), AMPLE)?;
+    let _outcome = store.execute(mode, b"(SETF (GET 'A 'B) 7)");
+    let mut disk = store.close();
+    Ok(bytes_of(alloc, &mut disk, Half::A)?.get(151).copied())
+}
+
+#[test]
+fn a_record_tells_its_mode(rt: HostRuntime) -> Result<(), Fail> {
+    let alloc = rt.alloc();
+    assert_eq!(rt; mode_byte(alloc, Mode::Current)?, Some(0));
+    assert_eq!(rt; mode_byte(alloc, Mode::Rescue)?, Some(1));
+    Ok(())
 }
 
 #[test]

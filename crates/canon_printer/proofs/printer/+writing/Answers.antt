@@ -6,7 +6,7 @@ use Rattle.lisp_object.proofs.datum.Datum.TheLaws.{the_size}
 use Rattle.lisp_object.specs.Datum.{object_of}
 use Rattle.canon_printer.specs.Printed.{printed, printed_prefix}
 use Rattle.canon_printer.proofs.Lists.{written_items_one_more}
-use Rattle.canon_printer.proofs.ProperLists.{proper_list_items, proper_list_tail, proper_vector_items}
+use Rattle.lisp_object.proofs.ProperLists.{proper_list_items, proper_list_tail, proper_vector_items}
 use Rattle.canon_printer.proofs.printer.+writing.Goals as goal
 
 pub write-write_items-requires : goal.write-write_items-requires

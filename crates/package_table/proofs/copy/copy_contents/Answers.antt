@@ -1,6 +1,6 @@
 use Rattle.std.proofs.Common.{◌≡◌, ◌++◌, ◌∙◌, ap, sym}
 use Rattle.package_table.specs.Shown.{entry_of, as_map, as_set}
-use Rattle.package_table.proofs.Copies.{copied_next, copied_next_key}
+use Rattle.package_table.proofs.Seen.{copied_next, copied_next_key}
 use Rattle.package_table.proofs.copy.copy_contents.Goals as goal
 
 pub loop-name-preserved-in_ok-insert : goal.loop-name-preserved-in_ok-insert

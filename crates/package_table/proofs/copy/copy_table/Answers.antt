@@ -1,6 +1,6 @@
 use Rattle.std.proofs.Common.{◌≡◌, ◌++◌, ◌∙◌, ap, sym}
 use Rattle.package_table.specs.Shown.{package_of, as_map}
-use Rattle.package_table.proofs.Copies.{copied_next}
+use Rattle.package_table.proofs.Seen.{copied_next}
 use Rattle.package_table.proofs.copy.copy_table.Goals as goal
 
 pub loop-name-preserved-in_ok-insert : goal.loop-name-preserved-in_ok-insert

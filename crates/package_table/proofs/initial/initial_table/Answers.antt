@@ -2,7 +2,7 @@ use Rattle.std.proofs.Common.{◌∙◌, ap}
 use Rattle.std.specs.FinMap as finite
 use Rattle.package_table.specs.Table.{initial}
 use Rattle.package_table.specs.Shown.{as_map, package_of}
-use Rattle.package_table.proofs.Copies.{as_map-insert}
+use Rattle.package_table.proofs.Seen.{as_map-insert}
 use Rattle.package_table.proofs.initial.initial_table.Goals as goal
 
 pub returns : goal.returns

@@ -3,7 +3,7 @@ use Rattle.std.proofs.lemmas.List.{take_more, take_all}
 use Rattle.std.specs.FinMap as finite
 use Rattle.package_table.specs.Table.{Name, name_cmp, Entry}
 use Rattle.package_table.specs.Shown.{as_map, as_set, entry_of}
-use Rattle.package_table.proofs.Copies.{as_map-insert}
+use Rattle.package_table.proofs.Seen.{as_map-insert}
 use Rattle.package_table.proofs.Starting.{alike, alike_pushed, alike_map}
 use Rattle.package_table.proofs.initial.package_of_names.Goals as goal
 

@@ -2,7 +2,7 @@ use Rattle.std.proofs.Common.{◌∙◌, ap}
 use Rattle.std.specs.FinMap as finite
 use Rattle.package_table.specs.Table.{user_package}
 use Rattle.package_table.specs.Shown.{as_map, as_set, entry_of}
-use Rattle.package_table.proofs.Copies.{as_set-insert}
+use Rattle.package_table.proofs.Seen.{as_set-insert}
 use Rattle.package_table.proofs.initial.user_package.Goals as goal
 
 pub returns : goal.returns

@@ -2,7 +2,7 @@ use Rattle.std.proofs.Common.{ap, ◌∙◌}
 use Rattle.std.specs.FinMap as finite
 use Rattle.package_table.specs.declared.entry.Contents.{Contents}
 use Rattle.package_table.specs.Shown.{as_set, as_map, entry_of, package_of, table_of}
-use Rattle.package_table.proofs.Copies.{as_map-insert}
+use Rattle.package_table.proofs.Seen.{as_map-insert}
 use Rattle.package_table.proofs.put.put_package.Goals as goal
 
 pub returns-clause-ok : goal.returns-clause-ok

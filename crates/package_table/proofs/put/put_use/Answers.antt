@@ -1,7 +1,7 @@
 use Rattle.std.proofs.Common.{ap, ◌∙◌}
 use Rattle.package_table.specs.declared.entry.Contents.{Contents}
 use Rattle.package_table.specs.Shown.{as_set, as_map, entry_of}
-use Rattle.package_table.proofs.Copies.{as_set-insert}
+use Rattle.package_table.proofs.Seen.{as_set-insert}
 use Rattle.package_table.proofs.Places.{changed_table, same_table, no_package}
 use Rattle.package_table.proofs.put.put_use.Goals as goal
 

@@ -7,4 +7,4 @@ pub loop-used-init : goal.loop-used-init
 loop-used-init c =
     let all = c.into_iter-used-iterator.ensures.into_iter_gives in
     (λ i. c.new-names.ensures i ++ map (λ k. k.items) (all.0 i))
-    ∙ used-read (table_of c.args.table.now) c.args.owner.now c.in-Some.contents.now c.in-Some.ensures all.4
+    ∙ used-read (table_of c.args.table.now) c.args.owner.now c.in_ok-contents.contents.now c.in_ok-contents.ensures all.4

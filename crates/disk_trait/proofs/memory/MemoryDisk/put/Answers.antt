@@ -4,7 +4,7 @@ use Rattle.disk_trait.specs.declared.half.Half.TheVariants.{A, B}
 use Rattle.disk_trait.specs.Memory.{state_of}
 use Rattle.disk_trait.specs.Replay.{Follows, told}
 use Rattle.disk_trait.proofs.Next.{next_is}
-use Rattle.disk_trait.proofs.Files.{put_in, kept_beside}
+use Rattle.disk_trait.proofs.Files.{put_in, kept_beside, wrote_push}
 use Rattle.disk_trait.proofs.memory.MemoryDisk.put.Goals as goal
 
 pub invariant_of-self-in-A : goal.invariant_of-self-in-A
@@ -14,8 +14,10 @@ invariant_of-self-in-A c =
     let new = told start c.push.new.self.items m.failures in
     let follows : Follows c.args.half c.args.what (state_of m) new = next_is start m.calls.items c.push.new.self.items c.args.half c.args.what m.failures m.failures c.in_ok-push.ensures.items in
     record {
-      a_replayed = put_in c.args.half A c.args.what (state_of m) new follows c.args.next.items c.in-A.is c.requires;
+      a_replayed = put_in c.args.half A c.args.what (state_of m) new follows c.args.next.items c.in-A.is c.requires.next;
       b_replayed = kept_beside c.args.half A c.args.what (state_of m) new follows c.in-A.is ∙ m.b_replayed;
+      began = m.began;
+      wrote = wrote_push m.calls.items c.push.new.self.items c.args.half c.args.what m.wrote c.requires.bytes c.in_ok-push.ensures.items;
     }
 
 pub invariant_of-self-in-B : goal.invariant_of-self-in-B
@@ -26,7 +28,9 @@ invariant_of-self-in-B c =
     let follows : Follows c.args.half c.args.what (state_of m) new = next_is start m.calls.items c.push.new.self.items c.args.half c.args.what m.failures m.failures c.in_ok-push.ensures.items in
     record {
       a_replayed = kept_beside c.args.half B c.args.what (state_of m) new follows c.in-B.is ∙ m.a_replayed;
-      b_replayed = put_in c.args.half B c.args.what (state_of m) new follows c.args.next.items c.in-B.is c.requires;
+      b_replayed = put_in c.args.half B c.args.what (state_of m) new follows c.args.next.items c.in-B.is c.requires.next;
+      began = m.began;
+      wrote = wrote_push m.calls.items c.push.new.self.items c.args.half c.args.what m.wrote c.requires.bytes c.in_ok-push.ensures.items;
     }
 
 pub returns-in-A-clause-ok : goal.returns-in-A-clause-ok

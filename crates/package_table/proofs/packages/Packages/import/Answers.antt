@@ -1,8 +1,9 @@
-use Rattle.std.proofs.Common.{◌≡◌, refl, sym, subst, ◌∙◌}
-use Rattle.package_table.specs.Table.{Table, Tables, IsPresent, IsSound, symbol_count}
-use Rattle.package_table.specs.Changes.{after_import}
+use Rattle.std.proofs.Common.{sym, subst, ◌∙◌, IfOk}
+use Rattle.package_table.specs.Table.{Table, Tables, IsPresent}
+use Rattle.package_table.specs.Changes.{after_import, import_changes}
+use Rattle.package_table.specs.Growth.{Grows, Tells}
 use Rattle.package_table.specs.Shown.{table_of}
-use Rattle.package_table.proofs.KeptChanges.{kept_after, kept_import}
+use Rattle.package_table.proofs.KeptChanges.{stays_after, told_after, kept_import}
 use Rattle.package_table.proofs.packages.Packages.import.Goals as goal
 
 pub invariant_of-self : goal.invariant_of-self
@@ -11,8 +12,25 @@ invariant_of-self c =
     let u : Table = table_of c.import_symbol.new.table in
     let at_home : IsPresent t c.args.home.now c.args.name.now c.args.home.now =
     subst (λ (ts : Tables). IsPresent ts.0 c.args.home.now c.args.name.now c.args.home.now) (sym c.self.view_is) c.requires in
-    let kept : IsSound u × (symbol_count u ≡ symbol_count t) =
-    kept_after (λ u. IsSound u × (symbol_count u ≡ symbol_count t)) t u (λ _. u) c.import_symbol.result (after_import t c.args.owner.now c.args.home.now c.args.name.now)
-    c.import_symbol.ensures.gives c.import_symbol.ensures.unchanged
-    (λ _. kept_import t c.args.owner.now c.args.name.now c.self.invariant.sound c.args.home.now u at_home) (c.self.invariant.sound, refl) in
-    record { sound = kept.0; counted = c.self.invariant.counted ∙ sym kept.1 }
+    let stays = stays_after t u (import_changes t c.args.owner.now c.args.name.now) c.import_symbol.result (after_import t c.args.owner.now c.args.home.now c.args.name.now) c.self.invariant.sound c.import_symbol.ensures.gives c.import_symbol.ensures.unchanged (kept_import t c.args.owner.now c.args.name.now c.self.invariant.sound c.args.home.now u at_home) in
+    record { sound = stays.sound; counted = c.self.invariant.counted ∙ sym stays.count }
+
+pub returns-clause-grows : goal.returns-clause-grows
+returns-clause-grows c =
+    let t : Table = table_of c.self.inside.table in
+    let u : Table = table_of c.import_symbol.new.table in
+    let at_home : IsPresent t c.args.home.now c.args.name.now c.args.home.now =
+    subst (λ (ts : Tables). IsPresent ts.0 c.args.home.now c.args.name.now c.args.home.now) (sym c.self.view_is) c.requires in
+    subst (λ (ts : Tables). Grows ts.0 u) c.self.view_is
+    (stays_after t u (import_changes t c.args.owner.now c.args.name.now) c.import_symbol.result (after_import t c.args.owner.now c.args.home.now c.args.name.now) c.self.invariant.sound c.import_symbol.ensures.gives c.import_symbol.ensures.unchanged (kept_import t c.args.owner.now c.args.name.now c.self.invariant.sound c.args.home.now u at_home)).grows
+
+pub returns-clause-exactly : goal.returns-clause-exactly
+returns-clause-exactly c =
+    let t : Table = table_of c.self.inside.table in
+    let u : Table = table_of c.import_symbol.new.table in
+    let at_home : IsPresent t c.args.home.now c.args.name.now c.args.home.now =
+    subst (λ (ts : Tables). IsPresent ts.0 c.args.home.now c.args.name.now c.args.home.now) (sym c.self.view_is) c.requires in
+    subst (λ (ts : Tables). IfOk c.import_symbol.result (λ changed. Tells changed ts.0 u)) c.self.view_is
+    (told_after t u (λ _. u) (λ changed. changed) (import_changes t c.args.owner.now c.args.name.now) c.import_symbol.result (after_import t c.args.owner.now c.args.home.now c.args.name.now) c.import_symbol.ensures.gives
+    c.import_symbol.ensures.changed
+    (λ _ is. (kept_import t c.args.owner.now c.args.name.now c.self.invariant.sound c.args.home.now u at_home is).0.told))

@@ -1,6 +1,5 @@
-use Rattle.std.proofs.Common.{◌≡◌, map, take}
-use Rattle.readtable_core.specs.Rows.{entry_of}
+use Rattle.std.proofs.Common.{◌≡◌, take}
 use Rattle.readtable_core.proofs.table.Readtable.copy.Given as goal
 
-abbrev pub invariant-loop-row : goal.invariant-loop-row
-invariant-loop-row l = map entry_of l.rows.items ≡ map entry_of (take l.row-index l.row-items)
+abbrev pub invariant-loop-entry : goal.invariant-loop-entry
+invariant-loop-entry l = l.entries.items ≡ take l.entry-index l.entry-items

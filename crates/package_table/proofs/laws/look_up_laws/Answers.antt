@@ -1,0 +1,12 @@
+use Rattle.package_table.proofs.Found.{found_finds, found_is, found_none, finds_none}
+use Rattle.package_table.proofs.Keeping.{present_at_home}
+use Rattle.package_table.proofs.laws.look_up_laws.Goals as goal
+
+pub returns-clause-finds : goal.returns-clause-finds
+returns-clause-finds c t sound p n h = (found_finds t n p h, found_is t n sound.joined p h)
+
+pub returns-clause-finds_none : goal.returns-clause-finds_none
+returns-clause-finds_none c t p n = (found_none t n p, finds_none t n p)
+
+pub returns-clause-at_home : goal.returns-clause-at_home
+returns-clause-at_home c t sound p n h is = present_at_home t p n h sound.joined (found_finds t n p h is)

@@ -1,0 +1,15 @@
+-- How many packages and symbols there may be, the first ones included, and how many bytes their names may have.
+use Rattle.std.specs.Prelude.{ℕ}
+
+abbrev pub most_packages : ℕ
+most_packages = 1000
+
+-- each symbol is counted in its home
+abbrev pub most_symbols : ℕ
+most_symbols = 1000000
+
+abbrev pub longest_package_name : ℕ
+longest_package_name = 256
+
+abbrev pub longest_symbol_name : ℕ
+longest_symbol_name = 4096

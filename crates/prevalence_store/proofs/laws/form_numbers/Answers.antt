@@ -1,0 +1,5 @@
+use Rattle.prevalence_store.proofs.Reader.Numbered.{acceptance_is_numbered}
+use Rattle.prevalence_store.proofs.laws.form_numbers.Goals as goal
+
+pub returns : goal.returns
+returns c = acceptance_is_numbered

@@ -1,0 +1,37 @@
+//! The theorem over any calls in a row, and that files mean one world.
+ghost use Rattle.std.specs.Prelude.{◌≡◌, ℕ, List, ◌++◌, Some, Err};
+ghost use Rattle.disk_trait.specs.Disk.{Image, IsHonest};
+ghost use Rattle.prevalence_store.specs.Acceptance.{accepts};
+ghost use Rattle.prevalence_store.specs.Meaning.{Means};
+ghost use Rattle.prevalence_store.specs.Numbers.{IsFormNumber};
+ghost use Rattle.prevalence_store.specs.declared.mode.Mode.{Mode};
+ghost use Rattle.prevalence_store.specs.Opening.{IsNoWord, IsUnopened, limit_of};
+ghost use Rattle.prevalence_store.specs.Theorem.{Call, Headline, Keeps, Run, disk_after};
+ghost use Rattle.prevalence_store.specs.World.{World as LispWorld};
+
+use disk_trait::Disk;
+
+/// An image means one world at most.
+pub fn one_world()
+    ensures { (image : Image) (one other : LispWorld) → Means image one → Means image other → one ≡ other }
+{}
+
+/// A form is refused under a number of 1 to 46 alone: the numbers from 60 on are those of the store.
+pub fn form_numbers()
+    ensures { (world : LispWorld) (mode : Mode) (text : List ℕ) (number : ℕ)
+        → accepts world mode text ≡ Err number → IsFormNumber number }
+{}
+
+/// Whatever calls are made in a row on a store that was opened on an honest disk, a crash at any moment and an opening of
+/// what it leaves give the world after some of the forms that they took, from the first on, and after all those that were
+/// acknowledged. Such an opening is refused for memory, for a device fault, or for room for a first half alone.
+pub fn headline<D: Disk>()
+    ensures holds { (start : D) (world : LispWorld) (earlier later : List (Call D))
+        → IsHonest (D.state start) → Keeps (D.state start) world → Run D.state start (Some world) (earlier ++ later)
+        → Headline D.state start world earlier later }
+    ensures refused { (start : D) (world : LispWorld) (earlier later : List (Call D)) (image : Image) (crashed back : D) (limit number : ℕ)
+        → IsHonest (D.state start) → Keeps (D.state start) world → Run D.state start (Some world) (earlier ++ later)
+        → (D.state (disk_after start (earlier ++ later))).left_since (D.state (disk_after start earlier)).moment image
+        → (D.state crashed).reads ≡ image → IsHonest (D.state crashed)
+        → (refused : IsUnopened D.state crashed limit number back) → IsNoWord (limit_of limit) image refused.fault }
+{}

@@ -1,0 +1,71 @@
+-- What the calls are handed and answer.
+use Rattle.std.specs.Prelude.{◌≡◌, ◌⊎◌, ℕ, true, List, map, Option, Some, None, Result, Ok, Err, IsTrue}
+use Rattle.std.specs.List.{list_all}
+use Rattle.lisp_object.specs.Ascii.{is_ascii}
+use Rattle.lisp_object.specs.Object.{Object}
+use Rattle.lisp_object.specs.Datum.{object_of, is_proper}
+use Rattle.lisp_object.specs.declared.refusal.TheConstants.{STRAY_CLOSE, NUMERIC_ARGUMENT, CHARACTER_NAME, RADIX_TOKEN, VECTOR_LENGTH, UNINTERNED_TOKEN, OUT_OF_PROFILE, NO_MEMORY}
+use Rattle.token_scan.specs.Marks.{are_ascii}
+use Rattle.token_meaning.specs.Results.{meaning_refusal_number}
+use Rattle.std_macros.specs.declared.refusal.StdRefusal.{StdRefusal}
+use Rattle.std_macros.specs.declared.refusal.StdRefusal.TheVariants.{StrayClose, Rational, NumericArgument, CharacterName, RadixToken, VectorLength, UninternedToken, OutOfProfile}
+use Rattle.std_macros.specs.declared.refusal.FinishError.{FinishError}
+use Rattle.std_macros.specs.declared.refusal.FinishError.TheVariants.{OutOfMemory, Refused}
+use Rattle.std_macros.specs.declared.gathered.StdGathered.{StdGathered}
+use Rattle.std_macros.specs.declared.gathered.StdGathered.TheVariants.{Nothing as GatheredNothing, One as GatheredOne, Many, Dotted, Text, Marks}
+use Rattle.std_macros.specs.declared.gathered.Finished.{Finished}
+use Rattle.std_macros.specs.declared.gathered.Finished.TheVariants.{One, Nothing}
+use Rattle.std_macros.specs.Values.{Material, nothing, one, many, dotted, letters, marked, Value}
+
+abbrev pub std_refusal_number : StdRefusal → ℕ
+std_refusal_number StrayClose = STRAY_CLOSE
+std_refusal_number (Rational refusal) = meaning_refusal_number refusal
+std_refusal_number NumericArgument = NUMERIC_ARGUMENT
+std_refusal_number CharacterName = CHARACTER_NAME
+std_refusal_number RadixToken = RADIX_TOKEN
+std_refusal_number VectorLength = VECTOR_LENGTH
+std_refusal_number UninternedToken = UNINTERNED_TOKEN
+std_refusal_number OutOfProfile = OUT_OF_PROFILE
+
+abbrev pub finish_error_number : FinishError → ℕ
+finish_error_number OutOfMemory = NO_MEMORY
+finish_error_number (Refused refusal) = std_refusal_number refusal
+
+-- what was handed in
+abbrev pub view_gathered : StdGathered → Material
+view_gathered GatheredNothing = nothing
+view_gathered (GatheredOne datum) = one (object_of datum)
+view_gathered (Many items) = many (map object_of items)
+view_gathered (Dotted items tail) = dotted (map object_of items) (object_of tail)
+view_gathered (Text bytes) = letters bytes
+view_gathered (Marks marks) = marked marks.items
+
+-- its data are proper, and its characters below 128
+abbrev pub IsProperGathered : StdGathered → Type 0
+IsProperGathered GatheredNothing = Unit {0}
+IsProperGathered (GatheredOne datum) = is_proper datum ≡ true
+IsProperGathered (Many items) = list_all is_proper items ≡ true
+IsProperGathered (Dotted items tail) = (list_all is_proper items ≡ true) × (is_proper tail ≡ true)
+IsProperGathered (Text bytes) = list_all is_ascii bytes ≡ true
+IsProperGathered (Marks marks) = IsTrue (are_ascii marks.items)
+
+-- the value that was answered
+abbrev pub view_finished : Finished → Option Object
+view_finished (One datum) = Some (object_of datum)
+view_finished Nothing = None
+
+-- Out of memory is answered only for an object or where the name of a character was looked for, and any other error is the
+-- refusal.
+abbrev pub Fails : FinishError → Value → Type 0
+Fails OutOfMemory value = ((x : Object) × (value ≡ Ok (Some x))) ⊎ (value ≡ Err CharacterName)
+Fails (Refused refusal) value = value ≡ Err refusal
+
+-- what was answered is the value, unless memory ran out
+abbrev pub Gives : Result Finished FinishError → Value → Type 0
+Gives (Ok answer) value = value ≡ Ok (view_finished answer)
+Gives (Err error) value = Fails error value
+
+-- an object that was answered is a proper datum
+abbrev pub IsProperFinished : Finished → Type 0
+IsProperFinished (One datum) = is_proper datum ≡ true
+IsProperFinished Nothing = Unit {0}

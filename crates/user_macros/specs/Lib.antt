@@ -1,0 +1,4 @@
+pub mod Calls
+pub mod Sound
+pub mod Registry
+pub mod Sample
