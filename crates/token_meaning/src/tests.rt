@@ -160,7 +160,7 @@ fn refusals(rt: HostRuntime) -> Result<(), Fail> {
 #[test]
 fn names(rt: HostRuntime) -> Result<(), Fail> {
     let bytes = |text: &[u8]| Bytes::from_slice(rt.alloc(), text);
-    let colon = Mark::Plain(b':');
+    const COLON: Mark = Mark::Plain(b':');
     let rows: [(&[Mark], TokenName); 7] = [
         (&[Mark::Quoted(b'1')], TokenName::Unqualified(bytes(b"1")?)),
         (
@@ -172,11 +172,11 @@ fn names(rt: HostRuntime) -> Result<(), Fail> {
             TokenName::Unqualified(bytes(b"a:")?),
         ),
         (
-            &[colon, Mark::Plain(b'1')],
+            &[COLON, Mark::Plain(b'1')],
             TokenName::Keyword(bytes(b"1")?),
         ),
         (
-            &[Mark::Plain(b'a'), colon, Mark::Plain(b'b')],
+            &[Mark::Plain(b'a'), COLON, Mark::Plain(b'b')],
             TokenName::External {
                 package: bytes(b"a")?,
                 name: bytes(b"b")?,
@@ -184,14 +184,14 @@ fn names(rt: HostRuntime) -> Result<(), Fail> {
         ),
         // A prefix of bars alone is the empty name, and so is such a name.
         (
-            &[Mark::Bar, Mark::Bar, colon, Mark::Bar, Mark::Bar],
+            &[Mark::Bar, Mark::Bar, COLON, Mark::Bar, Mark::Bar],
             TokenName::External {
                 package: bytes(b"")?,
                 name: bytes(b"")?,
             },
         ),
         (
-            &[Mark::Plain(b'a'), colon, colon, Mark::Plain(b'b')],
+            &[Mark::Plain(b'a'), COLON, COLON, Mark::Plain(b'b')],
             TokenName::Internal {
                 package: bytes(b"a")?,
                 name: bytes(b"b")?,
