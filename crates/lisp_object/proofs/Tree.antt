@@ -1,10 +1,10 @@
 -- A `BTreeMap` read as a finite map: f reads its keys and g its values, and its keys are in the order R of what f reads.
--- Where a call takes a key that is only borrowed, as a slice for a `Vec`, the query q is what is read of a key (`.._at`).
+-- A query q is what is read of a key, so that a call may take a key that is only borrowed, as a slice for a `Vec`.
 --     read, as_map      its entries, and the finite map, as read
---     find_at, got_at, find_read, got      what `get` gives
+--     find_at, got_at      what `get` gives; find_read, of a whole key
 --     read-insert_entry, find_read-insert, as_map-insert      what `insert` leaves, from its clause `entries`
---     find_remove_at, as_map-remove_at, find_read-remove_entry, as_map-remove      what `remove` leaves, from its clause `entries`, where the keys were in order (clause `ordered` of `len`)
---     find_set_at, as_map-set_at, find_read-set_value, as_map-set_value      what a write through `get_mut` leaves
+--     find_remove_at, as_map-remove_at      what `remove` leaves, from its clause `entries`, where the keys were in order (clause `ordered` of `len`)
+--     find_set_at, as_map-set_at      what a write through `get_mut` leaves
 --     insert_same      what is there, put again
 use Rattle.std.proofs.Common.{◌≡◌, Bool, true, false, cond, Option, None, Some, List, [], ◌∷◌, map, refl, sym, ap, ◌∙◌}
 use Rattle.std.specs.declared.cmp.Ordering.{Ordering}
@@ -69,9 +69,6 @@ module _ {A X K V : Type 0} (f : A → K) (g : X → V) (R : K → K → Orderin
     pub got_at : (q : K) (es : List (A × X)) → finite.get (as_map es) q ≡ option_map g (lookup (at q) es)
     got_at q es = get-from_entries o (read es) q ∙ find_at q es
 
-    pub got : (q : A) (es : List (A × X)) → finite.get (as_map es) (f q) ≡ option_map g (lookup (is_at (by_read q)) es)
-    got q = got_at (f q)
-
     pub find_read-insert : (k : A) (v : X) (es : List (A × X)) (q : K) → find R q (read (insert_entry by_read es k v)) ≡ cond (eq_by_cmp R q (f k)) (Some (g v)) (find R q (read es))
     find_read-insert k v es q = ap (find R q) (read-insert_entry k v es) ∙ find-put R o q (f k) (g v) (read es)
 
@@ -117,16 +114,10 @@ module _ {A X K V : Type 0} (f : A → K) (g : X → V) (R : K → K → Orderin
               ∙ exchanged (eq_by_cmp R q (f e.0)) (eq_by_cmp R q k) (Some (g e.1)) None (find R q (read es)) (λ u v. apart_of q k (f e.0) t v u)
         ] refl
 
-    pub find_read-remove_entry : (k : A) (es : List (A × X)) (q : K) → IsStrictlySortedBy by_read (keys_of es) → find R q (read (remove_entry (is_at (by_read k)) es)) ≡ cond (eq_by_cmp R q (f k)) None (find R q (read es))
-    find_read-remove_entry k = find_remove_at (f k)
-
     pub as_map-remove_at : IsAntisymmetric R → (k : K) (es : List (A × X)) → IsStrictlySortedBy by_read (keys_of es) → as_map (remove_entry (at k) es) ≡ finite.remove (as_map es) k
     as_map-remove_at exact k es sorted = same_map o exact _ _ (λ q.
         get-from_entries o (read (remove_entry (at k) es)) q ∙ find_remove_at k es q sorted
         ∙ sym (get-remove o (as_map es) k q ∙ ap (cond (eq_by_cmp R q k) None) (get-from_entries o (read es) q)))
-
-    pub as_map-remove : IsAntisymmetric R → (k : A) (es : List (A × X)) → IsStrictlySortedBy by_read (keys_of es) → as_map (remove_entry (is_at (by_read k)) es) ≡ finite.remove (as_map es) (f k)
-    as_map-remove exact k = as_map-remove_at exact (f k)
 
     pub find_set_at : (k : K) (w : X) (es : List (A × X)) (q : K) → IsSome (lookup (at k) es) → find R q (read (set_value (at k) es w)) ≡ cond (eq_by_cmp R q k) (Some (g w)) (find R q (read es))
     find_set_at k w [] q there = absurd (false≢true there)
@@ -140,16 +131,10 @@ module _ {A X K V : Type 0} (f : A → K) (g : X → V) (R : K → K → Orderin
               ∙ exchanged (eq_by_cmp R q (f e.0)) (eq_by_cmp R q k) (Some (g e.1)) (Some (g w)) (find R q (read es)) (λ u v. apart_of q k (f e.0) t v u)
         ] refl there
 
-    pub find_read-set_value : (k : A) (w : X) (es : List (A × X)) (q : K) → IsSome (lookup (is_at (by_read k)) es) → find R q (read (set_value (is_at (by_read k)) es w)) ≡ cond (eq_by_cmp R q (f k)) (Some (g w)) (find R q (read es))
-    find_read-set_value k = find_set_at (f k)
-
     pub as_map-set_at : IsAntisymmetric R → (k : K) (w : X) (es : List (A × X)) → IsSome (lookup (at k) es) → as_map (set_value (at k) es w) ≡ finite.insert (as_map es) k (g w)
     as_map-set_at exact k w es there = same_map o exact _ _ (λ q.
         get-from_entries o (read (set_value (at k) es w)) q ∙ find_set_at k w es q there
         ∙ sym (get-insert o (as_map es) k (g w) q ∙ ap (cond (eq_by_cmp R q k) (Some (g w))) (get-from_entries o (read es) q)))
-
-    pub as_map-set_value : IsAntisymmetric R → (k : A) (w : X) (es : List (A × X)) → IsSome (lookup (is_at (by_read k)) es) → as_map (set_value (is_at (by_read k)) es w) ≡ finite.insert (as_map es) (f k) (g w)
-    as_map-set_value exact k = as_map-set_at exact (f k)
 
     pub insert_same : IsAntisymmetric R → (m : FinMap R V) (k : K) (v : V) → finite.get m k ≡ Some v → finite.insert m k v ≡ m
     insert_same exact m k v there = same_map o exact _ _ (λ q.

@@ -1,4 +1,4 @@
--- How the logic stores an object where it stands in the value of a struct: a number for its kind, and its parts.
+-- How the logic stores an object that is in the value of a struct: a number for its kind, and its parts.
 use Rattle.std.specs.Prelude.{◌≡◌, ℕ, List}
 use Rattle.std.specs.Coded.{Coded, coded_ℕ, coded_ℤ, coded_list}
 use base.Stored.{Gv, gnum, gcons}

@@ -39,7 +39,7 @@
 //!   one object (`same_datum`).
 //! - proofs/Depths.antt: `depth_object`. proofs/Sizes.antt: `size_object`. proofs/Quotients.antt: `gcd_from_IsGcd`, `lowest`,
 //!   `lowest_stays`.
-//! - proofs/Tree.antt: a `BTreeMap` read as a finite map, by its keys or by what is read of them (`got_at`, `as_map-insert`,
+//! - proofs/Tree.antt: a `BTreeMap` read as a finite map, by what is read of its keys (`got_at`, `as_map-insert`,
 //!   `as_map-set_at`, `as_map-remove_at`). proofs/TreeEntries.antt: its entries in their order (`entries-as_map`,
 //!   `keys-as_set`), sets, and copies entry by entry (`copied_next`, `copied_next_key`).
 #![tactic(auto)]

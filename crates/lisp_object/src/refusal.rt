@@ -1,5 +1,6 @@
 //! The refusals: a number and a name for each. A call that refuses answers one of these numbers, and `NO_MEMORY` only where
-//! a growth was refused. No number is written anywhere else: code and definitions cite it by its name.
+//! a growth was refused. Code and contracts cite a number by its name here; specs/Refusal.antt writes each beside its name once
+//! more, and the contract of `name_of` says that both are the same.
 ghost use Rattle.std.specs.Prelude.{◌≡◌};
 ghost use Rattle.lisp_object.specs.Refusal.{name_of, name_among, rows_of};
 
@@ -47,7 +48,7 @@ pub const LOCKED_PACKAGE: u16 = 13;
 /// A sub-character without a function.
 pub const NO_DISPATCH: u16 = 14;
 
-/// A numeric argument over 999,999, or one that the function does not take or misses.
+/// A numeric argument over 999,999; or a token read in a given base, where the base is missing or not 2 to 36.
 pub const NUMERIC_ARGUMENT: u16 = 15;
 
 /// A name of no character.
@@ -56,7 +57,8 @@ pub const CHARACTER_NAME: u16 = 16;
 /// A token that is no rational in the radix asked for.
 pub const RADIX_TOKEN: u16 = 17;
 
-/// More objects in a vector than its length, or none where it has a length.
+/// More objects in a vector than its length, or none where its length is over 0, or a vector with a repeated last object whose
+/// size is over 1,000,000.
 pub const VECTOR_LENGTH: u16 = 18;
 
 /// A token that names no uninterned symbol.
@@ -168,7 +170,7 @@ pub const OUTPUT: u16 = 68;
 /// A growth was refused.
 pub const NO_MEMORY: u16 = 90;
 
-// Each refusal by its number, with its name as it stands in an answer, in the order of the numbers.
+// Each refusal by its number, with its name as it is in an answer, in the order of the numbers.
 pub(crate) const NAMES: [(u16, &str); 53] = [
     (END_OF_FILE, "END-OF-FILE"),
     (INVALID_CHARACTER, "INVALID-CHARACTER"),
@@ -225,7 +227,7 @@ pub(crate) const NAMES: [(u16, &str); 53] = [
     (NO_MEMORY, "NO-MEMORY"),
 ];
 
-/// The name of a refusal by its number, as it stands in an answer; empty for a number that is none. It takes no memory.
+/// The name of a refusal by its number, as it is in an answer; empty for a number that is none. It takes no memory.
 #[tactic(auto, unfolding(crate::specs::Refusal::name_of))]
 pub fn name_of(number: u16) -> &'static str
     ensures { result.now ≡ name_of number }

@@ -1,4 +1,5 @@
 pub mod NameBytes
 pub mod Standard
 pub mod Sound
+pub mod PutBack
 pub mod Named

@@ -1,14 +1,13 @@
 -- The cases of a readtable (standard 23.1.2), and the names of the keywords for them.
-use Rattle.std.specs.Prelude.{ℕ, List, [], ◌∷◌}
+use Rattle.std.specs.Prelude.{ℕ, List, [], ◌∷◌, codes}
 use Rattle.readtable_core.specs.declared.table.Case.{Case}
 use Rattle.readtable_core.specs.declared.table.Case.TheVariants.{Upcase, Downcase, Preserve, Invert}
-use Rattle.readtable_core.specs.declared.table.TheConstants.{UPCASE, DOWNCASE, PRESERVE, INVERT}
 
 abbrev pub case_name : Case → List ℕ
-case_name Upcase = UPCASE.now
-case_name Downcase = DOWNCASE.now
-case_name Preserve = PRESERVE.now
-case_name Invert = INVERT.now
+case_name Upcase = codes "UPCASE"
+case_name Downcase = codes "DOWNCASE"
+case_name Preserve = codes "PRESERVE"
+case_name Invert = codes "INVERT"
 
 abbrev pub case_names : List (List ℕ)
-case_names = UPCASE.now ∷ DOWNCASE.now ∷ PRESERVE.now ∷ INVERT.now ∷ []
+case_names = codes "UPCASE" ∷ codes "DOWNCASE" ∷ codes "PRESERVE" ∷ codes "INVERT" ∷ []

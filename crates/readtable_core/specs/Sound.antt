@@ -23,7 +23,7 @@ abbrev pub is_none_or_name : Option (List ℕ) → Bool
 is_none_or_name None = true
 is_none_or_name (Some name) = is_function_name name
 
--- A function stands exactly at macro characters. There are places for sub-characters exactly at dispatching ones; none is
+-- A function is exactly at macro characters. There are places for sub-characters exactly at dispatching ones; none is
 -- filled at a lower-case letter or a digit, and none with STD-DISPATCH. Names are names of functions.
 pub record IsEntry (e : Entry) : Type 0 where
   pub function : is_some e.function ≡ is_macro e.syntax

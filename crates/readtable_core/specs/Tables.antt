@@ -11,7 +11,7 @@ use Rattle.readtable_core.specs.Characters.{upper_case, standard_syntax}
 use Rattle.readtable_core.specs.Names.{std_list, std_close, std_quote, std_comment, std_string, std_out, std_char, std_function, std_vector, std_uninterned, std_block, std_binary, std_octal, std_hex, std_radix}
 use Rattle.readtable_core.specs.Names.{dispatch_name}
 
--- What stands at one character. The dispatch table is the list of the functions of the sub-characters 0 to 127 at a
+-- What is at one character. The dispatch table is the list of the functions of the sub-characters 0 to 127 at a
 -- dispatching character, and empty elsewhere.
 pub record Entry : Type 0 where
   pub syntax : Syntax
@@ -23,7 +23,7 @@ pub record Table : Type 0 where
   pub letters : Case
   pub entries : List Entry
 
--- what stands beyond 127
+-- what is beyond 127
 abbrev pub no_entry : Entry
 no_entry = record { syntax = Invalid; function = None; dispatch = [] }
 

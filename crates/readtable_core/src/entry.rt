@@ -1,4 +1,4 @@
-//! What stands at one character of a readtable.
+//! What is at one character of a readtable.
 ghost use Rattle.std.specs.Prelude.{◌≡◌, ◌<◌, length, replicate, map, None, IfOk, OnErr, IsTrue, IsFalse};
 ghost use Rattle.std.specs.List.{range_with_len};
 ghost use Rattle.readtable_core.specs.Characters.{upper_case, is_digit};

@@ -8,13 +8,14 @@
 //! - `characters`: `Syntax`, `Traits`, `traits_of`
 //! - `names`: `FnName`, the name of a reader macro function
 //! - `standard_names`: the names of the functions of the standard readtable
-//! - `entry`: `CharacterEntry`, what stands at one character
+//! - `entry`: `CharacterEntry`, what is at one character
 //! - `table`: `Case`, `Readtable` and the calls that read or change it
 //! - `refusal`: `DispatchRefusal`
 //! - `standard_table`: the functions of the standard readtable, character by character
 //!
-//! Journals keep entries: `entry` copies one, and `put_entry` puts one back and takes no memory. Snapshots write the
-//! entries that differ from the standard ones (`same_entry`), by numbers (`Syntax::number`) and names (`Case::name`). What
+//! Journals keep entries: `entry` copies one, and `put_entry` puts one back and takes no memory; an old entry put back gives
+//! the old readtable. Snapshots write the entries that differ from the standard ones (`same_entry`), by numbers
+//! (`Syntax::number`, `Syntax::from_number`) and names (`Case::name`, `Case::from_name`). What
 //! a readtable names is `functions_of` of `specs/Named.antt`; a caller goes through `entries`, as `covers` of user_macros.
 //!
 //! Crates above cite these lemmas, and they keep their names:
@@ -24,6 +25,7 @@
 //! - of `proofs/Sound.antt`: `standard_sound`; `kept`, which says that a readtable with one more sound entry is sound;
 //!   `macro_sound`, `dispatching_sound` and `function_sound`, which say that the entries of the changes are; and
 //!   `upper_is`, by which std's upper case is the one of the definitions;
+//! - of `proofs/PutBack.antt`: `put_back`, by which an old entry, put back after any other, gives the old readtable;
 //! - of `proofs/Named.antt`: `same_is` and `same_itself`, by which `same_entry` is equality; `same_number`, by which a
 //!   syntax type is told by its number; `all_functions` and `all_named`, which take a test of all named functions apart;
 //!   `named_at`, `named_function` and `named_sub_function`, what such a test says at a character; `named_after`,

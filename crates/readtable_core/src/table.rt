@@ -130,7 +130,7 @@ impl Readtable {
         }
     }
 
-    /// The function that stands at `c`: of each macro character, and of no other. At a dispatching macro character it is
+    /// The function at `c`: each macro character has one, and no other character. At a dispatching macro character it is
     /// STD-DISPATCH. Takes no memory.
     pub fn macro_of(&self, c: u8) -> Option<FnName>
         ensures { result ≡ (entry_at self.now c).function }
@@ -177,11 +177,13 @@ impl Readtable {
         self.entries[usize::from(c)].copy(alloc)
     }
 
-    /// Puts `entry` in place of the entry of `c`, which is below 128, and answers the old one. Takes no memory.
+    /// Puts `entry` in place of the entry of `c`, which is below 128, and answers the old one; that one put back gives the
+    /// old readtable. Takes no memory.
     pub fn put_entry(&mut self, c: u8, entry: CharacterEntry) -> CharacterEntry
         requires { c < 128 }
         ensures old { result ≡ entry_at self.old c }
         ensures after { self.new ≡ with_entry self.old c entry }
+        ensures back { with_entry self.new c result ≡ self.old }
     {
         entry.soundness();
         mem::replace(&mut self.entries[usize::from(c)], entry)

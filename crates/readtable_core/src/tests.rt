@@ -83,6 +83,17 @@ fn refusals_and_entries(rt: HostRuntime) -> Result<(), Fail> {
     for (c, sub, answer) in refusals {
         assert!(rt; table.set_dispatch(c, sub, square) == answer, "at {c}");
     }
+    let names: [(&[u8], bool, bool); 3] = [
+        (b"STD-RADIX", true, false),
+        (b"STD-DISPATCH", false, true),
+        (b"SQUARE", false, false),
+    ];
+    for (bytes, is_standard, is_dispatch) in names {
+        let name = FnName::new(bytes).unwrap();
+        assert!(rt; name.is_standard() == is_standard && name.is_dispatch() == is_dispatch);
+    }
+    assert!(rt; table.is_dispatching(b'#') && !table.is_dispatching(b'('));
+    assert!(rt; table.entries()[40].function() == FnName::new(b"STD-LIST"));
     let hash = table.entry(rt.alloc(), b'#')?;
     table.set_macro(b'#', square, false);
     assert!(rt; table.syntax(b'#') == Syntax::TerminatingMacro);
