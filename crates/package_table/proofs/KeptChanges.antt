@@ -92,7 +92,7 @@ second_false : (a b : Bool) → (a && b) ≡ false → a ≡ true → b ≡ fals
 second_false true b e _ = e
 second_false false b e is = absurd (false≢true is)
 
-users_agree : (t : Table) (p h n : Name) → IsSound t → user_finds_other t p h n ≡ false → (q g : Name) → Uses t q p → Finds t q n g → g ≡ h
+pub users_agree : (t : Table) (p h n : Name) → IsSound t → user_finds_other t p h n ≡ false → (q g : Name) → Uses t q p → Finds t q n g → g ≡ h
 users_agree t p h n sound none q g used finds =
     elim (finite.get t q) as (λ o. finite.get t q ≡ o → option_map (λ (k : Package). finite.contains_key k.uses p) o ≡ Some true → g ≡ h) [
       | None ↦ λ _ no. absurd (none_some true no)
@@ -102,7 +102,7 @@ users_agree t p h n sound none q g used finds =
           g finds
     ] refl used
 
-shown_agree : (t : Table) (p q : Name) → IsSound t → finds_other_than_shown t p q ≡ false → (n g h : Name) → Finds t p n g → IsExternal t q n → IsPresent t q n h → g ≡ h
+pub shown_agree : (t : Table) (p q : Name) → IsSound t → finds_other_than_shown t p q ≡ false → (n g h : Name) → Finds t p n g → IsExternal t q n → IsPresent t q n h → g ≡ h
 shown_agree t p q sound none n g h finds shown there =
     elim (finite.get t q) as (λ o. list_any (λ (s : Name × Entry). s.1.external && finds_other t p s.1.home s.0) (option_map_or (λ (k : Package). finite.entries k.symbols) o []) ≡ false
     → option_map (λ (e : Entry). e.external) (option_and_then (λ (k : Package). finite.get k.symbols n) o) ≡ Some true → option_map (λ (e : Entry). e.home) (option_and_then (λ (k : Package). finite.get k.symbols n) o) ≡ Some h → g ≡ h) [

@@ -1,4 +1,5 @@
 pub mod Alone
+pub mod Asked
 pub mod CallRows
 pub mod Conflicts
 pub mod Counting

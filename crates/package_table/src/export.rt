@@ -1,6 +1,6 @@
 //! `export`: a symbol becomes external.
 ghost use Rattle.std.specs.Prelude.{◌≡◌, IfErr, IfOk};
-ghost use Rattle.package_table.specs.Changes.{after_export, export_changes, with_external, Gives};
+ghost use Rattle.package_table.specs.Changes.{after_export, export_changes, with_external, Gives, RunsOutOnlyIf};
 ghost use Rattle.package_table.specs.Growth.{Grows, Tells};
 ghost use Rattle.package_table.specs.Shown.{table_of};
 
@@ -19,9 +19,10 @@ fn export_refusal(
     home: &[u8],
     name: &[u8],
 ) -> Result<(), PackageError>
-    ensures { let t = table_of table.now in
+    ensures gives { let t = table_of table.now in
         Gives (λ _. with_external t owner.now home.now name.now) result
         (after_export t owner.now home.now name.now) }
+    ensures memory { IfErr result (RunsOutOnlyIf (export_changes (table_of table.now) owner.now name.now)) }
 {
     if !has_package(table, owner) {
         return Err(PackageError::NoSuchPackage);
@@ -48,6 +49,7 @@ fn export_symbol(
     ensures gives { Gives (λ _. table_of table.new) result
         (after_export (table_of table.old) owner.now home.now name.now) }
     ensures changed { IfOk result (λ changed. changed ≡ export_changes (table_of table.old) owner.now name.now) }
+    ensures memory { IfErr result (RunsOutOnlyIf (export_changes (table_of table.old) owner.now name.now)) }
     ensures unchanged { IfErr result (λ _. table_of table.new ≡ table_of table.old) }
 {
     export_refusal(table, owner, home, name)?;
@@ -76,6 +78,7 @@ impl Packages {
         ensures changed { IfOk result (λ changed. changed ≡ export_changes self.old.0 owner.now name.now) }
         ensures exactly { IfOk result (λ changed. Tells changed self.old.0 self.new.0) }
         ensures grows { Grows self.old.0 self.new.0 }
+        ensures memory { IfErr result (RunsOutOnlyIf (export_changes self.old.0 owner.now name.now)) }
         ensures unchanged { IfErr result (λ _. self.new ≡ self.old) }
         ensures marked { self.new.1 ≡ self.old.1 }
     {

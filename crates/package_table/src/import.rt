@@ -1,7 +1,7 @@
 //! `import`: a symbol becomes present.
 ghost use Rattle.std.specs.Prelude.{◌≡◌, IfErr, IfOk};
 ghost use Rattle.package_table.specs.Table.{IsPresent};
-ghost use Rattle.package_table.specs.Changes.{after_import, import_changes, with_present, Gives};
+ghost use Rattle.package_table.specs.Changes.{after_import, import_changes, with_present, Gives, RunsOutOnlyIf};
 ghost use Rattle.package_table.specs.Growth.{Grows, Tells};
 ghost use Rattle.package_table.specs.Shown.{table_of};
 
@@ -19,9 +19,10 @@ fn import_refusal(
     home: &[u8],
     name: &[u8],
 ) -> Result<(), PackageError>
-    ensures { let t = table_of table.now in
+    ensures gives { let t = table_of table.now in
         Gives (λ _. with_present t owner.now home.now name.now) result
         (after_import t owner.now home.now name.now) }
+    ensures memory { IfErr result (RunsOutOnlyIf (import_changes (table_of table.now) owner.now name.now)) }
 {
     if !has_package(table, owner) {
         return Err(PackageError::NoSuchPackage);
@@ -45,6 +46,7 @@ fn import_symbol(
     ensures gives { Gives (λ _. table_of table.new) result
         (after_import (table_of table.old) owner.now home.now name.now) }
     ensures changed { IfOk result (λ changed. changed ≡ import_changes (table_of table.old) owner.now name.now) }
+    ensures memory { IfErr result (RunsOutOnlyIf (import_changes (table_of table.old) owner.now name.now)) }
     ensures unchanged { IfErr result (λ _. table_of table.new ≡ table_of table.old) }
 {
     import_refusal(table, owner, home, name)?;
@@ -75,6 +77,7 @@ impl Packages {
         ensures changed { IfOk result (λ changed. changed ≡ import_changes self.old.0 owner.now name.now) }
         ensures exactly { IfOk result (λ changed. Tells changed self.old.0 self.new.0) }
         ensures grows { Grows self.old.0 self.new.0 }
+        ensures memory { IfErr result (RunsOutOnlyIf (import_changes self.old.0 owner.now name.now)) }
         ensures unchanged { IfErr result (λ _. self.new ≡ self.old) }
         ensures marked { self.new.1 ≡ self.old.1 }
     {

@@ -1,7 +1,7 @@
 //! `use_package`: a package uses another.
 ghost use Rattle.std.specs.Prelude.{◌≡◌, if◌then◌else◌, IfErr, IfOk};
 ghost use Rattle.package_table.specs.Table.{with_used};
-ghost use Rattle.package_table.specs.Changes.{after_use, use_changes, Gives};
+ghost use Rattle.package_table.specs.Changes.{after_use, use_changes, Gives, RunsOutOnlyIf};
 ghost use Rattle.package_table.specs.Growth.{Grows, Tells};
 ghost use Rattle.package_table.specs.Shown.{table_of};
 
@@ -23,6 +23,7 @@ fn use_refusal(
         Gives (λ changes. if changes then with_used t owner.now used.now else t) result
         (after_use t owner.now used.now) }
     ensures changes { IfOk result (λ changes. changes ≡ use_changes (table_of table.now) owner.now used.now) }
+    ensures memory { IfErr result (RunsOutOnlyIf (use_changes (table_of table.now) owner.now used.now)) }
 {
     if !has_package(table, owner) || !has_package(table, used) {
         return Err(PackageError::NoSuchPackage);
@@ -48,6 +49,7 @@ fn use_other(
     ensures gives { Gives (λ _. table_of table.new) result
         (after_use (table_of table.old) owner.now used.now) }
     ensures changed { IfOk result (λ changed. changed ≡ use_changes (table_of table.old) owner.now used.now) }
+    ensures memory { IfErr result (RunsOutOnlyIf (use_changes (table_of table.old) owner.now used.now)) }
     ensures unchanged { IfErr result (λ _. table_of table.new ≡ table_of table.old) }
 {
     if !use_refusal(table, owner, used)? {
@@ -70,6 +72,7 @@ impl Packages {
         ensures changed { IfOk result (λ changed. changed ≡ use_changes self.old.0 owner.now used.now) }
         ensures exactly { IfOk result (λ changed. Tells changed self.old.0 self.new.0) }
         ensures grows { Grows self.old.0 self.new.0 }
+        ensures memory { IfErr result (RunsOutOnlyIf (use_changes self.old.0 owner.now used.now)) }
         ensures unchanged { IfErr result (λ _. self.new ≡ self.old) }
         ensures marked { self.new.1 ≡ self.old.1 }
     {
