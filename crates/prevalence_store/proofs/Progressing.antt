@@ -4,7 +4,6 @@ use Rattle.std.specs.Option.{option_map, option_and_then}
 use Rattle.std.proofs.lemmas.List.Sums.{sum_by-append}
 use Rattle.disk_trait.specs.Disk.{State, IsHonest}
 use Rattle.gate_log.specs.Layout.{Contents, Entry}
-use Rattle.gate_log.specs.Log as gated
 use Rattle.prevalence_store.specs.declared.mode.Mode.{Mode}
 use Rattle.prevalence_store.specs.declared.outcome.Ending.{Ending}
 use Rattle.prevalence_store.specs.declared.outcome.Ending.TheVariants.{End, Reader, Store}
@@ -12,7 +11,7 @@ use Rattle.prevalence_store.specs.Acceptance.{read_in}
 use Rattle.prevalence_store.specs.Execution.{SurvivesAs}
 use Rattle.prevalence_store.specs.Output.{Progress, after_forms, begun, last_line, one_form, one_more, onward}
 use Rattle.prevalence_store.specs.Serving.{Advances, Ends, IsAfter, Serves, room_of, with_entries}
-use Rattle.prevalence_store.specs.Session.{Session}
+use Rattle.prevalence_store.specs.Session.{Session, Describes}
 use Rattle.prevalence_store.specs.Streams.{Writes}
 use Rattle.prevalence_store.specs.World.{World}
 use Rattle.prevalence_store.specs.Theorem.{Survives}
@@ -64,12 +63,12 @@ writes_both a b c front back first second = λ held is.
 
 module _ {D : Type 0} (state : D → State) (old mid new : Session D) (p : Progress) (first : IsAfter state old mid p)
     (honest : (state mid.disk).honest ≡ (state old.disk).honest) where
-  appended_both : (q : List Entry)
-      → ((k : Contents) → IsHonest (state mid.disk) → gated.Means (Some k) (state mid.disk).reads → gated.Means (Some (with_entries k q)) (state new.disk).reads)
-      → (k : Contents) → IsHonest (state old.disk) → gated.Means (Some k) (state old.disk).reads → gated.Means (Some (with_entries k (p.taken ++ q))) (state new.disk).reads
-  appended_both q second k claims held =
-      subst (λ entries. gated.Means (Some (record k { entries = entries })) (state new.disk).reads) (append_assoc k.entries p.taken q)
-      (second (with_entries k p.taken) (subst IsTrue (sym honest) claims) (first.appended k claims held))
+  described_both : (q : List Entry)
+      → ((k : Contents) → IsHonest (state mid.disk) → Describes mid k (state mid.disk).reads → Describes new (with_entries k q) (state new.disk).reads)
+      → (k : Contents) → IsHonest (state old.disk) → Describes old k (state old.disk).reads → Describes new (with_entries k (p.taken ++ q)) (state new.disk).reads
+  described_both q second k claims held =
+      subst (λ entries. Describes new (record k { entries = entries }) (state new.disk).reads) (append_assoc k.entries p.taken q)
+      (second (with_entries k p.taken) (subst IsTrue (sym honest) claims) (first.described k claims held))
 
   size_both : (q : List Entry) (size : ℕ) → size ≡ mid.size + room_of q → size ≡ old.size + room_of (p.taken ++ q)
   size_both q size is = let sum = sum_by-append (λ (entry : Entry). 6 + length entry.text) p.taken q in let before = first.size in omega arith
@@ -90,7 +89,7 @@ module _ {D : Type 0} (state : D → State) (old mid new : Session D) (p : Progr
     size = size_both q.taken new.size second.size;
     fits = let first_fits = first.fits in let second_fits = second.fits in let limit = first.limit in omega arith;
     limit = second.limit ∙ first.limit;
-    appended = appended_both q.taken second.appended;
+    described = described_both q.taken second.described;
     failures = second.failures ∙ first.failures;
   }
 

@@ -2,7 +2,6 @@
 use Rattle.std.proofs.Common.{◌≡◌, ℕ, ◌+◌, ◌<◌, true, false, List, [], ◌++◌, length, drop, Option, None, Some, IsSome, is_some, Result, Ok, Err, IfOk, IfErr, refl, sym, ap, subst, ◌∙◌, inl, inr, append_assoc, append-nil, arith}
 use Rattle.std.specs.Option.{option_map}
 use Rattle.disk_trait.specs.Disk.{State, IsHonest, IsSound}
-use Rattle.gate_log.specs.Log as gated
 use Rattle.lisp_object.specs.Object.{Object}
 use Rattle.lisp_object.specs.Datum.{object_of}
 use Rattle.lisp_object.specs.declared.datum.Datum.{Datum}
@@ -21,7 +20,7 @@ use Rattle.prevalence_store.specs.Execution.{Fails, Logs, SurvivesAs, acknowledg
 use Rattle.prevalence_store.specs.Output.{Progress, after_forms, begun, evaluated, last_line, one_form, onward, refusal_line}
 use Rattle.prevalence_store.specs.Reading.{form, empty, refused}
 use Rattle.prevalence_store.specs.Serving.{Ends, HasRead, IsAfter, Serves, ServesInput}
-use Rattle.prevalence_store.specs.Session.{Session}
+use Rattle.prevalence_store.specs.Session.{Session, Describes}
 use Rattle.prevalence_store.specs.Streams.{Writes, WritesPart}
 use Rattle.prevalence_store.specs.Turns.{AnswersFault, GoesOn, IsAnswered, IsLineOf, IsStop, TurnsInto}
 use Rattle.prevalence_store.specs.World.{World, initial}
@@ -56,7 +55,7 @@ module _ {D : Type 0} (state : D → State) (sound : (d : D) → IsHonest (state
         size = omega arith;
         fits = omega arith;
         limit = refl;
-        appended = λ k claims holds. subst (λ entries. gated.Means (Some (record k { entries = entries })) (state old.disk).reads) (sym (append-nil k.entries)) holds;
+        described = λ k claims told. subst (λ entries. Describes old (record k { entries = entries }) (state old.disk).reads) (sym (append-nil k.entries)) told;
         failures = refl;
       })
 
@@ -130,7 +129,7 @@ module _ {D : Type 0} (state : D → State) (sound : (d : D) → IsHonest (state
     size = let size = logs.size in omega arith;
     fits = let fits = logs.fits in omega arith;
     limit = logs.limit;
-    appended = logs.appended;
+    described = logs.described;
     failures = logs.failures;
   }
 

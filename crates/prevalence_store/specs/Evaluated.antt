@@ -17,7 +17,7 @@ abbrev pub IfRefused : {A : Type 0} → Result A EvaluationError → (ℕ → Ty
 IfRefused (Err (Refused code)) P = P code
 IfRefused _ P = Unit {0}
 
--- a form's arguments, of the list of what stands in it
+-- a form's arguments, of the list of what is in it
 abbrev pub arguments_of : List Object → Object
 arguments_of [] = nil
 arguments_of (x ∷ xs) = list_of xs

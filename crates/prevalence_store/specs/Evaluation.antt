@@ -55,16 +55,25 @@ abbrev pub set : List Object → World → Outcome Object
 set (symbol home name ∷ symbol home' name' ∷ x ∷ []) w = Ok (x, with_property w (home, name) (home', name') x)
 set _ w = Err ARGUMENT_KIND
 
+-- the value of `(QUOTE x)`, by what follows the operator (standard 3.8, quote)
+abbrev pub quote_value : World → Object → Outcome Object
+quote_value w arguments = if count arguments == 1 then Ok (first arguments, w) else Err ARGUMENT_COUNT
+
+-- a form with GET, by what follows the operator and by the values of that; and a form with SETF
+abbrev pub get_of : Object → Outcome (List Object) → Outcome Object
+get_of arguments given = if count arguments == 2 || count arguments == 3 then and_then given get else Err ARGUMENT_COUNT
+
+abbrev pub setf_of : Object → Outcome (List Object) → Outcome Object
+setf_of arguments given = if count arguments == 2 then and_then given set else Err ARGUMENT_COUNT
+
 unfoldable mutual
   -- the value of a form: an object that is neither a symbol nor a list is its own (standard 3.1.2.1)
   pub value : World → Object → Outcome Object
   value w (pair operator arguments) =
       if not (is_interned operator && is_proper_list arguments) then Err NOT_A_FORM else
-      (if is_standard (codes "QUOTE") operator then (if count arguments == 1 then Ok (first arguments, w) else Err ARGUMENT_COUNT) else
-      (if is_standard (codes "GET") operator then
-      (if count arguments == 2 || count arguments == 3 then and_then (values w arguments) get else Err ARGUMENT_COUNT) else
-      (if is_standard (codes "SETF") operator then
-      (if count arguments == 2 then and_then (setf_values w arguments) set else Err ARGUMENT_COUNT) else
+      (if is_standard (codes "QUOTE") operator then quote_value w arguments else
+      (if is_standard (codes "GET") operator then get_of arguments (values w arguments) else
+      (if is_standard (codes "SETF") operator then setf_of arguments (setf_values w arguments) else
       Err UNKNOWN_OPERATOR)))
   value w (symbol home name) = if gives_itself home name then Ok (symbol home name, w) else Err NOT_A_FORM
   value w (uninterned name) = Err NOT_A_FORM
@@ -75,7 +84,7 @@ unfoldable mutual
   values w (pair x xs) = and_then (value w x) (λ y w₁. and_then (values w₁ xs) (λ ys w₂. Ok (y ∷ ys, w₂)))
   values w _ = Ok ([], w)
 
-  -- the values of the subforms of a place, and of the form for its new value behind it (standard 5.1.1.1)
+  -- the values of the subforms of a place, and of the form for its new value after it (standard 5.1.1.1)
   pub setf_values : World → Object → Outcome (List Object)
   setf_values w (pair place form) = and_then (place_values w place) (λ ys w₁. and_then (values w₁ form) (λ xs w₂. Ok (ys ++ xs, w₂)))
   setf_values w _ = Ok ([], w)
@@ -87,13 +96,9 @@ unfoldable mutual
       (if count subforms == 2 then values w subforms else Err ARGUMENT_COUNT)
   place_values w _ = Err ARGUMENT_KIND
 
--- the value of `(QUOTE x)`, by what stands behind the operator (standard 3.8, quote)
-abbrev pub quote_value : World → Object → Outcome Object
-quote_value w arguments = if count arguments == 1 then Ok (first arguments, w) else Err ARGUMENT_COUNT
-
--- the value of a form with GET, and of one with SETF
+-- the value of a form with GET, and of one with SETF, by what follows the operator
 abbrev pub get_value : World → Object → Outcome Object
-get_value w arguments = if count arguments == 2 || count arguments == 3 then and_then (values w arguments) get else Err ARGUMENT_COUNT
+get_value w arguments = get_of arguments (values w arguments)
 
 abbrev pub setf_value : World → Object → Outcome Object
-setf_value w arguments = if count arguments == 2 then and_then (setf_values w arguments) set else Err ARGUMENT_COUNT
+setf_value w arguments = setf_of arguments (setf_values w arguments)

@@ -1,10 +1,10 @@
 -- What `execute` answers, each answer with its cause and with what is left after it.
-use Rattle.std.specs.Prelude.{◌≡◌, ◌⊎◌, ℕ, ◌+◌, ◌<◌, ◌≤◌, ◌==◌, if◌then◌else◌, List, [], ◌∷◌, length, None, Some, Result, Ok, Err}
+use Rattle.std.specs.Prelude.{true, ◌≡◌, ◌⊎◌, ℕ, ◌+◌, ◌<◌, ◌≤◌, ◌==◌, if◌then◌else◌, List, [], ◌∷◌, length, None, Some, Result, Ok, Err}
 use Rattle.disk_trait.specs.Disk.{Image, State, IsHonest}
 use Rattle.gate_log.specs.Layout.{Contents, Entry, with_entry}
 use Rattle.gate_log.specs.Log as gated
 use Rattle.lisp_object.specs.Object.{Object}
-use Rattle.lisp_object.specs.Datum.{object_of}
+use Rattle.lisp_object.specs.Datum.{object_of, is_proper}
 use Rattle.lisp_object.specs.declared.datum.Datum.{Datum}
 use Rattle.lisp_object.specs.declared.refusal.TheConstants.{DEVICE, REOPEN, LOG_FULL, NO_MEMORY}
 use Rattle.prevalence_store.specs.declared.failure.Failure.{Failure}
@@ -13,7 +13,7 @@ use Rattle.prevalence_store.specs.declared.mode.Mode.{Mode}
 use Rattle.prevalence_store.specs.declared.outcome.Outcome.{Outcome}
 use Rattle.prevalence_store.specs.declared.outcome.Outcome.TheVariants.{Accepted, Refused}
 use Rattle.prevalence_store.specs.Acceptance.{Acceptance, accepts, logged}
-use Rattle.prevalence_store.specs.Session.{Session}
+use Rattle.prevalence_store.specs.Session.{Session, Describes}
 use Rattle.prevalence_store.specs.Theorem.{Keeps, Survives}
 use Rattle.prevalence_store.specs.World.{World}
 
@@ -60,7 +60,7 @@ module _ {D : Type 0} (state : D → State) (old new : Session D) where
       → Survives (state old.disk) (state new.disk) world taken acknowledged new.world
 
   -- A form with this text was logged, and left this world. On an honest disk its record, which is its mode and its text,
-  -- comes after those that were there.
+  -- comes after those that were there, and the store tells of it.
   pub record Logs (mode : Mode) (text : List ℕ) (world : World) : Type 0 where
     pub left : new.world ≡ Some world
     pub half : new.half ≡ old.half
@@ -69,8 +69,8 @@ module _ {D : Type 0} (state : D → State) (old new : Session D) where
     pub size : new.size ≡ old.size + (6 + length text)
     pub fits : new.size ≤ old.limit
     pub limit : new.limit ≡ old.limit
-    pub appended : (k : Contents) → IsHonest (state old.disk) → gated.Means (Some k) (state old.disk).reads
-        → gated.Means (Some (with_entry k (logged mode text))) (state new.disk).reads
+    pub described : (k : Contents) → IsHonest (state old.disk) → Describes old k (state old.disk).reads
+        → Describes new (with_entry k (logged mode text)) (state new.disk).reads
     pub failures : (state new.disk).failures ≡ (state old.disk).failures
 
   -- The device failed in the call. Nothing is known of the world until the store is opened again.
@@ -137,3 +137,8 @@ module _ {D : Type 0} (state : D → State) (old new : Session D) where
     Executes (Accepted value) = IsAccepted (object_of value)
     Executes (Refused number) =
         IsToBeReopened number ⊎ (IsTurnedDown number ⊎ (IsFull number ⊎ (IsFault number ⊎ IsOutOfMemory number)))
+
+-- A value that is answered is proper: its numbers are in range, its ratios in lowest terms, its bytes below 128.
+abbrev pub IsProperOutcome : Outcome → Type 0
+IsProperOutcome (Accepted value) = is_proper value ≡ true
+IsProperOutcome (Refused number) = Unit {0}

@@ -1,4 +1,4 @@
--- what the theorem stands on, in the order in which it builds up
+-- what the theorem is said over, in the order in which it builds up
 pub mod World
 pub mod Parses
 pub mod Tokens

@@ -8,7 +8,7 @@ use Rattle.prevalence_store.specs.declared.reading.limits.Limits.{Limits}
 abbrev pub form_limits : Limits
 form_limits = record { text = 65536; token = 4096; nesting = 100 }
 
--- a value, the place behind it and the rest of the text; or the first fault
+-- a value, the place after it and the rest of the text; or the first fault
 abbrev pub Read : Type 0 → Type 0
 Read A = Result (A × ℕ × List ℕ) Fault
 

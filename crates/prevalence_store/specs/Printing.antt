@@ -18,7 +18,7 @@ is_invalid c = nat_lt c 8 || c == 11 || (nat_le 14 c && nat_lt c 32)
 abbrev pub escaped : (ℕ → Bool) → List ℕ → List ℕ
 escaped test = flat_map (λ c. if test c then codes "\\" ++ c ∷ [] else c ∷ [])
 
--- the names of characters (standard 13.1.7); another character stands for itself
+-- the names of characters (standard 13.1.7); another character is its own name
 abbrev pub printed_character : ℕ → List ℕ
 printed_character c =
     if c == 8 then codes "Backspace" else
@@ -49,7 +49,7 @@ abbrev pub printed_name : List ℕ → List ℕ
 printed_name name =
     if is_plain name then name else codes "|" ++ escaped is_escaped_in_bars name ++ codes "|"
 
--- what stands before a symbol's name (standard 22.1.3.3.1): nothing where the current package finds it by that name
+-- what comes before a symbol's name (standard 22.1.3.3.1): nothing where the current package finds it by that name
 abbrev pub printed_prefix : List ℕ → List ℕ
 printed_prefix home =
     if bytes_eq home (codes "COMMON-LISP") || bytes_eq home (codes "COMMON-LISP-USER") then [] else
@@ -81,7 +81,7 @@ abbrev mutual
   printed (vector xs) = codes "#(" ++ printed_elements xs
   printed x = printed_atom x
 
-  -- what stands behind an element of a list, up to the parenthesis that closes the list
+  -- what follows an element of a list, up to the parenthesis that closes the list
   pub printed_rest : Object → List ℕ
   printed_rest (pair a b) = codes " " ++ printed a ++ printed_rest b
   printed_rest (vector xs) = codes " . #(" ++ printed_elements xs ++ codes ")"
@@ -92,7 +92,7 @@ abbrev mutual
   printed_elements (pair a b) = printed a ++ printed_rest b
   printed_elements _ = codes ")"
 
--- what stands behind the first one of a row of objects: each behind a space
+-- what follows the first one of a row of objects: each after a space
 abbrev pub printed_others : List Object → List ℕ
 printed_others = flat_map (λ x. codes " " ++ printed x)
 

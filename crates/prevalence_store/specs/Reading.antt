@@ -73,7 +73,7 @@ abbrev pub opened : Option (Parse Piece) → ℕ → (Parse Piece → Read Piece
 opened None at body = fault TOO_DEEP at
 opened (Some attempt) at body = body attempt
 
--- the call of the function at this place, with the text behind its character
+-- the call of the function at this place, with the text after its character
 abbrev pub called : Table → Limits → Option (Parse Piece) → ReaderMacro → ℕ → List ℕ → Read Piece
 called table limits inner Opening at cs =
     opened inner at (λ attempt. read_map (λ xs. (list_of xs, false)) (items table limits attempt (at + 1) cs))
@@ -97,7 +97,7 @@ object_turn table limits inner SingleEscape at c cs more = within limits at (fau
 object_turn table limits inner MultipleEscape at c cs more = within limits at (fault OUT_OF_PROFILE at)
 object_turn table limits inner Invalid at c cs more = within limits at (fault INVALID_CHARACTER at)
 
--- an object; what `inner` reads stands one call deeper
+-- an object; what `inner` reads is one call deeper
 unfoldable pub object_by : Table → Limits → Option (Parse Piece) → Parse Piece
 object_by table limits inner at [] = fault END_OF_FILE at
 object_by table limits inner at (c ∷ cs) =

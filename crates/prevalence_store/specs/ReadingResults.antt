@@ -1,4 +1,4 @@
--- What the reader's answers stand for.
+-- What the reader's answers mean.
 use Rattle.std.specs.Prelude.{◌≡◌, ℕ, ◌+◌, ◌<◌, ◌≤◌, true, ⊤, List, [], ◌∷◌, Result, Ok, Err}
 use Rattle.lisp_object.specs.Datum.{object_of, is_proper}
 use Rattle.readtable_core.specs.Tables.{Table}
@@ -21,7 +21,7 @@ reading_of (Form f) = form (object_of f.datum) f.start f.end f.next
 reading_of Empty = empty
 reading_of (Refused code at) = refused code at
 
--- want of memory says nothing, and any other error is the fault
+-- out of memory says nothing, and any other error is the fault
 abbrev pub Fails : {A : Type 0} → ReadError → Result A Fault → Type 0
 Fails Memory read = Unit {0}
 Fails (Text f) read = read ≡ Err f
@@ -31,7 +31,7 @@ abbrev pub Gives : {A B : Type 0} → (A → B) → Result A ReadError → Resul
 Gives view (Ok x) read = read ≡ Ok (view x)
 Gives view (Err e) read = Fails e read
 
--- what a byte is to a token, the bytes behind it being cs
+-- what a byte is to a token, the bytes after it being cs
 abbrev pub Feeds : Table → Limits → ℕ → ℕ → ℕ → List ℕ → Result Fed ReadError → Read (List ℕ) → Type 0
 Feeds table limits n at c cs (Ok Taken) read = read ≡ read_map (λ name. c ∷ name) (token table limits (n + 1) (at + 1) cs)
 Feeds table limits n at c cs (Ok Ended) read = read ≡ Ok ([], at, c ∷ cs)
@@ -45,7 +45,7 @@ IsAsciiIfTaken c Ended = Unit {0}
 abbrev pub token_of : Token → List ℕ × ℕ × List ℕ
 token_of t = (t.name.now, t.at, t.rest.now)
 
--- an object that was read, whether it ends with a token, the place behind it and the rest
+-- an object that was read, whether it ends with a token, the place after it and the rest
 abbrev pub piece_of : Found → Piece × ℕ × List ℕ
 piece_of f = ((object_of f.datum, f.token), f.at, f.rest.now)
 

@@ -65,7 +65,7 @@ names =
     (90, codes "NO-MEMORY") ∷
     []
 
--- rows of the code, where a name is text behind a reference
+-- rows of the code, where a name is text through a reference
 abbrev pub rows_of : List (ℕ × Bor (List ℕ)) → List (ℕ × List ℕ)
 rows_of = map (λ row. (row.0, row.1.now))
 

@@ -3,7 +3,6 @@ use Rattle.std.specs.Prelude.{◌≡◌, ◌⊎◌, ℕ, ◌+◌, ◌<◌, ◌�
 use Rattle.std.specs.List.{sum_by}
 use Rattle.disk_trait.specs.Disk.{State, IsHonest}
 use Rattle.gate_log.specs.Layout.{Contents, Entry}
-use Rattle.gate_log.specs.Log as gated
 use Rattle.lisp_object.specs.declared.refusal.TheConstants.{DEVICE, LOG_FULL, INPUT, OUTPUT, NO_MEMORY}
 use Rattle.prevalence_store.specs.declared.mode.Mode.{Mode}
 use Rattle.prevalence_store.specs.declared.outcome.Ending.{Ending}
@@ -12,7 +11,7 @@ use Rattle.prevalence_store.specs.Acceptance.{read_in}
 use Rattle.prevalence_store.specs.Execution.{SurvivesAs}
 use Rattle.prevalence_store.specs.Output.{Progress, after_forms, last_line, one_form, refusal_line}
 use Rattle.prevalence_store.specs.Reading.{empty, refused}
-use Rattle.prevalence_store.specs.Session.{Session}
+use Rattle.prevalence_store.specs.Session.{Session, Describes}
 use Rattle.prevalence_store.specs.Streams.{Writes}
 use Rattle.prevalence_store.specs.World.{World}
 
@@ -25,7 +24,7 @@ abbrev pub room_of : List Entry → ℕ
 room_of = sum_by (λ entry. 6 + length entry.text)
 
 module _ {D : Type 0} (state : D → State) (old new : Session D) where
-  -- The device has not failed: the world, the records and the size are those after these forms.
+  -- The device has not failed: the world, the records and the size are those after these forms, on an honest disk in the files too.
   pub record IsAfter (far : Progress) : Type 0 where
     pub left : new.world ≡ Some far.world
     pub half : new.half ≡ old.half
@@ -35,8 +34,8 @@ module _ {D : Type 0} (state : D → State) (old new : Session D) where
     -- each record had room
     pub fits : new.size ≤ max old.size old.limit
     pub limit : new.limit ≡ old.limit
-    pub appended : (k : Contents) → IsHonest (state old.disk) → gated.Means (Some k) (state old.disk).reads
-        → gated.Means (Some (with_entries k far.taken)) (state new.disk).reads
+    pub described : (k : Contents) → IsHonest (state old.disk) → Describes old k (state old.disk).reads
+        → Describes new (with_entries k far.taken) (state new.disk).reads
     pub failures : (state new.disk).failures ≡ (state old.disk).failures
 
   module _ (world : World) (mode : Mode) (text : List ℕ) (held written : Option (List ℕ)) where

@@ -15,7 +15,7 @@ use Rattle.prevalence_store.specs.Parses.{Read, Parse, fault, read_map, within}
 
 -- ---- the characters of a token
 
--- the character behind n others of a token may be taken
+-- the character after n others of a token may be taken
 abbrev pub one_more : {A : Type 0} → Limits → ℕ → ℕ → Read A → Read A
 one_more limits n at r = if nat_le limits.token n then fault TOKEN_TOO_LONG at else r
 
@@ -32,7 +32,7 @@ plain Digit at r = r
 plain Letter at r = r
 plain Alphabetic at r = r
 
--- What a character of this syntax type is behind n characters of a token: it is taken, ends the token, or is refused.
+-- What a character of this syntax type is after n characters of a token: it is taken, ends the token, or is refused.
 -- No escapes yet, and no non-terminating macro character.
 abbrev pub token_turn : Limits → ℕ → Syntax → ℕ → ℕ → List ℕ → (ℕ → Read (List ℕ)) → Read (List ℕ)
 token_turn limits n Whitespace at c cs more = Ok ([], at, c ∷ cs)
@@ -45,7 +45,7 @@ token_turn limits n SingleEscape at c cs more = within limits at (fault OUT_OF_P
 token_turn limits n MultipleEscape at c cs more = within limits at (fault OUT_OF_PROFILE at)
 token_turn limits n Invalid at c cs more = within limits at (fault INVALID_CHARACTER at)
 
--- The characters of a token, of which n stand before this place (standard 2.2, step 8).
+-- The characters of a token, of which n are before this place (standard 2.2, step 8).
 unfoldable pub token : Table → Limits → ℕ → Parse (List ℕ)
 token table limits n at [] = Ok ([], at, [])
 token table limits n at (c ∷ cs) =
@@ -69,7 +69,7 @@ abbrev pub begins_with_digit : List ℕ → Bool
 begins_with_digit [] = false
 begins_with_digit (c ∷ cs) = is_digit c
 
--- the number that these digits write behind those of n
+-- the number that these digits write after those of n
 unfoldable pub digits_after : ℕ → List ℕ → ℕ
 digits_after n [] = n
 digits_after n (d ∷ ds) = digits_after (n * 10 + (d - 48)) ds

@@ -62,7 +62,7 @@ fn write_items(text: &mut Vec<u8>, items: &Items<Datum>) -> Result<(), AllocErro
     Ok(())
 }
 
-// What stands behind a list's last item.
+// What follows a list's last item.
 #[cycle(writing)]
 #[tactic(auto, using(crate::proofs::PrintedTails::printed_tail))]
 fn write_tail(text: &mut Vec<u8>, tail: &Option<Boxed<Datum>>) -> Result<(), AllocError>
@@ -156,7 +156,7 @@ fn write_text(text: &mut Vec<u8>, bytes: &[u8]) -> Result<(), AllocError>
     Ok(())
 }
 
-// What stands before the name of a symbol of this home package.
+// What comes before the name of a symbol of this home package.
 #[tactic(auto, using(crate::proofs::PrintedTails::printed_prefix_other))]
 fn write_prefix(text: &mut Vec<u8>, home: &[u8]) -> Result<(), AllocError>
     ensures { OnOk result (text.new.items ≡ text.old.items ++ printed_prefix home.now) }
@@ -193,7 +193,7 @@ fn write_name(text: &mut Vec<u8>, name: &[u8]) -> Result<(), AllocError>
     Ok(())
 }
 
-// The character, behind a backslash where it needs one.
+// The character, after a backslash where it needs one.
 fn write_escaped(text: &mut Vec<u8>, c: u8, is_escaped: bool) -> Result<(), AllocError>
     ensures { OnOk result (text.new.items ≡ text.old.items ++ (if is_escaped then codes "\\" ++ c ∷ [] else c ∷ [])) }
 {

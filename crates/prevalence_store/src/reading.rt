@@ -1,6 +1,6 @@
 //! Reading, as far as objects are read now: whitespace, lists, the quote, integers and plain symbols (standard 2.2, 2.3).
 //!
-//! The definition is `reads` of `specs/Reading.antt`; what a token means stands in `specs/Tokens.antt`. The reader is its
+//! The definition is `reads` of `specs/Reading.antt`; what a token means is in `specs/Tokens.antt`. The reader is its
 //! plain program, one pass over the bytes.
 
 mod fault;

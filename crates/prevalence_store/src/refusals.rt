@@ -58,7 +58,7 @@ const NAMES: [(u16, &str); 53] = [
     (90, "NO-MEMORY"),
 ];
 
-/// The name of a refusal by its number, as it stands in an answer; empty for a number that is none.
+/// The name of a refusal by its number, as it is in an answer; empty for a number that is none.
 #[tactic(auto, unfolding(crate::specs::Refusals::name_of))]
 pub fn refusal_name(number: u16) -> &'static str
     ensures { result.now ≡ name_of number }

@@ -64,8 +64,8 @@ impl World {
         self.rows.plist(symbol)
     }
 
-    /// Sets the value beside an indicator of the symbol, in its place or, where the indicator is new, last. Refused
-    /// for want of memory alone, and then nothing has changed.
+    /// Sets the value beside an indicator of the symbol, in its place or, where the indicator is new, last. It is
+    /// refused only where memory runs out, and then nothing has changed.
     pub(crate) fn put(
         &mut self,
         symbol: Symbol,

@@ -13,7 +13,7 @@ pub(crate) fn forms_are_framed()
         → reads limits table text ≡ form x start end next → IsFramed limits table text x start end next }
 {}
 
-/// What is read at a place is what the byte there says, and then what is read behind it, in a token, in a list, before and
+/// What is read at a place is what the byte there says, and then what is read after it, in a token, in a list, before and
 /// in an object, and before a form.
 #[tactic(auto, unfolding(crate::specs::Tokens::token, crate::specs::Reading::object_by, crate::specs::Reading::reads_at))]
 pub(crate) fn reading_goes_on()

@@ -107,7 +107,7 @@ fn begins_with_digit(name: &[u8]) -> bool
     }
 }
 
-/// The number that the digit writes behind those of `value`, unless it is too large.
+/// The number that the digit writes after those of `value`, unless it is too large.
 fn with_digit(value: u128, digit: u8) -> Option<u128>
     ensures { SomeIff result (value * 10 + (digit - 48) < 2 ^ 128) (value * 10 + (digit - 48)) }
 {

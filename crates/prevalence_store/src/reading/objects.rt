@@ -26,13 +26,13 @@ pub enum ReaderMacro {
     Opening,
     /// Reads an object, and gives `(QUOTE x)`.
     Quote,
-    /// Stands where no list is open.
+    /// Comes where no list is open.
     Closing,
     /// Is not read yet.
     Other,
 }
 
-/// An object at the front of a text, whether it ends with a token, the place behind it and the rest.
+/// An object at the front of a text, whether it ends with a token, the place after it and the rest.
 #[derive(Debug, Drop)]
 pub struct Found<'a> {
     pub datum: Datum,
@@ -109,7 +109,7 @@ fn quoted(alloc: Global, x: Datum) -> Result<Datum, AllocError>
     Datum::list(alloc, items, None)
 }
 
-/// The object at the front of `text`, which stands at place `at`, with at most `depth` more calls open in it (standard 2.2).
+/// The object at the front of `text`, which begins at place `at`, with at most `depth` more calls open in it (standard 2.2).
 #[cycle(reading)]
 #[tactic(auto, unfolding(crate::specs::Reading::object_by))]
 pub fn object_at<'a>(
@@ -151,7 +151,7 @@ pub fn object_at<'a>(
     Err(ReadError::refusal(END_OF_FILE, place))
 }
 
-/// What the function of the macro character `c` reads. `rest` stands behind that character, whose place is `at`.
+/// What the function of the macro character `c` reads. `rest` follows that character, whose place is `at`.
 #[cycle(reading)]
 #[tactic(auto, using(crate::proofs::Reader::Steps::inner_none, crate::proofs::Reader::Steps::inner_some))]
 fn called_at<'a>(

@@ -2,7 +2,7 @@
 
 use lisp_object::Datum;
 
-/// An object, and the bytes that it stands in: from `start` up to `end`. The next form begins at `next`, which is one more
+/// An object, and its bytes: from `start` up to `end`. The next form begins at `next`, which is one more
 /// than `end` where the object ended with a token that a whitespace character ended.
 #[derive(Debug, Drop)]
 pub struct Form {
@@ -12,7 +12,7 @@ pub struct Form {
     pub next: usize,
 }
 
-/// What a text begins with, behind whitespace: a form, nothing at all, or a fault with its place in the text.
+/// What a text begins with, after whitespace: a form, nothing at all, or a fault with its place in the text.
 #[derive(Debug, Drop)]
 pub enum ReadOutcome {
     Form(Form),

@@ -11,7 +11,7 @@ use crate::reading::outcome::{Form, ReadOutcome};
 use readtable_core::Readtable;
 use std::alloc::{AllocError, Global};
 
-/// Where the first form of `bytes` begins, behind whitespace.
+/// Where the first form of `bytes` begins, after whitespace.
 fn begin(readtable: &Readtable, bytes: &[u8]) -> usize
     ensures within { result ≤ length bytes.now }
     ensures same { (limits : Limits) → reads_at limits readtable.now result (drop result bytes.now)

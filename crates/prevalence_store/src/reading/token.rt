@@ -24,7 +24,7 @@ pub enum Fed {
     Ended,
 }
 
-/// A token at the front of a text: its characters, the place behind it and the rest.
+/// A token at the front of a text: its characters, the place after it and the rest.
 #[derive(Clone, Copy, Debug)]
 pub struct Token<'a> {
     pub name: &'a [u8],
@@ -32,7 +32,7 @@ pub struct Token<'a> {
     pub rest: &'a [u8],
 }
 
-/// The byte `c` at place `at`, behind `count` characters of a token (standard 2.2, step 8).
+/// The byte `c` at place `at`, after `count` characters of a token (standard 2.2, step 8).
 #[tactic(auto, unfolding(crate::specs::Tokens::token))]
 fn feed(
     readtable: &Readtable,
@@ -97,7 +97,7 @@ fn taken(limits: &Limits, count: usize, at: usize, c: u8) -> Result<(), ReadErro
     }
 }
 
-/// The token at the front of `text`, which stands at place `at`.
+/// The token at the front of `text`, which begins at place `at`.
 pub fn token_at<'a>(
     readtable: &Readtable,
     limits: &Limits,
@@ -119,7 +119,7 @@ pub fn token_at<'a>(
     Ok(cut(at, text, count))
 }
 
-/// The token of the first `count` bytes of `text`, which stands at place `at`.
+/// The token of the first `count` bytes of `text`, which begins at place `at`.
 fn cut(at: usize, text: &[u8], count: usize) -> Token<'_>
     requires fits { at + count < 2 ^ 64 }
     requires within { count ≤ length text.now }

@@ -16,7 +16,7 @@ use std::mem;
 /// What a write has changed in its row.
 #[derive(Drop)]
 pub(super) enum Change {
-    /// The value at a place was set; before, this one stood there.
+    /// The value at a place was set; before, this one was there.
     Set { place: usize, before: Datum },
     /// A property was added at the end.
     Added,
