@@ -1,3 +1,4 @@
+mod Answered
 pub mod CommandLineLaws
 pub mod Sessions
 pub mod Statuses

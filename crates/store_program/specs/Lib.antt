@@ -1,3 +1,4 @@
 pub mod CommandLine
+pub mod MacroFunctions
 pub mod Session
 pub mod Status

@@ -3,19 +3,30 @@
 //! - `program` (module `program`) does what the words of the command line ask for, and answers a `Status`.
 //! - `words` has the command line: `run DIR`.
 //! - `fault` writes the line of a fault.
-//! - `main` hands `program` the words, the standard streams and the files of the system, and ends with its status.
+//! - `meaning` says what the program's macro functions mean, and `macro_functions` has those that compute an object.
+//! - `main` registers the macro functions, which `run` does not use yet, hands `program` the words, the standard streams
+//!   and the files of the system, and ends with its status.
 #![tactic(auto)]
 
+ghost use Rattle.std.specs.Prelude.{◌≡◌, IfErr, is_ok};
+ghost use Rattle.user_macros.specs.Sound.{IsSoundCall};
+
 mod fault;
+mod macro_functions;
+mod meaning;
 mod program;
 mod status;
 mod words;
 
 use lisp_object::refusal::NO_MEMORY;
+use meaning::SixFunctions;
+use readtable_core::FnName;
 use status::Status;
+use std::alloc::AllocError;
 use std::env;
 use std::io::{ErrorKind, Write};
 use std::process::ExitCode;
+use user_macros::{Answer, Call, Cause, MacroFn, MacroFunctions, Macros, Refusal};
 
 // The words that the program was started with, or the status where they are not had: they are no text, or there is no memory.
 fn words_given(rt: &HostRuntime) -> Result<Vec<String>, Status> {
@@ -28,21 +39,76 @@ fn words_given(rt: &HostRuntime) -> Result<Vec<String>, Status> {
     }
 }
 
-fn main(rt: HostRuntime) -> ExitCode {
-    let mut faults = rt.stderr();
-    let status = match words_given(&rt) {
+// Does what the words ask for.
+fn serve<F: Write>(rt: &HostRuntime, faults: &mut F) -> Status {
+    match words_given(rt) {
         Ok(words) => program::program(
-            &rt,
+            rt,
             words.as_slice(),
             &mut rt.stdin(),
             &mut rt.stdout(),
-            &mut faults,
+            faults,
         ),
         Err(Status::WordsRefused) => {
             let _ = writeln!(faults, "error: a word of the command line is no text");
             Status::WordsRefused
         }
-        Err(status) => program::end_with(&mut faults, status),
+        Err(status) => program::end_with(faults, status),
+    }
+}
+
+// What comes of registering a function whose name is known and not taken: only memory can refuse it.
+fn registered(registering: Result<(), Refusal>) -> Result<(), AllocError>
+    requires { IfErr registering (λ refusal. refusal.cause ≡ Cause.OutOfMemory) }
+    ensures { is_ok result ≡ is_ok registering }
+{
+    match registering {
+        Ok(()) => Ok(()),
+        Err(_) => Err(AllocError),
+    }
+}
+
+// Registers the macro functions, and then does what the words ask for.
+fn start<F: Write>(rt: &HostRuntime, faults: &mut F) -> Result<Status, AllocError> {
+    let alloc = rt.alloc();
+    let square: MacroFn = Box::new(
+        alloc,
+        move |call: &Call| -> Result<Answer, AllocError>
+            requires { IsSoundCall call.now }
+        { macro_functions::square(alloc, call) },
+    )?;
+    let close: MacroFn = Box::new(alloc, |_call: &Call| Ok(Answer::Refused(1)))?;
+    let note: MacroFn = Box::new(alloc, |_call: &Call| Ok(Answer::Nothing))?;
+    let skip: MacroFn = Box::new(alloc, |_call: &Call| Ok(Answer::Nothing))?;
+    let unit: MacroFn = Box::new(
+        alloc,
+        move |call: &Call| -> Result<Answer, AllocError>
+            requires { IsSoundCall call.now }
+        { macro_functions::unit(alloc, call) },
+    )?;
+    let scale: MacroFn = Box::new(
+        alloc,
+        |call: &Call| -> Result<Answer, AllocError>
+            requires { IsSoundCall call.now }
+        { Ok(macro_functions::scale(call)) },
+    )?;
+    let mut macros = Macros::new(alloc, SixFunctions::new());
+    registered(macros.register(FnName::new(b"SQUARE").unwrap(), square))?;
+    registered(macros.register(FnName::new(b"CLOSE").unwrap(), close))?;
+    registered(macros.register(FnName::new(b"NOTE").unwrap(), note))?;
+    registered(macros.register(FnName::new(b"SKIP").unwrap(), skip))?;
+    registered(macros.register(FnName::new(b"UNIT").unwrap(), unit))?;
+    registered(macros.register(FnName::new(b"SCALE").unwrap(), scale))?;
+    let is_whole = macros.is_whole();
+    prove!(is_whole);
+    Ok(serve(rt, faults))
+}
+
+fn main(rt: HostRuntime) -> ExitCode {
+    let mut faults = rt.stderr();
+    let status = match start(&rt, &mut faults) {
+        Ok(status) => status,
+        Err(AllocError) => program::end_with(&mut faults, Status::Fault(NO_MEMORY)),
     };
     ExitCode::from(status.code())
 }
