@@ -1,5 +1,5 @@
 -- What the calls are handed and answer.
-use Rattle.std.specs.Prelude.{◌≡◌, ◌⊎◌, ℕ, true, List, map, Option, Some, None, Result, Ok, Err, IsTrue}
+use Rattle.std.specs.Prelude.{◌≡◌, ℕ, true, List, map, Option, Some, None, Result, Ok, Err, IsTrue}
 use Rattle.std.specs.List.{list_all}
 use Rattle.lisp_object.specs.Ascii.{is_ascii}
 use Rattle.lisp_object.specs.Object.{Object}
@@ -54,10 +54,9 @@ abbrev pub view_finished : Finished → Option Object
 view_finished (One datum) = Some (object_of datum)
 view_finished Nothing = None
 
--- Out of memory is answered only for an object or where the name of a character was looked for, and any other error is the
--- refusal.
+-- Out of memory is answered only for an object, and any other error is the refusal.
 abbrev pub Fails : FinishError → Value → Type 0
-Fails OutOfMemory value = ((x : Object) × (value ≡ Ok (Some x))) ⊎ (value ≡ Err CharacterName)
+Fails OutOfMemory value = (x : Object) × (value ≡ Ok (Some x))
 Fails (Refused refusal) value = value ≡ Err refusal
 
 -- what was answered is the value, unless memory ran out

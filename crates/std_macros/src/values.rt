@@ -45,7 +45,7 @@ pub fn finish(
         Standard::Comment | Standard::Block => Ok(Finished::Nothing),
         Standard::String => text(gathered),
         Standard::Out => Err(FinishError::Refused(StdRefusal::OutOfProfile)),
-        Standard::Char => character_of(alloc, gathered),
+        Standard::Char => character_of(gathered),
         Standard::Function => headed(alloc, b"FUNCTION", gathered),
         Standard::Vector => vector_of(alloc, number, gathered),
         Standard::Uninterned => uninterned(alloc, case, gathered),
@@ -125,13 +125,13 @@ fn symbol(alloc: Global, name: &[u8]) -> Result<Datum, AllocError>
 
 // ---- what a token gives
 
-fn character_of(alloc: Global, gathered: StdGathered) -> Result<Finished, FinishError>
+fn character_of(gathered: StdGathered) -> Result<Finished, FinishError>
     requires { IsProperGathered gathered }
     ensures value { Gives result (character_value (view_gathered gathered)) }
     ensures proper { IfOk result IsProperFinished }
 {
     match gathered {
-        StdGathered::Marks(marks) => character(alloc, marks.as_slice()),
+        StdGathered::Marks(marks) => character(marks.as_slice()),
         _ => Ok(Finished::Nothing),
     }
 }
