@@ -1,4 +1,4 @@
--- How objects are written (standard 22.1.3). What stands before the name of an interned symbol is left open here:
+-- How objects are written (standard 22.1.3). What comes before the name of an interned symbol is left open here:
 -- `prefix home name`. Printed.antt says what it is.
 use Rattle.std.specs.Prelude.{ℕ, ℤ, ◌==◌, Bool, false, ◌||◌, if◌then◌else◌, List, [], ◌∷◌, ◌++◌, codes, decimal}
 use Rattle.std.specs.Fmt.{signed_decimal}
@@ -11,7 +11,7 @@ use Rattle.canon_printer.specs.Names.{escaped, printed_name}
 abbrev pub printed_ratio : ℤ → ℕ → List ℕ
 printed_ratio n d = signed_decimal n ++ codes "/" ++ decimal d
 
--- the names of characters (standard 13.1.7); another character stands for itself
+-- the names of characters (standard 13.1.7); another character is written as it is
 abbrev pub character_name : ℕ → List ℕ
 character_name c =
     if c == 8 then codes "Backspace" else

@@ -5,6 +5,7 @@ ghost use Rattle.canon_printer.specs.Written.{printed_uninterned};
 ghost use Rattle.canon_printer.specs.Printed.{is_accessible, printed_prefix, printed_symbol};
 
 use crate::names::write_name;
+use package_table::standardized::KEYWORD;
 use package_table::{Packages, Resolved};
 use std::alloc::AllocError;
 
@@ -45,7 +46,7 @@ fn write_prefix(
     if is_accessible(home, name, packages, current) {
         return Ok(());
     }
-    if home == b"KEYWORD".as_slice() {
+    if home == KEYWORD {
         return text.extend_from_slice(b":");
     }
     write_name(text, home)?;

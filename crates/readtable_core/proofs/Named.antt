@@ -1,5 +1,5 @@
 -- Entries compared, and the functions that entries and readtables name.
-use Rattle.std.proofs.Common.{◌≡◌, ℕ, zero, suc, Bool, true, ◌&&◌, ◌||◌, List, [], ◌∷◌, get_or, set, refl, ◌∙◌, sym, ap, Option, Some, None, Decides, if◌then◌else◌, ◌==◌}
+use Rattle.std.proofs.Common.{◌≡◌, ℕ, zero, suc, Bool, true, ◌&&◌, ◌||◌, List, [], ◌∷◌, get_or, set, refl, ◌∙◌, sym, ap, Option, Some, None, Decides, if◌then◌else◌, ◌==◌, nat_le}
 use Rattle.std.specs.List.{list_all, flat_map, filter_map}
 use Rattle.std.specs.Option.{option_map_or}
 use Rattle.std.specs.Cmp.Lexicographic.{pointwise_decides, bytes_decides}
@@ -7,8 +7,11 @@ use Rattle.std.proofs.lemmas.Bool.{and_parts, and_from, eqb-true, eq-eqb, false�
 use Rattle.std.proofs.lemmas.List.Folds.{list_all-append}
 use Rattle.readtable_core.specs.declared.characters.Syntax.{Syntax}
 use Rattle.readtable_core.specs.declared.characters.Syntax.TheVariants.{Whitespace, Constituent, TerminatingMacro, NonTerminatingMacro, SingleEscape, MultipleEscape, Invalid}
+use Rattle.readtable_core.specs.declared.table.Case.{Case}
+use Rattle.readtable_core.specs.declared.table.Case.TheVariants.{Upcase, Downcase, Preserve, Invert}
+use Rattle.readtable_core.specs.Cases.{case_name, case_names}
 use Rattle.readtable_core.specs.Characters.{syntax_number, upper_case}
-use Rattle.readtable_core.specs.Names.{is_standard, is_dispatch_name, dispatch_name}
+use Rattle.readtable_core.specs.Names.{is_among, is_standard, is_dispatch_name, dispatch_name}
 use Rattle.readtable_core.specs.Tables.{Entry, Table, standard, entry_at, dispatch_at, no_entry}
 use Rattle.readtable_core.specs.Changes.{with_entry, with_function, dispatching_entry}
 use Rattle.readtable_core.specs.Named.{same_function, same_entry, functions_at, functions_of}
@@ -36,6 +39,41 @@ number_back Invalid = refl
 
 pub same_number : (a b : Syntax) → syntax_number a ≡ syntax_number b → a ≡ b
 same_number a b e = sym (number_back a) ∙ ap numbered e ∙ number_back b
+
+-- each type has a number that is read
+pub number_known : (s : Syntax) → nat_le (syntax_number s) 6 ≡ true
+number_known Whitespace = refl
+number_known Constituent = refl
+number_known TerminatingMacro = refl
+number_known NonTerminatingMacro = refl
+number_known SingleEscape = refl
+number_known MultipleEscape = refl
+number_known Invalid = refl
+
+-- the case that a name names, by its first letter: 85 is U, 68 D and 80 P
+cased : List ℕ → Case
+cased name =
+    if get_or name 0 0 == 85 then Upcase
+    else (if get_or name 0 0 == 68 then Downcase
+    else (if get_or name 0 0 == 80 then Preserve
+    else Invert))
+
+case_back : (k : Case) → cased (case_name k) ≡ k
+unfolding cased
+case_back Upcase = refl
+case_back Downcase = refl
+case_back Preserve = refl
+case_back Invert = refl
+
+pub same_case : (a b : Case) → case_name a ≡ case_name b → a ≡ b
+same_case a b e = sym (case_back a) ∙ ap cased e ∙ case_back b
+
+-- each case has a name that is read
+pub case_known : (k : Case) → is_among case_names (case_name k) ≡ true
+case_known Upcase = refl
+case_known Downcase = refl
+case_known Preserve = refl
+case_known Invert = refl
 
 function_decides : (a b : Option (List ℕ)) → Decides (same_function a b) (a ≡ b)
 function_decides None None = (λ _. refl, λ _. refl)

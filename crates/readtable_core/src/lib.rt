@@ -26,8 +26,9 @@
 //!   `macro_sound`, `dispatching_sound` and `function_sound`, which say that the entries of the changes are; and
 //!   `upper_is`, by which std's upper case is the one of the definitions;
 //! - of `proofs/PutBack.antt`: `put_back`, by which an old entry, put back after any other, gives the old readtable;
-//! - of `proofs/Named.antt`: `same_is` and `same_itself`, by which `same_entry` is equality; `same_number`, by which a
-//!   syntax type is told by its number; `all_functions` and `all_named`, which take a test of all named functions apart;
+//! - of `proofs/Named.antt`: `same_is` and `same_itself`, by which `same_entry` is equality; `same_number` and
+//!   `number_known`, by which a syntax type is told by its number, which is read; `same_case` and `case_known`, by which a case
+//!   is told by its name, which is read; `all_functions` and `all_named`, which take a test of all named functions apart;
 //!   `named_at`, `named_function` and `named_sub_function`, what such a test says at a character; `named_after`,
 //!   `named_with_function` and `named_by_dispatching`, what a change leaves of it; and
 //!   `standard_named`, by which the standard readtable names standard functions and STD-DISPATCH alone.

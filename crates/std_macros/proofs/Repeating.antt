@@ -1,5 +1,5 @@
 -- Vectors with a length: the cases of the definition, and what data repeated at the end are.
-use Rattle.std.proofs.Common.{◌≡◌, ℕ, zero, suc, ◌+◌, ◌*◌, ◌-◌, ◌<◌, ◌≤◌, Bool, true, false, ◌&&◌, inl, inr, ◌⊎◌, List, [], ◌∷◌, ◌++◌, length, map, replicate, take, get_or, Option, Some, None, Result, Ok, Err, refl, sym, ap, ◌∙◌, arith, add-one, append-nil, append_assoc, length-append}
+use Rattle.std.proofs.Common.{◌≡◌, ℕ, zero, suc, ◌+◌, ◌*◌, ◌-◌, ◌<◌, ◌≤◌, Bool, true, false, inl, inr, ◌⊎◌, List, [], ◌∷◌, ◌++◌, length, map, replicate, take, get_or, Option, Some, None, Err, refl, sym, ap, ◌∙◌, arith, add-one, append-nil, append_assoc}
 use Rattle.std.specs.Prelude.{sum, min, nat_lt, nat_le, if◌then◌else◌}
 use Rattle.std.proofs.Math.Nat.{min-eq_left, min-eq_right, le-mul_of_pos_right}
 use Rattle.std.specs.List.{list_all}
@@ -15,10 +15,9 @@ use Rattle.lisp_object.specs.Datum.{object_of, is_proper, size}
 use Rattle.lisp_object.proofs.Objects.{object_of-Vector, size-Vector}
 use Rattle.lisp_object.proofs.Properness.{is_proper-Vector}
 use Rattle.lisp_object.proofs.Sizes.{size_object}
-use Rattle.std_macros.specs.declared.refusal.StdRefusal.{StdRefusal}
 use Rattle.std_macros.specs.declared.refusal.StdRefusal.TheVariants.{VectorLength}
 use Rattle.std_macros.specs.declared.vectors.TheConstants.{LARGEST_REPEATED_VECTOR}
-use Rattle.std_macros.specs.Values.{Value, given, last_of, bounded, vector_with, vector_of}
+use Rattle.std_macros.specs.Values.{given, last_of, bounded, vector_with, vector_of}
 
 -- ---- the last one
 

@@ -1,28 +1,27 @@
 -- The standard functions: their names, and the ways in which they gather.
 use Rattle.std.specs.Prelude.{ℕ, ◌&&◌, nat_le, List, [], ◌∷◌, ◌++◌, Option, Some, None, if◌then◌else◌}
-use Rattle.readtable_core.specs.Names.{same_name}
-use Rattle.readtable_core.specs.declared.standard_names.TheConstants.{STD_LIST, STD_CLOSE, STD_QUOTE, STD_COMMENT, STD_STRING, STD_OUT, STD_CHAR, STD_FUNCTION, STD_VECTOR, STD_UNINTERNED, STD_BLOCK, STD_BINARY, STD_OCTAL, STD_HEX, STD_RADIX}
+use Rattle.readtable_core.specs.Names.{same_name, std_list, std_close, std_quote, std_comment, std_string, std_out, std_char, std_function, std_vector, std_uninterned, std_block, std_binary, std_octal, std_hex, std_radix}
 use Rattle.std_macros.specs.declared.kind.Standard.{Standard}
 use Rattle.std_macros.specs.declared.kind.Standard.TheVariants.{List as AList, Close, Quote, Comment, String, Out, Char, Function, Vector, Uninterned, Block, Binary, Octal, Hex, Radix}
 use Rattle.std_macros.specs.declared.kind.StdGather.{StdGather}
 use Rattle.std_macros.specs.declared.kind.StdGather.TheVariants.{Nothing, One, List as ByList, Many, Text, Line, Block as ByBlock, Token, EscapedToken}
 
 abbrev pub name_of : Standard → List ℕ
-name_of AList = STD_LIST.now
-name_of Close = STD_CLOSE.now
-name_of Quote = STD_QUOTE.now
-name_of Comment = STD_COMMENT.now
-name_of String = STD_STRING.now
-name_of Out = STD_OUT.now
-name_of Char = STD_CHAR.now
-name_of Function = STD_FUNCTION.now
-name_of Vector = STD_VECTOR.now
-name_of Uninterned = STD_UNINTERNED.now
-name_of Block = STD_BLOCK.now
-name_of Binary = STD_BINARY.now
-name_of Octal = STD_OCTAL.now
-name_of Hex = STD_HEX.now
-name_of Radix = STD_RADIX.now
+name_of AList = std_list
+name_of Close = std_close
+name_of Quote = std_quote
+name_of Comment = std_comment
+name_of String = std_string
+name_of Out = std_out
+name_of Char = std_char
+name_of Function = std_function
+name_of Vector = std_vector
+name_of Uninterned = std_uninterned
+name_of Block = std_block
+name_of Binary = std_binary
+name_of Octal = std_octal
+name_of Hex = std_hex
+name_of Radix = std_radix
 
 -- those of macro characters
 abbrev pub macro_kinds : List Standard

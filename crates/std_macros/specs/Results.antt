@@ -1,5 +1,5 @@
 -- What the calls are handed and answer.
-use Rattle.std.specs.Prelude.{◌≡◌, ◌⊎◌, ℕ, true, List, map, Option, Some, None, Result, Ok, Err, IsTrue}
+use Rattle.std.specs.Prelude.{◌≡◌, ℕ, Bool, true, false, map, Option, Some, None, Result, Ok, Err, IsTrue}
 use Rattle.std.specs.List.{list_all}
 use Rattle.lisp_object.specs.Ascii.{is_ascii}
 use Rattle.lisp_object.specs.Object.{Object}
@@ -7,6 +7,8 @@ use Rattle.lisp_object.specs.Datum.{object_of, is_proper}
 use Rattle.lisp_object.specs.declared.refusal.TheConstants.{STRAY_CLOSE, NUMERIC_ARGUMENT, CHARACTER_NAME, RADIX_TOKEN, VECTOR_LENGTH, UNINTERNED_TOKEN, OUT_OF_PROFILE, NO_MEMORY}
 use Rattle.token_scan.specs.Marks.{are_ascii}
 use Rattle.token_meaning.specs.Results.{meaning_refusal_number}
+use Rattle.std_macros.specs.declared.kind.Standard.{Standard}
+use Rattle.std_macros.specs.declared.kind.Standard.TheVariants.{List as AList, Quote, Function, Vector, Uninterned}
 use Rattle.std_macros.specs.declared.refusal.StdRefusal.{StdRefusal}
 use Rattle.std_macros.specs.declared.refusal.StdRefusal.TheVariants.{StrayClose, Rational, NumericArgument, CharacterName, RadixToken, VectorLength, UninternedToken, OutOfProfile}
 use Rattle.std_macros.specs.declared.refusal.FinishError.{FinishError}
@@ -54,16 +56,24 @@ abbrev pub view_finished : Finished → Option Object
 view_finished (One datum) = Some (object_of datum)
 view_finished Nothing = None
 
--- Out of memory is answered only for an object or where the name of a character was looked for, and any other error is the
--- refusal.
+-- Out of memory is answered only for an object, and any other error is the refusal.
 abbrev pub Fails : FinishError → Value → Type 0
-Fails OutOfMemory value = ((x : Object) × (value ≡ Ok (Some x))) ⊎ (value ≡ Err CharacterName)
+Fails OutOfMemory value = (x : Object) × (value ≡ Ok (Some x))
 Fails (Refused refusal) value = value ≡ Err refusal
 
 -- what was answered is the value, unless memory ran out
 abbrev pub Gives : Result Finished FinishError → Value → Type 0
 Gives (Ok answer) value = value ≡ Ok (view_finished answer)
 Gives (Err error) value = Fails error value
+
+-- whether the object of the function takes memory; a text is moved, and characters and numbers take none
+abbrev pub takes_memory : Standard → Bool
+takes_memory AList = true
+takes_memory Quote = true
+takes_memory Function = true
+takes_memory Vector = true
+takes_memory Uninterned = true
+takes_memory _ = false
 
 -- an object that was answered is a proper datum
 abbrev pub IsProperFinished : Finished → Type 0

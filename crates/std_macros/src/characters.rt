@@ -1,51 +1,77 @@
 //! Characters, and their names (standard 13.1.7).
-ghost use Rattle.std.specs.Prelude.{◌≡◌, ◌∷◌, [], IfOk, IsTrue, MatchOption};
-ghost use Rattle.token_scan.specs.Marks.{characters, are_ascii};
+ghost use Rattle.std.specs.Prelude.{◌≡◌, ◌≢◌, ◌∷◌, [], Err, IfOk, IsTrue, MatchOption};
+ghost use Rattle.token_scan.specs.Marks.{characters, character_of as character_of_mark, are_ascii};
+ghost use Rattle.std_macros.specs.declared.refusal.FinishError.TheVariants.{OutOfMemory};
 ghost use Rattle.std_macros.specs.Values.{is_named, code_named, character_of, character_or_refused};
 ghost use Rattle.std_macros.specs.Results.{Gives, IsProperFinished};
 
 use crate::{FinishError, Finished, StdRefusal};
 use lisp_object::Datum;
-use std::alloc::Global;
-use token_scan::{Mark, characters};
+use token_scan::Mark;
 
-/// The character of a token: the only one that it has, or the one of that name.
-pub(crate) fn character(alloc: Global, marks: &[Mark]) -> Result<Finished, FinishError>
+/// The character of a token: the only one that it has, or the one of that name. Takes no memory.
+pub(crate) fn character(marks: &[Mark]) -> Result<Finished, FinishError>
     requires { IsTrue (are_ascii marks.now) }
     ensures value { Gives result (character_of (characters marks.now)) }
     ensures proper { IfOk result IsProperFinished }
+    ensures memory { result ≢ Err OutOfMemory }
 {
-    let name = characters(alloc, marks)?;
-    match only(name.as_slice()) {
+    match only(marks) {
         Some(c) => Ok(Finished::One(Datum::Char(c))),
-        None => named(name.as_slice()),
+        None => named(marks),
     }
 }
 
 /// The only character that there is.
-fn only(name: &[u8]) -> Option<u8>
-    ensures { MatchOption result (character_of name.now ≡ character_or_refused (code_named name.now))
-        (λ c. name.now ≡ c ∷ []) }
+fn only(marks: &[Mark]) -> Option<u8>
+    ensures { MatchOption result (character_of (characters marks.now) ≡ character_or_refused (code_named (characters marks.now)))
+        (λ c. characters marks.now ≡ c ∷ []) }
 {
-    match name {
-        [c] => Some(*c),
-        _ => None,
+    let (c, others) = first(marks)?;
+    match first(others) {
+        None => Some(c),
+        Some(_) => None,
     }
 }
 
-fn named(name: &[u8]) -> Result<Finished, FinishError>
-    ensures value { Gives result (character_or_refused (code_named name.now)) }
-    ensures proper { IfOk result IsProperFinished }
+/// The first character, and the marks after it.
+fn first(marks: &[Mark]) -> Option<(u8, &[Mark])>
+    ensures { MatchOption result (characters marks.now ≡ [])
+        (λ found. characters marks.now ≡ found.0 ∷ characters found.1.now) }
 {
-    match code_named(name) {
+    let mut rest = marks;
+    while let Some((mark, others)) = rest.split_first() {
+        if let Some(c) = character_of_mark(*mark) {
+            return Some((c, others));
+        }
+        rest = others;
+    }
+    None
+}
+
+fn character_of_mark(mark: Mark) -> Option<u8>
+    ensures { result ≡ character_of_mark mark }
+{
+    match mark {
+        Mark::Plain(c) | Mark::Quoted(c) => Some(c),
+        Mark::Bar => None,
+    }
+}
+
+fn named(marks: &[Mark]) -> Result<Finished, FinishError>
+    ensures value { Gives result (character_or_refused (code_named (characters marks.now))) }
+    ensures proper { IfOk result IsProperFinished }
+    ensures memory { result ≢ Err OutOfMemory }
+{
+    match code_named(marks) {
         Some(c) => Ok(Finished::One(Datum::Char(c))),
         None => Err(FinishError::Refused(StdRefusal::CharacterName)),
     }
 }
 
-/// The character of this name, whatever the case of its letters.
-fn code_named(name: &[u8]) -> Option<u8>
-    ensures { result ≡ code_named name.now }
+/// The character whose name these marks are, whatever the case of its letters.
+fn code_named(name: &[Mark]) -> Option<u8>
+    ensures { result ≡ code_named (characters name.now) }
 {
     if is_named(name, b"Space") {
         Some(32)
@@ -68,8 +94,20 @@ fn code_named(name: &[u8]) -> Option<u8>
     }
 }
 
-fn is_named(name: &[u8], wanted: &[u8]) -> bool
-    ensures { result ≡ is_named name.now wanted.now }
+fn is_named(name: &[Mark], wanted: &[u8]) -> bool
+    ensures { result ≡ is_named (characters name.now) wanted.now }
 {
-    name.eq_ignore_ascii_case(wanted)
+    let mut rest = name;
+    let mut left = wanted;
+    while let Some((c, others)) = first(rest) {
+        let Some((next, more)) = left.split_first() else {
+            return false;
+        };
+        if !c.eq_ignore_ascii_case(next) {
+            return false;
+        }
+        rest = others;
+        left = more;
+    }
+    left.is_empty()
 }

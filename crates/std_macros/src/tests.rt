@@ -37,10 +37,10 @@ fn is_proper(datum: &Datum) -> bool
     datum.is_proper()
 }
 
-fn are_proper(data: &[Datum]) -> bool
-    ensures { result ≡ list_all is_proper data.now }
+fn are_proper(items: &[Datum]) -> bool
+    ensures { result ≡ list_all is_proper items.now }
 {
-    data.iter().all(|datum| is_proper(datum))
+    items.iter().all(|datum| is_proper(datum))
 }
 
 // Whether the data are proper and the characters below 128.

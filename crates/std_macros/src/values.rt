@@ -1,5 +1,5 @@
 //! The value of each standard function.
-ghost use Rattle.std.specs.Prelude.{◌≡◌, ◌≤◌, true, codes, IfOk, IfSome, IsTrue, option_map};
+ghost use Rattle.std.specs.Prelude.{◌≡◌, ◌≢◌, ◌≤◌, true, codes, Err, IfOk, IfSome, IsTrue, option_map};
 ghost use Rattle.std.specs.List.{list_all, list_any};
 ghost use Rattle.lisp_object.specs.Ascii.{is_ascii};
 ghost use Rattle.lisp_object.specs.Datum.{is_proper, object_of};
@@ -8,7 +8,8 @@ ghost use Rattle.token_meaning.specs.Folding.{folded};
 ghost use Rattle.token_meaning.specs.Meanings.{is_package_marker};
 ghost use Rattle.token_meaning.specs.Results.{view_number};
 ghost use Rattle.std_macros.specs.Values.{headed, headed_value, list_value, text_value, character_value, vector_value, is_own_name, uninterned_of, uninterned_value, rational_or_refused, rational_value, value_of};
-ghost use Rattle.std_macros.specs.Results.{view_gathered, IsProperGathered, Gives, IsProperFinished};
+ghost use Rattle.std_macros.specs.declared.refusal.FinishError.TheVariants.{OutOfMemory};
+ghost use Rattle.std_macros.specs.Results.{view_gathered, IsProperGathered, Gives, IsProperFinished, takes_memory};
 
 use crate::characters::character;
 use crate::vectors::vector;
@@ -26,7 +27,8 @@ use token_scan::{Mark, Marks, characters};
 /// # Errors
 ///
 /// 4 STRAY-CLOSE, 8 NUMBER-RANGE, 9 ZERO-DENOMINATOR, 15 NUMERIC-ARGUMENT, 16 CHARACTER-NAME, 17 RADIX-TOKEN,
-/// 18 VECTOR-LENGTH, 19 UNINTERNED-TOKEN, 25 OUT-OF-PROFILE; and out of memory, where an object is given.
+/// 18 VECTOR-LENGTH, 19 UNINTERNED-TOKEN, 25 OUT-OF-PROFILE; and out of memory, where an object is given that is a list, a
+/// vector or a symbol.
 pub fn finish(
     alloc: Global,
     kind: Standard,
@@ -37,6 +39,7 @@ pub fn finish(
     requires { IsProperGathered gathered }
     ensures value { Gives result (value_of kind case number (view_gathered gathered)) }
     ensures proper { IfOk result IsProperFinished }
+    ensures memory { result ≡ Err OutOfMemory → IsTrue (takes_memory kind) }
 {
     match kind {
         Standard::List => list(alloc, gathered),
@@ -45,7 +48,7 @@ pub fn finish(
         Standard::Comment | Standard::Block => Ok(Finished::Nothing),
         Standard::String => text(gathered),
         Standard::Out => Err(FinishError::Refused(StdRefusal::OutOfProfile)),
-        Standard::Char => character_of(alloc, gathered),
+        Standard::Char => character_of(gathered),
         Standard::Function => headed(alloc, b"FUNCTION", gathered),
         Standard::Vector => vector_of(alloc, number, gathered),
         Standard::Uninterned => uninterned(alloc, case, gathered),
@@ -81,6 +84,7 @@ fn text(gathered: StdGathered) -> Result<Finished, FinishError>
     requires { IsProperGathered gathered }
     ensures value { Gives result (text_value (view_gathered gathered)) }
     ensures proper { IfOk result IsProperFinished }
+    ensures memory { result ≢ Err OutOfMemory }
 {
     match gathered {
         StdGathered::Text(bytes) => Ok(Finished::One(Datum::Text(bytes))),
@@ -125,13 +129,14 @@ fn symbol(alloc: Global, name: &[u8]) -> Result<Datum, AllocError>
 
 // ---- what a token gives
 
-fn character_of(alloc: Global, gathered: StdGathered) -> Result<Finished, FinishError>
+fn character_of(gathered: StdGathered) -> Result<Finished, FinishError>
     requires { IsProperGathered gathered }
     ensures value { Gives result (character_value (view_gathered gathered)) }
     ensures proper { IfOk result IsProperFinished }
+    ensures memory { result ≢ Err OutOfMemory }
 {
     match gathered {
-        StdGathered::Marks(marks) => character(alloc, marks.as_slice()),
+        StdGathered::Marks(marks) => character(marks.as_slice()),
         _ => Ok(Finished::Nothing),
     }
 }
@@ -188,6 +193,7 @@ fn rational_in(base: u8, gathered: StdGathered) -> Result<Finished, FinishError>
     requires highest_base { base ≤ 36 }
     ensures value { Gives result (rational_value base (view_gathered gathered)) }
     ensures proper { IfOk result IsProperFinished }
+    ensures memory { result ≢ Err OutOfMemory }
 {
     match gathered {
         StdGathered::Marks(marks) => rational_or_refused(rational(marks.as_slice(), base)),
@@ -201,6 +207,7 @@ fn rational_or_refused(
     requires { IfSome found (λ given. IfOk given (λ datum. is_proper datum ≡ true)) }
     ensures value { Gives result (rational_or_refused (option_map view_number found)) }
     ensures proper { IfOk result IsProperFinished }
+    ensures memory { result ≢ Err OutOfMemory }
 {
     match found {
         None => Err(FinishError::Refused(StdRefusal::RadixToken)),

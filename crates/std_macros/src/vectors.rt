@@ -100,7 +100,7 @@ fn room_after(items: &[Datum], room: u64) -> Option<u64>
     Some(left)
 }
 
-/// Whether so many objects of this size have room. A size of 2^64-1 stands for that and more.
+/// Whether so many objects of this size have room. A size of 2^64-1 may be more than that.
 fn times_fit(size: u64, times: u64, room: u64) -> bool
     ensures { result ≡ nat_le (times * size) room }
 {

@@ -45,7 +45,7 @@ sign_no_digit base c top e =
 
 -- ---- digits
 
--- no character of a kind that is no digit stands among digits
+-- no character of a kind that is no digit is among digits
 pub none_among : (base : ℕ) (test : ℕ → Bool) → ((c : ℕ) → test c ≡ true → is_digit base c ≡ false) → (ds : List ℕ) → are_digits base ds ≡ true → list_any test ds ≡ false
 none_among base test apart [] e = refl
 none_among base test apart (d ∷ ds) e =

@@ -59,7 +59,7 @@ abbrev pub is_pointed : Option (List ℕ × List ℕ) → Bool
 is_pointed None = false
 is_pointed (Some (whole, fraction)) = are_digits 10 whole && is_numeral 10 fraction
 
--- before an exponent the digits may also stand before the point alone
+-- before an exponent the digits may also be before the point alone
 abbrev pub is_mantissa : List ℕ → Option (List ℕ × List ℕ) → Bool
 is_mantissa text None = is_numeral 10 text
 is_mantissa text (Some (whole, fraction)) =

@@ -10,7 +10,7 @@ use Rattle.token_scan.specs.Marks.{character_count, is_ascii_mark, are_ascii}
 use Rattle.token_scan.specs.Spelling.{Spells, nothing, plain as spells_plain, between, escaped as spells_escaped, bar, SpellsEscaped, first as spells_first, may_end, is_plain, ends_tokens}
 use Rattle.token_scan.proofs.Steps.{outside_ends, outside_plain, outside_escape, outside_bar, inside_between, inside_escape, inside_bar, room, plain_taken, escaped_taken}
 
--- what a text gives, where the test says whether it stands between multiple escapes
+-- what a text gives, where the test says whether it is between multiple escapes
 abbrev pub from_bars : Bool → ℕ → ℕ → List TypedByte → Scanned
 from_bars false left at text = outside left at text
 from_bars true left at text = inside left at text

@@ -15,7 +15,7 @@ ends_tokens Whitespace = true
 ends_tokens TerminatingMacro = true
 ends_tokens _ = false
 
--- the syntax types of characters that stand for themselves
+-- the syntax types of characters that are in a token as they are
 abbrev pub is_plain : Syntax → Bool
 is_plain Constituent = true
 is_plain NonTerminatingMacro = true
@@ -25,7 +25,7 @@ is_plain _ = false
 -- one no multiple escape is open.
 pub data Spells : Bool → List TypedByte → List Mark → Type 0 where
   nothing : Spells false [] []
-  -- a character outside, which stands for itself
+  -- a character outside, not escaped
   plain : (x : TypedByte) (xs : List TypedByte) (marks : List Mark)
       → IsTrue (is_plain (kind x)) → has_invalid_trait x.byte ≡ false
       → Spells false xs marks → Spells false (x ∷ xs) (Plain x.byte ∷ marks)

@@ -47,7 +47,7 @@ with_front front (Err e) = Err e
 abbrev pub one_more : ℕ → ℕ → (ℕ → Scanned) → Scanned
 one_more left at more = if left == 0 then fault TokenTooLong at else more (left - 1)
 
--- a character that stands for itself
+-- a character that is not escaped
 abbrev pub plain : ℕ → ℕ → Scanned → Scanned
 plain c at more = if has_invalid_trait c then fault InvalidTrait at else with_front (Plain c ∷ []) more
 

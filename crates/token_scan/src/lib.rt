@@ -15,7 +15,7 @@
 //!
 //! # For proofs above
 //!
-//! These lemmas stay under these names:
+//! These lemmas keep their names:
 //!
 //! - `proofs/Spelled.antt`: `spelled_gives` (the bytes that spell marks give them; build a `Spells`, and never unfold
 //!   `outside`), `escaped_gives`; `plain_counts`, `quoted_counts`, `bar_counts`

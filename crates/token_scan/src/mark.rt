@@ -6,7 +6,7 @@ use smallvec::SmallVec;
 use std::alloc::{AllocError, Global};
 use std::default::MadeWith;
 
-/// A mark of a token: a character as it stands or escaped, or a multiple escape, which encloses characters
+/// A mark of a token: a character as it is or escaped, or a multiple escape, which encloses characters
 /// (standard 2.2, 2.3).
 #[derive(Clone, Copy, Debug, PartialEq, Eq)]
 pub enum Mark {

@@ -172,7 +172,7 @@ impl TokenScan {
         }
     }
 
-    // Takes a character that stands for itself.
+    // Takes a character that is not escaped.
     fn feed_plain(&mut self, byte: u8) -> Result<Fed, AllocError>
         requires { byte < 128 }
         ensures gives { (x : TypedByte) (at : ℕ) (more : List TypedByte) → IfOk result (λ fed.

@@ -51,7 +51,7 @@ pub struct Call {
 pub enum Answer {
     /// One object.
     One(Datum),
-    /// No object: the reader goes on as if nothing had stood there.
+    /// No object: the reader goes on as if nothing had been there.
     Nothing,
     /// A refusal by a number of the function's own.
     Refused(u16),

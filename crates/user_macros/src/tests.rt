@@ -3,7 +3,8 @@ ghost use Rattle.user_macros.specs.Sound.{IsSoundCall};
 
 mod sample;
 
-use crate::{Answer, Call, Cause, Gather, MacroFn, MacroFunctions, Macros, Refusal};
+use crate::example::note;
+use crate::{Answer, Call, Cause, Gather, MacroFn, MacroFunctions, Macros, Meaning, Refusal};
 use lisp_object::Datum;
 use readtable_core::{FnName, Readtable};
 use sample::{Sample, scale, scale_call};
@@ -14,8 +15,8 @@ use std::test::Fail;
 fn what_is_refused_gives_the_function_back(rt: HostRuntime) -> Result<(), Fail> {
     let mut macros = Macros::new(rt.alloc(), Sample::new());
     let name = FnName::new(b"NOTE").unwrap();
-    let note: MacroFn = Box::new(rt.alloc(), |_call: &Call| Ok(Answer::Nothing))?;
-    let Err(refusal) = macros.register(FnName::new(b"STD-LIST").unwrap(), note) else {
+    let function: MacroFn = Box::new(rt.alloc(), |_call: &Call| Ok(Answer::Nothing))?;
+    let Err(refusal) = macros.register(FnName::new(b"STD-LIST").unwrap(), function) else {
         return Err(Fail::from("a reserved name"));
     };
     assert!(rt; refusal.cause == Cause::Reserved);
@@ -33,6 +34,7 @@ fn what_is_refused_gives_the_function_back(rt: HostRuntime) -> Result<(), Fail> 
     assert!(rt; refusal.cause == Cause::Taken);
     let Refusal { cause: _, function } = refusal;
     assert!(rt; function(&scale_call(None, 0))? == Answer::Nothing);
+    assert!(rt; note(rt.alloc())? == Answer::Nothing);
     Ok(())
 }
 
@@ -63,6 +65,7 @@ fn whole_and_covering(rt: HostRuntime) -> Result<(), Fail> {
     )?;
     assert!(rt; macros.register(name, function).is_ok());
     assert!(rt; macros.is_whole() && macros.covers(&table));
+    assert!(rt; macros.meaning().names().len() == 3);
     assert!(rt; macros.gather_of(name) == Some(Gather::Next));
     let rows = [
         (Some(3), 14, Answer::One(Datum::Integer(42))),

@@ -10,4 +10,4 @@ pub returns-in-Some-clause-proper : goal.returns-in-Some-clause-proper
 returns-in-Some-clause-proper c =
     is_proper-Char c.in-Some.c
     ∙ (and_parts (is_ascii c.in-Some.c) true
-    (ap (list_all is_ascii) (sym c.in-Some.ensures ∙ c.as_slice.ensures.value ∙ c.in_ok-name.ensures) ∙ ascii_characters c.args.marks.now c.requires)).0
+    (ap (list_all is_ascii) (sym c.in-Some.ensures) ∙ ascii_characters c.args.marks.now c.requires)).0

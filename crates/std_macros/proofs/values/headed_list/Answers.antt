@@ -1,6 +1,4 @@
-use Rattle.std.proofs.Common.{◌≡◌, ◌∷◌, [], refl}
-use Rattle.std.specs.Prelude.{codes}
-use Rattle.lisp_object.specs.declared.datum.Datum
+use Rattle.std.proofs.Common.{refl}
 use Rattle.std_macros.proofs.Headed.{headed_object, headed_proper}
 use Rattle.std_macros.proofs.values.headed_list.Goals as goal
 

@@ -1,4 +1,4 @@
-use Rattle.std.proofs.Common.{◌≡◌, get_or, ap, arith}
+use Rattle.std.proofs.Common.{ap, arith}
 use Rattle.lisp_object.specs.Datum.{size}
 use Rattle.std_macros.proofs.Repeating.{sum_within}
 use Rattle.std_macros.proofs.vectors.room_after.Goals as goal
