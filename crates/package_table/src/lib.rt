@@ -36,15 +36,18 @@ mod find;
 mod import;
 mod initial;
 mod intern;
+mod journal;
 mod laws;
 pub mod limits;
 mod make;
+mod marks;
 mod packages;
 mod put;
 mod queries;
 mod readers;
 mod resolve;
 pub mod standardized;
+mod undo;
 mod use_package;
 mod users;
 
