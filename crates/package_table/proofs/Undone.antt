@@ -1,6 +1,6 @@
 -- What undoing a change gives: the table before it.
 --     undone_made, undone_put, undone_used      after each change
-use Rattle.std.proofs.Common.{◌≡◌, false, true, cond, Option, None, Some, is_some, refl, sym, ap, ◌∙◌, subst}
+use Rattle.std.proofs.Common.{◌≡◌, false, true, cond, Option, None, Some, is_some, refl, sym, ap, ◌∙◌}
 use Rattle.std.specs.Option.{option_map_or, option_and_then}
 use Rattle.std.specs.Ordering.{eq_by_cmp}
 use Rattle.std.specs.FinMap as finite

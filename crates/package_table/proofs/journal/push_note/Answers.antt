@@ -1,4 +1,4 @@
-use Rattle.std.proofs.Common.{ap, map, sym, ◌≡◌, ◌∙◌, rules}
+use Rattle.std.proofs.Common.{ap, map, sym, ◌∙◌, rules}
 use Rattle.package_table.specs.declared.journal.Mark.{Mark}
 use Rattle.package_table.specs.Shown.{change_of}
 use Rattle.package_table.proofs.Undoing.{noted, had_room, map-push}

@@ -1,4 +1,4 @@
-use Rattle.std.proofs.Common.{ap, map, sym, arith, rules}
+use Rattle.std.proofs.Common.{map, sym, arith, rules}
 use Rattle.package_table.specs.declared.journal.Mark.{Mark}
 use Rattle.package_table.specs.Shown.{change_of}
 use Rattle.package_table.proofs.Undoing.{on_ok, same_marks, room_last}

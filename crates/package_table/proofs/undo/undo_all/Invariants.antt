@@ -1,4 +1,4 @@
-use Rattle.std.proofs.Common.{◌≡◌, ℕ, length, map}
+use Rattle.std.proofs.Common.{◌≡◌, length, map}
 use Rattle.package_table.specs.Undo.{all_undone}
 use Rattle.package_table.specs.Shown.{change_of, table_of}
 use Rattle.package_table.proofs.undo.undo_all.Given as goal
