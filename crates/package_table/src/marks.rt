@@ -27,6 +27,13 @@ impl Packages {
         Ok(place)
     }
 
+    /// How many marks there are; their places are the numbers below. Takes no memory.
+    pub fn mark_count(&self) -> usize
+        ensures { result ≡ length self.now.1 }
+    {
+        self.marks.len()
+    }
+
     /// Goes back to the packages as they were at this mark, and takes it and all later marks away. Takes no memory.
     pub fn back_to(&mut self, mark: usize)
         requires { mark < length self.old.1 }
