@@ -157,6 +157,18 @@ kept_make t n u sound ascii is =
     not_empty : (k : ℕ) → (k == 0) ≡ false → 0 < k
     not_empty k zero_not = ne_zero k zero_not
 
+-- a package that can be made is none yet
+pub make_fresh : (t : Table) (n : Name) (u : Table) → IsSound t → after_make t n ≡ Ok u → finite.get t n ≡ None
+make_fresh t n u sound is =
+    let some = passes (length n == 0) EmptyName _ u is in
+    let fresh = passes (is_some (package_named t n)) PackageExists _ u some.1 in
+    (fresh_name t n sound fresh.0).1
+
+-- a package of which the call says that its use is new is not used yet
+pub use_fresh : (t : Table) (p q : Name) → use_changes t p q ≡ true → is_used t p q ≡ false
+use_fresh t p q changes =
+    (neither (bytes_eq p q) (is_used t p q) (elim (bytes_eq p q || is_used t p q) as (λ b. not b ≡ true → b ≡ false) [ true ↦ λ e. absurd (false≢true e) | false ↦ λ _. refl ] changes)).1
+
 pub counted_new : (t : Table) (p n : Name) → finite.contains_key t p ≡ true → found t p n ≡ None → symbol_count (with_entry t p n (record { home = p; external = bytes_eq p keyword })) ≡ symbol_count t + 1
 counted_new t p n there none = symbols_new t p n (record { home = p; external = bytes_eq p keyword }) there (no_entry t p n (found_none t n p none)) refl
 

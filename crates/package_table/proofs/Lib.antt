@@ -15,3 +15,5 @@ pub mod Places
 pub mod Rows
 pub mod Seen
 pub mod Starting
+pub mod Undoing
+pub mod Undone

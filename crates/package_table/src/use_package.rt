@@ -3,9 +3,10 @@ ghost use Rattle.std.specs.Prelude.{◌≡◌, if◌then◌else◌, IfErr, IfOk}
 ghost use Rattle.package_table.specs.Table.{with_used};
 ghost use Rattle.package_table.specs.Changes.{after_use, use_changes, Gives, RunsOutOnlyIf};
 ghost use Rattle.package_table.specs.Growth.{Grows, Tells};
-ghost use Rattle.package_table.specs.Shown.{table_of};
+ghost use Rattle.package_table.specs.Shown.{marked_tables, table_of};
 
 use crate::entry::Contents;
+use crate::journal::Mark;
 use crate::put::put_use;
 use crate::standardized::KEYWORD;
 use crate::users::{finds_other_than_shown, has_package, is_locked, is_used};
@@ -43,6 +44,7 @@ fn use_refusal(
 fn use_other(
     alloc: Global,
     table: &mut BTreeMap<Vec<u8>, Contents>,
+    marks: &mut Vec<Mark>,
     owner: &[u8],
     used: &[u8],
 ) -> Result<bool, PackageError>
@@ -51,11 +53,12 @@ fn use_other(
     ensures changed { IfOk result (λ changed. changed ≡ use_changes (table_of table.old) owner.now used.now) }
     ensures memory { IfErr result (RunsOutOnlyIf (use_changes (table_of table.old) owner.now used.now)) }
     ensures unchanged { IfErr result (λ _. table_of table.new ≡ table_of table.old) }
+    ensures marked { marked_tables marks.new.items (table_of table.new) ≡ marked_tables marks.old.items (table_of table.old) }
 {
     if !use_refusal(table, owner, used)? {
         return Ok(false);
     }
-    put_use(table, owner, Vec::from_slice(alloc, used)?)?;
+    put_use(alloc, table, marks, owner, Vec::from_slice(alloc, used)?)?;
     Ok(true)
 }
 
@@ -76,6 +79,6 @@ impl Packages {
         ensures unchanged { IfErr result (λ _. self.new ≡ self.old) }
         ensures marked { self.new.1 ≡ self.old.1 }
     {
-        use_other(self.alloc, &mut self.table, owner, used)
+        use_other(self.alloc, &mut self.table, &mut self.marks, owner, used)
     }
 }
