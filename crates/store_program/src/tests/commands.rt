@@ -73,6 +73,10 @@ fn words_are_judged_first(rt: HostRuntime) {
         let shape = (found.status, found.output.len() > 0, found.faults.len() > 0);
         assert_eq!(rt; shape, (status, has_output, has_faults), "{words:?}");
     }
+    assert!(rt;
+        fs::metadata(&rt, "half-a").is_err(),
+        "no folder is the present one"
+    );
     let found = run(&rt, &["store_program", "--help"], b"7");
     assert_eq!(rt; found.output.as_slice(), HELP.as_bytes());
 }
