@@ -99,6 +99,10 @@ where
         → AnswersInput (status_of_ending result) text held (O.contents output.new) }
     ensures fault { HasFaultNumber (status_of_ending result) }
 {
+    // no folder has an empty name, and files under it would be those of the present folder
+    if directory.is_empty() {
+        return Ending::Store(DEVICE);
+    }
     let Ok(disk) = HostDisk::open(rt, directory) else {
         return Ending::Store(DEVICE);
     };

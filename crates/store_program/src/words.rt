@@ -14,6 +14,13 @@ const RUN: &str = "run";
 
 const DIRECTORY: &str = "DIR";
 
+/// How the program is called.
+const USAGE: &str = "./pazturrok run DIR";
+
+/// What is promised of a store, at the end of the help.
+const PROMISE: &str =
+    "A form is answered once its record has been synced. Stopped at any moment, a store on an honest\ndisk opens again with the world that some first part of the accepted forms gives, and that\npart holds each form that was answered. README.md has the premises, and what is proved.";
+
 fn run_command<'a>(alloc: Global) -> Result<Command<'a>, AllocError>
     ensures line { IfOk result (λ command. app_of command ≡ run_line) }
     ensures local { IfOk result (λ command. (fields_of command).has_globals ≡ false) }
@@ -24,6 +31,7 @@ fn run_command<'a>(alloc: Global) -> Result<Command<'a>, AllocError>
         .action(ArgAction::Set);
     Command::new(alloc, RUN)
         .about("Serves the forms of standard input to standard output")
+        .override_usage(USAGE)
         .arg(directory)
 }
 
@@ -32,7 +40,9 @@ fn whole_command<'a>(alloc: Global) -> Result<Command<'a>, AllocError>
 {
     let run = run_command(alloc)?;
     Command::new(alloc, "store_program")
-        .about("A crash-safe prevalence store for Lisp forms")
+        .about("A store for Lisp forms that keeps what it has answered")
+        .override_usage(USAGE)
+        .after_help(PROMISE)
         .subcommand_required(true)
         .subcommand(run)
 }

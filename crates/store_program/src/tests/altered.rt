@@ -1,5 +1,6 @@
 //! Files that were altered while no store was open.
 
+use super::long::LongDisk;
 use super::{AMPLE, Trouble, bytes_of, disk_of, fresh_session, opened, session_over};
 use disk_trait::{Disk, Half};
 use prevalence_store::{Store, Unopened};
@@ -119,6 +120,28 @@ fn given_back(
     }
 }
 
+/// The number of a refusal to open files that there is no memory for, and what the disk that is given back then answers.
+fn given_back_long(alloc: Global, a: &[u8]) -> Result<(u16, Vec<u8>), Trouble> {
+    let disk = LongDisk {
+        disk: disk_of(alloc, a, b"")?,
+        is_long: true,
+    };
+    if disk.failures() > 0 {
+        return Err(Trouble::Device);
+    }
+    match Store::open(alloc, disk, AMPLE) {
+        Ok(store) => {
+            let _disk = store.close();
+            Ok((0, Vec::new(alloc)))
+        }
+        Err(unopened) => {
+            let Unopened { number, disk } = unopened;
+            let LongDisk { disk, is_long: _ } = disk;
+            Ok((number, session_over(alloc, disk, b"(GET 'A 'B)")?.answers))
+        }
+    }
+}
+
 #[test]
 fn a_disk_that_is_refused_is_as_it_was(rt: HostRuntime) -> Result<(), Fail> {
     let alloc = rt.alloc();
@@ -140,6 +163,8 @@ fn a_disk_that_is_refused_is_as_it_was(rt: HostRuntime) -> Result<(), Fail> {
         assert_eq!(rt; found, number);
         assert_eq!(rt; (left_a.as_slice(), left_b.as_slice()), (a, b));
     }
+    let (number, answers) = given_back_long(alloc, whole.as_slice())?;
+    assert_eq!(rt; (number, answers.as_slice()), (90, b"7\n".as_slice()));
     Ok(())
 }
 

@@ -81,19 +81,22 @@ fn fill(alloc: Global) -> Result<(Option<u16>, Option<u16>, Option<i128>), Troub
     Ok((first, second, property?))
 }
 
-/// The byte of the mode in the record of a form.
-fn mode_byte(alloc: Global, mode: Mode) -> Result<Option<u8>, Trouble> {
+/// The bytes of the mode in the records of two forms, the second of a session.
+fn mode_bytes(alloc: Global, mode: Mode) -> Result<[Option<u8>; 2], Trouble> {
     let mut store = opened(alloc, MemoryDisk::new(alloc), AMPLE)?;
     let _outcome = store.execute(mode, b"(SETF (GET 'A 'B) 7)");
+    let mut reader: &[u8] = b"(SETF (GET 'A 'B) 8)";
+    let _ending = store.serve(&mut reader, &mut Vec::new(alloc), mode);
     let mut disk = store.close();
-    Ok(bytes_of(alloc, &mut disk, Half::A)?.get(151).copied())
+    let bytes = bytes_of(alloc, &mut disk, Half::A)?;
+    Ok([bytes.get(151).copied(), bytes.get(177).copied()])
 }
 
 #[test]
 fn a_record_tells_its_mode(rt: HostRuntime) -> Result<(), Fail> {
     let alloc = rt.alloc();
-    assert_eq!(rt; mode_byte(alloc, Mode::Current)?, Some(0));
-    assert_eq!(rt; mode_byte(alloc, Mode::Rescue)?, Some(1));
+    assert_eq!(rt; mode_bytes(alloc, Mode::Current)?, [Some(0), Some(0)]);
+    assert_eq!(rt; mode_bytes(alloc, Mode::Rescue)?, [Some(1), Some(1)]);
     Ok(())
 }
 

@@ -33,13 +33,32 @@ fn place(rt: &HostRuntime, name: &str) -> std::io::Result<String> {
     Ok(format!(in rt.alloc(); "{}/store_program-{name}-{id}", folder.display())?)
 }
 
+/// The help.
+const HELP: &str = "A store for Lisp forms that keeps what it has answered
+
+Usage: ./pazturrok run DIR
+
+Commands:
+  run   Serves the forms of standard input to standard output
+  help  Print this message or the help of the given subcommand(s)
+
+Options:
+  -h, --help  Print help
+
+A form is answered once its record has been synced. Stopped at any moment, a store on an honest
+disk opens again with the world that some first part of the accepted forms gives, and that
+part holds each form that was answered. README.md has the premises, and what is proved.
+";
+
 #[test]
 fn words_are_judged_first(rt: HostRuntime) {
-    let cases: [(&[&str], u8, bool, bool); 7] = [
+    let cases: [(&[&str], u8, bool, bool); 9] = [
         (&[], 2, false, true),
         (&["store_program"], 2, false, true),
         (&["store_program", "walk", "/dev/null"], 2, false, true),
         (&["store_program", "run"], 2, false, true),
+        (&["store_program", "run", "-store"], 2, false, true),
+        (&["store_program", "run", ""], 3, false, true),
         (
             &["store_program", "run", "/dev/null", "more"],
             2,
@@ -54,6 +73,12 @@ fn words_are_judged_first(rt: HostRuntime) {
         let shape = (found.status, found.output.len() > 0, found.faults.len() > 0);
         assert_eq!(rt; shape, (status, has_output, has_faults), "{words:?}");
     }
+    assert!(rt;
+        fs::metadata(&rt, "half-a").is_err(),
+        "no folder is the present one"
+    );
+    let found = run(&rt, &["store_program", "--help"], b"7");
+    assert_eq!(rt; found.output.as_slice(), HELP.as_bytes());
 }
 
 #[test]
@@ -70,6 +95,25 @@ fn files_stay_between_runs(rt: HostRuntime) -> Result<(), Fail> {
         assert_eq!(rt; found.status, status);
         assert_eq!(rt; found.output.as_slice(), output);
         assert_eq!(rt; found.faults.len(), 0);
+    }
+    let file = format!(in rt.alloc(); "{place}/half-a")?;
+    let whole = fs::read(&rt, file.as_str())?;
+    let mut cut = whole.clone()?;
+    cut.truncate(100);
+    let mut other = whole.clone()?;
+    assert_eq!(rt; (whole.len(), other.len()), (211, 211));
+    assert_eq!(rt; whole[151], 0, "the mode is Current");
+    other[2] = 9;
+    let cases: [(&[u8], &[u8]); 2] = [
+        (cut.as_slice(), b"! 62 DAMAGED\n"),
+        (other.as_slice(), b"! 66 VERSION\n"),
+    ];
+    for (bytes, faults) in cases {
+        fs::write(&rt, file.as_str(), bytes)?;
+        let found = run(&rt, words.as_slice(), b"(GET 'A 'B)\n");
+        assert_eq!(rt; (found.status, found.output.len()), (3, 0));
+        assert_eq!(rt; found.faults.as_slice(), faults);
+        assert_eq!(rt; fs::read(&rt, file.as_str())?.as_slice(), bytes);
     }
     fs::remove_dir_all(&rt, place.as_str())?;
     Ok(())
