@@ -1,3 +1,4 @@
 pub mod CommandLineLaws
 pub mod Sessions
 pub mod Statuses
+mod Callers
