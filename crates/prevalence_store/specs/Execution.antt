@@ -19,7 +19,7 @@ use Rattle.prevalence_store.specs.World.{World}
 
 -- the log holds what it held, or this record more
 abbrev pub IsBeforeOrAfter : Contents → Entry → Image → Type 0
-IsBeforeOrAfter k entry image = gated.Means (Some k) image ⊎ gated.Means (Some (with_entry k entry)) image
+IsBeforeOrAfter k entry = gated.MeansEither (Some k) (Some (with_entry k entry))
 
 -- ---- the forms that a call took, and how many of them it acknowledged
 

@@ -2,3 +2,4 @@ mod Answered
 pub mod CommandLineLaws
 pub mod Sessions
 pub mod Statuses
+mod Callers

@@ -1,0 +1,161 @@
+//! Callers over any disk, by the clauses of the store's public calls alone.
+ghost use Rattle.std.specs.Prelude.{◌≡◌, ◌⊎◌, ◌<◌, ◌-◌, ◌^◌, ◌++◌, ℕ, List, Some, Ok, IfSome, IfOk, length};
+ghost use Rattle.disk_trait.specs.Disk.{IsHonest};
+ghost use Rattle.prevalence_store.specs.Acceptance.{Acceptance, accepts};
+ghost use Rattle.prevalence_store.specs.Output.{Progress, after_forms};
+ghost use Rattle.prevalence_store.specs.Streams.{Writes};
+ghost use Rattle.prevalence_store.specs.Theorem.{IsAfterSome, Keeps};
+ghost use Rattle.prevalence_store.specs.World.{World as LispWorld};
+
+use super::{AMPLE, Trouble, fresh_session};
+use disk_trait::{Crash, Disk, MemoryDisk};
+use prevalence_store::{Ending, Mode, Outcome, Store, Unopened};
+use std::alloc::Global;
+use std::io::{Read, Write};
+use std::test::Fail;
+
+/// A disk that was closed after two forms, and what the opening of another one gave.
+type Again<D> = (D, Result<Store<D>, Unopened<D>>);
+
+/// Opens a disk, executes two forms, closes it, and opens another disk. `None` where it is not opened or a form is refused.
+///
+/// Where the other disk reads as a crash may leave the first one, at any moment since the start, its store has the world before
+/// the forms, after the first one or after both; and where the crash comes after the close, the world after both.
+fn two_forms<D: Disk + Drop>(
+    alloc: Global,
+    disk: D,
+    crashed: D,
+    first: &[u8],
+    second: &[u8],
+) -> Option<Again<D>>
+    requires room { (D.state disk).failures < 2 ^ 64 - 1 }
+    requires room_again { (D.state crashed).failures < 2 ^ 64 - 1 }
+    ensures acknowledged { IfSome result (λ two. (w : LispWorld) (one both : Acceptance)
+        → IsHonest (D.state disk) → Keeps (D.state disk) w → IsHonest (D.state crashed)
+        → accepts w Mode.Current first.now ≡ Ok one → accepts one.world Mode.Current second.now ≡ Ok both
+        → (D.state two.0).may_leave (D.state crashed).reads
+        → IfOk two.1 (λ store. store.world ≡ Some both.world)) }
+    ensures any_moment { IfSome result (λ two. (w : LispWorld) (one both : Acceptance)
+        → IsHonest (D.state disk) → Keeps (D.state disk) w → IsHonest (D.state crashed)
+        → accepts w Mode.Current first.now ≡ Ok one → accepts one.world Mode.Current second.now ≡ Ok both
+        → (D.state two.0).left_since (D.state disk).moment (D.state crashed).reads
+        → IfOk two.1 (λ store. (store.world ≡ Some w) ⊎ ((store.world ≡ Some one.world) ⊎ (store.world ≡ Some both.world)))) }
+{
+    let Ok(mut store) = Store::open(alloc, disk, AMPLE) else {
+        return None;
+    };
+    let Outcome::Accepted(_) = store.execute(Mode::Current, first) else {
+        let _disk = store.close();
+        return None;
+    };
+    let Outcome::Accepted(_) = store.execute(Mode::Current, second) else {
+        let _disk = store.close();
+        return None;
+    };
+    let closed = store.close();
+    Some((closed, Store::open(alloc, crashed, AMPLE)))
+}
+
+/// How a session ended, the disk that was closed after it, and what the opening of another one gave.
+type Served<D> = (Ending, D, Result<Store<D>, Unopened<D>>);
+
+/// Opens a disk, serves a session, closes it, and opens another disk. `None` where the first one is not opened.
+///
+/// Where the other disk reads as a crash after the close may leave the first one, its store has the world after some of the forms
+/// that were read, from the first on, and after all whose lines were written whole.
+fn one_session<D: Disk + Drop, R: Read, W: Write>(
+    alloc: Global,
+    disk: D,
+    crashed: D,
+    reader: &mut R,
+    writer: &mut W,
+) -> Option<Served<D>>
+    requires room { (D.state disk).failures < 2 ^ 64 - 1 }
+    requires room_again { (D.state crashed).failures < 2 ^ 64 - 1 }
+    ensures acknowledged { IfSome result (λ served. (w : LispWorld) (input : List ℕ)
+        → IsHonest (D.state disk) → Keeps (D.state disk) w → IsHonest (D.state crashed)
+        → R.remaining reader.old ≡ Some input
+        → (D.state served.1).may_leave (D.state crashed).reads
+        → IfOk served.2 (λ store. (text : List ℕ) × (rest : List ℕ) × (input ≡ text ++ rest)
+        × ((forms : ℕ) × (far : Progress) × (after_forms forms w Mode.Current text ≡ Some far)
+        × ((lines : ℕ) × (answered : Progress) × (part : List ℕ) × (after_forms lines w Mode.Current text ≡ Some answered)
+        × (Writes (W.contents writer.old) (W.contents writer.new) (answered.lines ++ part)
+        × ((now : LispWorld) × (store.world ≡ Some now)
+        × IsAfterSome w far.taken (length answered.taken) now)))))) }
+{
+    let Ok(mut store) = Store::open(alloc, disk, AMPLE) else {
+        return None;
+    };
+    let ending = store.serve(reader, writer, Mode::Current);
+    let closed = store.close();
+    Some((ending, closed, Store::open(alloc, crashed, AMPLE)))
+}
+
+/// Files with the property 7, on which a crash of this kind came.
+fn left(alloc: Global, kind: Crash) -> Result<MemoryDisk, Trouble> {
+    let mut disk = fresh_session(alloc, b"(SETF (GET 'A 'B) 7)")?.disk;
+    if disk.failures() > 0 {
+        return Err(Trouble::Device);
+    }
+    disk.crash(kind)?;
+    Ok(disk)
+}
+
+/// Whether the other disk was opened too.
+fn opened_too(again: Result<Store<MemoryDisk>, Unopened<MemoryDisk>>) -> bool {
+    match again {
+        Ok(store) => {
+            let _disk = store.close();
+            true
+        }
+        Err(_) => false,
+    }
+}
+
+/// Whether both disks were opened and two forms accepted.
+fn accepted_twice(
+    alloc: Global,
+    kind: Crash,
+    first: &[u8],
+    second: &[u8],
+) -> Result<bool, Trouble> {
+    let disk = MemoryDisk::new(alloc);
+    let crashed = left(alloc, kind)?;
+    if disk.failures() > 0 || crashed.failures() > 0 {
+        return Err(Trouble::Device);
+    }
+    match two_forms(alloc, disk, crashed, first, second) {
+        Some((_, again)) => Ok(opened_too(again)),
+        None => Ok(false),
+    }
+}
+
+/// Whether both disks were opened, and the answers to an input.
+fn served_once(alloc: Global, kind: Crash, input: &[u8]) -> Result<(bool, Vec<u8>), Trouble> {
+    let disk = left(alloc, kind)?;
+    let crashed = left(alloc, kind)?;
+    if disk.failures() > 0 || crashed.failures() > 0 {
+        return Err(Trouble::Device);
+    }
+    let mut reader = input;
+    let mut answers = Vec::new(alloc);
+    let Some((_, _, again)) = one_session(alloc, disk, crashed, &mut reader, &mut answers) else {
+        return Ok((false, answers));
+    };
+    Ok((opened_too(again), answers))
+}
+
+#[test]
+fn callers_find_what_was_acknowledged(rt: HostRuntime) -> Result<(), Fail> {
+    let alloc = rt.alloc();
+    for kind in [Crash::Kept, Crash::Lost] {
+        assert!(rt;
+            accepted_twice(alloc, kind, b"(SETF (GET 'A 'B) 7)", b"9")?,
+            "{kind:?}"
+        );
+        let (found, answers) = served_once(alloc, kind, b"(GET 'A 'B)")?;
+        assert!(rt; found, "{kind:?}");
+        assert_eq!(rt; answers.as_slice(), b"7\n".as_slice(), "{kind:?}");
+    }
+    Ok(())
+}
