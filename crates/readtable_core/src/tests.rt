@@ -89,11 +89,12 @@ fn refusals_and_entries(rt: HostRuntime) -> Result<(), Fail> {
         (b"SQUARE", false, false),
     ];
     for (bytes, is_standard, is_dispatch) in names {
-        let name = FnName::new(bytes).unwrap();
+        let name = FnName::new(bytes).ok_or("a name")?;
         assert!(rt; name.is_standard() == is_standard && name.is_dispatch() == is_dispatch);
     }
     assert!(rt; table.is_dispatching(b'#') && !table.is_dispatching(b'('));
-    assert!(rt; table.entries()[40].function() == FnName::new(b"STD-LIST"));
+    let list = table.entries().get(40).ok_or("an entry")?;
+    assert!(rt; list.function() == FnName::new(b"STD-LIST"));
     let hash = table.entry(rt.alloc(), b'#')?;
     table.set_macro(b'#', square, false);
     assert!(rt; table.syntax(b'#') == Syntax::TerminatingMacro);
