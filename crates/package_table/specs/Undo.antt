@@ -3,7 +3,8 @@ use Rattle.std.specs.Prelude.{ℕ, List, [], ◌∷◌, Option, Some, None, if�
 use Rattle.std.specs.FinMap as finite
 use Rattle.package_table.specs.Table.{Name, name_cmp, Entry, Table, with_package}
 
--- a new package; a symbol that was put at a name of a package, after what was there before; a package that another uses
+-- A package was made. A symbol was put at a name of a package, and what was there before. The first package uses the other
+-- from then on.
 pub data Change : Type 0 where
   made : Name → Change
   put : Name → Name → Option Entry → Change

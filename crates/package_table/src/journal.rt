@@ -12,13 +12,13 @@ use std::alloc::AllocError;
 pub(crate) enum Note {
     /// A package was made.
     Made(Vec<u8>),
-    /// A symbol was put at this name of this package, and that was there before.
+    /// A symbol was put at a name of a package, where `before` was.
     Put {
         owner: Vec<u8>,
         name: Vec<u8>,
         before: Option<Symbol>,
     },
-    /// A package came to use another.
+    /// A package uses another from then on.
     Used {
         owner: Vec<u8>,
         used: Vec<u8>,
