@@ -1,5 +1,5 @@
 -- How the turns of a session join.
-use Rattle.std.proofs.Common.{◌≡◌, ℕ, zero, suc, ◌+◌, ◌≤◌, List, ◌++◌, length, Option, None, Some, IsTrue, refl, sym, ap, ap₂, subst, ◌∙◌, inl, inr, append_assoc, append-nil, arith, length-append}
+use Rattle.std.proofs.Common.{◌≡◌, ℕ, zero, suc, ◌+◌, ◌≤◌, List, [], ◌∷◌, ◌++◌, length, Option, None, Some, IsTrue, refl, sym, ap, ap₂, subst, ◌∙◌, inl, inr, append_assoc, append-nil, arith, length-append}
 use Rattle.std.specs.Option.{option_map, option_and_then}
 use Rattle.std.proofs.lemmas.List.Sums.{sum_by-append}
 use Rattle.disk_trait.specs.Disk.{State, IsHonest}
@@ -59,6 +59,11 @@ pub writes_both : (a b c : Option (List ℕ)) (front back : List ℕ) → Writes
 writes_both a b c front back first second = λ held is.
     second (held ++ front) (first held is) ∙ ap (λ t. Some t) (append_assoc held front back)
 
+-- none of two are none of the first and none of the second
+none_of_both : (xs ys : List Entry) → xs ++ ys ≡ [] → (xs ≡ []) × (ys ≡ [])
+none_of_both [] ys is = (refl, is)
+none_of_both (x ∷ xs) ys is = absurd (cc)
+
 -- ---- a session goes on
 
 module _ {D : Type 0} (state : D → State) (old mid new : Session D) (p : Progress) (first : IsAfter state old mid p)
@@ -91,6 +96,7 @@ module _ {D : Type 0} (state : D → State) (old mid new : Session D) (p : Progr
     limit = second.limit ∙ first.limit;
     described = described_both q.taken second.described;
     failures = second.failures ∙ first.failures;
+    untouched = λ is. let none = none_of_both p.taken q.taken is in second.untouched none.1 ∙ first.untouched none.0;
   }
 
 module _ {D : Type 0} (state : D → State) (old mid new : Session D) (w : World) (mode : Mode) (text : List ℕ) (a b c : Option (List ℕ)) (m : ℕ) (p : Progress)
@@ -161,11 +167,13 @@ module _ {D : Type 0} (state : D → State) (old mid new : Session D) (w : World
     input = unread.input;
     all = let all = unread.all in omega arith;
     no_part = unread.no_part;
+    more = unread.more;
     after = after_both state old mid new p first.after honest far unread.after;
   })))
   ends_both forms far lines answered part (Store number) (inr (inr (inr (inl unwritten)))) = inr (inr (inr (inl (record {
     output = unwritten.output;
     unwritten = unwritten.unwritten;
+    some_left = unwritten.some_left;
     front =
         append_assoc p.lines far.lines (last_line (read_in far.world mode far.rest))
         ∙ ap (λ t. p.lines ++ t) unwritten.front

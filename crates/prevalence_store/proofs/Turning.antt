@@ -1,5 +1,5 @@
 -- One turn of a session.
-use Rattle.std.proofs.Common.{◌≡◌, ℕ, ◌+◌, ◌<◌, true, false, List, [], ◌++◌, length, drop, Option, None, Some, IsSome, is_some, Result, Ok, Err, IfOk, IfErr, refl, sym, ap, subst, ◌∙◌, inl, inr, append_assoc, append-nil, arith}
+use Rattle.std.proofs.Common.{◌≡◌, ◌≢◌, ◌∷◌, ℕ, ◌+◌, ◌<◌, true, false, List, [], ◌++◌, length, drop, Option, None, Some, IsSome, is_some, Result, Ok, Err, IfOk, IfErr, refl, sym, ap, subst, ◌∙◌, inl, inr, append_assoc, append-nil, arith}
 use Rattle.std.specs.Option.{option_map}
 use Rattle.disk_trait.specs.Disk.{State, IsHonest, IsSound}
 use Rattle.lisp_object.specs.Object.{Object}
@@ -17,12 +17,13 @@ use Rattle.prevalence_store.specs.Acceptance.{between, logged, read_in}
 use Rattle.prevalence_store.specs.Causes.{is_device, IsCause}
 use Rattle.prevalence_store.specs.Evaluation.{value}
 use Rattle.prevalence_store.specs.Execution.{Fails, Logs, SurvivesAs, acknowledged_in, taken_in}
-use Rattle.prevalence_store.specs.Output.{Progress, after_forms, begun, evaluated, last_line, one_form, onward, refusal_line}
-use Rattle.prevalence_store.specs.Reading.{form, empty, refused}
-use Rattle.prevalence_store.specs.Serving.{Ends, HasRead, IsAfter, Serves, ServesInput}
+use Rattle.prevalence_store.specs.Output.{Progress, after_forms, begun, evaluated, last_line, one_form, onward, refusal_line, value_line}
+use Rattle.prevalence_store.specs.Reading.{form, empty, refused, reads, reads_at}
+use Rattle.prevalence_store.specs.Serving.{Ends, HasRead, IsAfter, MayGoOn, Serves, ServesInput}
 use Rattle.prevalence_store.specs.Session.{Session, Describes}
 use Rattle.prevalence_store.specs.Streams.{Writes, WritesPart}
 use Rattle.prevalence_store.specs.Turns.{AnswersFault, GoesOn, IsAnswered, IsLineOf, IsStop, TurnsInto}
+use Rattle.prevalence_store.specs.Printing.{printed}
 use Rattle.prevalence_store.specs.World.{World, initial}
 use Rattle.prevalence_store.proofs.Executing.{known_world}
 use Rattle.prevalence_store.proofs.Surviving.{fewer_survive, unchanged_survives}
@@ -32,11 +33,24 @@ use Rattle.prevalence_store.proofs.Surviving.{fewer_survive, unchanged_survives}
 pub writes_nothing : (held written : Option (List ℕ)) → written ≡ held → Writes held written []
 writes_nothing held written same = λ bytes is. same ∙ is ∙ ap (λ t. Some t) (sym (append-nil bytes))
 
-pub part_of : (held written : Option (List ℕ)) (text : List ℕ) → WritesPart held written text → (front : List ℕ) × (rest : List ℕ) × (text ≡ front ++ rest) × Writes held written front
-part_of None written text part = ([], text, refl, λ bytes is. absurd (cc))
-part_of (Some bytes) written text part =
+pub part_of : (held written : Option (List ℕ)) (text : List ℕ) → text ≢ [] → WritesPart held written text
+    → (front : List ℕ) × (rest : List ℕ) × (text ≡ front ++ rest) × (rest ≢ []) × Writes held written front
+part_of None written text some part = ([], text, refl, some, λ bytes is. absurd (cc))
+part_of (Some bytes) written text some part =
     let p = part bytes refl in
-    (p.front, p.rest, p.parts, λ others is. let same : bytes ≡ others = cc in subst (λ b. written ≡ Some (b ++ p.front)) same p.written)
+    (p.front, p.rest, p.parts, p.more, λ others is. let same : bytes ≡ others = cc in subst (λ b. written ≡ Some (b ++ p.front)) same p.written)
+
+-- where something comes first or last, there is something
+some_first : (xs ys : List ℕ) → xs ≢ [] → xs ++ ys ≢ []
+some_first [] ys some is = absurd (some refl)
+some_first (x ∷ xs) ys some is = absurd (cc)
+
+some_last : (xs : List ℕ) (y : ℕ) → xs ++ y ∷ [] ≢ []
+some_last [] y is = absurd (cc)
+some_last (x ∷ xs) y is = absurd (cc)
+
+some_line : (lines line : List ℕ) → line ≡ lines → lines ≢ [] → line ≢ []
+some_line lines line same some is = some (sym same ∙ is)
 
 -- the world of the text's first form
 pub after_one_form : (w : World) (mode : Mode) (text : List ℕ) (p : Progress) → one_form w mode text (read_in w mode text) ≡ Some p → after_forms 1 w mode text ≡ Some p
@@ -57,6 +71,7 @@ module _ {D : Type 0} (state : D → State) (sound : (d : D) → IsHonest (state
         limit = refl;
         described = λ k claims told. subst (λ entries. Describes old (record k { entries = entries }) (state old.disk).reads) (sym (append-nil k.entries)) told;
         failures = refl;
+        untouched = λ is. refl;
       })
 
   pub nothing : (ending : Ending) (part : List ℕ) → new ≡ old → Writes held written part
@@ -84,9 +99,9 @@ module _ {D : Type 0} (state : D → State) (sound : (d : D) → IsHonest (state
   done same quiet is = nothing End [] same (writes_nothing held written quiet)
       (record { all = refl; no_part = refl; nothing_left = sym is; after = after_none text [] same })
 
-  pub unread : (number : ℕ) → number ≡ INPUT → new ≡ old → written ≡ held → Serves state old new w mode text held written (Store number)
-  unread number is same quiet = nothing (Store number) [] same (writes_nothing held written quiet)
-      (inr (inr (inl (record { input = is; all = refl; no_part = refl; after = after_none text [] same }))))
+  pub unread : (number : ℕ) → number ≡ INPUT → MayGoOn text (read_in w mode text) → new ≡ old → written ≡ held → Serves state old new w mode text held written (Store number)
+  unread number is more same quiet = nothing (Store number) [] same (writes_nothing held written quiet)
+      (inr (inr (inl (record { input = is; all = refl; no_part = refl; more = more; after = after_none text [] same }))))
 
   -- the reader refused what the text begins with
   pub fault_answered : (number place : ℕ) → refused number place ≡ read_in w mode text → new ≡ old → (turn : Turn) → AnswersFault number held written turn
@@ -97,9 +112,9 @@ module _ {D : Type 0} (state : D → State) (sound : (d : D) → IsHonest (state
       nothing (Reader code) (refusal_line number) same answers.1
       (record { all = refl; place = place; reads = sym is ∙ ap (λ n. refused n place) (sym answers.0); line = ap refusal_line (sym answers.0); after = after_none text [] same })
   fault_answered number place is same (Ended (Store code)) (inl full) =
-      let part = part_of held written (refusal_line number) full.1 in
-      nothing (Store code) part.0 same part.3
-      (inr (inr (inr (inl (record { output = full.0; unwritten = part.1; front = ap last_line (sym is) ∙ part.2; after = after_none text [] same })))))
+      let part = part_of held written (refusal_line number) (λ none. absurd (cc)) full.1 in
+      nothing (Store code) part.0 same part.4
+      (inr (inr (inr (inl (record { output = full.0; unwritten = part.1; some_left = part.3; front = ap last_line (sym is) ∙ part.2; after = after_none text [] same })))))
   fault_answered number place is same (Ended (Store code)) (inr memory) =
       nothing (Store code) [] same (writes_nothing held written memory.1)
       (inr (inr (inr (inr (record { memory = memory.0; no_part = refl; after = after_none text [] same })))))
@@ -131,6 +146,7 @@ module _ {D : Type 0} (state : D → State) (sound : (d : D) → IsHonest (state
     limit = logs.limit;
     described = logs.described;
     failures = logs.failures;
+    untouched = λ is. absurd (cc);
   }
 
   -- the form is answered, and the session goes on
@@ -191,23 +207,25 @@ module _ {D : Type 0} (state : D → State) (sound : (d : D) → IsHonest (state
       → WritesPart held written line → Serves state old new w mode text held written (Store OUTPUT)
   form_unwritten (Ok v) line of is_line writes =
       let given = of.accepted w known in
-      let part = part_of held written line writes in
+      let part = part_of held written line (some_line (value_line given.0 (object_of v)) line (is_line given.0) (some_last (printed (object_of v)) 10)) writes in
       let far : Progress = evaluated w mode own (drop next text) (Ok (object_of v, given.0)) in
-      taken_only far part.0 (Store OUTPUT) 1 (one_is (Ok (object_of v, given.0)) given.1) part.3 (of.survives w)
+      taken_only far part.0 (Store OUTPUT) 1 (one_is (Ok (object_of v, given.0)) given.1) part.4 (of.survives w)
       (inr (inr (inr (inl (record {
         output = refl;
         unwritten = part.1 ++ last_line (read_in far.world mode far.rest);
+        some_left = some_first part.1 (last_line (read_in far.world mode far.rest)) part.3;
         front = unwritten_front far.lines line part.0 part.1 (last_line (read_in far.world mode far.rest)) (is_line given.0) part.2;
         after = after_logs (object_of v) given.0 given.2;
       })))))
   form_unwritten (Err (Refused number)) line of is_line writes =
       let same = of.unchanged refl in
-      let part = part_of held written line writes in
+      let part = part_of held written line (some_line (refusal_line number) line (is_line w) (λ none. absurd (cc))) writes in
       let far : Progress = evaluated w mode own (drop next text) (Err number) in
-      taken_only far part.0 (Store OUTPUT) 0 (one_is (Err number) (of.cause w known)) part.3 (unchanged_survives state sound old new w same)
+      taken_only far part.0 (Store OUTPUT) 0 (one_is (Err number) (of.cause w known)) part.4 (unchanged_survives state sound old new w same)
       (inr (inr (inr (inl (record {
         output = refl;
         unwritten = part.1 ++ last_line (read_in far.world mode far.rest);
+        some_left = some_first part.1 (last_line (read_in far.world mode far.rest)) part.3;
         front = unwritten_front far.lines line part.0 part.1 (last_line (read_in far.world mode far.rest)) (is_line w) part.2;
         after = after_none state sound old new w mode text held written known (drop next text) (refusal_line number) same;
       })))))
@@ -301,9 +319,9 @@ no_memory_read state sound old w mode had has held known = record {
 
 pub nothing_read : {D : Type 0} (state : D → State) (sound : (d : D) → IsHonest (state d) → IsSound (state d)) (old : Session D) (w : World) (mode : Mode) (had has held : Option (List ℕ))
     → old.world ≡ Some w → ServesInput state old old w mode had has held held (Store INPUT)
-unfolding unread nothing
+unfolding unread nothing reads reads_at
 nothing_read state sound old w mode had has held known = record {
   text = [];
-  serves = unread state sound old old w mode [] held held known INPUT refl refl refl;
+  serves = unread state sound old old w mode [] held held known INPUT refl tt refl refl;
   reads = λ all is. (all, refl, inl (refl, inl refl));
 }

@@ -1,5 +1,5 @@
 -- How a session goes, and how it ends: one relation, with a case for each ending.
-use Rattle.std.specs.Prelude.{◌≡◌, ◌⊎◌, ℕ, ◌+◌, ◌<◌, ◌≤◌, max, List, [], ◌∷◌, ◌++◌, length, Option, None, Some}
+use Rattle.std.specs.Prelude.{◌≡◌, ◌≢◌, ◌⊎◌, ℕ, ◌+◌, ◌<◌, ◌≤◌, max, List, [], ◌∷◌, ◌++◌, length, Option, None, Some}
 use Rattle.std.specs.List.{sum_by}
 use Rattle.disk_trait.specs.Disk.{State, IsHonest}
 use Rattle.gate_log.specs.Layout.{Contents, Entry}
@@ -10,7 +10,7 @@ use Rattle.prevalence_store.specs.declared.outcome.Ending.TheVariants.{End, Read
 use Rattle.prevalence_store.specs.Acceptance.{read_in}
 use Rattle.prevalence_store.specs.Execution.{SurvivesAs}
 use Rattle.prevalence_store.specs.Output.{Progress, after_forms, last_line, one_form, refusal_line}
-use Rattle.prevalence_store.specs.Reading.{empty, refused}
+use Rattle.prevalence_store.specs.Reading.{Reading, form, empty, refused}
 use Rattle.prevalence_store.specs.Session.{Session, Describes}
 use Rattle.prevalence_store.specs.Streams.{Writes}
 use Rattle.prevalence_store.specs.World.{World}
@@ -18,6 +18,12 @@ use Rattle.prevalence_store.specs.World.{World}
 -- the contents with these records more
 abbrev pub with_entries : Contents → List Entry → Contents
 with_entries k entries = record k { entries = k.entries ++ entries }
+
+-- what a text begins with may be another thing where the text goes on
+abbrev pub MayGoOn : List ℕ → Reading → Type 0
+MayGoOn text empty = Unit {0}
+MayGoOn text (form object start end next) = next ≡ length text
+MayGoOn text (refused number place) = place ≡ length text
 
 -- the bytes that these records take in a half
 abbrev pub room_of : List Entry → ℕ
@@ -37,6 +43,8 @@ module _ {D : Type 0} (state : D → State) (old new : Session D) where
     pub described : (k : Contents) → IsHonest (state old.disk) → Describes old k (state old.disk).reads
         → Describes new (with_entries k far.taken) (state new.disk).reads
     pub failures : (state new.disk).failures ≡ (state old.disk).failures
+    -- forms that leave no record leave all as it was, the disk too
+    pub untouched : far.taken ≡ [] → new ≡ old
 
   module _ (world : World) (mode : Mode) (text : List ℕ) (held written : Option (List ℕ)) where
     -- the first forms of the text were taken and answered, each line whole
@@ -97,12 +105,15 @@ module _ {D : Type 0} (state : D → State) (old new : Session D) where
         pub input : number ≡ INPUT
         pub all : lines ≡ forms
         pub no_part : part ≡ []
+        -- more was needed: no form of what was read is left unanswered
+        pub more : MayGoOn far.rest (read_in far.world mode far.rest)
         pub after : IsAfter far
 
       -- a write failed, or took nothing: the lines so far are the first part of what was to be written
       pub record IsUnwritten (number : ℕ) : Type 0 where
         pub output : number ≡ OUTPUT
         pub unwritten : List ℕ
+        pub some_left : unwritten ≢ []
         pub front : far.lines ++ last_line (read_in far.world mode far.rest) ≡ answered.lines ++ part ++ unwritten
         pub after : IsAfter far
 

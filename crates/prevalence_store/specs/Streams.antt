@@ -1,5 +1,5 @@
 -- What is read from a reader and written to a writer that tell their bytes.
-use Rattle.std.specs.Prelude.{◌≡◌, ℕ, List, [], ◌++◌, Option, Some}
+use Rattle.std.specs.Prelude.{◌≡◌, ◌≢◌, ℕ, List, [], ◌++◌, Option, Some}
 
 -- all that the reader had left was read, and is this
 abbrev pub ReadsAll : Option (List ℕ) → Option (List ℕ) → List ℕ → Type 0
@@ -9,11 +9,12 @@ ReadsAll old new text = (left : List ℕ) → old ≡ Some left → (text ≡ le
 abbrev pub Writes : Option (List ℕ) → Option (List ℕ) → List ℕ → Type 0
 Writes old new text = (held : List ℕ) → old ≡ Some held → new ≡ Some (held ++ text)
 
--- the writer got a part of the text, from its front
+-- the writer got a part of the text, from its front, and not all of it
 pub record IsPart (held : List ℕ) (new : Option (List ℕ)) (text : List ℕ) : Type 0 where
   pub front : List ℕ
   pub rest : List ℕ
   pub parts : text ≡ front ++ rest
+  pub more : rest ≢ []
   pub written : new ≡ Some (held ++ front)
 
 abbrev pub WritesPart : Option (List ℕ) → Option (List ℕ) → List ℕ → Type 0

@@ -1,19 +1,30 @@
 //! The theorem over any calls in a row, and that files mean one world.
 ghost use Rattle.std.specs.Prelude.{◌≡◌, ℕ, List, ◌++◌, Some, Err};
-ghost use Rattle.disk_trait.specs.Disk.{Image, IsHonest};
+ghost use Rattle.disk_trait.specs.Disk.{Image, IsFresh, IsHonest};
 ghost use Rattle.prevalence_store.specs.Acceptance.{accepts};
 ghost use Rattle.prevalence_store.specs.Meaning.{Means};
 ghost use Rattle.prevalence_store.specs.Numbers.{IsFormNumber};
 ghost use Rattle.prevalence_store.specs.declared.mode.Mode.{Mode};
 ghost use Rattle.prevalence_store.specs.Opening.{IsNoWord, IsUnopened, limit_of};
 ghost use Rattle.prevalence_store.specs.Theorem.{Call, Headline, Keeps, Run, disk_after};
-ghost use Rattle.prevalence_store.specs.World.{World as LispWorld};
+ghost use Rattle.prevalence_store.specs.World.{World as LispWorld, initial};
 
 use disk_trait::Disk;
 
 /// An image means one world at most.
 pub fn one_world()
     ensures { (image : Image) (one other : LispWorld) → Means image one → Means image other → one ≡ other }
+{}
+
+/// Fresh files mean the initial world, whatever a crash leaves of them.
+pub fn fresh_files<D: Disk>()
+    ensures { (disk : D) → IsFresh (D.state disk) → Keeps (D.state disk) initial }
+{}
+
+/// A disk that was refused may be tried again: what a crash now leaves of it means the world that it meant.
+pub fn refused_openings<D: Disk>()
+    ensures { (disk back : D) (world : LispWorld) (limit number : ℕ) → IsHonest (D.state disk) → Keeps (D.state disk) world
+        → IsUnopened D.state disk limit number back → IsHonest (D.state back) × Keeps (D.state back) world }
 {}
 
 /// A form is refused under a number of 1 to 46 alone: the numbers from 60 on are those of the store.

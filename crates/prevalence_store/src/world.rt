@@ -1,5 +1,5 @@
 //! The world that transactions change: the property lists of symbols, with one way back.
-ghost use Rattle.std.specs.Prelude.{◌≡◌, true, map, OnOk, OnErr, IfSome};
+ghost use Rattle.std.specs.Prelude.{◌≡◌, true, map, All, OnOk, OnErr, IfSome};
 ghost use Rattle.std.specs.Option.{option_map};
 ghost use Rattle.lisp_object.specs.Datum.{object_of, is_proper};
 ghost use Rattle.prevalence_store.specs.Property.{property_of};
@@ -59,7 +59,8 @@ impl World {
 
     /// The symbol's property list, the indicators in the order in which they were first set.
     pub fn plist(&self, symbol: &Symbol) -> &[Property]
-        ensures { map property_of result.now ≡ plist self.now.present (symbol_of symbol.now) }
+        ensures list { map property_of result.now ≡ plist self.now.present (symbol_of symbol.now) }
+        ensures proper { All (λ p. is_proper p.value ≡ true) result.now }
     {
         self.rows.plist(symbol)
     }

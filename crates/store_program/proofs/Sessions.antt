@@ -8,11 +8,12 @@ use Rattle.prevalence_store.specs.declared.open_fault.OpenFault.TheVariants as o
 use Rattle.prevalence_store.specs.declared.outcome.Ending.{Ending}
 use Rattle.prevalence_store.specs.declared.outcome.Ending.TheVariants.{End, Reader, Store}
 use Rattle.prevalence_store.specs.Opening.{fault_number}
-use Rattle.prevalence_store.specs.Output.{Progress, after_forms}
+use Rattle.prevalence_store.specs.Output.{Progress, after_forms, begun, last_line}
 use Rattle.prevalence_store.specs.Serving.{HasRead, Serves, ServesInput}
 use Rattle.prevalence_store.specs.Session.{Session}
-use Rattle.prevalence_store.specs.World.{World}
-use Rattle.store_program.specs.Session.{AnswersInput, ReadsToEnd}
+use Rattle.prevalence_store.specs.Acceptance.{read_in}
+use Rattle.prevalence_store.specs.World.{World, initial}
+use Rattle.store_program.specs.Session.{AnswersInput, IsBrokenOff, ReadsToEnd}
 use Rattle.store_program.specs.Status.{HasFaultNumber, IsFaultNumber, status_of_ending}
 
 same_progress : (n m : ℕ) (w : World) (text : List ℕ) (p q : Progress) → n ≡ m → after_forms n w Current text ≡ Some p → after_forms m w Current text ≡ Some q → p ≡ q
@@ -22,6 +23,25 @@ same_progress n m w text p q is here there = let same : after_forms n w Current 
 whole : (held : List ℕ) (written : Option (List ℕ)) (p q : Progress) (part last : List ℕ) → written ≡ Some (held ++ (p.lines ++ part)) → p ≡ q → part ≡ last
     → written ≡ Some (held ++ (q.lines ++ last))
 whole held written p q part last is same part_is = is ∙ ap (λ l. Some (held ++ l)) (ap (λ (r : Progress). r.lines ++ part) same ∙ ap (λ l. q.lines ++ l) part_is)
+
+-- nothing was read and nothing written
+pub nothing_written : (input held : List ℕ) (written : Option (List ℕ)) → written ≡ Some held → IsBrokenOff input held written
+nothing_written input held written is = record {
+  world = initial;
+  read = [];
+  left = input;
+  parts = refl;
+  forms = 0;
+  far = begun initial [];
+  far_is = refl;
+  front = [];
+  unwritten = last_line (read_in initial Current []);
+  lines = refl;
+  all = is ∙ ap (λ l. Some l) (sym (append-nil held));
+}
+
+no_more : (lines part last : List ℕ) → part ≡ [] → lines ++ last ≡ (lines ++ part) ++ last
+no_more lines part last none = ap (λ l. l ++ last) (sym (append-nil lines)) ∙ ap (λ p. (lines ++ p) ++ last) (sym none)
 
 module _ {D : Type 0} (state : D → State) (old new : Session D) (w : World) (had has held_now written : Option (List ℕ)) where
   pub answers_input : (ending : Ending) → ServesInput state old new w Current had has held_now written ending → (input held : List ℕ) → had ≡ Some input → held_now ≡ Some held
@@ -65,6 +85,55 @@ module _ {D : Type 0} (state : D → State) (old new : Session D) (w : World) (h
             )
       ]
   answers_input (Store number) served input held left holds = tt
+
+  pub broken_input : (number : ℕ) → ServesInput state old new w Current had has held_now written (Store number) → (input held : List ℕ) → had ≡ Some input → held_now ≡ Some held
+      → IsBrokenOff input held written
+  broken_input number served input held left holds =
+      let s = served.serves in
+      let read = served.reads input left in
+      let quiet : s.part ≡ [] → IsBrokenOff input held written = λ none. record {
+        world = w;
+        read = served.text;
+        left = read.0;
+        parts = read.1;
+        forms = s.lines;
+        far = s.answered;
+        far_is = s.answered_is;
+        front = s.answered.lines ++ s.part;
+        unwritten = last_line (read_in s.answered.world Current s.answered.rest);
+        lines = no_more s.answered.lines s.part (last_line (read_in s.answered.world Current s.answered.rest)) none;
+        all = s.output held holds;
+      } in
+      elim s.ends [
+        | inl stopped ↦ quiet stopped.no_part
+        | inr else ↦ elim else [
+          | inl full ↦ quiet full.no_part
+          | inr else ↦ elim else [
+            | inl unread ↦ quiet unread.no_part
+            | inr else ↦ elim else [
+              | inl cut ↦
+                  record {
+                    world = w;
+                    read = served.text;
+                    left = read.0;
+                    parts = read.1;
+                    forms = s.forms;
+                    far = s.far;
+                    far_is = s.far_is;
+                    front = s.answered.lines ++ s.part;
+                    unwritten = cut.unwritten;
+                    lines = cut.front;
+                    all = s.output held holds;
+                  }
+              | inr memory ↦ quiet memory.no_part
+            ]
+          ]
+        ]
+      ]
+
+  pub broken_at : (ending : Ending) (number : ℕ) → ending ≡ Store number → ServesInput state old new w Current had has held_now written ending → (input held : List ℕ) → had ≡ Some input → held_now ≡ Some held
+      → IsBrokenOff input held written
+  broken_at ending number is served = broken_input number (subst (λ (e : Ending). ServesInput state old new w Current had has held_now written e) is served)
 
   pub reads_input : (ending : Ending) → ServesInput state old new w Current had has held_now written ending → (input : List ℕ) → had ≡ Some input
       → ReadsToEnd (status_of_ending ending) has

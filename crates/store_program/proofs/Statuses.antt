@@ -1,10 +1,11 @@
 -- Where the words are taken, the status is of a session or of a fault.
-use Rattle.std.proofs.Common.{◌≡◌, inl, inr, ◌∙◌, sym, subst}
+use Rattle.std.proofs.Common.{◌≡◌, ℕ, ap, inl, inr, ◌∙◌, sym, subst}
 use Rattle.clap.specs.declared.error.kind.ErrorKind.{ErrorKind}
 use Rattle.clap.specs.declared.error.kind.ErrorKind.TheVariants.{OutOfMemory}
 use Rattle.prevalence_store.specs.declared.outcome.Ending.{Ending}
 use Rattle.prevalence_store.specs.declared.outcome.Ending.TheVariants.{End, Reader, Store}
 use Rattle.store_program.specs.declared.status.Status.{Status}
+use Rattle.store_program.specs.declared.status.Status.TheVariants.{Fault}
 use Rattle.store_program.specs.Status.{IsAfterWords, TakesWords, status_of_ending}
 
 -- of a session
@@ -24,3 +25,12 @@ of_memory status (inr both) = subst TakesWords (sym both.1) tt
 pub taken_at_memory : (status given : Status) (kind : ErrorKind) → status ≡ given → kind ≡ OutOfMemory → IsAfterWords kind given → TakesWords status
 taken_at_memory status given kind same memory after =
     subst TakesWords (sym same) (of_memory given (subst (λ k. IsAfterWords k given) memory after))
+
+-- a fault after a session is the number that the session ended with
+ending_is : (ending : Ending) (number : ℕ) → status_of_ending ending ≡ Fault number → ending ≡ Store number
+ending_is End number is = absurd (cc)
+ending_is (Reader code) number is = absurd (cc)
+ending_is (Store code) number is = let same : code ≡ number = cc in ap (λ n. Store n) same
+
+pub ending_at : (status given : Status) (ending : Ending) (number : ℕ) → status ≡ given → given ≡ status_of_ending ending → status ≡ Fault number → ending ≡ Store number
+ending_at status given ending number same is fault = ending_is ending number (sym is ∙ sym same ∙ fault)

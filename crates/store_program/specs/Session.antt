@@ -5,7 +5,7 @@ use Rattle.prevalence_store.specs.declared.mode.Mode.TheVariants.{Current}
 use Rattle.prevalence_store.specs.declared.outcome.Ending.{Ending}
 use Rattle.prevalence_store.specs.Acceptance.{read_in}
 use Rattle.prevalence_store.specs.Opening.{IsOpened}
-use Rattle.prevalence_store.specs.Output.{Progress, after_forms, refusal_line}
+use Rattle.prevalence_store.specs.Output.{Progress, after_forms, last_line, refusal_line}
 use Rattle.prevalence_store.specs.Reading.{empty, refused}
 use Rattle.prevalence_store.specs.Serving.{ServesInput}
 use Rattle.prevalence_store.specs.Session.{Session}
@@ -27,6 +27,21 @@ pub record IsWritten (world : World) (input held : List ℕ) (written : Option (
   pub far : Progress
   pub far_is : after_forms forms world Current input ≡ Some far
   pub all : written ≡ Some (held ++ (far.lines ++ last))
+
+-- A session was broken off: what was written is a first part of the answers to what was read, as the store of some world gives
+-- them, and nothing else.
+pub record IsBrokenOff (input held : List ℕ) (written : Option (List ℕ)) : Type 0 where
+  pub world : World
+  pub read : List ℕ
+  pub left : List ℕ
+  pub parts : input ≡ read ++ left
+  pub forms : ℕ
+  pub far : Progress
+  pub far_is : after_forms forms world Current read ≡ Some far
+  pub front : List ℕ
+  pub unwritten : List ℕ
+  pub lines : far.lines ++ last_line (read_in far.world Current far.rest) ≡ front ++ unwritten
+  pub all : written ≡ Some (held ++ front)
 
 -- The input was answered as the store of some world answers it: to its end, or to what the reader refused.
 abbrev pub AnswersInput : Status → List ℕ → List ℕ → Option (List ℕ) → Type 0

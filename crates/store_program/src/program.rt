@@ -2,8 +2,9 @@
 ghost use Rattle.std.specs.Prelude.{◌≡◌, ◌⊎◌, ◌<◌, ◌-◌, ◌^◌, ℕ, List, Some, map, IfOk, IfErr};
 ghost use Rattle.prevalence_store.specs.Opening.{IsUnopened};
 ghost use Rattle.clap.specs.Words.{kind_of};
+ghost use Rattle.clap.specs.declared.error.kind.ErrorKind.TheVariants.{OutOfMemory};
 ghost use Rattle.store_program.specs.CommandLine.{NamesFolder};
-ghost use Rattle.store_program.specs.Session.{AnswersInput, IsSession, ReadsToEnd};
+ghost use Rattle.store_program.specs.Session.{AnswersInput, IsBrokenOff, IsSession, ReadsToEnd};
 ghost use Rattle.store_program.specs.Status.{EndsAfterSession, HasFaultNumber, IsAfterWords, TakesWords, status_of_ending};
 
 use crate::fault::write_fault;
@@ -48,6 +49,9 @@ where
     ensures answered { (text held : List ℕ) → I.remaining input.old ≡ Some text → O.contents output.old ≡ Some held
         → AnswersInput result text held (O.contents output.new) }
     ensures fault { HasFaultNumber result }
+    ensures broken { (folder text held : List ℕ) (number : ℕ) → NamesFolder (map S.text words.now) folder
+        → I.remaining input.old ≡ Some text → O.contents output.old ≡ Some held → result ≡ Status.Fault number
+        → IsBrokenOff text held (O.contents output.new) }
 {
     let status = match directory_in(rt.alloc(), words) {
         Ok(directory) => Status::of_ending(run(rt, directory, input, output)),
@@ -74,6 +78,7 @@ fn answer_words<O: Write, F: Write>(error: &Error, output: &mut O, faults: &mut 
     ensures fault { HasFaultNumber result }
     ensures helped { result ≡ Status.Helped → faults.new ≡ faults.old }
     ensures refused { result ≡ Status.WordsRefused → output.new ≡ output.old }
+    ensures memory { kind_of error.now ≡ OutOfMemory → output.new ≡ output.old }
 {
     match Status::of_kind(error.kind()) {
         Status::Helped => match write!(output, "{error}") {
@@ -98,6 +103,8 @@ where
     ensures answered { (text held : List ℕ) → I.remaining input.old ≡ Some text → O.contents output.old ≡ Some held
         → AnswersInput (status_of_ending result) text held (O.contents output.new) }
     ensures fault { HasFaultNumber (status_of_ending result) }
+    ensures broken { (text held : List ℕ) (number : ℕ) → I.remaining input.old ≡ Some text → O.contents output.old ≡ Some held
+        → result ≡ Ending.Store number → IsBrokenOff text held (O.contents output.new) }
 {
     // no folder has an empty name, and files under it would be those of the present folder
     if directory.is_empty() {
@@ -128,9 +135,9 @@ where
     I: Read,
     O: Write,
     requires { (D.state disk).failures < 2 ^ 64 - 1 }
-    ensures served { IfOk result (λ p. IsSession D.state disk HALF_LIMIT (I.remaining input.old) (I.remaining input.new)
+    ensures served { IfOk result (λ p. IsSession D.state disk 1073741824 (I.remaining input.old) (I.remaining input.new)
         (O.contents output.old) (O.contents output.new) p.0 p.1) }
-    ensures refused { IfErr result (λ e. IsUnopened D.state disk HALF_LIMIT e.number e.disk
+    ensures refused { IfErr result (λ e. IsUnopened D.state disk 1073741824 e.number e.disk
         × (input.new ≡ input.old) × (output.new ≡ output.old)) }
 {
     let mut store = Store::open(alloc, disk, HALF_LIMIT)?;
