@@ -5,3 +5,4 @@ pub mod ByName
 pub mod Soundness
 pub mod KeptWorld
 pub mod FirstWorld
+pub mod InOrder

@@ -31,13 +31,13 @@ mod error;
 mod packages;
 mod properties;
 mod property;
+mod readers;
 mod readtables;
 mod rows;
 mod stored;
 mod symbol;
 mod tables;
 mod undo;
-
 mod world;
 
 pub use error::ReadtableError;
