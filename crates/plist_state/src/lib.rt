@@ -45,3 +45,6 @@ pub use property::Property;
 pub use symbol::Symbol;
 pub use tables::{MAX_READTABLES, STANDARD, USER};
 pub use world::World;
+
+#[cfg(test)]
+mod tests;
