@@ -1,5 +1,5 @@
 //! The world, and what is asked of it.
-ghost use Rattle.std.specs.Prelude.{◌≡◌, [], true, map, IfOk, IfSome};
+ghost use Rattle.std.specs.Prelude.{◌≡◌, [], true, map, All, IfOk, IfSome};
 ghost use Rattle.std.specs.Option.{option_map};
 ghost use Rattle.std.specs.FinMap as finite;
 ghost use Rattle.lisp_object.specs.Datum.{object_of, is_proper};
@@ -102,7 +102,8 @@ impl World {
     /// The property list of a symbol, the indicators in the order in which they were first set (standard 10.2,
     /// `symbol-plist`). Takes no memory.
     pub fn plist(&self, symbol: &Symbol) -> &[Property]
-        ensures { map property_of result.now ≡ plist self.now.0 (symbol_of symbol.now) }
+        ensures list { map property_of result.now ≡ plist self.now.0 (symbol_of symbol.now) }
+        ensures proper { All (λ p. is_proper p.value ≡ true) result.now }
     {
         rows::row(&self.stored.properties, symbol)
     }
