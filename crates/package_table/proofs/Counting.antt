@@ -15,15 +15,15 @@ use Rattle.package_table.specs.Table.{Name, name_cmp, Entry, Package, Table, ent
 use Rattle.package_table.proofs.Names.{name_total, name_exact}
 use Rattle.package_table.proofs.Frames.{equal_itself, not_equal, package_there}
 
-first_of_both : (a b : Bool) → T (a && b) → T a
+pub first_of_both : (a b : Bool) → T (a && b) → T a
 first_of_both true b t = tt
 first_of_both false b t = t
 
-second_of_both : (a b : Bool) → T (a && b) → T b
+pub second_of_both : (a b : Bool) → T (a && b) → T b
 second_of_both true b t = t
 second_of_both false b t = absurd t
 
-below : (x y : Name) → T (is_lt (name_cmp x y)) → name_cmp x y ≡ Less
+pub below : (x y : Name) → T (is_lt (name_cmp x y)) → name_cmp x y ≡ Less
 below x y t = elim (name_cmp x y) as (λ o. T (is_lt o) → o ≡ Less) [ Less ↦ λ t. refl | Equal ↦ λ t. absurd t | Greater ↦ λ t. absurd t ] t
 
 module _ {X : Type 0} (w : Name → X → ℕ) where

@@ -92,7 +92,7 @@ second_false : (a b : Bool) → (a && b) ≡ false → a ≡ true → b ≡ fals
 second_false true b e _ = e
 second_false false b e is = absurd (false≢true is)
 
-users_agree : (t : Table) (p h n : Name) → IsSound t → user_finds_other t p h n ≡ false → (q g : Name) → Uses t q p → Finds t q n g → g ≡ h
+pub users_agree : (t : Table) (p h n : Name) → IsSound t → user_finds_other t p h n ≡ false → (q g : Name) → Uses t q p → Finds t q n g → g ≡ h
 users_agree t p h n sound none q g used finds =
     elim (finite.get t q) as (λ o. finite.get t q ≡ o → option_map (λ (k : Package). finite.contains_key k.uses p) o ≡ Some true → g ≡ h) [
       | None ↦ λ _ no. absurd (none_some true no)
@@ -102,7 +102,7 @@ users_agree t p h n sound none q g used finds =
           g finds
     ] refl used
 
-shown_agree : (t : Table) (p q : Name) → IsSound t → finds_other_than_shown t p q ≡ false → (n g h : Name) → Finds t p n g → IsExternal t q n → IsPresent t q n h → g ≡ h
+pub shown_agree : (t : Table) (p q : Name) → IsSound t → finds_other_than_shown t p q ≡ false → (n g h : Name) → Finds t p n g → IsExternal t q n → IsPresent t q n h → g ≡ h
 shown_agree t p q sound none n g h finds shown there =
     elim (finite.get t q) as (λ o. list_any (λ (s : Name × Entry). s.1.external && finds_other t p s.1.home s.0) (option_map_or (λ (k : Package). finite.entries k.symbols) o []) ≡ false
     → option_map (λ (e : Entry). e.external) (option_and_then (λ (k : Package). finite.get k.symbols n) o) ≡ Some true → option_map (λ (e : Entry). e.home) (option_and_then (λ (k : Package). finite.get k.symbols n) o) ≡ Some h → g ≡ h) [
@@ -156,6 +156,18 @@ kept_make t n u sound ascii is =
   where
     not_empty : (k : ℕ) → (k == 0) ≡ false → 0 < k
     not_empty k zero_not = ne_zero k zero_not
+
+-- a package that can be made is none yet
+pub make_fresh : (t : Table) (n : Name) (u : Table) → IsSound t → after_make t n ≡ Ok u → finite.get t n ≡ None
+make_fresh t n u sound is =
+    let some = passes (length n == 0) EmptyName _ u is in
+    let fresh = passes (is_some (package_named t n)) PackageExists _ u some.1 in
+    (fresh_name t n sound fresh.0).1
+
+-- a package of which the call says that its use is new is not used yet
+pub use_fresh : (t : Table) (p q : Name) → use_changes t p q ≡ true → is_used t p q ≡ false
+use_fresh t p q changes =
+    (neither (bytes_eq p q) (is_used t p q) (elim (bytes_eq p q || is_used t p q) as (λ b. not b ≡ true → b ≡ false) [ true ↦ λ e. absurd (false≢true e) | false ↦ λ _. refl ] changes)).1
 
 pub counted_new : (t : Table) (p n : Name) → finite.contains_key t p ≡ true → found t p n ≡ None → symbol_count (with_entry t p n (record { home = p; external = bytes_eq p keyword })) ≡ symbol_count t + 1
 counted_new t p n there none = symbols_new t p n (record { home = p; external = bytes_eq p keyword }) there (no_entry t p n (found_none t n p none)) refl

@@ -1,4 +1,5 @@
 pub mod Alone
+pub mod Asked
 pub mod CallRows
 pub mod Conflicts
 pub mod Counting
@@ -14,3 +15,5 @@ pub mod Places
 pub mod Rows
 pub mod Seen
 pub mod Starting
+pub mod Undoing
+pub mod Undone

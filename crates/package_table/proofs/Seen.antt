@@ -1,13 +1,14 @@
 -- The trees, as they are read: look-ups, the entries in their order, and what each change leaves.
-use Rattle.std.proofs.Common.{◌≡◌, ◌++◌, Bool, true, Option, None, Some, List, [], ◌∷◌, map, refl, sym, ap, ◌∙◌, Bor}
+use Rattle.std.proofs.Common.{◌≡◌, ◌++◌, Bool, true, false, cond, Option, None, Some, List, [], ◌∷◌, map, refl, sym, ap, subst, ◌∙◌, Bor}
 use Rattle.std.specs.Prelude.{ℕ, option_map}
 use Rattle.std.specs.Global.{Vec}
 use Rattle.std.specs.declared.cmp.Ordering.{Ordering}
 use Rattle.std.specs.Option.{option_copied, option_map_or, IsSome}
 use Rattle.std.specs.List.Sorted.{IsStrictlySortedBy}
-use Rattle.std.specs.Map.{lookup, keys_of, set_value}
+use Rattle.std.specs.Map.{lookup, keys_of, remove_entry, set_value}
 use Rattle.std.specs.BTreeMap.{is_at, insert_entry}
 use Rattle.std.specs.BTreeSet.{insert_key}
+use Rattle.std.specs.Set.{remove_key}
 use Rattle.std.specs.FinMap as finite
 use Rattle.std.specs.FinMap.{is_sorted}
 use Rattle.lisp_object.proofs.Tree as tree
@@ -56,6 +57,10 @@ module _ {X V : Type 0} (g : X → V) where
   pub written_at : (k : Name) (w : X) (es : List (Vec ℕ × X)) → IsSome (lookup (at k) es) → as_map g (set_value (at k) es w) ≡ finite.insert (as_map g es) k (g w)
   written_at = tree.as_map-set_at name_of g name_cmp name_total name_exact
 
+  -- to remove an entry is to remove what is seen of it
+  pub as_map-remove : (q : Name) (es : List (Vec ℕ × X)) → IsStrictlySortedBy by_name (keys_of es) → as_map g (remove_entry (at q) es) ≡ finite.remove (as_map g es) q
+  as_map-remove = tree.as_map-remove_at name_of g name_cmp name_total name_exact
+
   -- the next entry, copied
   pub copied_next : (copied : List (Vec ℕ × X)) (k : Vec ℕ) (v : X) (e : Vec ℕ × X) (rest all : List (Vec ℕ × X))
       → IsStrictlySortedBy by_name (keys_of all) → k.items ≡ e.0.items → g v ≡ g e.1
@@ -72,6 +77,29 @@ keys-as_set = tree_entries.keys-as_set name_of name_cmp name_total name_exact
 
 pub as_set-insert : (k : Vec ℕ) (ks : List (Vec ℕ)) → as_set (insert_key by_name ks k) ≡ finite.insert (as_set ks) k.items tt
 as_set-insert = tree_entries.as_set-insert name_of name_cmp name_total name_exact
+
+-- a set as a map to nothing
+read-pairs : (ks : List (Vec ℕ)) → read (λ u. u) (map (λ k. (k, tt {0})) ks) ≡ read_keys ks
+read-pairs [] = refl
+read-pairs (k ∷ ks) = ap (λ es. (k.items, tt) ∷ es) (read-pairs ks)
+
+keys-pairs : (ks : List (Vec ℕ)) → keys_of (map (λ k. (k, tt {0})) ks) ≡ ks
+keys-pairs [] = refl
+keys-pairs (k ∷ ks) = ap (λ ls. k ∷ ls) (keys-pairs ks)
+
+remove-pairs : (test : Vec ℕ → Bool) (ks : List (Vec ℕ)) → remove_entry test (map (λ k. (k, tt {0})) ks) ≡ map (λ k. (k, tt {0})) (remove_key test ks)
+remove-pairs test [] = refl
+remove-pairs test (k ∷ ks) =
+    elim (test k) as (λ b. cond b (map (λ k. (k, tt {0})) ks) ((k, tt) ∷ remove_entry test (map (λ k. (k, tt {0})) ks)) ≡ map (λ k. (k, tt {0})) (cond b ks (k ∷ remove_key test ks))) [
+      | true ↦ refl
+      | false ↦ ap (λ es. (k, tt) ∷ es) (remove-pairs test ks)
+    ]
+
+pub as_set-remove : (q : Name) (ks : List (Vec ℕ)) → IsStrictlySortedBy by_name ks → as_set (remove_key (at q) ks) ≡ finite.remove (as_set ks) q
+as_set-remove q ks sorted =
+    ap finite.from_entries (sym (read-pairs (remove_key (at q) ks))) ∙ ap (as_map (λ u. u)) (sym (remove-pairs (at q) ks))
+    ∙ tree.as_map-remove_at name_of (λ u. u) name_cmp name_total name_exact q (map (λ k. (k, tt {0})) ks) (subst (IsStrictlySortedBy by_name) (sym (keys-pairs ks)) sorted)
+    ∙ ap (λ es. finite.remove (finite.from_entries {R = name_cmp} es) q) (read-pairs ks)
 
 -- the next name, copied
 pub copied_next_key : (copied : List (Vec ℕ)) (k e : Vec ℕ) (rest all : List (Vec ℕ))

@@ -6,4 +6,5 @@ pub mod Resolving
 pub mod Readers
 pub mod Changes
 pub mod Growth
+pub mod Undo
 pub mod Shown

@@ -1,13 +1,18 @@
 -- What contracts see of the structs.
-use Rattle.std.specs.Prelude.{◌≡◌, ℕ, List, [], map}
+use Rattle.std.specs.Prelude.{◌≡◌, ◌<◌, ℕ, List, [], ◌∷◌, map, option_map, All}
 use Rattle.std.specs.Global.{Vec}
+use Rattle.std.specs.Vec.{vec_len, vec_capacity}
 use Rattle.std.specs.BTreeMap.{BTreeMap}
 use Rattle.std.specs.FinMap as finite
 use Rattle.std.specs.FinSet as set
 use Rattle.package_table.specs.declared.entry.Symbol.{Symbol}
 use Rattle.package_table.specs.declared.entry.Contents.{Contents}
+use Rattle.package_table.specs.declared.journal.Note.{Note}
+use Rattle.package_table.specs.declared.journal.Note.TheVariants.{Made, Put, Used}
+use Rattle.package_table.specs.declared.journal.Mark.{Mark}
 use Rattle.package_table.specs.declared.packages.Packages.TheInside.{Inside}
 use Rattle.package_table.specs.Table.{name_cmp, Entry, Package, Table, Tables, IsSound, symbol_count}
+use Rattle.package_table.specs.Undo.{Change, made, put, used, Marked, tables_at}
 
 abbrev pub as_map : {X V : Type 0} → (X → V) → List (Vec ℕ × X) → finite.FinMap name_cmp V
 as_map g es = finite.from_entries (map (λ e. (e.0.items, g e.1)) es)
@@ -24,11 +29,37 @@ package_of c = record { symbols = as_map entry_of c.symbols.entries; uses = as_s
 abbrev pub table_of : BTreeMap (Vec ℕ) Contents → Table
 table_of table = as_map package_of table.entries
 
--- no table is marked
-abbrev pub tables_of : Inside → Tables
-tables_of a = (table_of a.table, [])
+-- what a note says
+abbrev pub change_of : Note → Change
+change_of (Made name) = made name.items
+change_of (Put owner name before) = put owner.items name.items (option_map entry_of before)
+change_of (Used owner other) = used owner.items other.items
 
--- the packages are sound, and their symbols are counted
+abbrev pub marked_of : Mark → Marked
+marked_of m = (map change_of m.notes.items, m.count)
+
+abbrev pub marks_of : List Mark → List Marked
+marks_of ms = map marked_of ms
+
+-- the tables at these marks, to which the table t goes back, each with the number of its symbols
+abbrev pub marked_tables : List Mark → Table → List (Table × ℕ)
+marked_tables ms t = tables_at (marks_of ms) t
+
+-- the newest mark, if there is one, has room for a note more
+abbrev pub has_room : List Mark → Type 0
+has_room [] = Unit {0}
+has_room (m ∷ []) = vec_len m.notes < vec_capacity m.notes
+has_room (m ∷ n ∷ ms) = has_room (n ∷ ms)
+
+abbrev pub tables_of : Inside → Tables
+tables_of a = (table_of a.table, map (λ m. m.0) (marked_tables a.marks.items (table_of a.table)))
+
+-- sound packages, and the number of their symbols
+abbrev pub IsCounted : Table × ℕ → Type 0
+IsCounted m = IsSound m.0 × (m.1 ≡ symbol_count m.0)
+
+-- the packages are sound, now and at each mark, and their symbols are counted
 pub record IsKept (a : Inside) : Type 0 where
   pub sound : IsSound (table_of a.table)
   pub counted : a.count ≡ symbol_count (table_of a.table)
+  pub marked : All IsCounted (marked_tables a.marks.items (table_of a.table))

@@ -1,11 +1,12 @@
 //! `export`: a symbol becomes external.
 ghost use Rattle.std.specs.Prelude.{◌≡◌, IfErr, IfOk};
-ghost use Rattle.package_table.specs.Changes.{after_export, export_changes, with_external, Gives};
+ghost use Rattle.package_table.specs.Changes.{after_export, export_changes, with_external, Gives, RunsOutOnlyIf};
 ghost use Rattle.package_table.specs.Growth.{Grows, Tells};
-ghost use Rattle.package_table.specs.Shown.{table_of};
+ghost use Rattle.package_table.specs.Shown.{marked_tables, table_of};
 
 use crate::entry::{Contents, Symbol};
 use crate::find::external_home;
+use crate::journal::Mark;
 use crate::put::put_entry;
 use crate::users::{finds_this, has_package, is_locked, user_finds_other};
 use crate::{PackageError, Packages};
@@ -19,9 +20,10 @@ fn export_refusal(
     home: &[u8],
     name: &[u8],
 ) -> Result<(), PackageError>
-    ensures { let t = table_of table.now in
+    ensures gives { let t = table_of table.now in
         Gives (λ _. with_external t owner.now home.now name.now) result
         (after_export t owner.now home.now name.now) }
+    ensures memory { IfErr result (RunsOutOnlyIf (export_changes (table_of table.now) owner.now name.now)) }
 {
     if !has_package(table, owner) {
         return Err(PackageError::NoSuchPackage);
@@ -41,6 +43,7 @@ fn export_refusal(
 fn export_symbol(
     alloc: Global,
     table: &mut BTreeMap<Vec<u8>, Contents>,
+    marks: &mut Vec<Mark>,
     owner: &[u8],
     home: &[u8],
     name: &[u8],
@@ -48,7 +51,9 @@ fn export_symbol(
     ensures gives { Gives (λ _. table_of table.new) result
         (after_export (table_of table.old) owner.now home.now name.now) }
     ensures changed { IfOk result (λ changed. changed ≡ export_changes (table_of table.old) owner.now name.now) }
+    ensures memory { IfErr result (RunsOutOnlyIf (export_changes (table_of table.old) owner.now name.now)) }
     ensures unchanged { IfErr result (λ _. table_of table.new ≡ table_of table.old) }
+    ensures marked { marked_tables marks.new.items (table_of table.new) ≡ marked_tables marks.old.items (table_of table.old) }
 {
     export_refusal(table, owner, home, name)?;
     if external_home(table, owner, name).is_some() {
@@ -58,7 +63,14 @@ fn export_symbol(
         home: Vec::from_slice(alloc, home)?,
         external: true,
     };
-    put_entry(table, owner, Vec::from_slice(alloc, name)?, symbol)?;
+    put_entry(
+        alloc,
+        table,
+        marks,
+        owner,
+        Vec::from_slice(alloc, name)?,
+        symbol,
+    )?;
     Ok(true)
 }
 
@@ -76,9 +88,17 @@ impl Packages {
         ensures changed { IfOk result (λ changed. changed ≡ export_changes self.old.0 owner.now name.now) }
         ensures exactly { IfOk result (λ changed. Tells changed self.old.0 self.new.0) }
         ensures grows { Grows self.old.0 self.new.0 }
+        ensures memory { IfErr result (RunsOutOnlyIf (export_changes self.old.0 owner.now name.now)) }
         ensures unchanged { IfErr result (λ _. self.new ≡ self.old) }
         ensures marked { self.new.1 ≡ self.old.1 }
     {
-        export_symbol(self.alloc, &mut self.table, owner, home, name)
+        export_symbol(
+            self.alloc,
+            &mut self.table,
+            &mut self.marks,
+            owner,
+            home,
+            name,
+        )
     }
 }

@@ -1,11 +1,12 @@
 //! `import`: a symbol becomes present.
 ghost use Rattle.std.specs.Prelude.{◌≡◌, IfErr, IfOk};
 ghost use Rattle.package_table.specs.Table.{IsPresent};
-ghost use Rattle.package_table.specs.Changes.{after_import, import_changes, with_present, Gives};
+ghost use Rattle.package_table.specs.Changes.{after_import, import_changes, with_present, Gives, RunsOutOnlyIf};
 ghost use Rattle.package_table.specs.Growth.{Grows, Tells};
-ghost use Rattle.package_table.specs.Shown.{table_of};
+ghost use Rattle.package_table.specs.Shown.{marked_tables, table_of};
 
 use crate::entry::{Contents, Symbol};
+use crate::journal::Mark;
 use crate::put::put_entry;
 use crate::users::{finds_other, has_package, is_locked, is_present};
 use crate::{PackageError, Packages};
@@ -19,9 +20,10 @@ fn import_refusal(
     home: &[u8],
     name: &[u8],
 ) -> Result<(), PackageError>
-    ensures { let t = table_of table.now in
+    ensures gives { let t = table_of table.now in
         Gives (λ _. with_present t owner.now home.now name.now) result
         (after_import t owner.now home.now name.now) }
+    ensures memory { IfErr result (RunsOutOnlyIf (import_changes (table_of table.now) owner.now name.now)) }
 {
     if !has_package(table, owner) {
         return Err(PackageError::NoSuchPackage);
@@ -38,6 +40,7 @@ fn import_refusal(
 fn import_symbol(
     alloc: Global,
     table: &mut BTreeMap<Vec<u8>, Contents>,
+    marks: &mut Vec<Mark>,
     owner: &[u8],
     home: &[u8],
     name: &[u8],
@@ -45,7 +48,9 @@ fn import_symbol(
     ensures gives { Gives (λ _. table_of table.new) result
         (after_import (table_of table.old) owner.now home.now name.now) }
     ensures changed { IfOk result (λ changed. changed ≡ import_changes (table_of table.old) owner.now name.now) }
+    ensures memory { IfErr result (RunsOutOnlyIf (import_changes (table_of table.old) owner.now name.now)) }
     ensures unchanged { IfErr result (λ _. table_of table.new ≡ table_of table.old) }
+    ensures marked { marked_tables marks.new.items (table_of table.new) ≡ marked_tables marks.old.items (table_of table.old) }
 {
     import_refusal(table, owner, home, name)?;
     if is_present(table, owner, name) {
@@ -55,7 +60,14 @@ fn import_symbol(
         home: Vec::from_slice(alloc, home)?,
         external: false,
     };
-    put_entry(table, owner, Vec::from_slice(alloc, name)?, symbol)?;
+    put_entry(
+        alloc,
+        table,
+        marks,
+        owner,
+        Vec::from_slice(alloc, name)?,
+        symbol,
+    )?;
     Ok(true)
 }
 
@@ -75,9 +87,17 @@ impl Packages {
         ensures changed { IfOk result (λ changed. changed ≡ import_changes self.old.0 owner.now name.now) }
         ensures exactly { IfOk result (λ changed. Tells changed self.old.0 self.new.0) }
         ensures grows { Grows self.old.0 self.new.0 }
+        ensures memory { IfErr result (RunsOutOnlyIf (import_changes self.old.0 owner.now name.now)) }
         ensures unchanged { IfErr result (λ _. self.new ≡ self.old) }
         ensures marked { self.new.1 ≡ self.old.1 }
     {
-        import_symbol(self.alloc, &mut self.table, owner, home, name)
+        import_symbol(
+            self.alloc,
+            &mut self.table,
+            &mut self.marks,
+            owner,
+            home,
+            name,
+        )
     }
 }

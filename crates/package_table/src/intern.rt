@@ -4,10 +4,11 @@ ghost use Rattle.package_table.specs.Table.{IsPackage, symbol_count};
 ghost use Rattle.package_table.specs.Lookup.{found};
 ghost use Rattle.package_table.specs.Changes.{after_intern, intern_changes, with_new_symbol, Gives};
 ghost use Rattle.package_table.specs.Growth.{Grows, IsSameBut, Tells};
-ghost use Rattle.package_table.specs.Shown.{table_of};
+ghost use Rattle.package_table.specs.Shown.{marked_tables, table_of};
 
 use crate::entry::{Contents, Symbol};
 use crate::find::home_of;
+use crate::journal::Mark;
 use crate::limits::{MAX_SYMBOL_NAME, MAX_SYMBOLS};
 use crate::put::put_entry;
 use crate::standardized::{COMMON_LISP, KEYWORD};
@@ -28,6 +29,7 @@ pub struct Interned {
 fn put_new(
     alloc: Global,
     table: &mut BTreeMap<Vec<u8>, Contents>,
+    marks: &mut Vec<Mark>,
     owner: &[u8],
     name: &[u8],
 ) -> Result<(), AllocError>
@@ -35,18 +37,27 @@ fn put_new(
     ensures ok { OnOk result
         (table_of table.new ≡ with_new_symbol (table_of table.old) owner.now name.now) }
     ensures err { IfErr result (λ _. table_of table.new ≡ table_of table.old) }
+    ensures marked { marked_tables marks.new.items (table_of table.new) ≡ marked_tables marks.old.items (table_of table.old) }
 {
     let symbol = Symbol {
         home: Vec::from_slice(alloc, owner)?,
         external: owner == KEYWORD,
     };
-    put_entry(table, owner, Vec::from_slice(alloc, name)?, symbol)?;
+    put_entry(
+        alloc,
+        table,
+        marks,
+        owner,
+        Vec::from_slice(alloc, name)?,
+        symbol,
+    )?;
     Ok(())
 }
 
 fn intern_symbol(
     alloc: Global,
     table: &mut BTreeMap<Vec<u8>, Contents>,
+    marks: &mut Vec<Mark>,
     count: &mut u64,
     owner: &[u8],
     name: &[u8],
@@ -57,6 +68,7 @@ fn intern_symbol(
     ensures is_new { IfOk result (λ interned. interned.is_new ≡ intern_changes (table_of table.old) owner.now name.now) }
     ensures unchanged { IfErr result (λ _. table_of table.new ≡ table_of table.old) }
     ensures counted { count.new ≡ symbol_count (table_of table.new) }
+    ensures marked { marked_tables marks.new.items (table_of table.new) ≡ marked_tables marks.old.items (table_of table.old) }
 {
     if !has_package(table, owner) {
         return Err(PackageError::NoSuchPackage);
@@ -75,7 +87,7 @@ fn intern_symbol(
         return Err(PackageError::Limit);
     }
     let home = Bytes::from_slice(alloc, owner)?;
-    put_new(alloc, table, owner, name)?;
+    put_new(alloc, table, marks, owner, name)?;
     *count += 1;
     Ok(Interned { home, is_new: true })
 }
@@ -100,6 +112,13 @@ impl Packages {
         ensures unchanged { IfErr result (λ _. self.new ≡ self.old) }
         ensures marked { self.new.1 ≡ self.old.1 }
     {
-        intern_symbol(self.alloc, &mut self.table, &mut self.count, owner, name)
+        intern_symbol(
+            self.alloc,
+            &mut self.table,
+            &mut self.marks,
+            &mut self.count,
+            owner,
+            name,
+        )
     }
 }

@@ -16,12 +16,15 @@
 //! - `make`, `intern`, `export`, `import`, `use_package`: the calls that write, over `users` (what is asked before a change) and
 //!   `put` (single changes). `specs/Changes.antt` says what each makes of a table, or why it refuses, and whether it
 //!   changes it.
+//! - `marks`: `mark`, `back_to` and `settle`, over `journal` (what was changed since each mark) and `undo` (single changes
+//!   undone). The value of `Packages` has the marked tables after the table of now: calls that write leave them alone.
 //! - `laws`: `look_up_laws`
 //! - `error`: `PackageError`
 //!
 //! Proofs of crates above may cite these lemmas; they keep their names. On look-ups (proofs/Found.antt): `found_is`,
 //! `found_finds`, `found_none`, `finds_none`, `present_found`, `external_shows`, `shows_external`, `used_shows`. On symbols at
-//! home (proofs/Keeping.antt): `present_at_home`, `present_once`. On growth (proofs/Growing.antt): `grows_same`,
+//! home (proofs/Keeping.antt): `present_at_home`, `present_once`. On conflicts (proofs/Asked.antt): `users_other`,
+//! `shown_other`. On growth (proofs/Growing.antt): `grows_same`,
 //! `grows_both`, `finds_grown`. On names and on one change of a table (proofs/Frames.antt): `equal_names`, `unequal_names`,
 //! `equal_itself`, `entry_new`, `entry_other`, `package_with_entry`, `uses_with_entry`, `entry_with_used`, `uses_still`,
 //! `entry_with_new`. On the first packages (proofs/First.antt): `sound`, `first_count`, `lisp_is_package`,
@@ -36,15 +39,18 @@ mod find;
 mod import;
 mod initial;
 mod intern;
+mod journal;
 mod laws;
 pub mod limits;
 mod make;
+mod marks;
 mod packages;
 mod put;
 mod queries;
 mod readers;
 mod resolve;
 pub mod standardized;
+mod undo;
 mod use_package;
 mod users;
 

@@ -1,13 +1,14 @@
 //! `make`: a new package.
 ghost use Rattle.std.specs.Prelude.{◌≡◌, ◌<◌, All, IfErr};
 ghost use Rattle.std.specs.FinMap as finite;
-ghost use Rattle.package_table.specs.Table.{with_new_package};
+ghost use Rattle.package_table.specs.Table.{IsSound, with_new_package};
 ghost use Rattle.package_table.specs.Changes.{after_make, Gives};
 ghost use Rattle.package_table.specs.Growth.{Grows};
-ghost use Rattle.package_table.specs.Shown.{table_of};
+ghost use Rattle.package_table.specs.Shown.{marked_tables, table_of};
 
 use crate::entry::Contents;
 use crate::find::package_name;
+use crate::journal::Mark;
 use crate::limits::{MAX_PACKAGE_NAME, MAX_PACKAGES};
 use crate::put::put_package;
 use crate::{PackageError, Packages};
@@ -41,15 +42,18 @@ fn make_refusal(table: &BTreeMap<Vec<u8>, Contents>, name: &[u8]) -> Result<(), 
 fn make_package(
     alloc: Global,
     table: &mut BTreeMap<Vec<u8>, Contents>,
+    marks: &mut Vec<Mark>,
     name: &[u8],
 ) -> Result<(), PackageError>
+    requires { IsSound (table_of table.old) }
     ensures gives { Gives (λ _. table_of table.new) result
         (after_make (table_of table.old) name.now) }
     ensures unchanged { IfErr result (λ _. table_of table.new ≡ table_of table.old) }
+    ensures marked { marked_tables marks.new.items (table_of table.new) ≡ marked_tables marks.old.items (table_of table.old) }
 {
     make_refusal(table, name)?;
     let name = Vec::from_slice(alloc, name)?;
-    put_package(alloc, table, name)?;
+    put_package(alloc, table, marks, name)?;
     Ok(())
 }
 
@@ -67,6 +71,6 @@ impl Packages {
         ensures unchanged { IfErr result (λ _. self.new ≡ self.old) }
         ensures marked { self.new.1 ≡ self.old.1 }
     {
-        make_package(self.alloc, &mut self.table, name)
+        make_package(self.alloc, &mut self.table, &mut self.marks, name)
     }
 }

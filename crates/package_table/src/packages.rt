@@ -1,5 +1,5 @@
 //! The packages, and the calls on them.
-ghost use Rattle.std.specs.Prelude.{◌≡◌, [], Ok, Err, IfOk, IfErr, IfSome, MatchResult, option_map};
+ghost use Rattle.std.specs.Prelude.{◌≡◌, [], Ok, Err, IfOk, IfErr, IfSome, All, MatchResult, option_map};
 ghost use Rattle.package_table.specs.Table.{initial, is_locked, package_named, IsPackage, IsSound};
 ghost use Rattle.package_table.specs.Resolving.{resolution, external_resolution, internal_resolution, resolution_of};
 ghost use Rattle.package_table.specs.Readers.{package_names, used_names, own_names, external_names, imports, ListRefused};
@@ -7,6 +7,7 @@ ghost use Rattle.package_table.specs.Readers.{package_names, used_names, own_nam
 use crate::entry::Contents;
 use crate::find::package_name;
 use crate::initial::initial_table;
+use crate::journal::Mark;
 use crate::resolve::{resolve_external, resolve_in, resolve_internal};
 use crate::users::is_locked;
 use crate::{PackageError, Resolved, copy, readers};
@@ -22,6 +23,7 @@ pub struct Packages {
     pub(crate) table: BTreeMap<Vec<u8>, Contents>,
     // The number of symbols, each counted in its home.
     pub(crate) count: u64,
+    pub(crate) marks: Vec<Mark>,
 }
 
 impl Model for Packages {
@@ -47,6 +49,7 @@ impl Packages {
             alloc,
             table: initial_table(alloc)?,
             count: 53,
+            marks: Vec::new(alloc),
         })
     }
 
@@ -58,12 +61,15 @@ impl Packages {
             alloc,
             table: copy::copy_table(alloc, &self.table)?,
             count: self.count,
+            marks: Vec::new(alloc),
         })
     }
 
-    /// What holds of all packages: no package finds two symbols by one name, and so on. For proofs: it does nothing.
+    /// What holds of all packages, now and at each mark: no package finds two symbols by one name, and so on. For proofs: it
+    /// does nothing.
     pub fn soundness(&self)
-        ensures { IsSound self.now.0 }
+        ensures now { IsSound self.now.0 }
+        ensures marked { All IsSound self.now.1 }
     {
         let _ = &self.table;
     }

@@ -1,11 +1,12 @@
 //! `use_package`: a package uses another.
 ghost use Rattle.std.specs.Prelude.{◌≡◌, if◌then◌else◌, IfErr, IfOk};
 ghost use Rattle.package_table.specs.Table.{with_used};
-ghost use Rattle.package_table.specs.Changes.{after_use, use_changes, Gives};
+ghost use Rattle.package_table.specs.Changes.{after_use, use_changes, Gives, RunsOutOnlyIf};
 ghost use Rattle.package_table.specs.Growth.{Grows, Tells};
-ghost use Rattle.package_table.specs.Shown.{table_of};
+ghost use Rattle.package_table.specs.Shown.{marked_tables, table_of};
 
 use crate::entry::Contents;
+use crate::journal::Mark;
 use crate::put::put_use;
 use crate::standardized::KEYWORD;
 use crate::users::{finds_other_than_shown, has_package, is_locked, is_used};
@@ -23,6 +24,7 @@ fn use_refusal(
         Gives (λ changes. if changes then with_used t owner.now used.now else t) result
         (after_use t owner.now used.now) }
     ensures changes { IfOk result (λ changes. changes ≡ use_changes (table_of table.now) owner.now used.now) }
+    ensures memory { IfErr result (RunsOutOnlyIf (use_changes (table_of table.now) owner.now used.now)) }
 {
     if !has_package(table, owner) || !has_package(table, used) {
         return Err(PackageError::NoSuchPackage);
@@ -42,18 +44,21 @@ fn use_refusal(
 fn use_other(
     alloc: Global,
     table: &mut BTreeMap<Vec<u8>, Contents>,
+    marks: &mut Vec<Mark>,
     owner: &[u8],
     used: &[u8],
 ) -> Result<bool, PackageError>
     ensures gives { Gives (λ _. table_of table.new) result
         (after_use (table_of table.old) owner.now used.now) }
     ensures changed { IfOk result (λ changed. changed ≡ use_changes (table_of table.old) owner.now used.now) }
+    ensures memory { IfErr result (RunsOutOnlyIf (use_changes (table_of table.old) owner.now used.now)) }
     ensures unchanged { IfErr result (λ _. table_of table.new ≡ table_of table.old) }
+    ensures marked { marked_tables marks.new.items (table_of table.new) ≡ marked_tables marks.old.items (table_of table.old) }
 {
     if !use_refusal(table, owner, used)? {
         return Ok(false);
     }
-    put_use(table, owner, Vec::from_slice(alloc, used)?)?;
+    put_use(alloc, table, marks, owner, Vec::from_slice(alloc, used)?)?;
     Ok(true)
 }
 
@@ -70,9 +75,10 @@ impl Packages {
         ensures changed { IfOk result (λ changed. changed ≡ use_changes self.old.0 owner.now used.now) }
         ensures exactly { IfOk result (λ changed. Tells changed self.old.0 self.new.0) }
         ensures grows { Grows self.old.0 self.new.0 }
+        ensures memory { IfErr result (RunsOutOnlyIf (use_changes self.old.0 owner.now used.now)) }
         ensures unchanged { IfErr result (λ _. self.new ≡ self.old) }
         ensures marked { self.new.1 ≡ self.old.1 }
     {
-        use_other(self.alloc, &mut self.table, owner, used)
+        use_other(self.alloc, &mut self.table, &mut self.marks, owner, used)
     }
 }

@@ -3,7 +3,7 @@ ghost use Rattle.std.specs.Prelude.{◌<◌, All, IsTrue};
 
 use crate::limits::{MAX_PACKAGE_NAME, MAX_PACKAGES, MAX_SYMBOL_NAME, MAX_SYMBOLS};
 use crate::standardized::{CL, CL_USER, COMMON_LISP, COMMON_LISP_USER, KEYWORD};
-use crate::{PackageError, Packages};
+use crate::{PackageError, Packages, Resolved};
 use std::alloc::{AllocError, Global};
 use std::test::Fail;
 
@@ -14,6 +14,9 @@ enum Call<'a> {
     Export(&'a [u8], &'a [u8], &'a [u8]),
     Import(&'a [u8], &'a [u8], &'a [u8]),
     Use(&'a [u8], &'a [u8]),
+    Mark,
+    BackTo(usize),
+    Settle,
 }
 
 fn is_ascii(name: &[u8]) -> bool
@@ -75,6 +78,48 @@ const WRITES: [(Call<'static>, Result<bool, u16>); 47] = [
     (Call::Import(b"R", b"P", b"Y"), Ok(true)),
 ];
 
+// Marks that nest over each call that writes: back over one of them, over three, and forward again.
+const MARKS: [(Call<'static>, Result<bool, u16>); 38] = [
+    (Call::BackTo(0), Err(0)),
+    (Call::Mark, Ok(true)),
+    (Call::Intern(COMMON_LISP_USER, b"X"), Ok(true)),
+    (Call::BackTo(0), Ok(true)),
+    (Call::BackTo(0), Err(0)),
+    (Call::Intern(COMMON_LISP_USER, b"X"), Ok(true)),
+    (Call::Make(b"Q"), Ok(true)),
+    (Call::Intern(b"Q", b"A"), Ok(true)),
+    (Call::Mark, Ok(true)),
+    (Call::Export(b"Q", b"Q", b"A"), Ok(true)),
+    (Call::Make(b"P"), Ok(true)),
+    (Call::Mark, Ok(true)),
+    (Call::Use(b"P", b"Q"), Ok(true)),
+    (Call::Use(b"P", KEYWORD), Err(36)),
+    (Call::Mark, Ok(true)),
+    (Call::Import(b"P", COMMON_LISP_USER, b"X"), Ok(true)),
+    (Call::Export(b"P", b"Q", b"A"), Ok(true)),
+    (Call::Export(b"P", b"Q", b"A"), Ok(false)),
+    (Call::BackTo(2), Ok(true)),
+    (Call::Import(b"P", COMMON_LISP_USER, b"X"), Ok(true)),
+    (Call::Export(b"P", b"Q", b"A"), Ok(true)),
+    (Call::Mark, Ok(true)),
+    (Call::Intern(b"P", b"B"), Ok(true)),
+    (Call::BackTo(1), Ok(true)),
+    (Call::Use(b"P", b"Q"), Ok(true)),
+    (Call::Mark, Ok(true)),
+    (Call::Import(b"P", COMMON_LISP_USER, b"X"), Ok(true)),
+    (Call::BackTo(0), Ok(true)),
+    (Call::Use(b"P", b"Q"), Err(34)),
+    (Call::Export(b"Q", b"Q", b"A"), Ok(true)),
+    (Call::Make(b"P"), Ok(true)),
+    (Call::Mark, Ok(true)),
+    (Call::Use(b"P", b"Q"), Ok(true)),
+    (Call::Settle, Ok(true)),
+    (Call::BackTo(0), Err(0)),
+    (Call::Use(b"P", b"Q"), Ok(false)),
+    (Call::Mark, Ok(true)),
+    (Call::BackTo(0), Ok(true)),
+];
+
 // Whether the packages changed, or the number of the refusal; 0 for a call that may not be made.
 fn answer(packages: &mut Packages, call: Call<'_>) -> Result<bool, u16> {
     let answer = match call {
@@ -87,6 +132,15 @@ fn answer(packages: &mut Packages, call: Call<'_>) -> Result<bool, u16> {
             packages.import(owner, home, name)
         }
         Call::Use(owner, used) => packages.use_package(owner, used),
+        Call::Mark => packages.mark().map(|_| true).map_err(PackageError::from),
+        Call::BackTo(mark) if mark < packages.mark_count() => {
+            packages.back_to(mark);
+            Ok(true)
+        }
+        Call::Settle => {
+            packages.settle();
+            Ok(true)
+        }
         _ => return Err(0),
     };
     answer.map_err(PackageError::number)
@@ -180,6 +234,23 @@ const AT_LIMITS: [(Call<'static>, Result<bool, u16>); 11] = [
     (Call::Import(b"AAAAP", COMMON_LISP_USER, b"PAPAP"), Ok(true)),
 ];
 
+// Whether all packages and symbols can be made, and the symbols again after going back.
+fn keeps_limits(packages: &mut Packages) -> bool {
+    let last = b"PAPAP";
+    makes_packages(packages)
+        && answer(packages, Call::Mark) == Ok(true)
+        && makes_symbols(packages)
+        && answer(packages, Call::BackTo(0)) == Ok(true)
+        && packages.resolve_internal(COMMON_LISP_USER, last) == Ok(Resolved::New(COMMON_LISP_USER))
+        && makes_symbols(packages)
+        && answers(packages, &AT_LIMITS)
+}
+
+fn marks_nest(alloc: Global) -> Result<bool, AllocError> {
+    let mut packages = Packages::new(alloc)?;
+    Ok(answers(&mut packages, &MARKS))
+}
+
 #[test]
 fn writes(rt: HostRuntime) -> Result<(), Fail> {
     let alloc = rt.alloc();
@@ -188,8 +259,8 @@ fn writes(rt: HostRuntime) -> Result<(), Fail> {
     assert_eq!(rt; packages.resolve_external(KEYWORD, b"K"), Ok(KEYWORD));
     assert!(rt; is_r_at_last(alloc, &packages) && imports_of_r(alloc, &packages));
     assert!(rt; keeps_lengths(alloc, &mut packages)?);
+    assert!(rt; marks_nest(alloc)?);
     let mut packages = Packages::new(alloc)?;
-    assert!(rt; makes_packages(&mut packages) && makes_symbols(&mut packages));
-    assert!(rt; answers(&mut packages, &AT_LIMITS));
+    assert!(rt; keeps_limits(&mut packages));
     Ok(())
 }

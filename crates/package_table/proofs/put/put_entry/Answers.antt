@@ -1,26 +1,14 @@
 use Rattle.std.proofs.Common.{ap, ◌∙◌}
-use Rattle.package_table.specs.declared.entry.Contents.{Contents}
-use Rattle.package_table.specs.Shown.{as_set, as_map, entry_of}
-use Rattle.package_table.proofs.Seen.{as_map-insert}
-use Rattle.package_table.proofs.Places.{changed_table, same_table, no_package}
+use Rattle.package_table.specs.Table.{Table}
+use Rattle.package_table.specs.Undo.{put, tables_at, undone}
+use Rattle.package_table.specs.Shown.{entry_of, table_of}
+use Rattle.package_table.proofs.Undone.{undone_put}
 use Rattle.package_table.proofs.put.put_entry.Goals as goal
 
-pub unreachable-requires : goal.unreachable-requires
-unreachable-requires c = no_package c.args.table.now.entries c.args.owner.now c.in_default.ensures.value c.requires
-
-pub returns-in-Err-clause-err : goal.returns-in-Err-clause-err
-returns-in-Err-clause-err c =
-    let k : Contents = c.in-Some.contents.now in
-    let w : Contents = record { symbols = c.insert.new.self; uses = k.uses } in
-    same_table c.args.table.now.entries (c.get_mut.follows.lender w).entries c.args.owner.now k w c.in-Some.ensures.value (c.get_mut.follows.holds w).0
-    (λ i. record { symbols = as_map entry_of (c.in-Err.ensures.err i); uses = as_set k.uses.keys })
-
-pub returns-clause-ok : goal.returns-clause-ok
-returns-clause-ok c =
-    let k : Contents = c.in-Some.contents.now in
-    let w : Contents = record { symbols = c.insert.new.self; uses = k.uses } in
-    changed_table c.args.table.now.entries (c.get_mut.follows.lender w).entries c.args.owner.now k w c.in-Some.ensures.value (c.get_mut.follows.holds w).0 _
-    (λ i. record {
-      symbols = (ap (as_map entry_of) c.in_default-insert.ensures.entries ∙ as_map-insert entry_of c.args.name c.args.symbol k.symbols.entries) i;
-      uses = as_set k.uses.keys;
-    })
+pub returns-clause-marked : goal.returns-clause-marked
+returns-clause-marked c =
+    let t : Table = table_of c.args.table.now in
+    c.push_note.ensures (table_of c.insert_entry-2.new.table) t
+    ((λ i. undone (put (c.in_ok-noted_owner.ensures.items i) ((c.in_ok-noted_name.ensures.items ∙ c.as_slice.ensures.value) i) (c.in_ok-before.ensures.before i)) (c.in_ok-before.ensures.ok i))
+    ∙ undone_put t c.args.owner.now c.args.name.items (entry_of c.args.symbol) c.requires)
+    ∙ ap (λ ms. tables_at ms t) c.in_ok-reserve_note.ensures.same

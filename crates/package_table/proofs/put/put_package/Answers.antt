@@ -1,12 +1,13 @@
 use Rattle.std.proofs.Common.{ap, ◌∙◌}
-use Rattle.std.specs.FinMap as finite
-use Rattle.package_table.specs.declared.entry.Contents.{Contents}
-use Rattle.package_table.specs.Shown.{as_set, as_map, entry_of, package_of, table_of}
-use Rattle.package_table.proofs.Seen.{as_map-insert}
+use Rattle.package_table.specs.Table.{Table}
+use Rattle.package_table.specs.Undo.{made, tables_at, undone}
+use Rattle.package_table.specs.Shown.{table_of}
+use Rattle.package_table.proofs.Undone.{undone_made}
 use Rattle.package_table.proofs.put.put_package.Goals as goal
 
-pub returns-clause-ok : goal.returns-clause-ok
-returns-clause-ok c =
-    let w : Contents = record { symbols = c.new.result; uses = c.new-2.result } in
-    ap (as_map package_of) c.in_default.ensures.entries ∙ as_map-insert package_of c.args.name w c.args.table.now.entries
-    ∙ (λ i. finite.insert (table_of c.args.table.now) c.args.name.items (record { symbols = as_map entry_of (c.new.ensures.empty i); uses = as_set (c.new-2.ensures.empty i) }))
+pub returns-clause-marked : goal.returns-clause-marked
+returns-clause-marked c =
+    let t : Table = table_of c.args.table.now in
+    c.push_note.ensures (table_of c.insert_package-2.new.table) t
+    ((λ i. undone (made ((c.in_ok-from_slice.ensures.items ∙ c.as_slice.ensures.value) i)) (c.in_ok-insert_package.ensures.ok i)) ∙ undone_made t c.args.name.items c.requires)
+    ∙ ap (λ ms. tables_at ms t) c.in_ok-reserve_note.ensures.same

@@ -1,26 +1,14 @@
 use Rattle.std.proofs.Common.{ap, ◌∙◌}
-use Rattle.package_table.specs.declared.entry.Contents.{Contents}
-use Rattle.package_table.specs.Shown.{as_set, as_map, entry_of}
-use Rattle.package_table.proofs.Seen.{as_set-insert}
-use Rattle.package_table.proofs.Places.{changed_table, same_table, no_package}
+use Rattle.package_table.specs.Table.{Table}
+use Rattle.package_table.specs.Undo.{used, tables_at, undone}
+use Rattle.package_table.specs.Shown.{table_of}
+use Rattle.package_table.proofs.Undone.{undone_used}
 use Rattle.package_table.proofs.put.put_use.Goals as goal
 
-pub unreachable-requires : goal.unreachable-requires
-unreachable-requires c = no_package c.args.table.now.entries c.args.owner.now c.in_default.ensures.value c.requires
-
-pub returns-in-Err-clause-err : goal.returns-in-Err-clause-err
-returns-in-Err-clause-err c =
-    let k : Contents = c.in-Some.contents.now in
-    let w : Contents = record { symbols = k.symbols; uses = c.insert.new.self } in
-    same_table c.args.table.now.entries (c.get_mut.follows.lender w).entries c.args.owner.now k w c.in-Some.ensures.value (c.get_mut.follows.holds w).0
-    (λ i. record { symbols = as_map entry_of k.symbols.entries; uses = as_set (c.in-Err.ensures.err i) })
-
-pub returns-clause-ok : goal.returns-clause-ok
-returns-clause-ok c =
-    let k : Contents = c.in-Some.contents.now in
-    let w : Contents = record { symbols = k.symbols; uses = c.insert.new.self } in
-    changed_table c.args.table.now.entries (c.get_mut.follows.lender w).entries c.args.owner.now k w c.in-Some.ensures.value (c.get_mut.follows.holds w).0 _
-    (λ i. record {
-      symbols = as_map entry_of k.symbols.entries;
-      uses = (ap as_set c.in_default-insert.ensures.keys ∙ as_set-insert c.args.used k.uses.keys) i;
-    })
+pub returns-clause-marked : goal.returns-clause-marked
+returns-clause-marked c =
+    let t : Table = table_of c.args.table.now in
+    c.push_note.ensures (table_of c.insert_use-2.new.table) t
+    ((λ i. undone (used (c.in_ok-from_slice.ensures.items i) ((c.in_ok-from_slice-2.ensures.items ∙ c.as_slice.ensures.value) i)) (c.in_ok-insert_use.ensures.ok i))
+    ∙ undone_used t c.args.owner.now c.args.used.items c.requires.package c.requires.unused)
+    ∙ ap (λ ms. tables_at ms t) c.in_ok-reserve_note.ensures.same

@@ -1,8 +1,8 @@
-use Rattle.std.proofs.Common.{sym, subst, ◌∙◌, IfOk}
+use Rattle.std.proofs.Common.{All, sym, subst, ◌∙◌, IfOk}
 use Rattle.package_table.specs.Table.{Table, Tables, IsPresent}
 use Rattle.package_table.specs.Changes.{after_import, import_changes}
 use Rattle.package_table.specs.Growth.{Grows, Tells}
-use Rattle.package_table.specs.Shown.{table_of}
+use Rattle.package_table.specs.Shown.{table_of, IsCounted}
 use Rattle.package_table.proofs.KeptChanges.{stays_after, told_after, kept_import}
 use Rattle.package_table.proofs.packages.Packages.import.Goals as goal
 
@@ -13,7 +13,7 @@ invariant_of-self c =
     let at_home : IsPresent t c.args.home.now c.args.name.now c.args.home.now =
     subst (λ (ts : Tables). IsPresent ts.0 c.args.home.now c.args.name.now c.args.home.now) (sym c.self.view_is) c.requires in
     let stays = stays_after t u (import_changes t c.args.owner.now c.args.name.now) c.import_symbol.result (after_import t c.args.owner.now c.args.home.now c.args.name.now) c.self.invariant.sound c.import_symbol.ensures.gives c.import_symbol.ensures.unchanged (kept_import t c.args.owner.now c.args.name.now c.self.invariant.sound c.args.home.now u at_home) in
-    record { sound = stays.sound; counted = c.self.invariant.counted ∙ sym stays.count }
+    record { sound = stays.sound; counted = c.self.invariant.counted ∙ sym stays.count; marked = subst (All IsCounted) (sym c.import_symbol.ensures.marked) c.self.invariant.marked }
 
 pub returns-clause-grows : goal.returns-clause-grows
 returns-clause-grows c =

@@ -1,9 +1,9 @@
-use Rattle.std.proofs.Common.{IfOk, subst}
+use Rattle.std.proofs.Common.{All, IfOk, sym, subst}
 use Rattle.package_table.specs.declared.intern.Interned.{Interned}
 use Rattle.package_table.specs.Table.{Table, Tables}
 use Rattle.package_table.specs.Changes.{after_intern, intern_changes}
 use Rattle.package_table.specs.Growth.{Grows, IsSameBut, Tells}
-use Rattle.package_table.specs.Shown.{table_of}
+use Rattle.package_table.specs.Shown.{table_of, IsCounted}
 use Rattle.package_table.proofs.KeptChanges.{kept_intern, stays_but, found_after, told_after}
 use Rattle.package_table.proofs.packages.Packages.intern.Goals as goal
 
@@ -14,6 +14,7 @@ invariant_of-self c =
     record {
       sound = (stays_but t u c.args.owner.now c.args.name.now (λ (x : Interned). x.home) c.intern_symbol.result c.self.invariant.sound c.requires c.intern_symbol.ensures.gives c.intern_symbol.ensures.unchanged).sound;
       counted = c.intern_symbol.ensures.counted;
+      marked = subst (All IsCounted) (sym c.intern_symbol.ensures.marked) c.self.invariant.marked;
     }
 
 pub returns-clause-grows : goal.returns-clause-grows
