@@ -1,0 +1,46 @@
+use Rattle.std.proofs.Common.{◌≡◌, ◌≤◌, [], ◌∷◌, length, refl, sym, ap, ◌∙◌, arith}
+use Rattle.std.specs.Prelude.{vec_capacity}
+use Rattle.plist_state.specs.Properties.{Plist, list_at, with_list}
+use Rattle.plist_state.specs.Shown.{symbol_of, plist_of, lists_of, lists_in, room_at}
+use Rattle.plist_state.specs.Undoing.{list_before}
+use Rattle.plist_state.proofs.Lists.{IsWritten, written, row_shown, none_shown, room_shown, no_room, with_list_same, some_in}
+use Rattle.plist_state.proofs.rows.take_back.Goals as goal
+
+pub revert-requires-clause-room : goal.revert-requires-clause-room
+revert-requires-clause-room c =
+    let rows = c.args.rows.now.entries in
+    let x = c.args.symbol.now in
+    let list : length (list_before c.args.change (list_at (lists_in rows) (symbol_of x))) ≡ length (list_before c.args.change (plist_of c.in-Some.row.now)) =
+    ap (λ ps. length (list_before c.args.change ps)) (row_shown rows x c.in-Some.row.now c.in-Some.ensures.value) in
+    let room : room_at rows (symbol_of x) ≡ vec_capacity c.in-Some.row.now = room_shown rows x c.in-Some.row.now c.in-Some.ensures.value in
+    let fits : length (list_before c.args.change (list_at (lists_in rows) (symbol_of x))) ≤ room_at rows (symbol_of x) = c.requires.room in
+    omega (arith, list, room, fits)
+
+pub returns-in-Some-clause-after : goal.returns-in-Some-clause-after
+returns-in-Some-clause-after c =
+    let rows = c.args.rows.now.entries in
+    let x = c.args.symbol.now in
+    let w : IsWritten rows (c.get_mut.follows.lender c.revert.new.row).entries (symbol_of x) (plist_of c.revert.new.row) =
+    written rows _ x c.in-Some.row.now c.revert.new.row c.in-Some.ensures.value (c.get_mut.follows.holds c.revert.new.row).0 c.revert.ensures.room c.revert.ensures.values in
+    w.lists
+    ∙ ap (with_list (lists_in rows) (symbol_of x)) (c.revert.ensures.after ∙ ap (list_before c.args.change) (sym (row_shown rows x c.in-Some.row.now c.in-Some.ensures.value)))
+
+pub returns-in-Some-clause-wider : goal.returns-in-Some-clause-wider
+returns-in-Some-clause-wider c =
+    let rows = c.args.rows.now.entries in
+    (written rows _ c.args.symbol.now c.in-Some.row.now c.revert.new.row c.in-Some.ensures.value (c.get_mut.follows.holds c.revert.new.row).0 c.revert.ensures.room c.revert.ensures.values).wider
+
+pub returns-in_default-clause-after : goal.returns-in_default-clause-after
+returns-in_default-clause-after c =
+    let rows = c.args.rows.now.entries in
+    let x = symbol_of c.args.symbol.now in
+    let none : list_at (lists_in rows) x ≡ [] = none_shown rows c.args.symbol.now c.in_default.ensures.value in
+    let room : room_at rows x ≡ 0 = no_room rows c.args.symbol.now c.in_default.ensures.value in
+    let fits : length (list_before c.args.change (list_at (lists_in rows) x)) ≤ room_at rows x = c.requires.room in
+    let empty : list_before c.args.change (list_at (lists_in rows) x) ≡ [] = no_items _ (omega (arith, room, fits)) in
+    ap lists_of c.get_mut.follows.holds-at-none
+    ∙ sym (with_list_same (lists_in rows) x _ (some_in rows) (empty ∙ sym none))
+  where
+    no_items : (ps : Plist) → length ps ≤ 0 → ps ≡ []
+    no_items [] h = refl
+    no_items (p ∷ ps) h = absurd (omega (arith, h))

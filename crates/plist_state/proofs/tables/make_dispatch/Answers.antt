@@ -1,0 +1,22 @@
+use Rattle.std.proofs.Common.{Ok, sym, ap}
+use Rattle.readtable_core.specs.Tables.{Table}
+use Rattle.readtable_core.specs.Changes.{with_entry, dispatching_entry}
+use Rattle.plist_state.specs.Shown.{readtables_of}
+use Rattle.plist_state.proofs.ByName.{written_there, changed_there, same_there, change_ok}
+use Rattle.plist_state.proofs.tables.make_dispatch.Goals as goal
+
+pub unreachable-requires : goal.unreachable-requires
+unreachable-requires c = written_there c.args.tables.now.entries c.args.name.now c.in_default.ensures.value c.in_ok-check_writable.ensures
+
+pub returns-in-Ok-clause-gives : goal.returns-in-Ok-clause-gives
+returns-in-Ok-clause-gives c =
+    changed_there c.args.tables.now.entries _ c.args.name.now c.in-Some.table.now c.make_dispatch.new.self (λ (t : Table). Ok (with_entry t c.args.c (dispatching_entry c.args.non_terminating)))
+    c.in-Some.ensures.value c.in_ok-check_writable.ensures (c.get_mut.follows.holds c.make_dispatch.new.self).0 (ap Ok (sym c.in-Ok.ensures))
+
+pub returns-in-Err-clause-unchanged : goal.returns-in-Err-clause-unchanged
+returns-in-Err-clause-unchanged c =
+    same_there c.args.tables.now.entries _ c.args.name.now c.in-Some.table.now c.make_dispatch.new.self c.in-Some.ensures.value (c.get_mut.follows.holds c.make_dispatch.new.self).0 c.in-Err.ensures
+
+pub returns-in-Err-clause-gives : goal.returns-in-Err-clause-gives
+returns-in-Err-clause-gives c =
+    change_ok (readtables_of c.args.tables.now) c.args.name.now (λ (t : Table). with_entry t c.args.c (dispatching_entry c.args.non_terminating)) c.in_ok-check_writable.ensures

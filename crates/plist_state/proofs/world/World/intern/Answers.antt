@@ -1,0 +1,13 @@
+use Rattle.plist_state.specs.State.{State, state_with}
+use Rattle.plist_state.specs.Shown.{rest_of}
+use Rattle.plist_state.proofs.Soundness.{sound_packages}
+use Rattle.plist_state.proofs.world.World.intern.Goals as goal
+
+pub invariant_of-self : goal.invariant_of-self
+invariant_of-self c =
+    let a = c.self.inside in
+    let s : State = state_with a.packages.0 (rest_of a.stored) in
+    record {
+      values = c.self.invariant.values;
+      sound = sound_packages s c.intern-result.new.self.0 c.self.invariant.sound c.soundness.ensures.now c.intern-result.ensures.grows;
+    }

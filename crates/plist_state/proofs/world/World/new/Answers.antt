@@ -1,0 +1,11 @@
+use Rattle.std.proofs.Common.{sym, subst}
+use Rattle.plist_state.specs.State.{state_with}
+use Rattle.plist_state.specs.Sound.{IsSound}
+use Rattle.plist_state.proofs.FirstWorld.{first_sound}
+use Rattle.plist_state.proofs.world.World.new.Goals as goal
+
+pub invariant_of-result : goal.invariant_of-result
+invariant_of-result c = record {
+  values = c.in_ok-first_stored.ensures.values;
+  sound = subst IsSound (λ i. state_with (sym c.in_ok-packages.ensures i).0 (sym c.in_ok-first_stored.ensures.first i)) first_sound;
+}

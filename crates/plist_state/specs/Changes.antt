@@ -1,0 +1,119 @@
+-- What the calls that write make of a state, or the first reason for which they refuse. The calls on packages are those of
+-- package_table.
+use Rattle.std.specs.Prelude.{◌≡◌, ℕ, Bool, not, ◌&&◌, nat_le, bytes_eq, if◌then◌else◌, Option, Result, Ok, Err, IsOk}
+use Rattle.std.specs.Option.{option_map_or}
+use Rattle.std.specs.FinMap as finite
+use Rattle.lisp_object.specs.Object.{Object}
+use Rattle.readtable_core.specs.declared.table.Case.{Case}
+use Rattle.readtable_core.specs.declared.refusal.DispatchRefusal.{DispatchRefusal}
+use Rattle.readtable_core.specs.declared.refusal.DispatchRefusal.TheVariants.{NotDispatching as NoDispatch, DigitSubcharacter as Digit}
+use Rattle.readtable_core.specs.Tables.{Table, entry_at}
+use Rattle.readtable_core.specs.Changes.{with_entry, macro_entry, dispatching_entry, with_function, dispatch_refusal}
+use Rattle.package_table.specs.declared.error.PackageError.{PackageError}
+use Rattle.package_table.specs.declared.error.PackageError.TheVariants.{NoSuchPackage}
+use Rattle.package_table.specs.Table as packages
+use Rattle.package_table.specs.Table.{Name}
+use Rattle.plist_state.specs.declared.error.ReadtableError.{ReadtableError}
+use Rattle.plist_state.specs.declared.error.ReadtableError.TheVariants.{NoReadtable, StandardReadtable, NotDispatching, DigitSubcharacter, Limit, OutOfMemory}
+use Rattle.plist_state.specs.Properties.{Symbol, Plist, value_at, with_value, without_value, list_at, with_list}
+use Rattle.plist_state.specs.State.{Readtables, State, standard_name}
+
+-- the property list of a symbol (standard 10.2, SYMBOL-PLIST)
+abbrev pub plist : State → Symbol → Plist
+plist s x = list_at s.properties x
+
+-- the value of a property (standard 10.2, GET)
+abbrev pub property : State → Symbol → Symbol → Option Object
+property s x i = value_at (plist s x) i
+
+-- with this value beside the indicator
+abbrev pub with_property : State → Symbol → Symbol → Object → State
+with_property s x i v = record s { properties = with_list s.properties x (with_value (plist s x) i v) }
+
+-- REMPROP (standard 10.2)
+abbrev pub without_property : State → Symbol → Symbol → State
+without_property s x i = record s { properties = with_list s.properties x (without_value (plist s x) i) }
+
+-- with other packages
+abbrev pub with_packages : State → packages.Table → State
+with_packages s t = record s { packages = t }
+
+-- IN-PACKAGE (standard 11.2)
+abbrev pub after_in_package : State → Name → Result State PackageError
+after_in_package s n = if finite.contains_key s.packages n then Ok (record s { current_package = n }) else Err NoSuchPackage
+
+-- the readtable of this name becomes current
+abbrev pub after_in_readtable : State → Name → Result State ReadtableError
+after_in_readtable s n = if finite.contains_key s.readtables n then Ok (record s { current_readtable = n }) else Err NoReadtable
+
+-- ---- readtables
+-- the readtable of this name where it may be written: the standard one never changes
+abbrev pub writable : Readtables → Name → Result Table ReadtableError
+writable m n = option_map_or (λ t. if bytes_eq n standard_name then Err StandardReadtable else Ok t) (finite.get m n) (Err NoReadtable)
+
+-- with what was made of the readtable of this name
+abbrev pub put_changed : Readtables → Name → Result Table ReadtableError → Result Readtables ReadtableError
+put_changed m n (Ok t) = Ok (finite.insert m n t)
+put_changed m n (Err e) = Err e
+
+-- with what a change of the readtable of this name gives
+abbrev pub with_changed : Readtables → Name → (Table → Result Table ReadtableError) → Result Table ReadtableError → Result Readtables ReadtableError
+with_changed m n change (Ok t) = put_changed m n (change t)
+with_changed m n change (Err e) = Err e
+
+abbrev pub changed : Readtables → Name → (Table → Result Table ReadtableError) → Result Readtables ReadtableError
+changed m n change = with_changed m n change (writable m n)
+
+-- the case (standard 23.2, READTABLE-CASE)
+abbrev pub with_case : Readtables → Name → Case → Result Readtables ReadtableError
+with_case m n letters = changed m n (λ t. Ok (record t { letters = letters }))
+
+-- SET-MACRO-CHARACTER (standard 23.2)
+abbrev pub with_macro : Readtables → Name → ℕ → Name → Bool → Result Readtables ReadtableError
+with_macro m n c f non_terminating = changed m n (λ t. Ok (with_entry t c (macro_entry f non_terminating)))
+
+-- MAKE-DISPATCH-MACRO-CHARACTER (standard 23.2)
+abbrev pub with_dispatching : Readtables → Name → ℕ → Bool → Result Readtables ReadtableError
+with_dispatching m n c non_terminating = changed m n (λ t. Ok (with_entry t c (dispatching_entry non_terminating)))
+
+-- the refusal of a readtable, as the world gives it
+abbrev pub refused_as : DispatchRefusal → ReadtableError
+refused_as NoDispatch = NotDispatching
+refused_as Digit = DigitSubcharacter
+
+-- a readtable with a function at a sub-character
+abbrev pub dispatched : Table → ℕ → ℕ → Name → Result Table ReadtableError
+dispatched t c sub f =
+    option_map_or (λ r. Err (refused_as r)) (dispatch_refusal t c sub) (Ok (with_entry t c (with_function (entry_at t c) sub f)))
+
+-- SET-DISPATCH-MACRO-CHARACTER (standard 23.2)
+abbrev pub with_dispatch : Readtables → Name → ℕ → ℕ → Name → Result Readtables ReadtableError
+with_dispatch m n c sub f = changed m n (λ t. dispatched t c sub f)
+
+-- SET-SYNTAX-FROM-CHAR (standard 23.2): the character c of the readtable n gets what d has in the readtable o. That both
+-- are there is looked at first.
+abbrev pub with_syntax : Readtables → Name → ℕ → Name → ℕ → Result Readtables ReadtableError
+with_syntax m n c o d =
+    option_map_or (λ z. changed m n (λ t. Ok (with_entry t c (entry_at z d)))) (finite.get m o) (Err NoReadtable)
+
+-- COPY-READTABLE (standard 23.2): the readtable n is made, or written over, as the readtable o is. There are at most 64.
+abbrev pub with_copy : Readtables → Name → Name → Result Readtables ReadtableError
+with_copy m o n =
+    option_map_or (λ t.
+    if bytes_eq n standard_name then Err StandardReadtable
+    else (if not (finite.contains_key m n) && nat_le 64 (finite.len m) then Err Limit
+    else Ok (finite.insert m n t))) (finite.get m o) (Err NoReadtable)
+
+-- a change of the readtables of a state
+abbrev pub in_state : State → Result Readtables ReadtableError → Result State ReadtableError
+in_state s (Ok m) = Ok (record s { readtables = m })
+in_state s (Err e) = Err e
+
+-- A call answers what the definition says. That a growth was refused it answers only where the definition refuses nothing.
+abbrev pub Refused : {B : Type 0} → ReadtableError → Result B ReadtableError → Type 0
+Refused OutOfMemory said = IsOk said
+Refused e said = said ≡ Err e
+
+abbrev pub Gives : {A B : Type 0} → (A → B) → Result A ReadtableError → Result B ReadtableError → Type 0
+Gives view (Ok x) said = said ≡ Ok (view x)
+Gives view (Err e) said = Refused e said

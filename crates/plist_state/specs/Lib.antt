@@ -1,0 +1,10 @@
+pub mod Properties
+pub mod State
+pub mod Codes
+pub mod Changes
+pub mod Readers
+pub mod Refused
+pub mod Sound
+pub mod Shown
+pub mod Undoing
+pub mod Kept

@@ -1,0 +1,14 @@
+-- The lists that the world gives.
+use Rattle.std.specs.Prelude.{List}
+use Rattle.std.specs.FinMap as finite
+use Rattle.package_table.specs.Table.{Name}
+use Rattle.plist_state.specs.Properties.{Symbol}
+use Rattle.plist_state.specs.State.{State}
+
+-- the names of the readtables, sorted by their bytes
+abbrev pub readtable_names : State → List Name
+readtable_names s = finite.keys s.readtables
+
+-- the symbols that have properties, sorted by the bytes of their homes and then of their names
+abbrev pub symbols_with_properties : State → List Symbol
+symbols_with_properties s = finite.keys s.properties

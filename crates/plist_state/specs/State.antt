@@ -1,0 +1,65 @@
+-- The state of a world: its packages, the property lists, the readtables by name, and which package and which readtable
+-- are current.
+use Rattle.std.specs.Prelude.{List, codes}
+use Rattle.std.specs.FinMap as finite
+use Rattle.readtable_core.specs.Tables as readtable
+use Rattle.package_table.specs.Table as packages
+use Rattle.package_table.specs.Table.{Name, name_cmp}
+use Rattle.plist_state.specs.Properties.{Properties}
+
+-- readtables by their names, which are names of keywords
+abbrev pub Readtables : Type 0
+Readtables = finite.FinMap name_cmp readtable.Table
+
+-- what a world has besides its packages
+pub record Rest : Type 0 where
+  pub properties : Properties
+  pub readtables : Readtables
+  pub current_package : Name
+  pub current_readtable : Name
+
+pub record State : Type 0 where
+  pub packages : packages.Table
+  pub properties : Properties
+  pub readtables : Readtables
+  pub current_package : Name
+  pub current_readtable : Name
+
+abbrev pub state_with : packages.Table → Rest → State
+state_with t r =
+    record {
+      packages = t;
+      properties = r.properties;
+      readtables = r.readtables;
+      current_package = r.current_package;
+      current_readtable = r.current_readtable;
+    }
+
+-- The state now, and the states that were marked, to which the world can go back.
+abbrev pub Worlds : Type 0
+Worlds = State × List State
+
+-- the name of the standard readtable, which never changes
+abbrev pub standard_name : Name
+standard_name = codes "STANDARD"
+
+-- the name of the readtable that is current first
+abbrev pub user_name : Name
+user_name = codes "USER"
+
+abbrev pub first_readtables : Readtables
+first_readtables = finite.insert (finite.insert finite.empty standard_name readtable.standard) user_name readtable.standard
+
+-- no properties
+abbrev pub first_rest : Rest
+first_rest =
+    record {
+      properties = finite.empty;
+      readtables = first_readtables;
+      current_package = packages.common_lisp_user;
+      current_readtable = user_name;
+    }
+
+-- the first state
+abbrev pub initial : State
+initial = state_with packages.initial first_rest

@@ -1,0 +1,50 @@
+//! The world: packages, the property lists of symbols, readtables by name, and which package and which readtable are current.
+//!
+//! Contracts see a world as the pair of its state (`State` of `specs/State.antt`) and the list of the states that were
+//! marked. A state has the packages, a finite map from symbols to their property lists, of which none is empty, a finite map
+//! from names to readtables, and the two current names. `IsSound` (specs/Sound.antt) says what holds of each state, and
+//! `World::soundness` gives it. What each call makes of a state, or why it refuses, is a definition of specs/Changes.antt, or
+//! of package_table for the calls on packages. A call that is refused, or that runs out of memory, changes nothing, and
+//! `OutOfMemory` comes only where the definition refuses nothing.
+//!
+//! Nothing marks a state yet, so the list of marked states is empty in every world. The clauses say that each call leaves the
+//! list as it is; a call that adds to it, and one that goes back, change none of them. The rows of properties are kept for
+//! that: each change of a row tells what it overwrote, `rows::take_back` takes it back, and needs no memory, since a row that
+//! was emptied stays.
+//!
+//! - `world`: `World`, and what is asked of it
+//! - `readers`: the lists that it gives
+//! - `properties`, `packages`, `readtables`: the calls that write
+//! - `symbol`, `property`: `Symbol`, `Property`
+//! - `error`: `ReadtableError`
+//! - `stored`: what a world keeps besides its packages, over `rows` (property lists), `undo` (how a change of one is told)
+//!   and `tables` (readtables by name)
+//!
+//! Proofs of crates above may cite these lemmas; they keep their names. On soundness (proofs/Soundness.antt):
+//! `sound_packages`, `sound_put`, `sound_removed`, `sound_in_package`, `sound_in_readtable`, `sound_table`, `symbol_from`. On
+//! property lists by symbols (proofs/Lists.antt): `get-with_list`, `list-with_list`, `with_list_twice`, `with_list_same`. On
+//! the orders of symbols and names (proofs/Orders.antt): `symbol_total`, `symbol_exact`, `one_symbol`, `name_total`,
+//! `name_exact`, `one_name`. On the first world (proofs/FirstWorld.antt): `first_sound`.
+#![tactic(auto)]
+
+mod error;
+mod packages;
+mod properties;
+mod property;
+mod readers;
+mod readtables;
+mod rows;
+mod stored;
+mod symbol;
+mod tables;
+mod undo;
+mod world;
+
+pub use error::ReadtableError;
+pub use property::Property;
+pub use symbol::Symbol;
+pub use tables::{MAX_READTABLES, STANDARD, USER};
+pub use world::World;
+
+#[cfg(test)]
+mod tests;

@@ -1,0 +1,123 @@
+//! The calls that change packages, and the current one. Each is the call of package_table.
+ghost use Rattle.std.specs.Prelude.{◌≡◌, ◌<◌, All, Some, IfErr, IfOk};
+ghost use Rattle.package_table.specs.Table.{IsPresent};
+ghost use Rattle.package_table.specs.Lookup.{found};
+ghost use Rattle.package_table.specs.Changes.{after_make, after_intern, after_export, after_import, after_use, intern_changes, export_changes, import_changes, use_changes, Gives};
+ghost use Rattle.package_table.specs.Growth.{Grows, Tells};
+ghost use Rattle.plist_state.specs.Changes.{with_packages, after_in_package};
+
+use crate::World;
+use package_table::{Interned, PackageError};
+
+impl World {
+    /// Adds a package (standard 11.2, `make-package`), as `Packages::make` does.
+    ///
+    /// # Errors
+    /// Those of `Packages::make`. Nothing has changed then.
+    pub fn make(&mut self, name: &[u8]) -> Result<(), PackageError>
+        requires { All (λ b. b < 128) name.now }
+        ensures gives { Gives (λ _. self.new.0.packages) result (after_make self.old.0.packages name.now) }
+        ensures rest { self.new ≡ (with_packages self.old.0 self.new.0.packages, self.old.1) }
+        ensures grows { Grows self.old.0.packages self.new.0.packages }
+        ensures unchanged { IfErr result (λ _. self.new ≡ self.old) }
+    {
+        let result = self.packages.make(name);
+        self.packages.soundness();
+        result
+    }
+
+    /// The symbol that a package finds by a name, or the new one that is made (standard 11.2, `intern`), as
+    /// `Packages::intern` gives it.
+    ///
+    /// # Errors
+    /// Those of `Packages::intern`. Nothing has changed then.
+    pub fn intern(&mut self, owner: &[u8], name: &[u8]) -> Result<Interned, PackageError>
+        requires { All (λ b. b < 128) name.now }
+        ensures gives { Gives (λ interned. (interned.home, self.new.0.packages)) result
+            (after_intern self.old.0.packages owner.now name.now) }
+        ensures is_new { IfOk result (λ interned. interned.is_new ≡ intern_changes self.old.0.packages owner.now name.now) }
+        ensures exactly { IfOk result (λ interned. Tells interned.is_new self.old.0.packages self.new.0.packages) }
+        ensures finds { IfOk result (λ interned. found self.new.0.packages owner.now name.now ≡ Some interned.home) }
+        ensures rest { self.new ≡ (with_packages self.old.0 self.new.0.packages, self.old.1) }
+        ensures grows { Grows self.old.0.packages self.new.0.packages }
+        ensures unchanged { IfErr result (λ _. self.new ≡ self.old) }
+    {
+        let result = self.packages.intern(owner, name);
+        self.packages.soundness();
+        result
+    }
+
+    /// Makes a symbol external in a package (standard 11.2, `export`), as `Packages::export` does, and gives whether the
+    /// packages changed.
+    ///
+    /// # Errors
+    /// Those of `Packages::export`. Nothing has changed then.
+    pub fn export(&mut self, owner: &[u8], home: &[u8], name: &[u8]) -> Result<bool, PackageError>
+        ensures gives { Gives (λ _. self.new.0.packages) result
+            (after_export self.old.0.packages owner.now home.now name.now) }
+        ensures changed { IfOk result (λ changed. changed ≡ export_changes self.old.0.packages owner.now name.now) }
+        ensures exactly { IfOk result (λ changed. Tells changed self.old.0.packages self.new.0.packages) }
+        ensures rest { self.new ≡ (with_packages self.old.0 self.new.0.packages, self.old.1) }
+        ensures grows { Grows self.old.0.packages self.new.0.packages }
+        ensures unchanged { IfErr result (λ _. self.new ≡ self.old) }
+    {
+        let result = self.packages.export(owner, home, name);
+        self.packages.soundness();
+        result
+    }
+
+    /// Makes a symbol present in a package (standard 11.2, `import`), as `Packages::import` does, and gives whether the
+    /// packages changed. The symbol is there.
+    ///
+    /// # Errors
+    /// Those of `Packages::import`. Nothing has changed then.
+    pub fn import(&mut self, owner: &[u8], home: &[u8], name: &[u8]) -> Result<bool, PackageError>
+        requires { IsPresent self.old.0.packages home.now name.now home.now }
+        ensures gives { Gives (λ _. self.new.0.packages) result
+            (after_import self.old.0.packages owner.now home.now name.now) }
+        ensures changed { IfOk result (λ changed. changed ≡ import_changes self.old.0.packages owner.now name.now) }
+        ensures exactly { IfOk result (λ changed. Tells changed self.old.0.packages self.new.0.packages) }
+        ensures rest { self.new ≡ (with_packages self.old.0 self.new.0.packages, self.old.1) }
+        ensures grows { Grows self.old.0.packages self.new.0.packages }
+        ensures unchanged { IfErr result (λ _. self.new ≡ self.old) }
+    {
+        let result = self.packages.import(owner, home, name);
+        self.packages.soundness();
+        result
+    }
+
+    /// Makes a package use another (standard 11.2, `use-package`), as `Packages::use_package` does, and gives whether the
+    /// packages changed.
+    ///
+    /// # Errors
+    /// Those of `Packages::use_package`. Nothing has changed then.
+    pub fn use_package(&mut self, owner: &[u8], used: &[u8]) -> Result<bool, PackageError>
+        ensures gives { Gives (λ _. self.new.0.packages) result
+            (after_use self.old.0.packages owner.now used.now) }
+        ensures changed { IfOk result (λ changed. changed ≡ use_changes self.old.0.packages owner.now used.now) }
+        ensures exactly { IfOk result (λ changed. Tells changed self.old.0.packages self.new.0.packages) }
+        ensures rest { self.new ≡ (with_packages self.old.0 self.new.0.packages, self.old.1) }
+        ensures grows { Grows self.old.0.packages self.new.0.packages }
+        ensures unchanged { IfErr result (λ _. self.new ≡ self.old) }
+    {
+        let result = self.packages.use_package(owner, used);
+        self.packages.soundness();
+        result
+    }
+
+    /// Makes a package current (standard 11.2, `in-package`). It is named by its name, not by a nickname.
+    ///
+    /// # Errors
+    /// `NoSuchPackage` where no package has that name; `OutOfMemory` where memory runs out. Nothing has changed then.
+    pub fn set_current_package(&mut self, name: &[u8]) -> Result<(), PackageError>
+        ensures gives { Gives (λ _. self.new.0) result (after_in_package self.old.0 name.now) }
+        ensures marked { self.new.1 ≡ self.old.1 }
+        ensures unchanged { IfErr result (λ _. self.new ≡ self.old) }
+    {
+        if !self.packages.has_package(name) {
+            return Err(PackageError::NoSuchPackage);
+        }
+        self.stored.current_package = Vec::from_slice(self.alloc, name)?;
+        Ok(())
+    }
+}

@@ -1,0 +1,42 @@
+//! The calls that change properties.
+ghost use Rattle.std.specs.Prelude.{◌≡◌, true, is_some, IfOk, OnOk, OnErr};
+ghost use Rattle.lisp_object.specs.Datum.{object_of, is_proper};
+ghost use Rattle.plist_state.specs.Changes.{property, with_property, without_property};
+ghost use Rattle.plist_state.specs.Shown.{symbol_of};
+ghost use Rattle.plist_state.specs.Sound.{IsSymbol, IsValue};
+
+use crate::{Symbol, World, stored};
+use lisp_object::Datum;
+use std::alloc::AllocError;
+
+impl World {
+    /// Sets the value beside an indicator of a symbol, in its place or, where the indicator is new, last (standard 10.2,
+    /// `get`). Both symbols are there, and the value is proper, of depth at most 100, and has only symbols that are there.
+    /// After out of memory nothing has changed.
+    pub fn put(
+        &mut self,
+        symbol: &Symbol,
+        indicator: Symbol,
+        value: Datum,
+    ) -> Result<(), AllocError>
+        requires symbol { IsSymbol self.old.0.packages (symbol_of symbol.now) }
+        requires indicator { IsSymbol self.old.0.packages (symbol_of indicator) }
+        requires proper { is_proper value ≡ true }
+        requires value { IsValue self.old.0.packages (object_of value) }
+        ensures ok { OnOk result (self.new ≡ (with_property self.old.0 (symbol_of symbol.now) (symbol_of indicator) (object_of value), self.old.1)) }
+        ensures err { OnErr result (self.new ≡ self.old) }
+    {
+        stored::put(self.alloc, &mut self.stored, symbol, indicator, value)
+    }
+
+    /// Removes the property of an indicator from the list of a symbol, and answers whether it was there (standard 10.2,
+    /// `remprop`). The symbol is there. After out of memory nothing has changed.
+    pub fn remove(&mut self, symbol: &Symbol, indicator: &Symbol) -> Result<bool, AllocError>
+        requires { IsSymbol self.old.0.packages (symbol_of symbol.now) }
+        ensures ok { OnOk result (self.new ≡ (without_property self.old.0 (symbol_of symbol.now) (symbol_of indicator.now), self.old.1)) }
+        ensures had { IfOk result (λ had. had ≡ is_some (property self.old.0 (symbol_of symbol.now) (symbol_of indicator.now))) }
+        ensures err { OnErr result (self.new ≡ self.old) }
+    {
+        Ok(stored::remove(&mut self.stored, symbol, indicator))
+    }
+}

@@ -1,0 +1,54 @@
+//! The lists that a world gives, each sorted by bytes.
+ghost use Rattle.std.specs.Prelude.{◌≡◌, IfOk};
+ghost use Rattle.std.specs.FinMap as finite;
+ghost use Rattle.plist_state.specs.Readers.{readtable_names, symbols_with_properties};
+ghost use Rattle.plist_state.specs.Shown.{lists_of, readtables_of};
+
+use crate::{Property, Symbol, World};
+use lisp_object::{Bytes, Items};
+use readtable_core::Readtable;
+use std::alloc::{AllocError, Global};
+use std::collections::BTreeMap;
+
+fn names(alloc: Global, tables: &BTreeMap<Vec<u8>, Readtable>) -> Result<Items<Bytes>, AllocError>
+    ensures { IfOk result (λ names. names ≡ finite.keys (readtables_of tables.now)) }
+{
+    let mut names = Items::new(alloc);
+    for name in tables.keys() {
+        names.push(Bytes::from_slice(alloc, name.as_slice())?)?;
+    }
+    Ok(names)
+}
+
+fn with_properties(
+    alloc: Global,
+    rows: &BTreeMap<Symbol, Vec<Property>>,
+) -> Result<Items<(Bytes, Bytes)>, AllocError>
+    ensures { IfOk result (λ symbols. symbols ≡ finite.keys (lists_of rows.now)) }
+{
+    let mut symbols = Items::new(alloc);
+    for (symbol, row) in rows {
+        if !row.is_empty() {
+            let home = Bytes::from_slice(alloc, symbol.home())?;
+            let name = Bytes::from_slice(alloc, symbol.name())?;
+            symbols.push((home, name))?;
+        }
+    }
+    Ok(symbols)
+}
+
+impl World {
+    /// The names of the readtables, sorted by their bytes.
+    pub fn readtable_names(&self, alloc: Global) -> Result<Items<Bytes>, AllocError>
+        ensures { IfOk result (λ names. names ≡ readtable_names self.now.0) }
+    {
+        names(alloc, &self.stored.readtables)
+    }
+
+    /// The symbols that have properties, each by its home and its name, sorted by the bytes of these.
+    pub fn with_properties(&self, alloc: Global) -> Result<Items<(Bytes, Bytes)>, AllocError>
+        ensures { IfOk result (λ symbols. symbols ≡ symbols_with_properties self.now.0) }
+    {
+        with_properties(alloc, &self.stored.properties)
+    }
+}

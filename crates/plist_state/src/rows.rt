@@ -1,0 +1,244 @@
+//! The rows of properties: look-ups, single changes, and how each is taken back.
+ghost use Rattle.std.specs.Prelude.{◌≡◌, ◌≤◌, true, [], map, length, Some, None, is_some, unwrap_or, IfOk, OnOk, IfErr, OnErr, IfSome, MatchOption, All, IsSome, vec_capacity};
+ghost use Rattle.std.specs.List.{position};
+ghost use Rattle.std.specs.Option.{option_map};
+ghost use Rattle.lisp_object.specs.Datum.{object_of, is_proper};
+ghost use Rattle.plist_state.specs.Properties.{list_at, with_list, with_value, without_value, value_at, same_symbol};
+ghost use Rattle.plist_state.specs.Shown.{symbol_of, property_of, plist_of, lists_of, row_at, room_at};
+ghost use Rattle.plist_state.specs.Undoing.{list_before};
+ghost use Rattle.plist_state.specs.Kept.{IsProperRow, IsProperRows, IsProperChange, IsWider};
+
+use crate::undo::PropertyChange;
+use crate::{Property, Symbol};
+use lisp_object::Datum;
+use std::alloc::{AllocError, Global};
+use std::cmp::Ordering;
+use std::collections::BTreeMap;
+use std::mem;
+
+// Whether the two are one symbol.
+fn is_same(a: &Symbol, b: &Symbol) -> bool
+    ensures { result ≡ same_symbol (symbol_of a.now) (symbol_of b.now) }
+{
+    matches!(a.cmp(b), Ordering::Equal)
+}
+
+// The place of the indicator in a row.
+fn place_of(row: &[Property], indicator: &Symbol) -> Option<usize>
+    ensures { result
+        ≡ position (λ p. same_symbol (symbol_of indicator.now) (symbol_of p.indicator)) row.now }
+{
+    row.iter()
+        .position(|property| is_same(indicator, &property.indicator))
+}
+
+/// The properties of a symbol.
+pub(crate) fn row<'a>(rows: &'a BTreeMap<Symbol, Vec<Property>>, symbol: &Symbol) -> &'a [Property]
+    requires { IsProperRows rows.now.entries }
+    ensures list { map property_of result.now ≡ list_at (lists_of rows.now) (symbol_of symbol.now) }
+    ensures proper { All (λ p. is_proper p.value ≡ true) result.now }
+{
+    match rows.get(symbol) {
+        Some(row) => row.as_slice(),
+        None => &[],
+    }
+}
+
+/// The value beside an indicator in the property list of a symbol.
+pub(crate) fn value<'a>(
+    rows: &'a BTreeMap<Symbol, Vec<Property>>,
+    symbol: &Symbol,
+    indicator: &Symbol,
+) -> Option<&'a Datum>
+    requires { IsProperRows rows.now.entries }
+    ensures value { option_map (λ d. object_of d.now) result
+        ≡ value_at (list_at (lists_of rows.now) (symbol_of symbol.now)) (symbol_of indicator.now) }
+    ensures proper { IfSome result (λ d. is_proper d.now ≡ true) }
+{
+    let row = row(rows, symbol);
+    match place_of(row, indicator) {
+        Some(place) => Some(&row[place].value),
+        None => None,
+    }
+}
+
+// Sets the value beside an indicator in a row, in its place or last.
+fn write(
+    row: &mut Vec<Property>,
+    indicator: Symbol,
+    value: Datum,
+) -> Result<PropertyChange, AllocError>
+    requires proper { is_proper value ≡ true }
+    ensures ok { IfOk result
+        (λ _. plist_of row.new ≡ with_value (plist_of row.old) (symbol_of indicator) (object_of value)) }
+    ensures back { IfOk result (λ change. list_before change (plist_of row.new) ≡ plist_of row.old) }
+    ensures values { IsProperRow row.old → IsProperRow row.new }
+    ensures former { IsProperRow row.old → IfOk result IsProperChange }
+    ensures room { vec_capacity row.old ≤ vec_capacity row.new }
+    ensures err { OnErr result (row.new.items ≡ row.old.items) }
+{
+    match place_of(row.as_slice(), &indicator) {
+        Some(place) => {
+            let value = mem::replace(&mut row[place].value, value);
+            Ok(PropertyChange::Set { place, value })
+        }
+        None => {
+            row.push(Property { indicator, value })?;
+            Ok(PropertyChange::Added)
+        }
+    }
+}
+
+// Takes a property out of a row.
+fn cut(row: &mut Vec<Property>, indicator: &Symbol) -> Option<PropertyChange>
+    ensures after { plist_of row.new ≡ without_value (plist_of row.old) (symbol_of indicator.now) }
+    ensures had { is_some result ≡ is_some (value_at (plist_of row.old) (symbol_of indicator.now)) }
+    ensures back { IfSome result (λ change. list_before change (plist_of row.new) ≡ plist_of row.old) }
+    ensures values { IsProperRow row.old → IsProperRow row.new }
+    ensures former { IsProperRow row.old → IfSome result IsProperChange }
+    ensures room { vec_capacity row.old ≤ vec_capacity row.new }
+{
+    match place_of(row.as_slice(), indicator) {
+        Some(place) => {
+            let property = row.remove(place);
+            Some(PropertyChange::Removed { place, property })
+        }
+        None => None,
+    }
+}
+
+// Takes a change of a row back. There is memory for what it was.
+fn revert(row: &mut Vec<Property>, change: PropertyChange)
+    requires former { IsProperChange change }
+    requires room { length (list_before change (plist_of row.old)) ≤ vec_capacity row.old }
+    ensures after { plist_of row.new ≡ list_before change (plist_of row.old) }
+    ensures values { IsProperRow row.old → IsProperRow row.new }
+    ensures room { vec_capacity row.old ≤ vec_capacity row.new }
+{
+    match change {
+        PropertyChange::Set { place, value } => {
+            if place < row.len() {
+                row[place].value = value;
+            }
+        }
+        PropertyChange::Added => {
+            let _added = row.pop();
+        }
+        PropertyChange::Removed { place, property } => {
+            let place = place.min(row.len());
+            if let Err(_) = row.insert(place, property) {
+                unreachable!()
+            }
+        }
+    }
+}
+
+// An empty row for a symbol that has none.
+fn add_row(
+    alloc: Global,
+    rows: &mut BTreeMap<Symbol, Vec<Property>>,
+    symbol: &Symbol,
+) -> Result<(), AllocError>
+    ensures there { OnOk result (IsSome (row_at rows.new.entries (symbol_of symbol.now))) }
+    ensures same { lists_of rows.new ≡ lists_of rows.old }
+    ensures wider { IsWider rows.old.entries rows.new.entries }
+{
+    if rows.contains_key(symbol) {
+        return Ok(());
+    }
+    let symbol = symbol.copy(alloc)?;
+    match rows.insert(symbol, Vec::new(alloc)) {
+        Ok(_) => Ok(()),
+        Err(_) => Err(AllocError),
+    }
+}
+
+// Sets the value beside an indicator of a symbol that has a row.
+fn write_at(
+    rows: &mut BTreeMap<Symbol, Vec<Property>>,
+    symbol: &Symbol,
+    indicator: Symbol,
+    value: Datum,
+) -> Result<PropertyChange, AllocError>
+    requires proper { is_proper value ≡ true }
+    requires row { IsSome (row_at rows.old.entries (symbol_of symbol.now)) }
+    requires values { IsProperRows rows.old.entries }
+    ensures ok { let x = symbol_of symbol.now in
+        IfOk result (λ _. lists_of rows.new ≡ with_list (lists_of rows.old) x
+        (with_value (list_at (lists_of rows.old) x) (symbol_of indicator) (object_of value))) }
+    ensures back { let x = symbol_of symbol.now in
+        IfOk result (λ change. list_before change (list_at (lists_of rows.new) x) ≡ list_at (lists_of rows.old) x) }
+    ensures former { IfOk result IsProperChange }
+    ensures wider { IsWider rows.old.entries rows.new.entries }
+    ensures err { OnErr result (lists_of rows.new ≡ lists_of rows.old) }
+{
+    let Some(row) = rows.get_mut(symbol) else {
+        unreachable!()
+    };
+    match write(row, indicator, value) {
+        Ok(change) => Ok(change),
+        Err(_) => Err(AllocError),
+    }
+}
+
+/// Sets the value beside an indicator of a symbol, in its place or last.
+pub(crate) fn put(
+    alloc: Global,
+    rows: &mut BTreeMap<Symbol, Vec<Property>>,
+    symbol: &Symbol,
+    indicator: Symbol,
+    value: Datum,
+) -> Result<PropertyChange, AllocError>
+    requires proper { is_proper value ≡ true }
+    requires values { IsProperRows rows.old.entries }
+    ensures ok { let x = symbol_of symbol.now in
+        IfOk result (λ _. lists_of rows.new ≡ with_list (lists_of rows.old) x
+        (with_value (list_at (lists_of rows.old) x) (symbol_of indicator) (object_of value))) }
+    ensures back { let x = symbol_of symbol.now in
+        IfOk result (λ change. list_before change (list_at (lists_of rows.new) x) ≡ list_at (lists_of rows.old) x) }
+    ensures former { IfOk result IsProperChange }
+    ensures wider { IsWider rows.old.entries rows.new.entries }
+    ensures err { OnErr result (lists_of rows.new ≡ lists_of rows.old) }
+{
+    add_row(alloc, rows, symbol)?;
+    write_at(rows, symbol, indicator, value)
+}
+
+/// Takes the property of an indicator out of the list of a symbol, if it is there.
+pub(crate) fn remove(
+    rows: &mut BTreeMap<Symbol, Vec<Property>>,
+    symbol: &Symbol,
+    indicator: &Symbol,
+) -> Option<PropertyChange>
+    requires values { IsProperRows rows.old.entries }
+    ensures after { let x = symbol_of symbol.now in
+        lists_of rows.new ≡ with_list (lists_of rows.old) x (without_value (list_at (lists_of rows.old) x) (symbol_of indicator.now)) }
+    ensures had { is_some result ≡ is_some (value_at (list_at (lists_of rows.old) (symbol_of symbol.now)) (symbol_of indicator.now)) }
+    ensures back { let x = symbol_of symbol.now in
+        IfSome result (λ change. list_before change (list_at (lists_of rows.new) x) ≡ list_at (lists_of rows.old) x) }
+    ensures former { IfSome result IsProperChange }
+    ensures wider { IsWider rows.old.entries rows.new.entries }
+{
+    match rows.get_mut(symbol) {
+        Some(row) => cut(row, indicator),
+        None => None,
+    }
+}
+
+/// Takes a change of the property list of a symbol back. There is memory for what it was.
+pub(crate) fn take_back(
+    rows: &mut BTreeMap<Symbol, Vec<Property>>,
+    symbol: &Symbol,
+    change: PropertyChange,
+)
+    requires former { IsProperChange change }
+    requires room { let x = symbol_of symbol.now in
+        length (list_before change (list_at (lists_of rows.old) x)) ≤ room_at rows.old.entries x }
+    ensures after { let x = symbol_of symbol.now in
+        lists_of rows.new ≡ with_list (lists_of rows.old) x (list_before change (list_at (lists_of rows.old) x)) }
+    ensures wider { IsWider rows.old.entries rows.new.entries }
+{
+    if let Some(row) = rows.get_mut(symbol) {
+        revert(row, change);
+    }
+}

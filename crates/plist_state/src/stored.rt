@@ -1,0 +1,84 @@
+//! What a world keeps besides its packages.
+ghost use Rattle.std.specs.Prelude.{◌≡◌, ◌≢◌, ◌≤◌, true, Ok, Err, is_some, IfOk, IfErr, OnOk, OnErr};
+ghost use Rattle.std.specs.FinMap as finite;
+ghost use Rattle.lisp_object.specs.Datum.{object_of, is_proper};
+ghost use Rattle.plist_state.specs.Properties.{list_at, with_list, with_value, without_value, value_at};
+ghost use Rattle.plist_state.specs.State.{first_rest, first_readtables};
+ghost use Rattle.plist_state.specs.Shown.{symbol_of, rest_of, readtables_of};
+ghost use Rattle.plist_state.specs.Kept.{IsProperRows, IsWider};
+
+use crate::tables::{STANDARD, USER};
+use crate::{Property, Symbol, rows};
+use lisp_object::Datum;
+use package_table::standardized::COMMON_LISP_USER;
+use readtable_core::Readtable;
+use std::alloc::{AllocError, Global};
+use std::collections::BTreeMap;
+
+/// A row of properties for each symbol that ever had one, the readtables by name, and the two current names. A row that was
+/// emptied stays, so that to go back takes no memory: the symbol has no property list then.
+#[derive(Drop)]
+pub(crate) struct Stored {
+    pub(crate) properties: BTreeMap<Symbol, Vec<Property>>,
+    pub(crate) readtables: BTreeMap<Vec<u8>, Readtable>,
+    pub(crate) current_package: Vec<u8>,
+    pub(crate) current_readtable: Vec<u8>,
+}
+
+// The first readtables: STANDARD and USER.
+fn first_readtables(alloc: Global) -> Result<BTreeMap<Vec<u8>, Readtable>, AllocError>
+    ensures { IfOk result (λ tables. readtables_of tables ≡ first_readtables) }
+{
+    let standard = Readtable::standard(alloc)?;
+    let user = Readtable::standard(alloc)?;
+    let mut tables = BTreeMap::new(alloc);
+    tables.insert(Vec::from_slice(alloc, STANDARD)?, standard)?;
+    tables.insert(Vec::from_slice(alloc, USER)?, user)?;
+    Ok(tables)
+}
+
+/// What the first world has besides its packages.
+pub(crate) fn first_stored(alloc: Global) -> Result<Stored, AllocError>
+    ensures first { IfOk result (λ stored. rest_of stored ≡ first_rest) }
+    ensures values { IfOk result (λ stored. IsProperRows stored.properties.entries) }
+{
+    let readtables = first_readtables(alloc)?;
+    Ok(Stored {
+        properties: BTreeMap::new(alloc),
+        readtables,
+        current_package: Vec::from_slice(alloc, COMMON_LISP_USER)?,
+        current_readtable: Vec::from_slice(alloc, USER)?,
+    })
+}
+
+/// Sets a property.
+pub(crate) fn put(
+    alloc: Global,
+    stored: &mut Stored,
+    symbol: &Symbol,
+    indicator: Symbol,
+    value: Datum,
+) -> Result<(), AllocError>
+    requires proper { is_proper value ≡ true }
+    requires values { IsProperRows stored.old.properties.entries }
+    ensures ok { let r = rest_of stored.old in let x = symbol_of symbol.now in
+        OnOk result (rest_of stored.new ≡ record r { properties = with_list r.properties x (with_value (list_at r.properties x) (symbol_of indicator) (object_of value)) }) }
+    ensures err { OnErr result (rest_of stored.new ≡ rest_of stored.old) }
+    ensures values { IsProperRows stored.new.properties.entries }
+{
+    match rows::put(alloc, &mut stored.properties, symbol, indicator, value) {
+        Ok(_) => Ok(()),
+        Err(_) => Err(AllocError),
+    }
+}
+
+/// Removes a property, and answers whether it was there.
+pub(crate) fn remove(stored: &mut Stored, symbol: &Symbol, indicator: &Symbol) -> bool
+    requires { IsProperRows stored.old.properties.entries }
+    ensures after { let r = rest_of stored.old in let x = symbol_of symbol.now in
+        rest_of stored.new ≡ record r { properties = with_list r.properties x (without_value (list_at r.properties x) (symbol_of indicator.now)) } }
+    ensures had { result ≡ is_some (value_at (list_at (rest_of stored.old).properties (symbol_of symbol.now)) (symbol_of indicator.now)) }
+    ensures values { IsProperRows stored.new.properties.entries }
+{
+    rows::remove(&mut stored.properties, symbol, indicator).is_some()
+}

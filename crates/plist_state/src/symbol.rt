@@ -1,0 +1,45 @@
+//! Interned symbols, as a world keeps them.
+ghost use Rattle.std.specs.Prelude.{◌≡◌, IfOk};
+ghost use Rattle.plist_state.specs.Shown.{symbol_of};
+
+use std::alloc::{AllocError, Global};
+
+/// An interned symbol: the name of its home package, and its own name, of bytes below 128. Symbols are compared by
+/// their homes and then by their names.
+#[derive(Debug, PartialEq, Eq, PartialOrd, Ord, Drop)]
+pub struct Symbol {
+    pub home: Vec<u8>,
+    pub name: Vec<u8>,
+}
+
+impl Symbol {
+    /// The symbol of this home and name, of which it takes copies.
+    pub fn from_bytes(alloc: Global, home: &[u8], name: &[u8]) -> Result<Symbol, AllocError>
+        ensures { IfOk result (λ s. symbol_of s ≡ (home.now, name.now)) }
+    {
+        let home = Vec::from_slice(alloc, home)?;
+        let name = Vec::from_slice(alloc, name)?;
+        Ok(Symbol { home, name })
+    }
+
+    /// A symbol equal to this one.
+    pub fn copy(&self, alloc: Global) -> Result<Symbol, AllocError>
+        ensures { IfOk result (λ s. symbol_of s ≡ symbol_of self.now) }
+    {
+        Symbol::from_bytes(alloc, self.home.as_slice(), self.name.as_slice())
+    }
+
+    /// The name of its home package.
+    pub fn home(&self) -> &[u8]
+        ensures { result.now ≡ (symbol_of self.now).0 }
+    {
+        &self.home
+    }
+
+    /// Its name.
+    pub fn name(&self) -> &[u8]
+        ensures { result.now ≡ (symbol_of self.now).1 }
+    {
+        &self.name
+    }
+}

@@ -1,0 +1,110 @@
+//! The world, and what is asked of it.
+ghost use Rattle.std.specs.Prelude.{◌≡◌, [], true, map, All, IfOk, IfSome};
+ghost use Rattle.std.specs.Option.{option_map};
+ghost use Rattle.std.specs.FinMap as finite;
+ghost use Rattle.lisp_object.specs.Datum.{object_of, is_proper};
+ghost use Rattle.plist_state.specs.Changes.{plist, property};
+ghost use Rattle.plist_state.specs.Shown.{symbol_of, property_of};
+ghost use Rattle.plist_state.specs.Sound.{IsSoundWorld};
+ghost use Rattle.plist_state.specs.State.{initial};
+
+use crate::stored::{Stored, first_stored};
+use crate::{Property, Symbol, rows, tables};
+use lisp_object::Datum;
+use package_table::Packages;
+use readtable_core::Readtable;
+use std::alloc::{AllocError, Global};
+use std::marker::Model;
+
+/// A world: packages, the property lists of symbols, readtables by name, the current package and the current readtable.
+/// Contracts see its state, and after it the list of the states that were marked.
+#[derive(Drop)]
+pub struct World {
+    pub(crate) alloc: Global,
+    pub(crate) packages: Packages,
+    pub(crate) stored: Stored,
+}
+
+impl Model for World {
+    ghost use Rattle.plist_state.specs.State.{Worlds};
+    ghost use Rattle.plist_state.specs.Codes.{worlds_code};
+
+    ghost Value = { Worlds };
+
+    ghost coded = { worlds_code };
+
+    ghost use Rattle.plist_state.specs.Kept.{worlds_of, IsKept};
+
+    ghost view = { worlds_of };
+
+    ghost invariant = { IsKept };
+}
+
+impl World {
+    /// The first world: the first packages, no properties, the readtables `STANDARD` and `USER`, which are both the standard
+    /// one, and COMMON-LISP-USER and `USER` current. It keeps `alloc` for later changes.
+    pub fn new(alloc: Global) -> Result<World, AllocError>
+        ensures { IfOk result (λ world. world ≡ (initial, [])) }
+    {
+        let packages = Packages::new(alloc)?;
+        packages.soundness();
+        Ok(World {
+            alloc,
+            packages,
+            stored: first_stored(alloc)?,
+        })
+    }
+
+    /// What holds of every world. For proofs: it does nothing.
+    pub fn soundness(&self)
+        ensures { IsSoundWorld self.now }
+    {
+        let _ = &self.stored;
+    }
+
+    /// The packages. Takes no memory.
+    pub fn packages(&self) -> &Packages
+        ensures { result.now.0 ≡ self.now.0.packages }
+    {
+        &self.packages
+    }
+
+    /// The readtable of this name. Takes no memory.
+    pub fn readtable(&self, name: &[u8]) -> Option<&Readtable>
+        ensures { option_map (λ t. t.now) result ≡ finite.get self.now.0.readtables name.now }
+    {
+        tables::table(&self.stored.readtables, name)
+    }
+
+    /// The name of the current package (standard 11.1.2.2, `*package*`). Takes no memory.
+    pub fn current_package(&self) -> &[u8]
+        ensures { result.now ≡ self.now.0.current_package }
+    {
+        self.stored.current_package.as_slice()
+    }
+
+    /// The name of the current readtable (standard 23.1.1). Takes no memory.
+    pub fn current_readtable(&self) -> &[u8]
+        ensures { result.now ≡ self.now.0.current_readtable }
+    {
+        self.stored.current_readtable.as_slice()
+    }
+
+    /// The value beside an indicator in the property list of a symbol (standard 10.2, `get`). Takes no memory.
+    pub fn get(&self, symbol: &Symbol, indicator: &Symbol) -> Option<&Datum>
+        ensures value { option_map (λ d. object_of d.now) result
+            ≡ property self.now.0 (symbol_of symbol.now) (symbol_of indicator.now) }
+        ensures proper { IfSome result (λ d. is_proper d.now ≡ true) }
+    {
+        rows::value(&self.stored.properties, symbol, indicator)
+    }
+
+    /// The property list of a symbol, the indicators in the order in which they were first set (standard 10.2,
+    /// `symbol-plist`). Takes no memory.
+    pub fn plist(&self, symbol: &Symbol) -> &[Property]
+        ensures list { map property_of result.now ≡ plist self.now.0 (symbol_of symbol.now) }
+        ensures proper { All (λ p. is_proper p.value ≡ true) result.now }
+    {
+        rows::row(&self.stored.properties, symbol)
+    }
+}
