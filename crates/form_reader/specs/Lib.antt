@@ -1,0 +1,6 @@
+pub mod Plans
+pub mod Gathering
+pub mod Setting
+pub mod Naming
+pub mod Answering
+pub mod Reading
