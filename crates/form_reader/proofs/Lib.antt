@@ -3,3 +3,4 @@ pub mod Places
 pub mod Steps
 pub mod Forms
 pub mod Turns
+mod Rows
