@@ -13,7 +13,9 @@ use Rattle.form_reader.specs.Plans.{Plan, gives, refuses, takes, then_plan, char
 use Rattle.form_reader.specs.declared.limits.Limits.{Limits}
 use Rattle.form_reader.specs.Setting.{Setting}
 use Rattle.form_reader.specs.Gathering.{text_turn, is_escape, kept, line_turn, block_turn, number_turn, next_digit}
-use Rattle.form_reader.specs.Reading.{Found, nothing, one, lone_dot, the_end, Piece, item, dot, closed, is_whitespace, without_space, at_place, or_closed, place_turn, place, Items, items_step, items_turn, token_found, attempt_by, attempt}
+use Rattle.form_reader.specs.declared.found.Found.{Found}
+use Rattle.form_reader.specs.declared.found.Found.TheVariants.{Nothing as nothing, One as one, LoneDot as lone_dot, TheEnd as the_end}
+use Rattle.form_reader.specs.Reading.{Piece, item, dot, closed, is_whitespace, without_space, at_place, or_closed, place_turn, place, Items, items_step, items_turn, token_found, attempt_by, attempt}
 use Rattle.form_reader.proofs.Steps.{and_then, run_then, IsBelow, below, eats}
 
 -- the same wherever at most the bytes of the limit were taken

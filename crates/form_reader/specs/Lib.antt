@@ -1,5 +1,6 @@
 pub mod Plans
 pub mod Gathering
+pub mod Calls
 pub mod Setting
 pub mod Naming
 pub mod Answering

@@ -13,13 +13,16 @@ use Rattle.std_macros.specs.declared.refusal.StdRefusal.{StdRefusal}
 use Rattle.std_macros.specs.declared.refusal.StdRefusal.TheVariants.{StrayClose, OutOfProfile, NumericArgument}
 use Rattle.std_macros.specs.Values.{Value, value_of, Material, nothing as no_material, one as one_object, many, dotted, letters, marked}
 use Rattle.std_macros.specs.Results.{std_refusal_number}
+use Rattle.form_reader.specs.declared.found.Found.{Found}
+use Rattle.form_reader.specs.declared.found.Found.TheVariants.{Nothing as nothing, One as one, LoneDot as lone_dot, TheEnd as the_end}
 use Rattle.form_reader.specs.declared.way.Function.{Function}
 use Rattle.form_reader.specs.declared.way.Function.TheVariants.{Standard as AStandard, User}
 use Rattle.form_reader.specs.declared.way.Keep.{Keep}
 use Rattle.form_reader.specs.declared.way.Way.{Way}
 use Rattle.form_reader.specs.declared.way.Way.TheVariants.{Nothing, Next, List as AList, Until, Text, Line, Block, Token, EscapedToken}
 use Rattle.form_reader.specs.Plans.{Plan, gives, refuses, takes, scans, then_plan, next_byte, loop, Read, run}
-use Rattle.form_reader.specs.Setting.{Setting, Invoked, macro_call, way_in, function_of}
+use Rattle.form_reader.specs.Setting.{Setting, macro_call, way_in, function_of}
+use Rattle.form_reader.specs.Calls.{InvokedCall}
 use Rattle.form_reader.specs.Naming.{Told, object as told_object, dot_alone, told}
 use Rattle.form_reader.specs.Answering.{may_be_answered}
 use Rattle.form_reader.specs.Gathering.{text_turn, line_turn, block_turn, number_turn}
@@ -37,16 +40,6 @@ abbrev pub number_after : Setting → Option ℕ → Plan (Option ℕ)
 number_after setting number = loop setting.limits number_turn number
 
 -- ---- what stands at a place
-
--- What an attempt at an object comes to. The tests say whether its last part is a token: then one whitespace character that
--- ended it is discarded with it.
-pub data Found : Type 0 where
-  -- only discarded text
-  nothing : Bool → Found
-  one : Bool → Object → Found
-  -- a token of one dot
-  lone_dot : Found
-  the_end : Found
 
 -- What stands at a place inside a call, after discarded text.
 pub data Piece : Type 0 where
@@ -163,13 +156,13 @@ answered setting round token spaced improper = refuses MACRO_ANSWER 0
 answered setting round token spaced (answer_refused code) = refuses MACRO_REFUSED 0
 
 -- what the function gives for what was gathered
-abbrev pub completed_by : Setting → ℕ → Invoked → Function → Bool → Bool → Material → Plan Found
+abbrev pub completed_by : Setting → ℕ → InvokedCall → Function → Bool → Bool → Material → Plan Found
 completed_by setting round call (AStandard kind) token spaced material =
     finished token (value_of kind setting.table.letters call.number material)
 completed_by setting round call (User name) token spaced material =
     answered setting round token spaced (setting.answer name (macro_call call material))
 
-abbrev pub completed : Setting → ℕ → Invoked → Bool → Bool → Material → Plan Found
+abbrev pub completed : Setting → ℕ → InvokedCall → Bool → Bool → Material → Plan Found
 completed setting round call token spaced material = completed_by setting round call call.function token spaced material
 
 -- ---- calls
@@ -179,7 +172,7 @@ abbrev pub opened : Option (Plan Found) → (Plan Found → Plan Found) → Plan
 opened None on = refuses TOO_DEEP 1
 opened (Some attempt) on = on attempt
 
-abbrev pub gathered : Setting → ℕ → Option (Plan Found) → Invoked → Way → Plan Found
+abbrev pub gathered : Setting → ℕ → Option (Plan Found) → InvokedCall → Way → Plan Found
 gathered setting round inner call Nothing = completed setting round call false false no_material
 gathered setting round inner call Next =
     opened inner (λ attempt. then_plan (place setting None attempt)
@@ -202,11 +195,11 @@ gathered setting round inner call EscapedToken =
     scans true setting.limits.token (λ marks. completed setting round call true false (marked marks))
 
 -- a name of no function is outside the profile
-abbrev pub gathered_by : Setting → ℕ → Option (Plan Found) → Invoked → Option Way → Plan Found
+abbrev pub gathered_by : Setting → ℕ → Option (Plan Found) → InvokedCall → Option Way → Plan Found
 gathered_by setting round inner call None = refuses OUT_OF_PROFILE 1
 gathered_by setting round inner call (Some way) = gathered setting round inner call way
 
-abbrev pub called : Setting → ℕ → Option (Plan Found) → Invoked → Plan Found
+abbrev pub called : Setting → ℕ → Option (Plan Found) → InvokedCall → Plan Found
 called setting round inner call = gathered_by setting round inner call (way_in setting call)
 
 -- ---- dispatch: a number and a sub-character, which is taken in upper case

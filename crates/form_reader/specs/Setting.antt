@@ -1,5 +1,5 @@
 -- What reading rests on, and the calls of macro functions.
-use Rattle.std.specs.Prelude.{ℕ, Bool, true, false, if◌then◌else◌, List, Option, Some, None, unwrap_or, option_map}
+use Rattle.std.specs.Prelude.{ℕ, Bool, true, false, if◌then◌else◌, List, Option, Some, None, option_map}
 use Rattle.std.specs.Option.{option_map_or}
 use Rattle.readtable_core.specs.Names.{is_among}
 use Rattle.readtable_core.specs.Tables.{Table}
@@ -15,6 +15,7 @@ use Rattle.std_macros.specs.declared.kind.StdGather.{StdGather}
 use Rattle.std_macros.specs.declared.kind.StdGather.TheVariants.{Nothing as StdNothing, One as StdOne, List as StdList, Many as StdMany, Text as StdText, Line as StdLine, Block as StdBlock, Token as StdToken, EscapedToken as StdEscapedToken}
 use Rattle.std_macros.specs.Kinds.{kinds, kind_among, way_of, radix_of}
 use Rattle.std_macros.specs.Values.{Material, nothing, one, many, dotted, letters, marked}
+use Rattle.form_reader.specs.Calls.{InvokedCall, caller}
 use Rattle.form_reader.specs.declared.limits.Limits.{Limits}
 use Rattle.form_reader.specs.declared.way.Function.{Function}
 use Rattle.form_reader.specs.declared.way.Function.TheVariants.{Standard as AStandard, User}
@@ -54,19 +55,6 @@ setting_of limits table packages current registered way answer = record {
   answer = registered_answer registered answer;
 }
 
--- ---- the call that invoked a function
-
--- the function, the macro character, the sub-character in upper case and the number
-pub record Invoked : Type 0 where
-  pub function : Function
-  pub character : ℕ
-  pub sub : Option ℕ
-  pub number : Option ℕ
-
--- the caller: the sub-character where there is one
-abbrev pub caller : Invoked → ℕ
-caller call = unwrap_or call.sub call.character
-
 -- ---- the way in which a function gathers
 
 -- to the closing parenthesis
@@ -96,11 +84,11 @@ user_way same GatherLine = Line Kept
 user_way same GatherToken = Token
 
 -- what the function of a call gathers; None where there is no function of the name
-abbrev pub way_by : Setting → Invoked → Function → Option Way
+abbrev pub way_by : Setting → InvokedCall → Function → Option Way
 way_by setting call (AStandard kind) = Some (if is_baseless kind call.number then Nothing else standard_way (caller call) (way_of kind))
 way_by setting call (User name) = option_map (user_way (caller call)) (setting.way name)
 
-abbrev pub way_in : Setting → Invoked → Option Way
+abbrev pub way_in : Setting → InvokedCall → Option Way
 way_in setting call = way_by setting call call.function
 
 -- ---- what a function of a user is given
@@ -113,7 +101,7 @@ user_material (dotted xs tail) = user.nothing
 user_material (letters cs) = user.text cs
 user_material (marked marks) = user.text (characters marks)
 
-abbrev pub macro_call : Invoked → Material → MacroCall
+abbrev pub macro_call : InvokedCall → Material → MacroCall
 macro_call call material =
     record { character = call.character; sub = call.sub; number = call.number; gathered = user_material material }
 

@@ -1,10 +1,16 @@
 //! The reader: which object a text begins with (standard 2.2).
 #![tactic(auto)]
 
+mod call;
+mod found;
+mod held;
 mod laws;
 mod limits;
 mod way;
 
+pub use call::Invoked;
+pub use found::Found;
+pub use held::{HeldObject, HeldObjects, HeldText};
 pub use laws::{forms_are_framed, reading_goes_on};
 pub use limits::Limits;
 pub use way::{Function, Keep, Way};
