@@ -1,6 +1,9 @@
+pub mod Homes
 pub mod Framing
 pub mod Places
 pub mod Steps
 pub mod Forms
 pub mod Turns
 mod Rows
+pub mod KnownParts
+pub mod Opened

@@ -5,3 +5,4 @@ pub mod Setting
 pub mod Naming
 pub mod Answering
 pub mod Reading
+pub mod Frames

@@ -1,9 +1,9 @@
 -- What a token means where packages are known (standard 2.3): an object, or the dot of a list.
-use Rattle.std.specs.Prelude.{ℕ, List, Result, Ok, Err}
+use Rattle.std.specs.Prelude.{◌≡◌, ℕ, List, Result, Ok, Err}
 use Rattle.lisp_object.specs.Object.{Object, symbol}
 use Rattle.package_table.specs.declared.error.PackageError.{PackageError}
 use Rattle.package_table.specs.Errors.{number_of}
-use Rattle.package_table.specs.Resolving.{Resolution, home_of, resolution, external_resolution, internal_resolution}
+use Rattle.package_table.specs.Resolving.{Resolution, home_of, resolution_of, resolution, external_resolution, internal_resolution}
 use Rattle.package_table.specs.Table.{Name, Table as Packages, keyword}
 use Rattle.token_scan.specs.declared.mark.Mark.{Mark}
 use Rattle.token_meaning.specs.declared.refusal.MeaningRefusal.{MeaningRefusal}
@@ -12,11 +12,13 @@ use Rattle.token_meaning.specs.declared.token.TokenName.TheVariants.{Unqualified
 use Rattle.token_meaning.specs.Folding.{folded}
 use Rattle.token_meaning.specs.Meanings.{Meaning, number, dot, name, meaning_of}
 use Rattle.token_meaning.specs.Results.{meaning_refusal_number}
+use Rattle.package_table.specs.declared.resolve.Resolved.{Resolved}
+use Rattle.std.specs.Borrow.{Bor}
+use Rattle.form_reader.specs.declared.told.Told.{Told}
+use Rattle.form_reader.specs.declared.told.Told.TheVariants.{Object as object, Dot as dot_alone}
+use Rattle.form_reader.specs.declared.told.TellError.{TellError}
+use Rattle.form_reader.specs.declared.told.TellError.TheVariants.{OutOfMemory, Refused}
 use Rattle.form_reader.specs.Setting.{Setting}
-
-pub data Told : Type 0 where
-  object : Object → Told
-  dot_alone : Told
 
 -- the symbol of this name at the home that was found, or the number of the refusal
 abbrev pub symbol_at : Name → Result Name PackageError → Result Told ℕ
@@ -43,3 +45,19 @@ told_of packages current (Err refusal) = Err (meaning_refusal_number refusal)
 -- the meaning of a token with these marks, or the number of its refusal
 abbrev pub told : Setting → List Mark → Result Told ℕ
 told setting marks = told_of setting.packages setting.current (meaning_of setting.base (folded setting.table.letters marks))
+
+-- ---- what the calls answer
+
+-- what was answered is the meaning, unless memory ran out
+abbrev pub Tells : Result Told TellError → Result Told ℕ → Type 0
+Tells (Ok answer) meaning = meaning ≡ Ok answer
+Tells (Err OutOfMemory) meaning = Unit {0}
+Tells (Err (Refused code)) meaning = meaning ≡ Err code
+
+abbrev pub view_resolved : Result Resolved PackageError → Result Resolution PackageError
+view_resolved (Ok r) = Ok (resolution_of r)
+view_resolved (Err e) = Err e
+
+abbrev pub view_home : Result (Bor Name) PackageError → Result Name PackageError
+view_home (Ok home) = Ok home.now
+view_home (Err e) = Err e

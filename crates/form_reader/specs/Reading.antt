@@ -15,6 +15,8 @@ use Rattle.std_macros.specs.Values.{Value, value_of, Material, nothing as no_mat
 use Rattle.std_macros.specs.Results.{std_refusal_number}
 use Rattle.form_reader.specs.declared.found.Found.{Found}
 use Rattle.form_reader.specs.declared.found.Found.TheVariants.{Nothing as nothing, One as one, LoneDot as lone_dot, TheEnd as the_end}
+use Rattle.form_reader.specs.declared.told.Told.{Told}
+use Rattle.form_reader.specs.declared.told.Told.TheVariants.{Object as told_object, Dot as dot_alone}
 use Rattle.form_reader.specs.declared.way.Function.{Function}
 use Rattle.form_reader.specs.declared.way.Function.TheVariants.{Standard as AStandard, User}
 use Rattle.form_reader.specs.declared.way.Keep.{Keep}
@@ -23,7 +25,7 @@ use Rattle.form_reader.specs.declared.way.Way.TheVariants.{Nothing, Next, List a
 use Rattle.form_reader.specs.Plans.{Plan, gives, refuses, takes, scans, then_plan, next_byte, loop, Read, run}
 use Rattle.form_reader.specs.Setting.{Setting, macro_call, way_in, function_of}
 use Rattle.form_reader.specs.Calls.{InvokedCall}
-use Rattle.form_reader.specs.Naming.{Told, object as told_object, dot_alone, told}
+use Rattle.form_reader.specs.Naming.{told}
 use Rattle.form_reader.specs.Answering.{may_be_answered}
 use Rattle.form_reader.specs.Gathering.{text_turn, line_turn, block_turn, number_turn}
 

@@ -3,14 +3,19 @@
 
 mod call;
 mod found;
+mod frame;
 mod held;
+mod known;
 mod laws;
 mod limits;
+mod told;
 mod way;
 
 pub use call::Invoked;
 pub use found::Found;
+pub use frame::{Frame, Part};
 pub use held::{HeldObject, HeldObjects, HeldText};
 pub use laws::{forms_are_framed, reading_goes_on};
 pub use limits::Limits;
+pub use told::{TellError, Told};
 pub use way::{Function, Keep, Way};
