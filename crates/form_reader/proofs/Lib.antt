@@ -7,3 +7,4 @@ pub mod Turns
 mod Rows
 pub mod KnownParts
 pub mod Opened
+pub mod Gathered

@@ -6,3 +6,4 @@ pub mod Naming
 pub mod Answering
 pub mod Reading
 pub mod Frames
+pub mod Completing

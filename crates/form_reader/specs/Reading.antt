@@ -22,6 +22,7 @@ use Rattle.form_reader.specs.declared.way.Function.TheVariants.{Standard as ASta
 use Rattle.form_reader.specs.declared.way.Keep.{Keep}
 use Rattle.form_reader.specs.declared.way.Way.{Way}
 use Rattle.form_reader.specs.declared.way.Way.TheVariants.{Nothing, Next, List as AList, Until, Text, Line, Block, Token, EscapedToken}
+use Rattle.package_table.specs.Table.{Table as Packages}
 use Rattle.form_reader.specs.Plans.{Plan, gives, refuses, takes, scans, then_plan, next_byte, loop, Read, run}
 use Rattle.form_reader.specs.Setting.{Setting, macro_call, way_in, function_of}
 use Rattle.form_reader.specs.Calls.{InvokedCall}
@@ -145,24 +146,24 @@ finished token (Ok (Some x)) = gives (one token x)
 finished token (Ok None) = gives (nothing false)
 finished token (Err refusal) = refuses (std_refusal_number refusal) (bytes_back refusal)
 
--- The answer of a function of a user, with so many open calls round it: whether a token ends the call, and whether a token
+-- The answer of a function of a user under a limit of nesting, with so many open calls round it: whether a token ends the call, and whether a token
 -- ends an object in it. Where no value is given, only an object has its one whitespace character discarded with it.
-abbrev pub answered : Setting → ℕ → Bool → Bool → MacroAnswer → Plan Found
-answered setting round token spaced (value x) =
-    elim (may_be_answered setting.packages x && nat_le (object_depth x + round) setting.limits.nesting) [
+abbrev pub answered : Packages → ℕ → ℕ → Bool → Bool → MacroAnswer → Plan Found
+answered packages nesting round token spaced (value x) =
+    elim (may_be_answered packages x && nat_le (object_depth x + round) nesting) [
       | true ↦ gives (one token x)
       | false ↦ refuses MACRO_ANSWER 0
     ]
-answered setting round token spaced no_value = gives (nothing spaced)
-answered setting round token spaced improper = refuses MACRO_ANSWER 0
-answered setting round token spaced (answer_refused code) = refuses MACRO_REFUSED 0
+answered packages nesting round token spaced no_value = gives (nothing spaced)
+answered packages nesting round token spaced improper = refuses MACRO_ANSWER 0
+answered packages nesting round token spaced (answer_refused code) = refuses MACRO_REFUSED 0
 
 -- what the function gives for what was gathered
 abbrev pub completed_by : Setting → ℕ → InvokedCall → Function → Bool → Bool → Material → Plan Found
 completed_by setting round call (AStandard kind) token spaced material =
     finished token (value_of kind setting.table.letters call.number material)
 completed_by setting round call (User name) token spaced material =
-    answered setting round token spaced (setting.answer name (macro_call call material))
+    answered setting.packages setting.limits.nesting round token spaced (setting.answer name (macro_call call material))
 
 abbrev pub completed : Setting → ℕ → InvokedCall → Bool → Bool → Material → Plan Found
 completed setting round call token spaced material = completed_by setting round call call.function token spaced material

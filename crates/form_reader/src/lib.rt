@@ -2,20 +2,24 @@
 #![tactic(auto)]
 
 mod call;
+mod complete;
 mod found;
 mod frame;
 mod held;
 mod known;
 mod laws;
 mod limits;
+mod surroundings;
 mod told;
 mod way;
 
 pub use call::Invoked;
+pub use complete::Completed;
 pub use found::Found;
 pub use frame::{Frame, Part};
 pub use held::{HeldObject, HeldObjects, HeldText};
 pub use laws::{forms_are_framed, reading_goes_on};
 pub use limits::Limits;
+pub use surroundings::Surroundings;
 pub use told::{TellError, Told};
 pub use way::{Function, Keep, Way};

@@ -6,7 +6,7 @@ ghost use Rattle.std.specs.Prelude.{◌≡◌};
 pub struct Limits {
     pub text: usize,
     pub token: usize,
-    pub nesting: usize,
+    pub nesting: u32,
 }
 
 impl Limits {
