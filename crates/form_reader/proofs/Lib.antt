@@ -8,3 +8,4 @@ mod Rows
 pub mod KnownParts
 pub mod Opened
 pub mod Gathered
+pub mod Fed

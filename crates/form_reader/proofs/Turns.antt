@@ -12,7 +12,7 @@ use Rattle.form_reader.specs.declared.way.Keep.{Keep}
 use Rattle.form_reader.specs.Plans.{Plan, gives, refuses, takes, then_plan, character, next_byte, loop_in, loop, Read, fault, within, run}
 use Rattle.form_reader.specs.declared.limits.Limits.{Limits}
 use Rattle.form_reader.specs.Setting.{Setting}
-use Rattle.form_reader.specs.Gathering.{text_turn, is_escape, kept, line_turn, block_turn, number_turn, next_digit}
+use Rattle.form_reader.specs.Gathering.{text_turn, is_escape, kept, line_turn, block_next, block_goes, block_turn, number_turn, next_digit}
 use Rattle.form_reader.specs.declared.found.Found.{Found}
 use Rattle.form_reader.specs.declared.found.Found.TheVariants.{Nothing as nothing, One as one, LoneDot as lone_dot, TheEnd as the_end}
 use Rattle.form_reader.specs.Reading.{Piece, item, dot, closed, is_whitespace, without_space, at_place, or_closed, place_turn, place, Items, items_step, items_turn, token_found, attempt_by, attempt}
@@ -109,31 +109,17 @@ line_guarded table limits keep = record {
       [ true ↦ refl | false ↦ same (kept keep s d) (at + 1) ds (omega arith) (omega arith) ]));
 }
 
-choice_same : {A : Type 0} (table : Table) (limits : Limits) (b : Bool) (p p2 q q2 : Plan A) (at : ℕ) (cs : List ℕ)
-    → run table limits p at cs ≡ run table limits p2 at cs → run table limits q at cs ≡ run table limits q2 at cs
-    → run table limits (elim b [ true ↦ p | false ↦ q ]) at cs ≡ run table limits (elim b [ true ↦ p2 | false ↦ q2 ]) at cs
-choice_same table limits true p p2 q q2 at cs e f = e
-choice_same table limits false p p2 q q2 at cs e f = f
+goes_same : (table : Table) (limits : Limits) (p q : ℕ × ℕ → Plan (Unit {0})) (next : Option (ℕ × ℕ)) (at : ℕ) (cs : List ℕ)
+    → ((t : ℕ × ℕ) → run table limits (p t) at cs ≡ run table limits (q t) at cs)
+    → run table limits (block_goes p next) at cs ≡ run table limits (block_goes q next) at cs
+goes_same table limits p q None at cs same = refl
+goes_same table limits p q (Some levels) at cs same = same levels
 
 pub block_guarded : (table : Table) (limits : Limits) → Guarded table limits block_turn
 block_guarded table limits = record {
   rest = λ p q s at cs h same.
-      let closes : (ℕ × ℕ → Plan (Unit {0})) → Plan (Unit {0}) = λ more. elim (s.0) [ zero ↦ gives tt | suc outer ↦ more (outer, 0) ] in
-      let on : (ℕ × ℕ → Plan (Unit {0})) → ℕ → Plan (Unit {0}) = λ more c. elim (s.1 == 124) [
-        | true ↦ elim (c == 35) [ true ↦ closes more | false ↦ more (s.0, c) ]
-        | false ↦ elim (s.1 == 35) [
-          | true ↦ elim (c == 124) [ true ↦ more (s.0 + 1, 0) | false ↦ more (s.0, c) ]
-          | false ↦ more (s.0, c)
-        ]
-      ] in
-      next_byte_same table limits (on p) (on q) at cs (λ c ds lt.
-      let go : (t : ℕ × ℕ) → run table limits (p t) (at + 1) ds ≡ run table limits (q t) (at + 1) ds = λ t. same t (at + 1) ds (omega arith) (omega arith) in
-      let level : (n : ℕ) → run table limits (elim n [ zero ↦ gives tt | suc outer ↦ p (outer, 0) ]) (at + 1) ds
-      ≡ run table limits (elim n [ zero ↦ gives tt | suc outer ↦ q (outer, 0) ]) (at + 1) ds
-      = λ n. elim n as (λ n. run table limits (elim n [ zero ↦ gives tt | suc outer ↦ p (outer, 0) ]) (at + 1) ds
-      ≡ run table limits (elim n [ zero ↦ gives tt | suc outer ↦ q (outer, 0) ]) (at + 1) ds) [ zero ↦ refl | suc outer ↦ go (outer, 0) ] in
-      choice_same table limits (s.1 == 124) _ _ _ _ (at + 1) ds (choice_same table limits (c == 35) _ _ _ _ (at + 1) ds (level s.0) (go (s.0, c)))
-      (choice_same table limits (s.1 == 35) _ _ _ _ (at + 1) ds (choice_same table limits (c == 124) _ _ _ _ (at + 1) ds (go (s.0 + 1, 0)) (go (s.0, c))) (go (s.0, c))));
+      next_byte_same table limits (λ c. block_goes p (block_next s c)) (λ c. block_goes q (block_next s c)) at cs
+      (λ c ds lt. goes_same table limits p q (block_next s c) (at + 1) ds (λ t. same t (at + 1) ds (omega arith) (omega arith)));
 }
 
 pub number_guarded : (table : Table) (limits : Limits) → Guarded table limits number_turn

@@ -1,6 +1,6 @@
 -- What the calls of functions gather (standard 2.4, 2.2), where it is no object: characters up to one, a line, a block, a
 -- number.
-use Rattle.std.specs.Prelude.{ℕ, zero, suc, ◌+◌, ◌-◌, ◌*◌, ◌==◌, nat_le, Bool, true, false, List, [], ◌∷◌, ◌++◌, Option, Some, unwrap_or}
+use Rattle.std.specs.Prelude.{ℕ, zero, suc, ◌+◌, ◌-◌, ◌*◌, ◌==◌, ◌&&◌, if◌then◌else◌, nat_le, Bool, true, false, List, [], ◌∷◌, ◌++◌, Option, Some, None, unwrap_or}
 use Rattle.lisp_object.specs.declared.refusal.TheConstants.{NUMERIC_ARGUMENT}
 use Rattle.readtable_core.specs.Characters.{is_digit}
 use Rattle.readtable_core.specs.Tables.{Table, entry_at}
@@ -39,16 +39,19 @@ line_turn keep more cs =
 
 -- ---- a block: up to a bar (124) and # (35) that close it, nested, pairs taken from the left
 
--- so many blocks are open inside it, and the byte before is the second number, if it may begin a pair
+-- So many blocks are open inside it, and the byte before is the second number, if it may begin a pair. After the next byte it
+-- is so; None where that byte closes the block.
+abbrev pub block_next : ℕ × ℕ → ℕ → Option (ℕ × ℕ)
+block_next (level, last) c =
+    if last == 124 && c == 35 then (if level == 0 then None else Some (level - 1, 0))
+    else (if last == 35 && c == 124 then Some (level + 1, 0) else Some (level, c))
+
+abbrev pub block_goes : (ℕ × ℕ → Plan (Unit {0})) → Option (ℕ × ℕ) → Plan (Unit {0})
+block_goes more None = gives tt
+block_goes more (Some levels) = more levels
+
 abbrev pub block_turn : (ℕ × ℕ → Plan (Unit {0})) → ℕ × ℕ → Plan (Unit {0})
-block_turn more (level, last) = next_byte (λ c.
-    elim (last == 124) [
-      | true ↦ elim (c == 35) [ true ↦ elim level [ zero ↦ gives tt | suc outer ↦ more (outer, 0) ] | false ↦ more (level, c) ]
-      | false ↦ elim (last == 35) [
-        | true ↦ elim (c == 124) [ true ↦ more (level + 1, 0) | false ↦ more (level, c) ]
-        | false ↦ more (level, c)
-      ]
-    ])
+block_turn more levels = next_byte (λ c. block_goes more (block_next levels c))
 
 -- ---- the number of a dispatch call, at most 999,999
 

@@ -7,3 +7,4 @@ pub mod Answering
 pub mod Reading
 pub mod Frames
 pub mod Completing
+pub mod Feeding

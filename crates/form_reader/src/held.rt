@@ -1,5 +1,7 @@
 //! What a reader holds while calls are open: proper objects, and characters.
-ghost use Rattle.std.specs.Prelude.{◌≡◌, ◌<◌, [], ◌∷◌, ◌++◌, true, false, map, length, IfOk, OnOk};
+ghost use Rattle.std.specs.Prelude.{◌≡◌, ◌<◌, [], ◌∷◌, ◌++◌, true, false, map, length, Some, None, is_some, nat_le, ◌≤◌, IfOk, IfSome, OnOk, IsTrue};
+ghost use Rattle.readtable_core.specs.Characters.{is_digit};
+ghost use Rattle.form_reader.specs.Gathering.{next_digit};
 ghost use Rattle.std.specs.List.{list_all};
 ghost use Rattle.lisp_object.specs.Ascii.{is_ascii};
 ghost use Rattle.lisp_object.specs.Datum.{object_of, is_proper};
@@ -153,5 +155,53 @@ impl HeldText {
     {
         let HeldText { bytes } = self;
         Bytes::from_vec(bytes)
+    }
+}
+
+/// The number of a dispatch call so far, at most 999,999.
+#[derive(Drop)]
+pub struct HeldNumber {
+    number: Option<u32>,
+}
+
+impl Model for HeldNumber {
+    ghost use Rattle.std.specs.Prelude.{◌≤◌, ℕ, Option, IfSome};
+
+    ghost Value = { Option ℕ };
+
+    ghost view = { λ h. h.number };
+
+    ghost invariant = { λ h. IfSome h.number (λ n. n ≤ 999999) };
+}
+
+impl HeldNumber {
+    /// No number.
+    pub(crate) fn none() -> HeldNumber
+        ensures { result ≡ None }
+    {
+        HeldNumber { number: None }
+    }
+
+    /// The number with one more digit; None where it is over 999,999.
+    pub(crate) fn with_digit(&self, c: u8) -> Option<HeldNumber>
+        requires { IsTrue (is_digit c) }
+        ensures some { IfSome result (λ n. n ≡ Some (next_digit self.now c)) }
+        ensures variant { is_some result ≡ nat_le (next_digit self.now c) 999999 }
+    {
+        let number = self.number.unwrap_or(0) * 10 + u32::from(c - b'0');
+        if number > 999_999 {
+            return None;
+        }
+        Some(HeldNumber {
+            number: Some(number),
+        })
+    }
+
+    /// The number.
+    pub(crate) fn get(&self) -> Option<u32>
+        ensures value { result ≡ self.now }
+        ensures most { IfSome result (λ n. n ≤ 999999) }
+    {
+        self.number
     }
 }

@@ -1,6 +1,7 @@
 //! The reader: which object a text begins with (standard 2.2).
 #![tactic(auto)]
 
+mod bytes;
 mod call;
 mod complete;
 mod found;
@@ -13,11 +14,12 @@ mod surroundings;
 mod told;
 mod way;
 
+pub use bytes::{LineByte, TextByte};
 pub use call::Invoked;
 pub use complete::Completed;
 pub use found::Found;
 pub use frame::{Frame, Part};
-pub use held::{HeldObject, HeldObjects, HeldText};
+pub use held::{HeldNumber, HeldObject, HeldObjects, HeldText};
 pub use laws::{forms_are_framed, reading_goes_on};
 pub use limits::Limits;
 pub use surroundings::Surroundings;
