@@ -134,3 +134,67 @@ module _ (table : Table) (limits : Limits) where
       → run table limits (loop limits (line_turn keep) cs) at (c ∷ ds) ≡ fault INVALID_CHARACTER at
   line_invalid keep cs at c ds lt over =
       line_is keep cs at c ds (omega arith) ∙ any_invalid table limits (gives cs) (λ d. line_on limits keep cs d (d == 10)) at c ds lt over
+
+-- ---- a block
+
+module _ (table : Table) (limits : Limits) (levels : ℕ × ℕ) (at c : ℕ) (ds : List ℕ) where
+  block_is : at ≤ limits.text → run table limits (loop limits block_turn levels) at (c ∷ ds)
+      ≡ run table limits (next_byte (λ d. block_goes (loop limits block_turn) (block_next levels d))) at (c ∷ ds)
+  block_is h = loop_is table limits block_turn (block_guarded table limits) levels at (c ∷ ds) h
+
+  block_byte : (next : Option (ℕ × ℕ)) → at < limits.text → c < 128 → block_next levels c ≡ next
+      → run table limits (loop limits block_turn levels) at (c ∷ ds) ≡ run table limits (block_goes (loop limits block_turn) next) (at + 1) ds
+  block_byte next lt ascii e =
+      block_is (omega arith) ∙ byte_taken table limits (λ d. block_goes (loop limits block_turn) (block_next levels d)) at c ds lt ascii
+      ∙ ap (λ n. run table limits (block_goes (loop limits block_turn) n) (at + 1) ds) e
+
+  pub block_ends : at < limits.text → c < 128 → block_next levels c ≡ None
+      → run table limits (loop limits block_turn levels) at (c ∷ ds) ≡ Ok (tt, at + 1, ds)
+  unfolding run
+  block_ends lt ascii e = block_byte None lt ascii e
+
+  pub block_more : (next : ℕ × ℕ) → at < limits.text → c < 128 → block_next levels c ≡ Some next
+      → run table limits (loop limits block_turn levels) at (c ∷ ds) ≡ run table limits (loop limits block_turn next) (at + 1) ds
+  block_more next lt ascii e = block_byte (Some next) lt ascii e
+
+  pub block_over : at ≤ limits.text → limits.text ≤ at → run table limits (loop limits block_turn levels) at (c ∷ ds) ≡ fault FORM_TOO_LONG at
+  block_over h g = block_is h ∙ byte_over table limits (λ d. block_goes (loop limits block_turn) (block_next levels d)) at c ds g
+
+  pub block_invalid : at < limits.text → 128 ≤ c → run table limits (loop limits block_turn levels) at (c ∷ ds) ≡ fault INVALID_CHARACTER at
+  block_invalid lt over = block_is (omega arith) ∙ byte_invalid table limits (λ d. block_goes (loop limits block_turn) (block_next levels d)) at c ds lt over
+
+-- ---- a number
+
+abbrev number_on : Limits → Option ℕ → ℕ → Bool → Plan (Option ℕ)
+number_on limits number c small = elim small [ true ↦ loop limits number_turn (Some (next_digit number c)) | false ↦ refuses NUMERIC_ARGUMENT 1 ]
+
+module _ (table : Table) (limits : Limits) (number : Option ℕ) (at c : ℕ) (ds : List ℕ) where
+  number_is : at ≤ limits.text → run table limits (loop limits number_turn number) at (c ∷ ds)
+      ≡ run table limits (takes (gives number) is_digit (λ d. number_on limits number d (nat_le (next_digit number d) 999999))) at (c ∷ ds)
+  number_is h = loop_is table limits number_turn (number_guarded table limits) number at (c ∷ ds) h
+
+  number_by : (digit full small : Bool) → at ≤ limits.text → is_digit c ≡ digit → nat_le limits.text at ≡ full → nat_le (next_digit number c) 999999 ≡ small
+      → run table limits (loop limits number_turn number) at (c ∷ ds)
+      ≡ elim digit [ true ↦ within full at (run table limits (number_on limits number c small) (at + 1) ds) | false ↦ Ok (number, at, c ∷ ds) ]
+  unfolding run
+  number_by digit full small h d f e =
+      let first : Bool → Bool → Bool → Read (Option ℕ) = λ digit full small.
+      elim digit [ true ↦ within full at (run table limits (number_on limits number c small) (at + 1) ds) | false ↦ Ok (number, at, c ∷ ds) ] in
+      number_is h ∙ (λ i. first (d i) (f i) (e i))
+
+  pub number_ends : at ≤ limits.text → is_digit c ≡ false → run table limits (loop limits number_turn number) at (c ∷ ds) ≡ Ok (number, at, c ∷ ds)
+  number_ends h d = number_by false _ _ h d refl refl
+
+  pub number_over : at ≤ limits.text → limits.text ≤ at → is_digit c ≡ true → run table limits (loop limits number_turn number) at (c ∷ ds) ≡ fault FORM_TOO_LONG at
+  number_over h g d = number_by true true _ h d (le-leb limits.text at g) refl
+
+  pub number_more : at < limits.text → is_digit c ≡ true → nat_le (next_digit number c) 999999 ≡ true
+      → run table limits (loop limits number_turn number) at (c ∷ ds) ≡ run table limits (loop limits number_turn (Some (next_digit number c))) (at + 1) ds
+  number_more lt d e = number_by true false true (omega arith) d (lt-leb limits.text at lt) e
+
+  pub number_passes : at < limits.text → is_digit c ≡ true → nat_le (next_digit number c) 999999 ≡ false
+      → run table limits (loop limits number_turn number) at (c ∷ ds) ≡ fault NUMERIC_ARGUMENT at
+  unfolding run
+  number_passes lt d e =
+      let back : at + 1 - 1 ≡ at = omega arith in
+      number_by true false false (omega arith) d (lt-leb limits.text at lt) e ∙ ap (λ (n : ℕ). fault NUMERIC_ARGUMENT n) back

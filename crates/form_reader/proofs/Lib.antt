@@ -9,3 +9,4 @@ pub mod KnownParts
 pub mod Opened
 pub mod Gathered
 pub mod Fed
+pub mod FedTokens

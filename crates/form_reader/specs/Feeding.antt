@@ -5,14 +5,15 @@ use Rattle.readtable_core.specs.Tables.{Table}
 use Rattle.token_scan.specs.declared.mark.Mark.{Mark}
 use Rattle.token_scan.specs.declared.refusal.ScanRefusal.{ScanRefusal}
 use Rattle.token_scan.specs.declared.refusal.ScanRefusal.TheVariants.{EndOfFile, InvalidCharacter, InvalidTrait, TokenTooLong}
-use Rattle.token_scan.specs.Scans.{Scan}
+use Rattle.token_scan.specs.Tokens.{in_bytes, typed_text}
+use Rattle.token_scan.specs.Scans.{Scan, token_from}
 use Rattle.form_reader.specs.declared.bytes.TextByte.{TextByte}
 use Rattle.form_reader.specs.declared.bytes.TextByte.TheVariants.{More as TextMore, Escape as TextEscape, Ended as TextEnded, Refused as TextRefused}
 use Rattle.form_reader.specs.declared.bytes.LineByte.{LineByte}
 use Rattle.form_reader.specs.declared.bytes.LineByte.TheVariants.{More as LineMore, Ended as LineEnded, Refused as LineRefused}
 use Rattle.form_reader.specs.declared.limits.Limits.{Limits}
 use Rattle.form_reader.specs.declared.way.Keep.{Keep}
-use Rattle.form_reader.specs.Plans.{Plan, Read, fault, loop, next_byte, run}
+use Rattle.form_reader.specs.Plans.{Plan, Read, fault, limited, loop, next_byte, run}
 use Rattle.form_reader.specs.Gathering.{text_turn, line_turn, block_turn, number_turn}
 
 -- in a text, which has these characters then
@@ -45,6 +46,18 @@ abbrev pub NumberFeeds : Table → Limits → Option ℕ → ℕ → ℕ → Lis
 NumberFeeds table limits number at c cs LineMore read = read ≡ run table limits (loop limits number_turn number) (at + 1) cs
 NumberFeeds table limits number at c cs LineEnded read = read ≡ Ok (number, at, c ∷ cs)
 NumberFeeds table limits number at c cs (LineRefused code) read = read ≡ fault code at
+
+-- ---- in a token
+
+-- what the token gives if these bytes follow, under the limit of the text
+abbrev pub token_read : Table → Limits → Scan → ℕ → List ℕ → Read (List Mark)
+token_read table limits scan at cs = limited limits.text (in_bytes (token_from scan at (typed_text table cs))) (λ p. p.1)
+
+-- before this byte: the byte that ends it is not taken
+abbrev pub TokenFeeds : Table → Limits → Scan → ℕ → ℕ → List ℕ → LineByte → Read (List Mark) → Type 0
+TokenFeeds table limits scan at c cs LineMore read = read ≡ token_read table limits scan (at + 1) cs
+TokenFeeds table limits scan at c cs LineEnded read = read ≡ Ok (scan.marks, at, c ∷ cs)
+TokenFeeds table limits scan at c cs (LineRefused code) read = read ≡ fault code at
 
 -- the number of the refusal of a token at this place, which is not beyond the limit
 abbrev pub refused_number : ℕ → ScanRefusal → ℕ → ℕ

@@ -2,18 +2,15 @@
 -- By recursion on the open calls alone, over the definition of reading.
 use Rattle.std.specs.Prelude.{ℕ, ◌+◌, ◌-◌, true, false, Bool, List, [], ◌∷◌, length, Option, Some, None, Ok, Err}
 use Rattle.token_scan.specs.declared.mark.Mark.{Mark}
-use Rattle.token_scan.specs.Tokens.{in_bytes, typed_text}
-use Rattle.token_scan.specs.Scans.{Scan, token_from}
-use Rattle.std_macros.specs.Values.{Material, one as one_object, letters, marked, nothing as no_material}
+use Rattle.std_macros.specs.Values.{one as one_object}
 use Rattle.form_reader.specs.declared.found.Found.{Found}
 use Rattle.form_reader.specs.declared.found.Found.TheVariants.{Nothing as nothing, One as one, LoneDot as lone_dot, TheEnd as the_end}
 use Rattle.form_reader.specs.declared.frame.Frame.{Frame}
 use Rattle.form_reader.specs.declared.frame.Part.{Part}
 use Rattle.form_reader.specs.declared.frame.Part.TheVariants.{Next as InNext, List as InList, Until as InUntil, Dotted as InDotted, Tailed as InTailed}
-use Rattle.form_reader.specs.Plans.{Plan, gives, then_plan, next_byte, loop, Read, limited, run}
+use Rattle.form_reader.specs.Plans.{Plan, then_plan, Read, run}
 use Rattle.form_reader.specs.Calls.{InvokedCall}
 use Rattle.form_reader.specs.Setting.{Setting}
-use Rattle.form_reader.specs.Gathering.{text_turn}
 use Rattle.form_reader.specs.Reading.{Piece, at_place, place, items_step, items_after, undotted, after_tail, after_dot, list_end, one_piece, completed, attempt, without_space}
 
 -- the closing character that is looked for
@@ -55,12 +52,8 @@ abbrev pub between : Setting → List Frame → Plan Found
 between setting [] = attempt setting setting.limits.nesting
 between setting (f ∷ fs) = given setting fs (then_plan (place_in setting f fs) (λ p. call_in setting f fs p))
 
--- ---- inside a token, whose bytes are not kept: what is given on a text
+-- ---- a token, whose bytes are not kept: what is given where it has come to this
 
 abbrev pub token_goes_on : Setting → List Frame → (List Mark → Plan Found) → Read (List Mark) → Read Found
 token_goes_on setting frames on (Ok p) = run setting.table setting.limits (given setting frames (on p.0)) p.1 p.2
 token_goes_on setting frames on (Err e) = Err e
-
-abbrev pub in_token : Setting → List Frame → Scan → (List Mark → Plan Found) → ℕ → List ℕ → Read Found
-in_token setting frames scan on at cs =
-    token_goes_on setting frames on (limited setting.limits.text (in_bytes (token_from scan at (typed_text setting.table cs))) (λ p. p.1))

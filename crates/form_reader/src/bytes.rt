@@ -1,7 +1,8 @@
 //! One byte of what a call gathers.
-ghost use Rattle.std.specs.Prelude.{◌≡◌, ◌≤◌, ℕ, List, ◌∷◌, ◌++◌, [], IfOk};
+ghost use Rattle.std.specs.Prelude.{◌≡◌, ◌≤◌, ◌<◌, ◌+◌, ◌^◌, ℕ, List, ◌∷◌, ◌++◌, [], IfOk, IfSome};
 ghost use Rattle.form_reader.specs.Plans.{loop, next_byte, run};
 ghost use Rattle.form_reader.specs.Gathering.{text_turn, line_turn, block_turn, number_turn};
+ghost use Rattle.form_reader.specs.Gathering.{block_next};
 ghost use Rattle.form_reader.specs.Feeding.{TextFeeds, EscapeFeeds, LineFeeds, BlockFeeds, NumberFeeds};
 
 use crate::held::{HeldNumber, HeldText};
@@ -119,4 +120,80 @@ pub(crate) fn line_byte(
         Keep::Dropped => {}
     }
     Ok(LineByte::More)
+}
+
+/// The byte `c` at `at`, inside a block: how many blocks are open inside it, and the byte before, if it may begin a pair.
+#[tactic(auto, using(crate::proofs::Fed::block_over, crate::proofs::Fed::block_invalid, crate::proofs::Fed::block_ends, crate::proofs::Fed::block_more))]
+pub(crate) fn block_byte(
+    readtable: &Readtable,
+    limits: &Limits,
+    levels: &mut (usize, u8),
+    at: usize,
+    c: u8,
+) -> LineByte
+    requires place { at ≤ limits.now.text }
+    requires level { levels.old.0 ≤ at }
+    ensures feeds { (cs : List ℕ) → BlockFeeds readtable.now limits.now levels.new at cs result
+        (run readtable.now limits.now (loop limits.now block_turn levels.old) at (c ∷ cs)) }
+    ensures level { levels.new.0 ≤ at + 1 }
+{
+    if at >= limits.text {
+        return LineByte::Refused(FORM_TOO_LONG);
+    }
+    if c >= 128 {
+        return LineByte::Refused(INVALID_CHARACTER);
+    }
+    match block_next(*levels, c) {
+        None => LineByte::Ended,
+        Some(next) => {
+            *levels = next;
+            LineByte::More
+        }
+    }
+}
+
+fn block_next(levels: (usize, u8), c: u8) -> Option<(usize, u8)>
+    requires { levels.0 + 1 < 2 ^ 64 }
+    ensures value { result ≡ block_next levels c }
+    ensures level { IfSome result (λ next. next.0 ≤ levels.0 + 1) }
+{
+    let (level, last) = levels;
+    if last == b'|' && c == b'#' {
+        if level == 0 {
+            return None;
+        }
+        return Some((level - 1, 0));
+    }
+    if last == b'#' && c == b'|' {
+        return Some((level + 1, 0));
+    }
+    Some((level, c))
+}
+
+/// The byte `c` at `at`, in the number of a dispatch call.
+#[tactic(auto, using(crate::proofs::Fed::number_over, crate::proofs::Fed::number_ends, crate::proofs::Fed::number_more, crate::proofs::Fed::number_passes))]
+pub(crate) fn number_byte(
+    readtable: &Readtable,
+    limits: &Limits,
+    number: &mut HeldNumber,
+    at: usize,
+    c: u8,
+) -> LineByte
+    requires { at ≤ limits.now.text }
+    ensures { (cs : List ℕ) → NumberFeeds readtable.now limits.now number.new at c cs result
+        (run readtable.now limits.now (loop limits.now number_turn number.old) at (c ∷ cs)) }
+{
+    if !c.is_ascii_digit() {
+        return LineByte::Ended;
+    }
+    if at >= limits.text {
+        return LineByte::Refused(FORM_TOO_LONG);
+    }
+    match number.with_digit(c) {
+        None => LineByte::Refused(NUMERIC_ARGUMENT),
+        Some(next) => {
+            *number = next;
+            LineByte::More
+        }
+    }
 }

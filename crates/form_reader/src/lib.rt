@@ -11,6 +11,7 @@ mod known;
 mod laws;
 mod limits;
 mod surroundings;
+mod tokens;
 mod told;
 mod way;
 
