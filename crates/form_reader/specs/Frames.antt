@@ -21,6 +21,10 @@ close_of (InUntil close xs) = Some close
 close_of (InDotted xs) = Some 41
 close_of (InTailed xs tail) = Some 41
 
+abbrev pub close_of_frames : List Frame → Option ℕ
+close_of_frames [] = None
+close_of_frames (f ∷ fs) = close_of f.part
+
 -- What the call gives if this piece comes next, where so many calls are open round it, and attempts inside it are these.
 abbrev pub part_gives : Setting → ℕ → Plan Found → InvokedCall → Part → Piece → Plan Found
 part_gives setting round attempt call InNext p = one_piece (λ token x. completed setting round call token token (one_object x)) p

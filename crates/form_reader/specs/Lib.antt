@@ -8,3 +8,5 @@ pub mod Reading
 pub mod Frames
 pub mod Completing
 pub mod Feeding
+pub mod Begun
+pub mod Resuming

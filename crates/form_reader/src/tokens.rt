@@ -2,8 +2,9 @@
 ghost use Rattle.std.specs.Prelude.{◌≡◌, ◌≤◌, ◌<◌, ℕ, List, ◌∷◌, Ok, IfOk, OnErr, OnOk, IsTrue, length, nat_lt, if◌then◌else◌};
 ghost use Rattle.lisp_object.specs.declared.refusal.TheConstants.{FORM_TOO_LONG};
 ghost use Rattle.token_scan.specs.declared.stage.Stage.TheVariants.{Outside};
-ghost use Rattle.token_scan.specs.Marks.{are_ascii};
-ghost use Rattle.token_scan.specs.Scans.{begun, has_begun};
+ghost use Rattle.token_scan.specs.Tokens.{kind, typed};
+ghost use Rattle.token_scan.specs.Spelling.{ends_tokens};
+ghost use Rattle.token_scan.specs.Scans.{has_begun};
 ghost use Rattle.form_reader.specs.declared.bytes.LineByte.TheVariants.{Ended as LineEnded, More as LineMore};
 ghost use Rattle.form_reader.specs.Feeding.{TokenFeeds, token_read, refused_number};
 
@@ -29,6 +30,7 @@ pub(crate) fn token_byte(
     ensures feeds { (cs : List ℕ) → IfOk result (λ fed.
         TokenFeeds readtable.now limits.now scan.new at c cs fed (token_read readtable.now limits.now scan.old at (c ∷ cs))) }
     ensures ended { result ≡ Ok LineEnded → (scan.new ≡ scan.old) × (scan.new.stage ≡ Outside) }
+    ensures ends { result ≡ Ok LineEnded → IsTrue (ends_tokens (kind (typed readtable.now c))) }
     ensures more { result ≡ Ok LineMore → IsTrue (has_begun scan.new) }
 {
     match scan.feed(readtable.syntax(c), c)? {
