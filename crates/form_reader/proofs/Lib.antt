@@ -10,3 +10,5 @@ pub mod Opened
 pub mod Gathered
 pub mod Fed
 pub mod FedTokens
+pub mod Beginnings
+pub mod Goings

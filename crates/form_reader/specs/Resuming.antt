@@ -7,9 +7,13 @@ use Rattle.form_reader.specs.declared.stage.Stage.{Stage}
 use Rattle.form_reader.specs.declared.stage.Stage.TheVariants.{Object as AtObject, Token as AtToken, CallToken as AtCallToken, Text as AtText, Escaped as AtEscaped, Line as AtLine, Block as AtBlock, Number as AtNumber}
 use Rattle.form_reader.specs.declared.stage.Event.{Event}
 use Rattle.form_reader.specs.declared.stage.Event.TheVariants.{Stage as IsAt, Gives as IsGiven, Refused as IsRefused}
+use Rattle.form_reader.specs.declared.complete.Completed.{Completed}
+use Rattle.form_reader.specs.declared.way.Way.{Way}
+use Rattle.form_reader.specs.Calls.{InvokedCall}
+use Rattle.form_reader.specs.Completing.{plan_of}
 use Rattle.form_reader.specs.Plans.{Plan, gives, then_plan, next_byte, Read, fault, run}
 use Rattle.form_reader.specs.Setting.{Setting}
-use Rattle.form_reader.specs.Reading.{text_to, line_after, block_after, dispatched, completed, token_found, attempt, inner}
+use Rattle.form_reader.specs.Reading.{text_to, line_after, block_after, dispatched, completed, gathered, called, token_found, attempt, inner}
 use Rattle.form_reader.specs.Feeding.{token_read}
 use Rattle.form_reader.specs.Frames.{given, between, token_goes_on}
 
@@ -49,3 +53,20 @@ abbrev pub Brings : Setting → List Frame → ℕ → List ℕ → Event → Re
 Brings setting frames at cs (IsAt stage) read = read ≡ stage_gives setting frames stage at cs
 Brings setting frames at cs (IsGiven found) read = read ≡ run setting.table setting.limits (given setting frames (gives found)) at cs
 Brings setting frames at cs (IsRefused code place) read = read ≡ fault code place
+
+-- a call begins in these open calls, after which there are those
+abbrev pub Begins : Setting → List Frame → List Frame → InvokedCall → ℕ → List ℕ → Event → Type 0
+Begins setting after frames call at cs event =
+    Brings setting after at cs event (run setting.table setting.limits
+    (given setting frames (called setting (length frames) (inner_at setting (length frames)) call)) at cs)
+
+-- it gathers in this way
+abbrev pub Gathers : Setting → List Frame → List Frame → InvokedCall → Way → ℕ → List ℕ → Event → Type 0
+Gathers setting after frames call way at cs event =
+    Brings setting after at cs event (run setting.table setting.limits
+    (given setting frames (gathered setting (length frames) (inner_at setting (length frames)) call way)) at cs)
+
+-- a call comes to this in these open calls
+abbrev pub ComesTo : Setting → List Frame → Completed → ℕ → List ℕ → Event → Type 0
+ComesTo setting frames completed at cs event =
+    Brings setting frames at cs event (run setting.table setting.limits (given setting frames (plan_of completed)) at cs)
