@@ -12,3 +12,4 @@ pub mod Fed
 pub mod FedTokens
 pub mod Beginnings
 pub mod Goings
+pub mod Deliveries

@@ -131,7 +131,7 @@ number_guarded table limits = record {
       [ true ↦ same (Some (next_digit s c)) (at + 1) ds (omega arith) (omega arith) | false ↦ refl ]);
 }
 
-space_same : {A : Type 0} (table : Table) (limits : Limits) (token : Bool) (p q : Plan A) (at : ℕ) (cs : List ℕ) → at ≤ limits.text → Alike table limits at p q
+pub space_same : {A : Type 0} (table : Table) (limits : Limits) (token : Bool) (p q : Plan A) (at : ℕ) (cs : List ℕ) → at ≤ limits.text → Alike table limits at p q
     → run table limits (without_space table token p) at cs ≡ run table limits (without_space table token q) at cs
 space_same table limits false p q at cs h same = same at cs (omega arith) h
 space_same table limits true p q at cs h same =

@@ -10,3 +10,4 @@ pub mod Completing
 pub mod Feeding
 pub mod Begun
 pub mod Resuming
+pub mod Delivering

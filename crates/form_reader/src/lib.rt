@@ -4,6 +4,7 @@
 mod bytes;
 mod call;
 mod complete;
+mod deliver;
 mod found;
 mod gathering;
 mod frame;
@@ -21,6 +22,7 @@ mod way;
 pub use bytes::{LineByte, TextByte};
 pub use call::Invoked;
 pub use complete::Completed;
+pub use deliver::{Delivered, Taken};
 pub use found::Found;
 pub use frame::{Frame, Frames, Part};
 pub use held::{HeldNumber, HeldObject, HeldObjects, HeldText};
