@@ -144,3 +144,23 @@ module _ (setting : Setting) (frames : List Frame) (call : InvokedCall) (at : �
   pub found_dot : (part : Part) (found : Found) (taken : Taken) → found ≡ lone_dot → Takes setting frames at cs taken (delivered part lone_dot)
       → Takes setting frames at cs taken (delivered part found)
   found_dot part found taken e takes = subst (λ (f : Found). Takes setting frames at cs taken (delivered part f)) (sym e) takes
+
+-- ---- call after call
+
+pub taken_then : (setting : Setting) (old frames new : List Frame) (x found : Found) (frame : Frame) (taken known : Taken) (at round : ℕ) (cs : List ℕ)
+    → ((cs : List ℕ) → run setting.table setting.limits (given setting old (gives x)) at cs ≡ run setting.table setting.limits (given setting frames (gives found)) at cs)
+    → frames ≡ frame ∷ new → round ≡ length new
+    → ((fs : List Frame) (cs : List ℕ) → round ≡ length fs → Takes setting fs at cs taken (run setting.table setting.limits (given setting (frame ∷ fs) (gives found)) at cs))
+    → taken ≡ known → Takes setting new at cs known (run setting.table setting.limits (given setting old (gives x)) at cs)
+taken_then setting old frames new x found frame taken known at round cs before is open_calls takes e =
+    let whole : run setting.table setting.limits (given setting old (gives x)) at cs ≡ run setting.table setting.limits (given setting (frame ∷ new) (gives found)) at cs =
+    before cs ∙ ap (λ (fs : List Frame). run setting.table setting.limits (given setting fs (gives found)) at cs) is in
+    subst (λ (r : Read Found). Takes setting new at cs known r) (sym whole)
+    (subst (λ (t : Taken). Takes setting new at cs t (run setting.table setting.limits (given setting (frame ∷ new) (gives found)) at cs)) e (takes new cs open_calls))
+
+pub none_left : (setting : Setting) (old frames : List Frame) (x found : Found) (at : ℕ) (cs : List ℕ)
+    → ((cs : List ℕ) → run setting.table setting.limits (given setting old (gives x)) at cs ≡ run setting.table setting.limits (given setting frames (gives found)) at cs)
+    → frames ≡ [] → run setting.table setting.limits (given setting old (gives x)) at cs ≡ Ok (found, at, cs)
+unfolding given run
+none_left setting old frames x found at cs before none =
+    before cs ∙ ap (λ (fs : List Frame). run setting.table setting.limits (given setting fs (gives found)) at cs) none

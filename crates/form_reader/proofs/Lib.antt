@@ -13,3 +13,4 @@ pub mod FedTokens
 pub mod Beginnings
 pub mod Goings
 pub mod Deliveries
+pub mod Closings

@@ -140,3 +140,34 @@ fn taken_of(completed: Completed, at: usize) -> Taken
         Completed::Refused(code, back) => Taken::Refused(code, at.saturating_sub(back)),
     }
 }
+
+/// What the open calls make of what is found in the innermost at `at`.
+pub(crate) fn deliver<R: MacroFunctions>(
+    with: &Surroundings<'_, R>,
+    frames: &mut Frames,
+    found: Found,
+    at: usize,
+) -> Result<Delivered, AllocError>
+    requires answers { R.answers with.now.macros.now }
+    requires place { at ≤ with.now.limits.text }
+    ensures { (cs : List ℕ) → IfOk result (λ delivered. Delivers
+        (setting_of with.now.limits with.now.readtable.now with.now.packages.now.0 with.now.current.now
+        (R.registered with.now.macros.now) R.Meaning.way R.Meaning.answer)
+        frames.new at cs delivered (run with.now.readtable.now with.now.limits (given
+        (setting_of with.now.limits with.now.readtable.now with.now.packages.now.0 with.now.current.now
+        (R.registered with.now.macros.now) R.Meaning.way R.Meaning.answer)
+        frames.old (gives found)) at cs)) }
+{
+    let mut found = found;
+    'calls: while let Some(frame) = frames.pop() {
+        match take(with, frames.len(), frame, found, at)? {
+            Taken::Stays(token, frame) => {
+                frames.push(frame)?;
+                return Ok(Delivered::Waits(token));
+            }
+            Taken::Gives(next) => found = next,
+            Taken::Refused(code, place) => return Ok(Delivered::Refused(code, place)),
+        }
+    }
+    Ok(Delivered::Done(found))
+}

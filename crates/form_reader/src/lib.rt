@@ -3,6 +3,7 @@
 
 mod bytes;
 mod call;
+mod close;
 mod complete;
 mod deliver;
 mod found;
