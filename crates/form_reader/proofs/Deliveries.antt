@@ -121,7 +121,7 @@ module _ (setting : Setting) (frames : List Frame) (call : InvokedCall) (at : �
       (λ at2 cs2 le. until_is setting frames call close (xs ++ x ∷ []) at2 cs2 le)
       ∙ ap (λ (ys : List Object). waiting token (InUntil close ys)) (sym e)
 
--- ---- the same, where it is known which part it is
+  -- ---- the same, where it is known which part it is
 
   pub known : (part p : Part) (found : Found) (r : Read Found) → part ≡ p → delivered p found ≡ r → delivered part found ≡ r
   known part p found r e same = ap (λ (q : Part). delivered q found) e ∙ same

@@ -14,3 +14,5 @@ pub mod Beginnings
 pub mod Goings
 pub mod Deliveries
 pub mod Closings
+pub mod Functions
+pub mod Callers

@@ -120,7 +120,6 @@ until_is setting frames call close xs at cs h =
 
 -- ---- a whitespace character that may be discarded
 
-
 takes_given_at : {A : Type 0} (setting : Setting) (frames : List Frame) (p : Plan A) (test : ℕ → Bool) (on : A → Plan Found) (at c : ℕ) (cs : List ℕ) (b full : Bool)
     → test c ≡ b → nat_le setting.limits.text at ≡ full
     → run setting.table setting.limits (given setting frames (then_plan (takes p test (λ d. p)) on)) at (c ∷ cs)
@@ -144,10 +143,10 @@ takes_given_at {A = A} setting frames p test on at c cs b full e f =
     λ b full. elim b as (λ b. run setting.table setting.limits (then_plan (takes p test (λ d. p)) on) at (c ∷ cs) ≡ first b full
     → run setting.table setting.limits (given setting frames (then_plan (takes p test (λ d. p)) on)) at (c ∷ cs) ≡ last b full) [
       | true ↦ elim full as (λ full. run setting.table setting.limits (then_plan (takes p test (λ d. p)) on) at (c ∷ cs) ≡ first true full
-      → run setting.table setting.limits (given setting frames (then_plan (takes p test (λ d. p)) on)) at (c ∷ cs) ≡ last true full) [
-        | true ↦ λ e. given_fault setting frames (then_plan (takes p test (λ d. p)) on) at (c ∷ cs) (record { code = FORM_TOO_LONG; at = at }) e
-        | false ↦ λ e. given_moves setting frames (then_plan (takes p test (λ d. p)) on) (then_plan p on) at (at + 1) (c ∷ cs) cs e
-      ]
+          → run setting.table setting.limits (given setting frames (then_plan (takes p test (λ d. p)) on)) at (c ∷ cs) ≡ last true full) [
+            | true ↦ λ e. given_fault setting frames (then_plan (takes p test (λ d. p)) on) at (c ∷ cs) (record { code = FORM_TOO_LONG; at = at }) e
+            | false ↦ λ e. given_moves setting frames (then_plan (takes p test (λ d. p)) on) (then_plan p on) at (at + 1) (c ∷ cs) cs e
+          ]
       | false ↦ λ e. given_moves setting frames (then_plan (takes p test (λ d. p)) on) (then_plan p on) at at (c ∷ cs) (c ∷ cs) e
     ] in
     by b full begins

@@ -1,5 +1,5 @@
 -- Where a reader is in its innermost call, and what is given there on a text.
-use Rattle.std.specs.Prelude.{ℕ, ◌≡◌, ◌-◌, false, true, List, [], ◌∷◌, ◌++◌, length, Option}
+use Rattle.std.specs.Prelude.{ℕ, ◌≡◌, ◌+◌, ◌-◌, false, true, List, [], ◌∷◌, ◌++◌, length, Option}
 use Rattle.std_macros.specs.Values.{letters, marked, nothing as no_material}
 use Rattle.form_reader.specs.declared.found.Found.{Found}
 use Rattle.form_reader.specs.declared.frame.Frame.{Frame}
@@ -11,6 +11,8 @@ use Rattle.form_reader.specs.declared.complete.Completed.{Completed}
 use Rattle.form_reader.specs.declared.way.Way.{Way}
 use Rattle.form_reader.specs.Calls.{InvokedCall}
 use Rattle.form_reader.specs.Completing.{plan_of}
+use Rattle.form_reader.specs.declared.macros.Moved.{Moved}
+use Rattle.form_reader.specs.declared.macros.Moved.TheVariants.{Taken as IsTaken, Before as IsBefore}
 use Rattle.form_reader.specs.Plans.{Plan, gives, then_plan, next_byte, Read, fault, run}
 use Rattle.form_reader.specs.Setting.{Setting}
 use Rattle.form_reader.specs.Reading.{text_to, line_after, block_after, dispatched, completed, gathered, called, token_found, attempt, inner}
@@ -53,6 +55,11 @@ abbrev pub Brings : Setting → List Frame → ℕ → List ℕ → Event → Re
 Brings setting frames at cs (IsAt stage) read = read ≡ stage_gives setting frames stage at cs
 Brings setting frames at cs (IsGiven found) read = read ≡ run setting.table setting.limits (given setting frames (gives found)) at cs
 Brings setting frames at cs (IsRefused code place) read = read ≡ fault code place
+
+-- the same before the byte at this place
+abbrev pub Moves : Setting → List Frame → ℕ → ℕ → List ℕ → Moved → Read Found → Type 0
+Moves setting frames at c cs (IsTaken event) read = Brings setting frames (at + 1) cs event read
+Moves setting frames at c cs (IsBefore event) read = Brings setting frames at (c ∷ cs) event read
 
 -- a call begins in these open calls, after which there are those
 abbrev pub Begins : Setting → List Frame → List Frame → InvokedCall → ℕ → List ℕ → Event → Type 0

@@ -42,7 +42,13 @@ pub(crate) fn close<R: MacroFunctions>(
     match part {
         Part::Next => Ok(Event::Refused(DOT_CONTEXT, at)),
         Part::List(items) => closed(with, round, call, StdGathered::Many(items.into_items()), at),
-        Part::Until(_, items) => closed(with, round, call, StdGathered::Many(items.into_items()), at),
+        Part::Until(_, items) => closed(
+            with,
+            round,
+            call,
+            StdGathered::Many(items.into_items()),
+            at,
+        ),
         Part::Dotted(_) => Ok(Event::Refused(DOT_CONTEXT, at.saturating_sub(1))),
         Part::Tailed(items, tail) => {
             let items = items.into_items();

@@ -62,7 +62,14 @@ pub(crate) fn complete<R: MacroFunctions>(
             }
             let call = macro_call(with.alloc, call, gathered)?;
             let answer = with.macros.call(name, &call)?;
-            Ok(answered(with.packages, with.limits.nesting, round, token, spaced, answer))
+            Ok(answered(
+                with.packages,
+                with.limits.nesting,
+                round,
+                token,
+                spaced,
+                answer,
+            ))
         }
     }
 }

@@ -38,7 +38,6 @@ pub struct Frames {
 impl Model for Frames {
     ghost use Rattle.std.specs.Prelude.{List, reverse};
     ghost use Rattle.form_reader.specs.declared.frame.Frame.{Frame};
-
     ghost use Rattle.form_reader.specs.contracts.frame.Frame as frame_contract;
     ghost use Rattle.std.specs.Coded.{coded_list};
 

@@ -57,7 +57,14 @@ fn gather<R: MacroFunctions>(
     let deep = frames.len() >= with.limits.nesting as usize;
     match way {
         Way::Nothing => {
-            let done = complete(with, frames.len(), &call, false, false, StdGathered::Nothing)?;
+            let done = complete(
+                with,
+                frames.len(),
+                &call,
+                false,
+                false,
+                StdGathered::Nothing,
+            )?;
             Ok(event_of(done, at))
         }
         Way::Next => {

@@ -32,4 +32,3 @@ returns g c = λ frames cs open_calls.
     let setting = setting_of c.args.with.now.limits c.args.with.now.readtable.now c.args.with.now.packages.now.0 c.args.with.now.current.now
     (g.R.MacroFunctions.registered c.args.with.now.macros.now) g.R.Meaning.Meaning.way g.R.Meaning.Meaning.answer in
     tailed_closes setting frames c.args.frame.call c.args.at cs c.args.frame.part c.in-Tailed.items _ c.in-Tailed.tail _ c.closed-in-Tailed.result c.in-Tailed.is c.into_items-items.ensures.objects c.into_datum-tail.ensures.object (c.closed-in-Tailed.ensures frames cs open_calls)
-

@@ -21,4 +21,3 @@ returns-in-TheEnd g c = λ frames cs open_calls.
     let setting = setting_of c.args.with.now.limits c.args.with.now.readtable.now c.args.with.now.packages.now.0 c.args.with.now.current.now
     (g.R.MacroFunctions.registered c.args.with.now.macros.now) g.R.Meaning.Meaning.way g.R.Meaning.Meaning.answer in
     ap (λ (f : Found). delivered setting frames c.args.frame.call c.args.at cs c.args.frame.part f) c.in-TheEnd.is ∙ end_fails setting frames c.args.frame.call c.args.at cs c.args.frame.part
-

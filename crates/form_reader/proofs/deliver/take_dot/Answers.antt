@@ -25,4 +25,3 @@ returns-in-Dotted c = λ setting frames cs h.
 pub returns : goal.returns
 returns c = λ setting frames cs h.
     known setting frames c.args.frame.call c.args.at cs c.args.frame.part _ _ _ c.in-Tailed.is (dot_in_tailed setting frames c.args.frame.call c.args.at cs _ _)
-

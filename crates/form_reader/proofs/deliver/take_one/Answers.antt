@@ -32,4 +32,3 @@ returns-in-Tailed g c = λ frames cs open_calls.
     let setting = setting_of c.args.with.now.limits c.args.with.now.readtable.now c.args.with.now.packages.now.0 c.args.with.now.current.now
     (g.R.MacroFunctions.registered c.args.with.now.macros.now) g.R.Meaning.Meaning.way g.R.Meaning.Meaning.answer in
     known setting frames c.args.frame.call c.args.at cs c.args.frame.part _ _ _ c.in-Tailed.is (one_in_tailed setting frames c.args.frame.call c.args.at cs c.args.token _ _ c.args.x)
-

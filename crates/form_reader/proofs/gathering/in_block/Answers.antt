@@ -21,4 +21,3 @@ returns-in-Refused g c = λ frames cs open_calls.
     let setting = setting_of c.args.with.now.limits c.args.with.now.readtable.now c.args.with.now.packages.now.0 c.args.with.now.current.now
     (g.R.MacroFunctions.registered c.args.with.now.macros.now) g.R.Meaning.Meaning.way g.R.Meaning.Meaning.answer in
     fails setting frames _ _ c.args.at c.args.c cs c.in-Refused.code (c.in-Refused.ensures.feeds cs)
-

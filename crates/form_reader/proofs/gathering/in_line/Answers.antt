@@ -24,4 +24,3 @@ returns-in-Refused g c = λ frames cs open_calls.
     let setting = setting_of c.args.with.now.limits c.args.with.now.readtable.now c.args.with.now.packages.now.0 c.args.with.now.current.now
     (g.R.MacroFunctions.registered c.args.with.now.macros.now) g.R.Meaning.Meaning.way g.R.Meaning.Meaning.answer in
     fails setting frames _ _ c.args.at c.args.c cs c.in-Refused.code (line_told c.args.with.now.readtable.now c.args.with.now.limits c.args.at cs c.args.keep _ _ _ _ c.in-Refused.is (c.in_ok-line_byte.ensures cs))
-
