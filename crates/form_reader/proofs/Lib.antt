@@ -16,3 +16,4 @@ pub mod Deliveries
 pub mod Closings
 pub mod Functions
 pub mod Callers
+pub mod Dispatching
