@@ -17,3 +17,4 @@ pub mod Closings
 pub mod Functions
 pub mod Callers
 pub mod Dispatching
+pub mod Attempts

@@ -28,6 +28,7 @@
 //! - `laws`: `forms_are_framed`, `reading_goes_on`
 #![tactic(auto)]
 
+mod attempt;
 mod bytes;
 mod call;
 mod close;
