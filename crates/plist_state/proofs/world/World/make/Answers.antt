@@ -9,5 +9,5 @@ invariant_of-self c =
     let s : State = state_with a.packages.0 (rest_of a.stored) in
     record {
       values = c.self.invariant.values;
-      sound = sound_packages s c.make-result.new.self.0 c.self.invariant.sound c.soundness.ensures.now c.make-result.ensures.grows;
+      sound = sound_packages s c.make-result.new.self.0 c.self.invariant.sound c.soundness.ensures c.make-result.ensures.grows;
     }

@@ -1,0 +1,187 @@
+-- How a call begins, in any open calls.
+use Rattle.std.proofs.Common.{◌≡◌, ℕ, suc, zero, ◌+◌, ◌-◌, ◌<◌, ◌≤◌, Bool, true, false, List, [], ◌∷◌, length, Option, Some, None, Ok, Err, refl, sym, ap, subst, ◌∙◌, arith}
+use Rattle.lisp_object.specs.declared.refusal.TheConstants.{TOO_DEEP, OUT_OF_PROFILE}
+use Rattle.lisp_object.specs.Object.{Object}
+use Rattle.token_scan.specs.declared.mark.Mark.{Mark}
+use Rattle.token_scan.specs.Tokens.{Scanned, ScannedBytes, with_front, typed_text, in_bytes, token, escaped_token}
+use Rattle.token_scan.specs.Scans.{Scan, begun, begun_escaped, token_from}
+use Rattle.std_macros.specs.Values.{marked, nothing as no_material}
+use Rattle.form_reader.specs.declared.complete.Completed.{Completed}
+use Rattle.form_reader.specs.declared.complete.Completed.TheVariants.{Gives, Refused}
+use Rattle.form_reader.specs.declared.found.Found.{Found}
+use Rattle.form_reader.specs.declared.frame.Frame.{Frame}
+use Rattle.form_reader.specs.declared.frame.Part.TheVariants.{Next as InNext, List as InList, Until as InUntil}
+use Rattle.form_reader.specs.declared.stage.Event.{Event}
+use Rattle.form_reader.specs.declared.way.Way.{Way}
+use Rattle.form_reader.specs.declared.way.Way.TheVariants.{Nothing, Next, List as AList, Until, Text, Line, Block, Token, EscapedToken}
+use Rattle.form_reader.specs.Plans.{Plan, gives, refuses, takes, scans, then_plan, Read, fault, limited, scanned, run}
+use Rattle.form_reader.specs.Calls.{InvokedCall}
+use Rattle.form_reader.specs.Setting.{Setting, way_in}
+use Rattle.form_reader.specs.Reading.{place, one_piece, completed, gathered, gathered_by, called, attempt, attempt_by, inner}
+use Rattle.form_reader.specs.Completing.{plan_of}
+use Rattle.form_reader.specs.Feeding.{token_read}
+use Rattle.form_reader.specs.Frames.{attempt_in, given, between, token_goes_on}
+use Rattle.form_reader.specs.Resuming.{inner_at, Brings, Begins, Gathers, ComesTo}
+use Rattle.form_reader.proofs.Opened.{given_moves, given_fault, list_is, until_is}
+
+-- one more call may be open, or none
+inner_opens : (setting : Setting) (n : ℕ) → n < setting.limits.nesting → inner_at setting n ≡ Some (attempt setting (setting.limits.nesting - (n + 1)))
+unfolding inner
+inner_opens setting n lt =
+    let e : setting.limits.nesting - n ≡ suc (setting.limits.nesting - (n + 1)) = omega arith in
+    ap (inner setting) e
+
+inner_shut : (setting : Setting) (n : ℕ) → setting.limits.nesting ≤ n → inner_at setting n ≡ None
+unfolding inner
+inner_shut setting n le =
+    let e : setting.limits.nesting - n ≡ 0 = omega arith in
+    ap (inner setting) e
+
+pub given_refused : (setting : Setting) (frames : List Frame) (at : ℕ) (cs : List ℕ) (code back : ℕ)
+    → run setting.table setting.limits (given setting frames (refuses code back)) at cs ≡ fault code (at - back)
+unfolding run
+given_refused setting frames at cs code back = given_fault setting frames (refuses code back) at cs (record { code = code; at = at - back }) refl
+
+abbrev pub OpensWith : Setting → List Frame → InvokedCall → Way → Option (Plan Found) → ℕ → List ℕ → Read Found
+OpensWith setting frames call way may at cs = run setting.table setting.limits (given setting frames (gathered setting (length frames) may call way)) at cs
+
+module _ (setting : Setting) (frames : List Frame) (call : InvokedCall) (at : ℕ) (cs : List ℕ) where
+  pub next_opens : length frames < setting.limits.nesting
+      → OpensWith setting frames call Next (inner_at setting (length frames)) at cs
+      ≡ run setting.table setting.limits (between setting (record { call = call; part = InNext } ∷ frames)) at cs
+  next_opens lt = ap (λ may. OpensWith setting frames call Next may at cs) (inner_opens setting (length frames) lt)
+
+  pub list_opens : length frames < setting.limits.nesting → at ≤ setting.limits.text
+      → OpensWith setting frames call AList (inner_at setting (length frames)) at cs
+      ≡ run setting.table setting.limits (between setting (record { call = call; part = InList [] } ∷ frames)) at cs
+  list_opens lt h =
+      ap (λ may. OpensWith setting frames call AList may at cs) (inner_opens setting (length frames) lt) ∙ list_is setting frames call [] at cs h
+
+  pub until_opens : (close : ℕ) → length frames < setting.limits.nesting → at ≤ setting.limits.text
+      → OpensWith setting frames call (Until close) (inner_at setting (length frames)) at cs
+      ≡ run setting.table setting.limits (between setting (record { call = call; part = InUntil close [] } ∷ frames)) at cs
+  until_opens close lt h =
+      ap (λ may. OpensWith setting frames call (Until close) may at cs) (inner_opens setting (length frames) lt) ∙ until_is setting frames call close [] at cs h
+
+  refused_given : (code back : ℕ) → run setting.table setting.limits (given setting frames (refuses code back)) at cs ≡ fault code (at - back)
+  unfolding run
+  refused_given code back = given_fault setting frames (refuses code back) at cs (record { code = code; at = at - back }) refl
+
+  pub next_deep : setting.limits.nesting ≤ length frames → OpensWith setting frames call Next (inner_at setting (length frames)) at cs ≡ fault TOO_DEEP (at - 1)
+  next_deep le = ap (λ may. OpensWith setting frames call Next may at cs) (inner_shut setting (length frames) le) ∙ refused_given TOO_DEEP 1
+
+  pub list_deep : setting.limits.nesting ≤ length frames → OpensWith setting frames call AList (inner_at setting (length frames)) at cs ≡ fault TOO_DEEP (at - 1)
+  list_deep le = ap (λ may. OpensWith setting frames call AList may at cs) (inner_shut setting (length frames) le) ∙ refused_given TOO_DEEP 1
+
+  pub until_deep : (close : ℕ) → setting.limits.nesting ≤ length frames → OpensWith setting frames call (Until close) (inner_at setting (length frames)) at cs ≡ fault TOO_DEEP (at - 1)
+  until_deep close le = ap (λ may. OpensWith setting frames call (Until close) may at cs) (inner_shut setting (length frames) le) ∙ refused_given TOO_DEEP 1
+
+  -- what a call comes to
+  pub refused_is : (code back : ℕ) → run setting.table setting.limits (given setting frames (refuses code back)) at cs ≡ fault code (at - back)
+  refused_is code back = refused_given code back
+
+-- ---- tokens
+
+front_nothing : (r : Scanned) → in_bytes (with_front [] r) ≡ in_bytes r
+front_nothing (Ok (marks, at, rest)) = refl
+front_nothing (Err e) = refl
+
+scanned_is : (setting : Setting) (frames : List Frame) (plan : Plan Found) (on : List Mark → Plan Found) (at : ℕ) (cs : List ℕ) (r : Read (List Mark))
+    → run setting.table setting.limits plan at cs ≡ elim r [ Ok p ↦ run setting.table setting.limits (on p.0) p.1 p.2 | Err e ↦ Err e ]
+    → run setting.table setting.limits (given setting frames plan) at cs ≡ token_goes_on setting frames on r
+scanned_is setting frames plan on at cs (Ok (marks, next, ds)) e = given_moves setting frames plan (on marks) at next cs ds e
+scanned_is setting frames plan on at cs (Err f) e = given_fault setting frames plan at cs f e
+
+pub token_begins : (setting : Setting) (frames : List Frame) (limit : ℕ) (on : List Mark → Plan Found) (at : ℕ) (cs : List ℕ)
+    → run setting.table setting.limits (given setting frames (scans false limit on)) at cs
+    ≡ token_goes_on setting frames on (token_read setting.table setting.limits (begun limit) at cs)
+unfolding run
+token_begins setting frames limit on at cs =
+    scanned_is setting frames (scans false limit on) on at cs (limited setting.limits.text (scanned false setting.table limit at cs) (λ p. p.1)) refl
+    ∙ ap (λ (r : ScannedBytes). token_goes_on setting frames on (limited setting.limits.text r (λ p. p.1)))
+    (sym (front_nothing (token limit at (typed_text setting.table cs))))
+
+pub escaped_begins : (setting : Setting) (frames : List Frame) (limit : ℕ) (on : List Mark → Plan Found) (at : ℕ) (cs : List ℕ)
+    → run setting.table setting.limits (given setting frames (scans true limit on)) at cs
+    ≡ token_goes_on setting frames on (token_read setting.table setting.limits (begun_escaped limit) at cs)
+unfolding run
+escaped_begins setting frames limit on at cs =
+    scanned_is setting frames (scans true limit on) on at cs (limited setting.limits.text (scanned true setting.table limit at cs) (λ p. p.1)) refl
+    ∙ ap (λ (r : ScannedBytes). token_goes_on setting frames on (limited setting.limits.text r (λ p. p.1)))
+    (sym (front_nothing (escaped_token limit at (typed_text setting.table cs))))
+
+-- ---- what a call brings where it begins
+
+module _ (setting : Setting) (frames : List Frame) (call : InvokedCall) (way : Way) (at : ℕ) (cs : List ℕ) where
+  abbrev opened_so : Way → Read Found
+  opened_so w = OpensWith setting frames call w (inner_at setting (length frames)) at cs
+
+  pub next_deep_at : (place : ℕ) → way ≡ Next → setting.limits.nesting ≤ length frames → place ≡ at - 1 → opened_so way ≡ fault TOO_DEEP place
+  next_deep_at place e le p = ap opened_so e ∙ next_deep setting frames call at cs le ∙ ap (λ (n : ℕ). fault TOO_DEEP n) (sym p)
+
+  pub list_deep_at : (place : ℕ) → way ≡ AList → setting.limits.nesting ≤ length frames → place ≡ at - 1 → opened_so way ≡ fault TOO_DEEP place
+  list_deep_at place e le p = ap opened_so e ∙ list_deep setting frames call at cs le ∙ ap (λ (n : ℕ). fault TOO_DEEP n) (sym p)
+
+  pub until_deep_at : (place close : ℕ) → way ≡ Until close → setting.limits.nesting ≤ length frames → place ≡ at - 1 → opened_so way ≡ fault TOO_DEEP place
+  until_deep_at place close e le p = ap opened_so e ∙ until_deep setting frames call at cs close le ∙ ap (λ (n : ℕ). fault TOO_DEEP n) (sym p)
+
+  pub next_at : (after : List Frame) → way ≡ Next → length frames < setting.limits.nesting → after ≡ record { call = call; part = InNext } ∷ frames
+      → opened_so way ≡ run setting.table setting.limits (between setting after) at cs
+  next_at after e lt p =
+      ap opened_so e ∙ next_opens setting frames call at cs lt ∙ ap (λ (fs : List Frame). run setting.table setting.limits (between setting fs) at cs) (sym p)
+
+  pub list_at : (after : List Frame) (xs : List Object) → way ≡ AList → length frames < setting.limits.nesting → at ≤ setting.limits.text → xs ≡ []
+      → after ≡ record { call = call; part = InList xs } ∷ frames → opened_so way ≡ run setting.table setting.limits (between setting after) at cs
+  list_at after xs e lt h none p =
+      ap opened_so e ∙ list_opens setting frames call at cs lt h
+      ∙ ap (λ (xs : List Object). run setting.table setting.limits (between setting (record { call = call; part = InList xs } ∷ frames)) at cs) (sym none)
+      ∙ ap (λ (fs : List Frame). run setting.table setting.limits (between setting fs) at cs) (sym p)
+
+  pub until_at : (after : List Frame) (close : ℕ) (xs : List Object) → way ≡ Until close → length frames < setting.limits.nesting → at ≤ setting.limits.text → xs ≡ []
+      → after ≡ record { call = call; part = InUntil close xs } ∷ frames → opened_so way ≡ run setting.table setting.limits (between setting after) at cs
+  until_at after close xs e lt h none p =
+      ap opened_so e ∙ until_opens setting frames call at cs close lt h
+      ∙ ap (λ (xs : List Object). run setting.table setting.limits (between setting (record { call = call; part = InUntil close xs } ∷ frames)) at cs) (sym none)
+      ∙ ap (λ (fs : List Frame). run setting.table setting.limits (between setting fs) at cs) (sym p)
+
+  abbrev call_token : Scan → Read Found
+  call_token scan =
+      token_goes_on setting frames (λ marks. completed setting (length frames) call true false (marked marks)) (token_read setting.table setting.limits scan at cs)
+
+  pub token_at : (scan : Scan) → way ≡ Token → scan ≡ begun setting.limits.token → opened_so way ≡ call_token scan
+  token_at scan e p =
+      ap opened_so e ∙ token_begins setting frames setting.limits.token (λ marks. completed setting (length frames) call true false (marked marks)) at cs
+      ∙ ap call_token (sym p)
+
+  pub escaped_at : (scan : Scan) → way ≡ EscapedToken → scan ≡ begun_escaped setting.limits.token → opened_so way ≡ call_token scan
+  escaped_at scan e p =
+      ap opened_so e ∙ escaped_begins setting frames setting.limits.token (λ marks. completed setting (length frames) call true false (marked marks)) at cs
+      ∙ ap call_token (sym p)
+
+  pub nothing_at : (done : Completed) (event : Event) (round : ℕ) → way ≡ Nothing → round ≡ length frames → completed setting round call false false no_material ≡ plan_of done
+      → ComesTo setting frames done at cs event → Gathers setting frames frames call way at cs event
+  nothing_at done event round e open_calls p comes =
+      let same : opened_so way ≡ run setting.table setting.limits (given setting frames (plan_of done)) at cs =
+      ap opened_so e ∙ ap (λ (n : ℕ). run setting.table setting.limits (given setting frames (completed setting n call false false no_material)) at cs) (sym open_calls)
+      ∙ ap (λ (plan : Plan Found). run setting.table setting.limits (given setting frames plan) at cs) p in
+      subst (λ (r : Read Found). Brings setting frames at cs event r) (sym same) comes
+
+pub none_begins : (setting : Setting) (frames : List Frame) (call : InvokedCall) (at place : ℕ) (cs : List ℕ) → way_in setting call ≡ None → place ≡ at - 1
+    → run setting.table setting.limits (given setting frames (called setting (length frames) (inner_at setting (length frames)) call)) at cs ≡ fault OUT_OF_PROFILE place
+none_begins setting frames call at place cs e p =
+    ap (λ (o : Option Way). run setting.table setting.limits (given setting frames (gathered_by setting (length frames) (inner_at setting (length frames)) call o)) at cs) e
+    ∙ refused_is setting frames call at cs OUT_OF_PROFILE 1 ∙ ap (λ (n : ℕ). fault OUT_OF_PROFILE n) (sym p)
+
+pub some_begins : (setting : Setting) (frames after : List Frame) (call : InvokedCall) (way : Way) (at : ℕ) (cs : List ℕ) (event : Event) → way_in setting call ≡ Some way
+    → Gathers setting after frames call way at cs event → Begins setting after frames call at cs event
+some_begins setting frames after call way at cs event e gathers =
+    let same : run setting.table setting.limits (given setting frames (called setting (length frames) (inner_at setting (length frames)) call)) at cs
+    ≡ OpensWith setting frames call way (inner_at setting (length frames)) at cs =
+    ap (λ (o : Option Way). run setting.table setting.limits (given setting frames (gathered_by setting (length frames) (inner_at setting (length frames)) call o)) at cs) e in
+    subst (λ (r : Read Found). Brings setting after at cs event r) (sym same) gathers
+
+pub refusal_comes : (setting : Setting) (frames : List Frame) (completed : Completed) (code back at place : ℕ) (cs : List ℕ) → completed ≡ Refused code back → place ≡ at - back
+    → run setting.table setting.limits (given setting frames (plan_of completed)) at cs ≡ fault code place
+refusal_comes setting frames completed code back at place cs e p =
+    ap (λ (r : Completed). run setting.table setting.limits (given setting frames (plan_of r)) at cs) e
+    ∙ given_refused setting frames at cs code back ∙ ap (λ (n : ℕ). fault code n) (sym p)

@@ -1,0 +1,71 @@
+-- What a macro character brings, and the end of the token of a call.
+use Rattle.std.proofs.Common.{◌≡◌, ℕ, ◌-◌, Bool, true, false, List, [], ◌∷◌, length, Option, Some, None, Result, Ok, Err, IfOk, refl, sym, ap, subst, ◌∙◌}
+use Rattle.std.specs.declared.alloc.AllocError.{AllocError}
+use Rattle.lisp_object.specs.declared.refusal.TheConstants.{OUT_OF_PROFILE}
+use Rattle.readtable_core.specs.Names.{is_dispatch_name}
+use Rattle.readtable_core.specs.Tables.{Table}
+use Rattle.token_scan.specs.declared.mark.Mark.{Mark}
+use Rattle.token_scan.specs.Scans.{Scan}
+use Rattle.std_macros.specs.Values.{marked}
+use Rattle.form_reader.specs.declared.bytes.LineByte.{LineByte}
+use Rattle.form_reader.specs.declared.bytes.LineByte.TheVariants.{Ended as LineEnded}
+use Rattle.form_reader.specs.declared.complete.Completed.{Completed}
+use Rattle.form_reader.specs.declared.found.Found.{Found}
+use Rattle.form_reader.specs.declared.frame.Frame.{Frame}
+use Rattle.form_reader.specs.declared.stage.Event.{Event}
+use Rattle.form_reader.specs.declared.way.Function.{Function}
+use Rattle.form_reader.specs.Plans.{Plan, Read, fault, run}
+use Rattle.form_reader.specs.Calls.{InvokedCall}
+use Rattle.form_reader.specs.Setting.{Setting, function_of}
+use Rattle.form_reader.specs.Reading.{called, dispatched, macro_called, completed}
+use Rattle.form_reader.specs.Completing.{plan_of}
+use Rattle.form_reader.specs.Feeding.{TokenFeeds, token_read}
+use Rattle.form_reader.specs.Frames.{given, token_goes_on}
+use Rattle.form_reader.specs.Resuming.{inner_at, Brings, Begins, ComesTo}
+use Rattle.form_reader.proofs.Beginnings.{given_refused}
+
+module _ (setting : Setting) (frames : List Frame) (c at : ℕ) (cs : List ℕ) where
+  abbrev macro_gives : Option (List ℕ) → Read Found
+  macro_gives o = run setting.table setting.limits (given setting frames (macro_called setting (length frames) (inner_at setting (length frames)) c o)) at cs
+
+  pub none_called : (function : Option (List ℕ)) (place : ℕ) → function ≡ None → place ≡ at - 1 → macro_gives function ≡ fault OUT_OF_PROFILE place
+  none_called function place e p = ap macro_gives e ∙ given_refused setting frames at cs OUT_OF_PROFILE 1 ∙ ap (λ (n : ℕ). fault OUT_OF_PROFILE n) (sym p)
+
+  abbrev of_character : Function → InvokedCall
+  of_character f = record { function = f; character = c; sub = None; number = None }
+
+  abbrev call_gives : InvokedCall → Read Found
+  call_gives call = run setting.table setting.limits (given setting frames (called setting (length frames) (inner_at setting (length frames)) call)) at cs
+
+  named_gives : (name : List ℕ) → is_dispatch_name name ≡ false → macro_gives (Some name) ≡ call_gives (of_character (function_of name))
+  named_gives name e =
+      let by : Bool → Plan Found = λ b. elim b [
+        | true ↦ dispatched setting (length frames) (inner_at setting (length frames)) c None
+        | false ↦ called setting (length frames) (inner_at setting (length frames)) (of_character (function_of name))
+      ] in
+      ap (λ (b : Bool). run setting.table setting.limits (given setting frames (by b)) at cs) e
+
+  pub character_called : (after : List Frame) (function : Option (List ℕ)) (name : List ℕ) (f : Function) (call : InvokedCall) (result : Result Event AllocError)
+      → function ≡ Some name → is_dispatch_name name ≡ false → f ≡ function_of name → call ≡ of_character f
+      → IfOk result (λ event. Begins setting after frames call at cs event) → IfOk result (λ event. Brings setting after at cs event (macro_gives function))
+  character_called after function name f call result e dispatch same is begins =
+      let whole : call_gives call ≡ macro_gives function =
+      ap call_gives (is ∙ ap of_character same) ∙ sym (named_gives name dispatch) ∙ sym (ap macro_gives e) in
+      subst (λ (r : Read Found). IfOk result (λ event. Brings setting after at cs event r)) whole begins
+
+pub token_ends : (setting : Setting) (frames : List Frame) (call : InvokedCall) (old new : Scan) (marks : List Mark) (fed : LineByte) (at c : ℕ) (cs : List ℕ)
+    (round : ℕ) (done : Completed) (event : Event) → fed ≡ LineEnded
+    → TokenFeeds setting.table setting.limits new at c cs fed (token_read setting.table setting.limits old at (c ∷ cs))
+    → marks ≡ new.marks → round ≡ length frames → completed setting round call true false (marked marks) ≡ plan_of done
+    → ComesTo setting frames done at (c ∷ cs) event
+    → Brings setting frames at (c ∷ cs) event (token_goes_on setting frames (λ marks. completed setting (length frames) call true false (marked marks))
+    (token_read setting.table setting.limits old at (c ∷ cs)))
+token_ends setting frames call old new marks fed at c cs round done event e feeds same open_calls comes brings =
+    let on = λ (marks : List Mark). completed setting (length frames) call true false (marked marks) in
+    let told : token_read setting.table setting.limits old at (c ∷ cs) ≡ Ok (new.marks, at, c ∷ cs) =
+    subst (λ (f : LineByte). TokenFeeds setting.table setting.limits new at c cs f (token_read setting.table setting.limits old at (c ∷ cs))) e feeds in
+    let whole : token_goes_on setting frames on (token_read setting.table setting.limits old at (c ∷ cs)) ≡ run setting.table setting.limits (given setting frames (plan_of done)) at (c ∷ cs) =
+    ap (token_goes_on setting frames on) told
+    ∙ ap (λ (plan : Plan Found). run setting.table setting.limits (given setting frames plan) at (c ∷ cs))
+    ((λ i. completed setting (sym open_calls i) call true false (marked (sym same i))) ∙ comes) in
+    subst (λ (r : Read Found). Brings setting frames at (c ∷ cs) event r) (sym whole) brings

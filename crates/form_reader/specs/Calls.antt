@@ -1,0 +1,14 @@
+-- The call that invoked a function.
+use Rattle.std.specs.Prelude.{ℕ, Option, unwrap_or}
+use Rattle.form_reader.specs.declared.way.Function.{Function}
+
+-- the function, the macro character, the sub-character in upper case and the number
+pub record InvokedCall : Type 0 where
+  pub function : Function
+  pub character : ℕ
+  pub sub : Option ℕ
+  pub number : Option ℕ
+
+-- the caller: the sub-character where there is one
+abbrev pub caller : InvokedCall → ℕ
+caller call = unwrap_or call.sub call.character

@@ -1,0 +1,11 @@
+-- What the calls of functions answer.
+use Rattle.std.specs.Prelude.{ℕ}
+use Rattle.form_reader.specs.declared.complete.Completed.{Completed}
+use Rattle.form_reader.specs.declared.complete.Completed.TheVariants.{Gives, Refused}
+use Rattle.form_reader.specs.declared.found.Found.{Found}
+use Rattle.form_reader.specs.Plans.{Plan, gives, refuses}
+
+-- the plan that was found
+abbrev pub plan_of : Completed → Plan Found
+plan_of (Gives found) = gives found
+plan_of (Refused code back) = refuses code back

@@ -1,0 +1,35 @@
+-- What the open calls make of what is found in the innermost.
+use Rattle.std.specs.Prelude.{ℕ, ◌≡◌, ◌≤◌, Bool, true, false, List, [], ◌∷◌, length, Ok}
+use Rattle.form_reader.specs.declared.deliver.Delivered.{Delivered}
+use Rattle.form_reader.specs.declared.deliver.Delivered.TheVariants.{Waits, Done, Refused}
+use Rattle.form_reader.specs.declared.deliver.Taken.{Taken}
+use Rattle.form_reader.specs.declared.deliver.Taken.TheVariants.{Stays, Gives, Refused as TakenRefused}
+use Rattle.form_reader.specs.declared.found.Found.{Found}
+use Rattle.form_reader.specs.declared.found.Found.TheVariants.{Nothing as nothing, One as one, LoneDot as lone_dot, TheEnd as the_end}
+use Rattle.form_reader.specs.declared.frame.Frame.{Frame}
+use Rattle.form_reader.specs.Plans.{Read, fault, gives, run}
+use Rattle.form_reader.specs.Setting.{Setting}
+use Rattle.form_reader.specs.Reading.{without_space}
+use Rattle.form_reader.specs.Frames.{given, between}
+
+-- What one open call makes of it: it goes on as this call, perhaps after one whitespace character; or it comes to this; or it
+-- is refused.
+abbrev pub Takes : Setting → List Frame → ℕ → List ℕ → Taken → Read Found → Type 0
+Takes setting frames at cs (Stays token frame) read =
+    read ≡ run setting.table setting.limits (without_space setting.table token (between setting (frame ∷ frames))) at cs
+Takes setting frames at cs (Gives found) read = read ≡ run setting.table setting.limits (given setting frames (gives found)) at cs
+Takes setting frames at cs (TakenRefused code place) read = read ≡ fault code place
+
+-- What all open calls make of it.
+abbrev pub Delivers : Setting → List Frame → ℕ → List ℕ → Delivered → Read Found → Type 0
+Delivers setting frames at cs (Waits token) read =
+    read ≡ run setting.table setting.limits (without_space setting.table token (between setting frames)) at cs
+Delivers setting frames at cs (Done found) read = (read ≡ Ok (found, at, cs)) × (frames ≡ [])
+Delivers setting frames at cs (Refused code place) read = read ≡ fault code place
+
+-- its last part is no token, and it is no dot and no end
+abbrev pub is_taken : Found → Bool
+is_taken (nothing token) = (elim token [ true ↦ false | false ↦ true ])
+is_taken (one token x) = (elim token [ true ↦ false | false ↦ true ])
+is_taken lone_dot = false
+is_taken the_end = false

@@ -1,0 +1,63 @@
+-- What a reader that takes one byte at a time stands for: its open calls, innermost first, and where it is in the innermost.
+-- By recursion on the open calls alone, over the definition of reading.
+use Rattle.std.specs.Prelude.{ℕ, ◌+◌, ◌-◌, true, false, Bool, List, [], ◌∷◌, length, Option, Some, None, Ok, Err}
+use Rattle.token_scan.specs.declared.mark.Mark.{Mark}
+use Rattle.std_macros.specs.Values.{one as one_object}
+use Rattle.form_reader.specs.declared.found.Found.{Found}
+use Rattle.form_reader.specs.declared.found.Found.TheVariants.{Nothing as nothing, One as one, LoneDot as lone_dot, TheEnd as the_end}
+use Rattle.form_reader.specs.declared.frame.Frame.{Frame}
+use Rattle.form_reader.specs.declared.frame.Part.{Part}
+use Rattle.form_reader.specs.declared.frame.Part.TheVariants.{Next as InNext, List as InList, Until as InUntil, Dotted as InDotted, Tailed as InTailed}
+use Rattle.form_reader.specs.Plans.{Plan, then_plan, Read, run}
+use Rattle.form_reader.specs.Calls.{InvokedCall}
+use Rattle.form_reader.specs.Setting.{Setting}
+use Rattle.form_reader.specs.Reading.{Piece, at_place, place, items_step, items_after, undotted, after_tail, after_dot, list_end, one_piece, completed, attempt, without_space}
+
+-- the closing character that is looked for
+abbrev pub close_of : Part → Option ℕ
+close_of InNext = None
+close_of (InList xs) = Some 41
+close_of (InUntil close xs) = Some close
+close_of (InDotted xs) = Some 41
+close_of (InTailed xs tail) = Some 41
+
+abbrev pub close_of_frames : List Frame → Option ℕ
+close_of_frames [] = None
+close_of_frames (f ∷ fs) = close_of f.part
+
+-- What the call gives if this piece comes next, where so many calls are open round it, and attempts inside it are these.
+abbrev pub part_gives : Setting → ℕ → Plan Found → InvokedCall → Part → Piece → Plan Found
+part_gives setting round attempt call InNext p = one_piece (λ token x. completed setting round call token token (one_object x)) p
+part_gives setting round attempt call (InList xs) p =
+    then_plan (items_step setting.table (items_after setting 41 attempt) xs p) (list_end setting attempt (λ m. completed setting round call false false m))
+part_gives setting round attempt call (InUntil close xs) p =
+    then_plan (items_step setting.table (items_after setting close attempt) xs p) (undotted (λ m. completed setting round call false false m))
+part_gives setting round attempt call (InDotted xs) p = after_dot setting attempt (λ m. completed setting round call false false m) xs p
+part_gives setting round attempt call (InTailed xs tail) p = after_tail (λ m. completed setting round call false false m) xs tail p
+
+-- the attempts in a call that has these calls round it
+abbrev pub attempt_in : Setting → List Frame → Plan Found
+attempt_in setting frames = attempt setting (setting.limits.nesting - (length frames + 1))
+
+abbrev pub place_in : Setting → Frame → List Frame → Plan Piece
+place_in setting f frames = place setting (close_of f.part) (attempt_in setting frames)
+
+abbrev pub call_in : Setting → Frame → List Frame → Piece → Plan Found
+call_in setting f frames p = part_gives setting (length frames) (attempt_in setting frames) f.call f.part p
+
+-- what the outermost attempt comes to, if the attempt in the innermost call comes to this
+unfoldable pub given : Setting → List Frame → Plan Found → Plan Found
+given setting [] plan = plan
+given setting (f ∷ fs) plan =
+    given setting fs (then_plan (then_plan plan (λ found. at_place setting.table (place_in setting f fs) found)) (λ p. call_in setting f fs p))
+
+-- the same at a place where an object may begin
+abbrev pub between : Setting → List Frame → Plan Found
+between setting [] = attempt setting setting.limits.nesting
+between setting (f ∷ fs) = given setting fs (then_plan (place_in setting f fs) (λ p. call_in setting f fs p))
+
+-- ---- a token, whose bytes are not kept: what is given where it has come to this
+
+abbrev pub token_goes_on : Setting → List Frame → (List Mark → Plan Found) → Read (List Mark) → Read Found
+token_goes_on setting frames on (Ok p) = run setting.table setting.limits (given setting frames (on p.0)) p.1 p.2
+token_goes_on setting frames on (Err e) = Err e

@@ -1,0 +1,13 @@
+pub mod Plans
+pub mod Gathering
+pub mod Calls
+pub mod Setting
+pub mod Naming
+pub mod Answering
+pub mod Reading
+pub mod Frames
+pub mod Completing
+pub mod Feeding
+pub mod Begun
+pub mod Resuming
+pub mod Delivering

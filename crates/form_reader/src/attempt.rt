@@ -1,0 +1,73 @@
+//! The byte at a place where an object may begin.
+ghost use Rattle.std.specs.Prelude.{◌≡◌, ◌≤◌, ◌<◌, ◌+◌, ◌^◌, ℕ, List, ◌∷◌, length, true, IfOk};
+ghost use Rattle.readtable_core.specs.Tables.{entry_at};
+ghost use Rattle.form_reader.specs.Plans.{run};
+ghost use Rattle.form_reader.specs.Setting.{setting_of};
+ghost use Rattle.form_reader.specs.Reading.{stands_alone, alone};
+ghost use Rattle.form_reader.specs.Frames.{given};
+ghost use Rattle.form_reader.specs.Resuming.{inner_at, attempt_at, Brings};
+
+use crate::found::Found;
+use crate::frame::Frames;
+use crate::macros::begin_macro;
+use crate::stage::Event;
+use crate::surroundings::Surroundings;
+use lisp_object::refusal::{FORM_TOO_LONG, INVALID_CHARACTER};
+use readtable_core::Syntax;
+use std::alloc::AllocError;
+use user_macros::MacroFunctions;
+
+/// Whether a character of this syntax type begins no token.
+pub(crate) fn stands_alone(syntax: Syntax) -> bool
+    ensures { result ≡ stands_alone syntax }
+{
+    match syntax {
+        Syntax::Whitespace => true,
+        Syntax::TerminatingMacro => true,
+        Syntax::NonTerminatingMacro => true,
+        Syntax::Invalid => true,
+        Syntax::Constituent => false,
+        Syntax::SingleEscape => false,
+        Syntax::MultipleEscape => false,
+    }
+}
+
+/// What an attempt comes to where its first byte `c`, at `at`, begins no token.
+pub(crate) fn alone<R: MacroFunctions>(
+    with: &Surroundings<'_, R>,
+    frames: &mut Frames,
+    at: usize,
+    c: u8,
+) -> Result<Event, AllocError>
+    requires answers { R.answers with.now.macros.now }
+    requires place { at ≤ with.now.limits.text }
+    requires nesting { length frames.old ≤ with.now.limits.nesting }
+    requires alone { stands_alone (entry_at with.now.readtable.now c).syntax ≡ true }
+    ensures { (cs : List ℕ) → IfOk result (λ event. Brings
+        (setting_of with.now.limits with.now.readtable.now with.now.packages.now.0 with.now.current.now
+        (R.registered with.now.macros.now) R.Meaning.way R.Meaning.answer)
+        frames.new (at + 1) cs event (run with.now.readtable.now with.now.limits (given
+        (setting_of with.now.limits with.now.readtable.now with.now.packages.now.0 with.now.current.now
+        (R.registered with.now.macros.now) R.Meaning.way R.Meaning.answer)
+        frames.old (attempt_at
+        (setting_of with.now.limits with.now.readtable.now with.now.packages.now.0 with.now.current.now
+        (R.registered with.now.macros.now) R.Meaning.way R.Meaning.answer)
+        (length frames.old))) at (c ∷ cs))) }
+{
+    with.readtable.soundness();
+    if at >= with.limits.text {
+        return Ok(Event::Refused(FORM_TOO_LONG, at));
+    }
+    if c >= 128 {
+        return Ok(Event::Refused(INVALID_CHARACTER, at));
+    }
+    match with.readtable.syntax(c) {
+        Syntax::Whitespace => Ok(Event::Gives(Found::Nothing(false))),
+        Syntax::TerminatingMacro => begin_macro(with, frames, c, at + 1),
+        Syntax::NonTerminatingMacro => begin_macro(with, frames, c, at + 1),
+        Syntax::Invalid => Ok(Event::Refused(INVALID_CHARACTER, at)),
+        Syntax::Constituent => Ok(Event::Refused(INVALID_CHARACTER, at)),
+        Syntax::SingleEscape => Ok(Event::Refused(INVALID_CHARACTER, at)),
+        Syntax::MultipleEscape => Ok(Event::Refused(INVALID_CHARACTER, at)),
+    }
+}

@@ -1,0 +1,199 @@
+//! One byte of what a call gathers.
+ghost use Rattle.std.specs.Prelude.{◌≡◌, ◌≤◌, ◌<◌, ◌+◌, ◌^◌, ℕ, List, ◌∷◌, ◌++◌, [], IfOk, IfSome};
+ghost use Rattle.form_reader.specs.Plans.{loop, next_byte, run};
+ghost use Rattle.form_reader.specs.Gathering.{text_turn, line_turn, block_turn, number_turn};
+ghost use Rattle.form_reader.specs.Gathering.{block_next};
+ghost use Rattle.form_reader.specs.Feeding.{TextFeeds, EscapeFeeds, LineFeeds, BlockFeeds, NumberFeeds};
+
+use crate::held::{HeldNumber, HeldText};
+use crate::limits::Limits;
+use crate::way::Keep;
+use lisp_object::refusal::{FORM_TOO_LONG, INVALID_CHARACTER, NUMERIC_ARGUMENT};
+use readtable_core::{Readtable, Syntax};
+use std::alloc::AllocError;
+
+/// What a byte is to a text.
+#[derive(Clone, Copy, Debug, PartialEq, Eq)]
+pub enum TextByte {
+    /// One more character.
+    More,
+    /// An escape: the next character is one of the text.
+    Escape,
+    /// It ends the text.
+    Ended,
+    /// It is refused.
+    Refused(u16),
+}
+
+/// What a byte is to a line, a block or a number.
+#[derive(Clone, Copy, Debug, PartialEq, Eq)]
+pub enum LineByte {
+    /// One more.
+    More,
+    /// It ends it.
+    Ended,
+    /// It is refused.
+    Refused(u16),
+}
+
+/// The byte `c` at `at`, after the characters of `text`.
+#[tactic(auto, using(crate::proofs::Fed::text_over, crate::proofs::Fed::text_invalid, crate::proofs::Fed::text_ends, crate::proofs::Fed::text_escapes, crate::proofs::Fed::text_takes))]
+pub(crate) fn text_byte(
+    readtable: &Readtable,
+    limits: &Limits,
+    terminator: u8,
+    text: &mut HeldText,
+    at: usize,
+    c: u8,
+) -> Result<TextByte, AllocError>
+    requires { at ≤ limits.now.text }
+    ensures { (cs : List ℕ) → IfOk result (λ fed.
+        TextFeeds readtable.now limits.now terminator text.new at cs fed
+        (run readtable.now limits.now (loop limits.now (text_turn readtable.now terminator) text.old) at (c ∷ cs))) }
+{
+    if at >= limits.text {
+        return Ok(TextByte::Refused(FORM_TOO_LONG));
+    }
+    if c >= 128 {
+        return Ok(TextByte::Refused(INVALID_CHARACTER));
+    }
+    if c == terminator {
+        return Ok(TextByte::Ended);
+    }
+    if readtable.syntax(c) == Syntax::SingleEscape {
+        return Ok(TextByte::Escape);
+    }
+    text.push(c)?;
+    Ok(TextByte::More)
+}
+
+/// The byte `c` at `at`, after an escape.
+#[tactic(auto, using(crate::proofs::Fed::byte_over, crate::proofs::Fed::byte_invalid, crate::proofs::Fed::byte_taken))]
+pub(crate) fn escaped_byte(
+    readtable: &Readtable,
+    limits: &Limits,
+    terminator: u8,
+    text: &mut HeldText,
+    at: usize,
+    c: u8,
+) -> Result<Option<u16>, AllocError>
+    ensures { (cs : List ℕ) → IfOk result (λ fed.
+        EscapeFeeds readtable.now limits.now terminator text.new at cs fed
+        (run readtable.now limits.now (next_byte (λ d. loop limits.now (text_turn readtable.now terminator) (text.old ++ d ∷ []))) at (c ∷ cs))) }
+{
+    if at >= limits.text {
+        return Ok(Some(FORM_TOO_LONG));
+    }
+    if c >= 128 {
+        return Ok(Some(INVALID_CHARACTER));
+    }
+    text.push(c)?;
+    Ok(None)
+}
+
+/// The byte `c` at `at`, after the characters of a line.
+#[tactic(auto, using(crate::proofs::Fed::line_over, crate::proofs::Fed::line_invalid, crate::proofs::Fed::line_ends, crate::proofs::Fed::line_keeps, crate::proofs::Fed::line_drops))]
+pub(crate) fn line_byte(
+    readtable: &Readtable,
+    limits: &Limits,
+    keep: Keep,
+    text: &mut HeldText,
+    at: usize,
+    c: u8,
+) -> Result<LineByte, AllocError>
+    requires { at ≤ limits.now.text }
+    ensures { (cs : List ℕ) → IfOk result (λ fed.
+        LineFeeds readtable.now limits.now keep text.new at cs fed
+        (run readtable.now limits.now (loop limits.now (line_turn keep) text.old) at (c ∷ cs))) }
+{
+    if at >= limits.text {
+        return Ok(LineByte::Refused(FORM_TOO_LONG));
+    }
+    if c >= 128 {
+        return Ok(LineByte::Refused(INVALID_CHARACTER));
+    }
+    if c == b'\n' {
+        return Ok(LineByte::Ended);
+    }
+    match keep {
+        Keep::Kept => text.push(c)?,
+        Keep::Dropped => {}
+    }
+    Ok(LineByte::More)
+}
+
+/// The byte `c` at `at`, inside a block: how many blocks are open inside it, and the byte before, if it may begin a pair.
+#[tactic(auto, using(crate::proofs::Fed::block_over, crate::proofs::Fed::block_invalid, crate::proofs::Fed::block_ends, crate::proofs::Fed::block_more))]
+pub(crate) fn block_byte(
+    readtable: &Readtable,
+    limits: &Limits,
+    levels: &mut (usize, u8),
+    at: usize,
+    c: u8,
+) -> LineByte
+    requires place { at ≤ limits.now.text }
+    requires level { levels.old.0 ≤ at }
+    ensures feeds { (cs : List ℕ) → BlockFeeds readtable.now limits.now levels.new at cs result
+        (run readtable.now limits.now (loop limits.now block_turn levels.old) at (c ∷ cs)) }
+    ensures level { levels.new.0 ≤ at + 1 }
+{
+    if at >= limits.text {
+        return LineByte::Refused(FORM_TOO_LONG);
+    }
+    if c >= 128 {
+        return LineByte::Refused(INVALID_CHARACTER);
+    }
+    match block_next(*levels, c) {
+        None => LineByte::Ended,
+        Some(next) => {
+            *levels = next;
+            LineByte::More
+        }
+    }
+}
+
+fn block_next(levels: (usize, u8), c: u8) -> Option<(usize, u8)>
+    requires { levels.0 + 1 < 2 ^ 64 }
+    ensures value { result ≡ block_next levels c }
+    ensures level { IfSome result (λ next. next.0 ≤ levels.0 + 1) }
+{
+    let (level, last) = levels;
+    if last == b'|' && c == b'#' {
+        if level == 0 {
+            return None;
+        }
+        return Some((level - 1, 0));
+    }
+    if last == b'#' && c == b'|' {
+        return Some((level + 1, 0));
+    }
+    Some((level, c))
+}
+
+/// The byte `c` at `at`, in the number of a dispatch call.
+#[tactic(auto, using(crate::proofs::Fed::number_over, crate::proofs::Fed::number_ends, crate::proofs::Fed::number_more, crate::proofs::Fed::number_passes))]
+pub(crate) fn number_byte(
+    readtable: &Readtable,
+    limits: &Limits,
+    number: &mut HeldNumber,
+    at: usize,
+    c: u8,
+) -> LineByte
+    requires { at ≤ limits.now.text }
+    ensures { (cs : List ℕ) → NumberFeeds readtable.now limits.now number.new at c cs result
+        (run readtable.now limits.now (loop limits.now number_turn number.old) at (c ∷ cs)) }
+{
+    if !c.is_ascii_digit() {
+        return LineByte::Ended;
+    }
+    if at >= limits.text {
+        return LineByte::Refused(FORM_TOO_LONG);
+    }
+    match number.with_digit(c) {
+        None => LineByte::Refused(NUMERIC_ARGUMENT),
+        Some(next) => {
+            *number = next;
+            LineByte::More
+        }
+    }
+}

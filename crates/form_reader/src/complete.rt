@@ -1,0 +1,178 @@
+//! What a call gives for what was gathered.
+ghost use Rattle.std.specs.Prelude.{◌≡◌, ◌+◌, true, nat_le, IfOk};
+ghost use Rattle.lisp_object.specs.Object.{object_depth};
+ghost use Rattle.lisp_object.specs.Datum.{object_of, is_proper};
+ghost use Rattle.user_macros.specs.Calls.{call_of, answer_of, material_of};
+ghost use Rattle.user_macros.specs.Sound.{IsSoundCall, IsProperMaterial};
+ghost use Rattle.std_macros.specs.Values.{value_of};
+ghost use Rattle.std_macros.specs.Results.{view_gathered, IsProperGathered};
+ghost use Rattle.form_reader.specs.Setting.{setting_of, macro_call, user_material};
+ghost use Rattle.form_reader.specs.Reading.{bytes_back, finished, answered, completed};
+ghost use Rattle.form_reader.specs.Completing.{plan_of};
+
+use crate::call::Invoked;
+use crate::found::Found;
+use crate::held::HeldObject;
+use crate::known::may_be_answered;
+use crate::surroundings::Surroundings;
+use crate::way::Function;
+use lisp_object::refusal::{MACRO_ANSWER, MACRO_REFUSED};
+use lisp_object::{Bytes, Datum};
+use package_table::Packages;
+use readtable_core::Case;
+use std::alloc::{AllocError, Global};
+use std_macros::{FinishError, Finished, Standard, StdGathered, StdRefusal, finish};
+use token_scan::characters;
+use user_macros::{Answer, Call, Gathered, MacroFunctions};
+
+/// What a call comes to.
+#[derive(Drop)]
+pub enum Completed {
+    /// An object, or nothing.
+    Gives(Found),
+    /// The number of a refusal, and how many bytes before the end of the call it stands.
+    Refused(u16, usize),
+}
+
+/// What the function of a call gives for what was gathered, with so many open calls round it: whether a token ends the call,
+/// and whether a token ends an object in it.
+pub(crate) fn complete<R: MacroFunctions>(
+    with: &Surroundings<'_, R>,
+    round: usize,
+    call: &Invoked,
+    token: bool,
+    spaced: bool,
+    gathered: StdGathered,
+) -> Result<Completed, AllocError>
+    requires answers { R.answers with.now.macros.now }
+    requires proper { IsProperGathered gathered }
+    ensures { IfOk result (λ r. completed
+        (setting_of with.now.limits with.now.readtable.now with.now.packages.now.0 with.now.current.now
+        (R.registered with.now.macros.now) R.Meaning.way R.Meaning.answer)
+        round call.now token spaced (view_gathered gathered) ≡ plan_of r) }
+{
+    match call.function() {
+        Function::Standard(kind) => {
+            let case = with.readtable.case();
+            finished(with.alloc, kind, case, call.number(), token, gathered)
+        }
+        Function::User(name) => {
+            if with.macros.gather_of(name).is_none() {
+                return Ok(Completed::Refused(MACRO_REFUSED, 0));
+            }
+            let call = macro_call(with.alloc, call, gathered)?;
+            let answer = with.macros.call(name, &call)?;
+            Ok(answered(
+                with.packages,
+                with.limits.nesting,
+                round,
+                token,
+                spaced,
+                answer,
+            ))
+        }
+    }
+}
+
+/// The value of a standard function.
+fn finished(
+    alloc: Global,
+    kind: Standard,
+    case: Case,
+    number: Option<u32>,
+    token: bool,
+    gathered: StdGathered,
+) -> Result<Completed, AllocError>
+    requires { IsProperGathered gathered }
+    ensures { IfOk result (λ r. finished token (value_of kind case number (view_gathered gathered)) ≡ plan_of r) }
+{
+    match finish(alloc, kind, case, number, gathered) {
+        Ok(Finished::One(datum)) => {
+            Ok(Completed::Gives(Found::One(token, HeldObject::new(datum))))
+        }
+        Ok(Finished::Nothing) => Ok(Completed::Gives(Found::Nothing(false))),
+        Err(FinishError::OutOfMemory) => Err(AllocError),
+        Err(FinishError::Refused(refusal)) => {
+            Ok(Completed::Refused(refusal.number(), bytes_back(refusal)))
+        }
+    }
+}
+
+/// How many bytes before the end of the call its refusal stands.
+fn bytes_back(refusal: StdRefusal) -> usize
+    ensures { result ≡ bytes_back refusal }
+{
+    match refusal {
+        StdRefusal::StrayClose | StdRefusal::OutOfProfile | StdRefusal::NumericArgument => 1,
+        _ => 0,
+    }
+}
+
+/// What an answer comes to.
+fn answered(
+    packages: &Packages,
+    nesting: u32,
+    round: usize,
+    token: bool,
+    spaced: bool,
+    answer: Answer,
+) -> Completed
+    ensures { answered packages.now.0 nesting round token spaced (answer_of answer) ≡ plan_of result }
+{
+    match answer {
+        Answer::One(datum) => {
+            if !datum.is_proper() {
+                return Completed::Refused(MACRO_ANSWER, 0);
+            }
+            if !may_be_answered(packages, &datum) || !fits(&datum, round, nesting) {
+                return Completed::Refused(MACRO_ANSWER, 0);
+            }
+            Completed::Gives(Found::One(token, HeldObject::new(datum)))
+        }
+        Answer::Nothing => Completed::Gives(Found::Nothing(spaced)),
+        Answer::Refused(_) => Completed::Refused(MACRO_REFUSED, 0),
+    }
+}
+
+/// Whether the depth of a proper datum and the open calls round it are within the nesting.
+fn fits(datum: &Datum, round: usize, nesting: u32) -> bool
+    requires { is_proper datum.now ≡ true }
+    ensures { result ≡ nat_le (object_depth (object_of datum.now) + round) nesting }
+{
+    let nesting = u64::from(nesting);
+    let round = round as u64;
+    round <= nesting && datum.depth() <= nesting - round
+}
+
+/// The call that a function of a user gets.
+fn macro_call(alloc: Global, call: &Invoked, gathered: StdGathered) -> Result<Call, AllocError>
+    requires { IsProperGathered gathered }
+    ensures value { IfOk result (λ c. call_of c ≡ macro_call call.now (view_gathered gathered)) }
+    ensures sound { IfOk result IsSoundCall }
+{
+    Ok(Call {
+        character: call.character(),
+        sub: call.sub(),
+        number: call.number(),
+        gathered: user_gathered(alloc, gathered)?,
+    })
+}
+
+#[tactic(auto, using(crate::proofs::Gathered::all_proper, lisp_object::proofs::Sound::all_below, token_meaning::proofs::Ascii::ascii_characters))]
+fn user_gathered(alloc: Global, gathered: StdGathered) -> Result<Gathered, AllocError>
+    requires { IsProperGathered gathered }
+    ensures value { IfOk result (λ g. material_of g ≡ user_material (view_gathered gathered)) }
+    ensures sound { IfOk result IsProperMaterial }
+{
+    match gathered {
+        StdGathered::Nothing => Ok(Gathered::Nothing),
+        StdGathered::One(datum) => Ok(Gathered::One(datum)),
+        StdGathered::Many(items) => Ok(Gathered::Many(items)),
+        StdGathered::Dotted { .. } => Ok(Gathered::Nothing),
+        StdGathered::Text(bytes) => Ok(Gathered::Text(bytes)),
+        StdGathered::Marks(marks) => {
+            let text = characters(alloc, marks.as_slice())?;
+            Ok(Gathered::Text(Bytes::from_vec(text)))
+        }
+    }
+}

@@ -1,0 +1,138 @@
+//! One byte of what a call gathers, and what the call comes to.
+ghost use Rattle.std.specs.Prelude.{◌≡◌, ◌≤◌, ◌<◌, ◌+◌, ◌^◌, ℕ, List, ◌∷◌, length, IfOk};
+ghost use Rattle.form_reader.specs.declared.frame.Frame.{Frame as OpenCall};
+ghost use Rattle.form_reader.specs.Setting.{setting_of};
+ghost use Rattle.form_reader.specs.declared.stage.Stage.TheVariants.{Text as AtText, Escaped as AtEscaped, Line as AtLine, Block as AtBlock, CallToken as AtCallToken};
+ghost use Rattle.form_reader.specs.Resuming.{Brings, stage_gives};
+
+use crate::bytes::{LineByte, TextByte, block_byte, escaped_byte, line_byte, text_byte};
+use crate::call::Invoked;
+use crate::complete::complete;
+use crate::held::HeldText;
+use crate::opening::event_of;
+use crate::stage::{Event, Stage};
+use crate::surroundings::Surroundings;
+use crate::way::Keep;
+use std::alloc::AllocError;
+use std_macros::StdGathered;
+use user_macros::MacroFunctions;
+
+/// The byte `c` at `at`, in the text of a call with so many open calls round it.
+pub(crate) fn in_text<R: MacroFunctions>(
+    with: &Surroundings<'_, R>,
+    round: usize,
+    call: Invoked,
+    terminator: u8,
+    mut text: HeldText,
+    at: usize,
+    c: u8,
+) -> Result<Event, AllocError>
+    requires answers { R.answers with.now.macros.now }
+    requires place { at ≤ with.now.limits.text }
+    requires count { at < 2 ^ 62 }
+    ensures { (frames : List OpenCall) (cs : List ℕ) → round ≡ length frames → IfOk result (λ event. Brings
+        (setting_of with.now.limits with.now.readtable.now with.now.packages.now.0 with.now.current.now
+        (R.registered with.now.macros.now) R.Meaning.way R.Meaning.answer)
+        frames (at + 1) cs event (stage_gives
+        (setting_of with.now.limits with.now.readtable.now with.now.packages.now.0 with.now.current.now
+        (R.registered with.now.macros.now) R.Meaning.way R.Meaning.answer)
+        frames (AtText call terminator text) at (c ∷ cs))) }
+{
+    match text_byte(with.readtable, &with.limits, terminator, &mut text, at, c)? {
+        TextByte::More => Ok(Event::Stage(Stage::Text(call, terminator, text))),
+        TextByte::Escape => Ok(Event::Stage(Stage::Escaped(call, terminator, text))),
+        TextByte::Ended => {
+            let gathered = StdGathered::Text(text.into_bytes());
+            let done = complete(with, round, &call, false, false, gathered)?;
+            Ok(event_of(done, at + 1))
+        }
+        TextByte::Refused(code) => Ok(Event::Refused(code, at)),
+    }
+}
+
+/// The byte `c` at `at`, after an escape in the text of a call.
+pub(crate) fn in_escaped<R: MacroFunctions>(
+    with: &Surroundings<'_, R>,
+    round: usize,
+    call: Invoked,
+    terminator: u8,
+    mut text: HeldText,
+    at: usize,
+    c: u8,
+) -> Result<Event, AllocError>
+    ensures { (frames : List OpenCall) (cs : List ℕ) → round ≡ length frames → IfOk result (λ event. Brings
+        (setting_of with.now.limits with.now.readtable.now with.now.packages.now.0 with.now.current.now
+        (R.registered with.now.macros.now) R.Meaning.way R.Meaning.answer)
+        frames (at + 1) cs event (stage_gives
+        (setting_of with.now.limits with.now.readtable.now with.now.packages.now.0 with.now.current.now
+        (R.registered with.now.macros.now) R.Meaning.way R.Meaning.answer)
+        frames (AtEscaped call terminator text) at (c ∷ cs))) }
+{
+    match escaped_byte(with.readtable, &with.limits, terminator, &mut text, at, c)? {
+        None => Ok(Event::Stage(Stage::Text(call, terminator, text))),
+        Some(code) => Ok(Event::Refused(code, at)),
+    }
+}
+
+/// The byte `c` at `at`, in the line of a call with so many open calls round it.
+pub(crate) fn in_line<R: MacroFunctions>(
+    with: &Surroundings<'_, R>,
+    round: usize,
+    call: Invoked,
+    keep: Keep,
+    mut text: HeldText,
+    at: usize,
+    c: u8,
+) -> Result<Event, AllocError>
+    requires answers { R.answers with.now.macros.now }
+    requires place { at ≤ with.now.limits.text }
+    requires count { at < 2 ^ 62 }
+    ensures { (frames : List OpenCall) (cs : List ℕ) → round ≡ length frames → IfOk result (λ event. Brings
+        (setting_of with.now.limits with.now.readtable.now with.now.packages.now.0 with.now.current.now
+        (R.registered with.now.macros.now) R.Meaning.way R.Meaning.answer)
+        frames (at + 1) cs event (stage_gives
+        (setting_of with.now.limits with.now.readtable.now with.now.packages.now.0 with.now.current.now
+        (R.registered with.now.macros.now) R.Meaning.way R.Meaning.answer)
+        frames (AtLine call keep text) at (c ∷ cs))) }
+{
+    match line_byte(with.readtable, &with.limits, keep, &mut text, at, c)? {
+        LineByte::More => Ok(Event::Stage(Stage::Line(call, keep, text))),
+        LineByte::Ended => {
+            let gathered = StdGathered::Text(text.into_bytes());
+            let done = complete(with, round, &call, false, false, gathered)?;
+            Ok(event_of(done, at + 1))
+        }
+        LineByte::Refused(code) => Ok(Event::Refused(code, at)),
+    }
+}
+
+/// The byte `c` at `at`, in the block of a call with so many open calls round it.
+pub(crate) fn in_block<R: MacroFunctions>(
+    with: &Surroundings<'_, R>,
+    round: usize,
+    call: Invoked,
+    mut levels: (usize, u8),
+    at: usize,
+    c: u8,
+) -> Result<Event, AllocError>
+    requires answers { R.answers with.now.macros.now }
+    requires place { at ≤ with.now.limits.text }
+    requires count { at < 2 ^ 62 }
+    requires level { levels.0 ≤ at }
+    ensures { (frames : List OpenCall) (cs : List ℕ) → round ≡ length frames → IfOk result (λ event. Brings
+        (setting_of with.now.limits with.now.readtable.now with.now.packages.now.0 with.now.current.now
+        (R.registered with.now.macros.now) R.Meaning.way R.Meaning.answer)
+        frames (at + 1) cs event (stage_gives
+        (setting_of with.now.limits with.now.readtable.now with.now.packages.now.0 with.now.current.now
+        (R.registered with.now.macros.now) R.Meaning.way R.Meaning.answer)
+        frames (AtBlock call levels) at (c ∷ cs))) }
+{
+    match block_byte(with.readtable, &with.limits, &mut levels, at, c) {
+        LineByte::More => Ok(Event::Stage(Stage::Block(call, levels))),
+        LineByte::Ended => {
+            let done = complete(with, round, &call, false, false, StdGathered::Nothing)?;
+            Ok(event_of(done, at + 1))
+        }
+        LineByte::Refused(code) => Ok(Event::Refused(code, at)),
+    }
+}

@@ -1,0 +1,41 @@
+//! Laws of the definition of reading, as contracts of functions that do nothing.
+ghost use Rattle.std.specs.Prelude.{◌≡◌, ◌≤◌, ℕ, List, Option};
+ghost use Rattle.lisp_object.specs.Object.{Object};
+ghost use Rattle.form_reader.specs.declared.way.Keep.{Keep};
+ghost use Rattle.form_reader.specs.Plans.{Plan, loop, run};
+ghost use Rattle.form_reader.specs.Setting.{Setting};
+ghost use Rattle.form_reader.specs.Gathering.{text_turn, line_turn, block_turn, number_turn};
+ghost use Rattle.form_reader.specs.Reading.{form, place_turn, place, items_turn, items_after, attempt, outcome, reads_at, reads, IsFramed};
+
+/// A form is read again, alone, from the bytes from its start up to its end. They are one byte or more, and with it at
+/// most one more byte is discarded.
+pub fn forms_are_framed()
+    ensures { (setting : Setting) (text : List ℕ) (x : Object) (start end next : ℕ)
+        → reads setting text ≡ form x start end next → IsFramed setting text x start end next }
+{}
+
+/// What is read is what the next byte says, and then what is read after it: before a form, at a place inside a call,
+/// among objects, in a text, a line, a block and a number. No number of turns is in it.
+pub fn reading_goes_on()
+    ensures form { (setting : Setting) (start : ℕ) (text : List ℕ) → reads_at setting start text
+        ≡ outcome setting.table start (λ next cs. reads_at setting next cs)
+        (run setting.table setting.limits (attempt setting setting.limits.nesting) 0 text) }
+    ensures place { (setting : Setting) (depth : ℕ) (close : Option ℕ) (at : ℕ) (cs : List ℕ) → at ≤ setting.limits.text
+        → run setting.table setting.limits (place setting close (attempt setting depth)) at cs
+        ≡ run setting.table setting.limits (place_turn setting.table close (attempt setting depth) (λ u. place setting close (attempt setting depth)) tt) at cs }
+    ensures items { (setting : Setting) (depth close : ℕ) (xs : List Object) (at : ℕ) (cs : List ℕ) → at ≤ setting.limits.text
+        → run setting.table setting.limits (items_after setting close (attempt setting depth) xs) at cs
+        ≡ run setting.table setting.limits (items_turn setting close (attempt setting depth) (items_after setting close (attempt setting depth)) xs) at cs }
+    ensures text { (setting : Setting) (terminator : ℕ) (text : List ℕ) (at : ℕ) (cs : List ℕ) → at ≤ setting.limits.text
+        → run setting.table setting.limits (loop setting.limits (text_turn setting.table terminator) text) at cs
+        ≡ run setting.table setting.limits (text_turn setting.table terminator (loop setting.limits (text_turn setting.table terminator)) text) at cs }
+    ensures line { (setting : Setting) (keep : Keep) (text : List ℕ) (at : ℕ) (cs : List ℕ) → at ≤ setting.limits.text
+        → run setting.table setting.limits (loop setting.limits (line_turn keep) text) at cs
+        ≡ run setting.table setting.limits (line_turn keep (loop setting.limits (line_turn keep)) text) at cs }
+    ensures block { (setting : Setting) (levels : ℕ × ℕ) (at : ℕ) (cs : List ℕ) → at ≤ setting.limits.text
+        → run setting.table setting.limits (loop setting.limits block_turn levels) at cs
+        ≡ run setting.table setting.limits (block_turn (loop setting.limits block_turn) levels) at cs }
+    ensures number { (setting : Setting) (number : Option ℕ) (at : ℕ) (cs : List ℕ) → at ≤ setting.limits.text
+        → run setting.table setting.limits (loop setting.limits number_turn number) at cs
+        ≡ run setting.table setting.limits (number_turn (loop setting.limits number_turn) number) at cs }
+{}

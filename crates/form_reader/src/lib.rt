@@ -1,0 +1,58 @@
+//! The reader: which object a text begins with (standard 2.2).
+//!
+//! Reading is defined as a plan: a tree that says of each next byte whether it is taken and what is done then. `run` of
+//! specs/Plans.antt says what a plan gives on a text, and alone knows places and the limit of the text. The definition is
+//! `reads` of specs/Reading.antt, which says of a text that it begins with a form (its object, its start, its end, and where
+//! the next form begins), that it is empty, or that it is refused, with a number and a place. It rests on a `Setting`
+//! (specs/Setting.antt): the limits, the readtable, the packages and the current one, and what the registered functions of
+//! users gather and answer.
+//!
+//! - specs/Plans.antt: plans, and what they give; specs/Gathering.antt: texts, lines, blocks and numbers
+//! - specs/Naming.antt: what a token means in packages; specs/Answering.antt: what a function of a user may answer
+//! - specs/Reading.antt: objects, calls and forms
+//! - specs/Frames.antt, specs/Resuming.antt: what open calls stand for, and a place in the innermost, for a reader that takes
+//!   one byte at a time; specs/Feeding.antt, specs/Delivering.antt: what one byte, and what is found, are to them
+//!
+//! What holds of each reading is on two functions that do nothing: `forms_are_framed` says that a form is read again from its
+//! own bytes alone, and `reading_goes_on` gives the equations of reading step by step, with no number of turns in them.
+//!
+//! The parts of a reader that takes one byte at a time are here, each proved against that definition in whatever calls are
+//! open; what joins them is not there yet. Proofs for it: proofs/Attempts.antt has the byte where an object may begin.
+//!
+//! - `limits`: `Limits`
+//! - `way`, `call`: functions, their calls, and the ways in which they gather
+//! - `held`, `frame`, `stage`, `found`: what is held while calls are open
+//! - `told`: what a token means; `known`: which data may be answered; `complete`: what a call gives
+//! - `bytes`, `tokens`: one byte of a text, a line, a block, a number or a token; `gathering`: what it brings
+//! - `attempt`, `macros`, `opening`: a byte where an object may begin, and how a call begins
+//! - `deliver`, `close`: what open calls make of what is found, and how they end
+//! - `laws`: `forms_are_framed`, `reading_goes_on`
+#![tactic(auto)]
+
+mod attempt;
+mod bytes;
+mod call;
+mod close;
+mod complete;
+mod deliver;
+mod found;
+mod frame;
+mod gathering;
+mod held;
+mod known;
+mod laws;
+mod limits;
+mod macros;
+mod opening;
+mod stage;
+mod surroundings;
+mod tokens;
+mod told;
+mod way;
+
+pub use laws::{forms_are_framed, reading_goes_on};
+pub use limits::Limits;
+pub use way::{Function, Keep, Way};
+
+#[cfg(test)]
+mod tests;

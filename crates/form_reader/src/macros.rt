@@ -1,0 +1,180 @@
+//! The functions at macro characters and sub-characters.
+ghost use Rattle.std.specs.Prelude.{◌≡◌, ◌≤◌, ◌<◌, ◌+◌, ℕ, List, ◌∷◌, length, IfOk, IfSome};
+ghost use Rattle.readtable_core.specs.Tables.{entry_at, dispatch_at};
+ghost use Rattle.form_reader.specs.Plans.{run};
+ghost use Rattle.form_reader.specs.Setting.{setting_of, function_of};
+ghost use Rattle.form_reader.specs.Reading.{macro_called, sub_there};
+ghost use Rattle.form_reader.specs.Frames.{given};
+ghost use Rattle.form_reader.specs.Resuming.{inner_at, Brings, Moves, stage_gives};
+ghost use Rattle.form_reader.specs.declared.frame.Frame.{Frame as OpenCall};
+ghost use Rattle.form_reader.specs.declared.stage.Stage.TheVariants.{CallToken as AtCallToken, Number as AtNumber};
+
+use crate::bytes::{LineByte, number_byte};
+use crate::call::Invoked;
+use crate::complete::complete;
+use crate::frame::Frames;
+use crate::held::HeldNumber;
+use crate::opening::{begin_call, event_of};
+use crate::stage::{Event, Stage};
+use crate::surroundings::Surroundings;
+use crate::tokens::token_byte;
+use crate::way::Function;
+use lisp_object::refusal::{FORM_TOO_LONG, INVALID_CHARACTER, NO_DISPATCH, OUT_OF_PROFILE};
+use readtable_core::FnName;
+use std::alloc::AllocError;
+use std_macros::{StdGathered, standard_of};
+use token_scan::TokenScan;
+use user_macros::MacroFunctions;
+
+/// What a byte brings: after it where it is taken, before it where it ended a token.
+#[derive(Drop)]
+pub enum Moved {
+    Taken(Event),
+    Before(Event),
+}
+
+/// The function of a name.
+#[tactic(auto, using(crate::proofs::Functions::known_so, crate::proofs::Functions::known_none))]
+fn function_of(name: FnName) -> Function
+    ensures { result ≡ function_of name }
+{
+    match standard_of(name) {
+        Some(kind) => Function::Standard(kind),
+        None => Function::User(name),
+    }
+}
+
+/// Begins the call of the macro character `c`, which is the byte before `at`.
+pub(crate) fn begin_macro<R: MacroFunctions>(
+    with: &Surroundings<'_, R>,
+    frames: &mut Frames,
+    c: u8,
+    at: usize,
+) -> Result<Event, AllocError>
+    requires answers { R.answers with.now.macros.now }
+    requires place { at ≤ with.now.limits.text }
+    requires character { c < 128 }
+    ensures { (cs : List ℕ) → IfOk result (λ event. Brings
+        (setting_of with.now.limits with.now.readtable.now with.now.packages.now.0 with.now.current.now
+        (R.registered with.now.macros.now) R.Meaning.way R.Meaning.answer)
+        frames.new at cs event (run with.now.readtable.now with.now.limits (given
+        (setting_of with.now.limits with.now.readtable.now with.now.packages.now.0 with.now.current.now
+        (R.registered with.now.macros.now) R.Meaning.way R.Meaning.answer)
+        frames.old (macro_called
+        (setting_of with.now.limits with.now.readtable.now with.now.packages.now.0 with.now.current.now
+        (R.registered with.now.macros.now) R.Meaning.way R.Meaning.answer)
+        (length frames.old) (inner_at
+        (setting_of with.now.limits with.now.readtable.now with.now.packages.now.0 with.now.current.now
+        (R.registered with.now.macros.now) R.Meaning.way R.Meaning.answer)
+        (length frames.old)) c (entry_at with.now.readtable.now c).function)) at cs)) }
+{
+    match with.readtable.macro_of(c) {
+        None => Ok(Event::Refused(OUT_OF_PROFILE, at.saturating_sub(1))),
+        Some(name) => {
+            if name.is_dispatch() {
+                return Ok(Event::Stage(Stage::Number(c, HeldNumber::none())));
+            }
+            begin_call(with, frames, Invoked::of_macro(function_of(name), c), at)
+        }
+    }
+}
+
+/// The byte `c` at `at`, in the token of a call with so many open calls round it.
+pub(crate) fn in_call_token<R: MacroFunctions>(
+    with: &Surroundings<'_, R>,
+    round: usize,
+    call: Invoked,
+    mut scan: TokenScan,
+    at: usize,
+    c: u8,
+) -> Result<Moved, AllocError>
+    requires answers { R.answers with.now.macros.now }
+    requires place { at ≤ with.now.limits.text }
+    ensures { (frames : List OpenCall) (cs : List ℕ) → round ≡ length frames → IfOk result (λ moved. Moves
+        (setting_of with.now.limits with.now.readtable.now with.now.packages.now.0 with.now.current.now
+        (R.registered with.now.macros.now) R.Meaning.way R.Meaning.answer)
+        frames at c cs moved (stage_gives
+        (setting_of with.now.limits with.now.readtable.now with.now.packages.now.0 with.now.current.now
+        (R.registered with.now.macros.now) R.Meaning.way R.Meaning.answer)
+        frames (AtCallToken call scan) at (c ∷ cs))) }
+{
+    match token_byte(with.readtable, &with.limits, &mut scan, at, c)? {
+        LineByte::More => Ok(Moved::Taken(Event::Stage(Stage::CallToken(call, scan)))),
+        LineByte::Ended => {
+            let gathered = StdGathered::Marks(scan.into_marks());
+            let done = complete(with, round, &call, true, false, gathered)?;
+            Ok(Moved::Before(event_of(done, at)))
+        }
+        LineByte::Refused(code) => Ok(Moved::Taken(Event::Refused(code, at))),
+    }
+}
+
+/// The byte `c` at `at`, in the number of the dispatching character `character`, or its sub-character.
+pub(crate) fn in_number<R: MacroFunctions>(
+    with: &Surroundings<'_, R>,
+    frames: &mut Frames,
+    character: u8,
+    mut number: HeldNumber,
+    at: usize,
+    c: u8,
+) -> Result<Event, AllocError>
+    requires answers { R.answers with.now.macros.now }
+    requires place { at ≤ with.now.limits.text }
+    requires character { character < 128 }
+    ensures { (cs : List ℕ) → IfOk result (λ event. Brings
+        (setting_of with.now.limits with.now.readtable.now with.now.packages.now.0 with.now.current.now
+        (R.registered with.now.macros.now) R.Meaning.way R.Meaning.answer)
+        frames.new (at + 1) cs event (stage_gives
+        (setting_of with.now.limits with.now.readtable.now with.now.packages.now.0 with.now.current.now
+        (R.registered with.now.macros.now) R.Meaning.way R.Meaning.answer)
+        frames.old (AtNumber character number) at (c ∷ cs))) }
+{
+    match number_byte(with.readtable, &with.limits, &mut number, at, c) {
+        LineByte::More => Ok(Event::Stage(Stage::Number(character, number))),
+        LineByte::Ended => sub_byte(with, frames, character, number, at, c),
+        LineByte::Refused(code) => Ok(Event::Refused(code, at)),
+    }
+}
+
+/// The byte `c` at `at`, which is the sub-character.
+fn sub_byte<R: MacroFunctions>(
+    with: &Surroundings<'_, R>,
+    frames: &mut Frames,
+    character: u8,
+    number: HeldNumber,
+    at: usize,
+    c: u8,
+) -> Result<Event, AllocError>
+    requires answers { R.answers with.now.macros.now }
+    requires place { at ≤ with.now.limits.text }
+    requires character { character < 128 }
+    ensures { (cs : List ℕ) → IfOk result (λ event. Brings
+        (setting_of with.now.limits with.now.readtable.now with.now.packages.now.0 with.now.current.now
+        (R.registered with.now.macros.now) R.Meaning.way R.Meaning.answer)
+        frames.new (at + 1) cs event (run with.now.readtable.now with.now.limits (given
+        (setting_of with.now.limits with.now.readtable.now with.now.packages.now.0 with.now.current.now
+        (R.registered with.now.macros.now) R.Meaning.way R.Meaning.answer)
+        frames.old (sub_there
+        (setting_of with.now.limits with.now.readtable.now with.now.packages.now.0 with.now.current.now
+        (R.registered with.now.macros.now) R.Meaning.way R.Meaning.answer)
+        (length frames.old) (inner_at
+        (setting_of with.now.limits with.now.readtable.now with.now.packages.now.0 with.now.current.now
+        (R.registered with.now.macros.now) R.Meaning.way R.Meaning.answer)
+        (length frames.old)) character number)) at (c ∷ cs))) }
+{
+    if at >= with.limits.text {
+        return Ok(Event::Refused(FORM_TOO_LONG, at));
+    }
+    if c >= 128 {
+        return Ok(Event::Refused(INVALID_CHARACTER, at));
+    }
+    match with.readtable.dispatch_of(character, c) {
+        None => Ok(Event::Refused(NO_DISPATCH, at)),
+        Some(name) => {
+            let function = function_of(name);
+            let sub = c.to_ascii_uppercase();
+            let call = Invoked::of_sub(function, character, sub, number.get());
+            begin_call(with, frames, call, at + 1)
+        }
+    }
+}

@@ -1,0 +1,183 @@
+//! How a call begins.
+ghost use Rattle.std.specs.Prelude.{◌≡◌, ◌≤◌, ℕ, List, IfOk};
+ghost use Rattle.form_reader.specs.Setting.{Setting, setting_of, is_baseless, standard_way, user_way, way_in};
+ghost use Rattle.form_reader.specs.declared.frame.Frame.{Frame as OpenCall};
+ghost use Rattle.form_reader.specs.Resuming.{Begins, Gathers, ComesTo};
+
+use crate::call::Invoked;
+use crate::complete::{Completed, complete};
+use crate::frame::{Frame, Frames, Part};
+use crate::held::{HeldObjects, HeldText};
+use crate::stage::{Event, Stage};
+use crate::surroundings::Surroundings;
+use crate::way::{Function, Keep, Way};
+use lisp_object::refusal::{OUT_OF_PROFILE, TOO_DEEP};
+use std::alloc::AllocError;
+use std_macros::{Standard, StdGather, StdGathered, radix_of, way};
+use token_scan::TokenScan;
+use user_macros::{Gather, MacroFunctions};
+
+/// Begins a call whose last byte is the one before `at`.
+#[tactic(auto, using(crate::proofs::Beginnings::refused_is))]
+pub(crate) fn begin_call<R: MacroFunctions>(
+    with: &Surroundings<'_, R>,
+    frames: &mut Frames,
+    call: Invoked,
+    at: usize,
+) -> Result<Event, AllocError>
+    requires answers { R.answers with.now.macros.now }
+    requires place { at ≤ with.now.limits.text }
+    ensures { (cs : List ℕ) → IfOk result (λ event. Begins
+        (setting_of with.now.limits with.now.readtable.now with.now.packages.now.0 with.now.current.now
+        (R.registered with.now.macros.now) R.Meaning.way R.Meaning.answer)
+        frames.new frames.old call at cs event) }
+{
+    match way_of(with, &call) {
+        None => Ok(Event::Refused(OUT_OF_PROFILE, at.saturating_sub(1))),
+        Some(way) => gather(with, frames, call, way, at),
+    }
+}
+
+/// Begins to gather in this way.
+#[tactic(auto, using(crate::proofs::Beginnings::next_opens, crate::proofs::Beginnings::list_opens, crate::proofs::Beginnings::until_opens, crate::proofs::Beginnings::next_deep, crate::proofs::Beginnings::list_deep, crate::proofs::Beginnings::until_deep, crate::proofs::Beginnings::token_begins, crate::proofs::Beginnings::escaped_begins))]
+fn gather<R: MacroFunctions>(
+    with: &Surroundings<'_, R>,
+    frames: &mut Frames,
+    call: Invoked,
+    way: Way,
+    at: usize,
+) -> Result<Event, AllocError>
+    requires answers { R.answers with.now.macros.now }
+    requires place { at ≤ with.now.limits.text }
+    ensures { (cs : List ℕ) → IfOk result (λ event. Gathers
+        (setting_of with.now.limits with.now.readtable.now with.now.packages.now.0 with.now.current.now
+        (R.registered with.now.macros.now) R.Meaning.way R.Meaning.answer)
+        frames.new frames.old call way at cs event) }
+{
+    let deep = frames.len() >= with.limits.nesting as usize;
+    match way {
+        Way::Nothing => {
+            let done = complete(
+                with,
+                frames.len(),
+                &call,
+                false,
+                false,
+                StdGathered::Nothing,
+            )?;
+            Ok(event_of(done, at))
+        }
+        Way::Next => {
+            if deep {
+                return Ok(Event::Refused(TOO_DEEP, at.saturating_sub(1)));
+            }
+            let part = Part::Next;
+            frames.push(Frame { call, part })?;
+            Ok(Event::Stage(Stage::Object))
+        }
+        Way::List => {
+            if deep {
+                return Ok(Event::Refused(TOO_DEEP, at.saturating_sub(1)));
+            }
+            let part = Part::List(HeldObjects::new(with.alloc));
+            frames.push(Frame { call, part })?;
+            Ok(Event::Stage(Stage::Object))
+        }
+        Way::Until(close) => {
+            if deep {
+                return Ok(Event::Refused(TOO_DEEP, at.saturating_sub(1)));
+            }
+            let part = Part::Until(close, HeldObjects::new(with.alloc));
+            frames.push(Frame { call, part })?;
+            Ok(Event::Stage(Stage::Object))
+        }
+        Way::Text(close) => {
+            let text = HeldText::new(with.alloc);
+            Ok(Event::Stage(Stage::Text(call, close, text)))
+        }
+        Way::Line(keep) => {
+            let text = HeldText::new(with.alloc);
+            Ok(Event::Stage(Stage::Line(call, keep, text)))
+        }
+        Way::Block => Ok(Event::Stage(Stage::Block(call, (0, 0)))),
+        Way::Token => {
+            let scan = TokenScan::begin(with.alloc, with.limits.token);
+            Ok(Event::Stage(Stage::CallToken(call, scan)))
+        }
+        Way::EscapedToken => {
+            let scan = TokenScan::begin_escaped(with.alloc, with.limits.token);
+            Ok(Event::Stage(Stage::CallToken(call, scan)))
+        }
+    }
+}
+
+/// What a call that ends at `at` brings.
+#[tactic(auto, using(crate::proofs::Beginnings::refused_is))]
+pub(crate) fn event_of(completed: Completed, at: usize) -> Event
+    ensures { (setting : Setting) (frames : List OpenCall) (cs : List ℕ) → ComesTo setting frames completed at cs result }
+{
+    match completed {
+        Completed::Gives(found) => Event::Gives(found),
+        Completed::Refused(code, back) => Event::Refused(code, at.saturating_sub(back)),
+    }
+}
+
+/// The way in which the function of a call gathers.
+fn way_of<R: MacroFunctions>(with: &Surroundings<'_, R>, call: &Invoked) -> Option<Way>
+    ensures { result ≡ way_in
+        (setting_of with.now.limits with.now.readtable.now with.now.packages.now.0 with.now.current.now
+        (R.registered with.now.macros.now) R.Meaning.way R.Meaning.answer)
+        call.now }
+{
+    match call.function() {
+        Function::Standard(kind) => {
+            if is_baseless(kind, call.number()) {
+                return Some(Way::Nothing);
+            }
+            Some(standard_way(call.caller(), way(kind)))
+        }
+        Function::User(name) => match with.macros.gather_of(name) {
+            None => None,
+            Some(gather) => Some(user_way(call.caller(), gather)),
+        },
+    }
+}
+
+fn is_baseless(kind: Standard, number: Option<u32>) -> bool
+    ensures { result ≡ is_baseless kind number }
+{
+    match kind {
+        Standard::Radix => radix_of(number).is_none(),
+        _ => false,
+    }
+}
+
+fn standard_way(same: u8, gather: StdGather) -> Way
+    ensures { result ≡ standard_way same gather }
+{
+    match gather {
+        StdGather::Nothing => Way::Nothing,
+        StdGather::One => Way::Next,
+        StdGather::List => Way::List,
+        StdGather::Many => Way::Until(b')'),
+        StdGather::Text => Way::Text(same),
+        StdGather::Line => Way::Line(Keep::Dropped),
+        StdGather::Block => Way::Block,
+        StdGather::Token => Way::Token,
+        StdGather::EscapedToken => Way::EscapedToken,
+    }
+}
+
+fn user_way(same: u8, gather: Gather) -> Way
+    ensures { result ≡ user_way same gather }
+{
+    match gather {
+        Gather::Nothing => Way::Nothing,
+        Gather::Next => Way::Next,
+        Gather::Until(close) => Way::Until(close),
+        Gather::Text(close) => Way::Text(close),
+        Gather::TextSame => Way::Text(same),
+        Gather::Line => Way::Line(Keep::Kept),
+        Gather::Token => Way::Token,
+    }
+}

@@ -1,0 +1,125 @@
+//! Where a reader is in its innermost call.
+ghost use Rattle.std.specs.Prelude.{◌≡◌, ◌≤◌, ◌<◌, ℕ, List, [], ◌∷◌, length, IfOk, IsTrue, IsFalse};
+ghost use Rattle.token_scan.specs.Tokens.{kind, typed};
+ghost use Rattle.token_scan.specs.Spelling.{ends_tokens};
+ghost use Rattle.token_scan.specs.Scans.{begun};
+ghost use Rattle.form_reader.specs.Feeding.{token_read};
+ghost use Rattle.form_reader.specs.Begun.{BegunFeeds, IsBegunByte};
+
+use crate::bytes::LineByte;
+use crate::call::Invoked;
+use crate::found::Found;
+use crate::held::{HeldNumber, HeldText};
+use crate::limits::Limits;
+use crate::tokens::token_byte;
+use crate::way::Keep;
+use readtable_core::Readtable;
+use std::alloc::{AllocError, Global};
+use std::marker::Model;
+use token_scan::{Marks, TokenScan};
+
+/// A token of which a byte was taken: where it ends it has a mark.
+#[derive(Drop)]
+pub struct BegunScan {
+    scan: TokenScan,
+}
+
+impl Model for BegunScan {
+    ghost use Rattle.std.specs.Prelude.{IsTrue};
+    ghost use Rattle.token_scan.specs.Scans.{Scan, has_begun};
+
+    ghost Value = { Scan };
+
+    ghost view = { λ b. b.scan };
+
+    ghost invariant = { λ b. IsTrue (has_begun b.scan) };
+}
+
+/// What a byte is to a token that has begun.
+#[derive(Drop)]
+pub enum BegunByte {
+    /// It is taken.
+    More(BegunScan),
+    /// It ends the token, and is not taken.
+    Ended(Marks),
+    /// It is refused.
+    Refused(u16),
+}
+
+/// A token from its first byte `c` on, which is at `at`.
+pub(crate) fn first_byte(
+    alloc: Global,
+    readtable: &Readtable,
+    limits: &Limits,
+    at: usize,
+    c: u8,
+) -> Result<BegunByte, AllocError>
+    requires place { at ≤ limits.now.text }
+    requires begins { IsFalse (ends_tokens (kind (typed readtable.now c))) }
+    ensures feeds { (cs : List ℕ) → IfOk result (λ fed.
+        BegunFeeds readtable.now limits.now at c cs fed (token_read readtable.now limits.now (begun limits.now.token) at (c ∷ cs))) }
+    ensures ended { IfOk result IsBegunByte }
+{
+    let mut scan = TokenScan::begin(alloc, limits.token);
+    match token_byte(readtable, limits, &mut scan, at, c)? {
+        LineByte::More => Ok(BegunByte::More(BegunScan { scan })),
+        LineByte::Ended => Ok(BegunByte::Ended(scan.into_marks())),
+        LineByte::Refused(code) => Ok(BegunByte::Refused(code)),
+    }
+}
+
+impl BegunScan {
+    /// The byte `c` at `at`.
+    #[tactic(auto, using(token_scan::proofs::Forwards::begun_has_mark))]
+    pub(crate) fn byte(
+        self,
+        readtable: &Readtable,
+        limits: &Limits,
+        at: usize,
+        c: u8,
+    ) -> Result<BegunByte, AllocError>
+        requires { at ≤ limits.now.text }
+        ensures feeds { (cs : List ℕ) → IfOk result (λ fed.
+            BegunFeeds readtable.now limits.now at c cs fed (token_read readtable.now limits.now self at (c ∷ cs))) }
+        ensures ended { IfOk result IsBegunByte }
+    {
+        let BegunScan { mut scan } = self;
+        match token_byte(readtable, limits, &mut scan, at, c)? {
+            LineByte::More => Ok(BegunByte::More(BegunScan { scan })),
+            LineByte::Ended => Ok(BegunByte::Ended(scan.into_marks())),
+            LineByte::Refused(code) => Ok(BegunByte::Refused(code)),
+        }
+    }
+}
+
+/// Where a reader is in its innermost call.
+#[derive(Drop)]
+pub enum Stage {
+    /// At a place where an object may begin.
+    Object,
+    /// In a token that is an object.
+    Token(BegunScan),
+    /// In the token of a call.
+    CallToken(Invoked, TokenScan),
+    /// In a text up to this character.
+    Text(Invoked, u8, HeldText),
+    /// After an escape in such a text.
+    Escaped(Invoked, u8, HeldText),
+    /// In a line.
+    Line(Invoked, Keep, HeldText),
+    /// In a block: how many blocks are open inside it, and the byte before, if it may begin a pair.
+    Block(Invoked, (usize, u8)),
+    /// After this dispatching character, in the number.
+    Number(u8, HeldNumber),
+}
+
+/// What a call or a byte brings.
+#[derive(Drop)]
+pub enum Event {
+    /// More bytes are gathered.
+    Stage(Stage),
+    /// The innermost attempt comes to this.
+    Gives(Found),
+    /// The number of a refusal, and its place.
+    Refused(u16, usize),
+}
