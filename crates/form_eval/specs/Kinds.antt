@@ -73,9 +73,9 @@ module _ {A : Type 0} (kind : Object → Option A) where
   given_or default (x ∷ xs) = kind x
 
 -- whatever was given last, and else NIL
-abbrev pub last_given : List Object → Object
-last_given [] = nil
-last_given (x ∷ xs) = x
+abbrev pub given_or_nil : List Object → Object
+given_or_nil [] = nil
+given_or_nil (x ∷ xs) = x
 
 -- NIL is false (standard 1.4.1.4.1)
 abbrev pub is_true : Object → Bool

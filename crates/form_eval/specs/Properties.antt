@@ -7,7 +7,7 @@ use Rattle.plist_state.specs.Properties.{Plist}
 use Rattle.plist_state.specs.State.{State}
 use Rattle.plist_state.specs.Changes.{plist, property, with_property, without_property}
 use Rattle.form_eval.specs.Outcomes.{Outcome, gives, writes, of_kind}
-use Rattle.form_eval.specs.Kinds.{a_symbol, an_integer, last_given}
+use Rattle.form_eval.specs.Kinds.{a_symbol, an_integer, given_or_nil}
 
 abbrev pub t : Object
 t = symbol common_lisp (codes "T")
@@ -24,7 +24,7 @@ list xs s = built (list_of xs) (gives (list_of xs) s)
 
 -- GET of a symbol and an indicator: the property, else the third argument, else NIL
 abbrev pub get : List Object → State → Outcome Object
-get (x ∷ i ∷ rest) s = of_kind (a_symbol x) (λ x'. of_kind (a_symbol i) (λ i'. gives (unwrap_or (property s x' i') (last_given rest)) s))
+get (x ∷ i ∷ rest) s = of_kind (a_symbol x) (λ x'. of_kind (a_symbol i) (λ i'. gives (unwrap_or (property s x' i') (given_or_nil rest)) s))
 get _ s = Err ARGUMENT_KIND
 
 -- SETF of GET's place: the new value

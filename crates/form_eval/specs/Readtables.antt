@@ -17,7 +17,7 @@ use Rattle.plist_state.specs.State.{Readtables, State, standard_name}
 use Rattle.plist_state.specs.Refused.{number_of}
 use Rattle.plist_state.specs.Changes.{after_in_readtable, with_case, with_macro, with_dispatching, with_dispatch, with_syntax, with_copy, in_state}
 use Rattle.form_eval.specs.Outcomes.{Outcome, gives, writes, of_kind}
-use Rattle.form_eval.specs.Kinds.{a_character, a_keyword, a_source, a_case, given_or, last_given, is_true}
+use Rattle.form_eval.specs.Kinds.{a_character, a_keyword, a_source, a_case, given_or, given_or_nil, is_true}
 use Rattle.form_eval.specs.Properties.{t}
 
 abbrev pub a_keyword_of : Name → Object
@@ -90,7 +90,7 @@ abbrev pub set_macro : List Name → List Object → State → Outcome Object
 set_macro names (c ∷ f ∷ rest) s =
     of_kind (a_character c) (λ at. of_kind (a_keyword f) (λ function.
     of_kind (given_or a_keyword s.current_readtable (after_first rest)) (λ n. changeable s n
-    (a_function names function (with_readtables s t (with_macro s.readtables n at function (is_true (last_given rest))))))))
+    (a_function names function (with_readtables s t (with_macro s.readtables n at function (is_true (given_or_nil rest))))))))
 set_macro names _ s = Err ARGUMENT_KIND
 
 -- GET-MACRO-CHARACTER
@@ -104,7 +104,7 @@ get_macro _ s = Err ARGUMENT_KIND
 abbrev pub make_dispatch : List Object → State → Outcome Object
 make_dispatch (c ∷ rest) s =
     of_kind (a_character c) (λ at. of_kind (given_or a_keyword s.current_readtable (after_first rest)) (λ n.
-    with_readtables s t (with_dispatching s.readtables n at (is_true (last_given rest)))))
+    with_readtables s t (with_dispatching s.readtables n at (is_true (given_or_nil rest)))))
 make_dispatch _ s = Err ARGUMENT_KIND
 
 -- SET-DISPATCH-MACRO-CHARACTER
