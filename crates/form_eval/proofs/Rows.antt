@@ -1,5 +1,5 @@
 -- Forms, and what each gives, in any state; what a row needs of the state, it asks for.
-use Rattle.std.proofs.Common.{◌≡◌, ℕ, zero, suc, true, false, cond, nat_le, List, [], ◌∷◌, pos, negsuc, codes, Option, Some, None, Ok, Err, refl, ap, ◌∙◌}
+use Rattle.std.proofs.Common.{◌≡◌, ℕ, zero, suc, true, false, cond, nat_le, List, [], ◌∷◌, pos, negsuc, codes, Some, None, Err, refl, ap, ◌∙◌}
 use Rattle.std.specs.FinMap as finite
 use Rattle.lisp_object.specs.Object.{Object, integer, symbol, text, character, uninterned, pair, vector, nil, list_of}
 use Rattle.readtable_core.specs.declared.table.Case.TheVariants.{Invert}

@@ -1,6 +1,6 @@
 -- A form as one transaction: its symbols are interned, and then it is evaluated.
-use Rattle.std.specs.Prelude.{ℕ, Bool, true, false, ◌||◌, List, [], ◌∷◌, ◌++◌, Result, Ok, Err}
-use Rattle.lisp_object.specs.Object.{Object, integer, rational, character, text, symbol, uninterned, pair, vector}
+use Rattle.std.specs.Prelude.{Bool, false, List, [], ◌∷◌, ◌++◌, Result, Ok, Err}
+use Rattle.lisp_object.specs.Object.{Object, symbol, pair, vector}
 use Rattle.package_table.specs.declared.error.PackageError.{PackageError}
 use Rattle.package_table.specs.Table.{Name, Table}
 use Rattle.package_table.specs.Errors.{number_of}

@@ -8,7 +8,7 @@ use Rattle.readtable_core.specs.declared.table.Case.TheVariants.{Upcase, Downcas
 use Rattle.readtable_core.specs.Cases.{case_name}
 use Rattle.package_table.specs.Table.{Name, keyword}
 use Rattle.plist_state.specs.Properties.{Symbol}
-use Rattle.plist_state.specs.State.{State, standard_name}
+use Rattle.plist_state.specs.State.{standard_name}
 
 abbrev pub a_symbol : Object → Option Symbol
 a_symbol (symbol home name) = Some (home, name)

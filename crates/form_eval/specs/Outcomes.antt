@@ -1,6 +1,6 @@
 -- What evaluation gives: a value, the state of the world after it and whether anything was written; or the number of the
 -- refusal.
-use Rattle.std.specs.Prelude.{ℕ, Bool, true, false, ◌||◌, List, [], ◌∷◌, Option, Some, None, Result, Ok, Err}
+use Rattle.std.specs.Prelude.{ℕ, Bool, true, false, ◌||◌, Option, Some, None, Result, Ok, Err}
 use Rattle.lisp_object.specs.declared.refusal.TheConstants.{ARGUMENT_KIND}
 use Rattle.plist_state.specs.State.{State}
 

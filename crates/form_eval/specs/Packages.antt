@@ -1,5 +1,5 @@
 -- The operators on packages (standard 11.2): each of the values of its arguments. What each change is, package_table says.
-use Rattle.std.specs.Prelude.{ℕ, Bool, true, false, ◌||◌, ◌&&◌, not, if◌then◌else◌, List, [], ◌∷◌, Option, Some, None, Result, Ok, Err}
+use Rattle.std.specs.Prelude.{Bool, false, ◌||◌, not, if◌then◌else◌, List, [], ◌∷◌, Option, Some, None, Result, Ok, Err}
 use Rattle.std.specs.Str.{bytes_eq}
 use Rattle.std.specs.List.{list_all, list_any}
 use Rattle.std.specs.Option.{option_map_or}
@@ -9,10 +9,9 @@ use Rattle.package_table.specs.declared.error.PackageError.{PackageError}
 use Rattle.package_table.specs.Table.{Name, Table, keyword, is_locked, package_named}
 use Rattle.package_table.specs.Errors.{number_of}
 use Rattle.package_table.specs.Changes.{after_make, after_intern, after_export, after_import, after_use, finds_this, intern_changes, export_changes, import_changes, use_changes}
-use Rattle.plist_state.specs.Properties.{Symbol}
 use Rattle.plist_state.specs.State.{State}
 use Rattle.plist_state.specs.Changes.{with_packages}
-use Rattle.form_eval.specs.Outcomes.{Outcome, Done, gives, writes, of_kind}
+use Rattle.form_eval.specs.Outcomes.{Outcome, writes, of_kind}
 use Rattle.form_eval.specs.Kinds.{a_symbol, a_name, a_text, one_or_each, given_or}
 use Rattle.form_eval.specs.Properties.{t}
 

@@ -1,5 +1,5 @@
 -- The operators on property lists and lists (standard 10.2, 14.2): each of the values of its arguments.
-use Rattle.std.specs.Prelude.{ℕ, ℤ, ◌+ℤ◌, pos, negsuc, ◌^◌, Bool, true, false, ◌&&◌, nat_lt, nat_le, if◌then◌else◌, List, [], ◌∷◌, Option, Some, None, Result, Ok, Err, unwrap_or, is_some, codes}
+use Rattle.std.specs.Prelude.{ℤ, ◌+ℤ◌, pos, negsuc, ◌^◌, Bool, nat_lt, if◌then◌else◌, List, [], ◌∷◌, Option, Some, None, Err, unwrap_or, codes}
 use Rattle.lisp_object.specs.Object.{Object, integer, symbol, pair, nil, list_of, object_depth, object_size}
 use Rattle.lisp_object.specs.declared.refusal.TheConstants.{ARGUMENT_KIND, INTEGER_RANGE, VALUE_TOO_DEEP, LIMIT}
 use Rattle.package_table.specs.Table.{common_lisp}

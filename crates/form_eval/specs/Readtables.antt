@@ -1,12 +1,11 @@
 -- The operators on readtables (standard 23.2): each of the values of its arguments. What each change is, plist_state says.
-use Rattle.std.specs.Prelude.{ℕ, Bool, true, false, ◌||◌, ◌&&◌, not, if◌then◌else◌, List, [], ◌∷◌, Option, Some, None, Result, Ok, Err}
+use Rattle.std.specs.Prelude.{Bool, ◌||◌, ◌&&◌, not, if◌then◌else◌, List, [], ◌∷◌, Option, Some, None, Result, Ok, Err}
 use Rattle.std.specs.Option.{option_map_or}
 use Rattle.lisp_object.specs.Object.{Object, symbol, nil}
 use Rattle.lisp_object.specs.declared.refusal.TheConstants.{ARGUMENT_KIND, NO_READTABLE, NO_MACRO, NOT_DISPATCHING, STANDARD_READTABLE}
 use Rattle.readtable_core.specs.Tables as readtable
 use Rattle.readtable_core.specs.Tables.{entry_at, dispatch_at}
 use Rattle.readtable_core.specs.Names.{is_among, is_standard, is_dispatch_name}
-use Rattle.readtable_core.specs.Characters.{is_digit}
 use Rattle.readtable_core.specs.Cases.{case_name}
 use Rattle.readtable_core.specs.Sound.{is_dispatching}
 use Rattle.package_table.specs.Table.{Name, keyword}

@@ -1,10 +1,9 @@
 -- Evaluation (standard 3.1.2.1): the value of a form, by cases on the form.
-use Rattle.std.specs.Prelude.{ℕ, Bool, true, false, ◌&&◌, ◌||◌, ◌==◌, not, if◌then◌else◌, List, [], ◌∷◌, ◌++◌, Option, Some, None, Result, Ok, Err, codes}
+use Rattle.std.specs.Prelude.{ℕ, Bool, ◌&&◌, ◌||◌, ◌==◌, not, if◌then◌else◌, List, [], ◌∷◌, ◌++◌, Option, Some, None, Err, codes}
 use Rattle.std.specs.Str.{bytes_eq}
-use Rattle.std.specs.Option.{option_map_or}
-use Rattle.lisp_object.specs.Object.{Object, integer, rational, character, text, symbol, uninterned, pair, vector, nil, is_proper_list}
+use Rattle.lisp_object.specs.Object.{Object, text, symbol, uninterned, pair, nil, is_proper_list}
 use Rattle.lisp_object.specs.declared.refusal.TheConstants.{NOT_A_FORM, UNKNOWN_OPERATOR, ARGUMENT_COUNT, ARGUMENT_KIND}
-use Rattle.package_table.specs.Table.{Name, common_lisp, keyword}
+use Rattle.package_table.specs.Table.{Name, keyword}
 use Rattle.plist_state.specs.State.{State}
 use Rattle.form_eval.specs.Outcomes.{Outcome, gives, and_then}
 use Rattle.form_eval.specs.Kinds.{is_true}
