@@ -18,11 +18,11 @@ use Rattle.form_eval.specs.Acceptance.{table_of, after_symbol}
 use Rattle.form_eval.proofs.Silence.{neither}
 
 -- a test that was not met, and what follows it
-passed : {A : Type 0} (b : Bool) (e : PackageError) (rest : Result A PackageError) (x : A) → cond b (Err e) rest ≡ Ok x → rest ≡ Ok x
+pub passed : {A : Type 0} (b : Bool) (e : PackageError) (rest : Result A PackageError) (x : A) → cond b (Err e) rest ≡ Ok x → rest ≡ Ok x
 passed true e rest x is = absurd (let other : Err e ≡ Ok x = is in cc)
 passed false e rest x is = is
 
-same_ok : {A : Type 0} (x y : A) → ◌≡◌ {A = Result A PackageError} (Ok x) (Ok y) → x ≡ y
+pub same_ok : {A : Type 0} (x y : A) → ◌≡◌ {A = Result A PackageError} (Ok x) (Ok y) → x ≡ y
 same_ok x y e = cc
 
 holds : (b : Bool) → not b ≡ false → b ≡ true

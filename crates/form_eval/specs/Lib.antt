@@ -6,3 +6,4 @@ pub mod Readtables
 pub mod Operators
 pub mod Value
 pub mod Acceptance
+pub mod Laws

@@ -3,10 +3,20 @@ ghost use Rattle.std.specs.Prelude.{◌≡◌, false, List, Ok};
 ghost use Rattle.lisp_object.specs.Object.{Object};
 ghost use Rattle.package_table.specs.Table.{Name};
 ghost use Rattle.plist_state.specs.State.{State};
+ghost use Rattle.plist_state.specs.Sound.{IsSound};
 ghost use Rattle.form_eval.specs.Outcomes.{Done};
 ghost use Rattle.form_eval.specs.Acceptance.{accept};
+ghost use Rattle.form_eval.specs.Laws.{AreFunctionNames, IsForm, IsSoundAfter};
 
 /// A form that is accepted and does not write leaves the state of the world as it was. For proofs: it does nothing.
 pub fn silent_forms_change_nothing()
     ensures { (names : List Name) (s : State) (x : Object) (d : Done Object) → accept names s x ≡ Ok d → d.wrote ≡ false → d.state ≡ s }
+{}
+
+/// A form that is accepted in a sound state leaves a sound state, in which no package, no symbol, no external name and no
+/// use of a package is lost, and its value may be stored there. Asked are the names of macro functions, and a form of depth
+/// at most 100 whose symbols fit the packages. For proofs: it does nothing.
+pub fn accepted_states_are_sound()
+    ensures { (names : List Name) (s : State) (x : Object) (d : Done Object)
+        → AreFunctionNames names → IsSound s → IsForm s.packages x → accept names s x ≡ Ok d → IsSoundAfter s d }
 {}
