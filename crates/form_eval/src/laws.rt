@@ -1,5 +1,5 @@
 //! What holds of every form, for proofs.
-ghost use Rattle.std.specs.Prelude.{◌≡◌, false, List, Ok};
+ghost use Rattle.std.specs.Prelude.{◌≡◌, ◌≤◌, ℕ, false, List, Ok, Err};
 ghost use Rattle.lisp_object.specs.Object.{Object};
 ghost use Rattle.package_table.specs.Table.{Name};
 ghost use Rattle.plist_state.specs.State.{State};
@@ -19,4 +19,9 @@ pub fn silent_forms_change_nothing()
 pub fn accepted_states_are_sound()
     ensures { (names : List Name) (s : State) (x : Object) (d : Done Object)
         → AreFunctionNames names → IsSound s → IsForm s.packages x → accept names s x ≡ Ok d → IsSoundAfter s d }
+{}
+
+/// A form is refused under a number of evaluation alone, 30 to 46. For proofs: it does nothing.
+pub fn refusals_are_of_evaluation()
+    ensures { (names : List Name) (s : State) (x : Object) (code : ℕ) → accept names s x ≡ Err code → (30 ≤ code) × (code ≤ 46) }
 {}
