@@ -1,7 +1,7 @@
 -- Forms, and what each gives, in any state; what a row needs of the state, it asks for.
-use Rattle.std.proofs.Common.{◌≡◌, ℕ, zero, suc, true, false, cond, nat_le, List, [], ◌∷◌, pos, negsuc, codes, Some, None, Err, refl, ap, ◌∙◌}
+use Rattle.std.proofs.Common.{◌≡◌, ℕ, zero, suc, true, false, cond, nat_le, nat_lt, List, [], ◌∷◌, pos, negsuc, codes, Some, None, Err, refl, ap, ◌∙◌}
 use Rattle.std.specs.FinMap as finite
-use Rattle.lisp_object.specs.Object.{Object, integer, symbol, text, character, uninterned, pair, vector, nil, list_of}
+use Rattle.lisp_object.specs.Object.{Object, integer, symbol, text, character, uninterned, pair, vector, nil, list_of, object_depth, object_size}
 use Rattle.readtable_core.specs.declared.table.Case.TheVariants.{Invert}
 use Rattle.readtable_core.specs.Tables as readtable
 use Rattle.readtable_core.specs.Tables.{entry_at, dispatch_at}
@@ -148,6 +148,14 @@ module _ (s : State) where
   unfolding value
   chosen = refl
 
+  last_of_sequence : value [] s (call (codes "PROGN") (t ∷ number 2 ∷ [])) ≡ gives (number 2) s
+  unfolding value
+  last_of_sequence = refl
+
+  true_chosen : value [] s (call (codes "IF") (number 0 ∷ number 1 ∷ own (codes "X") ∷ [])) ≡ gives (number 1) s
+  unfolding value
+  true_chosen = refl
+
   not_chosen : value [] s (call (codes "IF") (nil ∷ own (codes "X") ∷ [])) ≡ gives nil s
   unfolding value
   not_chosen = refl
@@ -165,10 +173,19 @@ module _ (s : State) where
   unfolding value
   too_deep = refl
 
+  too_large : (x : Object) → nat_lt 100 (object_depth (list_of (x ∷ []))) ≡ false → nat_lt 1000000 (object_size (list_of (x ∷ []))) ≡ true
+      → value [] s (call (codes "LIST") (quoted x ∷ [])) ≡ Err 46
+  unfolding value
+  too_large x shallow large = rw (shallow, large) refl
+
   -- ---- properties
   absent : property s a_symbol b_symbol ≡ None → value [] s place ≡ gives nil s
   unfolding value
   absent none = rw none refl
+
+  present_property : property s a_symbol b_symbol ≡ Some (number 5) → value [] s (call (codes "GET") (a ∷ b ∷ number 1 ∷ [])) ≡ gives (number 5) s
+  unfolding value
+  present_property five = rw five refl
 
   in_its_place : property s a_symbol b_symbol ≡ None → value [] s (call (codes "GET") (a ∷ b ∷ number 1 ∷ [])) ≡ gives (number 1) s
   unfolding value
@@ -198,6 +215,10 @@ module _ (s : State) where
   beyond : property s a_symbol b_symbol ≡ Some (integer (negsuc 170141183460469231731687303715884105727)) → value [] s (call (codes "INCF") (place ∷ integer (negsuc 0) ∷ [])) ≡ Err 44
   unfolding value
   beyond lowest = rw lowest refl
+
+  beyond_above : property s a_symbol b_symbol ≡ Some (number 170141183460469231731687303715884105727) → value [] s (call (codes "INCF") (place ∷ [])) ≡ Err 44
+  unfolding value
+  beyond_above highest = rw highest refl
 
   nothing_to_increase : property s a_symbol b_symbol ≡ None → value [] s (call (codes "INCF") (place ∷ [])) ≡ Err 33
   unfolding value
@@ -324,6 +345,10 @@ module _ (s : State) where
   kind_first = refl
 
   module _ (p : finite.contains_key s.packages (codes "P") ≡ true) where
+    name_taken : value [] s (call (codes "MAKE-PACKAGE") (text (codes "P") ∷ [])) ≡ Err 35
+    unfolding value
+    name_taken = rw p refl
+
     all_none : value [] s (call (codes "EXPORT") (nil ∷ text (codes "P") ∷ [])) ≡ gives t s
     unfolding value
     all_none = rw p refl
@@ -332,6 +357,11 @@ module _ (s : State) where
         → value [] s (call (codes "EXPORT") (quoted (list_of (own (codes "A") ∷ own (codes "B") ∷ [])) ∷ text (codes "P") ∷ [])) ≡ Err 38
     unfolding value
     second_not_found first second = rw (p, first, second) refl
+
+    -- another symbol of that name is found
+    other_found : found s.packages (codes "P") (codes "A") ≡ Some (codes "P") → value [] s (call (codes "EXPORT") (a ∷ text (codes "P") ∷ [])) ≡ Err 38
+    unfolding value
+    other_found here = rw (p, here) refl
 
     user_conflicts : found s.packages (codes "P") (codes "A") ≡ Some (codes "COMMON-LISP-USER") → user_finds_other s.packages (codes "P") (codes "COMMON-LISP-USER") (codes "A") ≡ true
         → value [] s (call (codes "EXPORT") (a ∷ text (codes "P") ∷ [])) ≡ Err 37
@@ -348,6 +378,24 @@ module _ (s : State) where
         → value [] s (call (codes "EXPORT") (a ∷ text (codes "P") ∷ [])) ≡ writes t (with_packages s (with_external s.packages (codes "P") (codes "COMMON-LISP-USER") (codes "A")))
     unfolding value
     exported first alone hidden = rw (p, first, hidden, p, alone) refl
+
+    -- a symbol that is inherited becomes present
+    inherited_imported : found s.packages (codes "P") (codes "A") ≡ Some (codes "COMMON-LISP-USER") → is_present s.packages (codes "P") (codes "A") ≡ false
+        → value [] s (call (codes "IMPORT") (a ∷ text (codes "P") ∷ []))
+        ≡ writes t (with_packages s (with_entry s.packages (codes "P") (codes "A") (record { home = codes "COMMON-LISP-USER"; external = false })))
+    unfolding value
+    inherited_imported here absent = rw (p, absent, p, here) refl
+
+    present_imported : found s.packages (codes "P") (codes "A") ≡ Some (codes "COMMON-LISP-USER") → is_present s.packages (codes "P") (codes "A") ≡ true
+        → value [] s (call (codes "IMPORT") (a ∷ text (codes "P") ∷ [])) ≡ gives t s
+    unfolding value
+    present_imported here present = rw (p, present, p, here) refl
+
+    made_in : found s.packages (codes "P") (codes "Q") ≡ None → nat_le 1000000 (symbol_count s.packages) ≡ false
+        → value [] s (call (codes "INTERN") (text (codes "Q") ∷ text (codes "P") ∷ []))
+        ≡ writes (symbol (codes "P") (codes "Q")) (with_packages s (with_entry s.packages (codes "P") (codes "Q") (record { home = codes "P"; external = false })))
+    unfolding value
+    made_in none room = rw (p, none, p, room) refl
 
     imported : found s.packages (codes "P") (codes "A") ≡ None → is_present s.packages (codes "P") (codes "A") ≡ false
         → value [] s (call (codes "IMPORT") (a ∷ text (codes "P") ∷ []))
@@ -460,6 +508,11 @@ module _ (s : State) where
       digit : is_dispatching (entry_at table 97) ≡ true → value [] s (call (codes "SET-DISPATCH-MACRO-CHARACTER") (character 97 ∷ character 53 ∷ named (codes "STD-LIST") ∷ named (codes "X") ∷ [])) ≡ Err 43
       unfolding value
       digit dispatches = rw (there, dispatches) refl
+
+      first_digit : is_dispatching (entry_at table 97) ≡ true
+          → value [] s (call (codes "SET-DISPATCH-MACRO-CHARACTER") (character 97 ∷ character 48 ∷ named (codes "STD-LIST") ∷ named (codes "X") ∷ [])) ≡ Err 43
+      unfolding value
+      first_digit dispatches = rw (there, dispatches) refl
 
       dispatches_set : is_dispatching (entry_at table 97) ≡ true
           → value [] s (call (codes "SET-DISPATCH-MACRO-CHARACTER") (character 97 ∷ character 98 ∷ named (codes "STD-LIST") ∷ named (codes "X") ∷ []))
