@@ -1,5 +1,5 @@
 -- That the operators on packages leave a sound state and give values that may be stored.
-use Rattle.std.proofs.Common.{◌≡◌, ◌<◌, Bool, true, false, cond, not, ◌||◌, List, [], ◌∷◌, All, Some, None, Result, Ok, Err, unwrap_or, bytes_eq, refl, ap, subst}
+use Rattle.std.proofs.Common.{◌≡◌, ◌<◌, Bool, true, false, cond, not, ◌||◌, List, [], ◌∷◌, All, Some, None, Result, Ok, Err, bytes_eq, refl, subst}
 use Rattle.std.specs.List.{list_all, list_any}
 use Rattle.std.specs.FinMap as finite
 use Rattle.std.proofs.lemmas.List.Elements.{All-weaker, All-cons, All-nil, All-head, All-tail}
@@ -10,7 +10,7 @@ use Rattle.package_table.specs.Table as packages
 use Rattle.package_table.specs.Table.{Name, Table, full_name, keyword, is_locked, package_named, IsPackage, IsPresent}
 use Rattle.package_table.specs.Changes.{after_make, after_intern, after_export, after_import, after_use, finds_this, intern_changes, export_changes, import_changes, use_changes}
 use Rattle.package_table.specs.Growth.{Grows}
-use Rattle.package_table.proofs.Names.{none_some}
+use Rattle.package_table.proofs.Names.{same_some, none_some}
 use Rattle.package_table.proofs.Found.{found_finds}
 use Rattle.package_table.proofs.Keeping.{present_at_home}
 use Rattle.package_table.proofs.Growing.{grows_same, grows_both}
@@ -27,9 +27,6 @@ use Rattle.form_eval.specs.Packages.{in_package, made, make, enter, interned, in
 use Rattle.form_eval.proofs.Good.{Goods, goods_state, goods_if, goods_kind, goods_option}
 use Rattle.form_eval.proofs.Storable.{symbol_is_value, t_value, text_value, symbols_kind, name_kind, text_kind}
 use Rattle.form_eval.proofs.SoundProperties.{IsSafe, refused, first_of}
-
-same_some : {A : Type 0} (x y : A) → Some x ≡ Some y → x ≡ y
-same_some x y e = ap (λ o. unwrap_or o x) e
 
 -- the package that a name stands for is there
 named_there : (u : Table) (n p : Name) → package_named u n ≡ Some p → IsPackage u p

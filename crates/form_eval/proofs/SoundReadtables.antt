@@ -1,5 +1,5 @@
 -- That the operators on readtables leave a sound state and give values that may be stored.
-use Rattle.std.proofs.Common.{◌≡◌, Bool, true, false, cond, not, ◌||◌, List, [], ◌∷◌, All, Option, Some, None, Result, Ok, Err, bytes_eq, IsTrue, IsFalse, option_map, refl, ap, subst}
+use Rattle.std.proofs.Common.{◌≡◌, Bool, true, false, cond, not, ◌||◌, List, [], ◌∷◌, Option, Some, None, Result, Ok, Err, bytes_eq, IsTrue, IsFalse, option_map, refl, ap, subst}
 use Rattle.std.specs.List.{list_all}
 use Rattle.std.specs.Option.{option_map_or}
 use Rattle.std.specs.FinMap as finite
@@ -34,15 +34,13 @@ use Rattle.form_eval.specs.Kinds.{a_character, a_keyword, a_source, a_case, give
 use Rattle.form_eval.specs.Outcomes.{Outcome}
 use Rattle.form_eval.specs.Properties.{t}
 use Rattle.form_eval.specs.Readtables.{name_or_nil, after, in_readtable, changeable, is_function, a_function, readtable_case, set_case, copy_readtable, enter_readtable, after_first, set_syntax, set_macro, get_macro, make_dispatch, set_dispatch, get_dispatch}
+use Rattle.form_eval.specs.Laws.{AreFunctionNames}
 use Rattle.form_eval.proofs.Good.{Goods, goods_here, goods_state, goods_if, goods_kind, goods_option}
 use Rattle.form_eval.proofs.Storable.{symbol_is_value, t_value, nil_value, keyword_kind, character_kind}
 use Rattle.form_eval.proofs.SoundProperties.{IsSafe, refused, first_of, rest_of}
 
 -- ---- names of functions
-abbrev pub AreNames : List Name → Type 0
-AreNames names = All (λ f. IsTrue (is_function_name f)) names
-
-named_among : (names : List Name) (f : Name) → AreNames names → is_among names f ≡ true → IsTrue (is_function_name f)
+named_among : (names : List Name) (f : Name) → AreFunctionNames names → is_among names f ≡ true → IsTrue (is_function_name f)
 named_among [] f all e = absurd (false≢true e)
 named_among (x ∷ xs) f all e =
     elim (same_name x f) as (λ b. same_name x f ≡ b → (b || is_among xs f) ≡ true → IsTrue (is_function_name f)) [
@@ -59,7 +57,7 @@ standard_are (x ∷ xs) all f e =
       | false ↦ λ _ among. standard_are xs both.1 f among
     ] refl e
 
-function_named : (names : List Name) (f : Name) → AreNames names → is_function names f ≡ true → IsFalse (is_dispatch_name f) × IsTrue (is_function_name f)
+function_named : (names : List Name) (f : Name) → AreFunctionNames names → is_function names f ≡ true → IsFalse (is_dispatch_name f) × IsTrue (is_function_name f)
 function_named names f all e =
     let both = and_parts (not (is_dispatch_name f)) (is_standard f || is_among names f) e in (
       elim (is_dispatch_name f) as (λ b. not b ≡ true → b ≡ false) [ true ↦ λ no. absurd (false≢true no) | false ↦ λ _. refl ] both.0,
@@ -102,7 +100,7 @@ in_readtable_safe s n on each = goods_option IsValue s (finite.get s.readtables 
 changeable_safe : (s : State) (n : Name) (on : Outcome Object) → Goods IsValue s on → Goods IsValue s (changeable s n on)
 changeable_safe s n on safe = in_readtable_safe s n _ (λ table _. goods_if IsValue s (bytes_eq n standard_name) _ on (λ _. refused s _) (λ _. safe))
 
-function_safe : (s : State) (names : List Name) (f : Name) (on : Outcome Object) → AreNames names → (IsFalse (is_dispatch_name f) → IsTrue (is_function_name f) → Goods IsValue s on) → Goods IsValue s (a_function names f on)
+function_safe : (s : State) (names : List Name) (f : Name) (on : Outcome Object) → AreFunctionNames names → (IsFalse (is_dispatch_name f) → IsTrue (is_function_name f) → Goods IsValue s on) → Goods IsValue s (a_function names f on)
 function_safe s names f on all safe = goods_if IsValue s (is_function names f) on _ (λ is. let named = function_named names f all is in safe named.0 named.1) (λ _. refused s _)
 
 pub case_safe : IsSafe readtable_case
@@ -142,7 +140,7 @@ set_syntax_safe (c ∷ d ∷ rest) s sound are =
     goods_kind IsValue s (given_or a_keyword s.current_readtable rest) _ (λ n _. goods_kind IsValue s (given_or a_source standard_name (after_first rest)) _ (λ m _.
     after_safe s t (with_syntax s.readtables n to m from) (sound_syntax s n to m from sound (character_kind s.packages c to e (first_of s c (d ∷ rest) are))) (t_value s.packages sound.packages)))))
 
-pub set_macro_safe : (names : List Name) → AreNames names → IsSafe (set_macro names)
+pub set_macro_safe : (names : List Name) → AreFunctionNames names → IsSafe (set_macro names)
 set_macro_safe names all [] s sound are = refused s _
 set_macro_safe names all (c ∷ []) s sound are = refused s _
 set_macro_safe names all (c ∷ f ∷ rest) s sound are =
@@ -172,7 +170,7 @@ make_dispatch_safe (c ∷ rest) s sound are =
     (λ u v named made. named_dispatching s.packages at non_terminating u v (character_kind s.packages c at e (first_of s c rest are)) (dispatch_there s sound) named made))
     (t_value s.packages sound.packages)))
 
-pub set_dispatch_safe : (names : List Name) → AreNames names → IsSafe (set_dispatch names)
+pub set_dispatch_safe : (names : List Name) → AreFunctionNames names → IsSafe (set_dispatch names)
 set_dispatch_safe names all [] s sound are = refused s _
 set_dispatch_safe names all (c ∷ []) s sound are = refused s _
 set_dispatch_safe names all (c ∷ d ∷ []) s sound are = refused s _

@@ -3,7 +3,7 @@
 --     value_grown, values_grown      where the packages have grown
 --     value_parts, list_value      parts of a pair, and lists
 --     symbol_kind, symbols_kind, name_kind, text_kind, keyword_kind, character_kind      what an argument of each kind stands for
-use Rattle.std.proofs.Common.{◌≡◌, ℕ, ◌+◌, ◌<◌, ◌≤◌, max, true, false, cond, List, [], ◌∷◌, map, All, Option, Some, None, option_map, option_and_then, unwrap_or, codes, bytes_eq, is_some, IsTrue, refl, ap, subst, ◌∙◌, arith}
+use Rattle.std.proofs.Common.{◌≡◌, ℕ, ◌+◌, ◌<◌, ◌≤◌, max, true, false, cond, List, [], ◌∷◌, map, All, Option, Some, None, option_map, option_and_then, codes, bytes_eq, is_some, IsTrue, refl, ap, subst, ◌∙◌, arith}
 use Rattle.std.specs.FinMap as finite
 use Rattle.std.specs.FinMap.{get-from_entries}
 use Rattle.std.proofs.lemmas.List.Elements.{All-weaker, All-cons, All-nil, All-head, All-tail}
@@ -14,7 +14,7 @@ use Rattle.lisp_object.proofs.Sound.{sound_nil}
 use Rattle.package_table.specs.Table as packages
 use Rattle.package_table.specs.Table.{Name, Entry, Package, common_lisp, common_lisp_names, common_lisp_package, keyword, IsPresent, IsPackage}
 use Rattle.package_table.specs.Growth.{Grows}
-use Rattle.package_table.proofs.Names.{name_total, none_some}
+use Rattle.package_table.proofs.Names.{name_total, same_some, none_some}
 use Rattle.package_table.proofs.Frames.{equal_names}
 use Rattle.plist_state.specs.Properties.{Symbol}
 use Rattle.plist_state.specs.Sound.{IsSymbol, IsKnown, IsValue}
@@ -115,9 +115,6 @@ pub pair_value : (u : packages.Table) (a b : Object) → IsValue u a → IsValue
 pair_value u a b first second within = record { object = (first.object, second.object); depth = within; symbols = (first.symbols, second.symbols) }
 
 -- ---- the kinds of arguments
-same_some : {A : Type 0} (x y : A) → Some x ≡ Some y → x ≡ y
-same_some x y e = ap (λ o. unwrap_or o x) e
-
 pub symbol_kind : (u : packages.Table) (x : Object) (y : Symbol) → a_symbol x ≡ Some y → IsValue u x → IsSymbol u y
 symbol_kind u (symbol h n) y e is = subst (IsSymbol u) (same_some (h, n) y e) is.symbols
 symbol_kind u (integer n) y e is = absurd (none_some y e)

@@ -47,13 +47,9 @@ abbrev pub rest : Object → Object
 rest (pair x xs) = xs
 rest _ = nil
 
--- the operator of a place
-abbrev pub place_operator : Object → Object
-place_operator = first
-
 -- what SETF puts a value into: a readtable's case, or a property
 abbrev pub is_case_place : Object → Bool
-is_case_place place = is_standard (codes "READTABLE-CASE") (place_operator place)
+is_case_place place = is_standard (codes "READTABLE-CASE") (first place)
 
 abbrev pub place_refusal : Object → Option ℕ
 place_refusal place = if is_case_place place then case_place_refusal place else get_place_refusal place
