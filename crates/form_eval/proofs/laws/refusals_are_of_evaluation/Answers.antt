@@ -1,0 +1,5 @@
+use Rattle.form_eval.proofs.NumberedForms.{accepted_numbered}
+use Rattle.form_eval.proofs.laws.refusals_are_of_evaluation.Goals as goal
+
+pub returns : goal.returns
+returns c = accepted_numbered

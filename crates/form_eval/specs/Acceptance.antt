@@ -1,0 +1,40 @@
+-- A form as one transaction: its symbols are interned, and then it is evaluated.
+use Rattle.std.specs.Prelude.{Bool, false, List, [], ◌∷◌, ◌++◌, Result, Ok, Err}
+use Rattle.lisp_object.specs.Object.{Object, symbol, pair, vector}
+use Rattle.package_table.specs.declared.error.PackageError.{PackageError}
+use Rattle.package_table.specs.Table.{Name, Table}
+use Rattle.package_table.specs.Errors.{number_of}
+use Rattle.package_table.specs.Changes.{after_intern, intern_changes}
+use Rattle.plist_state.specs.Properties.{Symbol}
+use Rattle.plist_state.specs.State.{State}
+use Rattle.plist_state.specs.Changes.{with_packages}
+use Rattle.form_eval.specs.Outcomes.{Outcome, also}
+use Rattle.form_eval.specs.Packages.{one_by_one}
+use Rattle.form_eval.specs.Value.{value}
+
+-- the interned symbols of an object, from left to right
+abbrev pub symbols : Object → List Symbol
+symbols (symbol home name) = (home, name) ∷ []
+symbols (pair x xs) = symbols x ++ symbols xs
+symbols (vector xs) = symbols xs
+symbols _ = []
+
+abbrev pub table_of : Result (Name × Table) PackageError → Result Table PackageError
+table_of (Ok p) = Ok p.1
+table_of (Err e) = Err e
+
+-- a symbol is interned in its home
+abbrev pub after_symbol : Table → Symbol → Result Table PackageError
+after_symbol packages x = table_of (after_intern packages x.0 x.1)
+
+-- with these symbols, and whether one of them is new
+abbrev pub with_symbols : Table → List Symbol → Result (Table × Bool) PackageError
+with_symbols packages xs = one_by_one after_symbol (λ u x. intern_changes u x.0 x.1) packages false xs
+
+-- the value of a form, the state after it and whether it wrote; or the number of the refusal, and then nothing has changed
+abbrev pub accepted : List Name → State → Result (Table × Bool) PackageError → Object → Outcome Object
+accepted names s (Ok p) x = also p.1 (value names (with_packages s p.0) x)
+accepted names s (Err e) x = Err (number_of e)
+
+abbrev pub accept : List Name → State → Object → Outcome Object
+accept names s x = accepted names s (with_symbols s.packages (symbols x)) x

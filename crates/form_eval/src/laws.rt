@@ -1,0 +1,27 @@
+//! What holds of every form, for proofs.
+ghost use Rattle.std.specs.Prelude.{◌≡◌, ◌≤◌, ℕ, false, List, Ok, Err};
+ghost use Rattle.lisp_object.specs.Object.{Object};
+ghost use Rattle.package_table.specs.Table.{Name};
+ghost use Rattle.plist_state.specs.State.{State};
+ghost use Rattle.plist_state.specs.Sound.{IsSound};
+ghost use Rattle.form_eval.specs.Outcomes.{Done};
+ghost use Rattle.form_eval.specs.Acceptance.{accept};
+ghost use Rattle.form_eval.specs.Laws.{AreFunctionNames, IsForm, IsSoundAfter};
+
+/// A form that is accepted and does not write leaves the state of the world as it was. For proofs: it does nothing.
+pub fn silent_forms_change_nothing()
+    ensures { (names : List Name) (s : State) (x : Object) (d : Done Object) → accept names s x ≡ Ok d → d.wrote ≡ false → d.state ≡ s }
+{}
+
+/// A form that is accepted in a sound state leaves a sound state, in which no package, no symbol, no external name and no
+/// use of a package is lost, and its value may be stored there. Asked are the names of macro functions, and a form of depth
+/// at most 100 whose symbols fit the packages. For proofs: it does nothing.
+pub fn accepted_states_are_sound()
+    ensures { (names : List Name) (s : State) (x : Object) (d : Done Object)
+        → AreFunctionNames names → IsSound s → IsForm s.packages x → accept names s x ≡ Ok d → IsSoundAfter s d }
+{}
+
+/// A form is refused under a number of evaluation alone, 30 to 46. For proofs: it does nothing.
+pub fn refusals_are_of_evaluation()
+    ensures { (names : List Name) (s : State) (x : Object) (code : ℕ) → accept names s x ≡ Err code → (30 ≤ code) × (code ≤ 46) }
+{}
