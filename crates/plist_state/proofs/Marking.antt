@@ -2,8 +2,8 @@
 --     length_marked, marked_push, marked_take, marked_get      as many, one more, the first ones, one of them
 --     take-removed, got_at      the marks that are left, and the one that is gone back to
 --     lists-copied, values-copied      rows that were copied
-use Rattle.std.proofs.Common.{◌≡◌, ℕ, zero, suc, ◌<◌, true, Option, None, Some, List, [], ◌∷◌, ◌++◌, map, length, take, drop, get_or, refl, sym, ap, subst, ◌∙◌, arith}
-use Rattle.std.specs.Prelude.{All, IfSome, Bool, false, cond}
+use Rattle.std.proofs.Common.{◌≡◌, ℕ, zero, suc, ◌<◌, true, Option, None, Some, List, [], ◌∷◌, ◌++◌, map, length, take, get_or, refl, sym, ap, subst, ◌∙◌, arith}
+use Rattle.std.specs.Prelude.{All, IfSome, false, cond}
 use Rattle.std.specs.Ordering.{eq_by_cmp}
 use Rattle.std.specs.List.{slice_get, remove, slice_index_or}
 use Rattle.std.specs.Option.{option_map, option_and_then}

@@ -1,5 +1,5 @@
 use Rattle.std.proofs.Common.{◌≡◌, ◌++◌, ◌∙◌, ap, sym, map, append-nil}
-use Rattle.plist_state.specs.Shown.{Rows, kept_of}
+use Rattle.plist_state.specs.Shown.{kept_of}
 use Rattle.plist_state.proofs.Marking.{kept_rows, next_row, lists-copied, values-copied}
 use Rattle.plist_state.proofs.copy.copy_rows.Goals as goal
 
