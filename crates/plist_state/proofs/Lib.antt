@@ -6,3 +6,4 @@ pub mod Soundness
 pub mod KeptWorld
 pub mod FirstWorld
 pub mod InOrder
+pub mod Marking

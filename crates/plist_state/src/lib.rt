@@ -7,14 +7,15 @@
 //! of package_table for the calls on packages. A call that is refused, or that runs out of memory, changes nothing, and
 //! `OutOfMemory` comes only where the definition refuses nothing.
 //!
-//! Nothing marks a state yet, so the list of marked states is empty in every world. The clauses say that each call leaves the
-//! list as it is; a call that adds to it, and one that goes back, change none of them. The rows of properties are kept for
-//! that: each change of a row tells what it overwrote, `rows::take_back` takes it back, and needs no memory, since a row that
-//! was emptied stays.
+//! `World::mark` adds the state to the marked ones, `back_to` goes back to one, and `settle` forgets them all; every other
+//! call leaves the list as it is. The packages note what changes under a mark. Of the rest a mark keeps a copy (`copy`), which
+//! `back_to` moves back. A journal can take the place of the copies and change no clause: each change of a row tells what it
+//! overwrote, `rows::take_back` takes it back, and needs no memory, since a row that was emptied stays.
 //!
 //! - `world`: `World`, and what is asked of it
 //! - `readers`: the lists that it gives
 //! - `properties`, `packages`, `readtables`: the calls that write
+//! - `marks`: `mark`, `mark_count`, `back_to`, `settle`, over `copy`
 //! - `symbol`, `property`: `Symbol`, `Property`
 //! - `error`: `ReadtableError`
 //! - `stored`: what a world keeps besides its packages, over `rows` (property lists), `undo` (how a change of one is told)
@@ -24,10 +25,13 @@
 //! `sound_packages`, `sound_put`, `sound_removed`, `sound_in_package`, `sound_in_readtable`, `sound_table`, `symbol_from`. On
 //! property lists by symbols (proofs/Lists.antt): `get-with_list`, `list-with_list`, `with_list_twice`, `with_list_same`. On
 //! the orders of symbols and names (proofs/Orders.antt): `symbol_total`, `symbol_exact`, `one_symbol`, `name_total`,
-//! `name_exact`, `one_name`. On the first world (proofs/FirstWorld.antt): `first_sound`.
+//! `name_exact`, `one_name`. On the first world (proofs/FirstWorld.antt): `first_sound`. On marked states (proofs/Marking.antt):
+//! `length_marked`, `marked_push`, `marked_take`, `marked_get`.
 #![tactic(auto)]
 
+mod copy;
 mod error;
+mod marks;
 mod packages;
 mod properties;
 mod property;

@@ -23,6 +23,8 @@ pub struct World {
     pub(crate) alloc: Global,
     pub(crate) packages: Packages,
     pub(crate) stored: Stored,
+    // What the rest was at each mark; the packages have marks of their own at the same places.
+    pub(crate) marks: Vec<Stored>,
 }
 
 impl Model for World {
@@ -52,6 +54,7 @@ impl World {
             alloc,
             packages,
             stored: first_stored(alloc)?,
+            marks: Vec::new(alloc),
         })
     }
 

@@ -15,6 +15,7 @@ invariant_of-self c =
     let at_home : IsSymbol s.packages (keyword, c.args.to.now) = subst (λ (w : Worlds). IsSymbol w.0.packages (keyword, c.args.to.now)) (sym c.self.view_is) c.requires in
     record {
       values = c.self.invariant.values;
+      marked = c.self.invariant.marked;
       sound = kept_gives c.copy.result s (readtables_of c.copy.new.tables) (with_copy s.readtables c.args.from.now c.args.to.now) c.copy.ensures.gives c.copy.ensures.unchanged c.self.invariant.sound
           (sound_copied s c.args.from.now c.args.to.now c.self.invariant.sound at_home);
     }

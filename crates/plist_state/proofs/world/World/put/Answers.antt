@@ -19,6 +19,7 @@ invariant_of-self c =
     let value : IsValue s.packages v = subst (λ (w : Worlds). IsValue w.0.packages v) (sym c.self.view_is) c.requires.value in
     record {
       values = c.put.ensures.values;
+      marked = c.self.invariant.marked;
       sound = kept_rest c.put.result a.packages.0 (rest_of a.stored) _ (rest_of c.put.new.stored) c.put.ensures.ok c.put.ensures.err c.self.invariant.sound
           (sound_put s x i v c.self.invariant.sound at_home indicator value);
     }

@@ -14,5 +14,6 @@ invariant_of-self c =
     let at_home : IsSymbol s.packages x = subst (λ (w : Worlds). IsSymbol w.0.packages x) (sym c.self.view_is) c.requires in
     record {
       values = c.remove.ensures.values;
+      marked = c.self.invariant.marked;
       sound = subst (λ r. IsSound (state_with a.packages.0 r)) (sym c.remove.ensures.after) (sound_removed s x (symbol_of c.args.indicator.now) c.self.invariant.sound at_home);
     }

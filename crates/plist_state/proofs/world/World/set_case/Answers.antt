@@ -13,6 +13,7 @@ invariant_of-self c =
     let s : State = state_with a.packages.0 (rest_of a.stored) in
     record {
       values = c.self.invariant.values;
+      marked = c.self.invariant.marked;
       sound = kept_gives c.set_case.result s (readtables_of c.set_case.new.tables) (with_case s.readtables c.args.name.now c.args.letters) c.set_case.ensures.gives c.set_case.ensures.unchanged c.self.invariant.sound
           (sound_changed s c.args.name.now (λ (t : Table). Ok (record t { letters = c.args.letters })) c.self.invariant.sound (λ t u named made. named_case s.packages c.args.letters t u named made));
     }

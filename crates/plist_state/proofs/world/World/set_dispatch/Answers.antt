@@ -16,6 +16,7 @@ invariant_of-self c =
     let at_home : IsSymbol s.packages (keyword, c.args.function) = subst (λ (w : Worlds). IsSymbol w.0.packages (keyword, c.args.function)) (sym c.self.view_is) c.requires.keyword in
     record {
       values = c.self.invariant.values;
+      marked = c.self.invariant.marked;
       sound = kept_gives c.set_dispatch.result s (readtables_of c.set_dispatch.new.tables) (with_dispatch s.readtables c.args.name.now c.args.c c.args.sub c.args.function) c.set_dispatch.ensures.gives c.set_dispatch.ensures.unchanged c.self.invariant.sound
           (sound_changed s c.args.name.now (λ (t : Table). dispatched t c.args.c c.args.sub c.args.function) c.self.invariant.sound
           (λ t u named made. named_dispatched s.packages c.args.c c.args.sub c.args.function t u c.requires.character c.requires.sub_character c.requires.other c.as_bytes.ensures.sound at_home named made));

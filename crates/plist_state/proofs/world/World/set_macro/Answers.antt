@@ -17,6 +17,7 @@ invariant_of-self c =
     let at_home : IsSymbol s.packages (keyword, c.args.function) = subst (λ (w : Worlds). IsSymbol w.0.packages (keyword, c.args.function)) (sym c.self.view_is) c.requires.keyword in
     record {
       values = c.self.invariant.values;
+      marked = c.self.invariant.marked;
       sound = kept_gives c.set_macro.result s (readtables_of c.set_macro.new.tables) (with_macro s.readtables c.args.name.now c.args.c c.args.function c.args.non_terminating) c.set_macro.ensures.gives c.set_macro.ensures.unchanged c.self.invariant.sound
           (sound_changed s c.args.name.now (λ (t : Table). Ok (with_entry t c.args.c (macro_entry c.args.function c.args.non_terminating))) c.self.invariant.sound
           (λ t u named made. named_macro s.packages c.args.c c.args.function c.args.non_terminating t u c.requires.character c.requires.other c.as_bytes.ensures.sound at_home named made));

@@ -1,3 +1,5 @@
+use Rattle.std.proofs.Common.{sym, subst}
+use Rattle.plist_state.specs.Kept.{AreKept}
 use Rattle.plist_state.specs.State.{State, state_with}
 use Rattle.plist_state.specs.Shown.{rest_of}
 use Rattle.plist_state.proofs.Soundness.{sound_packages}
@@ -9,5 +11,6 @@ invariant_of-self c =
     let s : State = state_with a.packages.0 (rest_of a.stored) in
     record {
       values = c.self.invariant.values;
+      marked = subst (λ ts. AreKept ts a.marks.items) (sym c.use_package-result.ensures.marked) c.self.invariant.marked;
       sound = sound_packages s c.use_package-result.new.self.0 c.self.invariant.sound c.soundness.ensures c.use_package-result.ensures.grows;
     }

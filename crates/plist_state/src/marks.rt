@@ -1,0 +1,52 @@
+//! Going back to a state as it was: `mark`, `back_to`, `settle`.
+ghost use Rattle.std.specs.Prelude.{◌≡◌, ◌<◌, ◌++◌, [], ◌∷◌, length, take, Some, IfOk, IfErr};
+ghost use Rattle.std.specs.List.{slice_get};
+
+use crate::World;
+use crate::copy::copy_stored;
+use std::alloc::AllocError;
+
+impl World {
+    /// Marks the state as it is, so that `back_to` can go back to it, and gives the place of the mark. Copies the property
+    /// lists, the readtables and the two current names; the packages note what changes from then on.
+    ///
+    /// # Errors
+    /// `AllocError` where memory runs out. Nothing has changed then.
+    pub fn mark(&mut self) -> Result<usize, AllocError>
+        ensures ok { IfOk result (λ place. (place ≡ length self.old.1)
+            × (self.new ≡ (self.old.0, self.old.1 ++ self.old.0 ∷ []))) }
+        ensures err { IfErr result (λ _. self.new ≡ self.old) }
+    {
+        let marked = copy_stored(self.alloc, &self.stored)?;
+        self.marks.reserve(1)?;
+        let place = self.packages.mark()?;
+        self.marks.push_reserved(marked);
+        Ok(place)
+    }
+
+    /// How many marks there are; their places are the numbers below. Takes no memory.
+    pub fn mark_count(&self) -> usize
+        ensures { result ≡ length self.now.1 }
+    {
+        self.marks.len()
+    }
+
+    /// Goes back to the state as it was at this mark, and takes it and all later marks away. Takes no memory.
+    pub fn back_to(&mut self, mark: usize)
+        requires { mark < length self.old.1 }
+        ensures past { self.new.1 ≡ take mark self.old.1 }
+        ensures now { slice_get self.old.1 mark ≡ Some self.new.0 }
+    {
+        self.packages.back_to(mark);
+        self.stored = self.marks.remove(mark);
+        self.marks.truncate(mark);
+    }
+
+    /// Takes all marks away: the state stays as it is. Takes no memory.
+    pub fn settle(&mut self)
+        ensures { self.new ≡ (self.old.0, []) }
+    {
+        self.packages.settle();
+        self.marks.clear();
+    }
+}
