@@ -17,7 +17,7 @@ of_session (Store number) = tt
 pub taken_at_ending : (status given : Status) (ending : Ending) → status ≡ given → given ≡ status_of_ending ending → TakesWords status
 taken_at_ending status given ending same is = subst TakesWords (sym (same ∙ is)) (of_session ending)
 
--- of want of memory, or of the output
+-- of out of memory, or of the output
 of_memory : (status : Status) → IsAfterWords OutOfMemory status → TakesWords status
 of_memory status (inl is) = subst TakesWords (sym is) tt
 of_memory status (inr both) = subst TakesWords (sym both.1) tt

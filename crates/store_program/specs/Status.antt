@@ -22,7 +22,7 @@ status_of_ending End = Served
 status_of_ending (Reader number) = ReaderRefused
 status_of_ending (Store number) = Fault number
 
--- after words that gave no command: help that was asked for, want of memory, or words that are refused
+-- after words that gave no command: help that was asked for, out of memory, or words that are refused
 abbrev pub status_of_kind : ErrorKind → Status
 status_of_kind DisplayHelp = Helped
 status_of_kind DisplayVersion = Helped

@@ -67,7 +67,7 @@ fn no_folder(command: &mut Command<'_>) -> Error {
 ///
 /// # Errors
 ///
-/// Those of `clap`: help that was asked for, words that are refused, want of memory.
+/// Those of `clap`: help that was asked for, words that are refused, out of memory.
 pub fn directory_in<'a, S: AsStr>(alloc: Global, words: &'a [S]) -> Result<&'a str, Error>
     ensures folder { IfOk result (λ folder. folder_in (map S.text words.entry.now) ≡ Some folder.now) }
     ensures taken { (folder : List ℕ) → NamesFolder (map S.text words.entry.now) folder → IfErr result (λ e. kind_of e ≡ OutOfMemory) }
