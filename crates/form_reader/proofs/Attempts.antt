@@ -31,13 +31,13 @@ module _ {A : Type 0} (table : Table) (limits : Limits) (other : Plan A) (test :
       let first : Bool → Bool → Read A = λ b full. elim b [ true ↦ within full at (run table limits (on c) (at + 1) cs) | false ↦ run table limits other at (c ∷ cs) ] in
       (λ i. first (e i) (f i))
 
-  takes_is : at < limits.text → test c ≡ true → run table limits (takes other test on) at (c ∷ cs) ≡ run table limits (on c) (at + 1) cs
+  pub takes_is : at < limits.text → test c ≡ true → run table limits (takes other test on) at (c ∷ cs) ≡ run table limits (on c) (at + 1) cs
   takes_is lt e = takes_by true false e (lt-leb limits.text at lt)
 
-  takes_over : limits.text ≤ at → test c ≡ true → run table limits (takes other test on) at (c ∷ cs) ≡ fault FORM_TOO_LONG at
+  pub takes_over : limits.text ≤ at → test c ≡ true → run table limits (takes other test on) at (c ∷ cs) ≡ fault FORM_TOO_LONG at
   takes_over le e = takes_by true true e (le-leb limits.text at le)
 
-  passes_is : test c ≡ false → run table limits (takes other test on) at (c ∷ cs) ≡ run table limits other at (c ∷ cs)
+  pub passes_is : test c ≡ false → run table limits (takes other test on) at (c ∷ cs) ≡ run table limits other at (c ∷ cs)
   passes_is e = takes_by false _ e refl
 
 module _ (setting : Setting) (at c : ℕ) (cs : List ℕ) where

@@ -18,3 +18,4 @@ pub mod Functions
 pub mod Callers
 pub mod Dispatching
 pub mod Attempts
+pub mod ObjectTokens

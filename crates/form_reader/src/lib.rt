@@ -17,14 +17,15 @@
 //! own bytes alone, and `reading_goes_on` gives the equations of reading step by step, with no number of turns in them.
 //!
 //! The parts of a reader that takes one byte at a time are here, each proved against that definition in whatever calls are
-//! open; what joins them is not there yet. Proofs for it: proofs/Attempts.antt has the byte where an object may begin.
+//! open; what joins them is not there yet.
 //!
 //! - `limits`: `Limits`
 //! - `way`, `call`: functions, their calls, and the ways in which they gather
 //! - `held`, `frame`, `stage`, `found`: what is held while calls are open
 //! - `told`: what a token means; `known`: which data may be answered; `complete`: what a call gives
 //! - `bytes`, `tokens`: one byte of a text, a line, a block, a number or a token; `gathering`: what it brings
-//! - `attempt`, `macros`, `opening`: a byte where an object may begin, and how a call begins
+//! - `objects`: a byte where an object may begin, after a token there, and in a token; what a token comes to
+//! - `attempt`, `macros`, `opening`: an attempt from its first byte on, and how a call begins
 //! - `deliver`, `close`: what open calls make of what is found, and how they end
 //! - `laws`: `forms_are_framed`, `reading_goes_on`
 #![tactic(auto)]
@@ -43,6 +44,7 @@ mod known;
 mod laws;
 mod limits;
 mod macros;
+mod objects;
 mod opening;
 mod stage;
 mod surroundings;

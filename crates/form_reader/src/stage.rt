@@ -4,7 +4,7 @@ ghost use Rattle.token_scan.specs.Tokens.{kind, typed};
 ghost use Rattle.token_scan.specs.Spelling.{ends_tokens};
 ghost use Rattle.token_scan.specs.Scans.{begun};
 ghost use Rattle.form_reader.specs.Feeding.{token_read};
-ghost use Rattle.form_reader.specs.Begun.{BegunFeeds, IsBegunByte};
+ghost use Rattle.form_reader.specs.Begun.{BegunFeeds, FirstFeeds, IsBegunByte};
 
 use crate::bytes::LineByte;
 use crate::call::Invoked;
@@ -46,6 +46,15 @@ pub enum BegunByte {
     Refused(u16),
 }
 
+/// What the first byte is to a token.
+#[derive(Drop)]
+pub enum FirstByte {
+    /// It is taken.
+    More(BegunScan),
+    /// It is refused.
+    Refused(u16),
+}
+
 /// A token from its first byte `c` on, which is at `at`.
 pub(crate) fn first_byte(
     alloc: Global,
@@ -53,18 +62,17 @@ pub(crate) fn first_byte(
     limits: &Limits,
     at: usize,
     c: u8,
-) -> Result<BegunByte, AllocError>
+) -> Result<FirstByte, AllocError>
     requires place { at ≤ limits.now.text }
     requires begins { IsFalse (ends_tokens (kind (typed readtable.now c))) }
-    ensures feeds { (cs : List ℕ) → IfOk result (λ fed.
-        BegunFeeds readtable.now limits.now at c cs fed (token_read readtable.now limits.now (begun limits.now.token) at (c ∷ cs))) }
-    ensures ended { IfOk result IsBegunByte }
+    ensures { (cs : List ℕ) → IfOk result (λ fed.
+        FirstFeeds readtable.now limits.now at cs fed (token_read readtable.now limits.now (begun limits.now.token) at (c ∷ cs))) }
 {
     let mut scan = TokenScan::begin(alloc, limits.token);
     match token_byte(readtable, limits, &mut scan, at, c)? {
-        LineByte::More => Ok(BegunByte::More(BegunScan { scan })),
-        LineByte::Ended => Ok(BegunByte::Ended(scan.into_marks())),
-        LineByte::Refused(code) => Ok(BegunByte::Refused(code)),
+        LineByte::More => Ok(FirstByte::More(BegunScan { scan })),
+        LineByte::Ended => unreachable!(),
+        LineByte::Refused(code) => Ok(FirstByte::Refused(code)),
     }
 }
 
