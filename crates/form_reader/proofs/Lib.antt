@@ -19,3 +19,4 @@ pub mod Callers
 pub mod Dispatching
 pub mod Attempts
 pub mod ObjectTokens
+pub mod Following

@@ -52,7 +52,7 @@ mod tokens;
 mod told;
 mod way;
 
-pub use laws::{forms_are_framed, reading_goes_on};
+pub use laws::{forms_are_decided, forms_are_framed, reading_goes_on};
 pub use limits::Limits;
 pub use way::{Function, Keep, Way};
 

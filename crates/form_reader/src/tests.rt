@@ -1,5 +1,5 @@
 //! The limits, and the laws.
-use crate::{Limits, forms_are_framed, reading_goes_on};
+use crate::{Limits, forms_are_decided, forms_are_framed, reading_goes_on};
 
 #[test]
 fn limits_and_laws(rt: HostRuntime) {
@@ -13,5 +13,6 @@ fn limits_and_laws(rt: HostRuntime) {
         assert_eq!(rt; limits.nesting, nesting);
     }
     forms_are_framed();
+    forms_are_decided();
     reading_goes_on();
 }
