@@ -1,5 +1,5 @@
 -- What is read before a byte is read whatever follows that byte.
-use Rattle.std.proofs.Common.{◌≡◌, ℕ, zero, suc, ◌+◌, ◌<◌, ◌≤◌, Bool, true, false, List, [], ◌∷◌, ◌++◌, length, Result, Ok, Err, IfOk, refl, sym, ap, subst, ◌∙◌, append_assoc, length-append, arith}
+use Rattle.std.proofs.Common.{◌≡◌, ℕ, zero, suc, ◌+◌, ◌-◌, ◌<◌, ◌≤◌, Bool, true, false, List, [], ◌∷◌, ◌++◌, length, take, drop, Result, Ok, Err, IfOk, refl, sym, ap, subst, ◌∙◌, append_assoc, length-append, arith}
 use Rattle.std.specs.Prelude.{nat_le}
 use Rattle.lisp_object.specs.declared.refusal.TheConstants.{FORM_TOO_LONG}
 use Rattle.lisp_object.specs.Object.{Object}
@@ -16,7 +16,8 @@ use Rattle.form_reader.specs.declared.found.Found.TheVariants.{Nothing as nothin
 use Rattle.form_reader.specs.Setting.{Setting}
 use Rattle.form_reader.specs.Reading.{attempt, Outcome, form, empty, space_at, outcome, reads_in, reads_at, reads}
 use Rattle.form_reader.proofs.Places.{Parted, Parts, parts}
-use Rattle.form_reader.proofs.Forms.{first, the_end_there, reads_is}
+use Rattle.form_reader.proofs.Forms.{first, the_end_there, reads_is, stood, drop_front, space_small}
+use Rattle.form_reader.proofs.Framing.{Framed, framed}
 
 -- Where a byte is left, the same is given with more bytes at the end, and these are left too.
 abbrev pub Follows : {A E : Type 0} → List ℕ → Result (A × ℕ × List ℕ) E → Result (A × ℕ × List ℕ) E → Type 0
@@ -146,3 +147,45 @@ pub form_follows : (setting : Setting) (text more : List ℕ) (x : Object) (star
     → reads setting (text ++ more) ≡ form x start «end» next
 unfolding reads
 form_follows setting text more x start «end» next e lt = reads_follow setting x start «end» next more (length text + 1) 0 text e (omega (arith, lt))
+
+-- ---- a form with the whitespace character that is discarded with it
+
+reads_first : (setting : Setting) (text : List ℕ) (x : Object) (token : Bool) (size : ℕ) (rest : List ℕ) → first setting text ≡ Ok (one token x, size, rest)
+    → reads setting text ≡ form x 0 size (size + space_at setting.table token rest)
+unfolding reads
+reads_first setting text x token size rest found =
+    let sum : 0 + size ≡ size = omega arith in
+    reads_is setting 0 text
+    ∙ ap (outcome setting.table 0 (λ next cs. reads_at setting next cs)) found
+    ∙ ap (λ (n : ℕ). form x 0 n (n + space_at setting.table token rest)) sum
+
+-- the character that is discarded is the first of the rest
+space_kept : (table : Table) (token : Bool) (rest : List ℕ) → 0 < space_at table token rest
+    → (space_at table token (take 1 rest) ≡ space_at table token rest) × (length (take 1 rest) ≡ 1)
+space_kept table false rest some = absurd (omega (arith, some))
+space_kept table true [] some = absurd (omega (arith, some))
+space_kept table true (c ∷ cs) some = (refl, refl)
+
+pub form_again : (setting : Setting) (whole more : List ℕ) (x : Object) (start «end» next : ℕ) → reads setting whole ≡ form x start «end» next → «end» < next
+    → reads setting (take (next - start) (drop start whole) ++ more) ≡ form x 0 («end» - start) (next - start)
+unfolding reads
+form_again setting whole more x start «end» next e lt =
+    let s = stood setting (length whole + 1) 0 whole x start «end» next e in
+    let plan = attempt setting setting.limits.nesting in
+    let small = space_small setting.table s.is_token s.rest in
+    let kept = space_kept setting.table s.is_token s.rest (omega (arith, lt, s.end_is, s.next_is)) in
+    let f : Framed (λ k. first setting (take k s.here)) 0 (Ok (one s.is_token x, s.size, s.rest)) =
+    subst (λ (r : Read Found). Framed (λ k. first setting (take k s.here)) 0 r) s.found (framed setting.table setting.limits plan 0 s.here) in
+    let text = take (f.0 + 1) s.here in
+    let found : first setting text ≡ Ok (one s.is_token x, s.size, take 1 s.rest) = f.2 1 in
+    let p : Parted 0 text s.size (take 1 s.rest) = subst (λ (r : Read Found). Parts 0 text r) found (parts setting.table setting.limits plan 0 text) in
+    let total : length text ≡ length p.taken + length (take 1 s.rest) = ap length p.split ∙ length-append p.taken (take 1 s.rest) in
+    let here : reads setting text ≡ form x 0 s.size (s.size + space_at setting.table s.is_token (take 1 s.rest)) = reads_first setting text x s.is_token s.size (take 1 s.rest) found in
+    let size_is : s.size ≡ «end» - start = omega (arith, s.end_is) in
+    let next_is : s.size + space_at setting.table s.is_token (take 1 s.rest) ≡ next - start = omega (arith, s.next_is, kept.0) in
+    let count_is : next - start ≡ f.0 + 1 = omega (arith, s.next_is, s.end_is, lt, small.0, f.1) in
+    let start_is : start ≡ length s.front = omega (arith, s.start_is) in
+    let here_is : drop start whole ≡ s.here = (λ i. drop (start_is i) (s.split i)) ∙ drop_front s.front s.here in
+    (λ i. reads setting (take (count_is i) (here_is i) ++ more))
+    ∙ form_follows setting text more x 0 s.size (s.size + space_at setting.table s.is_token (take 1 s.rest)) here (omega (arith, total, p.place, kept.1))
+    ∙ (λ i. form x 0 (size_is i) (next_is i))

@@ -13,8 +13,10 @@
 //! - specs/Frames.antt, specs/Resuming.antt: what open calls stand for, and a place in the innermost, for a reader that takes
 //!   one byte at a time; specs/Feeding.antt, specs/Delivering.antt: what one byte, and what is found, are to them
 //!
-//! What holds of each reading is on two functions that do nothing: `forms_are_framed` says that a form is read again from its
-//! own bytes alone, and `reading_goes_on` gives the equations of reading step by step, with no number of turns in them.
+//! What holds of each reading is on functions that do nothing: `forms_are_framed` says that a form is read again from its own
+//! bytes alone, and `spaced_forms_are_framed` the same with the whitespace character that is discarded with it, whatever
+//! follows; `forms_are_decided` that a form which ends before a byte is the same whatever follows the text; and
+//! `reading_goes_on` gives the equations of reading step by step, with no number of turns in them.
 //!
 //! The parts of a reader that takes one byte at a time are here, each proved against that definition in whatever calls are
 //! open; what joins them is not there yet.
@@ -27,7 +29,7 @@
 //! - `objects`: a byte where an object may begin, after a token there, and in a token; what a token comes to
 //! - `attempt`, `macros`, `opening`: an attempt from its first byte on, and how a call begins
 //! - `deliver`, `close`: what open calls make of what is found, and how they end
-//! - `laws`: `forms_are_framed`, `reading_goes_on`
+//! - `laws`: `forms_are_framed`, `spaced_forms_are_framed`, `forms_are_decided`, `reading_goes_on`
 #![tactic(auto)]
 
 mod attempt;
@@ -52,7 +54,7 @@ mod tokens;
 mod told;
 mod way;
 
-pub use laws::{forms_are_decided, forms_are_framed, reading_goes_on};
+pub use laws::{forms_are_decided, forms_are_framed, reading_goes_on, spaced_forms_are_framed};
 pub use limits::Limits;
 pub use way::{Function, Keep, Way};
 
