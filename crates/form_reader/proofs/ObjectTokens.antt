@@ -13,7 +13,9 @@ use Rattle.token_scan.specs.Spelling.{ends_tokens}
 use Rattle.token_scan.specs.Scans.{begun}
 use Rattle.form_reader.specs.declared.found.Found.{Found}
 use Rattle.form_reader.specs.declared.frame.Frame.{Frame}
+use Rattle.form_reader.specs.declared.macros.Moved.{Moved}
 use Rattle.form_reader.specs.declared.stage.Event.{Event}
+use Rattle.form_reader.specs.declared.stage.Stage.{Stage}
 use Rattle.form_reader.specs.declared.limits.Limits.{Limits}
 use Rattle.form_reader.specs.declared.stage.FirstByte.{FirstByte}
 use Rattle.form_reader.specs.declared.told.Told.{Told}
@@ -29,7 +31,7 @@ use Rattle.readtable_core.specs.declared.table.Case.{Case}
 use Rattle.form_reader.specs.Reading.{closed, is_whitespace, without_space, stands_alone, told_found, token_found}
 use Rattle.form_reader.specs.Feeding.{token_read}
 use Rattle.form_reader.specs.Frames.{close_of, close_of_frames, call_in, given, between, token_goes_on}
-use Rattle.form_reader.specs.Resuming.{attempt_at, Brings}
+use Rattle.form_reader.specs.Resuming.{attempt_at, stage_gives, Brings, Moves}
 use Rattle.form_reader.proofs.Attempts.{closes, closes_over, attempts, attempt_token, takes_is, takes_over, passes_is}
 use Rattle.form_reader.proofs.Beginnings.{given_refused}
 
@@ -131,3 +133,10 @@ module _ (setting : Setting) (at c : ℕ) (cs : List ℕ) where
       ap (λ (fs : List Frame). run setting.table setting.limits (given setting fs (attempt_at setting (length fs))) at (c ∷ cs)) same
       ∙ sym (attempts setting at c cs frames h other) in
       subst (λ (r : Read Found). IfOk result (λ event. Brings setting after (at + 1) cs event r)) whole brings
+
+-- the same where it is known where the reader is
+pub stage_moves : (setting : Setting) (frames : List Frame) (at c : ℕ) (cs : List ℕ) (stage known : Stage) (result : Result Moved AllocError) → stage ≡ known
+    → IfOk result (λ moved. Moves setting frames at c cs moved (stage_gives setting frames known at (c ∷ cs)))
+    → IfOk result (λ moved. Moves setting frames at c cs moved (stage_gives setting frames stage at (c ∷ cs)))
+stage_moves setting frames at c cs stage known result is moves =
+    subst (λ (s : Stage). IfOk result (λ moved. Moves setting frames at c cs moved (stage_gives setting frames s at (c ∷ cs)))) (sym is) moves

@@ -25,6 +25,7 @@
 //! - `way`, `call`: functions, their calls, and the ways in which they gather
 //! - `held`, `frame`, `stage`, `found`: what is held while calls are open
 //! - `told`: what a token means; `known`: which data may be answered; `complete`: what a call gives
+//! - `advance`: one byte, wherever a reader is in its innermost call
 //! - `bytes`, `tokens`: one byte of a text, a line, a block, a number or a token; `gathering`: what it brings
 //! - `objects`: a byte where an object may begin, after a token there, and in a token; what a token comes to
 //! - `attempt`, `macros`, `opening`: an attempt from its first byte on, and how a call begins
@@ -32,6 +33,7 @@
 //! - `laws`: `forms_are_framed`, `spaced_forms_are_framed`, `forms_are_decided`, `reading_goes_on`
 #![tactic(auto)]
 
+mod advance;
 mod attempt;
 mod bytes;
 mod call;
