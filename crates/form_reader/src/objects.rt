@@ -2,7 +2,8 @@
 ghost use Rattle.std.specs.Prelude.{◌≡◌, ◌≤◌, ◌<◌, ◌+◌, ◌^◌, ℕ, List, ◌∷◌, length, true, IfOk, IsTrue};
 ghost use Rattle.package_table.specs.Table.{IsPackage};
 ghost use Rattle.token_scan.specs.Marks.{are_ascii};
-ghost use Rattle.form_reader.specs.Plans.{run};
+ghost use Rattle.form_reader.specs.Delivering.{Passes};
+ghost use Rattle.form_reader.specs.Plans.{gives, run};
 ghost use Rattle.form_reader.specs.Setting.{setting_of};
 ghost use Rattle.form_reader.specs.Reading.{is_blank, token_found, without_space};
 ghost use Rattle.form_reader.specs.Frames.{given, between};
@@ -12,6 +13,7 @@ ghost use Rattle.form_reader.specs.declared.stage.Stage.TheVariants.{Token as At
 
 use crate::attempt::{alone, begin_token, stands_alone};
 use crate::close::close;
+use crate::deliver::{Delivered, deliver};
 use crate::found::Found;
 use crate::frame::Frames;
 use crate::macros::Moved;
@@ -93,6 +95,47 @@ fn is_blank(syntax: Syntax) -> bool
         Syntax::Constituent => false,
         Syntax::SingleEscape => false,
         Syntax::MultipleEscape => false,
+    }
+}
+
+/// What a byte is after what was found before it.
+#[derive(Drop)]
+pub enum Passed {
+    /// It is taken, and brings this.
+    Taken(Event),
+    /// The outermost attempt came to this before it.
+    Done(Found),
+}
+
+/// The byte `c` at `at`, where this was found before it in the innermost call.
+pub(crate) fn after_found<R: MacroFunctions>(
+    with: &Surroundings<'_, R>,
+    frames: &mut Frames,
+    found: Found,
+    at: usize,
+    c: u8,
+) -> Result<Passed, AllocError>
+    requires answers { R.answers with.now.macros.now }
+    requires place { at ≤ with.now.limits.text }
+    requires nesting { length frames.old ≤ with.now.limits.nesting }
+    ensures { (cs : List ℕ) → IfOk result (λ passed. Passes
+        (setting_of with.now.limits with.now.readtable.now with.now.packages.now.0 with.now.current.now
+        (R.registered with.now.macros.now) R.Meaning.way R.Meaning.answer)
+        frames.new at c cs passed (run with.now.readtable.now with.now.limits (given
+        (setting_of with.now.limits with.now.readtable.now with.now.packages.now.0 with.now.current.now
+        (R.registered with.now.macros.now) R.Meaning.way R.Meaning.answer)
+        frames.old (gives found)) at (c ∷ cs))) }
+{
+    match deliver(with, frames, found, at)? {
+        Delivered::Waits(token) => {
+            if token {
+                Ok(Passed::Taken(after_token(with, frames, at, c)?))
+            } else {
+                Ok(Passed::Taken(at_object(with, frames, at, c)?))
+            }
+        }
+        Delivered::Done(found) => Ok(Passed::Done(found)),
+        Delivered::Refused(code, place) => Ok(Passed::Taken(Event::Refused(code, place))),
     }
 }
 
