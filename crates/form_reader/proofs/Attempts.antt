@@ -1,5 +1,5 @@
 -- What a byte is where an object may begin.
-use Rattle.std.proofs.Common.{◌≡◌, ℕ, suc, ◌+◌, ◌-◌, ◌<◌, ◌≤◌, Bool, true, false, List, [], ◌∷◌, length, Option, Some, None, Result, Ok, Err, IfOk, refl, sym, ap, subst, ◌∙◌, arith}
+use Rattle.std.proofs.Common.{◌≡◌, ℕ, suc, ◌+◌, ◌-◌, ◌<◌, ◌≤◌, Bool, true, false, List, [], ◌∷◌, length, Option, Some, None, Result, IfOk, refl, sym, ap, subst, ◌∙◌, arith}
 use Rattle.std.specs.Prelude.{nat_le, ◌==◌}
 use Rattle.std.proofs.lemmas.Bool.{lt-leb, le-leb}
 use Rattle.lisp_object.specs.declared.refusal.TheConstants.{FORM_TOO_LONG, INVALID_CHARACTER}
@@ -13,9 +13,9 @@ use Rattle.form_reader.specs.declared.limits.Limits.{Limits}
 use Rattle.form_reader.specs.declared.found.Found.{Found}
 use Rattle.form_reader.specs.declared.frame.Frame.{Frame}
 use Rattle.form_reader.specs.declared.stage.Event.{Event}
-use Rattle.form_reader.specs.Plans.{Plan, gives, refuses, takes, scans, then_plan, Read, fault, within, run}
+use Rattle.form_reader.specs.Plans.{Plan, refuses, takes, scans, then_plan, Read, fault, within, run}
 use Rattle.form_reader.specs.Setting.{Setting}
-use Rattle.form_reader.specs.Reading.{Piece, closed, at_place, or_closed, place_turn, stands_alone, alone, token_found, attempt_by, attempt, inner}
+use Rattle.form_reader.specs.Reading.{Piece, closed, at_place, or_closed, place_turn, stands_alone, alone, token_found, attempt_by, attempt}
 use Rattle.form_reader.specs.Feeding.{token_read}
 use Rattle.form_reader.specs.Frames.{close_of, close_of_frames, attempt_in, place_in, call_in, given, between, token_goes_on}
 use Rattle.form_reader.specs.Resuming.{attempt_at, inner_at, Brings}

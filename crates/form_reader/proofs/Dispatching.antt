@@ -1,11 +1,9 @@
 -- What the byte after the number of a dispatch call brings.
-use Rattle.std.proofs.Common.{◌≡◌, ℕ, ◌+◌, ◌-◌, ◌<◌, ◌≤◌, List, [], ◌∷◌, length, Option, Some, None, Result, Ok, Err, IfOk, refl, sym, ap, subst, ◌∙◌, arith}
+use Rattle.std.proofs.Common.{◌≡◌, ℕ, ◌+◌, ◌-◌, ◌<◌, ◌≤◌, List, ◌∷◌, length, Option, Some, None, Result, Ok, IfOk, sym, ap, subst, ◌∙◌, arith}
 use Rattle.std.specs.declared.alloc.AllocError.{AllocError}
 use Rattle.lisp_object.specs.declared.refusal.TheConstants.{FORM_TOO_LONG, INVALID_CHARACTER, NO_DISPATCH}
 use Rattle.readtable_core.specs.Characters.{upper_case}
 use Rattle.readtable_core.specs.Tables.{dispatch_at}
-use Rattle.form_reader.specs.declared.bytes.LineByte.{LineByte}
-use Rattle.form_reader.specs.declared.bytes.LineByte.TheVariants.{Ended as LineEnded}
 use Rattle.form_reader.specs.declared.found.Found.{Found}
 use Rattle.form_reader.specs.declared.frame.Frame.{Frame}
 use Rattle.form_reader.specs.declared.stage.Event.{Event}

@@ -1,11 +1,11 @@
 -- What is read before a byte is read whatever follows that byte.
-use Rattle.std.proofs.Common.{◌≡◌, ℕ, zero, suc, ◌+◌, ◌-◌, ◌<◌, ◌≤◌, Bool, true, false, List, [], ◌∷◌, ◌++◌, length, take, drop, Result, Ok, Err, IfOk, refl, sym, ap, subst, ◌∙◌, append_assoc, length-append, arith}
+use Rattle.std.proofs.Common.{◌≡◌, ℕ, zero, suc, ◌+◌, ◌-◌, ◌<◌, Bool, true, false, List, [], ◌∷◌, ◌++◌, length, take, drop, Result, Ok, Err, IfOk, refl, sym, ap, subst, ◌∙◌, append_assoc, length-append, arith}
 use Rattle.std.specs.Prelude.{nat_le}
 use Rattle.lisp_object.specs.declared.refusal.TheConstants.{FORM_TOO_LONG}
 use Rattle.lisp_object.specs.Object.{Object}
 use Rattle.readtable_core.specs.Tables.{Table}
 use Rattle.token_scan.specs.declared.mark.Mark.{Mark}
-use Rattle.token_scan.specs.Tokens.{TokenFault, ScannedBytes, token_in, escaped_token_in}
+use Rattle.token_scan.specs.Tokens.{ScannedBytes, token_in, escaped_token_in}
 use Rattle.token_scan.specs.Spelling.{Stands}
 use Rattle.token_scan.proofs.Standing.{token_stands, escaped_token_stands}
 use Rattle.token_meaning.specs.Results.{scan_refusal_number}

@@ -1,5 +1,5 @@
 -- What the open calls make of what is found in the innermost.
-use Rattle.std.specs.Prelude.{ℕ, ◌≡◌, ◌≤◌, ◌+◌, Bool, true, false, List, [], ◌∷◌, length, Ok}
+use Rattle.std.specs.Prelude.{ℕ, ◌≡◌, ◌+◌, Bool, true, false, List, [], ◌∷◌, Ok}
 use Rattle.form_reader.specs.declared.deliver.Delivered.{Delivered}
 use Rattle.form_reader.specs.declared.deliver.Delivered.TheVariants.{Waits, Done, Refused}
 use Rattle.form_reader.specs.declared.deliver.Taken.{Taken}
