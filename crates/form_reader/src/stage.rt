@@ -9,7 +9,7 @@ ghost use Rattle.form_reader.specs.Begun.{BegunFeeds, FirstFeeds, IsBegunByte};
 use crate::bytes::LineByte;
 use crate::call::Invoked;
 use crate::found::Found;
-use crate::held::{HeldNumber, HeldText};
+use crate::held::{HeldCharacter, HeldNumber, HeldText};
 use crate::limits::Limits;
 use crate::tokens::token_byte;
 use crate::way::Keep;
@@ -118,7 +118,7 @@ pub enum Stage {
     /// In a block: how many blocks are open inside it, and the byte before, if it may begin a pair.
     Block(Invoked, (usize, u8)),
     /// After this dispatching character, in the number.
-    Number(u8, HeldNumber),
+    Number(HeldCharacter, HeldNumber),
 }
 
 /// What a call or a byte brings.
