@@ -1,5 +1,5 @@
 -- What a byte is where an object may begin.
-use Rattle.std.proofs.Common.{◌≡◌, ℕ, suc, ◌+◌, ◌-◌, ◌<◌, ◌≤◌, Bool, true, false, List, [], ◌∷◌, length, Option, Some, None, Result, Ok, Err, IfOk, refl, sym, ap, subst, ◌∙◌, arith}
+use Rattle.std.proofs.Common.{◌≡◌, ℕ, suc, ◌+◌, ◌-◌, ◌<◌, ◌≤◌, Bool, true, false, List, [], ◌∷◌, length, Option, Some, None, Result, IfOk, refl, sym, ap, subst, ◌∙◌, arith}
 use Rattle.std.specs.Prelude.{nat_le, ◌==◌}
 use Rattle.std.proofs.lemmas.Bool.{lt-leb, le-leb}
 use Rattle.lisp_object.specs.declared.refusal.TheConstants.{FORM_TOO_LONG, INVALID_CHARACTER}
@@ -13,9 +13,9 @@ use Rattle.form_reader.specs.declared.limits.Limits.{Limits}
 use Rattle.form_reader.specs.declared.found.Found.{Found}
 use Rattle.form_reader.specs.declared.frame.Frame.{Frame}
 use Rattle.form_reader.specs.declared.stage.Event.{Event}
-use Rattle.form_reader.specs.Plans.{Plan, gives, refuses, takes, scans, then_plan, Read, fault, within, run}
+use Rattle.form_reader.specs.Plans.{Plan, refuses, takes, scans, then_plan, Read, fault, within, run}
 use Rattle.form_reader.specs.Setting.{Setting}
-use Rattle.form_reader.specs.Reading.{Piece, closed, at_place, or_closed, place_turn, stands_alone, alone, token_found, attempt_by, attempt, inner}
+use Rattle.form_reader.specs.Reading.{Piece, closed, at_place, or_closed, place_turn, stands_alone, alone, token_found, attempt_by, attempt}
 use Rattle.form_reader.specs.Feeding.{token_read}
 use Rattle.form_reader.specs.Frames.{close_of, close_of_frames, attempt_in, place_in, call_in, given, between, token_goes_on}
 use Rattle.form_reader.specs.Resuming.{attempt_at, inner_at, Brings}
@@ -31,13 +31,13 @@ module _ {A : Type 0} (table : Table) (limits : Limits) (other : Plan A) (test :
       let first : Bool → Bool → Read A = λ b full. elim b [ true ↦ within full at (run table limits (on c) (at + 1) cs) | false ↦ run table limits other at (c ∷ cs) ] in
       (λ i. first (e i) (f i))
 
-  takes_is : at < limits.text → test c ≡ true → run table limits (takes other test on) at (c ∷ cs) ≡ run table limits (on c) (at + 1) cs
+  pub takes_is : at < limits.text → test c ≡ true → run table limits (takes other test on) at (c ∷ cs) ≡ run table limits (on c) (at + 1) cs
   takes_is lt e = takes_by true false e (lt-leb limits.text at lt)
 
-  takes_over : limits.text ≤ at → test c ≡ true → run table limits (takes other test on) at (c ∷ cs) ≡ fault FORM_TOO_LONG at
+  pub takes_over : limits.text ≤ at → test c ≡ true → run table limits (takes other test on) at (c ∷ cs) ≡ fault FORM_TOO_LONG at
   takes_over le e = takes_by true true e (le-leb limits.text at le)
 
-  passes_is : test c ≡ false → run table limits (takes other test on) at (c ∷ cs) ≡ run table limits other at (c ∷ cs)
+  pub passes_is : test c ≡ false → run table limits (takes other test on) at (c ∷ cs) ≡ run table limits other at (c ∷ cs)
   passes_is e = takes_by false _ e refl
 
 module _ (setting : Setting) (at c : ℕ) (cs : List ℕ) where

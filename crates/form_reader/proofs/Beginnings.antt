@@ -1,26 +1,26 @@
 -- How a call begins, in any open calls.
-use Rattle.std.proofs.Common.{◌≡◌, ℕ, suc, zero, ◌+◌, ◌-◌, ◌<◌, ◌≤◌, Bool, true, false, List, [], ◌∷◌, length, Option, Some, None, Ok, Err, refl, sym, ap, subst, ◌∙◌, arith}
+use Rattle.std.proofs.Common.{◌≡◌, ℕ, suc, ◌+◌, ◌-◌, ◌<◌, ◌≤◌, true, false, List, [], ◌∷◌, length, Option, Some, None, Ok, Err, refl, sym, ap, subst, ◌∙◌, arith}
 use Rattle.lisp_object.specs.declared.refusal.TheConstants.{TOO_DEEP, OUT_OF_PROFILE}
 use Rattle.lisp_object.specs.Object.{Object}
 use Rattle.token_scan.specs.declared.mark.Mark.{Mark}
 use Rattle.token_scan.specs.Tokens.{Scanned, ScannedBytes, with_front, typed_text, in_bytes, token, escaped_token}
-use Rattle.token_scan.specs.Scans.{Scan, begun, begun_escaped, token_from}
+use Rattle.token_scan.specs.Scans.{Scan, begun, begun_escaped}
 use Rattle.std_macros.specs.Values.{marked, nothing as no_material}
 use Rattle.form_reader.specs.declared.complete.Completed.{Completed}
-use Rattle.form_reader.specs.declared.complete.Completed.TheVariants.{Gives, Refused}
+use Rattle.form_reader.specs.declared.complete.Completed.TheVariants.{Refused}
 use Rattle.form_reader.specs.declared.found.Found.{Found}
 use Rattle.form_reader.specs.declared.frame.Frame.{Frame}
 use Rattle.form_reader.specs.declared.frame.Part.TheVariants.{Next as InNext, List as InList, Until as InUntil}
 use Rattle.form_reader.specs.declared.stage.Event.{Event}
 use Rattle.form_reader.specs.declared.way.Way.{Way}
-use Rattle.form_reader.specs.declared.way.Way.TheVariants.{Nothing, Next, List as AList, Until, Text, Line, Block, Token, EscapedToken}
-use Rattle.form_reader.specs.Plans.{Plan, gives, refuses, takes, scans, then_plan, Read, fault, limited, scanned, run}
+use Rattle.form_reader.specs.declared.way.Way.TheVariants.{Nothing, Next, List as AList, Until, Token, EscapedToken}
+use Rattle.form_reader.specs.Plans.{Plan, refuses, scans, Read, fault, limited, scanned, run}
 use Rattle.form_reader.specs.Calls.{InvokedCall}
 use Rattle.form_reader.specs.Setting.{Setting, way_in}
-use Rattle.form_reader.specs.Reading.{place, one_piece, completed, gathered, gathered_by, called, attempt, attempt_by, inner}
+use Rattle.form_reader.specs.Reading.{place, completed, gathered, gathered_by, called, attempt, inner}
 use Rattle.form_reader.specs.Completing.{plan_of}
 use Rattle.form_reader.specs.Feeding.{token_read}
-use Rattle.form_reader.specs.Frames.{attempt_in, given, between, token_goes_on}
+use Rattle.form_reader.specs.Frames.{given, between, token_goes_on}
 use Rattle.form_reader.specs.Resuming.{inner_at, Brings, Begins, Gathers, ComesTo}
 use Rattle.form_reader.proofs.Opened.{given_moves, given_fault, list_is, until_is}
 

@@ -1,10 +1,11 @@
 -- What an open call makes of what is found in it.
-use Rattle.std.proofs.Common.{◌≡◌, ℕ, ◌+◌, ◌-◌, ◌<◌, ◌≤◌, Bool, true, false, List, [], ◌∷◌, ◌++◌, length, Option, Some, None, Ok, Err, refl, sym, ap, subst, ◌∙◌, arith}
+use Rattle.std.proofs.Common.{◌≡◌, ℕ, ◌-◌, ◌<◌, ◌≤◌, Bool, true, false, List, [], ◌∷◌, ◌++◌, length, Some, Ok, refl, sym, ap, subst, ◌∙◌, arith}
 use Rattle.lisp_object.specs.Object.{Object}
 use Rattle.lisp_object.specs.declared.refusal.TheConstants.{DOT_CONTEXT, END_OF_FILE}
-use Rattle.std_macros.specs.Values.{Material, one as one_object}
+use Rattle.std_macros.specs.Values.{one as one_object}
 use Rattle.form_reader.specs.declared.complete.Completed.{Completed}
-use Rattle.form_reader.specs.declared.complete.Completed.TheVariants.{Gives as CompletedGives, Refused as CompletedRefused}
+use Rattle.form_reader.specs.declared.deliver.Delivered.{Delivered}
+use Rattle.form_reader.specs.declared.deliver.Delivered.TheVariants.{Done}
 use Rattle.form_reader.specs.declared.deliver.Taken.{Taken}
 use Rattle.form_reader.specs.declared.found.Found.{Found}
 use Rattle.form_reader.specs.declared.found.Found.TheVariants.{Nothing as nothing, One as one, LoneDot as lone_dot, TheEnd as the_end}
@@ -14,11 +15,11 @@ use Rattle.form_reader.specs.declared.frame.Part.TheVariants.{Next as InNext, Li
 use Rattle.form_reader.specs.Plans.{Plan, gives, refuses, then_plan, Read, fault, run}
 use Rattle.form_reader.specs.Calls.{InvokedCall}
 use Rattle.form_reader.specs.Setting.{Setting}
-use Rattle.form_reader.specs.Reading.{Piece, item, dot, at_place, place, without_space, items_step, items_after, undotted, after_tail, list_end, completed}
+use Rattle.form_reader.specs.Reading.{place, without_space, items_after, undotted, after_tail, list_end, completed}
 use Rattle.form_reader.specs.Completing.{plan_of}
-use Rattle.form_reader.specs.Delivering.{Takes}
+use Rattle.form_reader.specs.Delivering.{Takes, Delivers}
 use Rattle.form_reader.specs.Frames.{attempt_in, place_in, call_in, given, between}
-use Rattle.form_reader.proofs.Opened.{then_moves, given_moves, given_fault, space_given, list_is, until_is}
+use Rattle.form_reader.proofs.Opened.{space_given, list_is, until_is}
 use Rattle.form_reader.proofs.Turns.{space_same}
 use Rattle.form_reader.proofs.Beginnings.{given_refused}
 
@@ -164,3 +165,8 @@ pub none_left : (setting : Setting) (old frames : List Frame) (x found : Found) 
 unfolding given run
 none_left setting old frames x found at cs before none =
     before cs ∙ ap (λ (fs : List Frame). run setting.table setting.limits (given setting fs (gives found)) at cs) none
+
+-- the outermost attempt came to this
+pub done_told : (setting : Setting) (frames : List Frame) (at : ℕ) (cs : List ℕ) (read : Read Found) (delivered : Delivered) (found : Found) → delivered ≡ Done found
+    → Delivers setting frames at cs delivered read → (read ≡ Ok (found, at, cs)) × (frames ≡ [])
+done_told setting frames at cs read delivered found e h = subst (λ (d : Delivered). Delivers setting frames at cs d read) e h

@@ -1,11 +1,9 @@
 -- What the byte after the number of a dispatch call brings.
-use Rattle.std.proofs.Common.{◌≡◌, ℕ, ◌+◌, ◌-◌, ◌<◌, ◌≤◌, List, [], ◌∷◌, length, Option, Some, None, Result, Ok, Err, IfOk, refl, sym, ap, subst, ◌∙◌, arith}
+use Rattle.std.proofs.Common.{◌≡◌, ℕ, ◌+◌, ◌-◌, ◌<◌, ◌≤◌, List, ◌∷◌, length, Option, Some, None, Result, Ok, IfOk, sym, ap, subst, ◌∙◌, arith}
 use Rattle.std.specs.declared.alloc.AllocError.{AllocError}
 use Rattle.lisp_object.specs.declared.refusal.TheConstants.{FORM_TOO_LONG, INVALID_CHARACTER, NO_DISPATCH}
 use Rattle.readtable_core.specs.Characters.{upper_case}
 use Rattle.readtable_core.specs.Tables.{dispatch_at}
-use Rattle.form_reader.specs.declared.bytes.LineByte.{LineByte}
-use Rattle.form_reader.specs.declared.bytes.LineByte.TheVariants.{Ended as LineEnded}
 use Rattle.form_reader.specs.declared.found.Found.{Found}
 use Rattle.form_reader.specs.declared.frame.Frame.{Frame}
 use Rattle.form_reader.specs.declared.stage.Event.{Event}
@@ -71,3 +69,10 @@ number_ended setting frames after character at c old new cs result e brings =
     ≡ sub_gives setting frames character at c new cs =
     gathering_ends setting frames (number_after setting old) (sub_there setting (length frames) (inner_at setting (length frames)) character) new at at (c ∷ cs) (c ∷ cs) e in
     subst (λ (r : Read Found). IfOk result (λ event. Brings setting after (at + 1) cs event r)) (sym whole) brings
+
+-- the same of a character that is held
+pub number_of : (setting : Setting) (frames after : List Frame) (held character at c : ℕ) (number : Option ℕ) (cs : List ℕ) (result : Result Event AllocError) → held ≡ character
+    → IfOk result (λ event. Brings setting after (at + 1) cs event (sub_gives setting frames held at c number cs))
+    → IfOk result (λ event. Brings setting after (at + 1) cs event (sub_gives setting frames character at c number cs))
+number_of setting frames after held character at c number cs result e brings =
+    subst (λ (n : ℕ). IfOk result (λ event. Brings setting after (at + 1) cs event (sub_gives setting frames n at c number cs))) e brings

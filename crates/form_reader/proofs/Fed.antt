@@ -1,11 +1,10 @@
 -- What one byte is inside a text, a line, a block or a number.
-use Rattle.std.proofs.Common.{◌≡◌, ℕ, ◌+◌, ◌-◌, ◌<◌, ◌≤◌, Bool, true, false, List, [], ◌∷◌, ◌++◌, Option, Some, None, nat_lt, nat_le, Ok, Err, refl, sym, ap, ◌∙◌, arith}
+use Rattle.std.proofs.Common.{◌≡◌, ℕ, ◌+◌, ◌-◌, ◌<◌, ◌≤◌, Bool, true, false, List, [], ◌∷◌, ◌++◌, Option, Some, None, nat_le, Ok, refl, ap, ◌∙◌, arith}
 use Rattle.std.specs.Prelude.{◌==◌}
 use Rattle.std.proofs.lemmas.Bool.{le-leb, lt-leb, lt-ltb, le-ltb}
 use Rattle.lisp_object.specs.declared.refusal.TheConstants.{INVALID_CHARACTER, FORM_TOO_LONG, NUMERIC_ARGUMENT}
 use Rattle.readtable_core.specs.Characters.{is_digit}
 use Rattle.readtable_core.specs.Tables.{Table, entry_at}
-use Rattle.readtable_core.specs.declared.characters.Syntax.{Syntax}
 use Rattle.form_reader.specs.declared.limits.Limits.{Limits}
 use Rattle.form_reader.specs.declared.way.Keep.{Keep}
 use Rattle.form_reader.specs.declared.way.Keep.TheVariants.{Kept, Dropped}

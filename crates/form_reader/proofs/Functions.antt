@@ -1,5 +1,5 @@
 -- The function of a name, from what its standard function is.
-use Rattle.std.proofs.Common.{◌≡◌, ℕ, true, false, List, Option, Some, None, refl, sym, ap, ◌∙◌}
+use Rattle.std.proofs.Common.{◌≡◌, ℕ, false, List, Option, Some, None, refl, sym, ap, ◌∙◌}
 use Rattle.std.specs.Prelude.{is_some}
 use Rattle.readtable_core.specs.Names.{is_standard}
 use Rattle.std_macros.specs.declared.kind.Standard.{Standard}

@@ -1,5 +1,5 @@
 -- What was gathered is proper, piece by piece.
-use Rattle.std.proofs.Common.{◌≡◌, true, List, [], ◌∷◌, All, refl}
+use Rattle.std.proofs.Common.{◌≡◌, true, List, [], ◌∷◌, All}
 use Rattle.std.specs.List.{list_all}
 use Rattle.std.proofs.lemmas.Bool.{and_parts}
 use Rattle.std.proofs.lemmas.List.Elements.{All-nil, All-cons}

@@ -1,11 +1,10 @@
 -- What a byte brings in any open calls, from what it is to what a call gathers.
-use Rattle.std.proofs.Common.{◌≡◌, ℕ, ◌+◌, false, true, List, [], ◌∷◌, ◌++◌, length, Option, Ok, Err, refl, sym, ap, subst, ◌∙◌}
-use Rattle.std_macros.specs.Values.{Material, letters, nothing as no_material}
+use Rattle.std.proofs.Common.{◌≡◌, ℕ, ◌+◌, false, List, ◌∷◌, length, Option, Ok, sym, ap, subst, ◌∙◌}
+use Rattle.std_macros.specs.Values.{Material}
 use Rattle.form_reader.specs.declared.complete.Completed.{Completed}
 use Rattle.form_reader.specs.declared.found.Found.{Found}
 use Rattle.form_reader.specs.declared.frame.Frame.{Frame}
 use Rattle.form_reader.specs.declared.stage.Event.{Event}
-use Rattle.form_reader.specs.declared.stage.Event.TheVariants.{Stage as IsAt, Gives as IsGiven, Refused as IsRefused}
 use Rattle.readtable_core.specs.Tables.{Table}
 use Rattle.form_reader.specs.declared.bytes.TextByte.{TextByte}
 use Rattle.form_reader.specs.declared.bytes.LineByte.{LineByte}

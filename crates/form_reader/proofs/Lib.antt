@@ -18,3 +18,5 @@ pub mod Functions
 pub mod Callers
 pub mod Dispatching
 pub mod Attempts
+pub mod ObjectTokens
+pub mod Following

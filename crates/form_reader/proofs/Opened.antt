@@ -1,24 +1,20 @@
 -- What open calls make of what is given in the innermost.
-use Rattle.std.proofs.Common.{◌≡◌, ℕ, ◌+◌, ◌-◌, ◌<◌, ◌≤◌, Bool, true, false, List, [], ◌∷◌, ◌++◌, length, Option, Some, None, Result, Ok, Err, refl, sym, ap, ◌∙◌, arith}
-use Rattle.std.specs.Prelude.{nat_le, ◌==◌}
-use Rattle.std.proofs.lemmas.Bool.{lt-leb, le-leb}
+use Rattle.std.proofs.Common.{◌≡◌, ℕ, ◌+◌, ◌≤◌, Bool, true, false, List, [], ◌∷◌, length, Some, Ok, Err, refl, sym, ap, ◌∙◌}
+use Rattle.std.specs.Prelude.{nat_le}
 use Rattle.lisp_object.specs.Object.{Object}
-use Rattle.lisp_object.specs.declared.refusal.TheConstants.{FORM_TOO_LONG, END_OF_FILE, DOT_CONTEXT}
-use Rattle.readtable_core.specs.Tables.{Table, entry_at}
-use Rattle.std_macros.specs.Values.{Material, many, dotted, one as one_object}
+use Rattle.lisp_object.specs.declared.refusal.TheConstants.{FORM_TOO_LONG}
+use Rattle.readtable_core.specs.Tables.{Table}
 use Rattle.form_reader.specs.declared.limits.Limits.{Limits}
 use Rattle.form_reader.specs.declared.found.Found.{Found}
-use Rattle.form_reader.specs.declared.found.Found.TheVariants.{Nothing as nothing, One as one, LoneDot as lone_dot, TheEnd as the_end}
 use Rattle.form_reader.specs.declared.frame.Frame.{Frame}
-use Rattle.form_reader.specs.declared.frame.Part.{Part}
-use Rattle.form_reader.specs.declared.frame.Part.TheVariants.{Next as InNext, List as InList, Until as InUntil, Dotted as InDotted, Tailed as InTailed}
-use Rattle.form_reader.specs.Plans.{Plan, gives, refuses, takes, scans, then_plan, Fault, Read, fault, within, run}
+use Rattle.form_reader.specs.declared.frame.Part.TheVariants.{List as InList, Until as InUntil}
+use Rattle.form_reader.specs.Plans.{Plan, takes, then_plan, Fault, Read, within, run}
 use Rattle.form_reader.specs.Calls.{InvokedCall}
 use Rattle.form_reader.specs.Setting.{Setting}
-use Rattle.form_reader.specs.Reading.{Piece, item, dot, closed, is_whitespace, without_space, at_place, or_closed, place_turn, place, Items, items_step, items_turn, items_after, undotted, after_tail, after_dot, list_end, one_piece, completed, stands_alone, alone, token_found, attempt_by}
-use Rattle.form_reader.specs.Frames.{close_of, attempt_in, place_in, call_in, given, between}
+use Rattle.form_reader.specs.Reading.{Piece, is_whitespace, without_space, at_place, place, Items, items_step, items_turn, items_after, undotted, list_end, completed}
+use Rattle.form_reader.specs.Frames.{attempt_in, place_in, call_in, given, between}
 use Rattle.form_reader.proofs.Steps.{and_then, run_then}
-use Rattle.form_reader.proofs.Turns.{Ends, attempt_ends, loop_is, place_guarded, items_guarded}
+use Rattle.form_reader.proofs.Turns.{Ends, attempt_ends, loop_is, items_guarded}
 
 -- where two plans give the same, each at its place, so do these with the next plan after them
 pub then_moves : {A B : Type 0} (table : Table) (limits : Limits) (p q : Plan A) (next : A → Plan B) (at to : ℕ) (cs ds : List ℕ)

@@ -13,7 +13,7 @@ use Rattle.form_reader.proofs.Framing.{Framed, framed}
 
 -- ---- one plan after another
 
--- what the next plan gives, behind what was given
+-- what the next plan gives, after what was given
 abbrev pub and_then : {A B : Type 0} → Table → Limits → (A → Plan B) → Read A → Read B
 and_then table limits next (Ok p) = run table limits (next p.0) p.1 p.2
 and_then table limits next (Err e) = Err e
@@ -46,7 +46,7 @@ run_then table limits (scans escaped limit on) next at cs =
     token_then table limits next on (λ marks. then_plan (on marks) next) (limited limits.text (scanned escaped table limit at cs) (λ p. p.1))
     (λ marks next_at ds. run_then table limits (on marks) next next_at ds)
 
--- ---- what was taken stands below the limit
+-- ---- what was taken is below the limit
 
 abbrev pub IsBelow : {A : Type 0} → ℕ → Read A → Type 0
 IsBelow limit (Ok (x, next, ds)) = next ≤ limit

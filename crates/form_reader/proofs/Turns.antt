@@ -54,7 +54,7 @@ next_byte_same table limits on on2 at cs same =
 
 -- ---- turns
 
--- What a turn gives depends on what comes behind it only behind a byte.
+-- What a turn gives depends on what comes after it only after a byte.
 pub record Guarded {S A : Type 0} (table : Table) (limits : Limits) (turn : (S → Plan A) → S → Plan A) : Type 0 where
   pub rest : (p q : S → Plan A) (s : S) (at : ℕ) (cs : List ℕ) → at ≤ limits.text → ((t : S) → Alike table limits (at + 1) (p t) (q t))
       → run table limits (turn p s) at cs ≡ run table limits (turn q s) at cs
@@ -69,7 +69,7 @@ loop_same table limits turn guarded (suc n) (suc m) s at cs h p q =
     guarded.rest (λ t. loop_in turn n t) (λ t. loop_in turn m t) s at cs h
     (λ t at2 cs2 from le. loop_same table limits turn guarded n m t at2 cs2 le (omega arith) (omega arith))
 
--- a loop is a turn, with the loop behind it
+-- a loop is a turn, with the loop after it
 pub loop_is : {S A : Type 0} (table : Table) (limits : Limits) (turn : (S → Plan A) → S → Plan A) → Guarded table limits turn
     → (s : S) (at : ℕ) (cs : List ℕ) → at ≤ limits.text
     → run table limits (loop limits turn s) at cs ≡ run table limits (turn (loop limits turn) s) at cs
@@ -198,7 +198,7 @@ attempt_ends setting round may = record {
 
 -- ---- items
 
--- no piece stands at the end of the input
+-- no piece is at the end of the input
 place_at_end : (table : Table) (limits : Limits) (close : Option ℕ) (attempt : Plan Found) (at : ℕ) → Ends table limits attempt → at ≤ limits.text
     → run table limits (loop limits (place_turn table close attempt) tt) at [] ≡ fault END_OF_FILE (at - 0)
 unfolding run

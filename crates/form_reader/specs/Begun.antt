@@ -1,4 +1,4 @@
--- What a byte is to a token that has begun.
+-- What a byte is to a token that has begun, and to one that it begins.
 use Rattle.std.specs.Prelude.{ℕ, ◌≡◌, ◌+◌, ◌<◌, List, ◌∷◌, length, Ok, IsTrue}
 use Rattle.readtable_core.specs.Tables.{Table}
 use Rattle.token_scan.specs.declared.mark.Mark.{Mark}
@@ -6,6 +6,8 @@ use Rattle.token_scan.specs.Marks.{are_ascii}
 use Rattle.form_reader.specs.declared.limits.Limits.{Limits}
 use Rattle.form_reader.specs.declared.stage.BegunByte.{BegunByte}
 use Rattle.form_reader.specs.declared.stage.BegunByte.TheVariants.{More, Ended, Refused}
+use Rattle.form_reader.specs.declared.stage.FirstByte.{FirstByte}
+use Rattle.form_reader.specs.declared.stage.FirstByte.TheVariants.{More as FirstMore, Refused as FirstRefused}
 use Rattle.form_reader.specs.Plans.{Read, fault}
 use Rattle.form_reader.specs.Feeding.{token_read}
 
@@ -19,3 +21,7 @@ abbrev pub IsBegunByte : BegunByte → Type 0
 IsBegunByte (More scan) = Unit {0}
 IsBegunByte (Ended marks) = (0 < length marks.items) × IsTrue (are_ascii marks.items)
 IsBegunByte (Refused code) = Unit {0}
+
+abbrev pub FirstFeeds : Table → Limits → ℕ → List ℕ → FirstByte → Read (List Mark) → Type 0
+FirstFeeds table limits at cs (FirstMore scan) read = read ≡ token_read table limits scan (at + 1) cs
+FirstFeeds table limits at cs (FirstRefused code) read = read ≡ fault code at

@@ -1,5 +1,4 @@
 -- What the calls of functions answer.
-use Rattle.std.specs.Prelude.{ℕ}
 use Rattle.form_reader.specs.declared.complete.Completed.{Completed}
 use Rattle.form_reader.specs.declared.complete.Completed.TheVariants.{Gives, Refused}
 use Rattle.form_reader.specs.declared.found.Found.{Found}

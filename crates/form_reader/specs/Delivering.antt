@@ -1,9 +1,11 @@
 -- What the open calls make of what is found in the innermost.
-use Rattle.std.specs.Prelude.{ℕ, ◌≡◌, ◌≤◌, Bool, true, false, List, [], ◌∷◌, length, Ok}
+use Rattle.std.specs.Prelude.{ℕ, ◌≡◌, ◌+◌, Bool, true, false, List, [], ◌∷◌, Ok}
 use Rattle.form_reader.specs.declared.deliver.Delivered.{Delivered}
 use Rattle.form_reader.specs.declared.deliver.Delivered.TheVariants.{Waits, Done, Refused}
 use Rattle.form_reader.specs.declared.deliver.Taken.{Taken}
 use Rattle.form_reader.specs.declared.deliver.Taken.TheVariants.{Stays, Gives, Refused as TakenRefused}
+use Rattle.form_reader.specs.declared.objects.Passed.{Passed}
+use Rattle.form_reader.specs.declared.objects.Passed.TheVariants.{Taken as PassedTaken, Done as PassedDone}
 use Rattle.form_reader.specs.declared.found.Found.{Found}
 use Rattle.form_reader.specs.declared.found.Found.TheVariants.{Nothing as nothing, One as one, LoneDot as lone_dot, TheEnd as the_end}
 use Rattle.form_reader.specs.declared.frame.Frame.{Frame}
@@ -11,6 +13,7 @@ use Rattle.form_reader.specs.Plans.{Read, fault, gives, run}
 use Rattle.form_reader.specs.Setting.{Setting}
 use Rattle.form_reader.specs.Reading.{without_space}
 use Rattle.form_reader.specs.Frames.{given, between}
+use Rattle.form_reader.specs.Resuming.{Brings}
 
 -- What one open call makes of it: it goes on as this call, perhaps after one whitespace character; or it comes to this; or it
 -- is refused.
@@ -26,6 +29,12 @@ Delivers setting frames at cs (Waits token) read =
     read ≡ run setting.table setting.limits (without_space setting.table token (between setting frames)) at cs
 Delivers setting frames at cs (Done found) read = (read ≡ Ok (found, at, cs)) × (frames ≡ [])
 Delivers setting frames at cs (Refused code place) read = read ≡ fault code place
+
+-- What a byte is to them after what was found before it: it is taken, and brings this; or the outermost attempt came to this
+-- before it.
+abbrev pub Passes : Setting → List Frame → ℕ → ℕ → List ℕ → Passed → Read Found → Type 0
+Passes setting frames at c cs (PassedTaken event) read = Brings setting frames (at + 1) cs event read
+Passes setting frames at c cs (PassedDone found) read = (read ≡ Ok (found, at, c ∷ cs)) × (frames ≡ [])
 
 -- its last part is no token, and it is no dot and no end
 abbrev pub is_taken : Found → Bool

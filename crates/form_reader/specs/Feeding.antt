@@ -13,7 +13,7 @@ use Rattle.form_reader.specs.declared.bytes.LineByte.{LineByte}
 use Rattle.form_reader.specs.declared.bytes.LineByte.TheVariants.{More as LineMore, Ended as LineEnded, Refused as LineRefused}
 use Rattle.form_reader.specs.declared.limits.Limits.{Limits}
 use Rattle.form_reader.specs.declared.way.Keep.{Keep}
-use Rattle.form_reader.specs.Plans.{Plan, Read, fault, limited, loop, next_byte, run}
+use Rattle.form_reader.specs.Plans.{Read, fault, limited, loop, next_byte, run}
 use Rattle.form_reader.specs.Gathering.{text_turn, line_turn, block_turn, number_turn}
 
 -- in a text, which has these characters then

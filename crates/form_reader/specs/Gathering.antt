@@ -1,6 +1,6 @@
 -- What the calls of functions gather (standard 2.4, 2.2), where it is no object: characters up to one, a line, a block, a
 -- number.
-use Rattle.std.specs.Prelude.{ℕ, zero, suc, ◌+◌, ◌-◌, ◌*◌, ◌==◌, ◌&&◌, if◌then◌else◌, nat_le, Bool, true, false, List, [], ◌∷◌, ◌++◌, Option, Some, None, unwrap_or}
+use Rattle.std.specs.Prelude.{ℕ, ◌+◌, ◌-◌, ◌*◌, ◌==◌, ◌&&◌, if◌then◌else◌, nat_le, Bool, true, false, List, [], ◌∷◌, ◌++◌, Option, Some, None, unwrap_or}
 use Rattle.lisp_object.specs.declared.refusal.TheConstants.{NUMERIC_ARGUMENT}
 use Rattle.readtable_core.specs.Characters.{is_digit}
 use Rattle.readtable_core.specs.Tables.{Table, entry_at}

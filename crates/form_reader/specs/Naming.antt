@@ -1,6 +1,6 @@
 -- What a token means where packages are known (standard 2.3): an object, or the dot of a list.
 use Rattle.std.specs.Prelude.{◌≡◌, ℕ, List, Result, Ok, Err}
-use Rattle.lisp_object.specs.Object.{Object, symbol}
+use Rattle.lisp_object.specs.Object.{symbol}
 use Rattle.package_table.specs.declared.error.PackageError.{PackageError}
 use Rattle.package_table.specs.Errors.{number_of}
 use Rattle.package_table.specs.Resolving.{Resolution, home_of, resolution_of, resolution, external_resolution, internal_resolution}

@@ -1,5 +1,5 @@
 -- Where a reader is in its innermost call, and what is given there on a text.
-use Rattle.std.specs.Prelude.{ℕ, ◌≡◌, ◌+◌, ◌-◌, false, true, List, [], ◌∷◌, ◌++◌, length, Option}
+use Rattle.std.specs.Prelude.{ℕ, ◌≡◌, ◌+◌, ◌-◌, ◌≤◌, false, true, List, [], ◌∷◌, ◌++◌, length, Option}
 use Rattle.std_macros.specs.Values.{letters, marked, nothing as no_material}
 use Rattle.form_reader.specs.declared.found.Found.{Found}
 use Rattle.form_reader.specs.declared.frame.Frame.{Frame}
@@ -49,6 +49,11 @@ stage_gives setting frames (AtBlock call levels) at cs =
     (λ u. completed setting (length frames) call false false no_material))) at cs
 stage_gives setting frames (AtNumber c number) at cs =
     run setting.table setting.limits (given setting frames (dispatched setting (length frames) (inner_at setting (length frames)) c number)) at cs
+
+-- What holds of where it is, at this place: each block inside a block took a byte.
+abbrev pub IsStageAt : ℕ → Stage → Type 0
+IsStageAt at (AtBlock call levels) = levels.0 ≤ at
+IsStageAt at _ = Unit {0}
 
 -- what was read is what this brings
 abbrev pub Brings : Setting → List Frame → ℕ → List ℕ → Event → Read Found → Type 0

@@ -1,5 +1,6 @@
 //! The byte at a place where an object may begin.
-ghost use Rattle.std.specs.Prelude.{◌≡◌, ◌≤◌, ◌<◌, ◌+◌, ◌^◌, ℕ, List, ◌∷◌, length, true, IfOk};
+ghost use Rattle.std.specs.Prelude.{◌≡◌, ◌≤◌, ◌<◌, ◌+◌, ◌^◌, ℕ, List, ◌∷◌, length, true, false, IfOk};
+ghost use Rattle.form_reader.specs.declared.frame.Frame.{Frame as OpenCall};
 ghost use Rattle.readtable_core.specs.Tables.{entry_at};
 ghost use Rattle.form_reader.specs.Plans.{run};
 ghost use Rattle.form_reader.specs.Setting.{setting_of};
@@ -10,7 +11,7 @@ ghost use Rattle.form_reader.specs.Resuming.{inner_at, attempt_at, Brings};
 use crate::found::Found;
 use crate::frame::Frames;
 use crate::macros::begin_macro;
-use crate::stage::Event;
+use crate::stage::{Event, FirstByte, Stage, first_byte};
 use crate::surroundings::Surroundings;
 use lisp_object::refusal::{FORM_TOO_LONG, INVALID_CHARACTER};
 use readtable_core::Syntax;
@@ -69,5 +70,31 @@ pub(crate) fn alone<R: MacroFunctions>(
         Syntax::Constituent => Ok(Event::Refused(INVALID_CHARACTER, at)),
         Syntax::SingleEscape => Ok(Event::Refused(INVALID_CHARACTER, at)),
         Syntax::MultipleEscape => Ok(Event::Refused(INVALID_CHARACTER, at)),
+    }
+}
+
+/// What an attempt comes to where its first byte `c`, at `at`, begins a token.
+#[tactic(auto, using(crate::proofs::ObjectTokens::begins_token))]
+pub(crate) fn begin_token<R: MacroFunctions>(
+    with: &Surroundings<'_, R>,
+    at: usize,
+    c: u8,
+) -> Result<Event, AllocError>
+    requires place { at ≤ with.now.limits.text }
+    requires begins { stands_alone (entry_at with.now.readtable.now c).syntax ≡ false }
+    ensures { (frames : List OpenCall) (cs : List ℕ) → length frames ≤ with.now.limits.nesting → IfOk result (λ event. Brings
+        (setting_of with.now.limits with.now.readtable.now with.now.packages.now.0 with.now.current.now
+        (R.registered with.now.macros.now) R.Meaning.way R.Meaning.answer)
+        frames (at + 1) cs event (run with.now.readtable.now with.now.limits (given
+        (setting_of with.now.limits with.now.readtable.now with.now.packages.now.0 with.now.current.now
+        (R.registered with.now.macros.now) R.Meaning.way R.Meaning.answer)
+        frames (attempt_at
+        (setting_of with.now.limits with.now.readtable.now with.now.packages.now.0 with.now.current.now
+        (R.registered with.now.macros.now) R.Meaning.way R.Meaning.answer)
+        (length frames))) at (c ∷ cs))) }
+{
+    match first_byte(with.alloc, with.readtable, &with.limits, at, c)? {
+        FirstByte::More(scan) => Ok(Event::Stage(Stage::Token(scan))),
+        FirstByte::Refused(code) => Ok(Event::Refused(code, at)),
     }
 }

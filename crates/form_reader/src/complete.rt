@@ -30,7 +30,7 @@ use user_macros::{Answer, Call, Gathered, MacroFunctions};
 pub enum Completed {
     /// An object, or nothing.
     Gives(Found),
-    /// The number of a refusal, and how many bytes before the end of the call it stands.
+    /// The number of a refusal, and how many bytes before the end of the call it is.
     Refused(u16, usize),
 }
 
@@ -98,7 +98,7 @@ fn finished(
     }
 }
 
-/// How many bytes before the end of the call its refusal stands.
+/// How many bytes before the end of the call its refusal is.
 fn bytes_back(refusal: StdRefusal) -> usize
     ensures { result ≡ bytes_back refusal }
 {

@@ -150,13 +150,14 @@ pub(crate) fn deliver<R: MacroFunctions>(
 ) -> Result<Delivered, AllocError>
     requires answers { R.answers with.now.macros.now }
     requires place { at ≤ with.now.limits.text }
-    ensures { (cs : List ℕ) → IfOk result (λ delivered. Delivers
+    ensures delivers { (cs : List ℕ) → IfOk result (λ delivered. Delivers
         (setting_of with.now.limits with.now.readtable.now with.now.packages.now.0 with.now.current.now
         (R.registered with.now.macros.now) R.Meaning.way R.Meaning.answer)
         frames.new at cs delivered (run with.now.readtable.now with.now.limits (given
         (setting_of with.now.limits with.now.readtable.now with.now.packages.now.0 with.now.current.now
         (R.registered with.now.macros.now) R.Meaning.way R.Meaning.answer)
         frames.old (gives found)) at cs)) }
+    ensures shorter { IfOk result (λ delivered. length frames.new ≤ length frames.old) }
 {
     let mut found = found;
     'calls: while let Some(frame) = frames.pop() {

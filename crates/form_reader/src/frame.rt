@@ -1,5 +1,5 @@
 //! Open calls.
-ghost use Rattle.std.specs.Prelude.{◌≡◌, [], ◌∷◌, length, MatchOption, OnOk};
+ghost use Rattle.std.specs.Prelude.{◌≡◌, ◌==◌, ℕ, Some, false, [], ◌∷◌, length, MatchOption, OnOk};
 ghost use Rattle.form_reader.specs.Frames.{close_of, close_of_frames};
 
 use crate::call::Invoked;
@@ -88,6 +88,17 @@ impl Frames {
             None => None,
             Some(frame) => frame.close(),
         }
+    }
+
+    /// Takes the innermost call where `c` is the closing character that it looks for.
+    pub(crate) fn pop_closed_by(&mut self, c: u8) -> Option<Frame>
+        ensures { MatchOption result ((self.new ≡ self.old) × ((close : ℕ) → close_of_frames self.old ≡ Some close → (c == close) ≡ false))
+            (λ frame. (self.old ≡ frame ∷ self.new) × (close_of frame.part ≡ Some c)) }
+    {
+        if self.close() == Some(c) {
+            return self.pop();
+        }
+        None
     }
 }
 

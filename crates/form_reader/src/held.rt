@@ -205,3 +205,37 @@ impl HeldNumber {
         self.number
     }
 }
+
+/// A character.
+#[derive(Drop)]
+pub struct HeldCharacter {
+    c: u8,
+}
+
+impl Model for HeldCharacter {
+    ghost use Rattle.std.specs.Prelude.{◌<◌, ℕ};
+
+    ghost Value = { ℕ };
+
+    ghost view = { λ h. h.c };
+
+    ghost invariant = { λ h. h.c < 128 };
+}
+
+impl HeldCharacter {
+    /// Holds `c`.
+    pub(crate) fn new(c: u8) -> HeldCharacter
+        requires { c < 128 }
+        ensures { result ≡ c }
+    {
+        HeldCharacter { c }
+    }
+
+    /// The character.
+    pub(crate) fn get(&self) -> u8
+        ensures value { result ≡ self.now }
+        ensures below { result < 128 }
+    {
+        self.c
+    }
+}

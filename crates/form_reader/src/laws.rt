@@ -1,5 +1,5 @@
 //! Laws of the definition of reading, as contracts of functions that do nothing.
-ghost use Rattle.std.specs.Prelude.{◌≡◌, ◌≤◌, ℕ, List, Option};
+ghost use Rattle.std.specs.Prelude.{◌≡◌, ◌≤◌, ◌<◌, ◌++◌, ◌-◌, ℕ, List, Option, length, take, drop};
 ghost use Rattle.lisp_object.specs.Object.{Object};
 ghost use Rattle.form_reader.specs.declared.way.Keep.{Keep};
 ghost use Rattle.form_reader.specs.Plans.{Plan, loop, run};
@@ -12,6 +12,22 @@ ghost use Rattle.form_reader.specs.Reading.{form, place_turn, place, items_turn,
 pub fn forms_are_framed()
     ensures { (setting : Setting) (text : List ℕ) (x : Object) (start end next : ℕ)
         → reads setting text ≡ form x start end next → IsFramed setting text x start end next }
+{}
+
+/// A form that ends before a byte of the text is the same whatever follows the text. So a reader may give it without
+/// waiting for more.
+pub fn forms_are_decided()
+    ensures { (setting : Setting) (text more : List ℕ) (x : Object) (start end next : ℕ)
+        → reads setting text ≡ form x start end next → end < length text
+        → reads setting (text ++ more) ≡ form x start end next }
+{}
+
+/// A form with which a whitespace character was discarded is read again from its own bytes and this character, whatever
+/// follows them.
+pub fn spaced_forms_are_framed()
+    ensures { (setting : Setting) (text more : List ℕ) (x : Object) (start end next : ℕ)
+        → reads setting text ≡ form x start end next → end < next
+        → reads setting (take (next - start) (drop start text) ++ more) ≡ form x 0 (end - start) (next - start) }
 {}
 
 /// What is read is what the next byte says, and then what is read after it: before a form, at a place inside a call,

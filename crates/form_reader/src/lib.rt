@@ -13,22 +13,27 @@
 //! - specs/Frames.antt, specs/Resuming.antt: what open calls stand for, and a place in the innermost, for a reader that takes
 //!   one byte at a time; specs/Feeding.antt, specs/Delivering.antt: what one byte, and what is found, are to them
 //!
-//! What holds of each reading is on two functions that do nothing: `forms_are_framed` says that a form is read again from its
-//! own bytes alone, and `reading_goes_on` gives the equations of reading step by step, with no number of turns in them.
+//! What holds of each reading is on functions that do nothing: `forms_are_framed` says that a form is read again from its own
+//! bytes alone, and `spaced_forms_are_framed` the same with the whitespace character that is discarded with it, whatever
+//! follows; `forms_are_decided` that a form which ends before a byte is the same whatever follows the text; and
+//! `reading_goes_on` gives the equations of reading step by step, with no number of turns in them.
 //!
 //! The parts of a reader that takes one byte at a time are here, each proved against that definition in whatever calls are
-//! open; what joins them is not there yet. Proofs for it: proofs/Attempts.antt has the byte where an object may begin.
+//! open; what joins them is not there yet.
 //!
 //! - `limits`: `Limits`
 //! - `way`, `call`: functions, their calls, and the ways in which they gather
 //! - `held`, `frame`, `stage`, `found`: what is held while calls are open
 //! - `told`: what a token means; `known`: which data may be answered; `complete`: what a call gives
+//! - `advance`: one byte, wherever a reader is in its innermost call
 //! - `bytes`, `tokens`: one byte of a text, a line, a block, a number or a token; `gathering`: what it brings
-//! - `attempt`, `macros`, `opening`: a byte where an object may begin, and how a call begins
+//! - `objects`: a byte where an object may begin, after a token there, and in a token; what a token comes to
+//! - `attempt`, `macros`, `opening`: an attempt from its first byte on, and how a call begins
 //! - `deliver`, `close`: what open calls make of what is found, and how they end
-//! - `laws`: `forms_are_framed`, `reading_goes_on`
+//! - `laws`: `forms_are_framed`, `spaced_forms_are_framed`, `forms_are_decided`, `reading_goes_on`
 #![tactic(auto)]
 
+mod advance;
 mod attempt;
 mod bytes;
 mod call;
@@ -43,6 +48,7 @@ mod known;
 mod laws;
 mod limits;
 mod macros;
+mod objects;
 mod opening;
 mod stage;
 mod surroundings;
@@ -50,7 +56,7 @@ mod tokens;
 mod told;
 mod way;
 
-pub use laws::{forms_are_framed, reading_goes_on};
+pub use laws::{forms_are_decided, forms_are_framed, reading_goes_on, spaced_forms_are_framed};
 pub use limits::Limits;
 pub use way::{Function, Keep, Way};
 

@@ -13,7 +13,7 @@ use crate::bytes::{LineByte, number_byte};
 use crate::call::Invoked;
 use crate::complete::complete;
 use crate::frame::Frames;
-use crate::held::HeldNumber;
+use crate::held::{HeldCharacter, HeldNumber};
 use crate::opening::{begin_call, event_of};
 use crate::stage::{Event, Stage};
 use crate::surroundings::Surroundings;
@@ -72,7 +72,8 @@ pub(crate) fn begin_macro<R: MacroFunctions>(
         None => Ok(Event::Refused(OUT_OF_PROFILE, at.saturating_sub(1))),
         Some(name) => {
             if name.is_dispatch() {
-                return Ok(Event::Stage(Stage::Number(c, HeldNumber::none())));
+                let character = HeldCharacter::new(c);
+                return Ok(Event::Stage(Stage::Number(character, HeldNumber::none())));
             }
             begin_call(with, frames, Invoked::of_macro(function_of(name), c), at)
         }
@@ -113,14 +114,13 @@ pub(crate) fn in_call_token<R: MacroFunctions>(
 pub(crate) fn in_number<R: MacroFunctions>(
     with: &Surroundings<'_, R>,
     frames: &mut Frames,
-    character: u8,
+    character: HeldCharacter,
     mut number: HeldNumber,
     at: usize,
     c: u8,
 ) -> Result<Event, AllocError>
     requires answers { R.answers with.now.macros.now }
     requires place { at ≤ with.now.limits.text }
-    requires character { character < 128 }
     ensures { (cs : List ℕ) → IfOk result (λ event. Brings
         (setting_of with.now.limits with.now.readtable.now with.now.packages.now.0 with.now.current.now
         (R.registered with.now.macros.now) R.Meaning.way R.Meaning.answer)
@@ -131,7 +131,7 @@ pub(crate) fn in_number<R: MacroFunctions>(
 {
     match number_byte(with.readtable, &with.limits, &mut number, at, c) {
         LineByte::More => Ok(Event::Stage(Stage::Number(character, number))),
-        LineByte::Ended => sub_byte(with, frames, character, number, at, c),
+        LineByte::Ended => sub_byte(with, frames, character.get(), number, at, c),
         LineByte::Refused(code) => Ok(Event::Refused(code, at)),
     }
 }

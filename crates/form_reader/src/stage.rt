@@ -4,12 +4,12 @@ ghost use Rattle.token_scan.specs.Tokens.{kind, typed};
 ghost use Rattle.token_scan.specs.Spelling.{ends_tokens};
 ghost use Rattle.token_scan.specs.Scans.{begun};
 ghost use Rattle.form_reader.specs.Feeding.{token_read};
-ghost use Rattle.form_reader.specs.Begun.{BegunFeeds, IsBegunByte};
+ghost use Rattle.form_reader.specs.Begun.{BegunFeeds, FirstFeeds, IsBegunByte};
 
 use crate::bytes::LineByte;
 use crate::call::Invoked;
 use crate::found::Found;
-use crate::held::{HeldNumber, HeldText};
+use crate::held::{HeldCharacter, HeldNumber, HeldText};
 use crate::limits::Limits;
 use crate::tokens::token_byte;
 use crate::way::Keep;
@@ -46,6 +46,15 @@ pub enum BegunByte {
     Refused(u16),
 }
 
+/// What the first byte is to a token.
+#[derive(Drop)]
+pub enum FirstByte {
+    /// It is taken.
+    More(BegunScan),
+    /// It is refused.
+    Refused(u16),
+}
+
 /// A token from its first byte `c` on, which is at `at`.
 pub(crate) fn first_byte(
     alloc: Global,
@@ -53,18 +62,17 @@ pub(crate) fn first_byte(
     limits: &Limits,
     at: usize,
     c: u8,
-) -> Result<BegunByte, AllocError>
+) -> Result<FirstByte, AllocError>
     requires place { at ≤ limits.now.text }
     requires begins { IsFalse (ends_tokens (kind (typed readtable.now c))) }
-    ensures feeds { (cs : List ℕ) → IfOk result (λ fed.
-        BegunFeeds readtable.now limits.now at c cs fed (token_read readtable.now limits.now (begun limits.now.token) at (c ∷ cs))) }
-    ensures ended { IfOk result IsBegunByte }
+    ensures { (cs : List ℕ) → IfOk result (λ fed.
+        FirstFeeds readtable.now limits.now at cs fed (token_read readtable.now limits.now (begun limits.now.token) at (c ∷ cs))) }
 {
     let mut scan = TokenScan::begin(alloc, limits.token);
     match token_byte(readtable, limits, &mut scan, at, c)? {
-        LineByte::More => Ok(BegunByte::More(BegunScan { scan })),
-        LineByte::Ended => Ok(BegunByte::Ended(scan.into_marks())),
-        LineByte::Refused(code) => Ok(BegunByte::Refused(code)),
+        LineByte::More => Ok(FirstByte::More(BegunScan { scan })),
+        LineByte::Ended => unreachable!(),
+        LineByte::Refused(code) => Ok(FirstByte::Refused(code)),
     }
 }
 
@@ -110,7 +118,7 @@ pub enum Stage {
     /// In a block: how many blocks are open inside it, and the byte before, if it may begin a pair.
     Block(Invoked, (usize, u8)),
     /// After this dispatching character, in the number.
-    Number(u8, HeldNumber),
+    Number(HeldCharacter, HeldNumber),
 }
 
 /// What a call or a byte brings.

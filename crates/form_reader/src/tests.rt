@@ -1,5 +1,7 @@
 //! The limits, and the laws.
-use crate::{Limits, forms_are_framed, reading_goes_on};
+use crate::{
+    Limits, forms_are_decided, forms_are_framed, reading_goes_on, spaced_forms_are_framed,
+};
 
 #[test]
 fn limits_and_laws(rt: HostRuntime) {
@@ -13,5 +15,7 @@ fn limits_and_laws(rt: HostRuntime) {
         assert_eq!(rt; limits.nesting, nesting);
     }
     forms_are_framed();
+    spaced_forms_are_framed();
+    forms_are_decided();
     reading_goes_on();
 }

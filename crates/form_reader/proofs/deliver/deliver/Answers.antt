@@ -8,35 +8,47 @@ use Rattle.form_reader.proofs.Deliveries.{taken_then, none_left}
 use Rattle.form_reader.proofs.deliver.deliver.Goals as goal
 
 pub calls-init : goal.calls-init
-calls-init g c = λ cs. refl
+calls-init g c = (λ cs. refl, omega arith)
 
 pub returns-in-Stays : goal.returns-in-Stays
-returns-in-Stays g c = λ cs.
-    let setting = setting_of c.args.with.now.limits c.args.with.now.readtable.now c.args.with.now.packages.now.0 c.args.with.now.current.now
-    (g.R.MacroFunctions.registered c.args.with.now.macros.now) g.R.Meaning.Meaning.way g.R.Meaning.Meaning.answer in
-    taken_then setting c.args.frames.now c.calls.frames c.pop.new.self c.args.found c.calls.found c.in-Some.frame c.in_ok-token.field-0 _ c.args.at c.len.result cs
-    c.calls.invariant c.in-Some.ensures c.len.ensures c.in_ok-token.ensures c.in-Stays.is
-    ∙ ap (λ (fs : List OpenCall). run setting.table setting.limits (without_space setting.table c.in-Stays.token (between setting fs)) c.args.at cs) (sym c.in_ok-push-in-Stays.ensures)
+returns-in-Stays g c = record {
+  delivers = λ cs.
+      let setting = setting_of c.args.with.now.limits c.args.with.now.readtable.now c.args.with.now.packages.now.0 c.args.with.now.current.now
+      (g.R.MacroFunctions.registered c.args.with.now.macros.now) g.R.Meaning.Meaning.way g.R.Meaning.Meaning.answer in
+      taken_then setting c.args.frames.now c.calls.frames c.pop.new.self c.args.found c.calls.found c.in-Some.frame c.in_ok-token.field-0 _ c.args.at c.len.result cs
+      c.calls.invariant.0 c.in-Some.ensures c.len.ensures c.in_ok-token.ensures c.in-Stays.is
+      ∙ ap (λ (fs : List OpenCall). run setting.table setting.limits (without_space setting.table c.in-Stays.token (between setting fs)) c.args.at cs) (sym c.in_ok-push-in-Stays.ensures);
+  shorter = omega (arith, c.calls.invariant.1, ap (λ (fs : List OpenCall). length fs) c.in-Some.ensures, ap (λ (fs : List OpenCall). length fs) c.in_ok-push-in-Stays.ensures);
+}
 
 pub calls-smaller : goal.calls-smaller
 calls-smaller g c = omega (arith, ap (λ (fs : List OpenCall). length fs) c.in-Some.ensures)
 
 pub calls-preserved : goal.calls-preserved
-calls-preserved g c = λ cs.
-    let setting = setting_of c.args.with.now.limits c.args.with.now.readtable.now c.args.with.now.packages.now.0 c.args.with.now.current.now
-    (g.R.MacroFunctions.registered c.args.with.now.macros.now) g.R.Meaning.Meaning.way g.R.Meaning.Meaning.answer in
-    taken_then setting c.args.frames.now c.calls.frames c.pop.new.self c.args.found c.calls.found c.in-Some.frame c.in_ok-token.field-0 _ c.args.at c.len.result cs
-    c.calls.invariant c.in-Some.ensures c.len.ensures c.in_ok-token.ensures c.in-Gives.is
+calls-preserved g c = (
+  λ cs.
+      let setting = setting_of c.args.with.now.limits c.args.with.now.readtable.now c.args.with.now.packages.now.0 c.args.with.now.current.now
+      (g.R.MacroFunctions.registered c.args.with.now.macros.now) g.R.Meaning.Meaning.way g.R.Meaning.Meaning.answer in
+      taken_then setting c.args.frames.now c.calls.frames c.pop.new.self c.args.found c.calls.found c.in-Some.frame c.in_ok-token.field-0 _ c.args.at c.len.result cs
+      c.calls.invariant.0 c.in-Some.ensures c.len.ensures c.in_ok-token.ensures c.in-Gives.is,
+  omega (arith, c.calls.invariant.1, ap (λ (fs : List OpenCall). length fs) c.in-Some.ensures),
+)
 
 pub returns-in-Refused : goal.returns-in-Refused
-returns-in-Refused g c = λ cs.
-    let setting = setting_of c.args.with.now.limits c.args.with.now.readtable.now c.args.with.now.packages.now.0 c.args.with.now.current.now
-    (g.R.MacroFunctions.registered c.args.with.now.macros.now) g.R.Meaning.Meaning.way g.R.Meaning.Meaning.answer in
-    taken_then setting c.args.frames.now c.calls.frames c.pop.new.self c.args.found c.calls.found c.in-Some.frame c.in_ok-token.field-0 _ c.args.at c.len.result cs
-    c.calls.invariant c.in-Some.ensures c.len.ensures c.in_ok-token.ensures c.in-Refused.is
+returns-in-Refused g c = record {
+  delivers = λ cs.
+      let setting = setting_of c.args.with.now.limits c.args.with.now.readtable.now c.args.with.now.packages.now.0 c.args.with.now.current.now
+      (g.R.MacroFunctions.registered c.args.with.now.macros.now) g.R.Meaning.Meaning.way g.R.Meaning.Meaning.answer in
+      taken_then setting c.args.frames.now c.calls.frames c.pop.new.self c.args.found c.calls.found c.in-Some.frame c.in_ok-token.field-0 _ c.args.at c.len.result cs
+      c.calls.invariant.0 c.in-Some.ensures c.len.ensures c.in_ok-token.ensures c.in-Refused.is;
+  shorter = omega (arith, c.calls.invariant.1, ap (λ (fs : List OpenCall). length fs) c.in-Some.ensures);
+}
 
 pub returns : goal.returns
-returns g c = λ cs.
-    let setting = setting_of c.args.with.now.limits c.args.with.now.readtable.now c.args.with.now.packages.now.0 c.args.with.now.current.now
-    (g.R.MacroFunctions.registered c.args.with.now.macros.now) g.R.Meaning.Meaning.way g.R.Meaning.Meaning.answer in
-    (none_left setting c.args.frames.now c.calls.frames c.args.found c.calls.found c.args.at cs c.calls.invariant c.in_default.ensures.0, c.in_default.ensures.1)
+returns g c = record {
+  delivers = λ cs.
+      let setting = setting_of c.args.with.now.limits c.args.with.now.readtable.now c.args.with.now.packages.now.0 c.args.with.now.current.now
+      (g.R.MacroFunctions.registered c.args.with.now.macros.now) g.R.Meaning.Meaning.way g.R.Meaning.Meaning.answer in
+      (none_left setting c.args.frames.now c.calls.frames c.args.found c.calls.found c.args.at cs c.calls.invariant.0 c.in_default.ensures.0, c.in_default.ensures.1);
+  shorter = omega (arith, c.calls.invariant.1, ap (λ (fs : List OpenCall). length fs) c.in_default.ensures.1);
+}

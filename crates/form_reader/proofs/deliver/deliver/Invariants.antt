@@ -1,4 +1,4 @@
-use Rattle.std.proofs.Common.{◌≡◌, ℕ, List, length}
+use Rattle.std.proofs.Common.{◌≡◌, ◌≤◌, ℕ, List, length}
 use Rattle.form_reader.specs.Plans.{gives, run}
 use Rattle.form_reader.specs.Setting.{setting_of}
 use Rattle.form_reader.specs.Frames.{given}
@@ -8,8 +8,9 @@ abbrev pub invariant-calls : goal.invariant-calls
 invariant-calls g l =
     let setting = setting_of l.fn.with.limits l.fn.with.readtable.now l.fn.with.packages.now.0 l.fn.with.current.now
     (g.R.MacroFunctions.registered l.fn.with.macros.now) g.R.Meaning.Meaning.way g.R.Meaning.Meaning.answer in
-    (cs : List ℕ) → run setting.table setting.limits (given setting l.fn.frames (gives l.fn.found)) l.fn.at cs
-    ≡ run setting.table setting.limits (given setting l.frames (gives l.found)) l.fn.at cs
+    ((cs : List ℕ) → run setting.table setting.limits (given setting l.fn.frames (gives l.fn.found)) l.fn.at cs
+    ≡ run setting.table setting.limits (given setting l.frames (gives l.found)) l.fn.at cs)
+    × (length l.frames ≤ length l.fn.frames)
 
 abbrev pub decreases-calls : goal.decreases-calls
 decreases-calls g l = length l.frames

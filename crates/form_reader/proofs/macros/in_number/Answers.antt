@@ -1,6 +1,6 @@
 use Rattle.form_reader.specs.Setting.{setting_of}
 use Rattle.form_reader.proofs.Goings.{goes_on, fails}
-use Rattle.form_reader.proofs.Dispatching.{number_ended}
+use Rattle.form_reader.proofs.Dispatching.{number_ended, number_of}
 use Rattle.form_reader.proofs.macros.in_number.Goals as goal
 
 pub returns-in-More : goal.returns-in-More
@@ -13,7 +13,7 @@ pub returns-in-Ended : goal.returns-in-Ended
 returns-in-Ended g c = λ cs.
     let setting = setting_of c.args.with.now.limits c.args.with.now.readtable.now c.args.with.now.packages.now.0 c.args.with.now.current.now
     (g.R.MacroFunctions.registered c.args.with.now.macros.now) g.R.Meaning.Meaning.way g.R.Meaning.Meaning.answer in
-    number_ended setting c.args.frames.now _ c.args.character c.args.at c.args.c c.args.number _ cs c.sub_byte.result (c.in-Ended.ensures cs) (c.sub_byte.ensures cs)
+    number_ended setting c.args.frames.now _ c.args.character c.args.at c.args.c c.args.number _ cs c.sub_byte.result (c.in-Ended.ensures cs) (number_of setting c.args.frames.now _ _ _ c.args.at c.args.c _ cs c.sub_byte.result c.get.ensures.value (c.sub_byte.ensures cs))
 
 pub returns-in-Refused : goal.returns-in-Refused
 returns-in-Refused g c = λ cs.

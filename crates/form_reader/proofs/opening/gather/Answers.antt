@@ -1,4 +1,4 @@
-use Rattle.std.proofs.Common.{arith, sym, ◌∙◌}
+use Rattle.std.proofs.Common.{arith}
 use Rattle.form_reader.specs.Setting.{setting_of}
 use Rattle.form_reader.proofs.Beginnings.{next_deep_at, list_deep_at, until_deep_at, next_at, list_at, until_at, token_at, escaped_at, nothing_at}
 use Rattle.form_reader.proofs.opening.gather.Goals as goal

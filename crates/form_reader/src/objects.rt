@@ -1,0 +1,193 @@
+//! One byte at a place where an object may begin, after a token there, and in a token that is an object.
+ghost use Rattle.std.specs.Prelude.{◌≡◌, ◌≤◌, ◌<◌, ◌+◌, ◌^◌, ℕ, List, ◌∷◌, length, true, IfOk, IsTrue};
+ghost use Rattle.package_table.specs.Table.{IsPackage};
+ghost use Rattle.token_scan.specs.Marks.{are_ascii};
+ghost use Rattle.form_reader.specs.Delivering.{Passes};
+ghost use Rattle.form_reader.specs.Plans.{gives, run};
+ghost use Rattle.form_reader.specs.Setting.{setting_of};
+ghost use Rattle.form_reader.specs.Reading.{is_blank, token_found, without_space};
+ghost use Rattle.form_reader.specs.Frames.{given, between};
+ghost use Rattle.form_reader.specs.Resuming.{Brings, Moves, stage_gives};
+ghost use Rattle.form_reader.specs.declared.frame.Frame.{Frame as OpenCall};
+ghost use Rattle.form_reader.specs.declared.stage.Stage.TheVariants.{Token as AtToken};
+
+use crate::attempt::{alone, begin_token, stands_alone};
+use crate::close::close;
+use crate::deliver::{Delivered, deliver};
+use crate::found::Found;
+use crate::frame::Frames;
+use crate::macros::Moved;
+use crate::stage::{BegunByte, BegunScan, Event, Stage};
+use crate::surroundings::Surroundings;
+use crate::told::{TellError, Told, tell};
+use lisp_object::refusal::FORM_TOO_LONG;
+use readtable_core::Syntax;
+use std::alloc::AllocError;
+use token_scan::Marks;
+use user_macros::MacroFunctions;
+
+/// The byte `c` at `at`, where an object may begin.
+pub(crate) fn at_object<R: MacroFunctions>(
+    with: &Surroundings<'_, R>,
+    frames: &mut Frames,
+    at: usize,
+    c: u8,
+) -> Result<Event, AllocError>
+    requires answers { R.answers with.now.macros.now }
+    requires place { at ≤ with.now.limits.text }
+    requires nesting { length frames.old ≤ with.now.limits.nesting }
+    ensures { (cs : List ℕ) → IfOk result (λ event. Brings
+        (setting_of with.now.limits with.now.readtable.now with.now.packages.now.0 with.now.current.now
+        (R.registered with.now.macros.now) R.Meaning.way R.Meaning.answer)
+        frames.new (at + 1) cs event (run with.now.readtable.now with.now.limits (between
+        (setting_of with.now.limits with.now.readtable.now with.now.packages.now.0 with.now.current.now
+        (R.registered with.now.macros.now) R.Meaning.way R.Meaning.answer)
+        frames.old) at (c ∷ cs))) }
+{
+    if let Some(frame) = frames.pop_closed_by(c) {
+        if at >= with.limits.text {
+            return Ok(Event::Refused(FORM_TOO_LONG, at));
+        }
+        return close(with, frames.len(), frame, at + 1);
+    }
+    if stands_alone(with.readtable.syntax(c)) {
+        alone(with, frames, at, c)
+    } else {
+        begin_token(with, at, c)
+    }
+}
+
+/// The byte `c` at `at`, where an object may begin after a token that this byte ended.
+pub(crate) fn after_token<R: MacroFunctions>(
+    with: &Surroundings<'_, R>,
+    frames: &mut Frames,
+    at: usize,
+    c: u8,
+) -> Result<Event, AllocError>
+    requires answers { R.answers with.now.macros.now }
+    requires place { at ≤ with.now.limits.text }
+    requires nesting { length frames.old ≤ with.now.limits.nesting }
+    ensures { (cs : List ℕ) → IfOk result (λ event. Brings
+        (setting_of with.now.limits with.now.readtable.now with.now.packages.now.0 with.now.current.now
+        (R.registered with.now.macros.now) R.Meaning.way R.Meaning.answer)
+        frames.new (at + 1) cs event (run with.now.readtable.now with.now.limits (without_space with.now.readtable.now true (between
+        (setting_of with.now.limits with.now.readtable.now with.now.packages.now.0 with.now.current.now
+        (R.registered with.now.macros.now) R.Meaning.way R.Meaning.answer)
+        frames.old)) at (c ∷ cs))) }
+{
+    if is_blank(with.readtable.syntax(c)) {
+        if at >= with.limits.text {
+            return Ok(Event::Refused(FORM_TOO_LONG, at));
+        }
+        return Ok(Event::Stage(Stage::Object));
+    }
+    at_object(with, frames, at, c)
+}
+
+fn is_blank(syntax: Syntax) -> bool
+    ensures { result ≡ is_blank syntax }
+{
+    match syntax {
+        Syntax::Whitespace => true,
+        Syntax::TerminatingMacro => false,
+        Syntax::NonTerminatingMacro => false,
+        Syntax::Invalid => false,
+        Syntax::Constituent => false,
+        Syntax::SingleEscape => false,
+        Syntax::MultipleEscape => false,
+    }
+}
+
+/// What a byte is after what was found before it.
+#[derive(Drop)]
+pub enum Passed {
+    /// It is taken, and brings this.
+    Taken(Event),
+    /// The outermost attempt came to this before it.
+    Done(Found),
+}
+
+/// The byte `c` at `at`, where this was found before it in the innermost call.
+pub(crate) fn after_found<R: MacroFunctions>(
+    with: &Surroundings<'_, R>,
+    frames: &mut Frames,
+    found: Found,
+    at: usize,
+    c: u8,
+) -> Result<Passed, AllocError>
+    requires answers { R.answers with.now.macros.now }
+    requires place { at ≤ with.now.limits.text }
+    requires nesting { length frames.old ≤ with.now.limits.nesting }
+    ensures { (cs : List ℕ) → IfOk result (λ passed. Passes
+        (setting_of with.now.limits with.now.readtable.now with.now.packages.now.0 with.now.current.now
+        (R.registered with.now.macros.now) R.Meaning.way R.Meaning.answer)
+        frames.new at c cs passed (run with.now.readtable.now with.now.limits (given
+        (setting_of with.now.limits with.now.readtable.now with.now.packages.now.0 with.now.current.now
+        (R.registered with.now.macros.now) R.Meaning.way R.Meaning.answer)
+        frames.old (gives found)) at (c ∷ cs))) }
+{
+    match deliver(with, frames, found, at)? {
+        Delivered::Waits(token) => {
+            if token {
+                Ok(Passed::Taken(after_token(with, frames, at, c)?))
+            } else {
+                Ok(Passed::Taken(at_object(with, frames, at, c)?))
+            }
+        }
+        Delivered::Done(found) => Ok(Passed::Done(found)),
+        Delivered::Refused(code, place) => Ok(Passed::Taken(Event::Refused(code, place))),
+    }
+}
+
+/// The byte `c` at `at`, in a token that is an object.
+pub(crate) fn in_token<R: MacroFunctions>(
+    with: &Surroundings<'_, R>,
+    scan: BegunScan,
+    at: usize,
+    c: u8,
+) -> Result<Moved, AllocError>
+    requires place { at ≤ with.now.limits.text }
+    requires current { IsPackage with.now.packages.now.0 with.now.current.now }
+    ensures { (frames : List OpenCall) (cs : List ℕ) → IfOk result (λ moved. Moves
+        (setting_of with.now.limits with.now.readtable.now with.now.packages.now.0 with.now.current.now
+        (R.registered with.now.macros.now) R.Meaning.way R.Meaning.answer)
+        frames at c cs moved (stage_gives
+        (setting_of with.now.limits with.now.readtable.now with.now.packages.now.0 with.now.current.now
+        (R.registered with.now.macros.now) R.Meaning.way R.Meaning.answer)
+        frames (AtToken scan) at (c ∷ cs))) }
+{
+    match scan.byte(with.readtable, &with.limits, at, c)? {
+        BegunByte::More(scan) => Ok(Moved::Taken(Event::Stage(Stage::Token(scan)))),
+        BegunByte::Ended(marks) => Ok(Moved::Before(token_end(with, marks, at)?)),
+        BegunByte::Refused(code) => Ok(Moved::Taken(Event::Refused(code, at))),
+    }
+}
+
+/// What a token comes to where it ends, at `at`.
+pub(crate) fn token_end<R: MacroFunctions>(
+    with: &Surroundings<'_, R>,
+    marks: Marks,
+    at: usize,
+) -> Result<Event, AllocError>
+    requires some { 0 < length marks.items }
+    requires ascii { IsTrue (are_ascii marks.items) }
+    requires current { IsPackage with.now.packages.now.0 with.now.current.now }
+    ensures { (frames : List OpenCall) (cs : List ℕ) → IfOk result (λ event. Brings
+        (setting_of with.now.limits with.now.readtable.now with.now.packages.now.0 with.now.current.now
+        (R.registered with.now.macros.now) R.Meaning.way R.Meaning.answer)
+        frames at cs event (run with.now.readtable.now with.now.limits (given
+        (setting_of with.now.limits with.now.readtable.now with.now.packages.now.0 with.now.current.now
+        (R.registered with.now.macros.now) R.Meaning.way R.Meaning.answer)
+        frames (token_found
+        (setting_of with.now.limits with.now.readtable.now with.now.packages.now.0 with.now.current.now
+        (R.registered with.now.macros.now) R.Meaning.way R.Meaning.answer)
+        marks.items)) at cs)) }
+{
+    let case = with.readtable.case();
+    match tell(with.alloc, case, with.packages, with.current, 10, marks) {
+        Ok(Told::Object(x)) => Ok(Event::Gives(Found::One(true, x))),
+        Ok(Told::Dot) => Ok(Event::Gives(Found::LoneDot)),
+        Err(TellError::OutOfMemory) => Err(AllocError),
+        Err(TellError::Refused(code)) => Ok(Event::Refused(code, at)),
+    }
+}
