@@ -1,5 +1,6 @@
 -- The loops that look for a conflict among the entries of a tree.
 --     contains-as_set      what `contains` gives
+--     one_left, none_left      what an item with the property, and the end of the loop, say of what was asked
 --     hit, missed      what an item with the property, and the end of the loop, say of the finite map
 use Rattle.std.proofs.Common.{◌≡◌, ℕ, Bool, true, false, cond, ◌||◌, List, [], ◌∷◌, is_some, Some, refl, sym, ap, ◌∙◌}
 use Rattle.std.specs.Global.{Vec}
@@ -11,7 +12,7 @@ use Rattle.std.specs.BTreeMap.{is_at}
 use Rattle.std.specs.FinMap as finite
 use Rattle.std.specs.FinMap.{find, get-from_entries}
 use Rattle.package_table.specs.Table.{Name, name_cmp}
-use Rattle.package_table.specs.Shown.{as_map, as_set}
+use Rattle.package_table.specs.Kept.{as_map, as_set}
 use Rattle.package_table.proofs.Names.{name_total}
 use Rattle.package_table.proofs.Seen.{read, read_keys, by_name, entries-as_map}
 
@@ -34,3 +35,10 @@ module _ {X V : Type 0} (g : X → V) (test : Name × V → Bool) (all rest : Li
   pub hit : (e : Vec ℕ × X) (later : List (Vec ℕ × X)) → rest ≡ e ∷ later → test (e.0.items, g e.1) ≡ true → true ≡ list_any test (finite.entries (as_map g all))
   hit e later is passes =
       sym (ap (λ es. list_any test (read g es)) is ∙ ap (λ b. b || list_any test (read g later)) passes) ∙ passed ∙ sym (ap (list_any test) (entries-as_map g all ordered))
+
+module _ {X V : Type 0} (g : X → V) (test : Name × V → Bool) (rest : List (Vec ℕ × X)) (asked : Bool) (passed : list_any test (read g rest) ≡ asked) where
+  pub none_left : rest ≡ [] → false ≡ asked
+  none_left none = sym (ap (λ es. list_any test (read g es)) none) ∙ passed
+
+  pub one_left : (e : Vec ℕ × X) (later : List (Vec ℕ × X)) → rest ≡ e ∷ later → test (e.0.items, g e.1) ≡ true → true ≡ asked
+  one_left e later is passes = sym (ap (λ es. list_any test (read g es)) is ∙ ap (λ b. b || list_any test (read g later)) passes) ∙ passed

@@ -7,11 +7,12 @@ use Rattle.std.specs.Option.{option_map, option_map_or, option_and_then}
 use Rattle.std.specs.Map.{lookup, set_value}
 use Rattle.std.specs.FinMap as finite
 use Rattle.lisp_object.proofs.Tree.{insert_same}
-use Rattle.package_table.specs.declared.entry.Contents.{Contents}
+use Rattle.package_table.specs.declared.table.contents.Contents.{Contents}
 use Rattle.package_table.specs.declared.entry.Symbol.{Symbol}
 use Rattle.package_table.specs.Table.{Name, name_cmp, Entry, Package, entry_at, with_package}
 use Rattle.package_table.specs.Undo.{put_back}
-use Rattle.package_table.specs.Shown.{as_map, entry_of, package_of}
+use Rattle.package_table.specs.Entries.{entry_of}
+use Rattle.package_table.specs.Kept.{as_map, package_of}
 use Rattle.package_table.proofs.Names.{name_total, name_exact}
 use Rattle.package_table.proofs.Seen.{at, name_of, got_name, written_at}
 

@@ -13,10 +13,11 @@ use Rattle.std.specs.FinMap as finite
 use Rattle.std.specs.FinMap.{is_sorted}
 use Rattle.lisp_object.proofs.Tree as tree
 use Rattle.lisp_object.proofs.TreeEntries as tree_entries
-use Rattle.package_table.specs.declared.entry.Contents.{Contents}
+use Rattle.package_table.specs.declared.table.contents.Contents.{Contents}
 use Rattle.package_table.specs.Table.{Name, name_cmp, Table}
 use Rattle.package_table.specs.Readers.{present, used_names}
-use Rattle.package_table.specs.Shown.{as_map, as_set, entry_of, package_of}
+use Rattle.package_table.specs.Entries.{entry_of}
+use Rattle.package_table.specs.Kept.{as_map, as_set, package_of}
 use Rattle.package_table.proofs.Names.{name_total, name_exact}
 
 pub copied : {A B : Type 0} (g : A → B) (r : Option (Bor A)) → option_map (λ x. g x.now) r ≡ option_map g (option_copied r)

@@ -7,4 +7,6 @@ pub mod Readers
 pub mod Changes
 pub mod Growth
 pub mod Undo
+pub mod Entries
+pub mod Kept
 pub mod Shown

@@ -2,32 +2,14 @@
 use Rattle.std.specs.Prelude.{◌≡◌, ◌<◌, ℕ, List, [], ◌∷◌, map, option_map, All}
 use Rattle.std.specs.Global.{Vec}
 use Rattle.std.specs.Vec.{vec_len, vec_capacity}
-use Rattle.std.specs.BTreeMap.{BTreeMap}
-use Rattle.std.specs.FinMap as finite
-use Rattle.std.specs.FinSet as set
-use Rattle.package_table.specs.declared.entry.Symbol.{Symbol}
-use Rattle.package_table.specs.declared.entry.Contents.{Contents}
 use Rattle.package_table.specs.declared.journal.Note.{Note}
 use Rattle.package_table.specs.declared.journal.Note.TheVariants.{Made, Put, Used}
 use Rattle.package_table.specs.declared.journal.Mark.{Mark}
 use Rattle.package_table.specs.declared.packages.Packages.TheInside.{Inside}
-use Rattle.package_table.specs.Table.{name_cmp, Entry, Package, Table, Tables, IsSound, symbol_count}
+use Rattle.package_table.specs.Table.{Table, Tables, IsSound, symbol_count}
+use Rattle.package_table.specs.Entries.{entry_of}
+pub use Rattle.package_table.specs.Kept.{as_map}
 use Rattle.package_table.specs.Undo.{Change, made, put, used, Marked, tables_at}
-
-abbrev pub as_map : {X V : Type 0} → (X → V) → List (Vec ℕ × X) → finite.FinMap name_cmp V
-as_map g es = finite.from_entries (map (λ e. (e.0.items, g e.1)) es)
-
-abbrev pub as_set : List (Vec ℕ) → set.FinSet name_cmp
-as_set ks = finite.from_entries (map (λ k. (k.items, tt {0})) ks)
-
-abbrev pub entry_of : Symbol → Entry
-entry_of s = record { home = s.home.items; external = s.external }
-
-abbrev pub package_of : Contents → Package
-package_of c = record { symbols = as_map entry_of c.symbols.entries; uses = as_set c.uses.keys }
-
-abbrev pub table_of : BTreeMap (Vec ℕ) Contents → Table
-table_of table = as_map package_of table.entries
 
 -- what a note says
 abbrev pub change_of : Note → Change
@@ -52,7 +34,7 @@ has_room (m ∷ []) = vec_len m.notes < vec_capacity m.notes
 has_room (m ∷ n ∷ ms) = has_room (n ∷ ms)
 
 abbrev pub tables_of : Inside → Tables
-tables_of a = (table_of a.table, map (λ m. m.0) (marked_tables a.marks.items (table_of a.table)))
+tables_of a = (a.table, map (λ m. m.0) (marked_tables a.marks.items a.table))
 
 -- sound packages, and the number of their symbols
 abbrev pub IsCounted : Table × ℕ → Type 0
@@ -60,6 +42,6 @@ IsCounted m = IsSound m.0 × (m.1 ≡ symbol_count m.0)
 
 -- the packages are sound, now and at each mark, and their symbols are counted
 pub record IsKept (a : Inside) : Type 0 where
-  pub sound : IsSound (table_of a.table)
-  pub counted : a.count ≡ symbol_count (table_of a.table)
-  pub marked : All IsCounted (marked_tables a.marks.items (table_of a.table))
+  pub sound : IsSound a.table
+  pub counted : a.count ≡ symbol_count a.table
+  pub marked : All IsCounted (marked_tables a.marks.items a.table)

@@ -2,39 +2,38 @@
 ghost use Rattle.std.specs.Prelude.{◌≡◌, IfErr, IfOk};
 ghost use Rattle.package_table.specs.Changes.{after_export, export_changes, with_external, Gives, RunsOutOnlyIf};
 ghost use Rattle.package_table.specs.Growth.{Grows, Tells};
-ghost use Rattle.package_table.specs.Shown.{marked_tables, table_of};
+ghost use Rattle.package_table.specs.Shown.{marked_tables};
 
-use crate::entry::{Contents, Symbol};
-use crate::find::external_home;
+use crate::entry::Symbol;
 use crate::journal::Mark;
 use crate::put::put_entry;
-use crate::users::{finds_this, has_package, is_locked, user_finds_other};
+use crate::find::is_locked;
 use crate::{PackageError, Packages};
 use std::alloc::Global;
-use std::collections::BTreeMap;
+use crate::table::PackageTable;
 
 // The first reason to refuse that this symbol becomes external in `owner`.
 fn export_refusal(
-    table: &BTreeMap<Vec<u8>, Contents>,
+    table: &PackageTable,
     owner: &[u8],
     home: &[u8],
     name: &[u8],
 ) -> Result<(), PackageError>
-    ensures gives { let t = table_of table.now in
+    ensures gives { let t = table.now in
         Gives (λ _. with_external t owner.now home.now name.now) result
         (after_export t owner.now home.now name.now) }
-    ensures memory { IfErr result (RunsOutOnlyIf (export_changes (table_of table.now) owner.now name.now)) }
+    ensures memory { IfErr result (RunsOutOnlyIf (export_changes table.now owner.now name.now)) }
 {
-    if !has_package(table, owner) {
+    if !table.has_package(owner) {
         return Err(PackageError::NoSuchPackage);
     }
     if is_locked(owner) {
         return Err(PackageError::PackageIsLocked);
     }
-    if !finds_this(table, owner, home, name) {
+    if !table.finds_this(owner, home, name) {
         return Err(PackageError::NotAccessible);
     }
-    if user_finds_other(table, owner, home, name) {
+    if table.user_finds_other(owner, home, name) {
         return Err(PackageError::NameConflict);
     }
     Ok(())
@@ -42,21 +41,21 @@ fn export_refusal(
 
 fn export_symbol(
     alloc: Global,
-    table: &mut BTreeMap<Vec<u8>, Contents>,
+    table: &mut PackageTable,
     marks: &mut Vec<Mark>,
     owner: &[u8],
     home: &[u8],
     name: &[u8],
 ) -> Result<bool, PackageError>
-    ensures gives { Gives (λ _. table_of table.new) result
-        (after_export (table_of table.old) owner.now home.now name.now) }
-    ensures changed { IfOk result (λ changed. changed ≡ export_changes (table_of table.old) owner.now name.now) }
-    ensures memory { IfErr result (RunsOutOnlyIf (export_changes (table_of table.old) owner.now name.now)) }
-    ensures unchanged { IfErr result (λ _. table_of table.new ≡ table_of table.old) }
-    ensures marked { marked_tables marks.new.items (table_of table.new) ≡ marked_tables marks.old.items (table_of table.old) }
+    ensures gives { Gives (λ _. table.new) result
+        (after_export table.old owner.now home.now name.now) }
+    ensures changed { IfOk result (λ changed. changed ≡ export_changes table.old owner.now name.now) }
+    ensures memory { IfErr result (RunsOutOnlyIf (export_changes table.old owner.now name.now)) }
+    ensures unchanged { IfErr result (λ _. table.new ≡ table.old) }
+    ensures marked { marked_tables marks.new.items table.new ≡ marked_tables marks.old.items table.old }
 {
     export_refusal(table, owner, home, name)?;
-    if external_home(table, owner, name).is_some() {
+    if table.external_home(owner, name).is_some() {
         return Ok(false);
     }
     let symbol = Symbol {

@@ -3,35 +3,35 @@ ghost use Rattle.std.specs.Prelude.{◌≡◌, IfErr, IfOk};
 ghost use Rattle.package_table.specs.Table.{IsPresent};
 ghost use Rattle.package_table.specs.Changes.{after_import, import_changes, with_present, Gives, RunsOutOnlyIf};
 ghost use Rattle.package_table.specs.Growth.{Grows, Tells};
-ghost use Rattle.package_table.specs.Shown.{marked_tables, table_of};
+ghost use Rattle.package_table.specs.Shown.{marked_tables};
 
-use crate::entry::{Contents, Symbol};
+use crate::entry::Symbol;
 use crate::journal::Mark;
 use crate::put::put_entry;
-use crate::users::{finds_other, has_package, is_locked, is_present};
+use crate::find::is_locked;
 use crate::{PackageError, Packages};
 use std::alloc::Global;
-use std::collections::BTreeMap;
+use crate::table::PackageTable;
 
 // The first reason to refuse that this symbol becomes present in `owner`.
 fn import_refusal(
-    table: &BTreeMap<Vec<u8>, Contents>,
+    table: &PackageTable,
     owner: &[u8],
     home: &[u8],
     name: &[u8],
 ) -> Result<(), PackageError>
-    ensures gives { let t = table_of table.now in
+    ensures gives { let t = table.now in
         Gives (λ _. with_present t owner.now home.now name.now) result
         (after_import t owner.now home.now name.now) }
-    ensures memory { IfErr result (RunsOutOnlyIf (import_changes (table_of table.now) owner.now name.now)) }
+    ensures memory { IfErr result (RunsOutOnlyIf (import_changes table.now owner.now name.now)) }
 {
-    if !has_package(table, owner) {
+    if !table.has_package(owner) {
         return Err(PackageError::NoSuchPackage);
     }
     if is_locked(owner) {
         return Err(PackageError::PackageIsLocked);
     }
-    if finds_other(table, owner, home, name) {
+    if table.finds_other(owner, home, name) {
         return Err(PackageError::NameConflict);
     }
     Ok(())
@@ -39,21 +39,21 @@ fn import_refusal(
 
 fn import_symbol(
     alloc: Global,
-    table: &mut BTreeMap<Vec<u8>, Contents>,
+    table: &mut PackageTable,
     marks: &mut Vec<Mark>,
     owner: &[u8],
     home: &[u8],
     name: &[u8],
 ) -> Result<bool, PackageError>
-    ensures gives { Gives (λ _. table_of table.new) result
-        (after_import (table_of table.old) owner.now home.now name.now) }
-    ensures changed { IfOk result (λ changed. changed ≡ import_changes (table_of table.old) owner.now name.now) }
-    ensures memory { IfErr result (RunsOutOnlyIf (import_changes (table_of table.old) owner.now name.now)) }
-    ensures unchanged { IfErr result (λ _. table_of table.new ≡ table_of table.old) }
-    ensures marked { marked_tables marks.new.items (table_of table.new) ≡ marked_tables marks.old.items (table_of table.old) }
+    ensures gives { Gives (λ _. table.new) result
+        (after_import table.old owner.now home.now name.now) }
+    ensures changed { IfOk result (λ changed. changed ≡ import_changes table.old owner.now name.now) }
+    ensures memory { IfErr result (RunsOutOnlyIf (import_changes table.old owner.now name.now)) }
+    ensures unchanged { IfErr result (λ _. table.new ≡ table.old) }
+    ensures marked { marked_tables marks.new.items table.new ≡ marked_tables marks.old.items table.old }
 {
     import_refusal(table, owner, home, name)?;
-    if is_present(table, owner, name) {
+    if table.is_present(owner, name) {
         return Ok(false);
     }
     let symbol = Symbol {

@@ -4,19 +4,17 @@ ghost use Rattle.package_table.specs.Table.{IsPackage, symbol_count};
 ghost use Rattle.package_table.specs.Lookup.{found};
 ghost use Rattle.package_table.specs.Changes.{after_intern, intern_changes, with_new_symbol, Gives};
 ghost use Rattle.package_table.specs.Growth.{Grows, IsSameBut, Tells};
-ghost use Rattle.package_table.specs.Shown.{marked_tables, table_of};
+ghost use Rattle.package_table.specs.Shown.{marked_tables};
 
-use crate::entry::{Contents, Symbol};
-use crate::find::home_of;
+use crate::entry::Symbol;
 use crate::journal::Mark;
 use crate::limits::{MAX_SYMBOL_NAME, MAX_SYMBOLS};
 use crate::put::put_entry;
 use crate::standardized::{COMMON_LISP, KEYWORD};
-use crate::users::has_package;
 use crate::{PackageError, Packages};
 use lisp_object::Bytes;
 use std::alloc::{AllocError, Global};
-use std::collections::BTreeMap;
+use crate::table::PackageTable;
 
 /// The symbol that `intern` gives: the name of its home, and whether it was made.
 #[derive(Debug, Drop)]
@@ -28,16 +26,16 @@ pub struct Interned {
 // Makes a new symbol of the package `owner`, which exists, present there.
 fn put_new(
     alloc: Global,
-    table: &mut BTreeMap<Vec<u8>, Contents>,
+    table: &mut PackageTable,
     marks: &mut Vec<Mark>,
     owner: &[u8],
     name: &[u8],
 ) -> Result<(), AllocError>
-    requires { IsPackage (table_of table.old) owner.now }
+    requires { IsPackage table.old owner.now }
     ensures ok { OnOk result
-        (table_of table.new ≡ with_new_symbol (table_of table.old) owner.now name.now) }
-    ensures err { IfErr result (λ _. table_of table.new ≡ table_of table.old) }
-    ensures marked { marked_tables marks.new.items (table_of table.new) ≡ marked_tables marks.old.items (table_of table.old) }
+        (table.new ≡ with_new_symbol table.old owner.now name.now) }
+    ensures err { IfErr result (λ _. table.new ≡ table.old) }
+    ensures marked { marked_tables marks.new.items table.new ≡ marked_tables marks.old.items table.old }
 {
     let symbol = Symbol {
         home: Vec::from_slice(alloc, owner)?,
@@ -56,24 +54,24 @@ fn put_new(
 
 fn intern_symbol(
     alloc: Global,
-    table: &mut BTreeMap<Vec<u8>, Contents>,
+    table: &mut PackageTable,
     marks: &mut Vec<Mark>,
     count: &mut u64,
     owner: &[u8],
     name: &[u8],
 ) -> Result<Interned, PackageError>
-    requires { count.old ≡ symbol_count (table_of table.old) }
-    ensures gives { Gives (λ interned. (interned.home, table_of table.new)) result
-        (after_intern (table_of table.old) owner.now name.now) }
-    ensures is_new { IfOk result (λ interned. interned.is_new ≡ intern_changes (table_of table.old) owner.now name.now) }
-    ensures unchanged { IfErr result (λ _. table_of table.new ≡ table_of table.old) }
-    ensures counted { count.new ≡ symbol_count (table_of table.new) }
-    ensures marked { marked_tables marks.new.items (table_of table.new) ≡ marked_tables marks.old.items (table_of table.old) }
+    requires { count.old ≡ symbol_count table.old }
+    ensures gives { Gives (λ interned. (interned.home, table.new)) result
+        (after_intern table.old owner.now name.now) }
+    ensures is_new { IfOk result (λ interned. interned.is_new ≡ intern_changes table.old owner.now name.now) }
+    ensures unchanged { IfErr result (λ _. table.new ≡ table.old) }
+    ensures counted { count.new ≡ symbol_count table.new }
+    ensures marked { marked_tables marks.new.items table.new ≡ marked_tables marks.old.items table.old }
 {
-    if !has_package(table, owner) {
+    if !table.has_package(owner) {
         return Err(PackageError::NoSuchPackage);
     }
-    if let Some(home) = home_of(table, owner, name) {
+    if let Some(home) = table.home_of(owner, name) {
         let home = Bytes::from_slice(alloc, home)?;
         return Ok(Interned {
             home,

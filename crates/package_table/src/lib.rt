@@ -8,16 +8,14 @@
 //!
 //! - `packages`: `Packages`, and its calls
 //! - `queries`: what callers ask of them
-//! - `entry`: what the table has at a package's name, and at a symbol's
+//! - `table`: `PackageTable`, the packages by their names: how they are kept, it alone knows
+//! - `entry`: what a package has at the name of a symbol
 //! - `standardized`, `limits`: the names of the first packages, and how much there may be
-//! - `initial`: the first packages
-//! - `readers`: the lists of names
-//! - `find`, `resolve`: look-ups, which take no memory
-//! - `make`, `intern`, `export`, `import`, `use_package`: the calls that write, over `users` (what is asked before a change) and
-//!   `put` (single changes). `specs/Changes.antt` says what each makes of a table, or why it refuses, and whether it
+//! - `find`, `resolve`: names of packages, and what the name in a token stands for; they take no memory
+//! - `make`, `intern`, `export`, `import`, `use_package`: the calls that write, over `put` (single changes, noted). `specs/Changes.antt` says what each makes of a table, or why it refuses, and whether it
 //!   changes it.
-//! - `marks`: `mark`, `back_to` and `settle`, over `journal` (what was changed since each mark) and `undo` (single changes
-//!   undone). The value of `Packages` has the marked tables after the table of now: calls that write leave them alone.
+//! - `marks`: `mark`, `back_to` and `settle`, over `journal` (what was changed since each mark) and `undo` (changes
+//!   undone, the last first). The value of `Packages` has the marked tables after the table of now: calls that write leave them alone.
 //! - `laws`: `look_up_laws`
 //! - `error`: `PackageError`
 //!
@@ -31,13 +29,11 @@
 //! `user_is_package`.
 #![tactic(auto)]
 
-mod copy;
 mod entry;
 mod error;
 mod export;
 mod find;
 mod import;
-mod initial;
 mod intern;
 mod journal;
 mod laws;
@@ -47,12 +43,11 @@ mod marks;
 mod packages;
 mod put;
 mod queries;
-mod readers;
 mod resolve;
 pub mod standardized;
+mod table;
 mod undo;
 mod use_package;
-mod users;
 
 pub use error::PackageError;
 pub use intern::Interned;

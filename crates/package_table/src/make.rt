@@ -1,30 +1,21 @@
 //! `make`: a new package.
 ghost use Rattle.std.specs.Prelude.{◌≡◌, ◌<◌, All, IfErr};
-ghost use Rattle.std.specs.FinMap as finite;
 ghost use Rattle.package_table.specs.Table.{IsSound, with_new_package};
 ghost use Rattle.package_table.specs.Changes.{after_make, Gives};
 ghost use Rattle.package_table.specs.Growth.{Grows};
-ghost use Rattle.package_table.specs.Shown.{marked_tables, table_of};
+ghost use Rattle.package_table.specs.Shown.{marked_tables};
 
-use crate::entry::Contents;
 use crate::find::package_name;
 use crate::journal::Mark;
 use crate::limits::{MAX_PACKAGE_NAME, MAX_PACKAGES};
 use crate::put::put_package;
 use crate::{PackageError, Packages};
 use std::alloc::Global;
-use std::collections::BTreeMap;
-
-// The number of packages.
-fn package_count(table: &BTreeMap<Vec<u8>, Contents>) -> usize
-    ensures { result ≡ finite.len (table_of table.now) }
-{
-    table.len()
-}
+use crate::table::PackageTable;
 
 // The first reason to refuse a new package of this name.
-fn make_refusal(table: &BTreeMap<Vec<u8>, Contents>, name: &[u8]) -> Result<(), PackageError>
-    ensures { let t = table_of table.now in
+fn make_refusal(table: &PackageTable, name: &[u8]) -> Result<(), PackageError>
+    ensures { let t = table.now in
         Gives (λ _. with_new_package t name.now) result (after_make t name.now) }
 {
     if name.is_empty() {
@@ -33,7 +24,7 @@ fn make_refusal(table: &BTreeMap<Vec<u8>, Contents>, name: &[u8]) -> Result<(), 
     if package_name(table, name).is_some() {
         return Err(PackageError::PackageExists);
     }
-    if package_count(table) >= MAX_PACKAGES || name.len() > MAX_PACKAGE_NAME {
+    if table.package_count() >= MAX_PACKAGES || name.len() > MAX_PACKAGE_NAME {
         return Err(PackageError::Limit);
     }
     Ok(())
@@ -41,15 +32,15 @@ fn make_refusal(table: &BTreeMap<Vec<u8>, Contents>, name: &[u8]) -> Result<(), 
 
 fn make_package(
     alloc: Global,
-    table: &mut BTreeMap<Vec<u8>, Contents>,
+    table: &mut PackageTable,
     marks: &mut Vec<Mark>,
     name: &[u8],
 ) -> Result<(), PackageError>
-    requires { IsSound (table_of table.old) }
-    ensures gives { Gives (λ _. table_of table.new) result
-        (after_make (table_of table.old) name.now) }
-    ensures unchanged { IfErr result (λ _. table_of table.new ≡ table_of table.old) }
-    ensures marked { marked_tables marks.new.items (table_of table.new) ≡ marked_tables marks.old.items (table_of table.old) }
+    requires { IsSound table.old }
+    ensures gives { Gives (λ _. table.new) result
+        (after_make table.old name.now) }
+    ensures unchanged { IfErr result (λ _. table.new ≡ table.old) }
+    ensures marked { marked_tables marks.new.items table.new ≡ marked_tables marks.old.items table.old }
 {
     make_refusal(table, name)?;
     let name = Vec::from_slice(alloc, name)?;

@@ -4,23 +4,20 @@ ghost use Rattle.package_table.specs.Table.{initial, is_locked, package_named, I
 ghost use Rattle.package_table.specs.Resolving.{resolution, external_resolution, internal_resolution, resolution_of};
 ghost use Rattle.package_table.specs.Readers.{package_names, used_names, own_names, external_names, imports, ListRefused};
 
-use crate::entry::Contents;
-use crate::find::package_name;
-use crate::initial::initial_table;
+use crate::find::{is_locked, package_name};
 use crate::journal::Mark;
 use crate::resolve::{resolve_external, resolve_in, resolve_internal};
-use crate::users::is_locked;
-use crate::{PackageError, Resolved, copy, readers};
+use crate::{PackageError, Resolved};
 use lisp_object::{Bytes, Items};
 use std::alloc::{AllocError, Global};
-use std::collections::BTreeMap;
 use std::marker::Model;
+use crate::table::PackageTable;
 
 /// Packages (standard 11.1). Contracts see them as a `Table`, and after it the list of the tables that were marked.
 #[derive(Drop)]
 pub struct Packages {
     pub(crate) alloc: Global,
-    pub(crate) table: BTreeMap<Vec<u8>, Contents>,
+    pub(crate) table: PackageTable,
     // The number of symbols, each counted in its home.
     pub(crate) count: u64,
     pub(crate) marks: Vec<Mark>,
@@ -47,7 +44,7 @@ impl Packages {
     {
         Ok(Packages {
             alloc,
-            table: initial_table(alloc)?,
+            table: PackageTable::initial(alloc)?,
             count: 53,
             marks: Vec::new(alloc),
         })
@@ -59,7 +56,7 @@ impl Packages {
     {
         Ok(Packages {
             alloc,
-            table: copy::copy_table(alloc, &self.table)?,
+            table: self.table.copy(alloc)?,
             count: self.count,
             marks: Vec::new(alloc),
         })
@@ -83,7 +80,7 @@ impl Packages {
     pub fn names(&self, alloc: Global) -> Result<Items<Bytes>, AllocError>
         ensures { IfOk result (λ names. names ≡ package_names self.now.0) }
     {
-        readers::names(alloc, &self.table)
+        self.table.names(alloc)
     }
 
     /// The names of the packages that `owner` uses, sorted by their bytes.
@@ -95,7 +92,7 @@ impl Packages {
         ensures there { IfOk result (λ _. IsPackage self.now.0 owner.now) }
         ensures refused { IfErr result (ListRefused self.now.0 owner.now) }
     {
-        readers::uses(alloc, &self.table, owner)
+        self.table.uses(alloc, owner)
     }
 
     /// The names of the symbols at home in `owner`, sorted by their bytes.
@@ -107,7 +104,7 @@ impl Packages {
         ensures there { IfOk result (λ _. IsPackage self.now.0 owner.now) }
         ensures refused { IfErr result (ListRefused self.now.0 owner.now) }
     {
-        readers::own(alloc, &self.table, owner)
+        self.table.own(alloc, owner)
     }
 
     /// The names that are external in `owner`, sorted by their bytes.
@@ -119,7 +116,7 @@ impl Packages {
         ensures there { IfOk result (λ _. IsPackage self.now.0 owner.now) }
         ensures refused { IfErr result (ListRefused self.now.0 owner.now) }
     {
-        readers::externals(alloc, &self.table, owner)
+        self.table.externals(alloc, owner)
     }
 
     /// The names that are present in `owner` with another home, each with the name of that home, sorted by their bytes.
@@ -135,7 +132,7 @@ impl Packages {
         ensures there { IfOk result (λ _. IsPackage self.now.0 owner.now) }
         ensures refused { IfErr result (ListRefused self.now.0 owner.now) }
     {
-        readers::imports(alloc, &self.table, owner)
+        self.table.imports(alloc, owner)
     }
 
     /// The name of the package that has `name` as its name or nickname: CL stands for COMMON-LISP, and CL-USER for

@@ -5,15 +5,13 @@ ghost use Rattle.package_table.specs.Table.{IsExternal, IsPresent, Uses};
 ghost use Rattle.package_table.specs.Lookup.{is_external, is_present, is_symbol, is_used};
 
 use crate::Packages;
-use crate::find::external_home;
-use crate::users::{has_package, is_present, is_symbol, is_used};
 
 impl Packages {
     /// Whether a package has the name `owner`.
     pub fn has_package(&self, owner: &[u8]) -> bool
         ensures { result ≡ finite.contains_key self.now.0 owner.now }
     {
-        has_package(&self.table, owner)
+        self.table.has_package(owner)
     }
 
     /// Whether there is a symbol of the home `home` and this name. `import` asks for it.
@@ -21,14 +19,14 @@ impl Packages {
         ensures value { result ≡ is_symbol self.now.0 home.now name.now }
         ensures present { IsTrue result ↔ IsPresent self.now.0 home.now name.now home.now }
     {
-        is_symbol(&self.table, home, name)
+        self.table.is_symbol(home, name)
     }
 
     /// Whether a symbol is present in `owner` by `name` (standard 11.1.1.2.1). One that is inherited is not.
     pub fn is_present(&self, owner: &[u8], name: &[u8]) -> bool
         ensures { result ≡ is_present self.now.0 owner.now name.now }
     {
-        is_present(&self.table, owner, name)
+        self.table.is_present(owner, name)
     }
 
     /// Whether the symbol that is present in `owner` by `name` is external there (standard 11.1.1.2.1).
@@ -36,7 +34,7 @@ impl Packages {
         ensures value { result ≡ is_external self.now.0 owner.now name.now }
         ensures external { IsTrue result ↔ IsExternal self.now.0 owner.now name.now }
     {
-        external_home(&self.table, owner, name).is_some()
+        self.table.external_home(owner, name).is_some()
     }
 
     /// Whether `owner` uses `used` (standard 11.1.1.2.2).
@@ -44,6 +42,6 @@ impl Packages {
         ensures value { result ≡ is_used self.now.0 owner.now used.now }
         ensures uses { IsTrue result ↔ Uses self.now.0 owner.now used.now }
     {
-        is_used(&self.table, owner, used)
+        self.table.is_used(owner, used)
     }
 }

@@ -2,13 +2,11 @@
 ghost use Rattle.std.specs.Prelude.{◌≡◌, Ok, Err, MatchResult};
 ghost use Rattle.package_table.specs.Table.{IsPackage};
 ghost use Rattle.package_table.specs.Resolving.{resolution, external_resolution, internal_resolution, resolution_of};
-ghost use Rattle.package_table.specs.Shown.{table_of};
 
 use crate::PackageError;
-use crate::entry::Contents;
-use crate::find::{external_home, home_of, package_name, stored_name};
+use crate::find::package_name;
 use crate::standardized::COMMON_LISP;
-use std::collections::BTreeMap;
+use crate::table::PackageTable;
 
 /// What a name stands for in a package.
 #[derive(Clone, Copy, Debug, PartialEq, Eq)]
@@ -21,20 +19,20 @@ pub enum Resolved<'a> {
 
 /// What the name stands for in the package `owner`, which exists.
 pub(crate) fn resolve_in<'a>(
-    table: &'a BTreeMap<Vec<u8>, Contents>,
+    table: &'a PackageTable,
     owner: &[u8],
     name: &[u8],
 ) -> Result<Resolved<'a>, PackageError>
-    requires { IsPackage (table_of table.now) owner.now }
-    ensures { MatchResult result (λ r. resolution (table_of table.now) owner.now name.now ≡ Ok (resolution_of r)) (λ e. resolution (table_of table.now) owner.now name.now ≡ Err e) }
+    requires { IsPackage table.now owner.now }
+    ensures { MatchResult result (λ r. resolution table.now owner.now name.now ≡ Ok (resolution_of r)) (λ e. resolution table.now owner.now name.now ≡ Err e) }
 {
-    if let Some(home) = home_of(table, owner, name) {
+    if let Some(home) = table.home_of(owner, name) {
         return Ok(Resolved::Found(home));
     }
     if owner == COMMON_LISP {
         return Err(PackageError::LockedPackage);
     }
-    match stored_name(table, owner) {
+    match table.stored_name(owner) {
         Some(stored) => Ok(Resolved::New(stored)),
         None => unreachable!(),
     }
@@ -42,16 +40,16 @@ pub(crate) fn resolve_in<'a>(
 
 /// The home of the external symbol after one package marker.
 pub(crate) fn resolve_external<'a>(
-    table: &'a BTreeMap<Vec<u8>, Contents>,
+    table: &'a PackageTable,
     prefix: &[u8],
     name: &[u8],
 ) -> Result<&'a [u8], PackageError>
-    ensures { MatchResult result (λ h. external_resolution (table_of table.now) prefix.now name.now ≡ Ok h.now) (λ e. external_resolution (table_of table.now) prefix.now name.now ≡ Err e) }
+    ensures { MatchResult result (λ h. external_resolution table.now prefix.now name.now ≡ Ok h.now) (λ e. external_resolution table.now prefix.now name.now ≡ Err e) }
 {
     let Some(owner) = package_name(table, prefix) else {
         return Err(PackageError::NoPackage);
     };
-    match external_home(table, owner, name) {
+    match table.external_home(owner, name) {
         Some(home) => Ok(home),
         None => Err(PackageError::NotExternal),
     }
@@ -59,11 +57,11 @@ pub(crate) fn resolve_external<'a>(
 
 /// What the name stands for after two package markers.
 pub(crate) fn resolve_internal<'a>(
-    table: &'a BTreeMap<Vec<u8>, Contents>,
+    table: &'a PackageTable,
     prefix: &[u8],
     name: &[u8],
 ) -> Result<Resolved<'a>, PackageError>
-    ensures { MatchResult result (λ r. internal_resolution (table_of table.now) prefix.now name.now ≡ Ok (resolution_of r)) (λ e. internal_resolution (table_of table.now) prefix.now name.now ≡ Err e) }
+    ensures { MatchResult result (λ r. internal_resolution table.now prefix.now name.now ≡ Ok (resolution_of r)) (λ e. internal_resolution table.now prefix.now name.now ≡ Err e) }
 {
     match package_name(table, prefix) {
         Some(owner) => resolve_in(table, owner, name),

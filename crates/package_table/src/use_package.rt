@@ -3,39 +3,38 @@ ghost use Rattle.std.specs.Prelude.{◌≡◌, if◌then◌else◌, IfErr, IfOk}
 ghost use Rattle.package_table.specs.Table.{with_used};
 ghost use Rattle.package_table.specs.Changes.{after_use, use_changes, Gives, RunsOutOnlyIf};
 ghost use Rattle.package_table.specs.Growth.{Grows, Tells};
-ghost use Rattle.package_table.specs.Shown.{marked_tables, table_of};
+ghost use Rattle.package_table.specs.Shown.{marked_tables};
 
-use crate::entry::Contents;
 use crate::journal::Mark;
 use crate::put::put_use;
 use crate::standardized::KEYWORD;
-use crate::users::{finds_other_than_shown, has_package, is_locked, is_used};
+use crate::find::is_locked;
 use crate::{PackageError, Packages};
 use std::alloc::Global;
-use std::collections::BTreeMap;
+use crate::table::PackageTable;
 
 // The first reason to refuse that `owner` uses `used`, and else whether it does not use it yet.
 fn use_refusal(
-    table: &BTreeMap<Vec<u8>, Contents>,
+    table: &PackageTable,
     owner: &[u8],
     used: &[u8],
 ) -> Result<bool, PackageError>
-    ensures gives { let t = table_of table.now in
+    ensures gives { let t = table.now in
         Gives (λ changes. if changes then with_used t owner.now used.now else t) result
         (after_use t owner.now used.now) }
-    ensures changes { IfOk result (λ changes. changes ≡ use_changes (table_of table.now) owner.now used.now) }
-    ensures memory { IfErr result (RunsOutOnlyIf (use_changes (table_of table.now) owner.now used.now)) }
+    ensures changes { IfOk result (λ changes. changes ≡ use_changes table.now owner.now used.now) }
+    ensures memory { IfErr result (RunsOutOnlyIf (use_changes table.now owner.now used.now)) }
 {
-    if !has_package(table, owner) || !has_package(table, used) {
+    if !table.has_package(owner) || !table.has_package(used) {
         return Err(PackageError::NoSuchPackage);
     }
     if is_locked(owner) || used == KEYWORD {
         return Err(PackageError::PackageIsLocked);
     }
-    if owner == used || is_used(table, owner, used) {
+    if owner == used || table.is_used(owner, used) {
         return Ok(false);
     }
-    if finds_other_than_shown(table, owner, used) {
+    if table.finds_other_than_shown(owner, used) {
         return Err(PackageError::NameConflict);
     }
     Ok(true)
@@ -43,17 +42,17 @@ fn use_refusal(
 
 fn use_other(
     alloc: Global,
-    table: &mut BTreeMap<Vec<u8>, Contents>,
+    table: &mut PackageTable,
     marks: &mut Vec<Mark>,
     owner: &[u8],
     used: &[u8],
 ) -> Result<bool, PackageError>
-    ensures gives { Gives (λ _. table_of table.new) result
-        (after_use (table_of table.old) owner.now used.now) }
-    ensures changed { IfOk result (λ changed. changed ≡ use_changes (table_of table.old) owner.now used.now) }
-    ensures memory { IfErr result (RunsOutOnlyIf (use_changes (table_of table.old) owner.now used.now)) }
-    ensures unchanged { IfErr result (λ _. table_of table.new ≡ table_of table.old) }
-    ensures marked { marked_tables marks.new.items (table_of table.new) ≡ marked_tables marks.old.items (table_of table.old) }
+    ensures gives { Gives (λ _. table.new) result
+        (after_use table.old owner.now used.now) }
+    ensures changed { IfOk result (λ changed. changed ≡ use_changes table.old owner.now used.now) }
+    ensures memory { IfErr result (RunsOutOnlyIf (use_changes table.old owner.now used.now)) }
+    ensures unchanged { IfErr result (λ _. table.new ≡ table.old) }
+    ensures marked { marked_tables marks.new.items table.new ≡ marked_tables marks.old.items table.old }
 {
     if !use_refusal(table, owner, used)? {
         return Ok(false);

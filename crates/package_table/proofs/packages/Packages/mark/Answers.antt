@@ -2,13 +2,13 @@ use Rattle.std.proofs.Common.{◌≡◌, ◌++◌, [], ◌∷◌, ℕ, All, leng
 use Rattle.std.proofs.lemmas.List.Elements.{All-append}
 use Rattle.package_table.specs.declared.journal.Mark.{Mark}
 use Rattle.package_table.specs.Table.{Table, Tables}
-use Rattle.package_table.specs.Shown.{IsCounted, marked_tables, table_of}
+use Rattle.package_table.specs.Shown.{IsCounted, marked_tables}
 use Rattle.package_table.proofs.Undoing.{mark_tables, length_marked, map-push}
 use Rattle.package_table.proofs.packages.Packages.mark.Goals as goal
 
 pub invariant_of-self-2 : goal.invariant_of-self-2
 invariant_of-self-2 c =
-    let t : Table = table_of c.self.inside.table in
+    let t : Table = c.self.inside.table in
     let m : Mark = record { notes = c.new.result; count = c.self.inside.count } in
     let now : Table × ℕ = (t, m.count) in
     let marked : marked_tables c.push_reserved.new.self.items t ≡ marked_tables c.self.inside.marks.items t ++ now ∷ [] =
@@ -22,7 +22,7 @@ invariant_of-self-2 c =
 
 pub returns-clause-ok : goal.returns-clause-ok
 returns-clause-ok c =
-    let t : Table = table_of c.self.inside.table in
+    let t : Table = c.self.inside.table in
     let m : Mark = record { notes = c.new.result; count = c.self.inside.count } in
     let marked : map (λ m. m.0) (marked_tables c.push_reserved.new.self.items t) ≡ map (λ m. m.0) (marked_tables c.self.inside.marks.items t) ++ t ∷ [] =
     ap (λ ms. map (λ m. m.0) (marked_tables ms t)) (c.push_reserved.ensures.items ∙ ap (λ ms. ms ++ m ∷ []) c.in_ok-reserve.ensures.items)

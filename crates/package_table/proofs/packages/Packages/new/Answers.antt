@@ -1,13 +1,13 @@
 use Rattle.std.proofs.Common.{All, List, arith, ◌∙◌, ap, sym, subst}
 use Rattle.package_table.specs.declared.journal.Mark.{Mark}
-use Rattle.package_table.specs.Shown.{IsCounted, marked_tables, table_of}
+use Rattle.package_table.specs.Shown.{IsCounted, marked_tables}
 use Rattle.package_table.specs.Table.{IsSound, symbol_count}
 use Rattle.package_table.proofs.First.{sound, first_count}
 use Rattle.package_table.proofs.packages.Packages.new.Goals as goal
 
 pub invariant_of-result : goal.invariant_of-result
 invariant_of-result c = record {
-  sound = subst IsSound (sym c.in_ok-initial_table.ensures) sound;
-  counted = sym (ap symbol_count c.in_ok-initial_table.ensures ∙ first_count);
-  marked = subst (λ (ms : List Mark). All IsCounted (marked_tables ms (table_of c.in_ok-initial_table.field-0))) (sym c.new.ensures.items) (λ k d less. absurd (omega (arith, less)));
+  sound = subst IsSound (sym c.in_ok-initial.ensures) sound;
+  counted = sym (ap symbol_count c.in_ok-initial.ensures ∙ first_count);
+  marked = subst (λ (ms : List Mark). All IsCounted (marked_tables ms c.in_ok-initial.field-0)) (sym c.new.ensures.items) (λ k d less. absurd (omega (arith, less)));
 }

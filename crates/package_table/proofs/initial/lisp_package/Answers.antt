@@ -1,6 +1,0 @@
-use Rattle.package_table.specs.Table.{common_lisp_package, common_lisp_names}
-use Rattle.package_table.proofs.initial.lisp_package.Goals as goal
-
-pub returns : goal.returns
-unfolding common_lisp_package common_lisp_names
-returns c = c.package_of_names.ensures

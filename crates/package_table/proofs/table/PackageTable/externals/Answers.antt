@@ -1,0 +1,12 @@
+use Rattle.std.proofs.Common.{◌++◌, ◌∙◌, ap}
+use Rattle.package_table.specs.Readers.{external_among}
+use Rattle.package_table.specs.Entries.{entry_of}
+use Rattle.package_table.specs.Kept.{table_of}
+use Rattle.package_table.proofs.Seen.{read, present-read}
+use Rattle.package_table.proofs.table.PackageTable.externals.Goals as goal
+
+pub loop-name-init : goal.loop-name-init
+loop-name-init c =
+    let all = c.into_iter-name-iterator.ensures.into_iter_gives in
+    (λ i. c.new-names.ensures i ++ external_among (read entry_of (all.0 i)))
+    ∙ ap (external_among) (present-read c.args.self.now c.args.owner.now c.in_ok-contents.contents.now c.in_ok-contents.ensures all.5)

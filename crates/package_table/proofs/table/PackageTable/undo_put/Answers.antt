@@ -1,0 +1,21 @@
+use Rattle.std.proofs.Common.{ap, option_map, ◌∙◌}
+use Rattle.package_table.specs.declared.table.contents.Contents.{Contents}
+use Rattle.package_table.specs.Table.{Table, with_package}
+use Rattle.package_table.specs.Undo.{put_back}
+use Rattle.package_table.specs.Entries.{entry_of}
+use Rattle.package_table.specs.Kept.{as_set, table_of}
+use Rattle.package_table.proofs.Places.{changed_table, unchanged_table}
+use Rattle.package_table.proofs.table.PackageTable.undo_put.Goals as goal
+
+pub returns : goal.returns
+returns c =
+    let k : Contents = c.in-Some.contents.now in
+    let w : Contents = record { symbols = c.put_back.new.symbols; uses = k.uses } in
+    changed_table c.self.inside.packages.entries (c.get_mut.follows.lender w).entries c.args.owner.now k w c.in-Some.ensures.value (c.get_mut.follows.holds w).0 _
+    (λ i. record { symbols = c.put_back.ensures i; uses = as_set k.uses.keys })
+    ∙ ap (λ (t : Table). with_package t c.args.owner.now (λ k. record k { symbols = put_back k.symbols c.args.name.now (option_map entry_of c.args.before) })) c.self.view_is
+
+pub returns-in_default : goal.returns-in_default
+returns-in_default c =
+    ap table_of c.get_mut.follows.holds-at-none ∙ unchanged_table c.self.inside.packages.entries c.args.owner.now _ c.in_default.ensures.value
+    ∙ ap (λ (t : Table). with_package t c.args.owner.now (λ k. record k { symbols = put_back k.symbols c.args.name.now (option_map entry_of c.args.before) })) c.self.view_is

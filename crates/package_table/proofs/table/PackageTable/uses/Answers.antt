@@ -1,0 +1,10 @@
+use Rattle.std.proofs.Common.{◌++◌, ◌∙◌, map}
+use Rattle.package_table.specs.Kept.{table_of}
+use Rattle.package_table.proofs.Seen.{used-read}
+use Rattle.package_table.proofs.table.PackageTable.uses.Goals as goal
+
+pub loop-used-init : goal.loop-used-init
+loop-used-init c =
+    let all = c.into_iter-used-iterator.ensures.into_iter_gives in
+    (λ i. c.new-names.ensures i ++ map (λ k. k.items) (all.0 i))
+    ∙ used-read c.args.self.now c.args.owner.now c.in_ok-contents.contents.now c.in_ok-contents.ensures all.4

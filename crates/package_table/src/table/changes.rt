@@ -1,0 +1,63 @@
+//! Single changes of the table: each grows it once, or leaves it as it was.
+ghost use Rattle.std.specs.Prelude.{◌≡◌, IfOk, OnErr, OnOk, option_map};
+ghost use Rattle.package_table.specs.Table.{IsPackage, entry_at, with_entry, with_new_package, with_used};
+ghost use Rattle.package_table.specs.Entries.{entry_of};
+
+use super::PackageTable;
+use super::contents::Contents;
+use crate::entry::Symbol;
+use std::alloc::{AllocError, Global};
+use std::collections::{BTreeMap, BTreeSet};
+
+impl PackageTable {
+    /// Adds a package of this name, which has no symbols and uses nothing.
+    pub(crate) fn insert_package(&mut self, alloc: Global, name: Vec<u8>) -> Result<(), AllocError>
+        ensures ok { OnOk result (self.new ≡ with_new_package self.old name.items) }
+        ensures err { OnErr result (self.new ≡ self.old) }
+    {
+        let contents = Contents {
+            symbols: BTreeMap::new(alloc),
+            uses: BTreeSet::new(alloc),
+        };
+        if let Err(_) = self.packages.insert(name, contents) {
+            return Err(AllocError);
+        }
+        Ok(())
+    }
+
+    /// Makes a symbol present at a name of the package `owner`, which exists. Gives what was at the name before.
+    pub(crate) fn insert_entry(
+        &mut self,
+        owner: &[u8],
+        name: Vec<u8>,
+        symbol: Symbol,
+    ) -> Result<Option<Symbol>, AllocError>
+        requires { IsPackage self.old owner.now }
+        ensures ok { OnOk result (self.new ≡ with_entry self.old owner.now name.items (entry_of symbol)) }
+        ensures before { IfOk result (λ before. option_map entry_of before ≡ entry_at self.old owner.now name.items) }
+        ensures err { OnErr result (self.new ≡ self.old) }
+    {
+        let Some(contents) = self.packages.get_mut(owner) else {
+            unreachable!()
+        };
+        let Ok(before) = contents.symbols.insert(name, symbol) else {
+            return Err(AllocError);
+        };
+        Ok(before)
+    }
+
+    /// Makes the package `owner`, which exists, use another.
+    pub(crate) fn insert_use(&mut self, owner: &[u8], used: Vec<u8>) -> Result<(), AllocError>
+        requires { IsPackage self.old owner.now }
+        ensures ok { OnOk result (self.new ≡ with_used self.old owner.now used.items) }
+        ensures err { OnErr result (self.new ≡ self.old) }
+    {
+        let Some(contents) = self.packages.get_mut(owner) else {
+            unreachable!()
+        };
+        if let Err(_) = contents.uses.insert(used) {
+            return Err(AllocError);
+        }
+        Ok(())
+    }
+}

@@ -1,0 +1,59 @@
+//! Copies of the table.
+ghost use Rattle.std.specs.Prelude.{◌≡◌, IfOk};
+ghost use Rattle.package_table.specs.Entries.{entry_of};
+ghost use Rattle.package_table.specs.Kept.{package_of, table_of};
+
+use super::PackageTable;
+use super::contents::Contents;
+use crate::entry::Symbol;
+use std::alloc::{AllocError, Global};
+use std::collections::{BTreeMap, BTreeSet};
+
+fn copy_symbol(alloc: Global, symbol: &Symbol) -> Result<Symbol, AllocError>
+    ensures { IfOk result (λ s. entry_of s ≡ entry_of symbol.now) }
+{
+    Ok(Symbol {
+        home: Vec::from_slice(alloc, symbol.home.as_slice())?,
+        external: symbol.external,
+    })
+}
+
+fn copy_contents(alloc: Global, contents: &Contents) -> Result<Contents, AllocError>
+    ensures { IfOk result (λ c. package_of c ≡ package_of contents.now) }
+{
+    let mut symbols = BTreeMap::new(alloc);
+    for (name, symbol) in &contents.symbols {
+        let name = Vec::from_slice(alloc, name.as_slice())?;
+        symbols.insert(name, copy_symbol(alloc, symbol)?)?;
+    }
+    let mut uses = BTreeSet::new(alloc);
+    for used in &contents.uses {
+        uses.insert(Vec::from_slice(alloc, used.as_slice())?)?;
+    }
+    Ok(Contents { symbols, uses })
+}
+
+fn copy_packages(
+    alloc: Global,
+    packages: &BTreeMap<Vec<u8>, Contents>,
+) -> Result<BTreeMap<Vec<u8>, Contents>, AllocError>
+    ensures { IfOk result (λ t. table_of t ≡ table_of packages.now) }
+{
+    let mut copied = BTreeMap::new(alloc);
+    for (name, contents) in packages {
+        let name = Vec::from_slice(alloc, name.as_slice())?;
+        copied.insert(name, copy_contents(alloc, contents)?)?;
+    }
+    Ok(copied)
+}
+
+impl PackageTable {
+    /// The same table, on its own memory.
+    pub(crate) fn copy(&self, alloc: Global) -> Result<PackageTable, AllocError>
+        ensures { IfOk result (λ t. t ≡ self.now) }
+    {
+        Ok(PackageTable {
+            packages: copy_packages(alloc, &self.packages)?,
+        })
+    }
+}

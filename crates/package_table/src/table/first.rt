@@ -1,0 +1,133 @@
+//! The first packages.
+ghost use Rattle.std.specs.Prelude.{◌≡◌, IfOk, map};
+ghost use Rattle.package_table.specs.Table.{initial, package_of_names, common_lisp_package, keyword_package, user_package};
+ghost use Rattle.package_table.specs.Kept.{package_of};
+
+use super::PackageTable;
+use super::contents::Contents;
+use crate::entry::Symbol;
+use crate::standardized::{COMMON_LISP, COMMON_LISP_USER, KEYWORD};
+use std::alloc::{AllocError, Global};
+use std::collections::{BTreeMap, BTreeSet};
+
+const COMMON_LISP_NAMES: [&[u8]; 31] = [
+    b"*PACKAGE*",
+    b"*READ-BASE*",
+    b"*READTABLE*",
+    b"COPY-READTABLE",
+    b"EXPORT",
+    b"FUNCTION",
+    b"GET",
+    b"GET-DISPATCH-MACRO-CHARACTER",
+    b"GET-MACRO-CHARACTER",
+    b"IF",
+    b"IMPORT",
+    b"IN-PACKAGE",
+    b"IN-READTABLE",
+    b"INCF",
+    b"INTERN",
+    b"LIST",
+    b"MAKE-DISPATCH-MACRO-CHARACTER",
+    b"MAKE-PACKAGE",
+    b"NIL",
+    b"PROGN",
+    b"PUSH",
+    b"QUOTE",
+    b"READTABLE-CASE",
+    b"REMPROP",
+    b"SET-DISPATCH-MACRO-CHARACTER",
+    b"SET-MACRO-CHARACTER",
+    b"SET-SYNTAX-FROM-CHAR",
+    b"SETF",
+    b"SYMBOL-PLIST",
+    b"T",
+    b"USE-PACKAGE",
+];
+
+const KEYWORD_NAMES: [&[u8]; 22] = [
+    b"DOWNCASE",
+    b"INVERT",
+    b"PRESERVE",
+    b"STANDARD",
+    b"STD-BINARY",
+    b"STD-BLOCK",
+    b"STD-CHAR",
+    b"STD-CLOSE",
+    b"STD-COMMENT",
+    b"STD-DISPATCH",
+    b"STD-FUNCTION",
+    b"STD-HEX",
+    b"STD-LIST",
+    b"STD-OCTAL",
+    b"STD-OUT",
+    b"STD-QUOTE",
+    b"STD-RADIX",
+    b"STD-STRING",
+    b"STD-UNINTERNED",
+    b"STD-VECTOR",
+    b"UPCASE",
+    b"USER",
+];
+
+// A package of these symbols, all at home in it and external.
+fn package_of_names(alloc: Global, owner: &[u8], names: &[&[u8]]) -> Result<Contents, AllocError>
+    ensures { IfOk result (λ c. package_of c ≡ package_of_names owner.now (map (λ n. n.now) names.now)) }
+{
+    let mut symbols = BTreeMap::new(alloc);
+    for name in names {
+        let home = Vec::from_slice(alloc, owner)?;
+        let name = Vec::from_slice(alloc, name)?;
+        let external = true;
+        symbols.insert(name, Symbol { home, external })?;
+    }
+    Ok(Contents {
+        symbols,
+        uses: BTreeSet::new(alloc),
+    })
+}
+
+// COMMON-LISP.
+fn lisp_package(alloc: Global) -> Result<Contents, AllocError>
+    ensures { IfOk result (λ c. package_of c ≡ common_lisp_package) }
+{
+    package_of_names(alloc, COMMON_LISP, &COMMON_LISP_NAMES)
+}
+
+// KEYWORD.
+fn keyword_package(alloc: Global) -> Result<Contents, AllocError>
+    ensures { IfOk result (λ c. package_of c ≡ keyword_package) }
+{
+    package_of_names(alloc, KEYWORD, &KEYWORD_NAMES)
+}
+
+// COMMON-LISP-USER.
+fn user_package(alloc: Global) -> Result<Contents, AllocError>
+    ensures { IfOk result (λ c. package_of c ≡ user_package) }
+{
+    let mut uses = BTreeSet::new(alloc);
+    let lisp = Vec::from_slice(alloc, COMMON_LISP)?;
+    uses.insert(lisp)?;
+    Ok(Contents {
+        symbols: BTreeMap::new(alloc),
+        uses,
+    })
+}
+
+impl PackageTable {
+    /// The first packages.
+    pub(crate) fn initial(alloc: Global) -> Result<PackageTable, AllocError>
+        ensures { IfOk result (λ t. t ≡ initial) }
+    {
+        let mut packages = BTreeMap::new(alloc);
+        let name = Vec::from_slice(alloc, KEYWORD)?;
+        let contents = keyword_package(alloc)?;
+        packages.insert(name, contents)?;
+        let name = Vec::from_slice(alloc, COMMON_LISP_USER)?;
+        let contents = user_package(alloc)?;
+        packages.insert(name, contents)?;
+        let name = Vec::from_slice(alloc, COMMON_LISP)?;
+        let contents = lisp_package(alloc)?;
+        packages.insert(name, contents)?;
+        Ok(PackageTable { packages })
+    }
+}

@@ -1,0 +1,99 @@
+//! Lists of names, each sorted by its bytes.
+ghost use Rattle.std.specs.Prelude.{◌≡◌, Some, IfOk, IfErr, MatchResult};
+ghost use Rattle.std.specs.FinMap as finite;
+ghost use Rattle.package_table.specs.Table.{IsPackage};
+ghost use Rattle.package_table.specs.Readers.{package_names, used_names, own_names, external_names, imports, ListRefused};
+ghost use Rattle.package_table.specs.Kept.{package_of};
+
+use super::PackageTable;
+use super::contents::Contents;
+use crate::PackageError;
+use lisp_object::{Bytes, Items};
+use std::alloc::{AllocError, Global};
+
+impl PackageTable {
+    /// The names of the packages.
+    pub(crate) fn names(&self, alloc: Global) -> Result<Items<Bytes>, AllocError>
+        ensures { IfOk result (λ names. names ≡ package_names self.now) }
+    {
+        let mut names = Items::new(alloc);
+        for owner in self.packages.keys() {
+            names.push(Bytes::from_slice(alloc, owner.as_slice())?)?;
+        }
+        Ok(names)
+    }
+
+    // What the package of this name holds, of which a list is given.
+    fn listed(&self, owner: &[u8]) -> Result<&Contents, PackageError>
+        ensures { MatchResult result (λ c. Some (package_of c.now) ≡ finite.get self.now owner.now) (ListRefused self.now owner.now) }
+    {
+        match self.contents_of(owner) {
+            Some(contents) => Ok(contents),
+            None => Err(PackageError::NoSuchPackage),
+        }
+    }
+
+    /// The names of the packages that `owner` uses.
+    pub(crate) fn uses(&self, alloc: Global, owner: &[u8]) -> Result<Items<Bytes>, PackageError>
+        ensures list { IfOk result (λ names. names ≡ used_names self.now owner.now) }
+        ensures there { IfOk result (λ _. IsPackage self.now owner.now) }
+        ensures refused { IfErr result (ListRefused self.now owner.now) }
+    {
+        let contents = self.listed(owner)?;
+        let mut names = Items::new(alloc);
+        for used in &contents.uses {
+            names.push(Bytes::from_slice(alloc, used.as_slice())?)?;
+        }
+        Ok(names)
+    }
+
+    /// The names at home in `owner`.
+    pub(crate) fn own(&self, alloc: Global, owner: &[u8]) -> Result<Items<Bytes>, PackageError>
+        ensures list { IfOk result (λ names. names ≡ own_names self.now owner.now) }
+        ensures there { IfOk result (λ _. IsPackage self.now owner.now) }
+        ensures refused { IfErr result (ListRefused self.now owner.now) }
+    {
+        let contents = self.listed(owner)?;
+        let mut names = Items::new(alloc);
+        for (name, symbol) in &contents.symbols {
+            if symbol.home.as_slice() == owner {
+                names.push(Bytes::from_slice(alloc, name.as_slice())?)?;
+            }
+        }
+        Ok(names)
+    }
+
+    /// The names external in `owner`.
+    pub(crate) fn externals(&self, alloc: Global, owner: &[u8]) -> Result<Items<Bytes>, PackageError>
+        ensures list { IfOk result (λ names. names ≡ external_names self.now owner.now) }
+        ensures there { IfOk result (λ _. IsPackage self.now owner.now) }
+        ensures refused { IfErr result (ListRefused self.now owner.now) }
+    {
+        let contents = self.listed(owner)?;
+        let mut names = Items::new(alloc);
+        for (name, symbol) in &contents.symbols {
+            if symbol.external {
+                names.push(Bytes::from_slice(alloc, name.as_slice())?)?;
+            }
+        }
+        Ok(names)
+    }
+
+    /// The names present in `owner` with another home, each with that home.
+    pub(crate) fn imports(&self, alloc: Global, owner: &[u8]) -> Result<Items<(Bytes, Bytes)>, PackageError>
+        ensures list { IfOk result (λ names. names ≡ imports self.now owner.now) }
+        ensures there { IfOk result (λ _. IsPackage self.now owner.now) }
+        ensures refused { IfErr result (ListRefused self.now owner.now) }
+    {
+        let contents = self.listed(owner)?;
+        let mut names = Items::new(alloc);
+        for (name, symbol) in &contents.symbols {
+            if symbol.home.as_slice() != owner {
+                let name = Bytes::from_slice(alloc, name.as_slice())?;
+                let home = Bytes::from_slice(alloc, symbol.home.as_slice())?;
+                names.push((name, home))?;
+            }
+        }
+        Ok(names)
+    }
+}
