@@ -17,7 +17,7 @@ use Rattle.package_table.proofs.Found.{found_finds}
 use Rattle.package_table.proofs.Counting.{first_of_both, second_of_both, below}
 use Rattle.package_table.proofs.KeptChanges.{users_agree, shown_agree}
 
-both : (a b : Bool) → (a && b) ≡ true → (a ≡ true) × (b ≡ true)
+pub both : (a b : Bool) → (a && b) ≡ true → (a ≡ true) × (b ≡ true)
 both true b e = (refl, e)
 both false b e = absurd (false≢true e)
 
@@ -46,7 +46,7 @@ some_of {X = X} test (e ∷ es) sorted some =
           | false ↦ λ _. there
         ] refl
 
-some_in : {X : Type 0} (test : Name × X → Bool) (m : finite.FinMap name_cmp X) → list_any test (finite.entries m) ≡ true
+pub some_in : {X : Type 0} (test : Name × X → Bool) (m : finite.FinMap name_cmp X) → list_any test (finite.entries m) ≡ true
     → (q : Name) × (x : X) × (finite.get m q ≡ Some x) × (test (q, x) ≡ true)
 some_in test m some =
     let here = some_of test (finite.entries m) (finite.entries_sorted m) some in

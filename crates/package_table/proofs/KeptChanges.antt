@@ -85,7 +85,7 @@ none_of R test q x (e ∷ es) exact none there =
       | false ↦ λ _ later. none_of R test q x es exact (neither (test e) (list_any test es) none).1 later
     ] refl there
 
-none_in : {X : Type 0} (test : Name × X → Bool) (m : finite.FinMap name_cmp X) (q : Name) (x : X) → list_any test (finite.entries m) ≡ false → finite.get m q ≡ Some x → test (q, x) ≡ false
+pub none_in : {X : Type 0} (test : Name × X → Bool) (m : finite.FinMap name_cmp X) (q : Name) (x : X) → list_any test (finite.entries m) ≡ false → finite.get m q ≡ Some x → test (q, x) ≡ false
 none_in test m q x none there = none_of name_cmp test q x (finite.entries m) (tied_same q) none (sym (finite.get-entries m q) ∙ there)
 
 second_false : (a b : Bool) → (a && b) ≡ false → a ≡ true → b ≡ false

@@ -12,6 +12,7 @@ pub mod KeptChanges
 pub mod KeptSound
 pub mod Names
 pub mod Places
+pub mod Reaching
 pub mod Rows
 pub mod Seen
 pub mod Starting

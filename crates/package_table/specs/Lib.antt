@@ -5,6 +5,7 @@ pub mod Lookup
 pub mod Resolving
 pub mod Readers
 pub mod Changes
+pub mod Reached
 pub mod Growth
 pub mod Undo
 pub mod Entries

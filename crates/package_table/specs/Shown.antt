@@ -1,6 +1,5 @@
 -- What contracts see of the structs.
 use Rattle.std.specs.Prelude.{◌≡◌, ◌<◌, ℕ, List, [], ◌∷◌, map, option_map, All}
-use Rattle.std.specs.Global.{Vec}
 use Rattle.std.specs.Vec.{vec_len, vec_capacity}
 use Rattle.package_table.specs.declared.journal.Note.{Note}
 use Rattle.package_table.specs.declared.journal.Note.TheVariants.{Made, Put, Used}

@@ -1,16 +1,17 @@
 //! `export`: a symbol becomes external.
 ghost use Rattle.std.specs.Prelude.{◌≡◌, IfErr, IfOk};
+ghost use Rattle.package_table.specs.Table.{IsSound};
 ghost use Rattle.package_table.specs.Changes.{after_export, export_changes, with_external, Gives, RunsOutOnlyIf};
 ghost use Rattle.package_table.specs.Growth.{Grows, Tells};
 ghost use Rattle.package_table.specs.Shown.{marked_tables};
 
 use crate::entry::Symbol;
+use crate::find::is_locked;
 use crate::journal::Mark;
 use crate::put::put_entry;
-use crate::find::is_locked;
+use crate::table::PackageTable;
 use crate::{PackageError, Packages};
 use std::alloc::Global;
-use crate::table::PackageTable;
 
 // The first reason to refuse that this symbol becomes external in `owner`.
 fn export_refusal(
@@ -19,6 +20,7 @@ fn export_refusal(
     home: &[u8],
     name: &[u8],
 ) -> Result<(), PackageError>
+    requires { IsSound table.now }
     ensures gives { let t = table.now in
         Gives (λ _. with_external t owner.now home.now name.now) result
         (after_export t owner.now home.now name.now) }
@@ -47,6 +49,7 @@ fn export_symbol(
     home: &[u8],
     name: &[u8],
 ) -> Result<bool, PackageError>
+    requires { IsSound table.old }
     ensures gives { Gives (λ _. table.new) result
         (after_export table.old owner.now home.now name.now) }
     ensures changed { IfOk result (λ changed. changed ≡ export_changes table.old owner.now name.now) }

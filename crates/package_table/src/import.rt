@@ -6,12 +6,12 @@ ghost use Rattle.package_table.specs.Growth.{Grows, Tells};
 ghost use Rattle.package_table.specs.Shown.{marked_tables};
 
 use crate::entry::Symbol;
+use crate::find::is_locked;
 use crate::journal::Mark;
 use crate::put::put_entry;
-use crate::find::is_locked;
+use crate::table::PackageTable;
 use crate::{PackageError, Packages};
 use std::alloc::Global;
-use crate::table::PackageTable;
 
 // The first reason to refuse that this symbol becomes present in `owner`.
 fn import_refusal(

@@ -11,10 +11,10 @@ use crate::journal::Mark;
 use crate::limits::{MAX_SYMBOL_NAME, MAX_SYMBOLS};
 use crate::put::put_entry;
 use crate::standardized::{COMMON_LISP, KEYWORD};
+use crate::table::PackageTable;
 use crate::{PackageError, Packages};
 use lisp_object::Bytes;
 use std::alloc::{AllocError, Global};
-use crate::table::PackageTable;
 
 /// The symbol that `intern` gives: the name of its home, and whether it was made.
 #[derive(Debug, Drop)]

@@ -12,10 +12,10 @@
 //! - `entry`: what a package has at the name of a symbol
 //! - `standardized`, `limits`: the names of the first packages, and how much there may be
 //! - `find`, `resolve`: names of packages, and what the name in a token stands for; they take no memory
-//! - `make`, `intern`, `export`, `import`, `use_package`: the calls that write, over `put` (single changes, noted). `specs/Changes.antt` says what each makes of a table, or why it refuses, and whether it
-//!   changes it.
-//! - `marks`: `mark`, `back_to` and `settle`, over `journal` (what was changed since each mark) and `undo` (changes
-//!   undone, the last first). The value of `Packages` has the marked tables after the table of now: calls that write leave them alone.
+//! - `make`, `intern`, `export`, `import`, `use_package`: the calls that write, over `put` (single changes, noted where there
+//!   is a mark). `specs/Changes.antt` says what each makes of a table, or why it refuses, and whether it changes it.
+//! - `marks`: `mark`, `back_to` and `settle`, over `journal` (what was changed since each mark) and `undo` (the changes since
+//!   a mark undone). The value of `Packages` has the marked tables after the table of now: calls that write leave them alone.
 //! - `laws`: `look_up_laws`
 //! - `error`: `PackageError`
 //!

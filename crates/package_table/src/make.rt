@@ -9,9 +9,9 @@ use crate::find::package_name;
 use crate::journal::Mark;
 use crate::limits::{MAX_PACKAGE_NAME, MAX_PACKAGES};
 use crate::put::put_package;
+use crate::table::PackageTable;
 use crate::{PackageError, Packages};
 use std::alloc::Global;
-use crate::table::PackageTable;
 
 // The first reason to refuse a new package of this name.
 fn make_refusal(table: &PackageTable, name: &[u8]) -> Result<(), PackageError>

@@ -7,11 +7,11 @@ ghost use Rattle.package_table.specs.Readers.{package_names, used_names, own_nam
 use crate::find::{is_locked, package_name};
 use crate::journal::Mark;
 use crate::resolve::{resolve_external, resolve_in, resolve_internal};
+use crate::table::PackageTable;
 use crate::{PackageError, Resolved};
 use lisp_object::{Bytes, Items};
 use std::alloc::{AllocError, Global};
 use std::marker::Model;
-use crate::table::PackageTable;
 
 /// Packages (standard 11.1). Contracts see them as a `Table`, and after it the list of the tables that were marked.
 #[derive(Drop)]

@@ -8,8 +8,8 @@ ghost use Rattle.package_table.specs.Shown.{marked_tables};
 
 use crate::entry::Symbol;
 use crate::journal::{Mark, Note, push_note, reserve_note};
-use std::alloc::{AllocError, Global};
 use crate::table::PackageTable;
+use std::alloc::{AllocError, Global};
 
 /// Adds a package of this name, which has no symbols and uses nothing.
 pub(crate) fn put_package(

@@ -31,11 +31,7 @@ fn undo_all(table: &mut PackageTable, notes: Vec<Note>)
 }
 
 /// The table as it was at this mark, with the earlier marks alone. Gives the number of its symbols.
-pub(crate) fn undo_to(
-    table: &mut PackageTable,
-    marks: &mut Vec<Mark>,
-    mark: usize,
-) -> u64
+pub(crate) fn undo_to(table: &mut PackageTable, marks: &mut Vec<Mark>, mark: usize) -> u64
     requires { mark < length marks.old.items }
     ensures past { marked_tables marks.new.items table.new
         ≡ take mark (marked_tables marks.old.items table.old) }

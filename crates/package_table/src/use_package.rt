@@ -5,20 +5,16 @@ ghost use Rattle.package_table.specs.Changes.{after_use, use_changes, Gives, Run
 ghost use Rattle.package_table.specs.Growth.{Grows, Tells};
 ghost use Rattle.package_table.specs.Shown.{marked_tables};
 
+use crate::find::is_locked;
 use crate::journal::Mark;
 use crate::put::put_use;
 use crate::standardized::KEYWORD;
-use crate::find::is_locked;
+use crate::table::PackageTable;
 use crate::{PackageError, Packages};
 use std::alloc::Global;
-use crate::table::PackageTable;
 
 // The first reason to refuse that `owner` uses `used`, and else whether it does not use it yet.
-fn use_refusal(
-    table: &PackageTable,
-    owner: &[u8],
-    used: &[u8],
-) -> Result<bool, PackageError>
+fn use_refusal(table: &PackageTable, owner: &[u8], used: &[u8]) -> Result<bool, PackageError>
     ensures gives { let t = table.now in
         Gives (λ changes. if changes then with_used t owner.now used.now else t) result
         (after_use t owner.now used.now) }

@@ -64,7 +64,11 @@ impl PackageTable {
     }
 
     /// The names external in `owner`.
-    pub(crate) fn externals(&self, alloc: Global, owner: &[u8]) -> Result<Items<Bytes>, PackageError>
+    pub(crate) fn externals(
+        &self,
+        alloc: Global,
+        owner: &[u8],
+    ) -> Result<Items<Bytes>, PackageError>
         ensures list { IfOk result (λ names. names ≡ external_names self.now owner.now) }
         ensures there { IfOk result (λ _. IsPackage self.now owner.now) }
         ensures refused { IfErr result (ListRefused self.now owner.now) }
@@ -80,7 +84,11 @@ impl PackageTable {
     }
 
     /// The names present in `owner` with another home, each with that home.
-    pub(crate) fn imports(&self, alloc: Global, owner: &[u8]) -> Result<Items<(Bytes, Bytes)>, PackageError>
+    pub(crate) fn imports(
+        &self,
+        alloc: Global,
+        owner: &[u8],
+    ) -> Result<Items<(Bytes, Bytes)>, PackageError>
         ensures list { IfOk result (λ names. names ≡ imports self.now owner.now) }
         ensures there { IfOk result (λ _. IsPackage self.now owner.now) }
         ensures refused { IfErr result (ListRefused self.now owner.now) }

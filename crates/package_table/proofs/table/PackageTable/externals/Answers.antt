@@ -1,7 +1,6 @@
 use Rattle.std.proofs.Common.{◌++◌, ◌∙◌, ap}
 use Rattle.package_table.specs.Readers.{external_among}
 use Rattle.package_table.specs.Entries.{entry_of}
-use Rattle.package_table.specs.Kept.{table_of}
 use Rattle.package_table.proofs.Seen.{read, present-read}
 use Rattle.package_table.proofs.table.PackageTable.externals.Goals as goal
 

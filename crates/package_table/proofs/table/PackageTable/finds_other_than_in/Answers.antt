@@ -2,7 +2,6 @@ use Rattle.std.proofs.Common.{sym, ◌∙◌, ◌&&◌}
 use Rattle.package_table.specs.Table.{Name, Entry}
 use Rattle.package_table.specs.Changes.{finds_other}
 use Rattle.package_table.specs.Entries.{entry_of}
-use Rattle.package_table.specs.Kept.{table_of}
 use Rattle.package_table.proofs.Conflicts.{hit, missed}
 use Rattle.package_table.proofs.table.PackageTable.finds_other_than_in.Goals as goal
 

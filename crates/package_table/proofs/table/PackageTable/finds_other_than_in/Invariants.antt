@@ -2,7 +2,6 @@ use Rattle.std.proofs.Common.{◌≡◌, ◌&&◌}
 use Rattle.std.specs.List.{list_any}
 use Rattle.package_table.specs.Changes.{finds_other}
 use Rattle.package_table.specs.Entries.{entry_of}
-use Rattle.package_table.specs.Kept.{table_of}
 use Rattle.package_table.proofs.Seen.{read}
 use Rattle.package_table.proofs.table.PackageTable.finds_other_than_in.Given as goal
 

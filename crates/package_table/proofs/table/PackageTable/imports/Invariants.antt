@@ -1,7 +1,6 @@
 use Rattle.std.proofs.Common.{◌≡◌, ◌++◌}
 use Rattle.package_table.specs.Readers.{imports, imported_among}
 use Rattle.package_table.specs.Entries.{entry_of}
-use Rattle.package_table.specs.Kept.{table_of}
 use Rattle.package_table.proofs.Seen.{read}
 use Rattle.package_table.proofs.table.PackageTable.imports.Given as goal
 

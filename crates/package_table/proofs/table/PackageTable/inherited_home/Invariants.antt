@@ -1,6 +1,5 @@
 use Rattle.std.proofs.Common.{◌≡◌, map}
 use Rattle.package_table.specs.Lookup.{first_external}
-use Rattle.package_table.specs.Kept.{table_of}
 use Rattle.package_table.proofs.table.PackageTable.inherited_home.Given as goal
 
 -- the packages passed have no external symbol by that name

@@ -1,5 +1,4 @@
 use Rattle.std.proofs.Common.{◌++◌, ◌∙◌, map}
-use Rattle.package_table.specs.Kept.{table_of}
 use Rattle.package_table.proofs.Seen.{used-read}
 use Rattle.package_table.proofs.table.PackageTable.uses.Goals as goal
 

@@ -1,6 +1,5 @@
 use Rattle.std.proofs.Common.{◌≡◌, ◌++◌, map}
 use Rattle.package_table.specs.Readers.{used_names}
-use Rattle.package_table.specs.Kept.{table_of}
 use Rattle.package_table.proofs.table.PackageTable.uses.Given as goal
 
 -- the names so far, and those to come
