@@ -3,4 +3,4 @@ use Rattle.package_table.specs.declared.entry.Symbol.{Symbol}
 use Rattle.package_table.specs.Table.{Entry}
 
 abbrev pub entry_of : Symbol → Entry
-entry_of s = record { home = s.home.items; external = s.external }
+entry_of s = record { home = s.home.value.items; external = s.external }

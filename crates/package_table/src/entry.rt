@@ -1,8 +1,10 @@
 //! What a package has at the name of a symbol.
+use std::rc::Rc;
 
-/// A symbol that is present in a package: the name of its home, and whether it is external in that package.
+/// A symbol that is present in a package: the name of its home, which the symbols of one home share, and whether it is
+/// external in that package.
 #[derive(Drop)]
 pub(crate) struct Symbol {
-    pub(crate) home: Vec<u8>,
+    pub(crate) home: Rc<Vec<u8>>,
     pub(crate) external: bool,
 }

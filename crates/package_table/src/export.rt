@@ -62,7 +62,7 @@ fn export_symbol(
         return Ok(false);
     }
     let symbol = Symbol {
-        home: Vec::from_slice(alloc, home)?,
+        home: table.shared_name(alloc, home)?,
         external: true,
     };
     put_entry(

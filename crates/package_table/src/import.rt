@@ -57,7 +57,7 @@ fn import_symbol(
         return Ok(false);
     }
     let symbol = Symbol {
-        home: Vec::from_slice(alloc, home)?,
+        home: table.shared_name(alloc, home)?,
         external: false,
     };
     put_entry(

@@ -38,7 +38,7 @@ fn put_new(
     ensures marked { marked_tables marks.new.items table.new ≡ marked_tables marks.old.items table.old }
 {
     let symbol = Symbol {
-        home: Vec::from_slice(alloc, owner)?,
+        home: table.shared_name(alloc, owner)?,
         external: owner == KEYWORD,
     };
     put_entry(

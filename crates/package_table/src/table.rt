@@ -5,6 +5,7 @@
 //! - `conflicts`: whether a package finds another symbol by a name
 //! - `lists`: lists of names
 //! - `changes`: single changes, and `reverts`: the same undone
+//! - `sharing`: names that symbols share
 //! - `copies`, `first`: a copy of a table, and the first packages
 ghost use Rattle.std.specs.Prelude.{◌≡◌};
 ghost use Rattle.std.specs.FinMap as finite;
@@ -17,6 +18,7 @@ mod first;
 mod lists;
 mod look_ups;
 mod reverts;
+mod sharing;
 
 use contents::Contents;
 use std::collections::BTreeMap;

@@ -5,6 +5,7 @@ ghost use Rattle.package_table.specs.Entries.{entry_of};
 
 use super::PackageTable;
 use super::contents::Contents;
+use super::sharing::new_name;
 use crate::entry::Symbol;
 use std::alloc::{AllocError, Global};
 use std::collections::{BTreeMap, BTreeSet};
@@ -16,6 +17,7 @@ impl PackageTable {
         ensures err { OnErr result (self.new ≡ self.old) }
     {
         let contents = Contents {
+            name: new_name(alloc, name.as_slice())?,
             symbols: BTreeMap::new(alloc),
             uses: BTreeSet::new(alloc),
         };

@@ -6,10 +6,13 @@ ghost use Rattle.package_table.specs.Kept.{package_of};
 
 use crate::entry::Symbol;
 use std::collections::{BTreeMap, BTreeSet};
+use std::rc::Rc;
 
-/// The symbols that are present, by their names, and the names of the packages that it uses.
+/// The package's own name, which the symbols at home in it share; the symbols that are present, by their names; and the
+/// names of the packages that it uses.
 #[derive(Drop)]
 pub(crate) struct Contents {
+    pub(crate) name: Rc<Vec<u8>>,
     pub(crate) symbols: BTreeMap<Vec<u8>, Symbol>,
     pub(crate) uses: BTreeSet<Vec<u8>>,
 }

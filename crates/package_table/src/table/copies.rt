@@ -5,15 +5,18 @@ ghost use Rattle.package_table.specs.Kept.{package_of, table_of};
 
 use super::PackageTable;
 use super::contents::Contents;
+use super::sharing::{new_name, share};
 use crate::entry::Symbol;
 use std::alloc::{AllocError, Global};
 use std::collections::{BTreeMap, BTreeSet};
+use std::rc::Rc;
 
-fn copy_symbol(alloc: Global, symbol: &Symbol) -> Result<Symbol, AllocError>
+// The home's name is shared with `owner` where that is the same.
+fn copy_symbol(alloc: Global, owner: &Rc<Vec<u8>>, symbol: &Symbol) -> Result<Symbol, AllocError>
     ensures { IfOk result (λ s. entry_of s ≡ entry_of symbol.now) }
 {
     Ok(Symbol {
-        home: Vec::from_slice(alloc, symbol.home.as_slice())?,
+        home: share(alloc, owner, symbol.home.as_slice())?,
         external: symbol.external,
     })
 }
@@ -21,16 +24,21 @@ fn copy_symbol(alloc: Global, symbol: &Symbol) -> Result<Symbol, AllocError>
 fn copy_contents(alloc: Global, contents: &Contents) -> Result<Contents, AllocError>
     ensures { IfOk result (λ c. package_of c ≡ package_of contents.now) }
 {
+    let owner = new_name(alloc, contents.name.as_slice())?;
     let mut symbols = BTreeMap::new(alloc);
     for (name, symbol) in &contents.symbols {
         let name = Vec::from_slice(alloc, name.as_slice())?;
-        symbols.insert(name, copy_symbol(alloc, symbol)?)?;
+        symbols.insert(name, copy_symbol(alloc, &owner, symbol)?)?;
     }
     let mut uses = BTreeSet::new(alloc);
     for used in &contents.uses {
         uses.insert(Vec::from_slice(alloc, used.as_slice())?)?;
     }
-    Ok(Contents { symbols, uses })
+    Ok(Contents {
+        name: owner,
+        symbols,
+        uses,
+    })
 }
 
 fn copy_packages(

@@ -5,6 +5,7 @@ ghost use Rattle.package_table.specs.Kept.{package_of};
 
 use super::PackageTable;
 use super::contents::Contents;
+use super::sharing::new_name;
 use crate::entry::Symbol;
 use crate::standardized::{COMMON_LISP, COMMON_LISP_USER, KEYWORD};
 use std::alloc::{AllocError, Global};
@@ -73,14 +74,16 @@ const KEYWORD_NAMES: [&[u8]; 22] = [
 fn package_of_names(alloc: Global, owner: &[u8], names: &[&[u8]]) -> Result<Contents, AllocError>
     ensures { IfOk result (λ c. package_of c ≡ package_of_names owner.now (map (λ n. n.now) names.now)) }
 {
+    let shared = new_name(alloc, owner)?;
     let mut symbols = BTreeMap::new(alloc);
     for name in names {
-        let home = Vec::from_slice(alloc, owner)?;
+        let home = shared.clone()?;
         let name = Vec::from_slice(alloc, name)?;
         let external = true;
         symbols.insert(name, Symbol { home, external })?;
     }
     Ok(Contents {
+        name: shared,
         symbols,
         uses: BTreeSet::new(alloc),
     })
@@ -108,6 +111,7 @@ fn user_package(alloc: Global) -> Result<Contents, AllocError>
     let lisp = Vec::from_slice(alloc, COMMON_LISP)?;
     uses.insert(lisp)?;
     Ok(Contents {
+        name: new_name(alloc, COMMON_LISP_USER)?,
         symbols: BTreeMap::new(alloc),
         uses,
     })

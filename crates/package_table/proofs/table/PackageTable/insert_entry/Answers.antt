@@ -14,7 +14,7 @@ unreachable-requires c = no_package c.self.inside.packages.entries c.args.owner.
 pub returns-clause-ok : goal.returns-clause-ok
 returns-clause-ok c =
     let k : Contents = c.in-Some.contents.now in
-    let w : Contents = record { symbols = c.insert.new.self; uses = k.uses } in
+    let w : Contents = record { name = k.name; symbols = c.insert.new.self; uses = k.uses } in
     changed_table c.self.inside.packages.entries (c.get_mut.follows.lender w).entries c.args.owner.now k w c.in-Some.ensures.value (c.get_mut.follows.holds w).0 _
     (λ i. record {
       symbols = (ap (as_map entry_of) c.in-Ok.ensures.entries ∙ as_map-insert entry_of c.args.name c.args.symbol k.symbols.entries) i;
@@ -30,7 +30,7 @@ returns-clause-before c =
 pub returns-in_default-insert-clause-err : goal.returns-in_default-insert-clause-err
 returns-in_default-insert-clause-err c =
     let k : Contents = c.in-Some.contents.now in
-    let w : Contents = record { symbols = c.insert.new.self; uses = k.uses } in
+    let w : Contents = record { name = k.name; symbols = c.insert.new.self; uses = k.uses } in
     same_table c.self.inside.packages.entries (c.get_mut.follows.lender w).entries c.args.owner.now k w c.in-Some.ensures.value (c.get_mut.follows.holds w).0
     (λ i. record { symbols = as_map entry_of (c.in_default-insert.ensures.err i); uses = as_set k.uses.keys })
     ∙ c.self.view_is

@@ -14,7 +14,7 @@ unreachable-requires c = no_package c.self.inside.packages.entries c.args.owner.
 pub returns-in-Err-clause-err : goal.returns-in-Err-clause-err
 returns-in-Err-clause-err c =
     let k : Contents = c.in-Some.contents.now in
-    let w : Contents = record { symbols = k.symbols; uses = c.insert.new.self } in
+    let w : Contents = record { name = k.name; symbols = k.symbols; uses = c.insert.new.self } in
     same_table c.self.inside.packages.entries (c.get_mut.follows.lender w).entries c.args.owner.now k w c.in-Some.ensures.value (c.get_mut.follows.holds w).0
     (λ i. record { symbols = as_map entry_of k.symbols.entries; uses = as_set (c.in-Err.ensures.err i) })
     ∙ c.self.view_is
@@ -22,7 +22,7 @@ returns-in-Err-clause-err c =
 pub returns-clause-ok : goal.returns-clause-ok
 returns-clause-ok c =
     let k : Contents = c.in-Some.contents.now in
-    let w : Contents = record { symbols = k.symbols; uses = c.insert.new.self } in
+    let w : Contents = record { name = k.name; symbols = k.symbols; uses = c.insert.new.self } in
     changed_table c.self.inside.packages.entries (c.get_mut.follows.lender w).entries c.args.owner.now k w c.in-Some.ensures.value (c.get_mut.follows.holds w).0 _
     (λ i. record {
       symbols = as_map entry_of k.symbols.entries;

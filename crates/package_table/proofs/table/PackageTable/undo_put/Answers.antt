@@ -10,7 +10,7 @@ use Rattle.package_table.proofs.table.PackageTable.undo_put.Goals as goal
 pub returns : goal.returns
 returns c =
     let k : Contents = c.in-Some.contents.now in
-    let w : Contents = record { symbols = c.put_back.new.symbols; uses = k.uses } in
+    let w : Contents = record { name = k.name; symbols = c.put_back.new.symbols; uses = k.uses } in
     changed_table c.self.inside.packages.entries (c.get_mut.follows.lender w).entries c.args.owner.now k w c.in-Some.ensures.value (c.get_mut.follows.holds w).0 _
     (λ i. record { symbols = c.put_back.ensures i; uses = as_set k.uses.keys })
     ∙ ap (λ (t : Table). with_package t c.args.owner.now (λ k. record k { symbols = put_back k.symbols c.args.name.now (option_map entry_of c.args.before) })) c.self.view_is

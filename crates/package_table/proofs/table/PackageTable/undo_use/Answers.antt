@@ -11,7 +11,7 @@ use Rattle.package_table.proofs.table.PackageTable.undo_use.Goals as goal
 pub returns : goal.returns
 returns c =
     let k : Contents = c.in-Some.contents.now in
-    let w : Contents = record { symbols = k.symbols; uses = c.remove.new.self } in
+    let w : Contents = record { name = k.name; symbols = k.symbols; uses = c.remove.new.self } in
     changed_table c.self.inside.packages.entries (c.get_mut.follows.lender w).entries c.args.owner.now k w c.in-Some.ensures.value (c.get_mut.follows.holds w).0 _
     (λ i. record { symbols = as_map entry_of k.symbols.entries; uses = (ap as_set c.remove.ensures.keys ∙ as_set-remove c.args.used.now k.uses.keys c.len-count.ensures.ordered) i })
     ∙ ap (λ (t : Table). with_package t c.args.owner.now (λ k. record k { uses = finite.remove k.uses c.args.used.now })) c.self.view_is

@@ -9,7 +9,7 @@ loop-name-preserved-in_ok-insert c =
     let now : _ ≡ _ = c.in-Some.ensures.steps in
     let i = c.loop-name.invariant in
     let next = copied_next entry_of c.loop-name.symbols.entries c.in_ok-name.name c.in_ok-copy_symbol.field-0 (c.in-Some.name.now, c.in-Some.symbol.now) c.next.new.self c.args.contents.now.symbols.entries
-    c.into_iter-name-iterator.ensures.into_iter_gives.5 (c.in_ok-name.ensures.items ∙ c.as_slice.ensures.value) c.in_ok-copy_symbol.ensures
+    c.into_iter-name-iterator.ensures.into_iter_gives.5 (c.in_ok-name.ensures.items ∙ c.as_slice-in-loop-name.ensures.value) c.in_ok-copy_symbol.ensures
     (i.0, ap (λ rest. i.0 ++ rest) (sym now) ∙ i.1, i.2) in
     (next.0, next.1, ap (as_map entry_of) c.in_ok-insert.ensures.entries ∙ next.2)
 
@@ -18,7 +18,7 @@ loop-name-preserved c =
     let now : _ ≡ _ = c.in-Some.ensures.steps in
     let i = c.loop-name.invariant in
     let next = copied_next entry_of c.loop-name.symbols.entries c.in_ok-name.name c.in_ok-copy_symbol.field-0 (c.in-Some.name.now, c.in-Some.symbol.now) c.next.new.self c.args.contents.now.symbols.entries
-    c.into_iter-name-iterator.ensures.into_iter_gives.5 (c.in_ok-name.ensures.items ∙ c.as_slice.ensures.value) c.in_ok-copy_symbol.ensures
+    c.into_iter-name-iterator.ensures.into_iter_gives.5 (c.in_ok-name.ensures.items ∙ c.as_slice-in-loop-name.ensures.value) c.in_ok-copy_symbol.ensures
     (i.0, ap (λ rest. i.0 ++ rest) (sym now) ∙ i.1, i.2) in
     (next.0, next.1, ap (as_map entry_of) c.in_ok-insert.ensures.entries ∙ next.2)
 

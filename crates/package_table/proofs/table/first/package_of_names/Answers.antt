@@ -15,7 +15,7 @@ loop-name-preserved c =
     let name = get_or c.args.names.now c.loop-name.name-index none in
     ap (as_map entry_of) c.in_ok-insert.ensures.entries
     ∙ as_map-insert entry_of c.in_ok-name.name (record { home = c.in_ok-home.home; external = true }) c.loop-name.symbols.entries
-    ∙ (λ i. finite.insert (c.loop-name.invariant i) (c.in_ok-name.ensures.items i) (record { home = c.in_ok-home.ensures.items i; external = true }))
+    ∙ (λ i. finite.insert (c.loop-name.invariant i) (c.in_ok-name.ensures.items i) (record { home = (ap (λ v. v.items) c.in_ok-home.ensures.cases ∙ c.in_ok-shared.ensures) i; external = true }))
     ∙ sym (ap (λ ns. finite.from_entries {R = name_cmp} (alike (λ (n : Bor Name). n.now) v ns)) (take_more c.args.names.now c.loop-name.name-index none c.loop-name-test.true)
     ∙ alike_pushed (λ (n : Bor Name). n.now) v (take c.loop-name.name-index c.args.names.now) name)
 
