@@ -6,4 +6,5 @@ pub mod Soundness
 pub mod KeptWorld
 pub mod FirstWorld
 pub mod InOrder
+pub mod Notes
 pub mod Marking

@@ -18,10 +18,12 @@ use Rattle.std.proofs.lemmas.Bool.{false≢true}
 use Rattle.lisp_object.proofs.Tree as tree
 use Rattle.plist_state.specs.declared.symbol.Symbol.{Symbol}
 use Rattle.plist_state.specs.declared.property.Property.{Property}
+use Rattle.plist_state.specs.declared.note.PropertyChange.{PropertyChange}
 use Rattle.plist_state.specs.Properties as properties
-use Rattle.plist_state.specs.Properties.{Plist, Properties, symbol_cmp, list_at, with_list}
+use Rattle.plist_state.specs.Properties.{Plist, Properties, symbol_cmp, same_symbol, value_at, without_value, list_at, with_list}
 use Rattle.plist_state.specs.Shown.{symbol_of, property_of, plist_of, Rows, lists_in, row_at, room_at}
 use Rattle.plist_state.specs.Kept.{IsProperRow, IsProperRows, IsWider}
+use Rattle.plist_state.specs.Undoing.{list_before}
 use Rattle.plist_state.proofs.Orders.{symbol_total, symbol_exact, one_symbol, symbol_tied}
 
 -- a list that is kept: an empty one is not
@@ -48,6 +50,15 @@ with_list_twice m x ps qs = same_map symbol_total symbol_exact _ _ (λ q.
     get-with_list (with_list m x ps) x qs q ∙ ap (cond (eq_by_cmp symbol_cmp q x) (kept qs)) (get-with_list m x ps q)
     ∙ elim (eq_by_cmp symbol_cmp q x) as (λ b. cond b (kept qs) (cond b (kept ps) (finite.get m q)) ≡ cond b (kept qs) (finite.get m q)) [ true ↦ refl | false ↦ refl ]
     ∙ sym (get-with_list m x qs q))
+
+-- an indicator that is not there, taken out
+pub without-absent : (ps : Plist) (i : properties.Symbol) → value_at ps i ≡ None → without_value ps i ≡ ps
+without-absent [] i absent = refl
+without-absent (p ∷ ps) i absent =
+    elim (same_symbol i p.0) as (λ b. cond b (Some p.1) (value_at ps i) ≡ None → cond b ps (p ∷ without_value ps i) ≡ p ∷ ps) [
+      | true ↦ λ e. absurd (cc)
+      | false ↦ λ e. ap (λ qs. p ∷ qs) (without-absent ps i e)
+    ] absent
 
 -- a map in which no list is empty
 abbrev pub AreSome : Properties → Type 0
@@ -205,3 +216,17 @@ no_row rows x b is absent = nothing (row_at rows (symbol_of x)) (ap is_some (row
 
 pub no_room : (rows : Rows) (x : Symbol) → None ≡ lookup (is_at (λ k. symbol_cmp (symbol_of x) (symbol_of k))) rows → room_at rows (symbol_of x) ≡ 0
 no_room rows x is = ap (λ o. option_map_or vec_capacity o 0) (row_is x rows ∙ sym is)
+
+-- a change of the list of a symbol that was put, taken back
+pub property_back : (rows later : Rows) (x : properties.Symbol) (ps : Plist) (noted : properties.Symbol) → noted ≡ x → (change : PropertyChange)
+    → lists_in later ≡ with_list (lists_in rows) x ps → list_before change (list_at (lists_in later) x) ≡ list_at (lists_in rows) x
+    → with_list (lists_in later) noted (list_before change (list_at (lists_in later) noted)) ≡ lists_in rows
+property_back rows later x ps noted named change put back =
+    (λ i. with_list (lists_in later) (named i) (list_before change (list_at (lists_in later) (named i))))
+    ∙ (λ i. with_list (put i) x (back i)) ∙ with_list_twice (lists_in rows) x ps (list_at (lists_in rows) x)
+    ∙ with_list_same (lists_in rows) x (list_at (lists_in rows) x) (some_in rows) refl
+
+-- what is read of nothing
+pub none_shown_as : {A B : Type 0} (f : A → B) (o : Option A) (p : Option B) → option_map f o ≡ p → is_some o ≡ false → p ≡ None
+none_shown_as f None p e none = sym e
+none_shown_as f (Some x) p e none = absurd (false≢true (sym none))

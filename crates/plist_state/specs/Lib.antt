@@ -8,3 +8,5 @@ pub mod Sound
 pub mod Shown
 pub mod Undoing
 pub mod Kept
+pub mod Journal
+pub mod Marked

@@ -6,7 +6,6 @@ use Rattle.std.specs.BTreeMap.{BTreeMap}
 use Rattle.std.specs.Prelude.{vec_capacity}
 use Rattle.std.specs.FinMap as finite
 use Rattle.lisp_object.specs.Object.{Object}
-use Rattle.lisp_object.specs.declared.datum.Datum.{Datum}
 use Rattle.lisp_object.specs.Datum.{object_of}
 use Rattle.readtable_core.specs.Tables as readtable
 use Rattle.package_table.specs.Shown.{as_map}
@@ -22,10 +21,6 @@ symbol_of s = (s.home.items, s.name.items)
 
 abbrev pub property_of : Property → properties.Symbol × Object
 property_of p = (symbol_of p.indicator, object_of p.value)
-
--- a property as it is kept: the indicator, and the datum of its value
-abbrev pub kept_of : Property → properties.Symbol × Datum
-kept_of p = (symbol_of p.indicator, p.value)
 
 abbrev pub plist_of : Vec Property → Plist
 plist_of row = map property_of row.items

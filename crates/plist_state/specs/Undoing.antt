@@ -1,11 +1,21 @@
--- How a change of a property list is taken back.
-use Rattle.std.specs.Prelude.{ℕ, zero, suc, ◌-◌, [], ◌∷◌, length, take}
+-- How changes are taken back: of a property list, of the readtables, and of all that a world keeps besides its packages.
+use Rattle.std.specs.Prelude.{ℕ, zero, suc, ◌-◌, List, [], ◌∷◌, length, take}
+use Rattle.std.specs.Option.{option_map_or}
+use Rattle.std.specs.FinMap as finite
 use Rattle.lisp_object.specs.Object.{Object}
 use Rattle.lisp_object.specs.Datum.{object_of}
-use Rattle.plist_state.specs.declared.undo.PropertyChange.{PropertyChange}
-use Rattle.plist_state.specs.declared.undo.PropertyChange.TheVariants.{Set, Added, Removed}
-use Rattle.plist_state.specs.Properties.{Symbol, Plist}
-use Rattle.plist_state.specs.Shown.{property_of}
+use Rattle.readtable_core.specs.Tables.{Table}
+use Rattle.readtable_core.specs.Changes.{with_entry}
+use Rattle.package_table.specs.Table.{Name}
+use Rattle.plist_state.specs.declared.note.PropertyChange.{PropertyChange}
+use Rattle.plist_state.specs.declared.note.PropertyChange.TheVariants.{Set, Added, Removed}
+use Rattle.plist_state.specs.declared.note.TableChange.{TableChange}
+use Rattle.plist_state.specs.declared.note.TableChange.TheVariants.{Over, Letters, Character}
+use Rattle.plist_state.specs.declared.note.Note.{Note}
+use Rattle.plist_state.specs.declared.note.Note.TheVariants.{Property, Made, Changed, InPackage, InReadtable}
+use Rattle.plist_state.specs.Properties.{Symbol, Plist, list_at, with_list}
+use Rattle.plist_state.specs.State.{Readtables, Rest}
+use Rattle.plist_state.specs.Shown.{symbol_of, property_of}
 
 -- with the value at a place, if there is such a place
 abbrev pub with_value_at : Plist → ℕ → Object → Plist
@@ -24,3 +34,37 @@ abbrev pub list_before : PropertyChange → Plist → Plist
 list_before (Set place value) ps = with_value_at ps place (object_of value)
 list_before Added ps = take (length ps - 1) ps
 list_before (Removed place property) ps = with_inserted ps place (property_of property)
+
+-- the readtable before the change
+abbrev pub table_before : TableChange → Table → Table
+table_before (Over before) t = before
+table_before (Letters letters) t = record t { letters = letters }
+table_before (Character c entry) t = with_entry t c entry
+
+-- the readtables before a change of the one of this name
+abbrev pub tables_before : Readtables → Name → TableChange → Readtables
+tables_before m n change = option_map_or (λ t. finite.insert m n (table_before change t)) (finite.get m n) m
+
+-- the rest before the change
+abbrev pub undone : Note → Rest → Rest
+undone (Property symbol change) r =
+    record r { properties = with_list r.properties (symbol_of symbol) (list_before change (list_at r.properties (symbol_of symbol))) }
+undone (Made name) r = record r { readtables = finite.remove r.readtables name.items }
+undone (Changed name change) r = record r { readtables = tables_before r.readtables name.items change }
+undone (InPackage name) r = record r { current_package = name.items }
+undone (InReadtable name) r = record r { current_readtable = name.items }
+
+-- the rest before all these changes: the last is undone first
+abbrev pub all_undone : List Note → Rest → Rest
+all_undone [] r = r
+all_undone (n ∷ ns) r = undone n (all_undone ns r)
+
+-- the rest at the first of these marks, each of which is the changes since, up to the next one
+abbrev pub undone_since : List (List Note) → Rest → Rest
+undone_since [] r = r
+undone_since (m ∷ ms) r = all_undone m (undone_since ms r)
+
+-- the rest at each of these marks
+abbrev pub rests_at : List (List Note) → Rest → List Rest
+rests_at [] r = []
+rests_at (m ∷ ms) r = undone_since (m ∷ ms) r ∷ rests_at ms r

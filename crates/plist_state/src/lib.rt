@@ -29,9 +29,10 @@
 //! `length_marked`, `marked_push`, `marked_take`, `marked_get`.
 #![tactic(auto)]
 
-mod copy;
 mod error;
+mod journal;
 mod marks;
+mod note;
 mod packages;
 mod properties;
 mod property;

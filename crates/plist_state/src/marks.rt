@@ -3,12 +3,12 @@ ghost use Rattle.std.specs.Prelude.{◌≡◌, ◌<◌, ◌++◌, [], ◌∷◌,
 ghost use Rattle.std.specs.List.{slice_get};
 
 use crate::World;
-use crate::copy::copy_stored;
+use crate::undo::undo_to;
 use std::alloc::AllocError;
 
 impl World {
-    /// Marks the state as it is, so that `back_to` can go back to it, and gives the place of the mark. Copies the property
-    /// lists, the readtables and the two current names; the packages note what changes from then on.
+    /// Marks the state as it is, so that `back_to` can go back to it, and gives the place of the mark. Nothing is copied: from
+    /// then on each call that writes notes what it overwrites.
     ///
     /// # Errors
     /// `AllocError` where memory runs out. Nothing has changed then.
@@ -17,10 +17,9 @@ impl World {
             × (self.new ≡ (self.old.0, self.old.1 ++ self.old.0 ∷ []))) }
         ensures err { IfErr result (λ _. self.new ≡ self.old) }
     {
-        let marked = copy_stored(self.alloc, &self.stored)?;
         self.marks.reserve(1)?;
         let place = self.packages.mark()?;
-        self.marks.push_reserved(marked);
+        self.marks.push_reserved(Vec::new(self.alloc));
         Ok(place)
     }
 
@@ -38,8 +37,7 @@ impl World {
         ensures now { slice_get self.old.1 mark ≡ Some self.new.0 }
     {
         self.packages.back_to(mark);
-        self.stored = self.marks.remove(mark);
-        self.marks.truncate(mark);
+        undo_to(&mut self.stored, &mut self.marks, mark);
     }
 
     /// Takes all marks away: the state stays as it is. Takes no memory.

@@ -7,7 +7,10 @@ ghost use Rattle.package_table.specs.Growth.{Grows, Tells};
 ghost use Rattle.plist_state.specs.Changes.{with_packages, after_in_package};
 
 use crate::World;
+use crate::journal::{push_note, reserve_named};
+use crate::note::Note;
 use package_table::{Interned, PackageError};
+use std::mem;
 
 impl World {
     /// Adds a package (standard 11.2, `make-package`), as `Packages::make` does.
@@ -117,7 +120,9 @@ impl World {
         if !self.packages.has_package(name) {
             return Err(PackageError::NoSuchPackage);
         }
-        self.stored.current_package = Vec::from_slice(self.alloc, name)?;
+        let name = reserve_named(self.alloc, &mut self.marks, name)?;
+        let before = mem::replace(&mut self.stored.current_package, name);
+        push_note(&mut self.marks, Note::InPackage(before));
         Ok(())
     }
 }

@@ -26,7 +26,14 @@ impl World {
         ensures ok { OnOk result (self.new ≡ (with_property self.old.0 (symbol_of symbol.now) (symbol_of indicator) (object_of value), self.old.1)) }
         ensures err { OnErr result (self.new ≡ self.old) }
     {
-        stored::put(self.alloc, &mut self.stored, symbol, indicator, value)
+        stored::put(
+            self.alloc,
+            &mut self.stored,
+            &mut self.marks,
+            symbol,
+            indicator,
+            value,
+        )
     }
 
     /// Removes the property of an indicator from the list of a symbol, and answers whether it was there (standard 10.2,
@@ -37,6 +44,12 @@ impl World {
         ensures had { IfOk result (λ had. had ≡ is_some (property self.old.0 (symbol_of symbol.now) (symbol_of indicator.now))) }
         ensures err { OnErr result (self.new ≡ self.old) }
     {
-        Ok(stored::remove(&mut self.stored, symbol, indicator))
+        stored::remove(
+            self.alloc,
+            &mut self.stored,
+            &mut self.marks,
+            symbol,
+            indicator,
+        )
     }
 }

@@ -5,8 +5,11 @@ ghost use Rattle.package_table.specs.Table.{keyword};
 ghost use Rattle.plist_state.specs.Changes.{with_case, with_macro, with_dispatching, with_dispatch, with_syntax, with_copy, in_state, after_in_readtable, Gives};
 ghost use Rattle.plist_state.specs.Sound.{IsSymbol};
 
+use crate::journal::{push_note, reserve_named};
+use crate::note::Note;
 use crate::{ReadtableError, World, tables};
 use readtable_core::{Case, FnName};
+use std::mem;
 
 impl World {
     /// Makes a readtable current.
@@ -21,7 +24,9 @@ impl World {
         if self.readtable(name).is_none() {
             return Err(ReadtableError::NoReadtable);
         }
-        self.stored.current_readtable = Vec::from_slice(self.alloc, name)?;
+        let name = reserve_named(self.alloc, &mut self.marks, name)?;
+        let before = mem::replace(&mut self.stored.current_readtable, name);
+        push_note(&mut self.marks, Note::InReadtable(before));
         Ok(())
     }
 
@@ -35,7 +40,13 @@ impl World {
         ensures marked { self.new.1 ≡ self.old.1 }
         ensures unchanged { IfErr result (λ _. self.new ≡ self.old) }
     {
-        tables::set_case(&mut self.stored.readtables, name, letters)
+        tables::set_case(
+            self.alloc,
+            &mut self.stored.readtables,
+            &mut self.marks,
+            name,
+            letters,
+        )
     }
 
     /// Makes `c` a macro character of a readtable (standard 23.2, `set-macro-character`), as `Readtable::set_macro` does.
@@ -60,7 +71,9 @@ impl World {
     {
         let _ = function.as_bytes();
         tables::set_macro(
+            self.alloc,
             &mut self.stored.readtables,
+            &mut self.marks,
             name,
             c,
             function,
@@ -85,7 +98,14 @@ impl World {
         ensures marked { self.new.1 ≡ self.old.1 }
         ensures unchanged { IfErr result (λ _. self.new ≡ self.old) }
     {
-        tables::make_dispatch(&mut self.stored.readtables, name, c, non_terminating)
+        tables::make_dispatch(
+            self.alloc,
+            &mut self.stored.readtables,
+            &mut self.marks,
+            name,
+            c,
+            non_terminating,
+        )
     }
 
     /// Sets the function of the sub-character `sub`, which is taken in upper case, of the dispatching macro character `c`
@@ -112,7 +132,15 @@ impl World {
         ensures unchanged { IfErr result (λ _. self.new ≡ self.old) }
     {
         let _ = function.as_bytes();
-        tables::set_dispatch(&mut self.stored.readtables, name, c, sub, function)
+        tables::set_dispatch(
+            self.alloc,
+            &mut self.stored.readtables,
+            &mut self.marks,
+            name,
+            c,
+            sub,
+            function,
+        )
     }
 
     /// Gives the character `c` of the readtable `to` the syntax type, the function and the dispatch table that `d` has in the
@@ -134,7 +162,15 @@ impl World {
         ensures marked { self.new.1 ≡ self.old.1 }
         ensures unchanged { IfErr result (λ _. self.new ≡ self.old) }
     {
-        tables::set_syntax(self.alloc, &mut self.stored.readtables, to, c, from, d)
+        tables::set_syntax(
+            self.alloc,
+            &mut self.stored.readtables,
+            &mut self.marks,
+            to,
+            c,
+            from,
+            d,
+        )
     }
 
     /// Makes the readtable `to`, which is named by a keyword, a copy of the readtable `from`, new or written over (standard
@@ -149,6 +185,12 @@ impl World {
         ensures marked { self.new.1 ≡ self.old.1 }
         ensures unchanged { IfErr result (λ _. self.new ≡ self.old) }
     {
-        tables::copy(self.alloc, &mut self.stored.readtables, from, to)
+        tables::copy(
+            self.alloc,
+            &mut self.stored.readtables,
+            &mut self.marks,
+            from,
+            to,
+        )
     }
 }

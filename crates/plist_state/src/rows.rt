@@ -8,7 +8,7 @@ ghost use Rattle.plist_state.specs.Shown.{symbol_of, property_of, plist_of, list
 ghost use Rattle.plist_state.specs.Undoing.{list_before};
 ghost use Rattle.plist_state.specs.Kept.{IsProperRow, IsProperRows, IsProperChange, IsWider};
 
-use crate::undo::PropertyChange;
+use crate::note::PropertyChange;
 use crate::{Property, Symbol};
 use lisp_object::Datum;
 use std::alloc::{AllocError, Global};

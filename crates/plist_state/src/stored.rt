@@ -6,7 +6,10 @@ ghost use Rattle.plist_state.specs.Properties.{list_at, with_list, with_value, w
 ghost use Rattle.plist_state.specs.State.{first_rest, first_readtables};
 ghost use Rattle.plist_state.specs.Shown.{symbol_of, rest_of, readtables_of};
 ghost use Rattle.plist_state.specs.Kept.{IsProperRows, IsWider};
+ghost use Rattle.plist_state.specs.Journal.{marks_of, Continues};
 
+use crate::journal::{push_note, reserve_note};
+use crate::note::Note;
 use crate::tables::{STANDARD, USER};
 use crate::{Property, Symbol, rows};
 use lisp_object::Datum;
@@ -51,10 +54,11 @@ pub(crate) fn first_stored(alloc: Global) -> Result<Stored, AllocError>
     })
 }
 
-/// Sets a property.
+/// Sets a property, and notes what it overwrote.
 pub(crate) fn put(
     alloc: Global,
     stored: &mut Stored,
+    marks: &mut Vec<Vec<Note>>,
     symbol: &Symbol,
     indicator: Symbol,
     value: Datum,
@@ -64,21 +68,54 @@ pub(crate) fn put(
     ensures ok { let r = rest_of stored.old in let x = symbol_of symbol.now in
         OnOk result (rest_of stored.new ≡ record r { properties = with_list r.properties x (with_value (list_at r.properties x) (symbol_of indicator) (object_of value)) }) }
     ensures err { OnErr result (rest_of stored.new ≡ rest_of stored.old) }
-    ensures values { IsProperRows stored.new.properties.entries }
+    ensures wider { IsWider stored.old.properties.entries stored.new.properties.entries }
+    ensures marked { Continues (marks_of marks.old.items) (rest_of stored.old) (marks_of marks.new.items) (rest_of stored.new) }
 {
-    match rows::put(alloc, &mut stored.properties, symbol, indicator, value) {
-        Ok(_) => Ok(()),
-        Err(_) => Err(AllocError),
-    }
+    let noted = symbol.copy(alloc)?;
+    reserve_note(marks)?;
+    let Ok(change) = rows::put(alloc, &mut stored.properties, symbol, indicator, value) else {
+        return Err(AllocError);
+    };
+    push_note(
+        marks,
+        Note::Property {
+            symbol: noted,
+            change,
+        },
+    );
+    Ok(())
 }
 
-/// Removes a property, and answers whether it was there.
-pub(crate) fn remove(stored: &mut Stored, symbol: &Symbol, indicator: &Symbol) -> bool
+/// Removes a property, notes it, and answers whether it was there.
+pub(crate) fn remove(
+    alloc: Global,
+    stored: &mut Stored,
+    marks: &mut Vec<Vec<Note>>,
+    symbol: &Symbol,
+    indicator: &Symbol,
+) -> Result<bool, AllocError>
     requires { IsProperRows stored.old.properties.entries }
-    ensures after { let r = rest_of stored.old in let x = symbol_of symbol.now in
-        rest_of stored.new ≡ record r { properties = with_list r.properties x (without_value (list_at r.properties x) (symbol_of indicator.now)) } }
-    ensures had { result ≡ is_some (value_at (list_at (rest_of stored.old).properties (symbol_of symbol.now)) (symbol_of indicator.now)) }
-    ensures values { IsProperRows stored.new.properties.entries }
+    ensures ok { let r = rest_of stored.old in let x = symbol_of symbol.now in
+        OnOk result (rest_of stored.new ≡ record r { properties = with_list r.properties x (without_value (list_at r.properties x) (symbol_of indicator.now)) }) }
+    ensures had { IfOk result (λ had. had ≡ is_some (value_at (list_at (rest_of stored.old).properties (symbol_of symbol.now)) (symbol_of indicator.now))) }
+    ensures err { OnErr result (rest_of stored.new ≡ rest_of stored.old) }
+    ensures wider { IsWider stored.old.properties.entries stored.new.properties.entries }
+    ensures marked { Continues (marks_of marks.old.items) (rest_of stored.old) (marks_of marks.new.items) (rest_of stored.new) }
 {
-    rows::remove(&mut stored.properties, symbol, indicator).is_some()
+    if rows::value(&stored.properties, symbol, indicator).is_none() {
+        return Ok(false);
+    }
+    let noted = symbol.copy(alloc)?;
+    reserve_note(marks)?;
+    let Some(change) = rows::remove(&mut stored.properties, symbol, indicator) else {
+        unreachable!()
+    };
+    push_note(
+        marks,
+        Note::Property {
+            symbol: noted,
+            change,
+        },
+    );
+    Ok(true)
 }

@@ -1,17 +1,24 @@
-//! Readtables by their names: look-ups and single changes.
-ghost use Rattle.std.specs.Prelude.{ℕ, ◌≡◌, ◌≢◌, ◌<◌, Ok, Err, Some, IsTrue, IsFalse, IfErr, IfSome, MatchResult, OnOk, OnErr, IsOk, if◌then◌else◌, is_ok};
-ghost use Rattle.std.specs.Option.{option_map};
+//! Readtables by their names: look-ups, single changes, and how each is taken back. A change that is made is noted.
+ghost use Rattle.std.specs.Prelude.{ℕ, ◌≡◌, ◌≢◌, ◌<◌, Ok, Err, Some, None, IsTrue, IsFalse, IfOk, IfErr, MatchResult, OnOk, OnErr, IsOk};
+ghost use Rattle.std.specs.Option.{option_map, option_map_or};
 ghost use Rattle.std.specs.FinMap as finite;
 ghost use Rattle.readtable_core.specs.Names.{is_dispatch_name};
 ghost use Rattle.readtable_core.specs.Tables.{Table, entry_at};
-ghost use Rattle.readtable_core.specs.Changes.{with_entry};
+ghost use Rattle.readtable_core.specs.Changes.{with_entry, dispatch_refusal};
 ghost use Rattle.plist_state.specs.declared.error.ReadtableError.TheVariants.{OutOfMemory};
-ghost use Rattle.plist_state.specs.Changes.{writable, changed, with_case, with_macro, with_dispatching, with_dispatch, with_syntax, with_copy, Gives};
+ghost use Rattle.plist_state.specs.declared.note.TableChange.TheVariants.{Over, Character};
+ghost use Rattle.plist_state.specs.declared.note.Note.TheVariants.{Made, Changed};
+ghost use Rattle.plist_state.specs.Changes.{writable, with_case, with_macro, with_dispatching, with_dispatch, with_syntax, with_copy, refused_as, Gives};
+ghost use Rattle.plist_state.specs.State.{Rest};
 ghost use Rattle.plist_state.specs.Shown.{readtables_of};
+ghost use Rattle.plist_state.specs.Undoing.{table_before, tables_before};
+ghost use Rattle.plist_state.specs.Journal.{marks_of, IsTableChange, Continues};
 
 use crate::ReadtableError;
-use readtable_core::{Case, CharacterEntry, DispatchRefusal, FnName, Readtable};
-use std::alloc::Global;
+use crate::journal::{push_note, reserve_named};
+use crate::note::{Note, TableChange};
+use readtable_core::{Case, CharacterEntry, FnName, Readtable};
+use std::alloc::{AllocError, Global};
 use std::collections::BTreeMap;
 
 /// The name of the standard readtable.
@@ -47,26 +54,90 @@ fn check_writable(tables: &BTreeMap<Vec<u8>, Readtable>, name: &[u8]) -> Result<
     Ok(())
 }
 
+// That the sub-character of the readtable of this name, which is there, may have a function.
+fn check_dispatch(
+    tables: &BTreeMap<Vec<u8>, Readtable>,
+    name: &[u8],
+    c: u8,
+    sub: u8,
+) -> Result<(), ReadtableError>
+    requires { IsTrue (finite.contains_key (readtables_of tables.now) name.now) }
+    ensures { (t : Table) → finite.get (readtables_of tables.now) name.now ≡ Some t
+        → MatchResult result (λ _. dispatch_refusal t c sub ≡ None)
+        (λ e. (option_map refused_as (dispatch_refusal t c sub) ≡ Some e) × (e ≢ OutOfMemory)) }
+{
+    let Some(table) = table(tables, name) else {
+        unreachable!()
+    };
+    if !table.is_dispatching(c) {
+        return Err(ReadtableError::NotDispatching);
+    }
+    if sub.is_ascii_digit() {
+        return Err(ReadtableError::DigitSubcharacter);
+    }
+    Ok(())
+}
+
+// A copy of what is at a character of the readtable of this name, which is there.
+fn copy_entry(
+    alloc: Global,
+    tables: &BTreeMap<Vec<u8>, Readtable>,
+    name: &[u8],
+    c: u8,
+) -> Result<CharacterEntry, AllocError>
+    requires character { c < 128 }
+    requires there { IsTrue (finite.contains_key (readtables_of tables.now) name.now) }
+    ensures { (t : Table) → finite.get (readtables_of tables.now) name.now ≡ Some t → IfOk result (λ entry. entry ≡ entry_at t c) }
+{
+    let Some(table) = table(tables, name) else {
+        unreachable!()
+    };
+    table.entry(alloc, c)
+}
+
+// The note that this was at the character of the readtable of this name.
+fn was_at(name: Vec<u8>, c: u8, entry: CharacterEntry) -> Note
+    ensures { result ≡ Changed name (Character c entry) }
+{
+    let change = TableChange::Character { c, entry };
+    Note::Changed { name, change }
+}
+
 /// Sets the case of a readtable.
 pub(crate) fn set_case(
+    alloc: Global,
     tables: &mut BTreeMap<Vec<u8>, Readtable>,
+    marks: &mut Vec<Vec<Note>>,
     name: &[u8],
     letters: Case,
 ) -> Result<(), ReadtableError>
     ensures gives { Gives (λ _. readtables_of tables.new) result (with_case (readtables_of tables.old) name.now letters) }
     ensures unchanged { IfErr result (λ _. readtables_of tables.new ≡ readtables_of tables.old) }
+    ensures marked { (r : Rest) → Continues (marks_of marks.old.items) (record r { readtables = readtables_of tables.old })
+        (marks_of marks.new.items) (record r { readtables = readtables_of tables.new }) }
 {
     check_writable(tables, name)?;
+    let noted = reserve_named(alloc, marks, name)?;
     let Some(table) = tables.get_mut(name) else {
         unreachable!()
     };
+    let change = TableChange::Letters(table.case());
     table.set_case(letters);
+    push_note(
+        marks,
+        Note::Changed {
+            name: noted,
+            change,
+        },
+    );
     Ok(())
 }
 
 /// Makes a character of a readtable a macro character.
 pub(crate) fn set_macro(
+    alloc: Global,
     tables: &mut BTreeMap<Vec<u8>, Readtable>,
+    marks: &mut Vec<Vec<Note>>,
     name: &[u8],
     c: u8,
     function: FnName,
@@ -76,18 +147,25 @@ pub(crate) fn set_macro(
     requires name { IsFalse (is_dispatch_name function) }
     ensures gives { Gives (λ _. readtables_of tables.new) result (with_macro (readtables_of tables.old) name.now c function non_terminating) }
     ensures unchanged { IfErr result (λ _. readtables_of tables.new ≡ readtables_of tables.old) }
+    ensures marked { (r : Rest) → Continues (marks_of marks.old.items) (record r { readtables = readtables_of tables.old })
+        (marks_of marks.new.items) (record r { readtables = readtables_of tables.new }) }
 {
     check_writable(tables, name)?;
+    let entry = copy_entry(alloc, tables, name, c)?;
+    let noted = reserve_named(alloc, marks, name)?;
     let Some(table) = tables.get_mut(name) else {
         unreachable!()
     };
     table.set_macro(c, function, non_terminating);
+    push_note(marks, was_at(noted, c, entry));
     Ok(())
 }
 
 /// Makes a character of a readtable a dispatching macro character.
 pub(crate) fn make_dispatch(
+    alloc: Global,
     tables: &mut BTreeMap<Vec<u8>, Readtable>,
+    marks: &mut Vec<Vec<Note>>,
     name: &[u8],
     c: u8,
     non_terminating: bool,
@@ -95,20 +173,27 @@ pub(crate) fn make_dispatch(
     requires { c < 128 }
     ensures gives { Gives (λ _. readtables_of tables.new) result (with_dispatching (readtables_of tables.old) name.now c non_terminating) }
     ensures unchanged { IfErr result (λ _. readtables_of tables.new ≡ readtables_of tables.old) }
+    ensures marked { (r : Rest) → Continues (marks_of marks.old.items) (record r { readtables = readtables_of tables.old })
+        (marks_of marks.new.items) (record r { readtables = readtables_of tables.new }) }
 {
     check_writable(tables, name)?;
+    let entry = copy_entry(alloc, tables, name, c)?;
+    let noted = reserve_named(alloc, marks, name)?;
     let Some(table) = tables.get_mut(name) else {
         unreachable!()
     };
-    match table.make_dispatch(c, non_terminating) {
-        Ok(()) => Ok(()),
-        Err(_) => Err(ReadtableError::OutOfMemory),
+    if let Err(_) = table.make_dispatch(c, non_terminating) {
+        return Err(ReadtableError::OutOfMemory);
     }
+    push_note(marks, was_at(noted, c, entry));
+    Ok(())
 }
 
 /// Sets the function of a sub-character in a readtable.
 pub(crate) fn set_dispatch(
+    alloc: Global,
     tables: &mut BTreeMap<Vec<u8>, Readtable>,
+    marks: &mut Vec<Vec<Note>>,
     name: &[u8],
     c: u8,
     sub: u8,
@@ -119,35 +204,47 @@ pub(crate) fn set_dispatch(
     requires name { IsFalse (is_dispatch_name function) }
     ensures gives { Gives (λ _. readtables_of tables.new) result (with_dispatch (readtables_of tables.old) name.now c sub function) }
     ensures unchanged { IfErr result (λ _. readtables_of tables.new ≡ readtables_of tables.old) }
+    ensures marked { (r : Rest) → Continues (marks_of marks.old.items) (record r { readtables = readtables_of tables.old })
+        (marks_of marks.new.items) (record r { readtables = readtables_of tables.new }) }
 {
     check_writable(tables, name)?;
+    check_dispatch(tables, name, c, sub)?;
+    let entry = copy_entry(alloc, tables, name, c)?;
+    let noted = reserve_named(alloc, marks, name)?;
     let Some(table) = tables.get_mut(name) else {
         unreachable!()
     };
-    match table.set_dispatch(c, sub, function) {
-        Ok(()) => Ok(()),
-        Err(DispatchRefusal::NotDispatching) => Err(ReadtableError::NotDispatching),
-        Err(DispatchRefusal::DigitSubcharacter) => Err(ReadtableError::DigitSubcharacter),
+    if let Err(_) = table.set_dispatch(c, sub, function) {
+        unreachable!()
     }
+    push_note(marks, was_at(noted, c, entry));
+    Ok(())
 }
 
-// Puts an entry into the readtable of this name, which is there.
-fn put_entry(tables: &mut BTreeMap<Vec<u8>, Readtable>, name: &[u8], c: u8, entry: CharacterEntry)
+// Puts an entry into the readtable of this name, which is there, and gives the old one.
+fn put_entry(
+    tables: &mut BTreeMap<Vec<u8>, Readtable>,
+    name: &[u8],
+    c: u8,
+    entry: CharacterEntry,
+) -> CharacterEntry
     requires character { c < 128 }
     requires there { IsTrue (finite.contains_key (readtables_of tables.old) name.now) }
-    ensures { let m = readtables_of tables.old in (t : Table) → finite.get m name.now ≡ Some t
+    ensures after { let m = readtables_of tables.old in (t : Table) → finite.get m name.now ≡ Some t
         → readtables_of tables.new ≡ finite.insert m name.now (with_entry t c entry) }
+    ensures before { (t : Table) → finite.get (readtables_of tables.old) name.now ≡ Some t → result ≡ entry_at t c }
 {
     let Some(table) = tables.get_mut(name) else {
         unreachable!()
     };
-    let _ = table.put_entry(c, entry);
+    table.put_entry(c, entry)
 }
 
 /// Gives a character of a readtable the syntax that one has in another.
 pub(crate) fn set_syntax(
     alloc: Global,
     tables: &mut BTreeMap<Vec<u8>, Readtable>,
+    marks: &mut Vec<Vec<Note>>,
     to: &[u8],
     c: u8,
     from: &[u8],
@@ -157,16 +254,17 @@ pub(crate) fn set_syntax(
     requires from { d < 128 }
     ensures gives { Gives (λ _. readtables_of tables.new) result (with_syntax (readtables_of tables.old) to.now c from.now d) }
     ensures unchanged { IfErr result (λ _. readtables_of tables.new ≡ readtables_of tables.old) }
+    ensures marked { (r : Rest) → Continues (marks_of marks.old.items) (record r { readtables = readtables_of tables.old })
+        (marks_of marks.new.items) (record r { readtables = readtables_of tables.new }) }
 {
     if table(tables, from).is_none() {
         return Err(ReadtableError::NoReadtable);
     }
     check_writable(tables, to)?;
-    let entry = match table(tables, from) {
-        Some(other) => other.entry(alloc, d)?,
-        None => unreachable!(),
-    };
-    put_entry(tables, to, c, entry);
+    let entry = copy_entry(alloc, tables, from, d)?;
+    let noted = reserve_named(alloc, marks, to)?;
+    let before = put_entry(tables, to, c, entry);
+    push_note(marks, was_at(noted, c, before));
     Ok(())
 }
 
@@ -174,19 +272,54 @@ pub(crate) fn set_syntax(
 pub(crate) fn copy(
     alloc: Global,
     tables: &mut BTreeMap<Vec<u8>, Readtable>,
+    marks: &mut Vec<Vec<Note>>,
     from: &[u8],
     to: &[u8],
 ) -> Result<(), ReadtableError>
     ensures gives { Gives (λ _. readtables_of tables.new) result (with_copy (readtables_of tables.old) from.now to.now) }
     ensures unchanged { IfErr result (λ _. readtables_of tables.new ≡ readtables_of tables.old) }
+    ensures marked { (r : Rest) → Continues (marks_of marks.old.items) (record r { readtables = readtables_of tables.old })
+        (marks_of marks.new.items) (record r { readtables = readtables_of tables.new }) }
 {
     check_copy(tables, from, to)?;
     let copied = match table(tables, from) {
         Some(other) => other.copy(alloc)?,
         None => unreachable!(),
     };
+    let noted = reserve_named(alloc, marks, to)?;
     let to = Vec::from_slice(alloc, to)?;
-    put_table(tables, to, copied)
+    let before = put_table(tables, to, copied)?;
+    push_note(marks, was_table(noted, before));
+    Ok(())
+}
+
+// Puts a readtable at a name, and gives what was there.
+fn put_table(
+    tables: &mut BTreeMap<Vec<u8>, Readtable>,
+    name: Vec<u8>,
+    table: Readtable,
+) -> Result<Option<Readtable>, ReadtableError>
+    ensures ok { OnOk result (readtables_of tables.new ≡ finite.insert (readtables_of tables.old) name.items table) }
+    ensures before { IfOk result (λ before. before ≡ finite.get (readtables_of tables.old) name.items) }
+    ensures err { IfErr result (λ e. (e ≡ OutOfMemory) × (readtables_of tables.new ≡ readtables_of tables.old)) }
+{
+    match tables.insert(name, table) {
+        Ok(before) => Ok(before),
+        Err(_) => Err(ReadtableError::OutOfMemory),
+    }
+}
+
+// The note that this was the readtable of this name, or that there was none.
+fn was_table(name: Vec<u8>, before: Option<Readtable>) -> Note
+    ensures { result ≡ option_map_or (λ t. Changed name (Over t)) before (Made name) }
+{
+    match before {
+        Some(table) => Note::Changed {
+            name,
+            change: TableChange::Over(table),
+        },
+        None => Note::Made(name),
+    }
 }
 
 // The first reason to refuse a copy.
@@ -218,17 +351,34 @@ fn count(tables: &BTreeMap<Vec<u8>, Readtable>) -> usize
     tables.len()
 }
 
-// Puts a readtable at a name.
-fn put_table(
-    tables: &mut BTreeMap<Vec<u8>, Readtable>,
-    name: Vec<u8>,
-    table: Readtable,
-) -> Result<(), ReadtableError>
-    ensures ok { OnOk result (readtables_of tables.new ≡ finite.insert (readtables_of tables.old) name.items table) }
-    ensures err { IfErr result (λ e. (e ≡ OutOfMemory) × (readtables_of tables.new ≡ readtables_of tables.old)) }
+// Takes a change of a readtable back.
+fn revert(table: &mut Readtable, change: TableChange)
+    requires { IsTableChange change }
+    ensures { table.new ≡ table_before change table.old }
 {
-    match tables.insert(name, table) {
-        Ok(_) => Ok(()),
-        Err(_) => Err(ReadtableError::OutOfMemory),
+    match change {
+        TableChange::Over(before) => *table = before,
+        TableChange::Letters(letters) => table.set_case(letters),
+        TableChange::Character { c, entry } => {
+            let _ = table.put_entry(c, entry);
+        }
     }
+}
+
+/// Takes a change of the readtable of this name back. Takes no memory.
+pub(crate) fn take_back(tables: &mut BTreeMap<Vec<u8>, Readtable>, name: &[u8], change: TableChange)
+    requires { IsTableChange change }
+    ensures { readtables_of tables.new ≡ tables_before (readtables_of tables.old) name.now change }
+{
+    if let Some(table) = tables.get_mut(name) {
+        revert(table, change);
+    }
+}
+
+/// Takes the readtable of this name out. Takes no memory.
+pub(crate) fn remove(tables: &mut BTreeMap<Vec<u8>, Readtable>, name: &[u8])
+    ensures { readtables_of tables.new ≡ finite.remove (readtables_of tables.old) name.now }
+{
+    let _count = tables.len();
+    tables.remove(name);
 }

@@ -1,14 +1,64 @@
-//! Changes of a property list, with what they overwrote.
-use crate::Property;
-use lisp_object::Datum;
+//! Going back: changes are undone, the last first. No call takes memory.
+ghost use Rattle.std.specs.Prelude.{◌≡◌, ◌<◌, length, take, Some};
+ghost use Rattle.std.specs.List.{slice_get};
+ghost use Rattle.plist_state.specs.Shown.{rest_of};
+ghost use Rattle.plist_state.specs.Kept.{IsProperRows, IsWider};
+ghost use Rattle.plist_state.specs.Undoing.{undone, all_undone, rests_at};
+ghost use Rattle.plist_state.specs.Journal.{marks_of, IsNoted, IsJournal, Fits, LeadsBack};
 
-/// What has changed in a property list.
-#[derive(Drop)]
-pub(crate) enum PropertyChange {
-    /// The value at a place was set; before, this one was there.
-    Set { place: usize, value: Datum },
-    /// A property was added at the end.
-    Added,
-    /// This property was taken out of its place.
-    Removed { place: usize, property: Property },
+use crate::note::Note;
+use crate::stored::Stored;
+use crate::{rows, tables};
+
+fn undo(stored: &mut Stored, note: Note)
+    requires note { IsNoted note }
+    requires room { Fits stored.old.properties.entries (undone note (rest_of stored.old)) }
+    ensures after { rest_of stored.new ≡ undone note (rest_of stored.old) }
+    ensures wider { IsWider stored.old.properties.entries stored.new.properties.entries }
+{
+    match note {
+        Note::Property { symbol, change } => {
+            rows::take_back(&mut stored.properties, &symbol, change);
+        }
+        Note::Made(name) => tables::remove(&mut stored.readtables, name.as_slice()),
+        Note::Changed { name, change } => {
+            tables::take_back(&mut stored.readtables, name.as_slice(), change);
+        }
+        Note::InPackage(name) => stored.current_package = name,
+        Note::InReadtable(name) => stored.current_readtable = name,
+    }
+}
+
+fn undo_all(stored: &mut Stored, notes: Vec<Note>)
+    requires { LeadsBack notes.items (rest_of stored.old) stored.old.properties.entries }
+    ensures after { rest_of stored.new ≡ all_undone notes.items (rest_of stored.old) }
+    ensures wider { IsWider stored.old.properties.entries stored.new.properties.entries }
+{
+    let mut notes = notes;
+    while let Some(note) = notes.pop() {
+        undo(stored, note);
+    }
+}
+
+/// What was stored at this mark is there again, with the earlier marks alone.
+pub(crate) fn undo_to(stored: &mut Stored, marks: &mut Vec<Vec<Note>>, mark: usize)
+    requires mark { mark < length marks.old.items }
+    requires journal { IsJournal (marks_of marks.old.items) (rest_of stored.old) stored.old.properties.entries }
+    ensures past { rests_at (marks_of marks.new.items) (rest_of stored.new)
+        ≡ take mark (rests_at (marks_of marks.old.items) (rest_of stored.old)) }
+    ensures now { slice_get (rests_at (marks_of marks.old.items) (rest_of stored.old)) mark
+        ≡ Some (rest_of stored.new) }
+    ensures count { length marks.new.items ≡ mark }
+    ensures journal { IsJournal (marks_of marks.new.items) (rest_of stored.new) stored.new.properties.entries }
+    ensures wider { IsWider stored.old.properties.entries stored.new.properties.entries }
+{
+    loop {
+        let Some(newest) = marks.pop() else {
+            unreachable!()
+        };
+        undo_all(stored, newest);
+        if marks.len() == mark {
+            return;
+        }
+    }
 }

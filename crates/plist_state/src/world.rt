@@ -8,6 +8,7 @@ ghost use Rattle.plist_state.specs.Shown.{symbol_of, property_of};
 ghost use Rattle.plist_state.specs.Sound.{IsSoundWorld};
 ghost use Rattle.plist_state.specs.State.{initial};
 
+use crate::note::Note;
 use crate::stored::{Stored, first_stored};
 use crate::{Property, Symbol, rows, tables};
 use lisp_object::Datum;
@@ -23,8 +24,8 @@ pub struct World {
     pub(crate) alloc: Global,
     pub(crate) packages: Packages,
     pub(crate) stored: Stored,
-    // What the rest was at each mark; the packages have marks of their own at the same places.
-    pub(crate) marks: Vec<Stored>,
+    // What changed in the rest since each mark, up to the next one. The packages have marks of their own at the same places.
+    pub(crate) marks: Vec<Vec<Note>>,
 }
 
 impl Model for World {
@@ -35,7 +36,7 @@ impl Model for World {
 
     ghost coded = { worlds_code };
 
-    ghost use Rattle.plist_state.specs.Kept.{worlds_of, IsKept};
+    ghost use Rattle.plist_state.specs.Marked.{worlds_of, IsKept};
 
     ghost view = { worlds_of };
 

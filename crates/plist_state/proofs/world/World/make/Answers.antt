@@ -1,5 +1,6 @@
 use Rattle.std.proofs.Common.{sym, subst}
-use Rattle.plist_state.specs.Kept.{AreKept}
+use Rattle.plist_state.specs.Journal.{marks_of}
+use Rattle.plist_state.specs.Marked.{AreKept}
 use Rattle.plist_state.specs.State.{State, state_with}
 use Rattle.plist_state.specs.Shown.{rest_of}
 use Rattle.plist_state.proofs.Soundness.{sound_packages}
@@ -11,6 +12,6 @@ invariant_of-self c =
     let s : State = state_with a.packages.0 (rest_of a.stored) in
     record {
       values = c.self.invariant.values;
-      marked = subst (λ ts. AreKept ts a.marks.items) (sym c.make-result.ensures.marked) c.self.invariant.marked;
+      marked = subst (λ ts. AreKept ts (marks_of a.marks.items) (rest_of a.stored) a.stored.properties.entries) (sym c.make-result.ensures.marked) c.self.invariant.marked;
       sound = sound_packages s c.make-result.new.self.0 c.self.invariant.sound c.soundness.ensures c.make-result.ensures.grows;
     }

@@ -1,0 +1,217 @@
+-- The journal: notes and marks that are pushed and popped.
+--     all_push, rests_push, length-rests      what one note more, and one mark more, lead back to
+--     leads_pop, leads_wider, journal_taken, journal_wider      what holds of the way back
+--     fits_now      the rows have memory for what they hold
+--     same_marks, room_last, had_room, noted      what a write to the newest mark leaves
+--     continues_same, continues_noted      nothing was changed, and a change was noted
+--     popped, past_marks, at_mark      the newest mark taken away
+use Rattle.std.proofs.Common.{◌≡◌, ◌++◌, ◌+◌, ◌-◌, ◌<◌, ◌≤◌, ℕ, suc, None, Some, List, [], ◌∷◌, length, slice_index_or, slice_set, take, Result, Ok, Err, OnOk, refl, sym, ap, ◌∙◌, arith, subst, add-one}
+use Rattle.std.specs.List.{slice_get}
+use Rattle.std.specs.Option.{option_map_or}
+use Rattle.std.specs.Global.{Vec}
+use Rattle.std.specs.Vec.{vec_len, vec_capacity}
+use Rattle.std.proofs.lemmas.List.{length-map, map_push, append_assoc}
+use Rattle.plist_state.specs.declared.note.Note.{Note}
+use Rattle.plist_state.specs.declared.property.Property.{Property}
+use Rattle.plist_state.specs.Properties.{Properties, list_at}
+use Rattle.plist_state.specs.State.{Rest}
+use Rattle.plist_state.specs.Shown.{Rows, lists_in, plist_of, property_of, row_at, room_at}
+use Rattle.plist_state.specs.Kept.{IsWider}
+use Rattle.plist_state.specs.Undoing.{undone, all_undone, undone_since, rests_at}
+use Rattle.plist_state.specs.Journal.{marks_of, has_room, IsNoted, Fits, LeadsBack, IsJournal, Continues}
+use Rattle.plist_state.proofs.Lists.{list-lists_in}
+
+-- ---- what is led back to
+pub all_push : (ns : List Note) (n : Note) (r : Rest) → all_undone (ns ++ n ∷ []) r ≡ all_undone ns (undone n r)
+all_push [] n r = refl
+all_push (m ∷ ns) n r = ap (undone m) (all_push ns n r)
+
+since_push : (ms : List (List Note)) (m : List Note) (r : Rest) → undone_since (ms ++ m ∷ []) r ≡ undone_since ms (all_undone m r)
+since_push [] m r = refl
+since_push (k ∷ ms) m r = ap (all_undone k) (since_push ms m r)
+
+pub rests_push : (ms : List (List Note)) (m : List Note) (r : Rest) → rests_at (ms ++ m ∷ []) r ≡ rests_at ms (all_undone m r) ++ all_undone m r ∷ []
+rests_push [] m r = refl
+rests_push (k ∷ ms) m r = λ i. all_undone k (since_push ms m r i) ∷ rests_push ms m r i
+
+pub length-rests : (ms : List (List Note)) (r : Rest) → length (rests_at ms r) ≡ length ms
+length-rests [] r = refl
+length-rests (m ∷ ms) r = ap (λ k. suc k) (length-rests ms r)
+
+-- ---- what holds of the way back
+fits_wider : (r : Rest) (rows later : Rows) → IsWider rows later → Fits rows r → Fits later r
+fits_wider r rows later wider fits x =
+    let held : length (list_at r.properties x) ≤ room_at rows x = fits x in
+    let more : room_at rows x ≤ room_at later x = wider.rooms x in
+    omega (arith, held, more)
+
+leads_push : (ns : List Note) (n : Note) (u : Rest) (rows : Rows) → IsNoted n → Fits rows (undone n u) → LeadsBack ns (undone n u) rows → LeadsBack (ns ++ n ∷ []) u rows
+leads_push [] n u rows noted fits leads = (noted, fits, tt)
+leads_push (m ∷ ns) n u rows noted fits leads =
+    (leads.0, subst (Fits rows) (sym (ap (undone m) (all_push ns n u))) leads.1, leads_push ns n u rows noted fits leads.2)
+
+pub leads_pop : (ns : List Note) (n : Note) (u : Rest) (rows : Rows) → LeadsBack (ns ++ n ∷ []) u rows → IsNoted n × Fits rows (undone n u) × LeadsBack ns (undone n u) rows
+leads_pop [] n u rows leads = (leads.0, leads.1, tt)
+leads_pop (m ∷ ns) n u rows leads =
+    let left : IsNoted n × Fits rows (undone n u) × LeadsBack ns (undone n u) rows = leads_pop ns n u rows leads.2 in
+    (left.0, left.1, (leads.0, subst (Fits rows) (ap (undone m) (all_push ns n u)) leads.1, left.2))
+
+pub leads_wider : (ns : List Note) (r : Rest) (rows later : Rows) → IsWider rows later → LeadsBack ns r rows → LeadsBack ns r later
+leads_wider [] r rows later wider leads = tt
+leads_wider (n ∷ ns) r rows later wider leads =
+    (leads.0, fits_wider (all_undone (n ∷ ns) r) rows later wider leads.1, leads_wider ns r rows later wider leads.2)
+
+pub journal_put : (ms : List (List Note)) (m : List Note) (r : Rest) (rows : Rows) → LeadsBack m r rows → IsJournal ms (all_undone m r) rows → IsJournal (ms ++ m ∷ []) r rows
+journal_put [] m r rows leads journal = (leads, tt)
+journal_put (k ∷ ms) m r rows leads journal =
+    (subst (λ s. LeadsBack k s rows) (sym (since_push ms m r)) journal.0, journal_put ms m r rows leads journal.1)
+
+pub journal_taken : (ms : List (List Note)) (m : List Note) (r : Rest) (rows : Rows) → IsJournal (ms ++ m ∷ []) r rows → LeadsBack m r rows × IsJournal ms (all_undone m r) rows
+journal_taken [] m r rows journal = (journal.0, tt)
+journal_taken (k ∷ ms) m r rows journal =
+    let left : LeadsBack m r rows × IsJournal ms (all_undone m r) rows = journal_taken ms m r rows journal.1 in
+    (left.0, (subst (λ s. LeadsBack k s rows) (since_push ms m r) journal.0, left.1))
+
+pub journal_wider : (ms : List (List Note)) (r : Rest) (rows later : Rows) → IsWider rows later → IsJournal ms r rows → IsJournal ms r later
+journal_wider [] r rows later wider journal = tt
+journal_wider (m ∷ ms) r rows later wider journal =
+    (leads_wider m (undone_since ms r) rows later wider journal.0, journal_wider ms r rows later wider journal.1)
+
+row_fits : (row : Vec Property) → length (plist_of row) ≤ vec_capacity row
+row_fits row = omega (arith, row.ok, length-map row.items property_of)
+
+pub fits_now : (rows : Rows) (r : Rest) → r.properties ≡ lists_in rows → Fits rows r
+fits_now rows r is x =
+    subst (λ ps. length ps ≤ room_at rows x) (sym (ap (λ (m : Properties). list_at m x) is ∙ list-lists_in rows x))
+    (elim (row_at rows x) as (λ o. length (option_map_or plist_of o []) ≤ option_map_or vec_capacity o 0) [
+      | None ↦ omega arith
+      | Some row ↦ row_fits row
+    ])
+
+-- ---- the newest mark
+later : {A : Type 0} (y : A) (ys : List A) (i : ℕ) (d : A) → slice_index_or (y ∷ ys) (i + 1) d ≡ slice_index_or ys i d
+later y ys i d = rw (add-one i) refl
+
+set_later : {A : Type 0} (y : A) (ys : List A) (i : ℕ) (w : A) → slice_set (y ∷ ys) (i + 1) w ≡ y ∷ slice_set ys i w
+set_later y ys i w = rw (add-one i) refl
+
+-- x is the last of xs, at n, and a write there leaves the others
+abbrev IsLast : {A : Type 0} → List A → ℕ → A → Type 0
+IsLast {A} xs n x = (before : List A) × (xs ≡ before ++ x ∷ []) × ((w : A) → slice_set xs n w ≡ before ++ w ∷ [])
+
+longer : {A : Type 0} (y : A) (zs : List A) (x : A) (n k : ℕ) → k ≡ n + 1 → IsLast zs n x → IsLast (y ∷ zs) k x
+longer y zs x n k next (before, split, write) =
+    (y ∷ before, ap (λ ys. y ∷ ys) split, λ w. ap (λ i. slice_set (y ∷ zs) i w) next ∙ set_later y zs n w ∙ ap (λ ys. y ∷ ys) (write w))
+
+at_last : {A : Type 0} (xs : List A) (x : A) → 0 < length xs → x ≡ slice_index_or xs (length xs - 1) x → IsLast xs (length xs - 1) x
+at_last [] x some is = absurd (omega (arith, some))
+at_last (y ∷ []) x some is = ([], ap (λ z. z ∷ []) (sym is), λ w. refl)
+at_last (y ∷ z ∷ xs) x some is =
+    let n : ℕ = length (z ∷ xs) - 1 in
+    let next : length (y ∷ z ∷ xs) - 1 ≡ n + 1 = omega arith in
+    let same : slice_index_or (y ∷ z ∷ xs) (length (y ∷ z ∷ xs) - 1) x ≡ slice_index_or (z ∷ xs) n x = ap (λ i. slice_index_or (y ∷ z ∷ xs) i x) next ∙ later y (z ∷ xs) n x in
+    longer y (z ∷ xs) x n (length (y ∷ z ∷ xs) - 1) next (at_last (z ∷ xs) x (omega arith) (is ∙ same))
+
+pub on_ok : {T E : Type 0} {P Q : Type 0} (r : Result T E) → (P → Q) → OnOk r P → OnOk r Q
+on_ok (Ok x) f p = f p
+on_ok (Err e) f p = p
+
+room_at_end : (ms : List (Vec Note)) (m : Vec Note) → vec_len m < vec_capacity m → has_room (ms ++ m ∷ [])
+room_at_end [] m room = room
+room_at_end (n ∷ []) m room = room
+room_at_end (n ∷ o ∷ ms) m room = room_at_end (o ∷ ms) m room
+
+room_of_end : (ms : List (Vec Note)) (m : Vec Note) → has_room (ms ++ m ∷ []) → vec_len m < vec_capacity m
+room_of_end [] m room = room
+room_of_end (n ∷ []) m room = room
+room_of_end (n ∷ o ∷ ms) m room = room_of_end (o ∷ ms) m room
+
+abbrev pub notes_of : Vec Note → List Note
+notes_of m = m.items
+
+pub continues_same : (ms ns : List (List Note)) (t u : Rest) → ns ≡ ms → u ≡ t → Continues ms t ns u
+continues_same ms ns t u marks rest = record {
+  same = λ i. rests_at (marks i) (rest i);
+  journal = λ rows _ journal. subst (λ r. IsJournal ns r rows) (sym rest) (subst (λ ks. IsJournal ks t rows) (sym marks) journal);
+}
+
+-- a note that was pushed where room for it was made
+pub continues_noted : (ms ks ns : List (List Note)) (note : Note) (t u : Rest) → ks ≡ ms → ((t u : Rest) → IsNoted note → undone note u ≡ t → Continues ks t ns u) → IsNoted note → undone note u ≡ t → Continues ms t ns u
+continues_noted ms ks ns note t u same pushed proper undoes = subst (λ k. Continues k t ns u) same (pushed t u proper undoes)
+
+-- one note more under the newest mark
+continues_push : (ms : List (List Note)) (m : List Note) (n : Note) (t u : Rest) → IsNoted n → undone n u ≡ t → Continues (ms ++ m ∷ []) t (ms ++ (m ++ n ∷ []) ∷ []) u
+continues_push ms m n t u noted undoes =
+    let back : all_undone (m ++ n ∷ []) u ≡ all_undone m t = all_push m n u ∙ ap (all_undone m) undoes in
+    record {
+      same = rests_push ms (m ++ n ∷ []) u ∙ (λ i. rests_at ms (back i) ++ back i ∷ []) ∙ sym (rests_push ms m t);
+      journal = λ rows fits journal.
+          let left : LeadsBack m t rows × IsJournal ms (all_undone m t) rows = journal_taken ms m t rows journal in
+          journal_put ms (m ++ n ∷ []) u rows
+          (leads_push m n u rows noted (subst (Fits rows) (sym undoes) fits) (subst (λ r. LeadsBack m r rows) (sym undoes) left.0))
+          (subst (λ r. IsJournal ms r rows) (sym back) left.1);
+    }
+
+-- the newest mark, and what is written in its place
+module _ (ms : List (Vec Note)) (n : ℕ) (m w : Vec Note) (is_length : length ms ≡ n) (some : 0 < n) (newest : m ≡ slice_index_or ms (n - 1) m) where
+  last : IsLast ms (n - 1) m
+  last = subst (λ k. IsLast ms (k - 1) m) is_length (at_last ms m (subst (λ k. 0 < k) (sym is_length) some) (newest ∙ ap (λ k. slice_index_or ms (k - 1) m) (sym is_length)))
+
+  marks_before : marks_of ms ≡ marks_of last.0 ++ m.items ∷ []
+  marks_before = ap marks_of last.1 ∙ map_push notes_of last.0 m
+
+  marks_after : marks_of (slice_set ms (n - 1) w) ≡ marks_of last.0 ++ w.items ∷ []
+  marks_after = ap marks_of (last.2 w) ∙ map_push notes_of last.0 w
+
+  pub same_marks : w.items ≡ m.items → marks_of (slice_set ms (n - 1) w) ≡ marks_of ms
+  same_marks same = marks_after ∙ ap (λ x. marks_of last.0 ++ x ∷ []) same ∙ sym marks_before
+
+  pub room_last : vec_len w < vec_capacity w → has_room (slice_set ms (n - 1) w)
+  room_last room = subst has_room (sym (last.2 w)) (room_at_end last.0 w room)
+
+  pub had_room : has_room ms → vec_len m < vec_capacity m
+  had_room room = room_of_end last.0 m (subst has_room last.1 room)
+
+  pub noted : (note : Note) → w.items ≡ m.items ++ note ∷ [] → (t u : Rest) → IsNoted note → undone note u ≡ t → Continues (marks_of ms) t (marks_of (slice_set ms (n - 1) w)) u
+  noted note is t u proper undoes =
+      subst (λ ks. Continues ks t (marks_of (slice_set ms (n - 1) w)) u) (sym marks_before)
+      (subst (λ ks. Continues (marks_of last.0 ++ m.items ∷ []) t ks u) (sym (marks_after ∙ ap (λ x. marks_of last.0 ++ x ∷ []) is))
+      (continues_push (marks_of last.0) m.items note t u proper undoes))
+
+-- ---- the newest mark taken away
+pub no_more : {A : Type 0} (xs : List A) → length xs ≡ 0 → xs ≡ []
+no_more [] e = refl
+no_more (x ∷ xs) e = absurd (omega arith)
+
+take_seam : {A : Type 0} (xs ys : List A) → take (length xs) (xs ++ ys) ≡ xs
+take_seam [] ys = refl
+take_seam (x ∷ xs) ys = ap (λ ls. x ∷ ls) (take_seam xs ys)
+
+get_seam : {A : Type 0} (xs : List A) (y : A) (ys : List A) → slice_get (xs ++ y ∷ ys) (length xs) ≡ Some y
+get_seam [] y ys = refl
+get_seam (x ∷ xs) y ys = get_seam xs y ys
+
+module _ (before : List (Vec Note)) (m : Vec Note) (ms : List (Vec Note)) (split : ms ≡ before ++ m ∷ []) (t u : Rest) (undoes : u ≡ all_undone m.items t) where
+  marks_split : marks_of ms ≡ marks_of before ++ m.items ∷ []
+  marks_split = ap marks_of split ∙ map_push notes_of before m
+
+  pub popped : (all rest : List Rest) → all ≡ rests_at (marks_of ms) t ++ rest → all ≡ rests_at (marks_of before) u ++ u ∷ rest
+  popped all rest is =
+      is ∙ ap (λ xs. xs ++ rest) (ap (λ ks. rests_at ks t) marks_split ∙ rests_push (marks_of before) m.items t ∙ (λ i. rests_at (marks_of before) (sym undoes i) ++ sym undoes i ∷ []))
+      ∙ append_assoc (rests_at (marks_of before) u) (u ∷ []) rest
+
+  -- what is undone, and what is left of the journal
+  pub taken : (rows : Rows) → IsJournal (marks_of ms) t rows → LeadsBack m.items t rows × IsJournal (marks_of before) u rows
+  taken rows journal =
+      let left : LeadsBack m.items t rows × IsJournal (marks_of before) (all_undone m.items t) rows = journal_taken (marks_of before) m.items t rows (subst (λ ks. IsJournal ks t rows) marks_split journal) in
+      (left.0, subst (λ r. IsJournal (marks_of before) r rows) (sym undoes) left.1)
+
+module _ (before : List (List Note)) (u : Rest) (all rest : List Rest) (mark : ℕ) (is : all ≡ rests_at before u ++ u ∷ rest) (here : length before ≡ mark) where
+  place : length (rests_at before u) ≡ mark
+  place = length-rests before u ∙ here
+
+  pub past_marks : rests_at before u ≡ take mark all
+  past_marks = sym (ap (λ k. take k all) (sym place) ∙ ap (take (length (rests_at before u))) is ∙ take_seam (rests_at before u) (u ∷ rest))
+
+  pub at_mark : slice_get all mark ≡ Some u
+  at_mark = ap (slice_get all) (sym place) ∙ ap (λ xs. slice_get xs (length (rests_at before u))) is ∙ get_seam (rests_at before u) u rest

@@ -1,0 +1,47 @@
+//! Changes, each with what it overwrote.
+use crate::{Property, Symbol};
+use lisp_object::Datum;
+use readtable_core::{Case, CharacterEntry, Readtable};
+
+/// What has changed in a property list.
+#[derive(Drop)]
+pub(crate) enum PropertyChange {
+    /// The value at a place was set; before, this one was there.
+    Set { place: usize, value: Datum },
+    /// A property was added at the end.
+    Added,
+    /// This property was taken out of its place.
+    Removed { place: usize, property: Property },
+}
+
+/// What has changed in a readtable.
+#[derive(Drop)]
+pub(crate) enum TableChange {
+    /// It was written over; before, it was this one.
+    Over(Readtable),
+    /// The case was set; before, it was this one.
+    Letters(Case),
+    /// What is at a character was set; before, this was there.
+    Character { c: u8, entry: CharacterEntry },
+}
+
+/// One change of what a world keeps besides its packages.
+#[derive(Drop)]
+pub(crate) enum Note {
+    /// The property list of a symbol changed.
+    Property {
+        symbol: Symbol,
+        change: PropertyChange,
+    },
+    /// A readtable was made.
+    Made(Vec<u8>),
+    /// The readtable of this name changed.
+    Changed {
+        name: Vec<u8>,
+        change: TableChange,
+    },
+    /// Another package became current; before, it was this one.
+    InPackage(Vec<u8>),
+    /// Another readtable became current; before, it was this one.
+    InReadtable(Vec<u8>),
+}
