@@ -40,6 +40,7 @@ mod call;
 mod close;
 mod complete;
 mod deliver;
+mod ending;
 mod found;
 mod frame;
 mod gathering;
@@ -50,14 +51,18 @@ mod limits;
 mod macros;
 mod objects;
 mod opening;
+mod reader;
 mod stage;
 mod surroundings;
 mod tokens;
 mod told;
+mod turn;
 mod way;
 
+pub use ending::ReadOutcome;
 pub use laws::{forms_are_decided, forms_are_framed, reading_goes_on, spaced_forms_are_framed};
 pub use limits::Limits;
+pub use reader::{FormReader, Step, read_one};
 pub use way::{Function, Keep, Way};
 
 #[cfg(test)]
