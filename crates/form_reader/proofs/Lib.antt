@@ -24,3 +24,4 @@ pub mod Readiness
 pub mod TurnsTaken
 pub mod Endings
 pub mod ReaderSteps
+pub mod Standings

@@ -18,8 +18,8 @@ use Rattle.form_reader.specs.declared.turn.Turn.{Turn}
 use Rattle.form_reader.specs.declared.turn.Turn.TheVariants.{Goes, Form as TurnForm, Refused as TurnRefused}
 use Rattle.form_reader.specs.Setting.{Setting}
 use Rattle.form_reader.specs.Reading.{Outcome, form, refused, reads}
-use Rattle.form_reader.specs.Turning.{rest_of, TurnsTo, IsStanding, IsReadyTurn}
-use Rattle.form_reader.specs.Reader.{IsNew, IsKept, IsKeptIn, IsAfter, IsAfterIn, Steps, Takes, IsOutcome}
+use Rattle.form_reader.specs.Turning.{rest_of, TurnsTo, IsReadyTurn}
+use Rattle.form_reader.specs.Reader.{fed, IsNew, IsAfter, IsAfterIn, Steps, Takes, IsOutcome}
 use Rattle.form_reader.proofs.Forms.{reads_is}
 
 -- a reader that was fed nothing is after no bytes
@@ -63,20 +63,14 @@ module _ (setting : Setting) (old mid new : FormReader) (stage : Stage) (bytes :
   stepped (TurnRefused code place) step a turns ready same takes =
       subst (λ (s : Step). Steps setting new fed_now s) (sym takes.0) (λ cs. one_more a cs ∙ turns cs, takes.1)
 
--- it goes on, or has refused, or is new
-pub kept_taking : (setting : Setting) (mid new : FormReader) (after : List Frame) (count : ℕ) (cs : List ℕ) (o : Outcome) (turn : Turn) (step : Step)
-    → TurnsTo setting after cs turn o → IsReadyTurn mid.limits after count turn → mid.frames ≡ after → new.limits ≡ mid.limits → Takes turn mid new step → IsKept new
-kept_taking setting mid new after count cs o (Goes start at st) step turns ready same limits takes =
-    subst (λ (s : State). IsKeptIn new s) (sym takes.4)
-    (subst (λ (p : Limits × List Frame × ℕ). IsStanding p.0 p.1 st p.2) (λ i. (sym limits i, (sym same ∙ sym takes.3) i, sym takes.2 i)) ready.0)
-kept_taking setting mid new after count cs o (TurnForm x start «end» next) (StepForm datum s e n) turns ready same limits takes =
-    let none : length new.frames ≡ 0 = ap (λ (fs : List Frame). length fs) (takes.7 ∙ same ∙ turns.1) in
-    subst (λ (s : State). IsKeptIn new s) (sym takes.8)
-    (record { place = omega (arith, takes.6); nesting = omega (arith, none); levels = tt })
-kept_taking setting mid new after count cs o (TurnForm x start «end» next) StepMore turns ready same limits takes = absurd takes
-kept_taking setting mid new after count cs o (TurnForm x start «end» next) (StepRefused code place) turns ready same limits takes = absurd takes
-kept_taking setting mid new after count cs o (TurnRefused code place) step turns ready same limits takes =
-    subst (λ (s : State). IsKeptIn new s) (sym takes.1) tt
+-- at most one byte more was fed
+pub fed_taking : (mid new : FormReader) (after : List Frame) (limits : Limits) (count : ℕ) (turn : Turn) (step : Step) → Takes turn mid new step → IsReadyTurn limits after count turn
+    → mid.start + mid.at + 1 ≡ count → fed new ≤ count
+fed_taking mid new after limits count (Goes start at st) step takes ready many = omega (arith, takes.1, takes.2, ready.1)
+fed_taking mid new after limits count (TurnForm x start «end» next) (StepForm datum s e n) takes ready many = omega (arith, takes.5, takes.6, many)
+fed_taking mid new after limits count (TurnForm x start «end» next) StepMore takes ready many = absurd takes
+fed_taking mid new after limits count (TurnForm x start «end» next) (StepRefused code place) takes ready many = absurd takes
+fed_taking mid new after limits count (TurnRefused code place) step takes ready many = omega (arith, takes.2, takes.3, many)
 
 -- ---- the end
 

@@ -14,4 +14,5 @@ pub mod Delivering
 pub mod Ready
 pub mod Turning
 pub mod Ending
+pub mod Standing
 pub mod Reader

@@ -13,7 +13,7 @@ use Rattle.form_reader.specs.declared.turn.Turn.{Turn}
 use Rattle.form_reader.specs.declared.turn.Turn.TheVariants.{Goes, Form as TurnForm, Refused as TurnRefused}
 use Rattle.form_reader.specs.Setting.{Setting}
 use Rattle.form_reader.specs.Reading.{Outcome, form, empty, refused, reads}
-use Rattle.form_reader.specs.Turning.{rest_of, IsStanding}
+use Rattle.form_reader.specs.Turning.{rest_of}
 
 -- how many bytes it was fed, while it goes on
 abbrev pub fed : FormReader → ℕ
@@ -25,15 +25,6 @@ pub record IsNew (reader : FormReader) : Type 0 where
   pub at : reader.at ≡ 0
   pub frames : reader.frames ≡ []
   pub state : reader.state ≡ Open AtObject
-
--- what always holds of it
-abbrev pub IsKeptIn : FormReader → State → Type 0
-IsKeptIn reader (Open stage) = IsStanding reader.limits reader.frames stage reader.at
-IsKeptIn reader (Refused code place) = Unit {0}
-IsKeptIn reader OutOfMemory = Unit {0}
-
-abbrev pub IsKept : FormReader → Type 0
-IsKept reader = IsKeptIn reader reader.state
 
 -- The reader is after these bytes, in this setting: what is read of them, with any text after them, is what it stands for with
 -- this text. A reader that ran out of memory is after no bytes.
@@ -73,4 +64,4 @@ Takes (TurnForm x start «end» next) old new (StepForm datum s e n) =
     × (new.start ≡ 0) × (new.at ≡ 0) × (new.frames ≡ old.frames) × (new.state ≡ Open AtObject)
 Takes (TurnForm x start «end» next) old new _ = ⊥
 Takes (TurnRefused code place) old new step =
-    (step ≡ StepRefused code place) × (new.state ≡ Refused code place)
+    (step ≡ StepRefused code place) × (new.state ≡ Refused code place) × (new.start ≡ old.start) × (new.at ≡ old.at)

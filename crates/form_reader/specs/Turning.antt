@@ -43,7 +43,7 @@ pub record IsStanding (limits : Limits) (frames : List Frame) (stage : Stage) (a
 -- after so many bytes of the text
 abbrev pub IsReadyTurn : Limits → List Frame → ℕ → Turn → Type 0
 IsReadyTurn limits frames count (Goes start at stage) = IsStanding limits frames stage at × (start + at ≡ count)
-IsReadyTurn limits frames count (Form x start «end» next) = (next ≤ count) × (count ≤ next + 1)
+IsReadyTurn limits frames count (Form x start «end» next) = (next ≤ count) × (count ≤ next + 1) × (length frames ≤ limits.nesting)
 IsReadyTurn limits frames count (Refused code place) = place ≤ count
 
 abbrev pub IsReadySettled : Limits → List Frame → ℕ → Settled → Type 0

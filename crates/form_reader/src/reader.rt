@@ -1,11 +1,6 @@
 //! A reader that takes a text one byte at a time.
-ghost use Rattle.std.specs.Prelude.{◌≡◌, ◌<◌, ◌≤◌, ◌^◌, ℕ, List, [], ◌∷◌, ◌++◌, length, Ok, IfOk, IsErr, OnErr};
-ghost use Rattle.package_table.specs.Table.{IsPackage};
-ghost use Rattle.form_reader.specs.Setting.{Setting, setting_of};
-ghost use Rattle.form_reader.specs.Reading.{reads};
-ghost use Rattle.form_reader.specs.declared.reader.State.TheVariants.{Refused as IsRefused, OutOfMemory as IsOutOfMemory};
-ghost use Rattle.form_reader.specs.declared.reader.Step.TheVariants.{Refused as StepRefused};
-ghost use Rattle.form_reader.specs.Reader.{fed, IsNew, IsKept, IsAfter, Steps, Takes, IsOutcome};
+ghost use Rattle.std.specs.Prelude.{IsTrue};
+ghost use Rattle.form_reader.specs.Standing.{is_standing};
 
 use crate::Limits;
 use crate::ending::{ReadOutcome, last_outcome};
@@ -29,6 +24,7 @@ pub struct FormReader {
     at: usize,
     frames: Frames,
     state: State,
+    ghost standing: { IsTrue (is_standing limits frames at state) },
 }
 
 /// Where a reader is.
@@ -62,12 +58,20 @@ pub enum Step {
 }
 
 impl FormReader {
+    ghost use Rattle.std.specs.Prelude.{◌≡◌, ◌<◌, ◌≤◌, ◌+◌, ◌^◌, ℕ, List, [], ◌∷◌, ◌++◌, length, Ok, IfOk, IsErr, OnErr};
+    ghost use Rattle.package_table.specs.Table.{IsPackage};
+    ghost use Rattle.form_reader.specs.Setting.{Setting, setting_of};
+    ghost use Rattle.form_reader.specs.Reading.{reads};
+    ghost use Rattle.form_reader.specs.declared.reader.State.TheVariants.{Refused as IsRefused, OutOfMemory as IsOutOfMemory};
+    ghost use Rattle.form_reader.specs.declared.reader.Step.TheVariants.{Refused as StepRefused};
+    ghost use Rattle.form_reader.specs.Turning.{IsReadyTurn};
+    ghost use Rattle.form_reader.specs.Reader.{fed, IsNew, IsAfter, Steps, Takes, IsOutcome};
+
     /// A reader that was fed nothing. It keeps `alloc` for what it gathers.
     pub fn new(alloc: Global, limits: Limits) -> FormReader
         ensures new { IsNew result }
         ensures limits { result.limits ≡ limits }
         ensures after { (setting : Setting) → IsAfter setting result [] }
-        ensures kept { IsKept result }
     {
         FormReader {
             limits,
@@ -91,7 +95,6 @@ impl FormReader {
     ) -> Result<Step, AllocError>
         requires answers { R.answers macros.now }
         requires current { IsPackage packages.now.0 current.now }
-        requires kept { IsKept self.old }
         requires count { fed self.old < 2 ^ 63 }
         ensures steps { (bytes : List ℕ) → IsAfter
             (setting_of self.old.limits readtable.now packages.now.0 current.now
@@ -100,8 +103,8 @@ impl FormReader {
             (setting_of self.old.limits readtable.now packages.now.0 current.now
             (R.registered macros.now) R.Meaning.way R.Meaning.answer)
             self.new (bytes ++ byte ∷ [])) }
-        ensures kept { IsKept self.new }
         ensures limits { self.new.limits ≡ self.old.limits }
+        ensures fed { fed self.new ≤ fed self.old + 1 }
         ensures refused { (code place : ℕ) → self.old.state ≡ IsRefused code place
             → (result ≡ Ok (StepRefused code place)) × (self.new.state ≡ IsRefused code place) }
         ensures memory { OnErr result (self.new.state ≡ IsOutOfMemory) }
@@ -130,6 +133,7 @@ impl FormReader {
 
     /// Takes what a byte is to the text.
     fn take(&mut self, turn: Turn) -> Step
+        requires ready { IsReadyTurn self.old.limits self.old.frames (fed self.old + 1) turn }
         ensures limits { self.new.limits ≡ self.old.limits }
         ensures takes { Takes turn self.old self.new result }
     {
@@ -168,7 +172,6 @@ impl FormReader {
     ) -> Result<ReadOutcome, AllocError>
         requires answers { R.answers macros.now }
         requires current { IsPackage packages.now.0 current.now }
-        requires kept { IsKept self }
         requires count { fed self ≤ 2 ^ 63 }
         ensures { (bytes : List ℕ) → IsAfter
             (setting_of self.limits readtable.now packages.now.0 current.now
@@ -202,44 +205,4 @@ impl FormReader {
             State::OutOfMemory => Err(AllocError),
         }
     }
-}
-
-/// What the text `bytes` begins with.
-pub fn read_one<R: MacroFunctions>(
-    alloc: Global,
-    limits: Limits,
-    readtable: &Readtable,
-    packages: &Packages,
-    current: &[u8],
-    macros: &R,
-    bytes: &[u8],
-) -> Result<ReadOutcome, AllocError>
-    requires answers { R.answers macros.now }
-    requires current { IsPackage packages.now.0 current.now }
-    ensures { IfOk result (λ outcome. IsOutcome outcome (reads
-        (setting_of limits readtable.now packages.now.0 current.now
-        (R.registered macros.now) R.Meaning.way R.Meaning.answer)
-        bytes.now)) }
-{
-    let mut reader = FormReader::new(alloc, limits);
-    for byte in bytes {
-        match reader.step(*byte, readtable, packages, current, macros)? {
-            Step::More => {}
-            Step::Form {
-                datum,
-                start,
-                end,
-                next,
-            } => {
-                return Ok(ReadOutcome::Form {
-                    datum,
-                    start,
-                    end,
-                    next,
-                });
-            }
-            Step::Refused { code, at } => return Ok(ReadOutcome::Refused { code, at }),
-        }
-    }
-    reader.finish(readtable, packages, current, macros)
 }

@@ -3,7 +3,7 @@ use Rattle.std.proofs.lemmas.List.{take_more}
 use Rattle.form_reader.specs.declared.limits.Limits.{Limits}
 use Rattle.form_reader.specs.Setting.{Setting, setting_of}
 use Rattle.form_reader.proofs.ReaderSteps.{decided_form, decided_refusal}
-use Rattle.form_reader.proofs.reader.read_one.Goals as goal
+use Rattle.form_reader.proofs.whole.read_one.Goals as goal
 
 pub returns-in-Form : goal.returns-in-Form
 returns-in-Form g c =
