@@ -20,3 +20,8 @@ pub mod Dispatching
 pub mod Attempts
 pub mod ObjectTokens
 pub mod Following
+pub mod Readiness
+pub mod TurnsTaken
+pub mod Endings
+pub mod ReaderSteps
+pub mod Standings

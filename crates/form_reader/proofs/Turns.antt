@@ -199,7 +199,7 @@ attempt_ends setting round may = record {
 -- ---- items
 
 -- no piece is at the end of the input
-place_at_end : (table : Table) (limits : Limits) (close : Option ℕ) (attempt : Plan Found) (at : ℕ) → Ends table limits attempt → at ≤ limits.text
+pub place_at_end : (table : Table) (limits : Limits) (close : Option ℕ) (attempt : Plan Found) (at : ℕ) → Ends table limits attempt → at ≤ limits.text
     → run table limits (loop limits (place_turn table close attempt) tt) at [] ≡ fault END_OF_FILE (at - 0)
 unfolding run
 place_at_end table limits close attempt at ends h =

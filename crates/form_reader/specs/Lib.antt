@@ -11,3 +11,8 @@ pub mod Feeding
 pub mod Begun
 pub mod Resuming
 pub mod Delivering
+pub mod Ready
+pub mod Turning
+pub mod Ending
+pub mod Standing
+pub mod Reader

@@ -3,6 +3,7 @@ ghost use Rattle.std.specs.Prelude.{◌≡◌, ◌≤◌, ◌<◌, ◌+◌, ◌^
 ghost use Rattle.package_table.specs.Table.{IsPackage};
 ghost use Rattle.form_reader.specs.Setting.{setting_of};
 ghost use Rattle.form_reader.specs.Resuming.{Moves, IsStageAt, stage_gives};
+ghost use Rattle.form_reader.specs.Ready.{IsReadyMove};
 
 use crate::frame::Frames;
 use crate::gathering::{in_block, in_escaped, in_line, in_text};
@@ -23,17 +24,19 @@ pub(crate) fn advance<R: MacroFunctions>(
 ) -> Result<Moved, AllocError>
     requires answers { R.answers with.now.macros.now }
     requires place { at ≤ with.now.limits.text }
-    requires count { at < 2 ^ 62 }
+    requires count { at < 2 ^ 63 }
     requires nesting { length frames.old ≤ with.now.limits.nesting }
     requires current { IsPackage with.now.packages.now.0 with.now.current.now }
     requires stage { IsStageAt at stage }
-    ensures { (cs : List ℕ) → IfOk result (λ moved. Moves
+    ensures moves { (cs : List ℕ) → IfOk result (λ moved. Moves
         (setting_of with.now.limits with.now.readtable.now with.now.packages.now.0 with.now.current.now
         (R.registered with.now.macros.now) R.Meaning.way R.Meaning.answer)
         frames.new at c cs moved (stage_gives
         (setting_of with.now.limits with.now.readtable.now with.now.packages.now.0 with.now.current.now
         (R.registered with.now.macros.now) R.Meaning.way R.Meaning.answer)
         frames.old stage at (c ∷ cs))) }
+    ensures ready { IfOk result (IsReadyMove with.now.limits at) }
+    ensures nesting { IfOk result (λ _. length frames.new ≤ with.now.limits.nesting) }
 {
     let round = frames.len();
     match stage {

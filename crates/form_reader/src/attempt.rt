@@ -7,6 +7,7 @@ ghost use Rattle.form_reader.specs.Setting.{setting_of};
 ghost use Rattle.form_reader.specs.Reading.{stands_alone, alone};
 ghost use Rattle.form_reader.specs.Frames.{given};
 ghost use Rattle.form_reader.specs.Resuming.{inner_at, attempt_at, Brings};
+ghost use Rattle.form_reader.specs.Ready.{IsReady};
 
 use crate::found::Found;
 use crate::frame::Frames;
@@ -44,7 +45,7 @@ pub(crate) fn alone<R: MacroFunctions>(
     requires place { at ≤ with.now.limits.text }
     requires nesting { length frames.old ≤ with.now.limits.nesting }
     requires alone { stands_alone (entry_at with.now.readtable.now c).syntax ≡ true }
-    ensures { (cs : List ℕ) → IfOk result (λ event. Brings
+    ensures brings { (cs : List ℕ) → IfOk result (λ event. Brings
         (setting_of with.now.limits with.now.readtable.now with.now.packages.now.0 with.now.current.now
         (R.registered with.now.macros.now) R.Meaning.way R.Meaning.answer)
         frames.new (at + 1) cs event (run with.now.readtable.now with.now.limits (given
@@ -54,6 +55,8 @@ pub(crate) fn alone<R: MacroFunctions>(
         (setting_of with.now.limits with.now.readtable.now with.now.packages.now.0 with.now.current.now
         (R.registered with.now.macros.now) R.Meaning.way R.Meaning.answer)
         (length frames.old))) at (c ∷ cs))) }
+    ensures ready { IfOk result (IsReady with.now.limits (at + 1)) }
+    ensures nesting { IfOk result (λ _. length frames.new ≤ with.now.limits.nesting) }
 {
     with.readtable.soundness();
     if at >= with.limits.text {
@@ -82,7 +85,7 @@ pub(crate) fn begin_token<R: MacroFunctions>(
 ) -> Result<Event, AllocError>
     requires place { at ≤ with.now.limits.text }
     requires begins { stands_alone (entry_at with.now.readtable.now c).syntax ≡ false }
-    ensures { (frames : List OpenCall) (cs : List ℕ) → length frames ≤ with.now.limits.nesting → IfOk result (λ event. Brings
+    ensures brings { (frames : List OpenCall) (cs : List ℕ) → length frames ≤ with.now.limits.nesting → IfOk result (λ event. Brings
         (setting_of with.now.limits with.now.readtable.now with.now.packages.now.0 with.now.current.now
         (R.registered with.now.macros.now) R.Meaning.way R.Meaning.answer)
         frames (at + 1) cs event (run with.now.readtable.now with.now.limits (given
@@ -92,6 +95,7 @@ pub(crate) fn begin_token<R: MacroFunctions>(
         (setting_of with.now.limits with.now.readtable.now with.now.packages.now.0 with.now.current.now
         (R.registered with.now.macros.now) R.Meaning.way R.Meaning.answer)
         (length frames))) at (c ∷ cs))) }
+    ensures ready { IfOk result (IsReady with.now.limits (at + 1)) }
 {
     match first_byte(with.alloc, with.readtable, &with.limits, at, c)? {
         FirstByte::More(scan) => Ok(Event::Stage(Stage::Token(scan))),

@@ -1,9 +1,11 @@
 //! One byte of what a call gathers.
-ghost use Rattle.std.specs.Prelude.{◌≡◌, ◌≤◌, ◌<◌, ◌+◌, ◌^◌, ℕ, List, ◌∷◌, ◌++◌, [], IfOk, IfSome};
+ghost use Rattle.std.specs.Prelude.{◌≡◌, ◌≤◌, ◌<◌, ◌+◌, ◌^◌, ℕ, List, ◌∷◌, ◌++◌, [], IfOk, IfSome, Ok, None};
 ghost use Rattle.form_reader.specs.Plans.{loop, next_byte, run};
 ghost use Rattle.form_reader.specs.Gathering.{text_turn, line_turn, block_turn, number_turn};
 ghost use Rattle.form_reader.specs.Gathering.{block_next};
 ghost use Rattle.form_reader.specs.Feeding.{TextFeeds, EscapeFeeds, LineFeeds, BlockFeeds, NumberFeeds};
+ghost use Rattle.form_reader.specs.declared.bytes.TextByte.TheVariants.{More as TextMore, Escape as TextEscape, Ended as TextEnded};
+ghost use Rattle.form_reader.specs.declared.bytes.LineByte.TheVariants.{More as LineMore, Ended as LineEnded};
 
 use crate::held::{HeldNumber, HeldText};
 use crate::limits::Limits;
@@ -47,9 +49,12 @@ pub(crate) fn text_byte(
     c: u8,
 ) -> Result<TextByte, AllocError>
     requires { at ≤ limits.now.text }
-    ensures { (cs : List ℕ) → IfOk result (λ fed.
+    ensures feeds { (cs : List ℕ) → IfOk result (λ fed.
         TextFeeds readtable.now limits.now terminator text.new at cs fed
         (run readtable.now limits.now (loop limits.now (text_turn readtable.now terminator) text.old) at (c ∷ cs))) }
+    ensures more { result ≡ Ok TextMore → at < limits.now.text }
+    ensures escape { result ≡ Ok TextEscape → at < limits.now.text }
+    ensures ended { result ≡ Ok TextEnded → at < limits.now.text }
 {
     if at >= limits.text {
         return Ok(TextByte::Refused(FORM_TOO_LONG));
@@ -77,9 +82,10 @@ pub(crate) fn escaped_byte(
     at: usize,
     c: u8,
 ) -> Result<Option<u16>, AllocError>
-    ensures { (cs : List ℕ) → IfOk result (λ fed.
+    ensures feeds { (cs : List ℕ) → IfOk result (λ fed.
         EscapeFeeds readtable.now limits.now terminator text.new at cs fed
         (run readtable.now limits.now (next_byte (λ d. loop limits.now (text_turn readtable.now terminator) (text.old ++ d ∷ []))) at (c ∷ cs))) }
+    ensures more { result ≡ Ok None → at < limits.now.text }
 {
     if at >= limits.text {
         return Ok(Some(FORM_TOO_LONG));
@@ -102,9 +108,11 @@ pub(crate) fn line_byte(
     c: u8,
 ) -> Result<LineByte, AllocError>
     requires { at ≤ limits.now.text }
-    ensures { (cs : List ℕ) → IfOk result (λ fed.
+    ensures feeds { (cs : List ℕ) → IfOk result (λ fed.
         LineFeeds readtable.now limits.now keep text.new at cs fed
         (run readtable.now limits.now (loop limits.now (line_turn keep) text.old) at (c ∷ cs))) }
+    ensures more { result ≡ Ok LineMore → at < limits.now.text }
+    ensures ended { result ≡ Ok LineEnded → at < limits.now.text }
 {
     if at >= limits.text {
         return Ok(LineByte::Refused(FORM_TOO_LONG));
@@ -136,6 +144,8 @@ pub(crate) fn block_byte(
     ensures feeds { (cs : List ℕ) → BlockFeeds readtable.now limits.now levels.new at cs result
         (run readtable.now limits.now (loop limits.now block_turn levels.old) at (c ∷ cs)) }
     ensures level { levels.new.0 ≤ at + 1 }
+    ensures more { result ≡ LineMore → at < limits.now.text }
+    ensures ended { result ≡ LineEnded → at < limits.now.text }
 {
     if at >= limits.text {
         return LineByte::Refused(FORM_TOO_LONG);
@@ -180,8 +190,9 @@ pub(crate) fn number_byte(
     c: u8,
 ) -> LineByte
     requires { at ≤ limits.now.text }
-    ensures { (cs : List ℕ) → NumberFeeds readtable.now limits.now number.new at c cs result
+    ensures feeds { (cs : List ℕ) → NumberFeeds readtable.now limits.now number.new at c cs result
         (run readtable.now limits.now (loop limits.now number_turn number.old) at (c ∷ cs)) }
+    ensures more { result ≡ LineMore → at < limits.now.text }
 {
     if !c.is_ascii_digit() {
         return LineByte::Ended;

@@ -1,5 +1,5 @@
 //! What an open call gives where its closing character comes.
-ghost use Rattle.std.specs.Prelude.{◌≡◌, ◌≤◌, ℕ, List, length, false, IfOk};
+ghost use Rattle.std.specs.Prelude.{◌≡◌, ◌≤◌, ℕ, List, length, false, IfOk, ◌<◌};
 ghost use Rattle.form_reader.specs.declared.frame.Frame.{Frame as OpenCall};
 ghost use Rattle.form_reader.specs.Plans.{run};
 ghost use Rattle.form_reader.specs.Setting.{setting_of};
@@ -7,6 +7,7 @@ ghost use Rattle.form_reader.specs.Reading.{closed, completed};
 ghost use Rattle.std_macros.specs.Results.{view_gathered, IsProperGathered};
 ghost use Rattle.form_reader.specs.Frames.{call_in, given};
 ghost use Rattle.form_reader.specs.Resuming.{Brings};
+ghost use Rattle.form_reader.specs.Ready.{IsReady};
 
 use crate::call::Invoked;
 use crate::complete::complete;
@@ -27,7 +28,9 @@ pub(crate) fn close<R: MacroFunctions>(
     at: usize,
 ) -> Result<Event, AllocError>
     requires answers { R.answers with.now.macros.now }
-    ensures { (frames : List OpenCall) (cs : List ℕ) → round ≡ length frames → IfOk result (λ event. Brings
+    requires place { at ≤ with.now.limits.text }
+    requires taken { 0 < at }
+    ensures brings { (frames : List OpenCall) (cs : List ℕ) → round ≡ length frames → IfOk result (λ event. Brings
         (setting_of with.now.limits with.now.readtable.now with.now.packages.now.0 with.now.current.now
         (R.registered with.now.macros.now) R.Meaning.way R.Meaning.answer)
         frames at cs event (run with.now.readtable.now with.now.limits (given
@@ -37,6 +40,7 @@ pub(crate) fn close<R: MacroFunctions>(
         (setting_of with.now.limits with.now.readtable.now with.now.packages.now.0 with.now.current.now
         (R.registered with.now.macros.now) R.Meaning.way R.Meaning.answer)
         frame frames closed)) at cs)) }
+    ensures ready { IfOk result (IsReady with.now.limits at) }
 {
     let Frame { call, part } = frame;
     match part {
@@ -58,6 +62,7 @@ pub(crate) fn close<R: MacroFunctions>(
     }
 }
 
+#[tactic(auto, using(crate::proofs::Readiness::ended_ready))]
 fn closed<R: MacroFunctions>(
     with: &Surroundings<'_, R>,
     round: usize,
@@ -67,7 +72,8 @@ fn closed<R: MacroFunctions>(
 ) -> Result<Event, AllocError>
     requires answers { R.answers with.now.macros.now }
     requires proper { IsProperGathered gathered }
-    ensures { (frames : List OpenCall) (cs : List ℕ) → round ≡ length frames → IfOk result (λ event. Brings
+    requires place { at ≤ with.now.limits.text }
+    ensures brings { (frames : List OpenCall) (cs : List ℕ) → round ≡ length frames → IfOk result (λ event. Brings
         (setting_of with.now.limits with.now.readtable.now with.now.packages.now.0 with.now.current.now
         (R.registered with.now.macros.now) R.Meaning.way R.Meaning.answer)
         frames at cs event (run with.now.readtable.now with.now.limits (given
@@ -77,6 +83,7 @@ fn closed<R: MacroFunctions>(
         (setting_of with.now.limits with.now.readtable.now with.now.packages.now.0 with.now.current.now
         (R.registered with.now.macros.now) R.Meaning.way R.Meaning.answer)
         (length frames) call false false (view_gathered gathered))) at cs)) }
+    ensures ready { IfOk result (IsReady with.now.limits at) }
 {
     Ok(event_of(complete(with, round, &call, false, false, gathered)?, at))
 }

@@ -1,5 +1,5 @@
 //! What a call gives for what was gathered.
-ghost use Rattle.std.specs.Prelude.{◌≡◌, ◌+◌, true, nat_le, IfOk};
+ghost use Rattle.std.specs.Prelude.{◌≡◌, ◌+◌, true, nat_le, IfOk, ◌≤◌, ◌||◌};
 ghost use Rattle.lisp_object.specs.Object.{object_depth};
 ghost use Rattle.lisp_object.specs.Datum.{object_of, is_proper};
 ghost use Rattle.user_macros.specs.Calls.{call_of, answer_of, material_of};
@@ -9,6 +9,7 @@ ghost use Rattle.std_macros.specs.Results.{view_gathered, IsProperGathered};
 ghost use Rattle.form_reader.specs.Setting.{setting_of, macro_call, user_material};
 ghost use Rattle.form_reader.specs.Reading.{bytes_back, finished, answered, completed};
 ghost use Rattle.form_reader.specs.Completing.{plan_of};
+ghost use Rattle.form_reader.specs.Ready.{space, completed_lookahead};
 
 use crate::call::Invoked;
 use crate::found::Found;
@@ -36,6 +37,7 @@ pub enum Completed {
 
 /// What the function of a call gives for what was gathered, with so many open calls round it: whether a token ends the call,
 /// and whether a token ends an object in it.
+#[tactic(auto, using(crate::proofs::Readiness::space_or))]
 pub(crate) fn complete<R: MacroFunctions>(
     with: &Surroundings<'_, R>,
     round: usize,
@@ -46,10 +48,11 @@ pub(crate) fn complete<R: MacroFunctions>(
 ) -> Result<Completed, AllocError>
     requires answers { R.answers with.now.macros.now }
     requires proper { IsProperGathered gathered }
-    ensures { IfOk result (λ r. completed
+    ensures gives { IfOk result (λ r. completed
         (setting_of with.now.limits with.now.readtable.now with.now.packages.now.0 with.now.current.now
         (R.registered with.now.macros.now) R.Meaning.way R.Meaning.answer)
         round call.now token spaced (view_gathered gathered) ≡ plan_of r) }
+    ensures ends { IfOk result (λ r. completed_lookahead r ≤ space (token || spaced)) }
 {
     match call.function() {
         Function::Standard(kind) => {
@@ -84,7 +87,8 @@ fn finished(
     gathered: StdGathered,
 ) -> Result<Completed, AllocError>
     requires { IsProperGathered gathered }
-    ensures { IfOk result (λ r. finished token (value_of kind case number (view_gathered gathered)) ≡ plan_of r) }
+    ensures gives { IfOk result (λ r. finished token (value_of kind case number (view_gathered gathered)) ≡ plan_of r) }
+    ensures ends { IfOk result (λ r. completed_lookahead r ≤ space token) }
 {
     match finish(alloc, kind, case, number, gathered) {
         Ok(Finished::One(datum)) => {
@@ -109,6 +113,7 @@ fn bytes_back(refusal: StdRefusal) -> usize
 }
 
 /// What an answer comes to.
+#[tactic(auto, using(crate::proofs::Readiness::space_or, crate::proofs::Readiness::or_space))]
 fn answered(
     packages: &Packages,
     nesting: u32,
@@ -117,7 +122,8 @@ fn answered(
     spaced: bool,
     answer: Answer,
 ) -> Completed
-    ensures { answered packages.now.0 nesting round token spaced (answer_of answer) ≡ plan_of result }
+    ensures gives { answered packages.now.0 nesting round token spaced (answer_of answer) ≡ plan_of result }
+    ensures ends { completed_lookahead result ≤ space (token || spaced) }
 {
     match answer {
         Answer::One(datum) => {

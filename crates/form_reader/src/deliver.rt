@@ -6,6 +6,7 @@ ghost use Rattle.form_reader.specs.Completing.{plan_of};
 ghost use Rattle.form_reader.specs.Setting.{Setting, setting_of};
 ghost use Rattle.form_reader.specs.Frames.{given};
 ghost use Rattle.form_reader.specs.Delivering.{Takes, Delivers};
+ghost use Rattle.form_reader.specs.Ready.{space, lookahead, completed_lookahead, IsTakenAt, IsDeliveredAt};
 
 use crate::call::Invoked;
 use crate::complete::{Completed, complete};
@@ -50,13 +51,14 @@ pub(crate) fn take<R: MacroFunctions>(
 ) -> Result<Taken, AllocError>
     requires answers { R.answers with.now.macros.now }
     requires place { at ≤ with.now.limits.text }
-    ensures { (frames : List OpenCall) (cs : List ℕ) → round ≡ length frames → IfOk result (λ taken. Takes
+    ensures takes { (frames : List OpenCall) (cs : List ℕ) → round ≡ length frames → IfOk result (λ taken. Takes
         (setting_of with.now.limits with.now.readtable.now with.now.packages.now.0 with.now.current.now
         (R.registered with.now.macros.now) R.Meaning.way R.Meaning.answer)
         frames at cs taken (run with.now.readtable.now with.now.limits (given
         (setting_of with.now.limits with.now.readtable.now with.now.packages.now.0 with.now.current.now
         (R.registered with.now.macros.now) R.Meaning.way R.Meaning.answer)
         (frame ∷ frames) (gives found)) at cs)) }
+    ensures leaves { IfOk result (IsTakenAt (lookahead found) at) }
 {
     match found {
         Found::Nothing(token) => Ok(Taken::Stays(token, frame)),
@@ -77,13 +79,14 @@ fn take_one<R: MacroFunctions>(
 ) -> Result<Taken, AllocError>
     requires answers { R.answers with.now.macros.now }
     requires place { at ≤ with.now.limits.text }
-    ensures { (frames : List OpenCall) (cs : List ℕ) → round ≡ length frames → IfOk result (λ taken. Takes
+    ensures takes { (frames : List OpenCall) (cs : List ℕ) → round ≡ length frames → IfOk result (λ taken. Takes
         (setting_of with.now.limits with.now.readtable.now with.now.packages.now.0 with.now.current.now
         (R.registered with.now.macros.now) R.Meaning.way R.Meaning.answer)
         frames at cs taken (run with.now.readtable.now with.now.limits (given
         (setting_of with.now.limits with.now.readtable.now with.now.packages.now.0 with.now.current.now
         (R.registered with.now.macros.now) R.Meaning.way R.Meaning.answer)
         (frame ∷ frames) (gives (Found.One token x))) at cs)) }
+    ensures leaves { IfOk result (IsTakenAt (space token) at) }
 {
     let Frame { call, part } = frame;
     match part {
@@ -111,8 +114,9 @@ fn take_one<R: MacroFunctions>(
 
 /// What an open call makes of a dot.
 fn take_dot(frame: Frame, at: usize) -> Taken
-    ensures { (setting : Setting) (frames : List OpenCall) (cs : List ℕ) → at ≤ setting.limits.text → Takes setting frames at cs result
+    ensures takes { (setting : Setting) (frames : List OpenCall) (cs : List ℕ) → at ≤ setting.limits.text → Takes setting frames at cs result
         (run setting.table setting.limits (given setting (frame ∷ frames) (gives Found.LoneDot)) at cs) }
+    ensures leaves { IsTakenAt 1 at result }
 {
     let Frame { call, part } = frame;
     match part {
@@ -132,8 +136,9 @@ fn take_dot(frame: Frame, at: usize) -> Taken
 
 /// What an open call that ends at `at` comes to.
 fn taken_of(completed: Completed, at: usize) -> Taken
-    ensures { (setting : Setting) (frames : List OpenCall) (cs : List ℕ) → Takes setting frames at cs result
+    ensures takes { (setting : Setting) (frames : List OpenCall) (cs : List ℕ) → Takes setting frames at cs result
         (run setting.table setting.limits (given setting frames (plan_of completed)) at cs) }
+    ensures leaves { IsTakenAt (completed_lookahead completed) at result }
 {
     match completed {
         Completed::Gives(found) => Taken::Gives(found),
@@ -158,6 +163,7 @@ pub(crate) fn deliver<R: MacroFunctions>(
         (R.registered with.now.macros.now) R.Meaning.way R.Meaning.answer)
         frames.old (gives found)) at cs)) }
     ensures shorter { IfOk result (λ delivered. length frames.new ≤ length frames.old) }
+    ensures leaves { IfOk result (IsDeliveredAt (lookahead found) at) }
 {
     let mut found = found;
     'calls: while let Some(frame) = frames.pop() {

@@ -4,6 +4,7 @@ ghost use Rattle.form_reader.specs.declared.frame.Frame.{Frame as OpenCall};
 ghost use Rattle.form_reader.specs.Setting.{setting_of};
 ghost use Rattle.form_reader.specs.declared.stage.Stage.TheVariants.{Text as AtText, Escaped as AtEscaped, Line as AtLine, Block as AtBlock, CallToken as AtCallToken};
 ghost use Rattle.form_reader.specs.Resuming.{Brings, stage_gives};
+ghost use Rattle.form_reader.specs.Ready.{IsReady};
 
 use crate::bytes::{LineByte, TextByte, block_byte, escaped_byte, line_byte, text_byte};
 use crate::call::Invoked;
@@ -18,6 +19,7 @@ use std_macros::StdGathered;
 use user_macros::MacroFunctions;
 
 /// The byte `c` at `at`, in the text of a call with so many open calls round it.
+#[tactic(auto, using(crate::proofs::Readiness::ended_ready))]
 pub(crate) fn in_text<R: MacroFunctions>(
     with: &Surroundings<'_, R>,
     round: usize,
@@ -29,14 +31,15 @@ pub(crate) fn in_text<R: MacroFunctions>(
 ) -> Result<Event, AllocError>
     requires answers { R.answers with.now.macros.now }
     requires place { at ≤ with.now.limits.text }
-    requires count { at < 2 ^ 62 }
-    ensures { (frames : List OpenCall) (cs : List ℕ) → round ≡ length frames → IfOk result (λ event. Brings
+    requires count { at < 2 ^ 63 }
+    ensures brings { (frames : List OpenCall) (cs : List ℕ) → round ≡ length frames → IfOk result (λ event. Brings
         (setting_of with.now.limits with.now.readtable.now with.now.packages.now.0 with.now.current.now
         (R.registered with.now.macros.now) R.Meaning.way R.Meaning.answer)
         frames (at + 1) cs event (stage_gives
         (setting_of with.now.limits with.now.readtable.now with.now.packages.now.0 with.now.current.now
         (R.registered with.now.macros.now) R.Meaning.way R.Meaning.answer)
         frames (AtText call terminator text) at (c ∷ cs))) }
+    ensures ready { IfOk result (IsReady with.now.limits (at + 1)) }
 {
     match text_byte(with.readtable, &with.limits, terminator, &mut text, at, c)? {
         TextByte::More => Ok(Event::Stage(Stage::Text(call, terminator, text))),
@@ -60,13 +63,14 @@ pub(crate) fn in_escaped<R: MacroFunctions>(
     at: usize,
     c: u8,
 ) -> Result<Event, AllocError>
-    ensures { (frames : List OpenCall) (cs : List ℕ) → round ≡ length frames → IfOk result (λ event. Brings
+    ensures brings { (frames : List OpenCall) (cs : List ℕ) → round ≡ length frames → IfOk result (λ event. Brings
         (setting_of with.now.limits with.now.readtable.now with.now.packages.now.0 with.now.current.now
         (R.registered with.now.macros.now) R.Meaning.way R.Meaning.answer)
         frames (at + 1) cs event (stage_gives
         (setting_of with.now.limits with.now.readtable.now with.now.packages.now.0 with.now.current.now
         (R.registered with.now.macros.now) R.Meaning.way R.Meaning.answer)
         frames (AtEscaped call terminator text) at (c ∷ cs))) }
+    ensures ready { IfOk result (IsReady with.now.limits (at + 1)) }
 {
     match escaped_byte(with.readtable, &with.limits, terminator, &mut text, at, c)? {
         None => Ok(Event::Stage(Stage::Text(call, terminator, text))),
@@ -75,6 +79,7 @@ pub(crate) fn in_escaped<R: MacroFunctions>(
 }
 
 /// The byte `c` at `at`, in the line of a call with so many open calls round it.
+#[tactic(auto, using(crate::proofs::Readiness::ended_ready))]
 pub(crate) fn in_line<R: MacroFunctions>(
     with: &Surroundings<'_, R>,
     round: usize,
@@ -86,14 +91,15 @@ pub(crate) fn in_line<R: MacroFunctions>(
 ) -> Result<Event, AllocError>
     requires answers { R.answers with.now.macros.now }
     requires place { at ≤ with.now.limits.text }
-    requires count { at < 2 ^ 62 }
-    ensures { (frames : List OpenCall) (cs : List ℕ) → round ≡ length frames → IfOk result (λ event. Brings
+    requires count { at < 2 ^ 63 }
+    ensures brings { (frames : List OpenCall) (cs : List ℕ) → round ≡ length frames → IfOk result (λ event. Brings
         (setting_of with.now.limits with.now.readtable.now with.now.packages.now.0 with.now.current.now
         (R.registered with.now.macros.now) R.Meaning.way R.Meaning.answer)
         frames (at + 1) cs event (stage_gives
         (setting_of with.now.limits with.now.readtable.now with.now.packages.now.0 with.now.current.now
         (R.registered with.now.macros.now) R.Meaning.way R.Meaning.answer)
         frames (AtLine call keep text) at (c ∷ cs))) }
+    ensures ready { IfOk result (IsReady with.now.limits (at + 1)) }
 {
     match line_byte(with.readtable, &with.limits, keep, &mut text, at, c)? {
         LineByte::More => Ok(Event::Stage(Stage::Line(call, keep, text))),
@@ -107,6 +113,7 @@ pub(crate) fn in_line<R: MacroFunctions>(
 }
 
 /// The byte `c` at `at`, in the block of a call with so many open calls round it.
+#[tactic(auto, using(crate::proofs::Readiness::ended_ready))]
 pub(crate) fn in_block<R: MacroFunctions>(
     with: &Surroundings<'_, R>,
     round: usize,
@@ -117,15 +124,16 @@ pub(crate) fn in_block<R: MacroFunctions>(
 ) -> Result<Event, AllocError>
     requires answers { R.answers with.now.macros.now }
     requires place { at ≤ with.now.limits.text }
-    requires count { at < 2 ^ 62 }
+    requires count { at < 2 ^ 63 }
     requires level { levels.0 ≤ at }
-    ensures { (frames : List OpenCall) (cs : List ℕ) → round ≡ length frames → IfOk result (λ event. Brings
+    ensures brings { (frames : List OpenCall) (cs : List ℕ) → round ≡ length frames → IfOk result (λ event. Brings
         (setting_of with.now.limits with.now.readtable.now with.now.packages.now.0 with.now.current.now
         (R.registered with.now.macros.now) R.Meaning.way R.Meaning.answer)
         frames (at + 1) cs event (stage_gives
         (setting_of with.now.limits with.now.readtable.now with.now.packages.now.0 with.now.current.now
         (R.registered with.now.macros.now) R.Meaning.way R.Meaning.answer)
         frames (AtBlock call levels) at (c ∷ cs))) }
+    ensures ready { IfOk result (IsReady with.now.limits (at + 1)) }
 {
     match block_byte(with.readtable, &with.limits, &mut levels, at, c) {
         LineByte::More => Ok(Event::Stage(Stage::Block(call, levels))),

@@ -12,16 +12,21 @@
 //! - specs/Reading.antt: objects, calls and forms
 //! - specs/Frames.antt, specs/Resuming.antt: what open calls stand for, and a place in the innermost, for a reader that takes
 //!   one byte at a time; specs/Feeding.antt, specs/Delivering.antt: what one byte, and what is found, are to them
+//! - specs/Ready.antt, specs/Standing.antt: what keeps such a reader going; specs/Turning.antt, specs/Ending.antt: what one byte,
+//!   and the end of the text, are to the outcome; specs/Reader.antt: what a reader is after, and what it answers
 //!
 //! What holds of each reading is on functions that do nothing: `forms_are_framed` says that a form is read again from its own
 //! bytes alone, and `spaced_forms_are_framed` the same with the whitespace character that is discarded with it, whatever
 //! follows; `forms_are_decided` that a form which ends before a byte is the same whatever follows the text; and
 //! `reading_goes_on` gives the equations of reading step by step, with no number of turns in them.
 //!
-//! The parts of a reader that takes one byte at a time are here, each proved against that definition in whatever calls are
-//! open; what joins them is not there yet.
+//! `FormReader` takes a text one byte at a time, and `read_one` a whole text. `step`, `finish` and `read_one` answer what the
+//! definition gives, out of memory aside: a form, with its object and its places; that the text is empty; or a refusal, with
+//! its number and its place. What `step` answers is so whatever bytes follow.
 //!
 //! - `limits`: `Limits`
+//! - `reader`: `FormReader`, `Step`; `whole`: `read_one`
+//! - `turn`: one byte, wherever a reader is in a form; `ending`: the end of the text, `ReadOutcome`
 //! - `way`, `call`: functions, their calls, and the ways in which they gather
 //! - `held`, `frame`, `stage`, `found`: what is held while calls are open
 //! - `told`: what a token means; `known`: which data may be answered; `complete`: what a call gives
@@ -40,6 +45,7 @@ mod call;
 mod close;
 mod complete;
 mod deliver;
+mod ending;
 mod found;
 mod frame;
 mod gathering;
@@ -50,15 +56,21 @@ mod limits;
 mod macros;
 mod objects;
 mod opening;
+mod reader;
 mod stage;
 mod surroundings;
 mod tokens;
 mod told;
+mod turn;
 mod way;
+mod whole;
 
+pub use ending::ReadOutcome;
 pub use laws::{forms_are_decided, forms_are_framed, reading_goes_on, spaced_forms_are_framed};
 pub use limits::Limits;
+pub use reader::{FormReader, Step};
 pub use way::{Function, Keep, Way};
+pub use whole::read_one;
 
 #[cfg(test)]
 mod tests;

@@ -8,6 +8,7 @@ ghost use Rattle.form_reader.specs.Frames.{given};
 ghost use Rattle.form_reader.specs.Resuming.{inner_at, Brings, Moves, stage_gives};
 ghost use Rattle.form_reader.specs.declared.frame.Frame.{Frame as OpenCall};
 ghost use Rattle.form_reader.specs.declared.stage.Stage.TheVariants.{CallToken as AtCallToken, Number as AtNumber};
+ghost use Rattle.form_reader.specs.Ready.{IsReady, IsReadyMove};
 
 use crate::bytes::{LineByte, number_byte};
 use crate::call::Invoked;
@@ -54,7 +55,8 @@ pub(crate) fn begin_macro<R: MacroFunctions>(
     requires answers { R.answers with.now.macros.now }
     requires place { at ≤ with.now.limits.text }
     requires character { c < 128 }
-    ensures { (cs : List ℕ) → IfOk result (λ event. Brings
+    requires nesting { length frames.old ≤ with.now.limits.nesting }
+    ensures brings { (cs : List ℕ) → IfOk result (λ event. Brings
         (setting_of with.now.limits with.now.readtable.now with.now.packages.now.0 with.now.current.now
         (R.registered with.now.macros.now) R.Meaning.way R.Meaning.answer)
         frames.new at cs event (run with.now.readtable.now with.now.limits (given
@@ -67,6 +69,8 @@ pub(crate) fn begin_macro<R: MacroFunctions>(
         (setting_of with.now.limits with.now.readtable.now with.now.packages.now.0 with.now.current.now
         (R.registered with.now.macros.now) R.Meaning.way R.Meaning.answer)
         (length frames.old)) c (entry_at with.now.readtable.now c).function)) at cs)) }
+    ensures ready { IfOk result (IsReady with.now.limits at) }
+    ensures nesting { IfOk result (λ _. length frames.new ≤ with.now.limits.nesting) }
 {
     match with.readtable.macro_of(c) {
         None => Ok(Event::Refused(OUT_OF_PROFILE, at.saturating_sub(1))),
@@ -81,6 +85,7 @@ pub(crate) fn begin_macro<R: MacroFunctions>(
 }
 
 /// The byte `c` at `at`, in the token of a call with so many open calls round it.
+#[tactic(auto, using(crate::proofs::Readiness::end_within))]
 pub(crate) fn in_call_token<R: MacroFunctions>(
     with: &Surroundings<'_, R>,
     round: usize,
@@ -91,13 +96,14 @@ pub(crate) fn in_call_token<R: MacroFunctions>(
 ) -> Result<Moved, AllocError>
     requires answers { R.answers with.now.macros.now }
     requires place { at ≤ with.now.limits.text }
-    ensures { (frames : List OpenCall) (cs : List ℕ) → round ≡ length frames → IfOk result (λ moved. Moves
+    ensures moves { (frames : List OpenCall) (cs : List ℕ) → round ≡ length frames → IfOk result (λ moved. Moves
         (setting_of with.now.limits with.now.readtable.now with.now.packages.now.0 with.now.current.now
         (R.registered with.now.macros.now) R.Meaning.way R.Meaning.answer)
         frames at c cs moved (stage_gives
         (setting_of with.now.limits with.now.readtable.now with.now.packages.now.0 with.now.current.now
         (R.registered with.now.macros.now) R.Meaning.way R.Meaning.answer)
         frames (AtCallToken call scan) at (c ∷ cs))) }
+    ensures ready { IfOk result (IsReadyMove with.now.limits at) }
 {
     match token_byte(with.readtable, &with.limits, &mut scan, at, c)? {
         LineByte::More => Ok(Moved::Taken(Event::Stage(Stage::CallToken(call, scan)))),
@@ -121,13 +127,16 @@ pub(crate) fn in_number<R: MacroFunctions>(
 ) -> Result<Event, AllocError>
     requires answers { R.answers with.now.macros.now }
     requires place { at ≤ with.now.limits.text }
-    ensures { (cs : List ℕ) → IfOk result (λ event. Brings
+    requires nesting { length frames.old ≤ with.now.limits.nesting }
+    ensures brings { (cs : List ℕ) → IfOk result (λ event. Brings
         (setting_of with.now.limits with.now.readtable.now with.now.packages.now.0 with.now.current.now
         (R.registered with.now.macros.now) R.Meaning.way R.Meaning.answer)
         frames.new (at + 1) cs event (stage_gives
         (setting_of with.now.limits with.now.readtable.now with.now.packages.now.0 with.now.current.now
         (R.registered with.now.macros.now) R.Meaning.way R.Meaning.answer)
         frames.old (AtNumber character number) at (c ∷ cs))) }
+    ensures ready { IfOk result (IsReady with.now.limits (at + 1)) }
+    ensures nesting { IfOk result (λ _. length frames.new ≤ with.now.limits.nesting) }
 {
     match number_byte(with.readtable, &with.limits, &mut number, at, c) {
         LineByte::More => Ok(Event::Stage(Stage::Number(character, number))),
@@ -148,7 +157,8 @@ fn sub_byte<R: MacroFunctions>(
     requires answers { R.answers with.now.macros.now }
     requires place { at ≤ with.now.limits.text }
     requires character { character < 128 }
-    ensures { (cs : List ℕ) → IfOk result (λ event. Brings
+    requires nesting { length frames.old ≤ with.now.limits.nesting }
+    ensures brings { (cs : List ℕ) → IfOk result (λ event. Brings
         (setting_of with.now.limits with.now.readtable.now with.now.packages.now.0 with.now.current.now
         (R.registered with.now.macros.now) R.Meaning.way R.Meaning.answer)
         frames.new (at + 1) cs event (run with.now.readtable.now with.now.limits (given
@@ -161,6 +171,8 @@ fn sub_byte<R: MacroFunctions>(
         (setting_of with.now.limits with.now.readtable.now with.now.packages.now.0 with.now.current.now
         (R.registered with.now.macros.now) R.Meaning.way R.Meaning.answer)
         (length frames.old)) character number)) at (c ∷ cs))) }
+    ensures ready { IfOk result (IsReady with.now.limits (at + 1)) }
+    ensures nesting { IfOk result (λ _. length frames.new ≤ with.now.limits.nesting) }
 {
     if at >= with.limits.text {
         return Ok(Event::Refused(FORM_TOO_LONG, at));

@@ -10,6 +10,7 @@ ghost use Rattle.form_reader.specs.Frames.{given, between};
 ghost use Rattle.form_reader.specs.Resuming.{Brings, Moves, stage_gives};
 ghost use Rattle.form_reader.specs.declared.frame.Frame.{Frame as OpenCall};
 ghost use Rattle.form_reader.specs.declared.stage.Stage.TheVariants.{Token as AtToken};
+ghost use Rattle.form_reader.specs.Ready.{lookahead, IsReady, IsReadyMove, IsReadyPass, IsEnd};
 
 use crate::attempt::{alone, begin_token, stands_alone};
 use crate::close::close;
@@ -36,13 +37,15 @@ pub(crate) fn at_object<R: MacroFunctions>(
     requires answers { R.answers with.now.macros.now }
     requires place { at ≤ with.now.limits.text }
     requires nesting { length frames.old ≤ with.now.limits.nesting }
-    ensures { (cs : List ℕ) → IfOk result (λ event. Brings
+    ensures brings { (cs : List ℕ) → IfOk result (λ event. Brings
         (setting_of with.now.limits with.now.readtable.now with.now.packages.now.0 with.now.current.now
         (R.registered with.now.macros.now) R.Meaning.way R.Meaning.answer)
         frames.new (at + 1) cs event (run with.now.readtable.now with.now.limits (between
         (setting_of with.now.limits with.now.readtable.now with.now.packages.now.0 with.now.current.now
         (R.registered with.now.macros.now) R.Meaning.way R.Meaning.answer)
         frames.old) at (c ∷ cs))) }
+    ensures ready { IfOk result (IsReady with.now.limits (at + 1)) }
+    ensures nesting { IfOk result (λ _. length frames.new ≤ with.now.limits.nesting) }
 {
     if let Some(frame) = frames.pop_closed_by(c) {
         if at >= with.limits.text {
@@ -67,13 +70,15 @@ pub(crate) fn after_token<R: MacroFunctions>(
     requires answers { R.answers with.now.macros.now }
     requires place { at ≤ with.now.limits.text }
     requires nesting { length frames.old ≤ with.now.limits.nesting }
-    ensures { (cs : List ℕ) → IfOk result (λ event. Brings
+    ensures brings { (cs : List ℕ) → IfOk result (λ event. Brings
         (setting_of with.now.limits with.now.readtable.now with.now.packages.now.0 with.now.current.now
         (R.registered with.now.macros.now) R.Meaning.way R.Meaning.answer)
         frames.new (at + 1) cs event (run with.now.readtable.now with.now.limits (without_space with.now.readtable.now true (between
         (setting_of with.now.limits with.now.readtable.now with.now.packages.now.0 with.now.current.now
         (R.registered with.now.macros.now) R.Meaning.way R.Meaning.answer)
         frames.old)) at (c ∷ cs))) }
+    ensures ready { IfOk result (IsReady with.now.limits (at + 1)) }
+    ensures nesting { IfOk result (λ _. length frames.new ≤ with.now.limits.nesting) }
 {
     if is_blank(with.readtable.syntax(c)) {
         if at >= with.limits.text {
@@ -84,7 +89,8 @@ pub(crate) fn after_token<R: MacroFunctions>(
     at_object(with, frames, at, c)
 }
 
-fn is_blank(syntax: Syntax) -> bool
+/// Whether it is the syntax type of whitespace.
+pub(crate) fn is_blank(syntax: Syntax) -> bool
     ensures { result ≡ is_blank syntax }
 {
     match syntax {
@@ -118,13 +124,16 @@ pub(crate) fn after_found<R: MacroFunctions>(
     requires answers { R.answers with.now.macros.now }
     requires place { at ≤ with.now.limits.text }
     requires nesting { length frames.old ≤ with.now.limits.nesting }
-    ensures { (cs : List ℕ) → IfOk result (λ passed. Passes
+    requires found { lookahead found ≤ 1 }
+    ensures passes { (cs : List ℕ) → IfOk result (λ passed. Passes
         (setting_of with.now.limits with.now.readtable.now with.now.packages.now.0 with.now.current.now
         (R.registered with.now.macros.now) R.Meaning.way R.Meaning.answer)
         frames.new at c cs passed (run with.now.readtable.now with.now.limits (given
         (setting_of with.now.limits with.now.readtable.now with.now.packages.now.0 with.now.current.now
         (R.registered with.now.macros.now) R.Meaning.way R.Meaning.answer)
         frames.old (gives found)) at (c ∷ cs))) }
+    ensures ready { IfOk result (IsReadyPass with.now.limits at) }
+    ensures nesting { IfOk result (λ _. length frames.new ≤ with.now.limits.nesting) }
 {
     match deliver(with, frames, found, at)? {
         Delivered::Waits(token) => {
@@ -148,13 +157,14 @@ pub(crate) fn in_token<R: MacroFunctions>(
 ) -> Result<Moved, AllocError>
     requires place { at ≤ with.now.limits.text }
     requires current { IsPackage with.now.packages.now.0 with.now.current.now }
-    ensures { (frames : List OpenCall) (cs : List ℕ) → IfOk result (λ moved. Moves
+    ensures moves { (frames : List OpenCall) (cs : List ℕ) → IfOk result (λ moved. Moves
         (setting_of with.now.limits with.now.readtable.now with.now.packages.now.0 with.now.current.now
         (R.registered with.now.macros.now) R.Meaning.way R.Meaning.answer)
         frames at c cs moved (stage_gives
         (setting_of with.now.limits with.now.readtable.now with.now.packages.now.0 with.now.current.now
         (R.registered with.now.macros.now) R.Meaning.way R.Meaning.answer)
         frames (AtToken scan) at (c ∷ cs))) }
+    ensures ready { IfOk result (IsReadyMove with.now.limits at) }
 {
     match scan.byte(with.readtable, &with.limits, at, c)? {
         BegunByte::More(scan) => Ok(Moved::Taken(Event::Stage(Stage::Token(scan)))),
@@ -172,7 +182,7 @@ pub(crate) fn token_end<R: MacroFunctions>(
     requires some { 0 < length marks.items }
     requires ascii { IsTrue (are_ascii marks.items) }
     requires current { IsPackage with.now.packages.now.0 with.now.current.now }
-    ensures { (frames : List OpenCall) (cs : List ℕ) → IfOk result (λ event. Brings
+    ensures brings { (frames : List OpenCall) (cs : List ℕ) → IfOk result (λ event. Brings
         (setting_of with.now.limits with.now.readtable.now with.now.packages.now.0 with.now.current.now
         (R.registered with.now.macros.now) R.Meaning.way R.Meaning.answer)
         frames at cs event (run with.now.readtable.now with.now.limits (given
@@ -182,6 +192,7 @@ pub(crate) fn token_end<R: MacroFunctions>(
         (setting_of with.now.limits with.now.readtable.now with.now.packages.now.0 with.now.current.now
         (R.registered with.now.macros.now) R.Meaning.way R.Meaning.answer)
         marks.items)) at cs)) }
+    ensures ends { IfOk result (IsEnd 1 at) }
 {
     let case = with.readtable.case();
     match tell(with.alloc, case, with.packages, with.current, 10, marks) {

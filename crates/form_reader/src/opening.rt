@@ -1,8 +1,9 @@
 //! How a call begins.
-ghost use Rattle.std.specs.Prelude.{◌≡◌, ◌≤◌, ℕ, List, IfOk};
+ghost use Rattle.std.specs.Prelude.{◌≡◌, ◌≤◌, ℕ, List, IfOk, length};
 ghost use Rattle.form_reader.specs.Setting.{Setting, setting_of, is_baseless, standard_way, user_way, way_in};
 ghost use Rattle.form_reader.specs.declared.frame.Frame.{Frame as OpenCall};
 ghost use Rattle.form_reader.specs.Resuming.{Begins, Gathers, ComesTo};
+ghost use Rattle.form_reader.specs.Ready.{IsReady, IsEnd, completed_lookahead};
 
 use crate::call::Invoked;
 use crate::complete::{Completed, complete};
@@ -27,10 +28,13 @@ pub(crate) fn begin_call<R: MacroFunctions>(
 ) -> Result<Event, AllocError>
     requires answers { R.answers with.now.macros.now }
     requires place { at ≤ with.now.limits.text }
-    ensures { (cs : List ℕ) → IfOk result (λ event. Begins
+    requires nesting { length frames.old ≤ with.now.limits.nesting }
+    ensures begins { (cs : List ℕ) → IfOk result (λ event. Begins
         (setting_of with.now.limits with.now.readtable.now with.now.packages.now.0 with.now.current.now
         (R.registered with.now.macros.now) R.Meaning.way R.Meaning.answer)
         frames.new frames.old call at cs event) }
+    ensures ready { IfOk result (IsReady with.now.limits at) }
+    ensures nesting { IfOk result (λ _. length frames.new ≤ with.now.limits.nesting) }
 {
     match way_of(with, &call) {
         None => Ok(Event::Refused(OUT_OF_PROFILE, at.saturating_sub(1))),
@@ -39,7 +43,7 @@ pub(crate) fn begin_call<R: MacroFunctions>(
 }
 
 /// Begins to gather in this way.
-#[tactic(auto, using(crate::proofs::Beginnings::next_opens, crate::proofs::Beginnings::list_opens, crate::proofs::Beginnings::until_opens, crate::proofs::Beginnings::next_deep, crate::proofs::Beginnings::list_deep, crate::proofs::Beginnings::until_deep, crate::proofs::Beginnings::token_begins, crate::proofs::Beginnings::escaped_begins))]
+#[tactic(auto, using(crate::proofs::Beginnings::next_opens, crate::proofs::Beginnings::list_opens, crate::proofs::Beginnings::until_opens, crate::proofs::Beginnings::next_deep, crate::proofs::Beginnings::list_deep, crate::proofs::Beginnings::until_deep, crate::proofs::Beginnings::token_begins, crate::proofs::Beginnings::escaped_begins, crate::proofs::Readiness::ended_ready))]
 fn gather<R: MacroFunctions>(
     with: &Surroundings<'_, R>,
     frames: &mut Frames,
@@ -49,10 +53,13 @@ fn gather<R: MacroFunctions>(
 ) -> Result<Event, AllocError>
     requires answers { R.answers with.now.macros.now }
     requires place { at ≤ with.now.limits.text }
-    ensures { (cs : List ℕ) → IfOk result (λ event. Gathers
+    requires nesting { length frames.old ≤ with.now.limits.nesting }
+    ensures gathers { (cs : List ℕ) → IfOk result (λ event. Gathers
         (setting_of with.now.limits with.now.readtable.now with.now.packages.now.0 with.now.current.now
         (R.registered with.now.macros.now) R.Meaning.way R.Meaning.answer)
         frames.new frames.old call way at cs event) }
+    ensures ready { IfOk result (IsReady with.now.limits at) }
+    ensures nesting { IfOk result (λ _. length frames.new ≤ with.now.limits.nesting) }
 {
     let deep = frames.len() >= with.limits.nesting as usize;
     match way {
@@ -114,7 +121,8 @@ fn gather<R: MacroFunctions>(
 /// What a call that ends at `at` brings.
 #[tactic(auto, using(crate::proofs::Beginnings::refused_is))]
 pub(crate) fn event_of(completed: Completed, at: usize) -> Event
-    ensures { (setting : Setting) (frames : List OpenCall) (cs : List ℕ) → ComesTo setting frames completed at cs result }
+    ensures comes { (setting : Setting) (frames : List OpenCall) (cs : List ℕ) → ComesTo setting frames completed at cs result }
+    ensures ends { IsEnd (completed_lookahead completed) at result }
 {
     match completed {
         Completed::Gives(found) => Event::Gives(found),

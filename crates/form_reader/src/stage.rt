@@ -1,10 +1,12 @@
 //! Where a reader is in its innermost call.
-ghost use Rattle.std.specs.Prelude.{◌≡◌, ◌≤◌, ◌<◌, ℕ, List, [], ◌∷◌, length, IfOk, IsTrue, IsFalse};
+ghost use Rattle.std.specs.Prelude.{◌≡◌, ◌≤◌, ◌<◌, ℕ, List, [], ◌∷◌, length, IfOk, IsTrue, IsFalse, Ok};
 ghost use Rattle.token_scan.specs.Tokens.{kind, typed};
 ghost use Rattle.token_scan.specs.Spelling.{ends_tokens};
-ghost use Rattle.token_scan.specs.Scans.{begun};
+ghost use Rattle.token_scan.specs.Scans.{Scan, begun, has_begun};
 ghost use Rattle.form_reader.specs.Feeding.{token_read};
 ghost use Rattle.form_reader.specs.Begun.{BegunFeeds, FirstFeeds, IsBegunByte};
+ghost use Rattle.form_reader.specs.declared.stage.BegunByte.TheVariants.{More as BegunMore};
+ghost use Rattle.form_reader.specs.declared.stage.FirstByte.TheVariants.{More as FirstMore};
 
 use crate::bytes::LineByte;
 use crate::call::Invoked;
@@ -65,8 +67,9 @@ pub(crate) fn first_byte(
 ) -> Result<FirstByte, AllocError>
     requires place { at ≤ limits.now.text }
     requires begins { IsFalse (ends_tokens (kind (typed readtable.now c))) }
-    ensures { (cs : List ℕ) → IfOk result (λ fed.
+    ensures feeds { (cs : List ℕ) → IfOk result (λ fed.
         FirstFeeds readtable.now limits.now at cs fed (token_read readtable.now limits.now (begun limits.now.token) at (c ∷ cs))) }
+    ensures below { (scan : Scan) → result ≡ Ok (FirstMore scan) → at < limits.now.text }
 {
     let mut scan = TokenScan::begin(alloc, limits.token);
     match token_byte(readtable, limits, &mut scan, at, c)? {
@@ -77,6 +80,14 @@ pub(crate) fn first_byte(
 }
 
 impl BegunScan {
+    /// The scan of the token.
+    pub(crate) fn into_scan(self) -> TokenScan
+        ensures value { result ≡ self }
+        ensures begun { IsTrue (has_begun result) }
+    {
+        self.scan
+    }
+
     /// The byte `c` at `at`.
     #[tactic(auto, using(token_scan::proofs::Forwards::begun_has_mark))]
     pub(crate) fn byte(
@@ -90,6 +101,7 @@ impl BegunScan {
         ensures feeds { (cs : List ℕ) → IfOk result (λ fed.
             BegunFeeds readtable.now limits.now at c cs fed (token_read readtable.now limits.now self at (c ∷ cs))) }
         ensures ended { IfOk result IsBegunByte }
+        ensures below { (scan : Scan) → result ≡ Ok (BegunMore scan) → at < limits.now.text }
     {
         let BegunScan { mut scan } = self;
         match token_byte(readtable, limits, &mut scan, at, c)? {

@@ -32,6 +32,7 @@ pub(crate) fn token_byte(
     ensures ended { result ≡ Ok LineEnded → (scan.new ≡ scan.old) × (scan.new.stage ≡ Outside) }
     ensures ends { result ≡ Ok LineEnded → IsTrue (ends_tokens (kind (typed readtable.now c))) }
     ensures more { result ≡ Ok LineMore → IsTrue (has_begun scan.new) }
+    ensures below { result ≡ Ok LineMore → at < limits.now.text }
 {
     match scan.feed(readtable.syntax(c), c)? {
         Fed::Ended => Ok(LineByte::Ended),
@@ -47,7 +48,7 @@ pub(crate) fn token_byte(
 }
 
 /// The number of a refusal at `at`, where the byte may be one too many.
-fn refused(limits: &Limits, refusal: ScanRefusal, at: usize) -> u16
+pub(crate) fn refused(limits: &Limits, refusal: ScanRefusal, at: usize) -> u16
     requires { at ≤ limits.now.text }
     ensures { result ≡ refused_number limits.now.text refusal at }
 {

@@ -2,6 +2,7 @@ use Rattle.std.proofs.Common.{◌≡◌, ◌≤◌, ℕ, List, length}
 use Rattle.form_reader.specs.Plans.{gives, run}
 use Rattle.form_reader.specs.Setting.{setting_of}
 use Rattle.form_reader.specs.Frames.{given}
+use Rattle.form_reader.specs.Ready.{lookahead}
 use Rattle.form_reader.proofs.deliver.deliver.Given as goal
 
 abbrev pub invariant-calls : goal.invariant-calls
@@ -11,6 +12,7 @@ invariant-calls g l =
     ((cs : List ℕ) → run setting.table setting.limits (given setting l.fn.frames (gives l.fn.found)) l.fn.at cs
     ≡ run setting.table setting.limits (given setting l.frames (gives l.found)) l.fn.at cs)
     × (length l.frames ≤ length l.fn.frames)
+    × (lookahead l.found ≤ lookahead l.fn.found)
 
 abbrev pub decreases-calls : goal.decreases-calls
 decreases-calls g l = length l.frames

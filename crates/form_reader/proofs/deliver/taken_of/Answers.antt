@@ -2,6 +2,6 @@ use Rattle.std.proofs.Common.{arith}
 use Rattle.form_reader.proofs.Beginnings.{refusal_comes}
 use Rattle.form_reader.proofs.deliver.taken_of.Goals as goal
 
-pub returns-in-Refused : goal.returns-in-Refused
-returns-in-Refused c = λ setting frames cs.
+pub returns-in-Refused-clause-takes : goal.returns-in-Refused-clause-takes
+returns-in-Refused-clause-takes c = λ setting frames cs.
     refusal_comes setting frames c.args.completed c.in-Refused.code c.in-Refused.back c.args.at c.saturating_sub.result cs c.in-Refused.is (omega (arith, c.saturating_sub.ensures))

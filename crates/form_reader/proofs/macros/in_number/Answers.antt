@@ -3,20 +3,20 @@ use Rattle.form_reader.proofs.Goings.{goes_on, fails}
 use Rattle.form_reader.proofs.Dispatching.{number_ended, number_of}
 use Rattle.form_reader.proofs.macros.in_number.Goals as goal
 
-pub returns-in-More : goal.returns-in-More
-returns-in-More g c = λ cs.
+pub returns-in-More-clause-brings : goal.returns-in-More-clause-brings
+returns-in-More-clause-brings g c = λ cs.
     let setting = setting_of c.args.with.now.limits c.args.with.now.readtable.now c.args.with.now.packages.now.0 c.args.with.now.current.now
     (g.R.MacroFunctions.registered c.args.with.now.macros.now) g.R.Meaning.Meaning.way g.R.Meaning.Meaning.answer in
-    goes_on setting c.args.frames.now _ _ c.args.at c.args.c cs _ (c.in-More.ensures cs)
+    goes_on setting c.args.frames.now _ _ c.args.at c.args.c cs _ (c.in-More.ensures.feeds cs)
 
-pub returns-in-Ended : goal.returns-in-Ended
-returns-in-Ended g c = λ cs.
+pub returns-in-Ended-clause-brings : goal.returns-in-Ended-clause-brings
+returns-in-Ended-clause-brings g c = λ cs.
     let setting = setting_of c.args.with.now.limits c.args.with.now.readtable.now c.args.with.now.packages.now.0 c.args.with.now.current.now
     (g.R.MacroFunctions.registered c.args.with.now.macros.now) g.R.Meaning.Meaning.way g.R.Meaning.Meaning.answer in
-    number_ended setting c.args.frames.now _ c.args.character c.args.at c.args.c c.args.number _ cs c.sub_byte.result (c.in-Ended.ensures cs) (number_of setting c.args.frames.now _ _ _ c.args.at c.args.c _ cs c.sub_byte.result c.get.ensures.value (c.sub_byte.ensures cs))
+    number_ended setting c.args.frames.now _ c.args.character c.args.at c.args.c c.args.number _ cs c.sub_byte.result (c.in-Ended.ensures.feeds cs) (number_of setting c.args.frames.now _ _ _ c.args.at c.args.c _ cs c.sub_byte.result c.get.ensures.value (c.sub_byte.ensures.brings cs))
 
-pub returns-in-Refused : goal.returns-in-Refused
-returns-in-Refused g c = λ cs.
+pub returns-in-Refused-clause-brings : goal.returns-in-Refused-clause-brings
+returns-in-Refused-clause-brings g c = λ cs.
     let setting = setting_of c.args.with.now.limits c.args.with.now.readtable.now c.args.with.now.packages.now.0 c.args.with.now.current.now
     (g.R.MacroFunctions.registered c.args.with.now.macros.now) g.R.Meaning.Meaning.way g.R.Meaning.Meaning.answer in
-    fails setting c.args.frames.now _ _ c.args.at c.args.c cs c.in-Refused.code (c.in-Refused.ensures cs)
+    fails setting c.args.frames.now _ _ c.args.at c.args.c cs c.in-Refused.code (c.in-Refused.ensures.feeds cs)

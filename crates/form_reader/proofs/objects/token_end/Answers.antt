@@ -2,8 +2,8 @@ use Rattle.form_reader.specs.Setting.{setting_of}
 use Rattle.form_reader.proofs.ObjectTokens.{token_fails, refused_told}
 use Rattle.form_reader.proofs.objects.token_end.Goals as goal
 
-pub returns-in-Err-Refused : goal.returns-in-Err-Refused
-returns-in-Err-Refused g c = λ frames cs.
+pub returns-in-Err-Refused-clause-brings : goal.returns-in-Err-Refused-clause-brings
+returns-in-Err-Refused-clause-brings g c = λ frames cs.
     let setting = setting_of c.args.with.now.limits c.args.with.now.readtable.now c.args.with.now.packages.now.0 c.args.with.now.current.now
     (g.R.MacroFunctions.registered c.args.with.now.macros.now) g.R.Meaning.Meaning.way g.R.Meaning.Meaning.answer in
     token_fails setting frames c.args.at cs c.args.marks.items _ c.requires.some

@@ -1,0 +1,125 @@
+-- What a step and the end of the text are to a reader, from what a turn is to the outcome.
+use Rattle.std.proofs.Common.{◌≡◌, ℕ, ◌+◌, ◌≤◌, true, List, [], ◌∷◌, ◌++◌, length, take, drop, refl, sym, ap, subst, ◌∙◌, append_assoc, append-nil, length-append, arith}
+use Rattle.lisp_object.specs.Object.{Object}
+use Rattle.std.proofs.lemmas.List.{take-append-drop}
+use Rattle.lisp_object.specs.declared.datum.Datum.{Datum}
+use Rattle.lisp_object.specs.Datum.{object_of, is_proper}
+use Rattle.form_reader.specs.declared.ending.ReadOutcome.{ReadOutcome}
+use Rattle.form_reader.specs.declared.frame.Frame.{Frame}
+use Rattle.form_reader.specs.declared.limits.Limits.{Limits}
+use Rattle.form_reader.specs.declared.reader.FormReader.{FormReader}
+use Rattle.form_reader.specs.declared.reader.State.{State}
+use Rattle.form_reader.specs.declared.reader.State.TheVariants.{Open, Refused, OutOfMemory}
+use Rattle.form_reader.specs.declared.reader.Step.{Step}
+use Rattle.form_reader.specs.declared.reader.Step.TheVariants.{More as StepMore, Form as StepForm, Refused as StepRefused}
+use Rattle.form_reader.specs.declared.stage.Stage.{Stage}
+use Rattle.form_reader.specs.declared.stage.Stage.TheVariants.{Object as AtObject}
+use Rattle.form_reader.specs.declared.turn.Turn.{Turn}
+use Rattle.form_reader.specs.declared.turn.Turn.TheVariants.{Goes, Form as TurnForm, Refused as TurnRefused}
+use Rattle.form_reader.specs.Setting.{Setting}
+use Rattle.form_reader.specs.Reading.{Outcome, form, refused, reads}
+use Rattle.form_reader.specs.Turning.{rest_of, TurnsTo, IsReadyTurn}
+use Rattle.form_reader.specs.Reader.{fed, IsNew, IsAfter, IsAfterIn, Steps, Takes, IsOutcome}
+use Rattle.form_reader.proofs.Forms.{reads_is}
+
+-- a reader that was fed nothing is after no bytes
+pub new_rest : (setting : Setting) (frames : List Frame) → frames ≡ [] → (cs : List ℕ) → reads setting cs ≡ rest_of setting frames AtObject 0 0 cs
+unfolding reads
+new_rest setting frames none cs = reads_is setting 0 cs ∙ ap (λ (fs : List Frame). rest_of setting fs AtObject 0 0 cs) (sym none)
+
+module _ (setting : Setting) (old mid new : FormReader) (stage : Stage) (bytes : List ℕ) (byte : ℕ) (after : List Frame) where
+  abbrev fed_now : List ℕ
+  fed_now = bytes ++ byte ∷ []
+
+  one_more : IsAfterIn setting old (Open stage) bytes → (cs : List ℕ) → reads setting (fed_now ++ cs) ≡ rest_of setting old.frames stage old.start old.at (byte ∷ cs)
+  one_more a cs = ap (reads setting) (append_assoc bytes (byte ∷ []) cs) ∙ a.1 (byte ∷ cs)
+
+  pub stepped : (turn : Turn) (step : Step) → IsAfterIn setting old (Open stage) bytes
+      → ((cs : List ℕ) → TurnsTo setting after cs turn (rest_of setting old.frames stage old.start old.at (byte ∷ cs)))
+      → IsReadyTurn setting.limits after (old.start + old.at + 1) turn → mid.frames ≡ after → Takes turn mid new step → Steps setting new fed_now step
+  stepped (Goes start at st) step a turns ready same takes =
+      let many : length fed_now ≡ length bytes + 1 = length-append bytes (byte ∷ []) in
+      let rest : (cs : List ℕ) → reads setting (fed_now ++ cs) ≡ rest_of setting new.frames st new.start new.at cs =
+      λ cs. one_more a cs ∙ turns cs ∙ (λ i. rest_of setting ((sym same ∙ sym takes.3) i) st (sym takes.1 i) (sym takes.2 i) cs) in
+      subst (λ (s : Step). Steps setting new fed_now s) (sym takes.0) (
+        subst (λ (s : State). IsAfterIn setting new s fed_now) (sym takes.4) (omega (arith, many, takes.1, takes.2, ready.1, a.0), rest),
+        omega (arith, many, takes.1, takes.2, ready.1, a.0),
+      )
+  stepped (TurnForm x start «end» next) (StepForm datum s e n) a turns ready same takes =
+      let many : length fed_now ≡ length bytes + 1 = length-append bytes (byte ∷ []) in (
+        λ cs. one_more a cs ∙ (turns cs).0 ∙ (λ i. form (sym takes.0 i) (sym takes.2 i) (sym takes.3 i) (sym takes.4 i)),
+        takes.1,
+        omega (arith, many, ready.0, takes.4, a.0),
+        omega (arith, many, ready.1, takes.4, a.0),
+        record {
+          start = takes.5;
+          at = takes.6;
+          frames = takes.7 ∙ same ∙ (turns []).1;
+          state = takes.8;
+        },
+      )
+  stepped (TurnForm x start «end» next) StepMore a turns ready same takes = absurd takes
+  stepped (TurnForm x start «end» next) (StepRefused code place) a turns ready same takes = absurd takes
+  stepped (TurnRefused code place) step a turns ready same takes =
+      subst (λ (s : Step). Steps setting new fed_now s) (sym takes.0) (λ cs. one_more a cs ∙ turns cs, takes.1)
+
+-- at most one byte more was fed
+pub fed_taking : (mid new : FormReader) (after : List Frame) (limits : Limits) (count : ℕ) (turn : Turn) (step : Step) → Takes turn mid new step → IsReadyTurn limits after count turn
+    → mid.start + mid.at + 1 ≡ count → fed new ≤ count
+fed_taking mid new after limits count (Goes start at st) step takes ready many = omega (arith, takes.1, takes.2, ready.1)
+fed_taking mid new after limits count (TurnForm x start «end» next) (StepForm datum s e n) takes ready many = omega (arith, takes.5, takes.6, many)
+fed_taking mid new after limits count (TurnForm x start «end» next) StepMore takes ready many = absurd takes
+fed_taking mid new after limits count (TurnForm x start «end» next) (StepRefused code place) takes ready many = absurd takes
+fed_taking mid new after limits count (TurnRefused code place) step takes ready many = omega (arith, takes.2, takes.3, many)
+
+-- ---- the end
+
+pub finishes : (setting : Setting) (reader : FormReader) (stage : Stage) (bytes : List ℕ) (outcome : ReadOutcome) → reader.state ≡ Open stage → IsAfter setting reader bytes
+    → IsOutcome outcome (rest_of setting reader.frames stage reader.start reader.at []) → IsOutcome outcome (reads setting bytes)
+finishes setting reader stage bytes outcome e a is =
+    let here : IsAfterIn setting reader (Open stage) bytes = subst (λ (s : State). IsAfterIn setting reader s bytes) e a in
+    subst (λ (o : Outcome). IsOutcome outcome o) (sym (here.1 []) ∙ ap (reads setting) (append-nil bytes)) is
+
+pub refused_finishes : (setting : Setting) (reader : FormReader) (bytes : List ℕ) (code place : ℕ) → reader.state ≡ Refused code place → IsAfter setting reader bytes
+    → reads setting bytes ≡ refused code place
+refused_finishes setting reader bytes code place e a =
+    let here : IsAfterIn setting reader (Refused code place) bytes = subst (λ (s : State). IsAfterIn setting reader s bytes) e a in
+    sym (ap (reads setting) (append-nil bytes)) ∙ here []
+
+-- a reader that has refused is after any more bytes, too
+pub refused_steps : (setting : Setting) (old new : FormReader) (bytes : List ℕ) (byte code place : ℕ) → old.state ≡ Refused code place → new.state ≡ Refused code place → IsAfter setting old bytes
+    → Steps setting new (bytes ++ byte ∷ []) (StepRefused code place)
+refused_steps setting old new bytes byte code place e f a =
+    let here : IsAfterIn setting old (Refused code place) bytes = subst (λ (s : State). IsAfterIn setting old s bytes) e a in
+    (λ cs. ap (reads setting) (append_assoc bytes (byte ∷ []) cs) ∙ here (byte ∷ cs), f)
+
+-- ---- a whole text, where a step decides it
+
+module _ (under : Limits → Setting) (held handed : Limits) (old reader : FormReader) (bytes : List ℕ) (k byte : ℕ) (step : Step) where
+  abbrev front : List ℕ
+  front = take k bytes
+
+  -- what a step says under the limits that the reader holds, it says under those that it was handed
+  under_limits : held ≡ handed → IsAfter (under handed) old front → (IsAfter (under held) old front → Steps (under held) reader (front ++ byte ∷ []) step)
+      → Steps (under handed) reader (front ++ byte ∷ []) step
+  under_limits same after steps =
+      subst (λ (l : Limits). Steps (under l) reader (front ++ byte ∷ []) step) same (steps (subst (λ (l : Limits). IsAfter (under l) old front) (sym same) after))
+
+  whole_text : take (k + 1) bytes ≡ front ++ byte ∷ [] → bytes ≡ (front ++ byte ∷ []) ++ drop (k + 1) bytes
+  whole_text same = sym (take-append-drop (k + 1) bytes) ∙ ap (λ (t : List ℕ). t ++ drop (k + 1) bytes) same
+
+  pub decided_form : (datum : Datum) (start «end» next : ℕ) → step ≡ StepForm datum start «end» next → held ≡ handed → IsAfter (under handed) old front
+      → (IsAfter (under held) old front → Steps (under held) reader (front ++ byte ∷ []) step) → take (k + 1) bytes ≡ front ++ byte ∷ []
+      → (reads (under handed) bytes ≡ form (object_of datum) start «end» next) × (is_proper datum ≡ true)
+  decided_form datum start «end» next e limits after steps same =
+      let told : Steps (under handed) reader (front ++ byte ∷ []) (StepForm datum start «end» next) =
+      subst (λ (s : Step). Steps (under handed) reader (front ++ byte ∷ []) s) e (under_limits limits after steps) in
+      (ap (reads (under handed)) (whole_text same) ∙ told.0 (drop (k + 1) bytes), told.1)
+
+  pub decided_refusal : (code place : ℕ) → step ≡ StepRefused code place → held ≡ handed → IsAfter (under handed) old front
+      → (IsAfter (under held) old front → Steps (under held) reader (front ++ byte ∷ []) step) → take (k + 1) bytes ≡ front ++ byte ∷ []
+      → reads (under handed) bytes ≡ refused code place
+  decided_refusal code place e limits after steps same =
+      let told : Steps (under handed) reader (front ++ byte ∷ []) (StepRefused code place) =
+      subst (λ (s : Step). Steps (under handed) reader (front ++ byte ∷ []) s) e (under_limits limits after steps) in
+      ap (reads (under handed)) (whole_text same) ∙ told.0 (drop (k + 1) bytes)

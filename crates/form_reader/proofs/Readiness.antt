@@ -1,0 +1,49 @@
+-- What keeps a reader going, where calls and tokens end.
+use Rattle.std.proofs.Common.{◌≡◌, ℕ, ◌+◌, ◌≤◌, Bool, true, false, subst, arith}
+use Rattle.std.specs.Prelude.{◌||◌}
+use Rattle.form_reader.specs.declared.limits.Limits.{Limits}
+use Rattle.form_reader.specs.declared.stage.Event.{Event}
+use Rattle.form_reader.specs.declared.stage.Event.TheVariants.{Stage as IsAt, Gives as IsGiven, Refused as IsRefused}
+use Rattle.form_reader.specs.declared.deliver.Taken.{Taken}
+use Rattle.form_reader.specs.declared.deliver.Taken.TheVariants.{Stays, Gives, Refused}
+use Rattle.form_reader.specs.declared.found.Found.{Found}
+use Rattle.form_reader.specs.declared.frame.Frame.{Frame}
+use Rattle.form_reader.specs.Ready.{space, lookahead, IsReady, IsEnd, IsTakenAt}
+
+-- a call that ends with a byte, and no token in it
+pub ended_ready : (limits : Limits) (most at : ℕ) (event : Event) → IsEnd most at event → most ≤ 0 → at ≤ limits.text → IsReady limits at event
+ended_ready limits most at (IsAt stage) h none le = absurd h
+ended_ready limits most at (IsGiven found) h none le = (le, omega (arith, h, none))
+ended_ready limits most at (IsRefused code place) h none le = h
+
+pub end_within : (less most at : ℕ) (event : Event) → IsEnd less at event → less ≤ most → IsEnd most at event
+end_within less most at (IsAt stage) h le = h
+end_within less most at (IsGiven found) h le = omega (arith, h, le)
+end_within less most at (IsRefused code place) h le = h
+
+pub space_or : (a b : Bool) → space a ≤ space (a || b)
+space_or true b = omega arith
+space_or false true = omega arith
+space_or false false = omega arith
+
+pub or_space : (a b : Bool) → space b ≤ space (a || b)
+or_space true true = omega arith
+or_space true false = omega arith
+or_space false true = omega arith
+or_space false false = omega arith
+
+pub space_most : (a : Bool) → space a ≤ 1
+space_most true = omega arith
+space_most false = omega arith
+
+-- ---- what one open call makes of it
+
+module _ (less most at : ℕ) (taken : Taken) where
+  pub stays_within : (token : Bool) (frame : Frame) → taken ≡ Stays token frame → IsTakenAt less at taken → less ≤ most → space token ≤ most
+  stays_within token frame e h le = let here : space token ≤ less = subst (λ (t : Taken). IsTakenAt less at t) e h in omega (arith, here, le)
+
+  pub gives_within : (found : Found) → taken ≡ Gives found → IsTakenAt less at taken → less ≤ most → lookahead found ≤ most
+  gives_within found e h le = let here : lookahead found ≤ less = subst (λ (t : Taken). IsTakenAt less at t) e h in omega (arith, here, le)
+
+  pub refused_within : (code place : ℕ) → taken ≡ Refused code place → IsTakenAt less at taken → place ≤ at
+  refused_within code place e h = subst (λ (t : Taken). IsTakenAt less at t) e h

@@ -1,0 +1,28 @@
+use Rattle.std.proofs.Common.{◌<◌, List, [], length, ap, sym, subst, ◌∙◌, None, Some}
+use Rattle.token_scan.specs.declared.mark.Mark.{Mark}
+use Rattle.token_scan.proofs.Forwards.{begun_has_mark}
+use Rattle.token_scan.specs.Scans.{Scan}
+use Rattle.form_reader.specs.Setting.{setting_of}
+use Rattle.form_reader.specs.Ending.{TokenStops}
+use Rattle.form_reader.proofs.Endings.{token_last, token_stopped}
+use Rattle.form_reader.proofs.ending.last_token.Goals as goal
+
+pub returns-in-None-clause-brings : goal.returns-in-None-clause-brings
+returns-in-None-clause-brings g c = λ frames.
+    let setting = setting_of c.args.with.now.limits c.args.with.now.readtable.now c.args.with.now.packages.now.0 c.args.with.now.current.now
+    (g.R.MacroFunctions.registered c.args.with.now.macros.now) g.R.Meaning.Meaning.way g.R.Meaning.Meaning.answer in
+    token_last setting frames c.args.at c.args.scan _ c.token_end.result
+    (subst (λ (s : Scan). TokenStops setting.table setting.limits s c.args.at None) c.into_scan-scan.ensures.value (c.in-None.ensures.stops setting.table))
+    (c.into_marks.ensures.value ∙ ap (λ (s : Scan). s.marks) (c.token_stop.ensures.same c.in-None.is ∙ c.into_scan-scan.ensures.value)) (c.token_end.ensures.brings frames [])
+
+pub returns-in-Some-clause-brings : goal.returns-in-Some-clause-brings
+returns-in-Some-clause-brings g c = λ frames.
+    let setting = setting_of c.args.with.now.limits c.args.with.now.readtable.now c.args.with.now.packages.now.0 c.args.with.now.current.now
+    (g.R.MacroFunctions.registered c.args.with.now.macros.now) g.R.Meaning.Meaning.way g.R.Meaning.Meaning.answer in
+    token_stopped setting frames c.args.at c.args.scan _ c.in-Some.code
+    (subst (λ (s : Scan). TokenStops setting.table setting.limits s c.args.at (Some c.in-Some.code)) c.into_scan-scan.ensures.value (c.in-Some.ensures.stops setting.table))
+
+pub token_end-requires-clause-some : goal.token_end-requires-clause-some
+token_end-requires-clause-some g c =
+    subst (λ (ms : List Mark). 0 < length ms) (sym (c.into_marks.ensures.value ∙ ap (λ (s : Scan). s.marks) (c.token_stop.ensures.same c.in-None.is)))
+    (begun_has_mark c.into_scan-scan.result c.into_scan-scan.ensures.begun (c.in-None.ensures.stops c.args.with.now.readtable.now).1)

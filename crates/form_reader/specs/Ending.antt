@@ -1,0 +1,30 @@
+-- What the end of the text is to a token and to a call.
+use Rattle.std.specs.Prelude.{ℕ, ◌≡◌, ◌≤◌, [], Ok, Option, Some, None}
+use Rattle.readtable_core.specs.Tables.{Table}
+use Rattle.token_scan.specs.Scans.{Scan}
+use Rattle.token_scan.specs.declared.stage.Stage.TheVariants.{Outside}
+use Rattle.form_reader.specs.declared.limits.Limits.{Limits}
+use Rattle.form_reader.specs.declared.stage.Event.{Event}
+use Rattle.form_reader.specs.declared.stage.Event.TheVariants.{Stage as IsAt, Gives as IsGiven, Refused as IsRefused}
+use Rattle.form_reader.specs.declared.stage.Stage.TheVariants.{Object as AtObject}
+use Rattle.form_reader.specs.declared.turn.Settled.{Settled}
+use Rattle.form_reader.specs.declared.turn.Settled.TheVariants.{Open as SettledOpen, Done as SettledDone, Refused as SettledRefused}
+use Rattle.form_reader.specs.Plans.{fault}
+use Rattle.form_reader.specs.Feeding.{token_read}
+
+-- it ends the token; or the token is refused
+abbrev pub TokenStops : Table → Limits → Scan → ℕ → Option ℕ → Type 0
+TokenStops table limits scan at None = (token_read table limits scan at [] ≡ Ok (scan.marks, at, [])) × (scan.stage ≡ Outside)
+TokenStops table limits scan at (Some code) = token_read table limits scan at [] ≡ fault code at
+
+-- Only at a place where an object may begin is more waited for; a refusal is at no later place.
+abbrev pub IsLastEvent : ℕ → Event → Type 0
+IsLastEvent at (IsAt stage) = stage ≡ AtObject
+IsLastEvent at (IsGiven found) = Unit {0}
+IsLastEvent at (IsRefused code place) = place ≤ at
+
+-- no more is waited for
+abbrev pub IsLastSettled : ℕ → Settled → Type 0
+IsLastSettled at (SettledOpen stage) = ⊥
+IsLastSettled at (SettledDone found) = Unit {0}
+IsLastSettled at (SettledRefused code place) = place ≤ at

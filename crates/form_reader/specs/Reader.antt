@@ -1,0 +1,67 @@
+-- A reader that takes a text one byte at a time: what it is after, and what it answers.
+use Rattle.std.specs.Prelude.{ℕ, ◌≡◌, ◌+◌, ◌≤◌, true, List, [], ◌++◌, length}
+use Rattle.lisp_object.specs.Datum.{object_of, is_proper}
+use Rattle.form_reader.specs.declared.stage.Stage.TheVariants.{Object as AtObject}
+use Rattle.form_reader.specs.declared.reader.FormReader.{FormReader}
+use Rattle.form_reader.specs.declared.reader.State.{State}
+use Rattle.form_reader.specs.declared.reader.State.TheVariants.{Open, Refused, OutOfMemory}
+use Rattle.form_reader.specs.declared.reader.Step.{Step}
+use Rattle.form_reader.specs.declared.reader.Step.TheVariants.{More as StepMore, Form as StepForm, Refused as StepRefused}
+use Rattle.form_reader.specs.declared.ending.ReadOutcome.{ReadOutcome}
+use Rattle.form_reader.specs.declared.ending.ReadOutcome.TheVariants.{Form as ReadForm, Empty as ReadEmpty, Refused as ReadRefused}
+use Rattle.form_reader.specs.declared.turn.Turn.{Turn}
+use Rattle.form_reader.specs.declared.turn.Turn.TheVariants.{Goes, Form as TurnForm, Refused as TurnRefused}
+use Rattle.form_reader.specs.Setting.{Setting}
+use Rattle.form_reader.specs.Reading.{Outcome, form, empty, refused, reads}
+use Rattle.form_reader.specs.Turning.{rest_of}
+
+-- how many bytes it was fed, while it goes on
+abbrev pub fed : FormReader → ℕ
+fed reader = reader.start + reader.at
+
+-- It was fed nothing.
+pub record IsNew (reader : FormReader) : Type 0 where
+  pub start : reader.start ≡ 0
+  pub at : reader.at ≡ 0
+  pub frames : reader.frames ≡ []
+  pub state : reader.state ≡ Open AtObject
+
+-- The reader is after these bytes, in this setting: what is read of them, with any text after them, is what it stands for with
+-- this text. A reader that ran out of memory is after no bytes.
+abbrev pub IsAfterIn : Setting → FormReader → State → List ℕ → Type 0
+IsAfterIn setting reader (Open stage) bytes =
+    (fed reader ≡ length bytes)
+    × ((cs : List ℕ) → reads setting (bytes ++ cs) ≡ rest_of setting reader.frames stage reader.start reader.at cs)
+IsAfterIn setting reader (Refused code place) bytes = (cs : List ℕ) → reads setting (bytes ++ cs) ≡ refused code place
+IsAfterIn setting reader OutOfMemory bytes = ⊥
+
+abbrev pub IsAfter : Setting → FormReader → List ℕ → Type 0
+IsAfter setting reader bytes = IsAfterIn setting reader reader.state bytes
+
+-- What a step answers, after which these bytes were fed: the reader is after them; or they begin with a form, or are refused,
+-- whatever follows them. Where the form's next is the number of bytes, the last byte was taken; where it is one less, that byte
+-- is for the next form. After a form the reader is new.
+abbrev pub Steps : Setting → FormReader → List ℕ → Step → Type 0
+Steps setting reader bytes StepMore = IsAfter setting reader bytes × (fed reader ≡ length bytes)
+Steps setting reader bytes (StepForm datum start «end» next) =
+    ((cs : List ℕ) → reads setting (bytes ++ cs) ≡ form (object_of datum) start «end» next)
+    × (is_proper datum ≡ true) × (next ≤ length bytes) × (length bytes ≤ next + 1) × IsNew reader
+Steps setting reader bytes (StepRefused code place) =
+    ((cs : List ℕ) → reads setting (bytes ++ cs) ≡ refused code place) × (reader.state ≡ Refused code place)
+
+-- What is answered is the outcome.
+abbrev pub IsOutcome : ReadOutcome → Outcome → Type 0
+IsOutcome (ReadForm datum start «end» next) o = (o ≡ form (object_of datum) start «end» next) × (is_proper datum ≡ true)
+IsOutcome ReadEmpty o = o ≡ empty
+IsOutcome (ReadRefused code place) o = o ≡ refused code place
+
+-- what a turn makes of a reader, and what is answered
+abbrev pub Takes : Turn → FormReader → FormReader → Step → Type 0
+Takes (Goes start at stage) old new step =
+    (step ≡ StepMore) × (new.start ≡ start) × (new.at ≡ at) × (new.frames ≡ old.frames) × (new.state ≡ Open stage)
+Takes (TurnForm x start «end» next) old new (StepForm datum s e n) =
+    (object_of datum ≡ x) × (is_proper datum ≡ true) × (s ≡ start) × (e ≡ «end») × (n ≡ next)
+    × (new.start ≡ 0) × (new.at ≡ 0) × (new.frames ≡ old.frames) × (new.state ≡ Open AtObject)
+Takes (TurnForm x start «end» next) old new _ = ⊥
+Takes (TurnRefused code place) old new step =
+    (step ≡ StepRefused code place) × (new.state ≡ Refused code place) × (new.start ≡ old.start) × (new.at ≡ old.at)

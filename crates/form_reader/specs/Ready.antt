@@ -1,0 +1,68 @@
+-- What keeps a reader going that takes one byte at a time: of what a byte brings, and of what is found before it.
+use Rattle.std.specs.Prelude.{ℕ, ◌≡◌, ◌+◌, ◌≤◌, Bool, true, false}
+use Rattle.form_reader.specs.declared.complete.Completed.{Completed}
+use Rattle.form_reader.specs.declared.complete.Completed.TheVariants.{Gives as CompletedGives, Refused as CompletedRefused}
+use Rattle.form_reader.specs.declared.deliver.Delivered.{Delivered}
+use Rattle.form_reader.specs.declared.deliver.Delivered.TheVariants.{Waits, Done, Refused as DeliveredRefused}
+use Rattle.form_reader.specs.declared.deliver.Taken.{Taken}
+use Rattle.form_reader.specs.declared.deliver.Taken.TheVariants.{Stays, Gives as TakenGives, Refused as TakenRefused}
+use Rattle.form_reader.specs.declared.found.Found.{Found}
+use Rattle.form_reader.specs.declared.found.Found.TheVariants.{Nothing as nothing, One as one, LoneDot as lone_dot, TheEnd as the_end}
+use Rattle.form_reader.specs.declared.limits.Limits.{Limits}
+use Rattle.form_reader.specs.declared.macros.Moved.{Moved}
+use Rattle.form_reader.specs.declared.macros.Moved.TheVariants.{Taken as IsTaken, Before as IsBefore}
+use Rattle.form_reader.specs.declared.objects.Passed.{Passed}
+use Rattle.form_reader.specs.declared.objects.Passed.TheVariants.{Taken as PassedTaken, Done as PassedDone}
+use Rattle.form_reader.specs.declared.stage.Event.{Event}
+use Rattle.form_reader.specs.declared.stage.Event.TheVariants.{Stage as IsAt, Gives as IsGiven, Refused as IsRefused}
+use Rattle.form_reader.specs.Resuming.{IsStageAt}
+
+-- one character, where a token ended
+abbrev pub space : Bool → ℕ
+space true = 1
+space false = 0
+
+-- How much of the text after it may still matter: nothing; one character, which ended a token; the end of the text.
+abbrev pub lookahead : Found → ℕ
+lookahead (nothing token) = space token
+lookahead (one token x) = space token
+lookahead lone_dot = 1
+lookahead the_end = 2
+
+-- the same of what a call comes to
+abbrev pub completed_lookahead : Completed → ℕ
+completed_lookahead (CompletedGives found) = lookahead found
+completed_lookahead (CompletedRefused code back) = 0
+
+-- What a byte brings, at the place after it: this place is within the limit of the text, and nothing of what follows matters
+-- to what was found; a refusal is at no later place.
+abbrev pub IsReady : Limits → ℕ → Event → Type 0
+IsReady limits at (IsAt stage) = (at ≤ limits.text) × IsStageAt at stage
+IsReady limits at (IsGiven found) = (at ≤ limits.text) × (lookahead found ≡ 0)
+IsReady limits at (IsRefused code place) = place ≤ at
+
+-- What a call or a token comes to where it ends: no more is gathered in it.
+abbrev pub IsEnd : ℕ → ℕ → Event → Type 0
+IsEnd most at (IsAt stage) = ⊥
+IsEnd most at (IsGiven found) = lookahead found ≤ most
+IsEnd most at (IsRefused code place) = place ≤ at
+
+-- of the byte at this place
+abbrev pub IsReadyMove : Limits → ℕ → Moved → Type 0
+IsReadyMove limits at (IsTaken event) = IsReady limits (at + 1) event
+IsReadyMove limits at (IsBefore event) = IsEnd 1 at event
+
+abbrev pub IsReadyPass : Limits → ℕ → Passed → Type 0
+IsReadyPass limits at (PassedTaken event) = IsReady limits (at + 1) event
+IsReadyPass limits at (PassedDone found) = lookahead found ≤ 1
+
+-- What open calls make of what is found at this place: no more of the text matters to it.
+abbrev pub IsTakenAt : ℕ → ℕ → Taken → Type 0
+IsTakenAt most at (Stays token frame) = space token ≤ most
+IsTakenAt most at (TakenGives found) = lookahead found ≤ most
+IsTakenAt most at (TakenRefused code place) = place ≤ at
+
+abbrev pub IsDeliveredAt : ℕ → ℕ → Delivered → Type 0
+IsDeliveredAt most at (Waits token) = space token ≤ most
+IsDeliveredAt most at (Done found) = lookahead found ≤ most
+IsDeliveredAt most at (DeliveredRefused code place) = place ≤ at

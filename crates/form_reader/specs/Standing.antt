@@ -1,0 +1,19 @@
+-- What always holds of a reader: where it is in a form is within the limits.
+use Rattle.std.specs.Prelude.{ℕ, ◌≤◌, ◌&&◌, nat_le, Bool, true, List, length}
+use Rattle.form_reader.specs.declared.frame.Frame.{Frame}
+use Rattle.form_reader.specs.declared.limits.Limits.{Limits}
+use Rattle.form_reader.specs.declared.reader.State.{State}
+use Rattle.form_reader.specs.declared.reader.State.TheVariants.{Open, Refused, OutOfMemory}
+use Rattle.form_reader.specs.declared.stage.Stage.{Stage}
+use Rattle.form_reader.specs.declared.stage.Stage.TheVariants.{Block as AtBlock}
+
+-- each block inside a block took a byte
+abbrev pub is_stage_at : ℕ → Stage → Bool
+is_stage_at at (AtBlock call levels) = nat_le levels.0 at
+is_stage_at at _ = true
+
+-- The place and the open calls are within the limits. After a refusal, or out of memory, nothing is asked.
+abbrev pub is_standing : Limits → List Frame → ℕ → State → Bool
+is_standing limits frames at (Open stage) = nat_le at limits.text && (nat_le (length frames) limits.nesting && is_stage_at at stage)
+is_standing limits frames at (Refused code place) = true
+is_standing limits frames at OutOfMemory = true

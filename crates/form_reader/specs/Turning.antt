@@ -1,0 +1,52 @@
+-- What one byte, and the end of the text, are to a reader that takes one byte at a time: by the outcome of the whole text.
+use Rattle.std.specs.Prelude.{ℕ, ◌≡◌, ◌+◌, ◌≤◌, List, [], length, Ok}
+use Rattle.form_reader.specs.declared.found.Found.{Found}
+use Rattle.form_reader.specs.declared.frame.Frame.{Frame}
+use Rattle.form_reader.specs.declared.limits.Limits.{Limits}
+use Rattle.form_reader.specs.declared.stage.Stage.{Stage}
+use Rattle.form_reader.specs.declared.turn.Settled.{Settled}
+use Rattle.form_reader.specs.declared.turn.Settled.TheVariants.{Open as SettledOpen, Done as SettledDone, Refused as SettledRefused}
+use Rattle.form_reader.specs.declared.turn.Turn.{Turn}
+use Rattle.form_reader.specs.declared.turn.Turn.TheVariants.{Goes, Form, Refused}
+use Rattle.form_reader.specs.Plans.{Read, fault}
+use Rattle.form_reader.specs.Setting.{Setting}
+use Rattle.form_reader.specs.Reading.{Outcome, form, refused, outcome, reads_at}
+use Rattle.form_reader.specs.Resuming.{IsStageAt, stage_gives}
+use Rattle.form_reader.specs.Ready.{lookahead}
+
+-- What is read of the whole text, where the attempt that began at start comes to this; after discarded text a new one begins.
+abbrev pub outcome_of : Setting → ℕ → Read Found → Outcome
+outcome_of setting start read = outcome setting.table start (λ next cs. reads_at setting next cs) read
+
+-- the same, where the attempt is at this stage, so many bytes after it began, and these bytes follow
+abbrev pub rest_of : Setting → List Frame → Stage → ℕ → ℕ → List ℕ → Outcome
+rest_of setting frames stage start at cs = outcome_of setting start (stage_gives setting frames stage at cs)
+
+-- what a byte brings, after the open calls took what was found
+abbrev pub Settles : Setting → List Frame → ℕ → List ℕ → Settled → Read Found → Type 0
+Settles setting frames at cs (SettledOpen stage) read = read ≡ stage_gives setting frames stage at cs
+Settles setting frames at cs (SettledDone found) read = (read ≡ Ok (found, at, cs)) × (frames ≡ [])
+Settles setting frames at cs (SettledRefused code place) read = read ≡ fault code place
+
+-- What a turn is to the outcome: more bytes decide it, or it is a form, or a refusal.
+abbrev pub TurnsTo : Setting → List Frame → List ℕ → Turn → Outcome → Type 0
+TurnsTo setting frames cs (Goes start at stage) o = o ≡ rest_of setting frames stage start at cs
+TurnsTo setting frames cs (Form x start «end» next) o = (o ≡ form x start «end» next) × (frames ≡ [])
+TurnsTo setting frames cs (Refused code place) o = o ≡ refused code place
+
+-- where a reader may be in a form, so many bytes after it began
+pub record IsStanding (limits : Limits) (frames : List Frame) (stage : Stage) (at : ℕ) : Type 0 where
+  pub place : at ≤ limits.text
+  pub nesting : length frames ≤ limits.nesting
+  pub levels : IsStageAt at stage
+
+-- after so many bytes of the text
+abbrev pub IsReadyTurn : Limits → List Frame → ℕ → Turn → Type 0
+IsReadyTurn limits frames count (Goes start at stage) = IsStanding limits frames stage at × (start + at ≡ count)
+IsReadyTurn limits frames count (Form x start «end» next) = (next ≤ count) × (count ≤ next + 1) × (length frames ≤ limits.nesting)
+IsReadyTurn limits frames count (Refused code place) = place ≤ count
+
+abbrev pub IsReadySettled : Limits → List Frame → ℕ → Settled → Type 0
+IsReadySettled limits frames at (SettledOpen stage) = IsStanding limits frames stage at
+IsReadySettled limits frames at (SettledDone found) = (lookahead found ≡ 0) × (length frames ≤ limits.nesting)
+IsReadySettled limits frames at (SettledRefused code place) = place ≤ at

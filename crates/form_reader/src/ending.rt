@@ -1,0 +1,265 @@
+//! The end of a text, wherever a reader is in a form.
+ghost use Rattle.std.specs.Prelude.{◌≡◌, ◌≤◌, ◌<◌, ◌+◌, ◌^◌, ℕ, List, [], length, None, Ok, IfOk};
+ghost use Rattle.package_table.specs.Table.{IsPackage};
+ghost use Rattle.readtable_core.specs.Tables.{Table};
+ghost use Rattle.form_reader.specs.declared.frame.Frame.{Frame as OpenCall};
+ghost use Rattle.form_reader.specs.Setting.{Setting, setting_of};
+ghost use Rattle.form_reader.specs.declared.stage.Stage.TheVariants.{Token as AtToken, CallToken as AtCallToken, Line as AtLine};
+ghost use Rattle.form_reader.specs.declared.way.Keep.{Keep};
+ghost use Rattle.form_reader.specs.Frames.{between};
+ghost use Rattle.form_reader.specs.Plans.{run};
+ghost use Rattle.form_reader.specs.Resuming.{Brings, stage_gives};
+ghost use Rattle.form_reader.specs.Turning.{outcome_of, rest_of, Settles, IsStanding};
+ghost use Rattle.form_reader.specs.Ending.{TokenStops, IsLastEvent, IsLastSettled};
+ghost use Rattle.form_reader.specs.Reader.{IsOutcome};
+
+use crate::call::Invoked;
+use crate::complete::complete;
+use crate::deliver::{Delivered, deliver};
+use crate::found::Found;
+use crate::frame::Frames;
+use crate::held::HeldText;
+use crate::limits::Limits;
+use crate::objects::token_end;
+use crate::opening::event_of;
+use crate::stage::{BegunScan, Event, Stage};
+use crate::surroundings::Surroundings;
+use crate::tokens::refused;
+use crate::turn::Settled;
+use lisp_object::Datum;
+use lisp_object::refusal::{DOT_CONTEXT, END_OF_FILE};
+use std::alloc::AllocError;
+use std_macros::StdGathered;
+use token_scan::TokenScan;
+use user_macros::MacroFunctions;
+
+/// What a text begins with.
+#[derive(Drop)]
+pub enum ReadOutcome {
+    /// An object, its start, its end, and where the next form begins: at the end, or after the one whitespace character that
+    /// is discarded with it.
+    Form {
+        datum: Datum,
+        start: usize,
+        end: usize,
+        next: usize,
+    },
+    /// Only discarded text.
+    Empty,
+    /// The number of a refusal, and its place.
+    Refused {
+        code: u16,
+        at: usize,
+    },
+}
+
+/// Whether the end of the text at `at` ends a token; else the number of its refusal.
+fn token_stop(limits: &Limits, scan: &mut TokenScan, at: usize) -> Option<u16>
+    requires { at ≤ limits.now.text }
+    ensures stops { (table : Table) → TokenStops table limits.now scan.old at result }
+    ensures same { result ≡ None → scan.new ≡ scan.old }
+{
+    match scan.finish() {
+        Ok(()) => None,
+        Err(refusal) => Some(refused(limits, refusal, at)),
+    }
+}
+
+/// The end of the text at `at`, in a token that is an object.
+fn last_token<R: MacroFunctions>(
+    with: &Surroundings<'_, R>,
+    scan: BegunScan,
+    at: usize,
+) -> Result<Event, AllocError>
+    requires place { at ≤ with.now.limits.text }
+    requires current { IsPackage with.now.packages.now.0 with.now.current.now }
+    ensures brings { (frames : List OpenCall) → IfOk result (λ event. Brings
+        (setting_of with.now.limits with.now.readtable.now with.now.packages.now.0 with.now.current.now
+        (R.registered with.now.macros.now) R.Meaning.way R.Meaning.answer)
+        frames at [] event (stage_gives
+        (setting_of with.now.limits with.now.readtable.now with.now.packages.now.0 with.now.current.now
+        (R.registered with.now.macros.now) R.Meaning.way R.Meaning.answer)
+        frames (AtToken scan) at [])) }
+    ensures last { IfOk result (IsLastEvent at) }
+{
+    let mut scan = scan.into_scan();
+    match token_stop(&with.limits, &mut scan, at) {
+        None => token_end(with, scan.into_marks(), at),
+        Some(code) => Ok(Event::Refused(code, at)),
+    }
+}
+
+/// The end of the text at `at`, in the token of a call with so many open calls round it.
+fn last_call_token<R: MacroFunctions>(
+    with: &Surroundings<'_, R>,
+    round: usize,
+    call: Invoked,
+    mut scan: TokenScan,
+    at: usize,
+) -> Result<Event, AllocError>
+    requires answers { R.answers with.now.macros.now }
+    requires place { at ≤ with.now.limits.text }
+    ensures brings { (frames : List OpenCall) → round ≡ length frames → IfOk result (λ event. Brings
+        (setting_of with.now.limits with.now.readtable.now with.now.packages.now.0 with.now.current.now
+        (R.registered with.now.macros.now) R.Meaning.way R.Meaning.answer)
+        frames at [] event (stage_gives
+        (setting_of with.now.limits with.now.readtable.now with.now.packages.now.0 with.now.current.now
+        (R.registered with.now.macros.now) R.Meaning.way R.Meaning.answer)
+        frames (AtCallToken call scan) at [])) }
+    ensures last { IfOk result (IsLastEvent at) }
+{
+    match token_stop(&with.limits, &mut scan, at) {
+        None => {
+            let gathered = StdGathered::Marks(scan.into_marks());
+            Ok(event_of(complete(with, round, &call, true, false, gathered)?, at))
+        }
+        Some(code) => Ok(Event::Refused(code, at)),
+    }
+}
+
+/// The end of the text at `at`, which ends the line of a call with so many open calls round it.
+fn last_line<R: MacroFunctions>(
+    with: &Surroundings<'_, R>,
+    round: usize,
+    call: Invoked,
+    text: HeldText,
+    at: usize,
+) -> Result<Event, AllocError>
+    requires answers { R.answers with.now.macros.now }
+    requires place { at ≤ with.now.limits.text }
+    ensures brings { (frames : List OpenCall) (keep : Keep) → round ≡ length frames → IfOk result (λ event. Brings
+        (setting_of with.now.limits with.now.readtable.now with.now.packages.now.0 with.now.current.now
+        (R.registered with.now.macros.now) R.Meaning.way R.Meaning.answer)
+        frames at [] event (stage_gives
+        (setting_of with.now.limits with.now.readtable.now with.now.packages.now.0 with.now.current.now
+        (R.registered with.now.macros.now) R.Meaning.way R.Meaning.answer)
+        frames (AtLine call keep text) at [])) }
+    ensures last { IfOk result (IsLastEvent at) }
+{
+    let gathered = StdGathered::Text(text.into_bytes());
+    Ok(event_of(complete(with, round, &call, false, false, gathered)?, at))
+}
+
+/// What the end of the text at `at` brings; the stage is left where an object may begin.
+fn last<R: MacroFunctions>(
+    with: &Surroundings<'_, R>,
+    round: usize,
+    stage: Stage,
+    at: usize,
+) -> Result<Event, AllocError>
+    requires answers { R.answers with.now.macros.now }
+    requires place { at ≤ with.now.limits.text }
+    requires current { IsPackage with.now.packages.now.0 with.now.current.now }
+    ensures brings { (frames : List OpenCall) → round ≡ length frames → IfOk result (λ event. Brings
+        (setting_of with.now.limits with.now.readtable.now with.now.packages.now.0 with.now.current.now
+        (R.registered with.now.macros.now) R.Meaning.way R.Meaning.answer)
+        frames at [] event (stage_gives
+        (setting_of with.now.limits with.now.readtable.now with.now.packages.now.0 with.now.current.now
+        (R.registered with.now.macros.now) R.Meaning.way R.Meaning.answer)
+        frames stage at [])) }
+    ensures last { IfOk result (IsLastEvent at) }
+{
+    match stage {
+        Stage::Object => Ok(Event::Stage(Stage::Object)),
+        Stage::Token(scan) => last_token(with, scan, at),
+        Stage::CallToken(call, scan) => last_call_token(with, round, call, scan, at),
+        Stage::Line(call, _, text) => last_line(with, round, call, text, at),
+        Stage::Text(..) => Ok(Event::Refused(END_OF_FILE, at)),
+        Stage::Escaped(..) => Ok(Event::Refused(END_OF_FILE, at)),
+        Stage::Block(..) => Ok(Event::Refused(END_OF_FILE, at)),
+        Stage::Number(..) => Ok(Event::Refused(END_OF_FILE, at)),
+    }
+}
+
+/// The end of the text at `at`, where an object may begin.
+fn waited(calls: usize, at: usize) -> Settled
+    ensures settles { (setting : Setting) (frames : List OpenCall) → calls ≡ length frames → at ≤ setting.limits.text → Settles setting frames at [] result
+        (run setting.table setting.limits (between setting frames) at []) }
+    ensures last { IsLastSettled at result }
+{
+    if calls == 0 {
+        return Settled::Done(Found::TheEnd);
+    }
+    Settled::Refused(END_OF_FILE, at)
+}
+
+/// What the outermost attempt comes to at the end of the text, which is at `at`.
+fn settle_last<R: MacroFunctions>(
+    with: &Surroundings<'_, R>,
+    frames: &mut Frames,
+    stage: Stage,
+    at: usize,
+) -> Result<Settled, AllocError>
+    requires answers { R.answers with.now.macros.now }
+    requires place { at ≤ with.now.limits.text }
+    requires current { IsPackage with.now.packages.now.0 with.now.current.now }
+    ensures settles { IfOk result (λ settled. Settles
+        (setting_of with.now.limits with.now.readtable.now with.now.packages.now.0 with.now.current.now
+        (R.registered with.now.macros.now) R.Meaning.way R.Meaning.answer)
+        frames.new at [] settled (stage_gives
+        (setting_of with.now.limits with.now.readtable.now with.now.packages.now.0 with.now.current.now
+        (R.registered with.now.macros.now) R.Meaning.way R.Meaning.answer)
+        frames.old stage at [])) }
+    ensures last { IfOk result (IsLastSettled at) }
+{
+    match last(with, frames.len(), stage, at)? {
+        Event::Stage(_) => Ok(waited(frames.len(), at)),
+        Event::Gives(found) => match deliver(with, frames, found, at)? {
+            Delivered::Waits(_) => Ok(waited(frames.len(), at)),
+            Delivered::Done(found) => Ok(Settled::Done(found)),
+            Delivered::Refused(code, place) => Ok(Settled::Refused(code, place)),
+        },
+        Event::Refused(code, place) => Ok(Settled::Refused(code, place)),
+    }
+}
+
+/// What the attempt that began at `start` came to at the end of the text, at the place `at` in it.
+fn done_last(found: Found, start: usize, at: usize) -> ReadOutcome
+    requires count { start + at ≤ 2 ^ 63 }
+    ensures { (setting : Setting) → IsOutcome result (outcome_of setting start (Ok (found, at, []))) }
+{
+    match found {
+        Found::Nothing(_) => ReadOutcome::Empty,
+        Found::One(_, x) => {
+            let end = start + at;
+            ReadOutcome::Form {
+                datum: x.into_datum(),
+                start,
+                end,
+                next: end,
+            }
+        }
+        Found::LoneDot => ReadOutcome::Refused {
+            code: DOT_CONTEXT,
+            at: start + at,
+        },
+        Found::TheEnd => ReadOutcome::Empty,
+    }
+}
+
+/// The end of the text, where the attempt began at `start` and has `at` bytes.
+pub(crate) fn last_outcome<R: MacroFunctions>(
+    with: &Surroundings<'_, R>,
+    frames: &mut Frames,
+    stage: Stage,
+    start: usize,
+    at: usize,
+) -> Result<ReadOutcome, AllocError>
+    requires answers { R.answers with.now.macros.now }
+    requires current { IsPackage with.now.packages.now.0 with.now.current.now }
+    requires place { at ≤ with.now.limits.text }
+    requires count { start + at ≤ 2 ^ 63 }
+    ensures { IfOk result (λ outcome. IsOutcome outcome (rest_of
+        (setting_of with.now.limits with.now.readtable.now with.now.packages.now.0 with.now.current.now
+        (R.registered with.now.macros.now) R.Meaning.way R.Meaning.answer)
+        frames.old stage start at [])) }
+{
+    match settle_last(with, frames, stage, at)? {
+        Settled::Open(_) => unreachable!(),
+        Settled::Done(found) => Ok(done_last(found, start, at)),
+        Settled::Refused(code, place) => Ok(ReadOutcome::Refused {
+            code,
+            at: start + place,
+        }),
+    }
+}

@@ -1,0 +1,208 @@
+//! A reader that takes a text one byte at a time.
+ghost use Rattle.std.specs.Prelude.{IsTrue};
+ghost use Rattle.form_reader.specs.Standing.{is_standing};
+
+use crate::Limits;
+use crate::ending::{ReadOutcome, last_outcome};
+use crate::frame::Frames;
+use crate::stage::Stage;
+use crate::surroundings::Surroundings;
+use crate::turn::{Turn, take_byte};
+use lisp_object::Datum;
+use package_table::Packages;
+use readtable_core::Readtable;
+use std::alloc::{AllocError, Global};
+use std::mem;
+use user_macros::MacroFunctions;
+
+/// A reader that takes the text of a form one byte at a time. It keeps no text, but what the calls that are open have gathered.
+#[derive(Drop)]
+pub struct FormReader {
+    limits: Limits,
+    alloc: Global,
+    start: usize,
+    at: usize,
+    frames: Frames,
+    state: State,
+    ghost standing: { IsTrue (is_standing limits frames at state) },
+}
+
+/// Where a reader is.
+#[derive(Drop)]
+pub enum State {
+    /// In a form: where it is in the innermost call.
+    Open(Stage),
+    /// It refused the text, with this number, at this place.
+    Refused(u16, usize),
+    /// It ran out of memory.
+    OutOfMemory,
+}
+
+/// What one more byte is to the text.
+#[derive(Drop)]
+pub enum Step {
+    /// More bytes decide.
+    More,
+    /// The text begins with a form: its object, its start, its end, and where the next form begins.
+    Form {
+        datum: Datum,
+        start: usize,
+        end: usize,
+        next: usize,
+    },
+    /// The number of the refusal, and its place.
+    Refused {
+        code: u16,
+        at: usize,
+    },
+}
+
+impl FormReader {
+    ghost use Rattle.std.specs.Prelude.{◌≡◌, ◌<◌, ◌≤◌, ◌+◌, ◌^◌, ℕ, List, [], ◌∷◌, ◌++◌, length, Ok, IfOk, IsErr, OnErr};
+    ghost use Rattle.package_table.specs.Table.{IsPackage};
+    ghost use Rattle.form_reader.specs.Setting.{Setting, setting_of};
+    ghost use Rattle.form_reader.specs.Reading.{reads};
+    ghost use Rattle.form_reader.specs.declared.reader.State.TheVariants.{Refused as IsRefused, OutOfMemory as IsOutOfMemory};
+    ghost use Rattle.form_reader.specs.declared.reader.Step.TheVariants.{Refused as StepRefused};
+    ghost use Rattle.form_reader.specs.Turning.{IsReadyTurn};
+    ghost use Rattle.form_reader.specs.Reader.{fed, IsNew, IsAfter, Steps, Takes, IsOutcome};
+
+    /// A reader that was fed nothing. It keeps `alloc` for what it gathers.
+    pub fn new(alloc: Global, limits: Limits) -> FormReader
+        ensures new { IsNew result }
+        ensures limits { result.limits ≡ limits }
+        ensures after { (setting : Setting) → IsAfter setting result [] }
+    {
+        FormReader {
+            limits,
+            alloc,
+            start: 0,
+            at: 0,
+            frames: Frames::new(alloc),
+            state: State::Open(Stage::Object),
+        }
+    }
+
+    /// One more byte of the text, under the same readtable, packages, current package and functions as the bytes before it.
+    /// After a refusal, and after it ran out of memory, it answers the same again.
+    pub fn step<R: MacroFunctions>(
+        &mut self,
+        byte: u8,
+        readtable: &Readtable,
+        packages: &Packages,
+        current: &[u8],
+        macros: &R,
+    ) -> Result<Step, AllocError>
+        requires answers { R.answers macros.now }
+        requires current { IsPackage packages.now.0 current.now }
+        requires count { fed self.old < 2 ^ 63 }
+        ensures steps { (bytes : List ℕ) → IsAfter
+            (setting_of self.old.limits readtable.now packages.now.0 current.now
+            (R.registered macros.now) R.Meaning.way R.Meaning.answer)
+            self.old bytes → IfOk result (Steps
+            (setting_of self.old.limits readtable.now packages.now.0 current.now
+            (R.registered macros.now) R.Meaning.way R.Meaning.answer)
+            self.new (bytes ++ byte ∷ [])) }
+        ensures limits { self.new.limits ≡ self.old.limits }
+        ensures fed { fed self.new ≤ fed self.old + 1 }
+        ensures refused { (code place : ℕ) → self.old.state ≡ IsRefused code place
+            → (result ≡ Ok (StepRefused code place)) × (self.new.state ≡ IsRefused code place) }
+        ensures memory { OnErr result (self.new.state ≡ IsOutOfMemory) }
+        ensures spent { self.old.state ≡ IsOutOfMemory → IsErr result }
+    {
+        match mem::replace(&mut self.state, State::OutOfMemory) {
+            State::Open(stage) => {
+                let with = Surroundings {
+                    alloc: self.alloc,
+                    limits: self.limits,
+                    readtable,
+                    packages,
+                    current,
+                    macros,
+                };
+                let next = take_byte(&with, &mut self.frames, stage, self.start, self.at, byte)?;
+                Ok(self.take(next))
+            }
+            State::Refused(code, at) => {
+                self.state = State::Refused(code, at);
+                Ok(Step::Refused { code, at })
+            }
+            State::OutOfMemory => Err(AllocError),
+        }
+    }
+
+    /// Takes what a byte is to the text.
+    fn take(&mut self, turn: Turn) -> Step
+        requires ready { IsReadyTurn self.old.limits self.old.frames (fed self.old + 1) turn }
+        ensures limits { self.new.limits ≡ self.old.limits }
+        ensures takes { Takes turn self.old self.new result }
+    {
+        match turn {
+            Turn::Goes(start, at, stage) => {
+                self.start = start;
+                self.at = at;
+                self.state = State::Open(stage);
+                Step::More
+            }
+            Turn::Form(x, start, end, next) => {
+                self.start = 0;
+                self.at = 0;
+                self.state = State::Open(Stage::Object);
+                Step::Form {
+                    datum: x.into_datum(),
+                    start,
+                    end,
+                    next,
+                }
+            }
+            Turn::Refused(code, at) => {
+                self.state = State::Refused(code, at);
+                Step::Refused { code, at }
+            }
+        }
+    }
+
+    /// The end of the text, under the same readtable, packages, current package and functions as its bytes.
+    pub fn finish<R: MacroFunctions>(
+        self,
+        readtable: &Readtable,
+        packages: &Packages,
+        current: &[u8],
+        macros: &R,
+    ) -> Result<ReadOutcome, AllocError>
+        requires answers { R.answers macros.now }
+        requires current { IsPackage packages.now.0 current.now }
+        requires count { fed self ≤ 2 ^ 63 }
+        ensures { (bytes : List ℕ) → IsAfter
+            (setting_of self.limits readtable.now packages.now.0 current.now
+            (R.registered macros.now) R.Meaning.way R.Meaning.answer)
+            self bytes → IfOk result (λ outcome. IsOutcome outcome (reads
+            (setting_of self.limits readtable.now packages.now.0 current.now
+            (R.registered macros.now) R.Meaning.way R.Meaning.answer)
+            bytes)) }
+    {
+        let FormReader {
+            limits,
+            alloc,
+            start,
+            at,
+            mut frames,
+            state,
+        } = self;
+        match state {
+            State::Open(stage) => {
+                let with = Surroundings {
+                    alloc,
+                    limits,
+                    readtable,
+                    packages,
+                    current,
+                    macros,
+                };
+                last_outcome(&with, &mut frames, stage, start, at)
+            }
+            State::Refused(code, at) => Ok(ReadOutcome::Refused { code, at }),
+            State::OutOfMemory => Err(AllocError),
+        }
+    }
+}

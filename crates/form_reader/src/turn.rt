@@ -1,0 +1,224 @@
+//! One byte of a text, wherever a reader is in a form, and after what it ends.
+ghost use Rattle.std.specs.Prelude.{◌≡◌, ◌≤◌, ◌<◌, ◌+◌, ◌^◌, ℕ, List, [], ◌∷◌, length, Ok, IfOk};
+ghost use Rattle.package_table.specs.Table.{IsPackage};
+ghost use Rattle.form_reader.specs.Plans.{Read};
+ghost use Rattle.form_reader.specs.declared.found.Found.{Found as FoundThere};
+ghost use Rattle.form_reader.specs.declared.frame.Frame.{Frame as OpenCall};
+ghost use Rattle.form_reader.specs.declared.limits.Limits.{Limits as Bounds};
+ghost use Rattle.form_reader.specs.Setting.{Setting, setting_of};
+ghost use Rattle.form_reader.specs.Delivering.{Passes};
+ghost use Rattle.form_reader.specs.Resuming.{Brings, IsStageAt, stage_gives};
+ghost use Rattle.form_reader.specs.Ready.{lookahead, IsReady, IsReadyPass};
+ghost use Rattle.form_reader.specs.Turning.{outcome_of, rest_of, Settles, TurnsTo, IsStanding, IsReadySettled, IsReadyTurn};
+
+use crate::advance::advance;
+use crate::deliver::{Delivered, deliver};
+use crate::found::Found;
+use crate::frame::Frames;
+use crate::held::HeldObject;
+use crate::macros::Moved;
+use crate::objects::{Passed, after_found, at_object, is_blank};
+use crate::stage::{Event, Stage};
+use crate::surroundings::Surroundings;
+use lisp_object::refusal::DOT_CONTEXT;
+use std::alloc::AllocError;
+use user_macros::MacroFunctions;
+
+/// What a byte brings, after the open calls took what was found.
+#[derive(Drop)]
+pub enum Settled {
+    /// More bytes are gathered.
+    Open(Stage),
+    /// The outermost attempt comes to this.
+    Done(Found),
+    /// The number of a refusal, and its place.
+    Refused(u16, usize),
+}
+
+/// What a byte is to the text.
+#[derive(Drop)]
+pub enum Turn {
+    /// More bytes decide: where the attempt began, how many bytes it has, and where the reader is in it.
+    Goes(usize, usize, Stage),
+    /// A form: its object, its start, its end, and where the next form begins.
+    Form(HeldObject, usize, usize, usize),
+    /// The number of a refusal, and its place.
+    Refused(u16, usize),
+}
+
+/// The byte `c` at `at`, also where it ends a token first.
+pub(crate) fn feed<R: MacroFunctions>(
+    with: &Surroundings<'_, R>,
+    frames: &mut Frames,
+    stage: Stage,
+    at: usize,
+    c: u8,
+) -> Result<Passed, AllocError>
+    requires answers { R.answers with.now.macros.now }
+    requires place { at ≤ with.now.limits.text }
+    requires count { at < 2 ^ 63 }
+    requires nesting { length frames.old ≤ with.now.limits.nesting }
+    requires current { IsPackage with.now.packages.now.0 with.now.current.now }
+    requires stage { IsStageAt at stage }
+    ensures passes { (cs : List ℕ) → IfOk result (λ passed. Passes
+        (setting_of with.now.limits with.now.readtable.now with.now.packages.now.0 with.now.current.now
+        (R.registered with.now.macros.now) R.Meaning.way R.Meaning.answer)
+        frames.new at c cs passed (stage_gives
+        (setting_of with.now.limits with.now.readtable.now with.now.packages.now.0 with.now.current.now
+        (R.registered with.now.macros.now) R.Meaning.way R.Meaning.answer)
+        frames.old stage at (c ∷ cs))) }
+    ensures ready { IfOk result (IsReadyPass with.now.limits at) }
+    ensures nesting { IfOk result (λ _. length frames.new ≤ with.now.limits.nesting) }
+{
+    match advance(with, frames, stage, at, c)? {
+        Moved::Taken(event) => Ok(Passed::Taken(event)),
+        Moved::Before(event) => match event {
+            Event::Stage(_) => unreachable!(),
+            Event::Gives(found) => after_found(with, frames, found, at, c),
+            Event::Refused(code, place) => Ok(Passed::Taken(Event::Refused(code, place))),
+        },
+    }
+}
+
+/// What the open calls make of what a byte brings, at the place `at` after it.
+fn settle<R: MacroFunctions>(
+    with: &Surroundings<'_, R>,
+    frames: &mut Frames,
+    event: Event,
+    at: usize,
+) -> Result<Settled, AllocError>
+    requires answers { R.answers with.now.macros.now }
+    requires nesting { length frames.old ≤ with.now.limits.nesting }
+    requires ready { IsReady with.now.limits at event }
+    ensures settles { (cs : List ℕ) (read : Read FoundThere) → Brings
+        (setting_of with.now.limits with.now.readtable.now with.now.packages.now.0 with.now.current.now
+        (R.registered with.now.macros.now) R.Meaning.way R.Meaning.answer)
+        frames.old at cs event read → IfOk result (λ settled. Settles
+        (setting_of with.now.limits with.now.readtable.now with.now.packages.now.0 with.now.current.now
+        (R.registered with.now.macros.now) R.Meaning.way R.Meaning.answer)
+        frames.new at cs settled read) }
+    ensures ready { IfOk result (IsReadySettled with.now.limits frames.new at) }
+{
+    match event {
+        Event::Stage(stage) => Ok(Settled::Open(stage)),
+        Event::Gives(found) => match deliver(with, frames, found, at)? {
+            Delivered::Waits(_) => Ok(Settled::Open(Stage::Object)),
+            Delivered::Done(found) => Ok(Settled::Done(found)),
+            Delivered::Refused(code, place) => Ok(Settled::Refused(code, place)),
+        },
+        Event::Refused(code, place) => Ok(Settled::Refused(code, place)),
+    }
+}
+
+/// What the attempt that began at `start` came to with the byte before the place `at` in it.
+fn done_after(found: Found, start: usize, at: usize) -> Turn
+    requires found { lookahead found ≡ 0 }
+    requires count { start + at ≤ 2 ^ 63 }
+    ensures turns { (setting : Setting) (cs : List ℕ) → TurnsTo setting [] cs result (outcome_of setting start (Ok (found, at, cs))) }
+    ensures ready { (limits : Bounds) (frames : List OpenCall) → length frames ≤ limits.nesting → IsReadyTurn limits frames (start + at) result }
+{
+    match found {
+        Found::Nothing(_) => Turn::Goes(start + at, 0, Stage::Object),
+        Found::One(_, x) => Turn::Form(x, start, start + at, start + at),
+        Found::LoneDot => unreachable!(),
+        Found::TheEnd => unreachable!(),
+    }
+}
+
+/// What the attempt that began at `start` comes to after what a byte brings, at the place `at` after it.
+fn turn_of<R: MacroFunctions>(
+    with: &Surroundings<'_, R>,
+    frames: &mut Frames,
+    event: Event,
+    start: usize,
+    at: usize,
+) -> Result<Turn, AllocError>
+    requires answers { R.answers with.now.macros.now }
+    requires nesting { length frames.old ≤ with.now.limits.nesting }
+    requires ready { IsReady with.now.limits at event }
+    requires count { start + at ≤ 2 ^ 63 }
+    ensures turns { (cs : List ℕ) (read : Read FoundThere) → Brings
+        (setting_of with.now.limits with.now.readtable.now with.now.packages.now.0 with.now.current.now
+        (R.registered with.now.macros.now) R.Meaning.way R.Meaning.answer)
+        frames.old at cs event read → IfOk result (λ turn. TurnsTo
+        (setting_of with.now.limits with.now.readtable.now with.now.packages.now.0 with.now.current.now
+        (R.registered with.now.macros.now) R.Meaning.way R.Meaning.answer)
+        frames.new cs turn (outcome_of
+        (setting_of with.now.limits with.now.readtable.now with.now.packages.now.0 with.now.current.now
+        (R.registered with.now.macros.now) R.Meaning.way R.Meaning.answer)
+        start read)) }
+    ensures ready { IfOk result (IsReadyTurn with.now.limits frames.new (start + at)) }
+{
+    match settle(with, frames, event, at)? {
+        Settled::Open(stage) => Ok(Turn::Goes(start, at, stage)),
+        Settled::Done(found) => Ok(done_after(found, start, at)),
+        Settled::Refused(code, place) => Ok(Turn::Refused(code, start + place)),
+    }
+}
+
+/// What the attempt that began at `start` came to before the byte `c`, at the place `at` in it, with no open call.
+fn done_before<R: MacroFunctions>(
+    with: &Surroundings<'_, R>,
+    frames: &mut Frames,
+    found: Found,
+    start: usize,
+    at: usize,
+    c: u8,
+) -> Result<Turn, AllocError>
+    requires answers { R.answers with.now.macros.now }
+    requires found { lookahead found ≤ 1 }
+    requires none { frames.old ≡ [] }
+    requires count { start + at < 2 ^ 63 }
+    ensures turns { (cs : List ℕ) → IfOk result (λ turn. TurnsTo
+        (setting_of with.now.limits with.now.readtable.now with.now.packages.now.0 with.now.current.now
+        (R.registered with.now.macros.now) R.Meaning.way R.Meaning.answer)
+        frames.new cs turn (outcome_of
+        (setting_of with.now.limits with.now.readtable.now with.now.packages.now.0 with.now.current.now
+        (R.registered with.now.macros.now) R.Meaning.way R.Meaning.answer)
+        start (Ok (found, at, c ∷ cs)))) }
+    ensures ready { IfOk result (IsReadyTurn with.now.limits frames.new (start + at + 1)) }
+{
+    match found {
+        Found::Nothing(_) => {
+            let event = at_object(with, frames, 0, c)?;
+            turn_of(with, frames, event, start + at, 1)
+        }
+        Found::One(token, x) => {
+            let end = start + at;
+            if token && is_blank(with.readtable.syntax(c)) {
+                return Ok(Turn::Form(x, start, end, end + 1));
+            }
+            Ok(Turn::Form(x, start, end, end))
+        }
+        Found::LoneDot => Ok(Turn::Refused(DOT_CONTEXT, start + at)),
+        Found::TheEnd => unreachable!(),
+    }
+}
+
+/// The byte `c`, where the attempt began at `start` and has `at` bytes.
+pub(crate) fn take_byte<R: MacroFunctions>(
+    with: &Surroundings<'_, R>,
+    frames: &mut Frames,
+    stage: Stage,
+    start: usize,
+    at: usize,
+    c: u8,
+) -> Result<Turn, AllocError>
+    requires answers { R.answers with.now.macros.now }
+    requires current { IsPackage with.now.packages.now.0 with.now.current.now }
+    requires standing { IsStanding with.now.limits frames.old stage at }
+    requires count { start + at < 2 ^ 63 }
+    ensures turns { (cs : List ℕ) → IfOk result (λ turn. TurnsTo
+        (setting_of with.now.limits with.now.readtable.now with.now.packages.now.0 with.now.current.now
+        (R.registered with.now.macros.now) R.Meaning.way R.Meaning.answer)
+        frames.new cs turn (rest_of
+        (setting_of with.now.limits with.now.readtable.now with.now.packages.now.0 with.now.current.now
+        (R.registered with.now.macros.now) R.Meaning.way R.Meaning.answer)
+        frames.old stage start at (c ∷ cs))) }
+    ensures ready { IfOk result (IsReadyTurn with.now.limits frames.new (start + at + 1)) }
+{
+    match feed(with, frames, stage, at, c)? {
+        Passed::Taken(event) => turn_of(with, frames, event, start, at + 1),
+        Passed::Done(found) => done_before(with, frames, found, start, at, c),
+    }
+}

@@ -1,0 +1,54 @@
+//! A whole text.
+ghost use Rattle.std.specs.Prelude.{◌≡◌, ℕ, List, length, IfOk};
+ghost use Rattle.package_table.specs.Table.{IsPackage};
+ghost use Rattle.form_reader.specs.Setting.{setting_of};
+ghost use Rattle.form_reader.specs.Reading.{reads};
+ghost use Rattle.form_reader.specs.Reader.{IsOutcome};
+
+use crate::Limits;
+use crate::ending::ReadOutcome;
+use crate::reader::{FormReader, Step};
+use package_table::Packages;
+use readtable_core::Readtable;
+use std::alloc::{AllocError, Global};
+use user_macros::MacroFunctions;
+
+/// What the text `bytes` begins with.
+pub fn read_one<R: MacroFunctions>(
+    alloc: Global,
+    limits: Limits,
+    readtable: &Readtable,
+    packages: &Packages,
+    current: &[u8],
+    macros: &R,
+    bytes: &[u8],
+) -> Result<ReadOutcome, AllocError>
+    requires answers { R.answers macros.now }
+    requires current { IsPackage packages.now.0 current.now }
+    ensures { IfOk result (λ outcome. IsOutcome outcome (reads
+        (setting_of limits readtable.now packages.now.0 current.now
+        (R.registered macros.now) R.Meaning.way R.Meaning.answer)
+        bytes.now)) }
+{
+    let mut reader = FormReader::new(alloc, limits);
+    for byte in bytes {
+        match reader.step(*byte, readtable, packages, current, macros)? {
+            Step::More => {}
+            Step::Form {
+                datum,
+                start,
+                end,
+                next,
+            } => {
+                return Ok(ReadOutcome::Form {
+                    datum,
+                    start,
+                    end,
+                    next,
+                });
+            }
+            Step::Refused { code, at } => return Ok(ReadOutcome::Refused { code, at }),
+        }
+    }
+    reader.finish(readtable, packages, current, macros)
+}
