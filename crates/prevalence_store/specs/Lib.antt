@@ -5,7 +5,6 @@ pub mod Tokens
 pub mod Reading
 pub mod Evaluation
 pub mod Printing
-pub mod Refusals
 pub mod Acceptance
 pub mod Numbers
 pub mod Meaning

@@ -4,13 +4,13 @@ use Rattle.std.specs.Prelude.{decimal}
 use Rattle.std.specs.Option.{option_map, option_and_then}
 use Rattle.gate_log.specs.Layout.{Entry}
 use Rattle.lisp_object.specs.Object.{Object}
+use Rattle.lisp_object.specs.Refusal.{name_of}
 use Rattle.prevalence_store.specs.declared.mode.Mode.{Mode}
 use Rattle.prevalence_store.specs.World.{World}
 use Rattle.prevalence_store.specs.Acceptance.{between, logged, read_in}
 use Rattle.prevalence_store.specs.Reading.{Reading, form, empty, refused}
 use Rattle.prevalence_store.specs.Evaluation.{value}
 use Rattle.prevalence_store.specs.Printing.{printed}
-use Rattle.prevalence_store.specs.Refusals.{name_of}
 
 -- a value, as it is printed in the world after its form, and a newline
 abbrev pub value_line : World → Object → List ℕ
