@@ -55,13 +55,13 @@ one_form world mode text empty = None
 one_form world mode text (refused number place) = None
 
 -- one form more
-abbrev pub one_more : Mode → Progress → Option Progress
-one_more mode p = option_map (onward p) (one_form p.world mode p.rest (read_in p.world mode p.rest))
+abbrev pub one_form_more : Mode → Progress → Option Progress
+one_form_more mode p = option_map (onward p) (one_form p.world mode p.rest (read_in p.world mode p.rest))
 
 -- After so many forms of a text, each read in the world that the ones before it left. None where it has not so many.
 abbrev pub after_forms : ℕ → World → Mode → List ℕ → Option Progress
 after_forms zero world mode text = Some (begun world text)
-after_forms (suc n) world mode text = option_and_then (one_more mode) (after_forms n world mode text)
+after_forms (suc n) world mode text = option_and_then (one_form_more mode) (after_forms n world mode text)
 
 -- the line that ends a session at a refusal of the reader
 abbrev pub last_line : Reading → List ℕ

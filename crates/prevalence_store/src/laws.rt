@@ -2,7 +2,7 @@
 ghost use Rattle.std.specs.Prelude.{◌≡◌, ℕ, List, ◌++◌, Some, Err};
 ghost use Rattle.disk_trait.specs.Disk.{Image, IsFresh, IsHonest};
 ghost use Rattle.prevalence_store.specs.Acceptance.{accepts};
-ghost use Rattle.prevalence_store.specs.Meaning.{Means};
+ghost use Rattle.prevalence_store.specs.Meaning.{MeansWorld};
 ghost use Rattle.prevalence_store.specs.Numbers.{IsFormNumber};
 ghost use Rattle.prevalence_store.specs.declared.mode.Mode.{Mode};
 ghost use Rattle.prevalence_store.specs.Opening.{IsNoWord, IsUnopened, limit_of};
@@ -13,7 +13,7 @@ use disk_trait::Disk;
 
 /// An image means one world at most.
 pub fn one_world()
-    ensures { (image : Image) (one other : LispWorld) → Means image one → Means image other → one ≡ other }
+    ensures { (image : Image) (one other : LispWorld) → MeansWorld image one → MeansWorld image other → one ≡ other }
 {}
 
 /// Fresh files mean the initial world, whatever a crash leaves of them.
