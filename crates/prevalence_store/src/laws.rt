@@ -33,8 +33,8 @@ pub fn form_numbers()
         → accepts world mode text ≡ Err number → IsFormNumber number }
 {}
 
-/// Whatever calls are made in a row on a store that was opened on an honest disk, a crash at any moment and an opening of
-/// what it leaves give the world after some of the forms that they took, from the first on, and after all those that were
+/// Whatever calls are made in a row from the opening of an honest disk on, a crash at any moment and an opening of what it
+/// leaves give the world after some of the forms that they took, from the first on, and after all those that were
 /// acknowledged. Such an opening is refused for memory, for a device fault, or for room for a first half alone.
 pub fn headline<D: Disk>()
     ensures holds { (start : D) (world : LispWorld) (earlier later : List (Call D))

@@ -7,7 +7,7 @@ use lisp_object::refusal::{DAMAGED, DEVICE, NO_MEMORY, SNAPSHOT_TOO_LARGE, VERSI
 
 /// Why a store is not opened.
 #[derive(Clone, Copy, Debug, PartialEq, Eq)]
-pub enum OpenFault {
+pub(crate) enum OpenFault {
     /// There was no memory.
     OutOfMemory,
     /// The device failed.
@@ -22,7 +22,7 @@ pub enum OpenFault {
 
 impl OpenFault {
     /// The number of the refusal.
-    pub fn number(self) -> u16
+    pub(crate) fn number(self) -> u16
         ensures { result ≡ fault_number self }
     {
         match self {
