@@ -24,7 +24,7 @@
 //!
 //! - `store` with `open`, `execute` and `serve`: the store, on the log of `gate_log`. `commit` evaluates a form and logs it;
 //!   `replay` makes the world again from the records of a log; `input` and `output` are the streams of a session.
-//! - `mode`, `outcome`: the words of its calls. `open_fault`, `failure`, `turn`: their inner reasons.
+//! - `mode`, `outcome`, `open_fault`: the words of its calls. `failure`, `turn`: their inner reasons.
 //! - `laws`: the headline, that an image means one world, and which numbers refuse a form.
 //! - `world`: the property lists, with the way back from a form that is refused.
 //! - `reading` (`read_one`), `evaluation` (`evaluate_form`) and `printing` (`print`): each a layer of its own, after the call
@@ -49,6 +49,7 @@ mod world;
 
 pub use laws::{form_numbers, headline, one_world};
 pub use mode::Mode;
+pub use open_fault::OpenFault;
 pub use outcome::{Ending, Outcome};
 pub use store::{Store, Unopened};
 pub use world::{Property, Symbol, World};

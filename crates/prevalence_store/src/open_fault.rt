@@ -5,9 +5,9 @@ ghost use Rattle.prevalence_store.specs.Opening.{fault_number};
 use gate_log::{OpenRefusal, ReadError};
 use lisp_object::refusal::{DAMAGED, DEVICE, NO_MEMORY, SNAPSHOT_TOO_LARGE, VERSION};
 
-/// Why a store is not opened.
+/// Why a store is not opened. No call gives one, but the clause of a refused opening names it as the cause of its number.
 #[derive(Clone, Copy, Debug, PartialEq, Eq)]
-pub(crate) enum OpenFault {
+pub enum OpenFault {
     /// There was no memory.
     OutOfMemory,
     /// The device failed.
@@ -22,7 +22,7 @@ pub(crate) enum OpenFault {
 
 impl OpenFault {
     /// The number of the refusal.
-    pub(crate) fn number(self) -> u16
+    pub fn number(self) -> u16
         ensures { result ≡ fault_number self }
     {
         match self {

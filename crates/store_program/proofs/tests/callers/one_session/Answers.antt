@@ -19,11 +19,29 @@ returns g c = record {
         over.text,
         read.0,
         read.1,
-        (served.forms, served.far, served.far_is, (served.lines, served.answered, served.part, served.answered_is, (served.output, (opened.world, opened.known, record {
-          count = some.count;
-          enough = some.enough;
-          among = some.among;
-          after_those = some.after_those ∙ ap (λ (u : World). Some u) ((opened.reopens fresh).only some.left some.meant);
-        })))),
+        (
+          served.forms,
+          served.far,
+          served.far_is,
+          (
+            served.lines,
+            served.answered,
+            served.part,
+            served.answered_is,
+            (
+              served.output,
+              (
+                opened.world,
+                opened.known,
+                record {
+                  count = some.count;
+                  enough = some.enough;
+                  among = some.among;
+                  after_those = some.after_those ∙ ap (λ (u : World). Some u) ((opened.reopens fresh).only some.left some.meant);
+                },
+              ),
+            ),
+          ),
+        ),
       )) c.open-2.ensures.opened;
 }
