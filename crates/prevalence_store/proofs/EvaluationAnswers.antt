@@ -16,7 +16,7 @@ use Rattle.prevalence_store.specs.declared.evaluation.EvaluationError.{Evaluatio
 use Rattle.prevalence_store.specs.declared.evaluation.EvaluationError.TheVariants.{Memory, Refused}
 use Rattle.prevalence_store.specs.World.{World}
 use Rattle.prevalence_store.specs.Evaluation.{Outcome, and_then, value, place_values, quote_value, get_value, setf_value, get, set, is_interned, is_standard, is_proper_list, count, gives_itself}
-use Rattle.prevalence_store.specs.Evaluated.{Answers, arguments_of}
+use Rattle.prevalence_store.specs.EvaluatorAnswers.{Answers, arguments_of}
 use Rattle.prevalence_store.proofs.ProperLists.{items_of_proper, tail_of_proper}
 use Rattle.prevalence_store.proofs.EvaluationSteps.{get_two, get_three, setf_two, place_two, count_pairs, proper_pairs, dotted_pairs, value_dotted, place_dotted, place_count, value_variable, value_constant, value_uninterned}
 

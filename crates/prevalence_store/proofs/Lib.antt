@@ -4,6 +4,7 @@ pub mod EvaluationRows
 pub mod EvaluationSteps
 pub mod Executing
 pub mod Joining
+pub mod LeftAlone
 pub mod Loading
 pub mod PrintedTails
 pub mod PrintingRows

@@ -2,19 +2,23 @@
 use Rattle.std.proofs.Common.{◌≡◌, ℕ, zero, suc, ◌+◌, ◌≤◌, List, [], ◌∷◌, ◌++◌, length, Option, None, Some, IsTrue, refl, sym, ap, ap₂, subst, ◌∙◌, inl, inr, append_assoc, append-nil, arith, length-append}
 use Rattle.std.specs.Option.{option_map, option_and_then}
 use Rattle.std.proofs.lemmas.List.Sums.{sum_by-append}
-use Rattle.disk_trait.specs.Disk.{State, IsHonest}
+use Rattle.disk_trait.specs.Disk.{State, IsHonest, IsSound}
+use Rattle.disk_trait.specs.Half.{opposite_of}
+use Rattle.disk_trait.specs.declared.half.Half.{Half}
 use Rattle.gate_log.specs.Layout.{Contents, Entry}
 use Rattle.prevalence_store.specs.declared.mode.Mode.{Mode}
 use Rattle.prevalence_store.specs.declared.outcome.Ending.{Ending}
 use Rattle.prevalence_store.specs.declared.outcome.Ending.TheVariants.{End, Reader, Store}
 use Rattle.prevalence_store.specs.Acceptance.{read_in}
 use Rattle.prevalence_store.specs.Execution.{SurvivesAs}
-use Rattle.prevalence_store.specs.Output.{Progress, after_forms, begun, last_line, one_form, one_more, onward}
+use Rattle.prevalence_store.specs.LeftAlone.{LeavesAlone}
+use Rattle.prevalence_store.specs.Output.{Progress, after_forms, begun, last_line, one_form, one_form_more, onward}
 use Rattle.prevalence_store.specs.Serving.{Advances, Ends, IsAfter, Serves, room_of, with_entries}
 use Rattle.prevalence_store.specs.Session.{Session, Describes}
 use Rattle.prevalence_store.specs.Streams.{Writes}
 use Rattle.prevalence_store.specs.World.{World}
 use Rattle.prevalence_store.specs.Theorem.{Survives}
+use Rattle.prevalence_store.proofs.LeftAlone.{alone_both}
 use Rattle.prevalence_store.proofs.Surviving.{both_survive}
 
 -- ---- progress
@@ -35,7 +39,7 @@ more_onward p q r (Some s) is =
     let same : onward q s ≡ r = cc in
     ap (λ o. Some o) (onward_onward p q s ∙ ap (onward p) same)
 
-step_back : (mode : Mode) (o : Option Progress) (r : Progress) → option_and_then (one_more mode) o ≡ Some r → (q : Progress) × (o ≡ Some q) × (one_more mode q ≡ Some r)
+step_back : (mode : Mode) (o : Option Progress) (r : Progress) → option_and_then (one_form_more mode) o ≡ Some r → (q : Progress) × (o ≡ Some q) × (one_form_more mode q ≡ Some r)
 step_back mode None r is = absurd (cc)
 step_back mode (Some q) r is = (q, refl, is)
 
@@ -50,7 +54,7 @@ forms_onward (suc n) m zero w mode text p q is here there = absurd (omega arith)
 forms_onward (suc n) m (suc k) w mode text p q is here there =
     let last = step_back mode (after_forms n p.world mode p.rest) q there in
     let less : k ≡ n + m = omega arith in
-    ap (option_and_then (one_more mode)) (forms_onward n m k w mode text p last.0 less here last.1)
+    ap (option_and_then (one_form_more mode)) (forms_onward n m k w mode text p last.0 less here last.1)
     ∙ more_onward p last.0 q (one_form last.0.world mode last.0.rest (read_in last.0.world mode last.0.rest)) last.2
 
 -- ---- what was written
@@ -66,7 +70,7 @@ none_of_both (x ∷ xs) ys is = absurd (cc)
 
 -- ---- a session goes on
 
-module _ {D : Type 0} (state : D → State) (old mid new : Session D) (p : Progress) (first : IsAfter state old mid p)
+module _ {D : Type 0} (state : D → State) (sound : (d : D) → IsHonest (state d) → IsSound (state d)) (old mid new : Session D) (p : Progress) (first : IsAfter state old mid p)
     (honest : (state mid.disk).honest ≡ (state old.disk).honest) where
   described_both : (q : List Entry)
       → ((k : Contents) → IsHonest (state mid.disk) → Describes mid k (state mid.disk).reads → Describes new (with_entries k q) (state new.disk).reads)
@@ -74,6 +78,13 @@ module _ {D : Type 0} (state : D → State) (old mid new : Session D) (p : Progr
   described_both q second k claims held =
       subst (λ entries. Describes new (record k { entries = entries }) (state new.disk).reads) (append_assoc k.entries p.taken q)
       (second (with_entries k p.taken) (subst IsTrue (sym honest) claims) (first.described k claims held))
+
+  other_both : (IsHonest (state mid.disk) → LeavesAlone (opposite_of mid.half) (state mid.disk) (state new.disk))
+      → IsHonest (state old.disk) → LeavesAlone (opposite_of old.half) (state old.disk) (state new.disk)
+  other_both second claims =
+      let still = subst IsTrue (sym honest) claims in
+      alone_both (opposite_of old.half) (state old.disk) (state mid.disk) (state new.disk) (sound mid.disk still) (first.other claims)
+      (subst (λ (h : Half). LeavesAlone (opposite_of h) (state mid.disk) (state new.disk)) first.half (second still))
 
   size_both : (q : List Entry) (size : ℕ) → size ≡ mid.size + room_of q → size ≡ old.size + room_of (p.taken ++ q)
   size_both q size is = let sum = sum_by-append (λ (entry : Entry). 6 + length entry.text) p.taken q in let before = first.size in omega arith
@@ -95,11 +106,12 @@ module _ {D : Type 0} (state : D → State) (old mid new : Session D) (p : Progr
     fits = let first_fits = first.fits in let second_fits = second.fits in let limit = first.limit in omega arith;
     limit = second.limit ∙ first.limit;
     described = described_both q.taken second.described;
+    other = other_both second.other;
     failures = second.failures ∙ first.failures;
     untouched = λ is. let none = none_of_both p.taken q.taken is in second.untouched none.1 ∙ first.untouched none.0;
   }
 
-module _ {D : Type 0} (state : D → State) (old mid new : Session D) (w : World) (mode : Mode) (text : List ℕ) (a b c : Option (List ℕ)) (m : ℕ) (p : Progress)
+module _ {D : Type 0} (state : D → State) (sound : (d : D) → IsHonest (state d) → IsSound (state d)) (old mid new : Session D) (w : World) (mode : Mode) (text : List ℕ) (a b c : Option (List ℕ)) (m : ℕ) (p : Progress)
     (first : Advances state old mid w mode text a b m p) (honest : (state mid.disk).honest ≡ (state old.disk).honest) where
   survive_both : (taken : List Entry) (n : ℕ) → SurvivesAs state mid new p.world taken n → SurvivesAs state old new w (p.taken ++ taken) (length p.taken + n)
   survive_both taken n second known claims keeps =
@@ -117,7 +129,7 @@ module _ {D : Type 0} (state : D → State) (old mid new : Session D) (w : World
   advance_both n k q is second = record {
     far_is = forms_onward n m k w mode text p q is first.far_is second.far_is;
     lines = writes_both a b c p.lines q.lines first.lines second.lines;
-    after = after_both state old mid new p first.after honest q second.after;
+    after = after_both state sound old mid new p first.after honest q second.after;
     survives = survive_with q.taken (length q.taken) (length (p.taken ++ q.taken)) (length-append p.taken q.taken) second.survives;
   }
 
@@ -128,14 +140,14 @@ module _ {D : Type 0} (state : D → State) (old mid new : Session D) (w : World
     all = let all = ends.all in omega arith;
     no_part = ends.no_part;
     nothing_left = ends.nothing_left;
-    after = after_both state old mid new p first.after honest far ends.after;
+    after = after_both state sound old mid new p first.after honest far ends.after;
   }
   ends_both forms far lines answered part (Reader number) ends = record {
     all = let all = ends.all in omega arith;
     place = ends.place;
     reads = ends.reads;
     line = ends.line;
-    after = after_both state old mid new p first.after honest far ends.after;
+    after = after_both state sound old mid new p first.after honest far ends.after;
   }
   ends_both forms far lines answered part (Store number) (inl stopped) = inl (record {
     device = stopped.device;
@@ -146,10 +158,11 @@ module _ {D : Type 0} (state : D → State) (old mid new : Session D) (w : World
     unknown = stopped.unknown;
     half = stopped.half ∙ first.after.half;
     generation = stopped.generation ∙ first.after.generation;
-    record_count = count_both state old mid new p first.after honest answered.taken new.record_count stopped.record_count;
-    size = size_both state old mid new p first.after honest answered.taken new.size stopped.size;
-    fits = fits_both state old mid new p first.after honest far.taken stopped.fits;
+    record_count = count_both state sound old mid new p first.after honest answered.taken new.record_count stopped.record_count;
+    size = size_both state sound old mid new p first.after honest answered.taken new.size stopped.size;
+    fits = fits_both state sound old mid new p first.after honest far.taken stopped.fits;
     limit = stopped.limit ∙ first.after.limit;
+    other = other_both state sound old mid new p first.after honest stopped.other;
     failures = stopped.failures ∙ ap (λ n. n + 1) first.after.failures;
   })
   ends_both forms far lines answered part (Store number) (inr (inl full)) = inr (inl (record {
@@ -161,14 +174,14 @@ module _ {D : Type 0} (state : D → State) (old mid new : Session D) (w : World
     record_ = full.record_;
     is_taken = full.is_taken;
     over = full.over;
-    after = after_both state old mid new p first.after honest far full.after;
+    after = after_both state sound old mid new p first.after honest far full.after;
   }))
   ends_both forms far lines answered part (Store number) (inr (inr (inl unread))) = inr (inr (inl (record {
     input = unread.input;
     all = let all = unread.all in omega arith;
     no_part = unread.no_part;
     more = unread.more;
-    after = after_both state old mid new p first.after honest far unread.after;
+    after = after_both state sound old mid new p first.after honest far unread.after;
   })))
   ends_both forms far lines answered part (Store number) (inr (inr (inr (inl unwritten)))) = inr (inr (inr (inl (record {
     output = unwritten.output;
@@ -180,12 +193,12 @@ module _ {D : Type 0} (state : D → State) (old mid new : Session D) (w : World
         ∙ ap (λ t. p.lines ++ t) (append_assoc answered.lines part unwritten.unwritten)
         ∙ sym (append_assoc p.lines answered.lines (part ++ unwritten.unwritten))
         ∙ sym (append_assoc (p.lines ++ answered.lines) part unwritten.unwritten);
-    after = after_both state old mid new p first.after honest far unwritten.after;
+    after = after_both state sound old mid new p first.after honest far unwritten.after;
   }))))
   ends_both forms far lines answered part (Store number) (inr (inr (inr (inr out)))) = inr (inr (inr (inr (record {
     memory = out.memory;
     no_part = out.no_part;
-    after = after_both state old mid new p first.after honest far out.after;
+    after = after_both state sound old mid new p first.after honest far out.after;
   }))))
 
   -- some forms, and how the session ended after them

@@ -2,6 +2,7 @@
 use Rattle.std.proofs.Common.{◌≡◌, ◌≢◌, ◌∷◌, ℕ, ◌+◌, ◌<◌, true, false, List, [], ◌++◌, length, drop, Option, None, Some, IsSome, is_some, Result, Ok, Err, IfOk, IfErr, refl, sym, ap, subst, ◌∙◌, inl, inr, append_assoc, append-nil, arith}
 use Rattle.std.specs.Option.{option_map}
 use Rattle.disk_trait.specs.Disk.{State, IsHonest, IsSound}
+use Rattle.disk_trait.specs.Half.{opposite_of}
 use Rattle.lisp_object.specs.Object.{Object}
 use Rattle.lisp_object.specs.Datum.{object_of}
 use Rattle.lisp_object.specs.declared.datum.Datum.{Datum}
@@ -16,7 +17,7 @@ use Rattle.prevalence_store.specs.declared.turn.Turn.TheVariants.{Taken, Ended}
 use Rattle.prevalence_store.specs.Acceptance.{between, logged, read_in}
 use Rattle.prevalence_store.specs.Causes.{is_device, IsCause}
 use Rattle.prevalence_store.specs.Evaluation.{value}
-use Rattle.prevalence_store.specs.Execution.{Fails, Logs, SurvivesAs, acknowledged_in, taken_in}
+use Rattle.prevalence_store.specs.Execution.{DeviceFails, Logs, SurvivesAs, acknowledged_in, taken_in}
 use Rattle.prevalence_store.specs.Output.{Progress, after_forms, begun, evaluated, last_line, one_form, onward, refusal_line, value_line}
 use Rattle.prevalence_store.specs.Reading.{form, empty, refused, reads, reads_at}
 use Rattle.prevalence_store.specs.Serving.{Ends, HasRead, IsAfter, MayGoOn, Serves, ServesInput}
@@ -26,6 +27,7 @@ use Rattle.prevalence_store.specs.Turns.{AnswersFault, GoesOn, IsAnswered, IsLin
 use Rattle.prevalence_store.specs.Printing.{printed}
 use Rattle.prevalence_store.specs.World.{World, initial}
 use Rattle.prevalence_store.proofs.Executing.{known_world}
+use Rattle.prevalence_store.proofs.LeftAlone.{alone_still}
 use Rattle.prevalence_store.proofs.Surviving.{fewer_survive, unchanged_survives}
 
 -- ---- what was written
@@ -70,6 +72,7 @@ module _ {D : Type 0} (state : D → State) (sound : (d : D) → IsHonest (state
         fits = omega arith;
         limit = refl;
         described = λ k claims told. subst (λ entries. Describes old (record k { entries = entries }) (state old.disk).reads) (sym (append-nil k.entries)) told;
+        other = λ honest. alone_still (opposite_of old.half) (state old.disk) (sound old.disk honest);
         failures = refl;
         untouched = λ is. refl;
       })
@@ -124,7 +127,7 @@ pub record IsAnswerOf {D : Type 0} (state : D → State) (old new : Session D) (
   pub accepted : (w : World) → old.world ≡ Some w → IfOk answer (λ v. (given : World) × (value w x ≡ Ok (object_of v, given)) × Logs state old new mode own given)
   pub cause : (w : World) → old.world ≡ Some w → IfErr answer (IsCause (value w x) old.size old.limit (length own))
   pub unchanged : IfErr answer (λ e. is_device e ≡ false → new ≡ old)
-  pub fault : IfErr answer (λ e. is_device e ≡ true → Fails state old new)
+  pub fault : IfErr answer (λ e. is_device e ≡ true → DeviceFails state old new)
   pub survives : (w : World) → SurvivesAs state old new w (taken_in mode own answer) (acknowledged_in answer)
 
 module _ {D : Type 0} (state : D → State) (sound : (d : D) → IsHonest (state d) → IsSound (state d)) (old new : Session D) (w : World) (mode : Mode) (text : List ℕ) (held written : Option (List ℕ))
@@ -145,6 +148,7 @@ module _ {D : Type 0} (state : D → State) (sound : (d : D) → IsHonest (state
     fits = let fits = logs.fits in omega arith;
     limit = logs.limit;
     described = logs.described;
+    other = logs.other;
     failures = logs.failures;
     untouched = λ is. absurd (cc);
   }
@@ -279,6 +283,7 @@ module _ {D : Type 0} (state : D → State) (sound : (d : D) → IsHonest (state
         size = let size = failed.size in omega arith;
         fits = let fits = why.1 in omega arith;
         limit = failed.limit;
+        other = failed.other;
         failures = failed.failures;
       }))
 

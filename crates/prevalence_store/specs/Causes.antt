@@ -4,11 +4,11 @@ use Rattle.lisp_object.specs.declared.refusal.TheConstants.{DEVICE, LOG_FULL, NO
 use Rattle.prevalence_store.specs.declared.failure.Failure.{Failure}
 use Rattle.prevalence_store.specs.declared.failure.Failure.TheVariants.{Refused, Full, DeviceFault, OutOfMemory}
 
-abbrev pub number_of : Failure → ℕ
-number_of (Refused number) = number
-number_of Full = LOG_FULL
-number_of DeviceFault = DEVICE
-number_of OutOfMemory = NO_MEMORY
+abbrev pub failure_number : Failure → ℕ
+failure_number (Refused number) = number
+failure_number Full = LOG_FULL
+failure_number DeviceFault = DEVICE
+failure_number OutOfMemory = NO_MEMORY
 
 abbrev pub is_device : Failure → Bool
 is_device (Refused number) = false

@@ -1,18 +1,20 @@
 -- What `execute` answers, each answer with its cause and with what is left after it.
-use Rattle.std.specs.Prelude.{true, ◌≡◌, ◌⊎◌, ℕ, ◌+◌, ◌<◌, ◌≤◌, ◌==◌, if◌then◌else◌, List, [], ◌∷◌, length, None, Some, Result, Ok, Err}
+use Rattle.std.specs.Prelude.{true, ◌≡◌, ◌⊎◌, ℕ, ◌+◌, ◌<◌, ◌≤◌, List, [], ◌∷◌, length, None, Some, Result, Ok, Err}
 use Rattle.disk_trait.specs.Disk.{Image, State, IsHonest}
+use Rattle.disk_trait.specs.Half.{opposite_of}
 use Rattle.gate_log.specs.Layout.{Contents, Entry, with_entry}
 use Rattle.gate_log.specs.Log as gated
 use Rattle.lisp_object.specs.Object.{Object}
 use Rattle.lisp_object.specs.Datum.{object_of, is_proper}
 use Rattle.lisp_object.specs.declared.datum.Datum.{Datum}
-use Rattle.lisp_object.specs.declared.refusal.TheConstants.{DEVICE, REOPEN, LOG_FULL, NO_MEMORY}
+use Rattle.lisp_object.specs.declared.refusal.TheConstants.{DEVICE, LOG_FULL, NO_MEMORY}
 use Rattle.prevalence_store.specs.declared.failure.Failure.{Failure}
 use Rattle.prevalence_store.specs.declared.failure.Failure.TheVariants as failure
 use Rattle.prevalence_store.specs.declared.mode.Mode.{Mode}
 use Rattle.prevalence_store.specs.declared.outcome.Outcome.{Outcome}
 use Rattle.prevalence_store.specs.declared.outcome.Outcome.TheVariants.{Accepted, Refused}
 use Rattle.prevalence_store.specs.Acceptance.{Acceptance, accepts, logged}
+use Rattle.prevalence_store.specs.LeftAlone.{LeavesAlone}
 use Rattle.prevalence_store.specs.Session.{Session, Describes}
 use Rattle.prevalence_store.specs.Theorem.{Keeps, Survives}
 use Rattle.prevalence_store.specs.World.{World}
@@ -23,24 +25,7 @@ IsBeforeOrAfter k entry = gated.MeansEither (Some k) (Some (with_entry k entry))
 
 -- ---- the forms that a call took, and how many of them it acknowledged
 
-abbrev pub record_of : Mode → Result Acceptance ℕ → List Entry
-record_of mode (Ok given) = logged mode given.text ∷ []
-record_of mode (Err number) = []
-
--- the record of the text, where the world accepts it
-abbrev pub form_in : World → Mode → List ℕ → List Entry
-form_in world mode text = record_of mode (accepts world mode text)
-
--- its one form, where it was accepted, and where it was under way as the device failed
-abbrev pub taken_by : World → Mode → List ℕ → Outcome → List Entry
-taken_by world mode text (Accepted value) = form_in world mode text
-taken_by world mode text (Refused number) = if number == DEVICE then form_in world mode text else []
-
-abbrev pub acknowledged_by : Outcome → ℕ
-acknowledged_by (Accepted value) = 1
-acknowledged_by (Refused number) = 0
-
--- the same of a form that was read
+-- of a form that was read: its one form, where it was accepted, and where it was under way as the device failed
 abbrev pub taken_in : Mode → List ℕ → Result Datum Failure → List Entry
 taken_in mode text (Ok value) = logged mode text ∷ []
 taken_in mode text (Err failure.DeviceFault) = logged mode text ∷ []
@@ -71,72 +56,64 @@ module _ {D : Type 0} (state : D → State) (old new : Session D) where
     pub limit : new.limit ≡ old.limit
     pub described : (k : Contents) → IsHonest (state old.disk) → Describes old k (state old.disk).reads
         → Describes new (with_entry k (logged mode text)) (state new.disk).reads
+    pub other : IsHonest (state old.disk) → LeavesAlone (opposite_of old.half) (state old.disk) (state new.disk)
     pub failures : (state new.disk).failures ≡ (state old.disk).failures
 
   -- The device failed in the call. Nothing is known of the world until the store is opened again.
-  pub record Fails : Type 0 where
+  pub record DeviceFails : Type 0 where
     pub unknown : new.world ≡ None
     pub half : new.half ≡ old.half
     pub generation : new.generation ≡ old.generation
     pub record_count : new.record_count ≡ old.record_count
     pub size : new.size ≡ old.size
     pub limit : new.limit ≡ old.limit
+    pub other : IsHonest (state old.disk) → LeavesAlone (opposite_of old.half) (state old.disk) (state new.disk)
     pub failures : (state new.disk).failures ≡ (state old.disk).failures + 1
 
-  module _ (mode : Mode) (text : List ℕ) where
+  -- ---- what became of a text, in the world that the store had
+
+  module _ (world : World) (mode : Mode) (text : List ℕ) where
     -- the world accepts the text, and it was logged
     pub record IsAccepted (value : Object) : Type 0 where
-      pub world : World
-      pub known : old.world ≡ Some world
       pub given : Acceptance
       pub accepted : accepts world mode text ≡ Ok given
       pub answered : value ≡ given.value
       pub logs : Logs mode given.text given.world
-
-    -- the device failed in an earlier call
-    pub record IsToBeReopened (number : ℕ) : Type 0 where
-      pub reopen : number ≡ REOPEN
-      pub unknown : old.world ≡ None
-      pub unchanged : new ≡ old
+      pub survives : SurvivesAs world (logged mode given.text ∷ []) 1
 
     -- the world does not accept the text, and this is why
     pub record IsTurnedDown (number : ℕ) : Type 0 where
-      pub world : World
-      pub known : old.world ≡ Some world
       pub refused : accepts world mode text ≡ Err number
       pub unchanged : new ≡ old
+      pub survives : SurvivesAs world [] 0
 
     -- the world accepts the text, and the half would pass its limit by the record
-    pub record IsFull (number : ℕ) : Type 0 where
+    pub record HasNoRoom (number : ℕ) : Type 0 where
       pub full : number ≡ LOG_FULL
-      pub world : World
-      pub known : old.world ≡ Some world
       pub given : Acceptance
       pub accepted : accepts world mode text ≡ Ok given
       pub over : old.limit < old.size + (6 + length given.text)
       pub unchanged : new ≡ old
+      pub survives : SurvivesAs world [] 0
 
     -- the world accepts the text, there is room for the record, and the device failed
     pub record IsFault (number : ℕ) : Type 0 where
       pub device : number ≡ DEVICE
-      pub world : World
-      pub known : old.world ≡ Some world
       pub given : Acceptance
       pub accepted : accepts world mode text ≡ Ok given
       pub fits : old.size + (6 + length given.text) ≤ old.limit
-      pub failed : Fails
+      pub failed : DeviceFails
+      pub survives : SurvivesAs world (logged mode given.text ∷ []) 0
 
     -- a growth was refused
-    pub record IsOutOfMemory (number : ℕ) : Type 0 where
+    pub record HasNoMemory (number : ℕ) : Type 0 where
       pub memory : number ≡ NO_MEMORY
-      pub world : World
-      pub known : old.world ≡ Some world
       pub unchanged : new ≡ old
+      pub survives : SurvivesAs world [] 0
 
     abbrev pub Executes : Outcome → Type 0
     Executes (Accepted value) = IsAccepted (object_of value)
-    Executes (Refused number) =
-        IsToBeReopened number ⊎ (IsTurnedDown number ⊎ (IsFull number ⊎ (IsFault number ⊎ IsOutOfMemory number)))
+    Executes (Refused number) = IsTurnedDown number ⊎ (HasNoRoom number ⊎ (IsFault number ⊎ HasNoMemory number))
 
 -- A value that is answered is proper: its numbers are in range, its ratios in lowest terms, its bytes below 128.
 abbrev pub IsProperOutcome : Outcome → Type 0

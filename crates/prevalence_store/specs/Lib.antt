@@ -5,7 +5,6 @@ pub mod Tokens
 pub mod Reading
 pub mod Evaluation
 pub mod Printing
-pub mod Refusals
 pub mod Acceptance
 pub mod Numbers
 pub mod Meaning
@@ -13,16 +12,17 @@ pub mod Theorem
 -- words of the calls
 pub mod Session
 pub mod Causes
+pub mod LeftAlone
 pub mod Execution
 pub mod Opening
 pub mod Output
 pub mod Streams
 pub mod Serving
 -- how the code keeps and answers it
-pub mod Evaluated
+pub mod EvaluatorAnswers
 pub mod Marking
 pub mod Property
-pub mod ReadingResults
+pub mod ReaderAnswers
 pub mod Rows
 pub mod Symbol
 pub mod Turns

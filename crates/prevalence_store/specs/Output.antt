@@ -4,13 +4,13 @@ use Rattle.std.specs.Prelude.{decimal}
 use Rattle.std.specs.Option.{option_map, option_and_then}
 use Rattle.gate_log.specs.Layout.{Entry}
 use Rattle.lisp_object.specs.Object.{Object}
+use Rattle.lisp_object.specs.Refusal.{name_of}
 use Rattle.prevalence_store.specs.declared.mode.Mode.{Mode}
 use Rattle.prevalence_store.specs.World.{World}
 use Rattle.prevalence_store.specs.Acceptance.{between, logged, read_in}
 use Rattle.prevalence_store.specs.Reading.{Reading, form, empty, refused}
 use Rattle.prevalence_store.specs.Evaluation.{value}
 use Rattle.prevalence_store.specs.Printing.{printed}
-use Rattle.prevalence_store.specs.Refusals.{name_of}
 
 -- a value, as it is printed in the world after its form, and a newline
 abbrev pub value_line : World → Object → List ℕ
@@ -55,13 +55,13 @@ one_form world mode text empty = None
 one_form world mode text (refused number place) = None
 
 -- one form more
-abbrev pub one_more : Mode → Progress → Option Progress
-one_more mode p = option_map (onward p) (one_form p.world mode p.rest (read_in p.world mode p.rest))
+abbrev pub one_form_more : Mode → Progress → Option Progress
+one_form_more mode p = option_map (onward p) (one_form p.world mode p.rest (read_in p.world mode p.rest))
 
 -- After so many forms of a text, each read in the world that the ones before it left. None where it has not so many.
 abbrev pub after_forms : ℕ → World → Mode → List ℕ → Option Progress
 after_forms zero world mode text = Some (begun world text)
-after_forms (suc n) world mode text = option_and_then (one_more mode) (after_forms n world mode text)
+after_forms (suc n) world mode text = option_and_then (one_form_more mode) (after_forms n world mode text)
 
 -- the line that ends a session at a refusal of the reader
 abbrev pub last_line : Reading → List ℕ

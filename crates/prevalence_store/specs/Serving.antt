@@ -2,6 +2,7 @@
 use Rattle.std.specs.Prelude.{◌≡◌, ◌≢◌, ◌⊎◌, ℕ, ◌+◌, ◌<◌, ◌≤◌, max, List, [], ◌∷◌, ◌++◌, length, Option, None, Some}
 use Rattle.std.specs.List.{sum_by}
 use Rattle.disk_trait.specs.Disk.{State, IsHonest}
+use Rattle.disk_trait.specs.Half.{opposite_of}
 use Rattle.gate_log.specs.Layout.{Contents, Entry}
 use Rattle.lisp_object.specs.declared.refusal.TheConstants.{DEVICE, LOG_FULL, INPUT, OUTPUT, NO_MEMORY}
 use Rattle.prevalence_store.specs.declared.mode.Mode.{Mode}
@@ -9,6 +10,7 @@ use Rattle.prevalence_store.specs.declared.outcome.Ending.{Ending}
 use Rattle.prevalence_store.specs.declared.outcome.Ending.TheVariants.{End, Reader, Store}
 use Rattle.prevalence_store.specs.Acceptance.{read_in}
 use Rattle.prevalence_store.specs.Execution.{SurvivesAs}
+use Rattle.prevalence_store.specs.LeftAlone.{LeavesAlone}
 use Rattle.prevalence_store.specs.Output.{Progress, after_forms, last_line, one_form, refusal_line}
 use Rattle.prevalence_store.specs.Reading.{Reading, form, empty, refused}
 use Rattle.prevalence_store.specs.Session.{Session, Describes}
@@ -42,6 +44,8 @@ module _ {D : Type 0} (state : D → State) (old new : Session D) where
     pub limit : new.limit ≡ old.limit
     pub described : (k : Contents) → IsHonest (state old.disk) → Describes old k (state old.disk).reads
         → Describes new (with_entries k far.taken) (state new.disk).reads
+    -- the half that is not in use is left alone
+    pub other : IsHonest (state old.disk) → LeavesAlone (opposite_of old.half) (state old.disk) (state new.disk)
     pub failures : (state new.disk).failures ≡ (state old.disk).failures
     -- forms that leave no record leave all as it was, the disk too
     pub untouched : far.taken ≡ [] → new ≡ old
@@ -86,6 +90,7 @@ module _ {D : Type 0} (state : D → State) (old new : Session D) where
         -- its record had room
         pub fits : old.size + room_of far.taken ≤ old.limit
         pub limit : new.limit ≡ old.limit
+        pub other : IsHonest (state old.disk) → LeavesAlone (opposite_of old.half) (state old.disk) (state new.disk)
         pub failures : (state new.disk).failures ≡ (state old.disk).failures + 1
 
       -- the next form is accepted in that world, and has no room

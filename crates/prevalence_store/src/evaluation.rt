@@ -7,7 +7,7 @@ ghost use Rattle.lisp_object.specs.Object.{Object, pairs, nil};
 ghost use Rattle.lisp_object.specs.Datum.{object_of, is_proper};
 ghost use Rattle.prevalence_store.specs.Symbol.{symbol_of};
 ghost use Rattle.prevalence_store.specs.Evaluation.{value, place_values, gives_itself, quote_value, get_value, setf_value, get, set, is_interned, is_standard};
-ghost use Rattle.prevalence_store.specs.Evaluated.{Answers, IfRefused, arguments_of};
+ghost use Rattle.prevalence_store.specs.EvaluatorAnswers.{Answers, IfRefused, arguments_of};
 
 use crate::world::{Symbol, World};
 use lisp_object::refusal::{ARGUMENT_COUNT, ARGUMENT_KIND, NOT_A_FORM, UNKNOWN_OPERATOR};

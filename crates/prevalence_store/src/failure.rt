@@ -1,6 +1,6 @@
 // Why a form was not accepted, inside the crate.
 ghost use Rattle.std.specs.Prelude.{◌≡◌};
-ghost use Rattle.prevalence_store.specs.Causes.{is_device, number_of};
+ghost use Rattle.prevalence_store.specs.Causes.{is_device, failure_number};
 
 use lisp_object::refusal::{DEVICE, LOG_FULL, NO_MEMORY};
 
@@ -20,7 +20,7 @@ pub(crate) enum Failure {
 impl Failure {
     /// The number of the refusal.
     pub(crate) fn number(self) -> u16
-        ensures { result ≡ number_of self }
+        ensures { result ≡ failure_number self }
     {
         match self {
             Failure::Refused(number) => number,

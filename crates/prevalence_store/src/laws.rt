@@ -2,7 +2,7 @@
 ghost use Rattle.std.specs.Prelude.{◌≡◌, ℕ, List, ◌++◌, Some, Err};
 ghost use Rattle.disk_trait.specs.Disk.{Image, IsFresh, IsHonest};
 ghost use Rattle.prevalence_store.specs.Acceptance.{accepts};
-ghost use Rattle.prevalence_store.specs.Meaning.{Means};
+ghost use Rattle.prevalence_store.specs.Meaning.{MeansWorld};
 ghost use Rattle.prevalence_store.specs.Numbers.{IsFormNumber};
 ghost use Rattle.prevalence_store.specs.declared.mode.Mode.{Mode};
 ghost use Rattle.prevalence_store.specs.Opening.{IsNoWord, IsUnopened, limit_of};
@@ -13,7 +13,7 @@ use disk_trait::Disk;
 
 /// An image means one world at most.
 pub fn one_world()
-    ensures { (image : Image) (one other : LispWorld) → Means image one → Means image other → one ≡ other }
+    ensures { (image : Image) (one other : LispWorld) → MeansWorld image one → MeansWorld image other → one ≡ other }
 {}
 
 /// Fresh files mean the initial world, whatever a crash leaves of them.
@@ -33,8 +33,8 @@ pub fn form_numbers()
         → accepts world mode text ≡ Err number → IsFormNumber number }
 {}
 
-/// Whatever calls are made in a row on a store that was opened on an honest disk, a crash at any moment and an opening of
-/// what it leaves give the world after some of the forms that they took, from the first on, and after all those that were
+/// Whatever calls are made in a row from the opening of an honest disk on, a crash at any moment and an opening of what it
+/// leaves give the world after some of the forms that they took, from the first on, and after all those that were
 /// acknowledged. Such an opening is refused for memory, for a device fault, or for room for a first half alone.
 pub fn headline<D: Disk>()
     ensures holds { (start : D) (world : LispWorld) (earlier later : List (Call D))

@@ -10,7 +10,7 @@
 //!   the forms that it reads and accepts, and has acknowledged all whose answers were written whole; `close` takes none.
 //! - *What opening gives* (`Reopens`): where the files mean a world, `Store::open` gives that world, or a refusal that is no
 //!   word on the files. While it opens, a crash leaves what the files might have meant before. A refusal gives the disk back.
-//! - *The two together* (`headline`): after any calls in a row, a crash at any moment and an opening of what it leaves give
+//! - *The two together* (`headline`): after an opening and any calls in a row, a crash at any moment and an opening of what it leaves give
 //!   the world after some of all the forms, from the first on, and after all that were acknowledged.
 //!
 //! Of every disk: each call returns; 60 comes exactly where the device's count of failures rose, and after it each call but
@@ -24,7 +24,7 @@
 //!
 //! - `store` with `open`, `execute` and `serve`: the store, on the log of `gate_log`. `commit` evaluates a form and logs it;
 //!   `replay` makes the world again from the records of a log; `input` and `output` are the streams of a session.
-//! - `mode`, `outcome`, `open_fault`, `refusals`: the words of its calls. `failure`, `turn`: their inner reasons.
+//! - `mode`, `outcome`, `open_fault`: the words of its calls. `failure`, `turn`: their inner reasons.
 //! - `laws`: the headline, that an image means one world, and which numbers refuse a form.
 //! - `world`: the property lists, with the way back from a form that is refused.
 //! - `reading` (`read_one`), `evaluation` (`evaluate_form`) and `printing` (`print`): each a layer of its own, after the call
@@ -42,7 +42,6 @@ mod outcome;
 mod output;
 mod printing;
 mod reading;
-mod refusals;
 mod replay;
 mod store;
 mod turn;
@@ -52,6 +51,5 @@ pub use laws::{form_numbers, headline, one_world};
 pub use mode::Mode;
 pub use open_fault::OpenFault;
 pub use outcome::{Ending, Outcome};
-pub use refusals::refusal_name;
 pub use store::{Store, Unopened};
 pub use world::{Property, Symbol, World};

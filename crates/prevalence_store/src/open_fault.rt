@@ -5,7 +5,7 @@ ghost use Rattle.prevalence_store.specs.Opening.{fault_number};
 use gate_log::{OpenRefusal, ReadError};
 use lisp_object::refusal::{DAMAGED, DEVICE, NO_MEMORY, SNAPSHOT_TOO_LARGE, VERSION};
 
-/// Why a store is not opened.
+/// Why a store is not opened. No call gives one, but the clause of a refused opening names it as the cause of its number.
 #[derive(Clone, Copy, Debug, PartialEq, Eq)]
 pub enum OpenFault {
     /// There was no memory.

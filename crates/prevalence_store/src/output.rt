@@ -8,9 +8,8 @@ ghost use Rattle.prevalence_store.specs.World.{World as LispWorld};
 
 use crate::failure::Failure;
 use crate::printing::print;
-use crate::refusals::refusal_name;
 use lisp_object::Datum;
-use lisp_object::refusal::NO_MEMORY;
+use lisp_object::refusal::{NO_MEMORY, name_of};
 use std::alloc::{AllocError, Global};
 use std::io::Write;
 
@@ -54,7 +53,7 @@ pub(crate) fn line_of_refusal(alloc: Global, number: u16) -> Result<Vec<u8>, All
     let mut line = Vec::from_slice(alloc, b"! ")?;
     line.extend_from_slice(digits.as_bytes())?;
     line.push(b' ')?;
-    line.extend_from_slice(refusal_name(number).as_bytes())?;
+    line.extend_from_slice(name_of(number).as_bytes())?;
     line.push(b'\n')?;
     Ok(line)
 }

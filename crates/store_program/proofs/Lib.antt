@@ -2,4 +2,3 @@ mod Answered
 pub mod CommandLineLaws
 pub mod Sessions
 pub mod Statuses
-mod Callers

@@ -1,5 +1,5 @@
 -- What a session over a disk does, and what it has written. Of what the files of a folder hold no clause can say a thing.
-use Rattle.std.specs.Prelude.{◌≡◌, ℕ, List, [], ◌++◌, Option, None, Some}
+use Rattle.std.specs.Prelude.{◌≡◌, ◌⊎◌, ℕ, List, [], ◌++◌, Option, None, Some}
 use Rattle.disk_trait.specs.Disk.{State}
 use Rattle.prevalence_store.specs.declared.mode.Mode.TheVariants.{Current}
 use Rattle.prevalence_store.specs.declared.outcome.Ending.{Ending}
@@ -9,6 +9,7 @@ use Rattle.prevalence_store.specs.Output.{Progress, after_forms, last_line, refu
 use Rattle.prevalence_store.specs.Reading.{empty, refused}
 use Rattle.prevalence_store.specs.Serving.{ServesInput}
 use Rattle.prevalence_store.specs.Session.{Session}
+use Rattle.prevalence_store.specs.Streams.{Writes, WritesPart}
 use Rattle.prevalence_store.specs.World.{World}
 use Rattle.store_program.specs.declared.status.Status.{Status}
 use Rattle.store_program.specs.declared.status.Status.TheVariants.{Served, Helped, ReaderRefused, WordsRefused, Fault}
@@ -52,6 +53,14 @@ AnswersInput ReaderRefused input held written =
 AnswersInput Helped input held written = Unit {0}
 AnswersInput WordsRefused input held written = Unit {0}
 AnswersInput (Fault number) input held written = Unit {0}
+
+-- After a fault its line was written; or, where that failed, a part of it from its front.
+abbrev pub TellsFault : Status → Option (List ℕ) → Option (List ℕ) → Type 0
+TellsFault (Fault number) held written = Writes held written (refusal_line number) ⊎ WritesPart held written (refusal_line number)
+TellsFault Served held written = Unit {0}
+TellsFault Helped held written = Unit {0}
+TellsFault ReaderRefused held written = Unit {0}
+TellsFault WordsRefused held written = Unit {0}
 
 -- at the end of the input nothing of it is left
 abbrev pub ReadsToEnd : Status → Option (List ℕ) → Type 0

@@ -4,7 +4,7 @@ ghost use Rattle.prevalence_store.specs.Opening.{IsUnopened};
 ghost use Rattle.clap.specs.Words.{kind_of};
 ghost use Rattle.clap.specs.declared.error.kind.ErrorKind.TheVariants.{OutOfMemory};
 ghost use Rattle.store_program.specs.CommandLine.{NamesFolder};
-ghost use Rattle.store_program.specs.Session.{AnswersInput, IsBrokenOff, IsSession, ReadsToEnd};
+ghost use Rattle.store_program.specs.Session.{AnswersInput, IsBrokenOff, IsSession, ReadsToEnd, TellsFault};
 ghost use Rattle.store_program.specs.Status.{EndsAfterSession, HasFaultNumber, IsAfterWords, TakesWords, status_of_ending};
 
 use crate::fault::write_fault;
@@ -49,6 +49,7 @@ where
     ensures answered { (text held : List ℕ) → I.remaining input.old ≡ Some text → O.contents output.old ≡ Some held
         → AnswersInput result text held (O.contents output.new) }
     ensures fault { HasFaultNumber result }
+    ensures told { TellsFault result (F.contents faults.old) (F.contents faults.new) }
     ensures broken { (folder text held : List ℕ) (number : ℕ) → NamesFolder (map S.text words.now) folder
         → I.remaining input.old ≡ Some text → O.contents output.old ≡ Some held → result ≡ Status.Fault number
         → IsBrokenOff text held (O.contents output.new) }
@@ -63,6 +64,7 @@ where
 /// Ends so: after a fault its line is written.
 pub fn end_with<F: Write>(faults: &mut F, status: Status) -> Status
     ensures status { result ≡ status }
+    ensures told { TellsFault status (F.contents faults.old) (F.contents faults.new) }
     ensures quiet { EndsAfterSession status ⊎ ((status ≡ Status.Helped) ⊎ (status ≡ Status.WordsRefused)) → faults.new ≡ faults.old }
 {
     if let Status::Fault(number) = status {
@@ -77,6 +79,7 @@ fn answer_words<O: Write, F: Write>(error: &Error, output: &mut O, faults: &mut 
     ensures no_session { EndsAfterSession result → ⊥ }
     ensures fault { HasFaultNumber result }
     ensures helped { result ≡ Status.Helped → faults.new ≡ faults.old }
+    ensures untold { (number : ℕ) → result ≡ Status.Fault number → faults.new ≡ faults.old }
     ensures refused { result ≡ Status.WordsRefused → output.new ≡ output.old }
     ensures memory { kind_of error.now ≡ OutOfMemory → output.new ≡ output.old }
 {

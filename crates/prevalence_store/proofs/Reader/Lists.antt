@@ -17,7 +17,7 @@ use Rattle.prevalence_store.specs.declared.reading.fault.ReadError.TheVariants.{
 use Rattle.prevalence_store.specs.declared.reading.limits.Limits.{Limits}
 use Rattle.prevalence_store.specs.Parses.{Read, fault, read_map, within}
 use Rattle.prevalence_store.specs.Reading.{Piece, closes, is_whitespace, followed, items_turn, items, object}
-use Rattle.prevalence_store.specs.ReadingResults.{Fails}
+use Rattle.prevalence_store.specs.ReaderAnswers.{Fails}
 use Rattle.prevalence_store.proofs.Reader.Eating.{Leaves, eating_object}
 use Rattle.prevalence_store.proofs.Reader.Steps.{list_is}
 

@@ -1,5 +1,5 @@
 -- A form is refused under a number of reading or of evaluation.
-use Rattle.std.proofs.Common.{◌≡◌, ℕ, zero, suc, ◌+◌, ◌≤◌, Bool, true, false, List, [], ◌∷◌, ◌++◌, length, Option, Some, None, Result, Ok, Err, refl, subst, arith}
+use Rattle.std.proofs.Common.{◌≡◌, ℕ, zero, suc, ◌+◌, ◌≤◌, Bool, true, false, List, [], ◌∷◌, ◌++◌, length, Option, Some, None, Result, Ok, Err, subst, arith}
 use Rattle.std.specs.Prelude.{nat_le, nat_lt, ◌^◌, ◌==◌, ◌&&◌, ◌||◌, not, pos, neg_ℤ, if◌then◌else◌, codes}
 use Rattle.std.specs.List.{list_all}
 use Rattle.lisp_object.specs.Object.{Object, integer, list_of, pair, symbol, uninterned, character, text as words, rational, vector}

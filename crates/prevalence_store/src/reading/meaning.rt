@@ -8,7 +8,7 @@ ghost use Rattle.lisp_object.specs.Datum.{object_of, is_proper};
 ghost use Rattle.lisp_object.specs.Object.{integer, symbol};
 ghost use Rattle.readtable_core.specs.Characters.{is_digit, upper_case};
 ghost use Rattle.prevalence_store.specs.Tokens.{is_sign, without_sign, is_negative, begins_with_digit, digits_after, signed, number, is_lisp_name, symbol_named, meaning, given};
-ghost use Rattle.prevalence_store.specs.ReadingResults.{Gives};
+ghost use Rattle.prevalence_store.specs.ReaderAnswers.{Gives};
 
 use crate::reading::fault::ReadError;
 use lisp_object::refusal::{NUMBER_RANGE, OUT_OF_PROFILE};

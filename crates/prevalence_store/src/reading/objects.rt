@@ -6,7 +6,7 @@ ghost use Rattle.readtable_core.specs.Tables.{entry_at};
 ghost use Rattle.prevalence_store.specs.Parses.{read_map};
 ghost use Rattle.prevalence_store.specs.Tokens.{token, judged};
 ghost use Rattle.prevalence_store.specs.Reading.{Piece, is_whitespace, macro_of, quoted, called, items, inner, object};
-ghost use Rattle.prevalence_store.specs.ReadingResults.{Gives, piece_of};
+ghost use Rattle.prevalence_store.specs.ReaderAnswers.{Gives, piece_of};
 
 use crate::reading::fault::ReadError;
 use crate::reading::limits::Limits;

@@ -2,7 +2,7 @@
 ghost use Rattle.std.specs.Prelude.{◌≡◌, ◌+◌, ◌≤◌, ◌<◌, ◌^◌, ℕ, length, drop, get_or, true, false, IfOk, IsTrue};
 ghost use Rattle.prevalence_store.specs.declared.reading.limits.Limits.{Limits};
 ghost use Rattle.prevalence_store.specs.Reading.{is_whitespace, space_at, reads_at, reads};
-ghost use Rattle.prevalence_store.specs.ReadingResults.{reading_of, IsPlaced, IsProperForm};
+ghost use Rattle.prevalence_store.specs.ReaderAnswers.{reading_of, IsPlaced, IsProperForm};
 
 use crate::reading::fault::ReadError;
 use crate::reading::limits::Limits;

@@ -6,7 +6,7 @@ ghost use Rattle.readtable_core.specs.Characters.{traits};
 ghost use Rattle.prevalence_store.specs.Parses.{Read, fault, within};
 ghost use Rattle.prevalence_store.specs.Tokens.{one_more, plain, token};
 ghost use Rattle.prevalence_store.specs.Reading.{Piece};
-ghost use Rattle.prevalence_store.specs.ReadingResults.{Fails, Gives, Passes, Feeds, IsAsciiIfTaken, token_of};
+ghost use Rattle.prevalence_store.specs.ReaderAnswers.{Fails, Gives, Passes, Feeds, IsAsciiIfTaken, token_of};
 
 use crate::reading::fault::ReadError;
 use crate::reading::limits::Limits;

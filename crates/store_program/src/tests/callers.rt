@@ -1,7 +1,7 @@
 //! Callers over any disk, by the clauses of the store's public calls alone.
-ghost use Rattle.std.specs.Prelude.{◌≡◌, ◌⊎◌, ◌<◌, ◌-◌, ◌^◌, ◌++◌, ℕ, List, Some, Ok, IfSome, IfOk, length};
+ghost use Rattle.std.specs.Prelude.{◌≡◌, ◌<◌, ◌-◌, ◌^◌, [], ◌∷◌, ◌++◌, ℕ, List, Some, Ok, IfSome, IfOk, length};
 ghost use Rattle.disk_trait.specs.Disk.{IsHonest};
-ghost use Rattle.prevalence_store.specs.Acceptance.{Acceptance, accepts};
+ghost use Rattle.prevalence_store.specs.Acceptance.{Acceptance, accepts, logged};
 ghost use Rattle.prevalence_store.specs.Output.{Progress, after_forms};
 ghost use Rattle.prevalence_store.specs.Streams.{Writes};
 ghost use Rattle.prevalence_store.specs.Theorem.{IsAfterSome, Keeps};
@@ -9,7 +9,7 @@ ghost use Rattle.prevalence_store.specs.World.{World as LispWorld};
 
 use super::{AMPLE, Trouble, fresh_session};
 use disk_trait::{Crash, Disk, MemoryDisk};
-use prevalence_store::{Ending, Mode, Outcome, Store, Unopened};
+use prevalence_store::{Ending, Mode, Outcome, Store, Unopened, headline};
 use std::alloc::Global;
 use std::io::{Read, Write};
 use std::test::Fail;
@@ -19,8 +19,8 @@ type Again<D> = (D, Result<Store<D>, Unopened<D>>);
 
 /// Opens a disk, executes two forms, closes it, and opens another disk. `None` where it is not opened or a form is refused.
 ///
-/// Where the other disk reads as a crash may leave the first one, at any moment since the start, its store has the world before
-/// the forms, after the first one or after both; and where the crash comes after the close, the world after both.
+/// Both forms were accepted. Where the other disk reads as a crash may leave the first one, at any moment since the start, its
+/// store has the world after some of them, from the first on; and where the crash comes after the close, after both.
 fn two_forms<D: Disk + Drop>(
     alloc: Global,
     disk: D,
@@ -30,16 +30,16 @@ fn two_forms<D: Disk + Drop>(
 ) -> Option<Again<D>>
     requires room { (D.state disk).failures < 2 ^ 64 - 1 }
     requires room_again { (D.state crashed).failures < 2 ^ 64 - 1 }
-    ensures acknowledged { IfSome result (λ two. (w : LispWorld) (one both : Acceptance)
+    ensures found { IfSome result (λ two. (w : LispWorld)
         → IsHonest (D.state disk) → Keeps (D.state disk) w → IsHonest (D.state crashed)
-        → accepts w Mode.Current first.now ≡ Ok one → accepts one.world Mode.Current second.now ≡ Ok both
-        → (D.state two.0).may_leave (D.state crashed).reads
-        → IfOk two.1 (λ store. store.world ≡ Some both.world)) }
-    ensures any_moment { IfSome result (λ two. (w : LispWorld) (one both : Acceptance)
-        → IsHonest (D.state disk) → Keeps (D.state disk) w → IsHonest (D.state crashed)
-        → accepts w Mode.Current first.now ≡ Ok one → accepts one.world Mode.Current second.now ≡ Ok both
-        → (D.state two.0).left_since (D.state disk).moment (D.state crashed).reads
-        → IfOk two.1 (λ store. (store.world ≡ Some w) ⊎ ((store.world ≡ Some one.world) ⊎ (store.world ≡ Some both.world)))) }
+        → (one : Acceptance) × (both : Acceptance)
+        × (accepts w Mode.Current first.now ≡ Ok one) × (accepts one.world Mode.Current second.now ≡ Ok both)
+        × ((D.state two.0).left_since (D.state disk).moment (D.state crashed).reads
+        → IfOk two.1 (λ store. (now : LispWorld) × (store.world ≡ Some now)
+        × IsAfterSome w (logged Mode.Current one.text ∷ logged Mode.Current both.text ∷ []) 0 now))
+        × ((D.state two.0).left_since (D.state two.0).moment (D.state crashed).reads
+        → IfOk two.1 (λ store. (now : LispWorld) × (store.world ≡ Some now)
+        × IsAfterSome w (logged Mode.Current one.text ∷ logged Mode.Current both.text ∷ []) 2 now))) }
 {
     let Ok(mut store) = Store::open(alloc, disk, AMPLE) else {
         return None;
@@ -53,6 +53,7 @@ fn two_forms<D: Disk + Drop>(
         return None;
     };
     let closed = store.close();
+    headline::<D>();
     Some((closed, Store::open(alloc, crashed, AMPLE)))
 }
 

@@ -3,7 +3,8 @@
 use super::{AMPLE, Trouble, bytes_of, opened};
 use disk_trait::{Disk, FuseDisk, Half, MemoryDisk};
 use lisp_object::Datum;
-use prevalence_store::{Ending, Mode, Outcome, Property, Store, Symbol, World, refusal_name};
+use lisp_object::refusal::name_of;
+use prevalence_store::{Ending, Mode, Outcome, Property, Store, Symbol, World};
 use std::alloc::{AllocError, Global};
 use std::test::Fail;
 
@@ -45,8 +46,8 @@ fn a_symbol_is_told_by_its_names(rt: HostRuntime) -> Result<(), Fail> {
     let copied = symbol.copy(rt.alloc())?;
     assert_eq!(rt; copied.home(), b"COMMON-LISP".as_slice());
     assert_eq!(rt; copied.name(), b"GET".as_slice());
-    assert_eq!(rt; refusal_name(64), "LOG-FULL");
-    assert_eq!(rt; refusal_name(47), "");
+    assert_eq!(rt; name_of(64), "LOG-FULL");
+    assert_eq!(rt; name_of(47), "");
     Ok(())
 }
 

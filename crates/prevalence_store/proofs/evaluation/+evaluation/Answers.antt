@@ -6,7 +6,7 @@ use Rattle.lisp_object.specs.declared.datum.Datum.TheViews.{sized-List, the_lemm
 use Rattle.lisp_object.proofs.datum.Datum.TheLaws.{the_size}
 use Rattle.lisp_object.specs.Datum.{object_of, is_proper}
 use Rattle.prevalence_store.specs.Evaluation.{value, place_values, get}
-use Rattle.prevalence_store.specs.Evaluated.{arguments_of}
+use Rattle.prevalence_store.specs.EvaluatorAnswers.{arguments_of}
 use Rattle.prevalence_store.proofs.ProperLists.{items_of_proper}
 use Rattle.prevalence_store.proofs.EvaluationSteps.{value_other, value_quote, value_get, value_setf, value_unknown, place_other}
 use Rattle.prevalence_store.proofs.EvaluationAnswers.{answers_same, answers_next, by_operator, own_value, no_place, two_first, two_second, two_last, third_refused, get_form_two, get_form_three, setf_form, place_form, get_count, setf_count, place_wrong_count, proper_arguments, variable_refused, constant_itself, uninterned_refused, value_dotted_list, place_dotted_list}

@@ -1,6 +1,6 @@
 use Rattle.std.proofs.Common.{sym, subst}
 use Rattle.disk_trait.specs.Disk.{Image}
-use Rattle.prevalence_store.specs.Meaning.{Means}
+use Rattle.prevalence_store.specs.Meaning.{MeansWorld}
 use Rattle.prevalence_store.specs.Opening.{IsNoWord, limit_of}
 use Rattle.prevalence_store.proofs.Joining.{headline_holds}
 use Rattle.prevalence_store.proofs.laws.headline.Goals as goal
@@ -13,4 +13,4 @@ returns-clause-refused g c = λ start world earlier later image crashed back lim
     let all = headline_holds g.D.Disk.state g.met.D.Disk.sound start world earlier later honest keeps run in
     let some = all.any_moment image might in
     subst (λ (i : Image). IsNoWord (limit_of limit) i refused.fault) reads
-    (refused.meant some.left still (subst (λ (i : Image). Means i some.left) (sym reads) some.meant))
+    (refused.meant some.left still (subst (λ (i : Image). MeansWorld i some.left) (sym reads) some.meant))

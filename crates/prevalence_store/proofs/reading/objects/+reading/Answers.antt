@@ -3,7 +3,7 @@ use Rattle.std.proofs.lemmas.Result.{err_from_is_err_and}
 use Rattle.std.proofs.lemmas.List.{map_push}
 use Rattle.lisp_object.specs.Datum.{object_of}
 use Rattle.prevalence_store.specs.Reading.{items, object}
-use Rattle.prevalence_store.specs.ReadingResults.{piece_of}
+use Rattle.prevalence_store.specs.ReaderAnswers.{piece_of}
 use Rattle.prevalence_store.proofs.Reader.Lists.{left_closed, left_closed_long, left_blank, left_blank_long, left_item, left_fails, left_out, object_takes, proper_more}
 use Rattle.prevalence_store.proofs.reading.objects.+reading.Goals as goal
 

@@ -1,6 +1,6 @@
 use Rattle.std.proofs.Common.{◌<◌, Ok, Err, length, ap, sym, ◌∙◌, arith}
 use Rattle.std.proofs.lemmas.List.{length-drop}
-use Rattle.prevalence_store.specs.ReadingResults.{piece_of}
+use Rattle.prevalence_store.specs.ReaderAnswers.{piece_of}
 use Rattle.prevalence_store.proofs.Reader.Outermost.{text_at, text_is, reads_out, reads_object, form_takes, fault_within}
 use Rattle.prevalence_store.proofs.reading.outermost.read_one.Goals as goal
 

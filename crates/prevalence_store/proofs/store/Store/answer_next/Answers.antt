@@ -1,5 +1,5 @@
 use Rattle.std.proofs.Common.{refl, sym, ap, ◌∙◌}
-use Rattle.prevalence_store.specs.ReadingResults.{reading_of}
+use Rattle.prevalence_store.specs.ReaderAnswers.{reading_of}
 use Rattle.prevalence_store.proofs.Executing.{read_as}
 use Rattle.prevalence_store.proofs.Turning.{done, fault_answered, fault_goes_on, no_memory}
 use Rattle.prevalence_store.proofs.store.Store.answer_next.Goals as goal

@@ -1,4 +1,4 @@
-use Rattle.std.proofs.Common.{[], refl, sym, ◌∙◌, append-nil}
+use Rattle.std.proofs.Common.{[], sym, ◌∙◌, append-nil}
 use Rattle.prevalence_store.proofs.Turning.{has_read, no_memory_read, nothing_read}
 use Rattle.prevalence_store.proofs.store.Store.serve.Goals as goal
 
