@@ -1,0 +1,11 @@
+pub mod Marked
+pub mod Characters
+pub mod Spelling
+pub mod Numbers
+pub mod Names
+pub mod Sizes
+pub mod Atoms
+pub mod Others
+pub mod Begun
+pub mod Lists
+pub mod Whole
