@@ -4,6 +4,7 @@ pub mod Spelling
 pub mod Numbers
 pub mod Names
 pub mod Sizes
+pub mod Ascii
 pub mod Atoms
 pub mod Others
 pub mod Begun

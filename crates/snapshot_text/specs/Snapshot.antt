@@ -9,13 +9,15 @@ use Rattle.lisp_object.specs.Object.{Object, integer, text, symbol, pair, list_o
 use Rattle.readtable_core.specs.Characters.{syntax_number}
 use Rattle.readtable_core.specs.Cases.{case_name}
 use Rattle.readtable_core.specs.Named.{same_entry}
-use Rattle.readtable_core.specs.Names.{is_among}
 use Rattle.readtable_core.specs.Tables as readtable
 use Rattle.readtable_core.specs.Tables.{Entry, entry_at, standard}
-use Rattle.package_table.specs.Table.{Name, Table, common_lisp, common_lisp_user, keyword, keyword_names}
+use Rattle.package_table.specs.Table.{Name, Table, common_lisp, common_lisp_user, keyword, initial as initial_packages}
+use Rattle.package_table.specs.Lookup.{is_present}
 use Rattle.package_table.specs.Readers.{package_names, used_names, own_names, external_names, imports}
-use Rattle.plist_state.specs.Properties.{Symbol, Plist, Properties}
-use Rattle.plist_state.specs.State.{Readtables, State, standard_name}
+use Rattle.plist_state.specs.Properties.{Symbol, Plist}
+use Rattle.plist_state.specs.State.{State, standard_name}
+use Rattle.plist_state.specs.Changes.{plist}
+use Rattle.plist_state.specs.Readers.{readtable_names, symbols_with_properties}
 use Rattle.canon_printer.specs.Printed.{printed}
 
 abbrev pub texts : List Name → Object
@@ -23,9 +25,9 @@ texts names = list_of (map (λ n. text n) names)
 
 -- ---- packages: all but COMMON-LISP, which never changes
 
--- the names at home in a package; of KEYWORD those that are not there from the first
+-- the names at home in a package that are not there from the first, as 22 of KEYWORD are
 abbrev pub made_names : Table → Name → List Name
-made_names t p = if bytes_eq p keyword then filter (λ n. not (is_among keyword_names n)) (own_names t p) else own_names t p
+made_names t p = filter (λ n. not (is_present initial_packages p n)) (own_names t p)
 
 -- the names external in a package; none of KEYWORD, where all are
 abbrev pub shown_names : Table → Name → List Name
@@ -49,11 +51,11 @@ abbrev pub symbol_object : Symbol → Object
 symbol_object x = symbol x.0 x.1
 
 -- a symbol, and its indicators and values in turn
-abbrev pub plist_object : Symbol × Plist → Object
-plist_object r = pair (symbol_object r.0) (list_of (flat_map (λ p. symbol_object p.0 ∷ p.1 ∷ []) r.1))
+abbrev pub plist_object : Symbol → Plist → Object
+plist_object x ps = pair (symbol_object x) (list_of (flat_map (λ p. symbol_object p.0 ∷ p.1 ∷ []) ps))
 
-abbrev pub properties_object : Properties → Object
-properties_object m = list_of (map plist_object (finite.entries m))
+abbrev pub properties_object : State → Object
+properties_object s = list_of (map (λ x. plist_object x (plist s x)) (symbols_with_properties s))
 
 -- ---- readtables: all but STANDARD, which never changes
 
@@ -79,15 +81,20 @@ abbrev pub entry_objects : readtable.Table → List Object
 entry_objects table =
     map (λ c. entry_object c (entry_at table c)) (filter (λ c. not (same_entry (entry_at table c) (entry_at standard c))) (range_with_len 0 128))
 
-abbrev pub readtable_object : Name × readtable.Table → Object
-readtable_object r = list_of (text r.0 ∷ text (case_name r.1.letters) ∷ list_of (entry_objects r.1) ∷ [])
+abbrev pub readtable_object : Name → readtable.Table → Object
+readtable_object name table = list_of (text name ∷ text (case_name table.letters) ∷ list_of (entry_objects table) ∷ [])
 
-abbrev pub readtables_object : Readtables → Object
-readtables_object m = list_of (map readtable_object (filter (λ r. not (bytes_eq r.0 standard_name)) (finite.entries m)))
+-- the readtable of this name
+abbrev pub table_named : State → Name → readtable.Table
+table_named s n = unwrap_or (finite.get s.readtables n) standard
+
+abbrev pub readtables_object : State → Object
+readtables_object s =
+    list_of (map (λ n. readtable_object n (table_named s n)) (filter (λ n. not (bytes_eq n standard_name)) (readtable_names s)))
 
 -- the current package and readtable, and the readtables
 abbrev pub tables_object : State → Object
-tables_object s = list_of (text s.current_package ∷ text s.current_readtable ∷ readtables_object s.readtables ∷ [])
+tables_object s = list_of (text s.current_package ∷ text s.current_readtable ∷ readtables_object s ∷ [])
 
 -- ---- the text
 
@@ -96,4 +103,4 @@ line packages x = printed packages common_lisp_user x ++ 10 ∷ []
 
 -- the text of a state
 abbrev pub snapshot : State → List ℕ
-snapshot s = line s.packages (packages_object s.packages) ++ line s.packages (properties_object s.properties) ++ line s.packages (tables_object s)
+snapshot s = line s.packages (packages_object s.packages) ++ line s.packages (properties_object s) ++ line s.packages (tables_object s)

@@ -5,5 +5,9 @@
 #![tactic(auto)]
 
 mod laws;
+mod package_rows;
+mod property_rows;
+mod readtable_rows;
+mod texts;
 
 pub use laws::printed_objects_read_back;
