@@ -1,0 +1,12 @@
+pub mod Marked
+pub mod Characters
+pub mod Spelling
+pub mod Numbers
+pub mod Names
+pub mod Sizes
+pub mod Ascii
+pub mod Atoms
+pub mod Others
+pub mod Begun
+pub mod Lists
+pub mod Whole

@@ -1,0 +1,32 @@
+//! Laws of printing and reading, as the contracts of functions that do nothing.
+ghost use Rattle.std.specs.Prelude.{◌≡◌, ◌≤◌, ◌<◌, ◌+◌, ◌++◌, ℕ, List, Option, length, IsTrue};
+ghost use Rattle.lisp_object.specs.Object.{Object, IsSound as IsSoundObject, object_depth};
+ghost use Rattle.readtable_core.specs.Tables.{standard};
+ghost use Rattle.token_scan.specs.Spelling.{may_end};
+ghost use Rattle.token_scan.specs.Tokens.{typed_text};
+ghost use Rattle.user_macros.specs.declared.call.Gather.{Gather};
+ghost use Rattle.user_macros.specs.Calls.{MacroCall, MacroAnswer};
+ghost use Rattle.package_table.specs.Table.{Name, Table as Packages, IsSound};
+ghost use Rattle.canon_printer.specs.Printed.{printed};
+ghost use Rattle.canon_printer.specs.Symbols.{HasAllSymbols};
+ghost use Rattle.form_reader.specs.declared.limits.Limits.{Limits};
+ghost use Rattle.form_reader.specs.Setting.{setting_of};
+ghost use Rattle.form_reader.specs.Reading.{form, space_at, reads};
+ghost use Rattle.snapshot_text.specs.Tokens.{AreTokensWithin, ends_with_token};
+
+/// The printed text of an object is read back (standard 22.1.3): with sound packages that have its symbols, under the
+/// standard readtable and in the same current package, before the end of the input or a character that ends a token. What is
+/// read is the object, from the first byte of the text to its last, where its nesting, its text and its tokens are within
+/// the limits, whatever functions are registered. Where the text ends with a token, one whitespace character after it is
+/// discarded with it.
+pub fn printed_objects_read_back()
+    ensures { (limits : Limits) (packages : Packages) (current : Name) (registered : List (List ℕ))
+        (way : List ℕ → Option Gather) (answer : List ℕ → MacroCall → MacroAnswer) (x : Object) (rest : List ℕ)
+        → IsSound packages → IsSoundObject x → HasAllSymbols packages x
+        → object_depth x ≤ limits.nesting → length (printed packages current x) ≤ limits.text
+        → 0 < limits.token → AreTokensWithin packages current limits.token x
+        → IsTrue (may_end (typed_text standard rest))
+        → reads (setting_of limits standard packages current registered way answer) (printed packages current x ++ rest)
+        ≡ form x 0 (length (printed packages current x))
+        (length (printed packages current x) + space_at standard (ends_with_token x) rest) }
+{}
