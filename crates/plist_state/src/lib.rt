@@ -8,18 +8,19 @@
 //! `OutOfMemory` comes only where the definition refuses nothing.
 //!
 //! `World::mark` adds the state to the marked ones, `back_to` goes back to one, and `settle` forgets them all; every other
-//! call leaves the list as it is. The packages note what changes under a mark. Of the rest a mark keeps a copy (`copy`), which
-//! `back_to` moves back. A journal can take the place of the copies and change no clause: each change of a row tells what it
-//! overwrote, `rows::take_back` takes it back, and needs no memory, since a row that was emptied stays.
+//! call leaves the list as it is. A mark copies nothing. Each call that writes makes room for a note first, then moves what it
+//! overwrites into the note (`Note`), and notes it under the newest mark (`journal`); `back_to` undoes the notes, the last first
+//! (`undo`), and takes no memory: a row that was emptied stays, with its memory, and the journal's invariant (`IsJournal`
+//! of specs/Journal.antt) says that each row has memory for what is put back. The packages have a journal of their own.
 //!
 //! - `world`: `World`, and what is asked of it
 //! - `readers`: the lists that it gives
 //! - `properties`, `packages`, `readtables`: the calls that write
-//! - `marks`: `mark`, `mark_count`, `back_to`, `settle`, over `copy`
+//! - `marks`: `mark`, `mark_count`, `back_to`, `settle`, over `journal` (notes under marks) and `undo` (notes undone)
+//! - `note`: what is noted of a change
 //! - `symbol`, `property`: `Symbol`, `Property`
 //! - `error`: `ReadtableError`
-//! - `stored`: what a world keeps besides its packages, over `rows` (property lists), `undo` (how a change of one is told)
-//!   and `tables` (readtables by name)
+//! - `stored`: what a world keeps besides its packages, over `rows` (property lists) and `tables` (readtables by name)
 //!
 //! Proofs of crates above may cite these lemmas; they keep their names. On soundness (proofs/Soundness.antt):
 //! `sound_packages`, `sound_put`, `sound_removed`, `sound_in_package`, `sound_in_readtable`, `sound_table`, `symbol_from`. On
@@ -51,5 +52,7 @@ pub use symbol::Symbol;
 pub use tables::{MAX_READTABLES, STANDARD, USER};
 pub use world::World;
 
+#[cfg(test)]
+mod mark_tests;
 #[cfg(test)]
 mod tests;

@@ -9,7 +9,7 @@ use std::test::Fail;
 
 // A call on readtables by their names.
 #[derive(Clone, Copy)]
-enum Call<'a> {
+pub(crate) enum Call<'a> {
     Use(&'a [u8]),
     Case(&'a [u8]),
     Macro(&'a [u8], u8, &'a [u8]),
@@ -89,7 +89,7 @@ fn make_dispatch(world: &mut World, name: &[u8], c: u8) -> Option<Result<(), Rea
 }
 
 // Does the call, where what it asks for holds.
-fn answer(world: &mut World, call: Call<'_>) -> Option<Result<(), ReadtableError>> {
+pub(crate) fn answer(world: &mut World, call: Call<'_>) -> Option<Result<(), ReadtableError>> {
     match call {
         Call::Use(name) => Some(world.set_current_readtable(name)),
         Call::Case(name) => Some(world.set_case(name, Case::Invert)),
@@ -140,7 +140,12 @@ fn readtables(rt: HostRuntime) -> Result<(), Fail> {
 }
 
 // Sets a property to a number, where both symbols are there.
-fn put(world: &mut World, symbol: &Symbol, indicator: Symbol, number: i128) -> Option<()> {
+pub(crate) fn put(
+    world: &mut World,
+    symbol: &Symbol,
+    indicator: Symbol,
+    number: i128,
+) -> Option<()> {
     let there = world.packages().is_symbol(symbol.home(), symbol.name());
     let known = world
         .packages()
@@ -151,7 +156,7 @@ fn put(world: &mut World, symbol: &Symbol, indicator: Symbol, number: i128) -> O
     world.put(symbol, indicator, Datum::Integer(number)).ok()
 }
 
-fn remove(world: &mut World, symbol: &Symbol, indicator: &Symbol) -> Option<bool> {
+pub(crate) fn remove(world: &mut World, symbol: &Symbol, indicator: &Symbol) -> Option<bool> {
     if !world.packages().is_symbol(symbol.home(), symbol.name()) {
         return None;
     }
@@ -214,91 +219,5 @@ fn packages(rt: HostRuntime) -> Result<(), Fail> {
         world.set_current_package(b"P") == Ok(()) && world.current_package() == b"P".as_slice()
     );
     assert!(rt; world.make(b"CL") == Err(PackageError::PackageExists));
-    Ok(())
-}
-
-// A change; each makes one of the facts true that hold of no world before it.
-#[derive(Clone, Copy)]
-enum Step {
-    Put,
-    Intern,
-    Make,
-    Copy,
-    Case,
-    Use,
-    Remove,
-}
-
-const STEPS: [Step; 7] = [
-    Step::Put,
-    Step::Intern,
-    Step::Make,
-    Step::Copy,
-    Step::Case,
-    Step::Use,
-    Step::Remove,
-];
-
-fn carry_out(world: &mut World, alloc: Global, step: Step) -> Option<()> {
-    let list = Symbol::from_bytes(alloc, COMMON_LISP, b"LIST").ok()?;
-    let get = Symbol::from_bytes(alloc, COMMON_LISP, b"GET").ok()?;
-    match step {
-        Step::Put => put(world, &list, get, 3),
-        Step::Intern => world.intern(COMMON_LISP_USER, b"X").ok().map(|_| ()),
-        Step::Make => world.make(b"P").ok(),
-        Step::Copy => copy(world, STANDARD, b"UPCASE")?.ok(),
-        Step::Case => world.set_case(b"UPCASE", Case::Invert).ok(),
-        Step::Use => world.set_current_package(b"P").ok(),
-        Step::Remove => remove(world, &get, &list).map(|_| ()),
-    }
-}
-
-// Which of the facts hold.
-fn facts(world: &World, alloc: Global) -> Option<[bool; 7]> {
-    let list = Symbol::from_bytes(alloc, COMMON_LISP, b"LIST").ok()?;
-    let get = Symbol::from_bytes(alloc, COMMON_LISP, b"GET").ok()?;
-    let copied = world.readtable(b"UPCASE");
-    Some([
-        is_number(world.get(&list, &get), 3),
-        world.packages().is_symbol(COMMON_LISP_USER, b"X"),
-        world.packages().has_package(b"P"),
-        copied.is_some(),
-        copied.is_some_and(|table| matches!(table.case(), Case::Invert)),
-        world.current_package() == b"P".as_slice(),
-        world.get(&get, &list).is_none(),
-    ])
-}
-
-fn back_to(world: &mut World, mark: usize) -> Option<()> {
-    if mark >= world.mark_count() {
-        return None;
-    }
-    world.back_to(mark);
-    Some(())
-}
-
-#[test]
-fn marks(rt: HostRuntime) -> Result<(), Fail> {
-    let alloc = rt.alloc();
-    let mut world = World::new(alloc)?;
-    let list = Symbol::from_bytes(alloc, COMMON_LISP, b"LIST")?;
-    let get = Symbol::from_bytes(alloc, COMMON_LISP, b"GET")?;
-    assert!(rt; put(&mut world, &list, get.copy(alloc)?, 1).is_some());
-    assert!(rt; put(&mut world, &get, list.copy(alloc)?, 2).is_some());
-    for (place, change) in STEPS.into_iter().enumerate() {
-        assert!(rt; world.mark()? == place && carry_out(&mut world, alloc, change).is_some());
-    }
-    assert!(rt; facts(&world, alloc) == Some([true; 7]));
-    for place in [4, 0] {
-        assert!(rt; back_to(&mut world, place).is_some() && world.mark_count() == place);
-        let mut expected = [false; 7];
-        expected[..place].fill(true);
-        assert!(rt; facts(&world, alloc) == Some(expected));
-    }
-    assert!(rt; is_number(world.get(&list, &get), 1) && is_number(world.get(&get, &list), 2));
-    assert!(rt; world.mark()? == 0 && carry_out(&mut world, alloc, Step::Put).is_some());
-    world.settle();
-    assert!(rt; world.mark_count() == 0 && is_number(world.get(&list, &get), 3));
-    assert!(rt; world.mark()? == 0);
     Ok(())
 }
