@@ -1,22 +1,21 @@
 -- The names of sound packages are of characters.
-use Rattle.std.proofs.Common.{◌≡◌, ℕ, suc, ◌<◌, ◌+◌, Bool, true, false, T, not, ◌&&◌, ◌||◌, List, [], ◌∷◌, map, filter, Option, Some, None, IsTrue, is_some, refl, sym, ap, subst, ◌∙◌, arith}
+use Rattle.std.proofs.Common.{◌≡◌, ℕ, suc, ◌<◌, Bool, true, false, T, not, ◌&&◌, List, [], ◌∷◌, map, filter, Some, None, IsTrue, refl, sym, ap, ◌∙◌, arith}
 use Rattle.std.specs.Prelude.{All, cond, option_map, option_and_then, if◌then◌else◌}
 use Rattle.std.specs.List.{list_all, list_any}
 use Rattle.std.specs.Option.{option_map_or}
 use Rattle.std.specs.Str.{bytes_eq}
-use Rattle.std.specs.declared.cmp.Ordering.{Ordering}
 use Rattle.std.specs.declared.cmp.Ordering.TheVariants.{Less, Equal, Greater}
 use Rattle.std.specs.Ordering.{eq_by_cmp, is_eq, is_lt}
 use Rattle.std.specs.FinMap as finite
 use Rattle.std.specs.FinMap.{contains_key-keys, get-entries, entries_sorted, find, is_sorted}
 use Rattle.std.specs.FinMap.Entries.{below_all}
-use Rattle.std.proofs.lemmas.Bool.{lt-ltb, or_left, or_right, and_from, and_parts, both_ways}
+use Rattle.std.proofs.lemmas.Bool.{lt-ltb, or_left, or_right, and_from, and_parts}
 use Rattle.lisp_object.specs.Ascii.{is_ascii}
-use Rattle.package_table.specs.Table.{Name, Table, Package, Entry, name_cmp, IsSound, IsPackage, IsPresent, Uses, entry_at, keyword, common_lisp}
+use Rattle.package_table.specs.Table.{Name, Table, Package, Entry, name_cmp, IsSound, IsPackage, IsPresent, keyword}
 use Rattle.package_table.specs.Table.{initial}
 use Rattle.package_table.specs.Lookup.{is_present}
-use Rattle.package_table.specs.Readers.{package_names, used_names, present, own_names, own_among, external_names, external_among, imports, imported_among}
-use Rattle.package_table.proofs.Names.{name_total, tied_same, same_tied, none_some}
+use Rattle.package_table.specs.Readers.{package_names, used_names, present, own_names, external_names, imports}
+use Rattle.package_table.proofs.Names.{tied_same, same_tied, none_some}
 use Rattle.canon_printer.proofs.Resolved.{home_there}
 use Rattle.snapshot_text.specs.Snapshot.{made_names, shown_names}
 
@@ -48,7 +47,7 @@ module _ {X : Type 0} where
   below_none k (e ∷ es) h =
       let both = and_parts (is_lt (name_cmp k e.0)) (below_all name_cmp k es) h in
       let apart : eq_by_cmp name_cmp k e.0 ≡ false =
-          elim (name_cmp k e.0) as (λ o. is_lt o ≡ true → is_eq o ≡ false) [ Less ↦ λ _. refl | Equal ↦ λ f. absurd cc | Greater ↦ λ _. refl ] both.0 in
+      elim (name_cmp k e.0) as (λ o. is_lt o ≡ true → is_eq o ≡ false) [ Less ↦ λ _. refl | Equal ↦ λ f. absurd cc | Greater ↦ λ _. refl ] both.0 in
       ap (λ b. cond b (Some e.1) (find name_cmp k es)) apart ∙ below_none k es both.1
 
   entries_pass_in : (es : List (Name × X)) (P : Name × X → Bool) → is_sorted name_cmp es ≡ true → ((n : Name) (x : X) → find name_cmp n es ≡ Some x → P (n, x) ≡ true) → list_all P es ≡ true
@@ -56,10 +55,10 @@ module _ {X : Type 0} where
   entries_pass_in (e ∷ es) P sorted h =
       let both = and_parts (below_all name_cmp e.0 es) (is_sorted name_cmp es) sorted in
       let later : (n : Name) (x : X) → find name_cmp n es ≡ Some x → find name_cmp n (e ∷ es) ≡ Some x = λ n x f.
-          elim (eq_by_cmp name_cmp n e.0) as (λ b. eq_by_cmp name_cmp n e.0 ≡ b → cond b (Some e.1) (find name_cmp n es) ≡ Some x) [
-            | true ↦ λ t. absurd (none_some x (sym (below_none e.0 es both.0) ∙ ap (λ (k : Name). find name_cmp k es) (sym (tied_same n e.0 t)) ∙ f))
-            | false ↦ λ _. f
-          ] refl in
+      elim (eq_by_cmp name_cmp n e.0) as (λ b. eq_by_cmp name_cmp n e.0 ≡ b → cond b (Some e.1) (find name_cmp n es) ≡ Some x) [
+        | true ↦ λ t. absurd (none_some x (sym (below_none e.0 es both.0) ∙ ap (λ (k : Name). find name_cmp k es) (sym (tied_same n e.0 t)) ∙ f))
+        | false ↦ λ _. f
+      ] refl in
       and_from (P e) (list_all P es) (h e.0 e.1 (ap (λ b. cond b (Some e.1) (find name_cmp e.0 es)) (same_tied e.0)))
       (entries_pass_in es P both.1 (λ n x f. h n x (later n x f)))
 

@@ -1,13 +1,17 @@
-//! Snapshots as text: the law that printed text is read back.
+//! Snapshots as text.
 //!
-//! `laws` has `printed_objects_read_back`: the printed text of an object is read, under the standard readtable and in the same
-//! packages, as the same object. What is asked of the tokens in the text, specs/Tokens.antt says.
+//! `printed_objects_read_back` is the law that printed text is read back: the printed text of an object is read, under the
+//! standard readtable and in the same packages, as the same object. What is asked of the tokens in the text, specs/Tokens.antt
+//! says. `snapshot` of specs/Snapshot.antt is the text of a snapshot. The rows of packages and of property lists are made here,
+//! each proved; no public call writes a snapshot or reads one yet.
+//!
+//! - `laws`: `printed_objects_read_back`
+//! - `texts`: lists of texts; `package_rows`, `property_rows`: packages and property lists, as data
 #![tactic(auto)]
 
 mod laws;
 mod package_rows;
 mod property_rows;
-mod readtable_rows;
 mod texts;
 
 pub use laws::printed_objects_read_back;

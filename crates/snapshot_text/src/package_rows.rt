@@ -25,7 +25,12 @@ fn listed<T>(list: Result<T, PackageError>) -> Result<T, AllocError>
 }
 
 // The names at home in a package that are not in the first packages.
-fn made(alloc: Global, packages: &Packages, first: &Packages, owner: &[u8]) -> Result<Items<Bytes>, AllocError>
+fn made(
+    alloc: Global,
+    packages: &Packages,
+    first: &Packages,
+    owner: &[u8],
+) -> Result<Items<Bytes>, AllocError>
     ensures { IfOk result (λ names. names
         ≡ filter (λ n. not (is_present first.now.0 owner.now n)) (own_names packages.now.0 owner.now)) }
 {
@@ -63,7 +68,12 @@ fn used_of(alloc: Global, packages: &Packages, owner: &[u8]) -> Result<Datum, Al
 
 // The names made at home in a package.
 
-fn made_of(alloc: Global, packages: &Packages, first: &Packages, owner: &[u8]) -> Result<Datum, AllocError>
+fn made_of(
+    alloc: Global,
+    packages: &Packages,
+    first: &Packages,
+    owner: &[u8],
+) -> Result<Datum, AllocError>
     requires { first.now.0 ≡ initial_packages }
     ensures object { IfOk result (λ d. object_of d ≡ texts (made_names packages.now.0 owner.now)) }
     ensures proper { IfOk result (λ d. is_proper d ≡ true) }
@@ -96,7 +106,12 @@ fn imported_of(alloc: Global, packages: &Packages, owner: &[u8]) -> Result<Datum
 }
 
 // A package: its name, the packages that it uses, its own names, its external ones and its imports.
-fn package_of(alloc: Global, packages: &Packages, first: &Packages, owner: &[u8]) -> Result<Datum, AllocError>
+fn package_of(
+    alloc: Global,
+    packages: &Packages,
+    first: &Packages,
+    owner: &[u8],
+) -> Result<Datum, AllocError>
     requires { first.now.0 ≡ initial_packages }
     ensures object { IfOk result (λ d. object_of d ≡ package_object packages.now.0 owner.now) }
     ensures proper { IfOk result (λ d. is_proper d ≡ true) }

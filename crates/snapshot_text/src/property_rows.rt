@@ -21,7 +21,11 @@ fn symbol_datum(alloc: Global, symbol: &Symbol) -> Result<Datum, AllocError>
 }
 
 // A symbol, and its indicators and values in turn.
-pub(crate) fn plist_of(alloc: Global, symbol: &Symbol, properties: &[Property]) -> Result<Datum, AllocError>
+pub(crate) fn plist_of(
+    alloc: Global,
+    symbol: &Symbol,
+    properties: &[Property],
+) -> Result<Datum, AllocError>
     ensures object { IfOk result
         (λ d. object_of d ≡ plist_object (symbol_of symbol.now) (map property_of properties.now)) }
     ensures proper { list_all is_ascii (symbol_of symbol.now).0 && list_all is_ascii (symbol_of symbol.now).1 ≡ true

@@ -17,7 +17,12 @@ pub(crate) fn text_of(alloc: Global, bytes: &[u8]) -> Result<Datum, AllocError>
 }
 
 // A list of three.
-pub(crate) fn list_of_three(alloc: Global, a: Datum, b: Datum, c: Datum) -> Result<Datum, AllocError>
+pub(crate) fn list_of_three(
+    alloc: Global,
+    a: Datum,
+    b: Datum,
+    c: Datum,
+) -> Result<Datum, AllocError>
     ensures object { IfOk result (λ d. object_of d ≡ list_of (object_of a ∷ object_of b ∷ object_of c ∷ [])) }
     ensures proper { is_proper a && (is_proper b && is_proper c) ≡ true → IfOk result (λ d. is_proper d ≡ true) }
 {

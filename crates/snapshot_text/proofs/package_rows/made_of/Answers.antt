@@ -1,4 +1,4 @@
-use Rattle.std.proofs.Common.{◌≡◌, true, IfOk, sym, subst, ap, ◌∙◌, not, filter}
+use Rattle.std.proofs.Common.{◌≡◌, true, sym, subst, ap, ◌∙◌, not, filter}
 use Rattle.package_table.specs.Lookup.{is_present}
 use Rattle.package_table.specs.Readers.{own_names}
 use Rattle.snapshot_text.specs.Snapshot.{made_names}

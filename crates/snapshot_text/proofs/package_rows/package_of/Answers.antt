@@ -1,4 +1,4 @@
-use Rattle.std.proofs.Common.{◌≡◌, refl}
+use Rattle.std.proofs.Common.{refl}
 use Rattle.snapshot_text.proofs.Ascii.{package_ascii}
 use Rattle.snapshot_text.proofs.package_rows.package_of.Goals as goal
 
