@@ -72,10 +72,6 @@ rest_code =
     (λ r. (r.properties, (r.readtables, (r.current_package, r.current_readtable))))
     (λ p. record { properties = p.0; readtables = p.1.0; current_package = p.1.1.0; current_readtable = p.1.1.1 }) (λ _. refl)
 
--- the rest now, and the former ones
-abbrev pub rests_code : Coded (Rest × List Rest)
-rests_code = coded× rest_code (coded_list rest_code)
-
 abbrev pub state_code : Coded State
 state_code =
     code_by (packages.Table × Rest) (coded× table_code rest_code)
