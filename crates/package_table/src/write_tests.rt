@@ -25,7 +25,7 @@ fn is_ascii(name: &[u8]) -> bool
     name.iter().all(|byte| *byte < 128)
 }
 
-const WRITES: [(Call<'static>, Result<bool, u16>); 47] = [
+const WRITES: [(Call<'static>, Result<bool, u16>); 55] = [
     (Call::Make(b""), Err(33)),
     (Call::Make(CL), Err(35)),
     (Call::Make(CL_USER), Err(35)),
@@ -76,6 +76,15 @@ const WRITES: [(Call<'static>, Result<bool, u16>); 47] = [
     (Call::Export(b"R", b"Q", b"X"), Ok(true)),
     (Call::Import(b"R", b"Q", b"X"), Ok(false)),
     (Call::Import(b"R", b"P", b"Y"), Ok(true)),
+    // T inherits Z of Q and uses U, so that U can't make another Z external.
+    (Call::Make(b"T"), Ok(true)),
+    (Call::Make(b"U"), Ok(true)),
+    (Call::Use(b"T", b"Q"), Ok(true)),
+    (Call::Use(b"T", b"U"), Ok(true)),
+    (Call::Intern(b"Q", b"Z"), Ok(true)),
+    (Call::Export(b"Q", b"Q", b"Z"), Ok(true)),
+    (Call::Intern(b"U", b"Z"), Ok(true)),
+    (Call::Export(b"U", b"U", b"Z"), Err(37)),
 ];
 
 // Marks that nest over each call that writes: back over one of them, over three, and forward again.

@@ -3,39 +3,12 @@ ghost use Rattle.std.specs.Prelude.{◌≡◌, ◌&&◌};
 ghost use Rattle.std.specs.List.{list_any};
 ghost use Rattle.std.specs.FinMap as finite;
 ghost use Rattle.package_table.specs.Table.{IsSound};
-ghost use Rattle.package_table.specs.Reached.{has_other, reaches, share_user, shows};
+ghost use Rattle.package_table.specs.Reached.{reaches, share_user};
 ghost use Rattle.package_table.specs.Changes.{finds_this, finds_other, user_finds_other, finds_other_than_shown};
 ghost use Rattle.package_table.specs.Kept.{package_of};
 
 use super::PackageTable;
 use super::contents::{Contents, symbol_at, uses};
-
-// Whether another symbol than that of this home is present by the name.
-fn has_other(contents: &Contents, home: &[u8], name: &[u8]) -> bool
-    ensures { result ≡ has_other home.now name.now (package_of contents.now) }
-{
-    match symbol_at(contents, name) {
-        Some(symbol) => symbol.home.as_slice() != home,
-        None => false,
-    }
-}
-
-// Whether a symbol is external by the name.
-fn shows(contents: &Contents, name: &[u8]) -> bool
-    ensures { result ≡ shows name.now (package_of contents.now) }
-{
-    match symbol_at(contents, name) {
-        Some(symbol) => symbol.external,
-        None => false,
-    }
-}
-
-// Whether a package of these contents uses both.
-fn uses_both(contents: &Contents, owner: &[u8], other: &[u8]) -> bool
-    ensures { result ≡ (finite.contains_key (package_of contents.now).uses owner.now && finite.contains_key (package_of contents.now).uses other.now) }
-{
-    uses(contents, owner) && uses(contents, other)
-}
 
 impl PackageTable {
     /// Whether `owner` finds the symbol of this home and name.
@@ -63,7 +36,7 @@ impl PackageTable {
         ensures { result ≡ share_user self.now owner.now other.now }
     {
         for (_, contents) in &self.packages {
-            if uses_both(contents, owner, other) {
+            if uses(contents, owner) && uses(contents, other) {
                 return true;
             }
         }
@@ -81,13 +54,16 @@ impl PackageTable {
     ) -> bool
         ensures { result ≡ reaches self.now owner.now home.now name.now (holder.now, package_of contents.now) }
     {
-        if !has_other(contents, home, name) {
+        let Some(symbol) = symbol_at(contents, name) else {
+            return false;
+        };
+        if symbol.home.as_slice() == home {
             return false;
         }
         if uses(contents, owner) {
             return true;
         }
-        shows(contents, name) && self.share_user(owner, holder)
+        symbol.external && self.share_user(owner, holder)
     }
 
     /// Whether a package that uses `owner` finds another symbol than that of this home by its name. The look-up of the

@@ -1,6 +1,5 @@
 //! Look-ups in the table. They take no memory.
-ghost use Rattle.std.specs.Prelude.{◌≡◌, map, bytes_eq, if◌then◌else◌, option_map, false};
-ghost use Rattle.std.specs.Option.{option_map_or};
+ghost use Rattle.std.specs.Prelude.{◌≡◌, map, if◌then◌else◌, option_map};
 ghost use Rattle.std.specs.FinMap as finite;
 ghost use Rattle.package_table.specs.Lookup.{external_home, first_external, found, is_present, is_symbol, is_used};
 ghost use Rattle.package_table.specs.Kept.{package_of, as_set};
@@ -8,16 +7,6 @@ ghost use Rattle.package_table.specs.Kept.{package_of, as_set};
 use super::PackageTable;
 use super::contents::{Contents, symbol_at, uses};
 use std::collections::BTreeSet;
-
-// Whether the symbol that is present by this name has this home.
-fn is_own(contents: &Contents, home: &[u8], name: &[u8]) -> bool
-    ensures { result ≡ option_map_or (λ e. bytes_eq e.home home.now) (finite.get (package_of contents.now).symbols name.now) false }
-{
-    match symbol_at(contents, name) {
-        Some(symbol) => symbol.home.as_slice() == home,
-        None => false,
-    }
-}
 
 impl PackageTable {
     /// What the package of this name holds.
@@ -58,8 +47,11 @@ impl PackageTable {
     pub(crate) fn is_symbol(&self, home: &[u8], name: &[u8]) -> bool
         ensures { result ≡ is_symbol self.now home.now name.now }
     {
-        match self.contents_of(home) {
-            Some(contents) => is_own(contents, home, name),
+        let Some(contents) = self.contents_of(home) else {
+            return false;
+        };
+        match symbol_at(contents, name) {
+            Some(symbol) => symbol.home.as_slice() == home,
             None => false,
         }
     }
