@@ -27,6 +27,11 @@ pub new_rest : (setting : Setting) (frames : List Frame) → frames ≡ [] → (
 unfolding reads
 new_rest setting frames none cs = reads_is setting 0 cs ∙ ap (λ (fs : List Frame). rest_of setting fs AtObject 0 0 cs) (sym none)
 
+pub new_after : (setting : Setting) (reader : FormReader) → IsNew reader → IsAfter setting reader []
+new_after setting reader n =
+    subst (λ (s : State). IsAfterIn setting reader s []) (sym n.state)
+    (omega (arith, n.start, n.at), λ cs. new_rest setting reader.frames n.frames cs ∙ (λ i. rest_of setting reader.frames AtObject (sym n.start i) (sym n.at i) cs))
+
 module _ (setting : Setting) (old mid new : FormReader) (stage : Stage) (bytes : List ℕ) (byte : ℕ) (after : List Frame) where
   abbrev fed_now : List ℕ
   fed_now = bytes ++ byte ∷ []
@@ -36,8 +41,8 @@ module _ (setting : Setting) (old mid new : FormReader) (stage : Stage) (bytes :
 
   pub stepped : (turn : Turn) (step : Step) → IsAfterIn setting old (Open stage) bytes
       → ((cs : List ℕ) → TurnsTo setting after cs turn (rest_of setting old.frames stage old.start old.at (byte ∷ cs)))
-      → IsReadyTurn setting.limits after (old.start + old.at + 1) turn → mid.frames ≡ after → Takes turn mid new step → Steps setting new fed_now step
-  stepped (Goes start at st) step a turns ready same takes =
+      → IsReadyTurn setting.limits after (old.start + old.at + 1) turn → Takes turn mid new step → mid.frames ≡ after → Steps setting new fed_now step
+  stepped (Goes start at st) step a turns ready takes same =
       let many : length fed_now ≡ length bytes + 1 = length-append bytes (byte ∷ []) in
       let rest : (cs : List ℕ) → reads setting (fed_now ++ cs) ≡ rest_of setting new.frames st new.start new.at cs =
       λ cs. one_more a cs ∙ turns cs ∙ (λ i. rest_of setting ((sym same ∙ sym takes.3) i) st (sym takes.1 i) (sym takes.2 i) cs) in
@@ -45,22 +50,19 @@ module _ (setting : Setting) (old mid new : FormReader) (stage : Stage) (bytes :
         subst (λ (s : State). IsAfterIn setting new s fed_now) (sym takes.4) (omega (arith, many, takes.1, takes.2, ready.1, a.0), rest),
         omega (arith, many, takes.1, takes.2, ready.1, a.0),
       )
-  stepped (TurnForm x start «end» next) (StepForm datum s e n) a turns ready same takes =
-      let many : length fed_now ≡ length bytes + 1 = length-append bytes (byte ∷ []) in (
+  stepped (TurnForm x start «end» next) (StepForm datum s e n) a turns ready takes same =
+      let many : length fed_now ≡ length bytes + 1 = length-append bytes (byte ∷ []) in
+      let new_form : IsNew new = record { start = takes.5; at = takes.6; frames = takes.7 ∙ same ∙ (turns []).1; state = takes.8 } in (
         λ cs. one_more a cs ∙ (turns cs).0 ∙ (λ i. form (sym takes.0 i) (sym takes.2 i) (sym takes.3 i) (sym takes.4 i)),
         takes.1,
         omega (arith, many, ready.0, takes.4, a.0),
         omega (arith, many, ready.1, takes.4, a.0),
-        record {
-          start = takes.5;
-          at = takes.6;
-          frames = takes.7 ∙ same ∙ (turns []).1;
-          state = takes.8;
-        },
+        new_form,
+        λ later. new_after later new new_form,
       )
-  stepped (TurnForm x start «end» next) StepMore a turns ready same takes = absurd takes
-  stepped (TurnForm x start «end» next) (StepRefused code place) a turns ready same takes = absurd takes
-  stepped (TurnRefused code place) step a turns ready same takes =
+  stepped (TurnForm x start «end» next) StepMore a turns ready takes same = absurd takes
+  stepped (TurnForm x start «end» next) (StepRefused code place) a turns ready takes same = absurd takes
+  stepped (TurnRefused code place) step a turns ready takes same =
       subst (λ (s : Step). Steps setting new fed_now s) (sym takes.0) (λ cs. one_more a cs ∙ turns cs, takes.1)
 
 -- at most one byte more was fed
@@ -74,24 +76,11 @@ fed_taking mid new after limits count (TurnRefused code place) step takes ready 
 
 -- ---- the end
 
-pub finishes : (setting : Setting) (reader : FormReader) (stage : Stage) (bytes : List ℕ) (outcome : ReadOutcome) → reader.state ≡ Open stage → IsAfter setting reader bytes
-    → IsOutcome outcome (rest_of setting reader.frames stage reader.start reader.at []) → IsOutcome outcome (reads setting bytes)
-finishes setting reader stage bytes outcome e a is =
-    let here : IsAfterIn setting reader (Open stage) bytes = subst (λ (s : State). IsAfterIn setting reader s bytes) e a in
-    subst (λ (o : Outcome). IsOutcome outcome o) (sym (here.1 []) ∙ ap (reads setting) (append-nil bytes)) is
-
 pub refused_finishes : (setting : Setting) (reader : FormReader) (bytes : List ℕ) (code place : ℕ) → reader.state ≡ Refused code place → IsAfter setting reader bytes
     → reads setting bytes ≡ refused code place
 refused_finishes setting reader bytes code place e a =
     let here : IsAfterIn setting reader (Refused code place) bytes = subst (λ (s : State). IsAfterIn setting reader s bytes) e a in
     sym (ap (reads setting) (append-nil bytes)) ∙ here []
-
--- a reader that has refused is after any more bytes, too
-pub refused_steps : (setting : Setting) (old new : FormReader) (bytes : List ℕ) (byte code place : ℕ) → old.state ≡ Refused code place → new.state ≡ Refused code place → IsAfter setting old bytes
-    → Steps setting new (bytes ++ byte ∷ []) (StepRefused code place)
-refused_steps setting old new bytes byte code place e f a =
-    let here : IsAfterIn setting old (Refused code place) bytes = subst (λ (s : State). IsAfterIn setting old s bytes) e a in
-    (λ cs. ap (reads setting) (append_assoc bytes (byte ∷ []) cs) ∙ here (byte ∷ cs), f)
 
 -- ---- a whole text, where a step decides it
 

@@ -32,10 +32,6 @@ or_space true false = omega arith
 or_space false true = omega arith
 or_space false false = omega arith
 
-pub space_most : (a : Bool) → space a ≤ 1
-space_most true = omega arith
-space_most false = omega arith
-
 -- ---- what one open call makes of it
 
 module _ (less most at : ℕ) (taken : Taken) where

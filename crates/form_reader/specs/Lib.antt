@@ -12,6 +12,7 @@ pub mod Begun
 pub mod Resuming
 pub mod Delivering
 pub mod Ready
+pub mod Opening
 pub mod Turning
 pub mod Ending
 pub mod Standing

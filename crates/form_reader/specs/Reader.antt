@@ -40,12 +40,12 @@ IsAfter setting reader bytes = IsAfterIn setting reader reader.state bytes
 
 -- What a step answers, after which these bytes were fed: the reader is after them; or they begin with a form, or are refused,
 -- whatever follows them. Where the form's next is the number of bytes, the last byte was taken; where it is one less, that byte
--- is for the next form. After a form the reader is new.
+-- is for the next form. After a form the reader is new, and after no bytes, whatever is handed to it then.
 abbrev pub Steps : Setting → FormReader → List ℕ → Step → Type 0
 Steps setting reader bytes StepMore = IsAfter setting reader bytes × (fed reader ≡ length bytes)
 Steps setting reader bytes (StepForm datum start «end» next) =
     ((cs : List ℕ) → reads setting (bytes ++ cs) ≡ form (object_of datum) start «end» next)
-    × (is_proper datum ≡ true) × (next ≤ length bytes) × (length bytes ≤ next + 1) × IsNew reader
+    × (is_proper datum ≡ true) × (next ≤ length bytes) × (length bytes ≤ next + 1) × IsNew reader × ((later : Setting) → IsAfter later reader [])
 Steps setting reader bytes (StepRefused code place) =
     ((cs : List ℕ) → reads setting (bytes ++ cs) ≡ refused code place) × (reader.state ≡ Refused code place)
 

@@ -1,8 +1,9 @@
 //! How a call begins.
-ghost use Rattle.std.specs.Prelude.{◌≡◌, ◌≤◌, ℕ, List, IfOk, length};
+ghost use Rattle.std.specs.Prelude.{◌≡◌, ◌≤◌, ℕ, true, List, IfOk, length};
 ghost use Rattle.form_reader.specs.Setting.{Setting, setting_of, is_baseless, standard_way, user_way, way_in};
 ghost use Rattle.form_reader.specs.declared.frame.Frame.{Frame as OpenCall};
 ghost use Rattle.form_reader.specs.Resuming.{Begins, Gathers, ComesTo};
+ghost use Rattle.form_reader.specs.Opening.{reads_objects};
 ghost use Rattle.form_reader.specs.Ready.{IsReady, IsEnd, completed_lookahead};
 
 use crate::call::Invoked;
@@ -61,7 +62,6 @@ fn gather<R: MacroFunctions>(
     ensures ready { IfOk result (IsReady with.now.limits at) }
     ensures nesting { IfOk result (λ _. length frames.new ≤ with.now.limits.nesting) }
 {
-    let deep = frames.len() >= with.limits.nesting as usize;
     match way {
         Way::Nothing => {
             let done = complete(
@@ -74,6 +74,50 @@ fn gather<R: MacroFunctions>(
             )?;
             Ok(event_of(done, at))
         }
+        Way::Next => gather_objects(with, frames, call, way, at),
+        Way::List => gather_objects(with, frames, call, way, at),
+        Way::Until(_) => gather_objects(with, frames, call, way, at),
+        Way::Text(close) => {
+            let text = HeldText::new(with.alloc);
+            Ok(Event::Stage(Stage::Text(call, close, text)))
+        }
+        Way::Line(keep) => {
+            let text = HeldText::new(with.alloc);
+            Ok(Event::Stage(Stage::Line(call, keep, text)))
+        }
+        Way::Block => Ok(Event::Stage(Stage::Block(call, (0, 0)))),
+        Way::Token => {
+            let scan = TokenScan::begin(with.alloc, with.limits.token);
+            Ok(Event::Stage(Stage::CallToken(call, scan)))
+        }
+        Way::EscapedToken => {
+            let scan = TokenScan::begin_escaped(with.alloc, with.limits.token);
+            Ok(Event::Stage(Stage::CallToken(call, scan)))
+        }
+    }
+}
+
+/// Begins to gather in a way that reads objects, unless as many calls are open as may be.
+#[tactic(auto, using(crate::proofs::Beginnings::next_opens, crate::proofs::Beginnings::list_opens, crate::proofs::Beginnings::until_opens, crate::proofs::Beginnings::next_deep, crate::proofs::Beginnings::list_deep, crate::proofs::Beginnings::until_deep))]
+fn gather_objects<R: MacroFunctions>(
+    with: &Surroundings<'_, R>,
+    frames: &mut Frames,
+    call: Invoked,
+    way: Way,
+    at: usize,
+) -> Result<Event, AllocError>
+    requires objects { reads_objects way ≡ true }
+    requires place { at ≤ with.now.limits.text }
+    requires nesting { length frames.old ≤ with.now.limits.nesting }
+    ensures gathers { (cs : List ℕ) → IfOk result (λ event. Gathers
+        (setting_of with.now.limits with.now.readtable.now with.now.packages.now.0 with.now.current.now
+        (R.registered with.now.macros.now) R.Meaning.way R.Meaning.answer)
+        frames.new frames.old call way at cs event) }
+    ensures ready { IfOk result (IsReady with.now.limits at) }
+    ensures nesting { IfOk result (λ _. length frames.new ≤ with.now.limits.nesting) }
+{
+    let deep = frames.len() >= with.limits.nesting as usize;
+    match way {
         Way::Next => {
             if deep {
                 return Ok(Event::Refused(TOO_DEEP, at.saturating_sub(1)));
@@ -98,23 +142,8 @@ fn gather<R: MacroFunctions>(
             frames.push(Frame { call, part })?;
             Ok(Event::Stage(Stage::Object))
         }
-        Way::Text(close) => {
-            let text = HeldText::new(with.alloc);
-            Ok(Event::Stage(Stage::Text(call, close, text)))
-        }
-        Way::Line(keep) => {
-            let text = HeldText::new(with.alloc);
-            Ok(Event::Stage(Stage::Line(call, keep, text)))
-        }
-        Way::Block => Ok(Event::Stage(Stage::Block(call, (0, 0)))),
-        Way::Token => {
-            let scan = TokenScan::begin(with.alloc, with.limits.token);
-            Ok(Event::Stage(Stage::CallToken(call, scan)))
-        }
-        Way::EscapedToken => {
-            let scan = TokenScan::begin_escaped(with.alloc, with.limits.token);
-            Ok(Event::Stage(Stage::CallToken(call, scan)))
-        }
+        Way::Nothing | Way::Text(_) | Way::Line(_) | Way::Block | Way::Token | Way::EscapedToken =>
+            { unreachable!() }
     }
 }
 
