@@ -1,8 +1,10 @@
 -- What the calls of the evaluator answer.
-use Rattle.std.specs.Prelude.{◌≡◌, true, List, map, Result, Ok, Err, IsOk}
+use Rattle.std.specs.Prelude.{◌≡◌, Bool, true, List, map, Result, Ok, Err, IsOk}
 use Rattle.lisp_object.specs.Object.{Object, symbol}
 use Rattle.lisp_object.specs.declared.datum.Datum.{Datum}
 use Rattle.lisp_object.specs.Datum.{object_of, is_proper}
+use Rattle.package_table.specs.declared.error.PackageError.{PackageError}
+use Rattle.package_table.specs.declared.error.PackageError.TheVariants.{OutOfMemory as NoRoom}
 use Rattle.package_table.specs.Table.{Table}
 use Rattle.plist_state.specs.Properties.{Symbol}
 use Rattle.plist_state.specs.State.{State}
@@ -45,3 +47,9 @@ abbrev pub Gives : {A B : Type 0} → (A → State → Done B) → Result A Eval
 Gives view (Ok x) s said = said ≡ Ok (view x s)
 Gives view (Err (Refused code)) s said = said ≡ Err code
 Gives view (Err OutOfMemory) s said = IsOk said
+
+-- Changes of the packages, one after the other, answer what the definition says. Where memory ran out it says nothing.
+abbrev pub Makes : Result Bool PackageError → Table → Result (Table × Bool) PackageError → Type 0
+Makes (Ok wrote) u said = said ≡ Ok (u, wrote)
+Makes (Err NoRoom) u said = Unit {0}
+Makes (Err e) u said = said ≡ Err e

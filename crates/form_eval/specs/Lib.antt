@@ -11,3 +11,4 @@ pub mod Acceptance
 pub mod Laws
 pub mod Operations
 pub mod Gathered
+pub mod Members

@@ -3,13 +3,13 @@ ghost use Rattle.std.specs.Prelude.{◌≡◌, true, map, All, IfOk};
 ghost use Rattle.lisp_object.specs.Datum.{object_of, is_proper};
 ghost use Rattle.form_eval.specs.Laws.{AreFunctionNames};
 ghost use Rattle.form_eval.specs.Properties.{get, set, remove, symbol_plist, increment, push};
-ghost use Rattle.form_eval.specs.Packages.{make, intern};
+ghost use Rattle.form_eval.specs.Packages.{make, intern, export, import, use_package};
 ghost use Rattle.form_eval.specs.Readtables.{readtable_case, set_case, copy_readtable, enter_readtable, set_syntax, set_macro, get_macro, make_dispatch, set_dispatch, get_dispatch};
 ghost use Rattle.form_eval.specs.Evaluated.{IsArgument, Answers, Gives, done};
 
 use crate::EvaluationError::Refused;
 use crate::arguments::split;
-use crate::{Evaluated, EvaluationError, packages, properties, readtables};
+use crate::{Evaluated, EvaluationError, package_lists, packages, properties, readtables};
 use lisp_object::Datum;
 use lisp_object::refusal::ARGUMENT_KIND;
 use plist_state::World;
@@ -184,6 +184,57 @@ pub(crate) fn intern(
         return Err(Refused(ARGUMENT_KIND));
     };
     packages::intern(alloc, world, name, rest)
+}
+
+/// EXPORT.
+pub(crate) fn export(
+    alloc: Global,
+    world: &mut World,
+    values: &[Datum],
+) -> Result<Evaluated, EvaluationError>
+    requires { All (IsArgument world.old.0.packages) values.now }
+    ensures gives { Answers done result world.new.0 (export (map object_of values.now) world.old.0) }
+    ensures proper { IfOk result (λ e. is_proper e.value ≡ true) }
+    ensures marked { world.new.1 ≡ world.old.1 }
+{
+    let Some((symbols, rest)) = split(values) else {
+        return Err(Refused(ARGUMENT_KIND));
+    };
+    package_lists::export(alloc, world, symbols, rest)
+}
+
+/// IMPORT.
+pub(crate) fn import(
+    alloc: Global,
+    world: &mut World,
+    values: &[Datum],
+) -> Result<Evaluated, EvaluationError>
+    requires { All (IsArgument world.old.0.packages) values.now }
+    ensures gives { Answers done result world.new.0 (import (map object_of values.now) world.old.0) }
+    ensures proper { IfOk result (λ e. is_proper e.value ≡ true) }
+    ensures marked { world.new.1 ≡ world.old.1 }
+{
+    let Some((symbols, rest)) = split(values) else {
+        return Err(Refused(ARGUMENT_KIND));
+    };
+    package_lists::import(alloc, world, symbols, rest)
+}
+
+/// USE-PACKAGE.
+pub(crate) fn use_package(
+    alloc: Global,
+    world: &mut World,
+    values: &[Datum],
+) -> Result<Evaluated, EvaluationError>
+    requires { All (IsArgument world.old.0.packages) values.now }
+    ensures gives { Answers done result world.new.0 (use_package (map object_of values.now) world.old.0) }
+    ensures proper { IfOk result (λ e. is_proper e.value ≡ true) }
+    ensures marked { world.new.1 ≡ world.old.1 }
+{
+    let Some((used, rest)) = split(values) else {
+        return Err(Refused(ARGUMENT_KIND));
+    };
+    package_lists::use_package(alloc, world, used, rest)
 }
 
 /// READTABLE-CASE.

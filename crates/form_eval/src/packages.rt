@@ -14,8 +14,8 @@ use lisp_object::refusal::{ARGUMENT_KIND, NO_SUCH_PACKAGE};
 use plist_state::World;
 use std::alloc::Global;
 
-// The name of a package that is given first of these, or nothing where there is none.
-fn given_name(rest: &[Datum]) -> Option<Option<&[u8]>>
+/// The name of a package that is given first of these, or nothing where there is none.
+pub(crate) fn given_name(rest: &[Datum]) -> Option<Option<&[u8]>>
     requires { All (λ d. is_proper d ≡ true) rest.now }
     ensures { (other : Name) → given_or a_name other (map object_of rest.now) ≡ option_map (λ g. unwrap_or (option_map (λ n. n.now) g) other) result }
 {
