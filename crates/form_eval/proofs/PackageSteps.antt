@@ -1,7 +1,7 @@
 -- Changes of the packages one after the other.
 --     one_step, one_refused      the first of some changes
 --     from_place, at_the_end      what is from a place on
-use Rattle.std.proofs.Common.{◌≡◌, ◌<◌, ◌+◌, ℕ, Bool, true, false, ◌||◌, List, [], ◌∷◌, Result, Ok, Err, map, length, drop, get_or, refl, sym, ap, ◌∙◌, add-one, suc}
+use Rattle.std.proofs.Common.{◌≡◌, ◌<◌, ◌+◌, ℕ, Bool, ◌||◌, List, [], ◌∷◌, Result, Ok, Err, map, length, drop, get_or, sym, ap, ◌∙◌, add-one, suc}
 use Rattle.std.proofs.Math.Seq.{drop-cons, drop-length}
 use Rattle.package_table.specs.declared.error.PackageError.{PackageError}
 use Rattle.package_table.specs.declared.error.PackageError.TheVariants.{NoPackage, NotExternal, LockedPackage, EmptyName, NoSuchPackage, PackageExists, PackageIsLocked, NameConflict, NotAccessible, Limit, OutOfMemory}

@@ -40,13 +40,19 @@ fn changed(
     }
 }
 
-
 // The package that is given first of these, by its name, or the current one.
-fn owner_named(alloc: Global, world: &World, owner: Option<&[u8]>) -> Result<Option<Vec<u8>>, AllocError>
+fn owner_named(
+    alloc: Global,
+    world: &World,
+    owner: Option<&[u8]>,
+) -> Result<Option<Vec<u8>>, AllocError>
     ensures value { IfOk result (λ o. option_map (λ v. v.items) o ≡ package_named world.now.0.packages (unwrap_or (option_map (λ n. n.now) owner.entry) world.now.0.current_package)) }
     ensures there { IfOk result (λ o. IfSome o (λ v. IsPackage world.now.0.packages v.items)) }
 {
-    match world.packages().find(or_other(owner, world.current_package())) {
+    match world
+        .packages()
+        .find(or_other(owner, world.current_package()))
+    {
         Some(package) => Ok(Some(Vec::from_slice(alloc, package)?)),
         None => Ok(None),
     }
@@ -116,7 +122,11 @@ pub(crate) fn import(
 }
 
 // The packages of these names, where all are there.
-fn packages_named(alloc: Global, world: &World, names: &[Bytes]) -> Result<Option<Vec<Bytes>>, AllocError>
+fn packages_named(
+    alloc: Global,
+    world: &World,
+    names: &[Bytes],
+) -> Result<Option<Vec<Bytes>>, AllocError>
     ensures { IfOk result (λ o. option_map (λ v. v.items) o ≡ packages_named world.now.0.packages names.now) }
 {
     let mut found = Vec::new(alloc);

@@ -1,5 +1,4 @@
-use Rattle.std.proofs.Common.{◌≡◌, Bool, ◌<◌, ◌+◌, ◌||◌, Ok, Err, map, drop, length, sym, ap, subst, ◌∙◌, arith}
-use Rattle.package_table.specs.Table.{Name, Table}
+use Rattle.std.proofs.Common.{◌≡◌, Bool, ◌+◌, Ok, Err, map, drop, sym, ap, subst, ◌∙◌, arith}
 use Rattle.package_table.specs.Changes.{after_export, export_changes, Gives}
 use Rattle.plist_state.specs.State.{Worlds}
 use Rattle.plist_state.specs.Changes.{with_packages}
@@ -18,10 +17,10 @@ loop-symbol-preserved c =
     let same = both c.home.result.now c.name.result.now (symbol_of x) c.home.ensures c.name.ensures in
     record {
       same = c.loop-symbol.invariant.same
-      ∙ one_step (λ t y. after_export t owner y.0 y.1) (λ t y. export_changes t owner y.1) u v c.loop-symbol.wrote c.in-Ok.changed (map symbol_of (drop i c.args.symbols.now)) (map symbol_of (drop (i + 1) c.args.symbols.now)) (symbol_of x)
-      (from_place symbol_of c.args.symbols.now i x c.loop-symbol-test.true c.symbol-item.is)
-      (subst (λ y. after_export u owner y.0 y.1 ≡ Ok v) same c.in-Ok.ensures.gives) (subst (λ y. c.in-Ok.changed ≡ export_changes u owner y.1) same c.in-Ok.ensures.changed)
-      ∙ ap (λ w. one_by_one (λ t y. after_export t owner y.0 y.1) (λ t y. export_changes t owner y.1) v w (map symbol_of (drop (i + 1) c.args.symbols.now))) (sym c.either-wrote.ensures);
+          ∙ one_step (λ t y. after_export t owner y.0 y.1) (λ t y. export_changes t owner y.1) u v c.loop-symbol.wrote c.in-Ok.changed (map symbol_of (drop i c.args.symbols.now)) (map symbol_of (drop (i + 1) c.args.symbols.now)) (symbol_of x)
+          (from_place symbol_of c.args.symbols.now i x c.loop-symbol-test.true c.symbol-item.is)
+          (subst (λ y. after_export u owner y.0 y.1 ≡ Ok v) same c.in-Ok.ensures.gives) (subst (λ y. c.in-Ok.changed ≡ export_changes u owner y.1) same c.in-Ok.ensures.changed)
+          ∙ ap (λ w. one_by_one (λ t y. after_export t owner y.0 y.1) (λ t y. export_changes t owner y.1) v w (map symbol_of (drop (i + 1) c.args.symbols.now))) (sym c.either-wrote.ensures);
       rest = c.in-Ok.ensures.rest ∙ ap (λ (k : Worlds). (with_packages k.0 v, k.1)) c.loop-symbol.invariant.rest;
     }
 

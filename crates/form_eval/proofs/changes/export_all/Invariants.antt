@@ -1,8 +1,7 @@
-use Rattle.std.proofs.Common.{◌≡◌, false, map, drop, All}
-use Rattle.package_table.specs.Changes.{after_export, after_import, after_use, export_changes, import_changes, use_changes}
+use Rattle.std.proofs.Common.{◌≡◌, false, map, drop}
+use Rattle.package_table.specs.Changes.{after_export, export_changes}
 use Rattle.plist_state.specs.Changes.{with_packages}
 use Rattle.plist_state.specs.Shown.{symbol_of}
-use Rattle.plist_state.specs.Sound.{IsSymbol}
 use Rattle.form_eval.specs.Packages.{one_by_one}
 use Rattle.form_eval.proofs.changes.export_all.Given as goal
 

@@ -1,5 +1,5 @@
 use Rattle.std.proofs.Common.{◌≡◌, false, map, drop, All}
-use Rattle.package_table.specs.Changes.{after_export, after_import, after_use, export_changes, import_changes, use_changes}
+use Rattle.package_table.specs.Changes.{after_import, import_changes}
 use Rattle.plist_state.specs.Changes.{with_packages}
 use Rattle.plist_state.specs.Shown.{symbol_of}
 use Rattle.plist_state.specs.Sound.{IsSymbol}

@@ -1,4 +1,4 @@
-use Rattle.std.proofs.Common.{◌≡◌, Bool, ◌<◌, ◌+◌, ◌||◌, List, Ok, Err, map, drop, length, sym, ap, subst, ◌∙◌, arith}
+use Rattle.std.proofs.Common.{◌≡◌, Bool, ◌+◌, Ok, Err, drop, sym, ap, subst, ◌∙◌, arith}
 use Rattle.package_table.specs.Changes.{after_use, use_changes, Gives}
 use Rattle.plist_state.specs.State.{Worlds}
 use Rattle.plist_state.specs.Changes.{with_packages}
@@ -15,10 +15,10 @@ loop-package-preserved c =
     let i = c.loop-package.package-index in
     record {
       same = c.loop-package.invariant.same
-      ∙ one_step (λ t q. after_use t owner q) (λ t q. use_changes t owner q) u v c.loop-package.wrote c.in-Ok.changed (drop i c.args.used.now) (drop (i + 1) c.args.used.now) x
-      (item_from c.args.used.now i x c.loop-package-test.true c.package-item.is)
-      (subst (λ q. after_use u owner q ≡ Ok v) c.as_slice.ensures c.in-Ok.ensures.gives) (subst (λ q. c.in-Ok.changed ≡ use_changes u owner q) c.as_slice.ensures c.in-Ok.ensures.changed)
-      ∙ ap (λ w. one_by_one (λ t q. after_use t owner q) (λ t q. use_changes t owner q) v w (drop (i + 1) c.args.used.now)) (sym c.either-wrote.ensures);
+          ∙ one_step (λ t q. after_use t owner q) (λ t q. use_changes t owner q) u v c.loop-package.wrote c.in-Ok.changed (drop i c.args.used.now) (drop (i + 1) c.args.used.now) x
+          (item_from c.args.used.now i x c.loop-package-test.true c.package-item.is)
+          (subst (λ q. after_use u owner q ≡ Ok v) c.as_slice.ensures c.in-Ok.ensures.gives) (subst (λ q. c.in-Ok.changed ≡ use_changes u owner q) c.as_slice.ensures c.in-Ok.ensures.changed)
+          ∙ ap (λ w. one_by_one (λ t q. after_use t owner q) (λ t q. use_changes t owner q) v w (drop (i + 1) c.args.used.now)) (sym c.either-wrote.ensures);
       rest = c.in-Ok.ensures.rest ∙ ap (λ (k : Worlds). (with_packages k.0 v, k.1)) c.loop-package.invariant.rest;
     }
 

@@ -1,8 +1,6 @@
-use Rattle.std.proofs.Common.{◌≡◌, false, map, drop, All}
-use Rattle.package_table.specs.Changes.{after_export, after_import, after_use, export_changes, import_changes, use_changes}
+use Rattle.std.proofs.Common.{◌≡◌, false, drop}
+use Rattle.package_table.specs.Changes.{after_use, use_changes}
 use Rattle.plist_state.specs.Changes.{with_packages}
-use Rattle.plist_state.specs.Shown.{symbol_of}
-use Rattle.plist_state.specs.Sound.{IsSymbol}
 use Rattle.form_eval.specs.Packages.{one_by_one}
 use Rattle.form_eval.proofs.changes.use_each.Given as goal
 

@@ -1,10 +1,9 @@
 -- What each call answers.
-use Rattle.std.proofs.Common.{◌≡◌, ◌≤◌, ◌<◌, ◌+◌, ◌++◌, [], ◌∷◌, ◌||◌, true, All, Ok, drop, map, length, refl, sym, ap, subst, ◌∙◌, arith}
+use Rattle.std.proofs.Common.{◌≡◌, ◌≤◌, ◌+◌, [], ◌∷◌, ◌||◌, true, All, drop, map, length, refl, sym, ap, subst, ◌∙◌, arith}
 use Rattle.lisp_object.specs.Object.{list_of}
 use Rattle.lisp_object.specs.Datum.{object_of}
 use Rattle.lisp_object.proofs.Objects.{object_of-Integer, object_of-Rational, object_of-Char, object_of-Text, object_of-Vector}
 use Rattle.std.proofs.lemmas.List.{map-append}
-use Rattle.lisp_object.specs.declared.datum.Datum.{Datum}
 use Rattle.lisp_object.specs.declared.datum.Datum.TheViews.{sized-List, the_lemmas}
 use Rattle.lisp_object.proofs.datum.Datum.TheLaws.{the_size}
 use Rattle.form_eval.specs.declared.operators.Operation.TheVariants.{Quote}
@@ -14,7 +13,7 @@ use Rattle.form_eval.specs.Operators.{first}
 use Rattle.form_eval.specs.Gathered.{arguments_of, parts, followed}
 use Rattle.form_eval.specs.Value.{value, action_value}
 use Rattle.form_eval.specs.Operations.{action_of, least}
-use Rattle.form_eval.specs.Evaluated.{IsArgument, Answers, done, all_done}
+use Rattle.form_eval.specs.Evaluated.{IsArgument, Answers, done}
 use Rattle.form_eval.proofs.Steps.{gives_answers, is_constant, value_dotted, items_arguments, good_value, followed_step, followed_stops, followed_at_end, argument_grown, all_more}
 use Rattle.form_eval.proofs.Shapes.{some_items}
 use Rattle.form_eval.proofs.Forms.{symbol_form, constant_form, uninterned_form, head_form, head_refused, quote_left, place_first, place_given, push_no_place, push_refused, push_given, choice_refused, choice_true, choice_none, choice_other, same_item, subforms_given}
@@ -34,7 +33,7 @@ act-returns-in_default t c =
     let arguments = arguments_of (map object_of c.args.items.now) in
     record {
       gives = subst (λ o. Answers done c.quoted.result c.args.world.now.0 (action_value c.args.world.now.0 (action_of c.args.names.now o) arguments (parts c.args.names.now c.args.world.now.0 arguments))) (sym quote)
-      (gives_answers done c.quoted.result c.args.world.now.0 (gives (first arguments) c.args.world.now.0) (c.quoted.ensures.gives c.args.world.now.0));
+          (gives_answers done c.quoted.result c.args.world.now.0 (gives (first arguments) c.args.world.now.0) (c.quoted.ensures.gives c.args.world.now.0));
       proper = c.quoted.ensures.proper;
       marked = refl;
     }
@@ -44,11 +43,13 @@ any_form-returns-then-is_some-clause-gives t c =
     value_dotted c.args.names.now c.args.world.now.0 c.args.form.now c.in-List.items c.in-List.tail c.in-List.is c.requires.form.proper (sym c.is_some.ensures ∙ c.if-is_some.true)
 
 pub any_form-list_form-requires : goal.any_form-list_form-requires
-any_form-list_form-requires t c =
-    (
-      grind (arith, the_lemmas, sized-List c.in-List.items c.in-List.tail, ap the_size c.in-List.is), (
-      some_items c.args.form.now c.in-List.items c.in-List.items c.in-List.tail c.in-List.is c.requires.form.proper refl, (c.requires.names, items_arguments c.args.world.now.0.packages c.args.form.now c.in-List.items c.in-List.tail c.in-List.is c.requires.form)),
-    )
+any_form-list_form-requires t c = (
+  grind (arith, the_lemmas, sized-List c.in-List.items c.in-List.tail, ap the_size c.in-List.is),
+  (
+    some_items c.args.form.now c.in-List.items c.in-List.items c.in-List.tail c.in-List.is c.requires.form.proper refl,
+    (c.requires.names, items_arguments c.args.world.now.0.packages c.args.form.now c.in-List.items c.in-List.tail c.in-List.is c.requires.form),
+  ),
+)
 
 pub any_form-returns-in-Symbol-clause-gives : goal.any_form-returns-in-Symbol-clause-gives
 any_form-returns-in-Symbol-clause-gives t c =
@@ -143,11 +144,11 @@ extended-loop-i-preserved t c =
     let more = c.in_ok-values.ensures in
     record {
       same = c.loop-i.invariant.same
-      ∙ followed_step c.args.names.now (map object_of c.loop-i.values.values.items) c.loop-i.values.wrote c.loop-i.world.0 c.args.forms.now c.loop-i.i c.index-forms-i.result (object_of c.in-Ok.evaluated.value) c.evaluate.new.world.0 c.in-Ok.evaluated.wrote
-      c.loop-i-test.true c.index-forms-i.is c.in-Ok.ensures.gives
-      ∙ ap (λ xs. followed c.args.names.now xs (c.loop-i.values.wrote || c.in-Ok.evaluated.wrote) c.evaluate.new.world.0 (list_of (map object_of (drop (c.loop-i.i + 1) c.args.forms.now))))
-      (sym (ap (map object_of) more.0 ∙ map-append object_of c.loop-i.values.values.items (c.in-Ok.evaluated.value ∷ [])))
-      ∙ ap (λ w. followed c.args.names.now (map object_of c.in_ok-values.values.values.items) w c.evaluate.new.world.0 (list_of (map object_of (drop (c.loop-i.i + 1) c.args.forms.now)))) (sym more.1);
+          ∙ followed_step c.args.names.now (map object_of c.loop-i.values.values.items) c.loop-i.values.wrote c.loop-i.world.0 c.args.forms.now c.loop-i.i c.index-forms-i.result (object_of c.in-Ok.evaluated.value) c.evaluate.new.world.0 c.in-Ok.evaluated.wrote
+          c.loop-i-test.true c.index-forms-i.is c.in-Ok.ensures.gives
+          ∙ ap (λ xs. followed c.args.names.now xs (c.loop-i.values.wrote || c.in-Ok.evaluated.wrote) c.evaluate.new.world.0 (list_of (map object_of (drop (c.loop-i.i + 1) c.args.forms.now))))
+          (sym (ap (map object_of) more.0 ∙ map-append object_of c.loop-i.values.values.items (c.in-Ok.evaluated.value ∷ [])))
+          ∙ ap (λ w. followed c.args.names.now (map object_of c.in_ok-values.values.values.items) w c.evaluate.new.world.0 (list_of (map object_of (drop (c.loop-i.i + 1) c.args.forms.now)))) (sym more.1);
       values = all_more c.evaluate.new.world.0.packages c.loop-i.values.values.items c.in_ok-values.values.values.items c.in-Ok.evaluated.value more.0 (λ k d h. c.in-Ok.ensures.kept _ (c.loop-i.invariant.values k d h)) c.in-Ok.ensures.value;
       forms = λ k d h. c.in-Ok.ensures.kept _ (c.loop-i.invariant.forms k d h);
       kept = λ d is. c.in-Ok.ensures.kept d (c.loop-i.invariant.kept d is);
@@ -171,9 +172,12 @@ list_form-returns-in-Err-clause-gives t c =
 pub subforms-extended-requires : goal.subforms-extended-requires
 subforms-extended-requires t c =
     let items = items_arguments c.args.world.now.0.packages c.args.place.now c.in-List.items c.in-List.tail c.in-List.is c.requires.place in (
-      grind (arith, the_lemmas, sized-List c.in-List.items c.in-List.tail, ap the_size c.in-List.is), (
-        some_items c.args.place.now c.in-List.items c.as_slice.result.now c.in-List.tail c.in-List.is c.requires.place.proper c.as_slice.ensures, (
-          c.requires.names, (c.requires.values, subst (All (IsArgument c.args.world.now.0.packages)) (sym c.as_slice.ensures) items),
+      grind (arith, the_lemmas, sized-List c.in-List.items c.in-List.tail, ap the_size c.in-List.is),
+      (
+        some_items c.args.place.now c.in-List.items c.as_slice.result.now c.in-List.tail c.in-List.is c.requires.place.proper c.as_slice.ensures,
+        (
+          c.requires.names,
+          (c.requires.values, subst (All (IsArgument c.args.world.now.0.packages)) (sym c.as_slice.ensures) items),
         ),
       ),
     )

@@ -1,6 +1,5 @@
 use Rattle.std.proofs.Common.{◌≡◌, ◌++◌, map, drop, option_map}
 use Rattle.lisp_object.specs.Datum.{object_of}
-use Rattle.plist_state.specs.Shown.{symbol_of}
 use Rattle.form_eval.specs.Kinds.{a_name}
 use Rattle.form_eval.specs.Members.{each_in}
 use Rattle.form_eval.proofs.lists.each_name.Given as goal

@@ -1,4 +1,4 @@
-use Rattle.std.proofs.Common.{◌≡◌, ℕ, List, Some, None, map, option_map, IfOk, sym, subst}
+use Rattle.std.proofs.Common.{Some, None, map, sym}
 use Rattle.lisp_object.specs.Datum.{object_of}
 use Rattle.form_eval.specs.Kinds.{a_name}
 use Rattle.form_eval.proofs.MemberLists.{members_or_each}

@@ -1,18 +1,16 @@
-use Rattle.std.proofs.Common.{◌≡◌, ℕ, Bor, unwrap_or, option_map, Bool, true, false, cond, not, List, Some, None, All, Ok, Err, map, sym, ap, subst, refl, ◌∙◌}
-use Rattle.std.specs.List.{list_all}
+use Rattle.std.proofs.Common.{ℕ, Bor, unwrap_or, option_map, false, List, Some, All, Err, map, sym, ap, subst, ◌∙◌}
 use Rattle.lisp_object.specs.Datum.{object_of}
-use Rattle.lisp_object.specs.declared.refusal.TheConstants.{NO_SUCH_PACKAGE, PACKAGE_IS_LOCKED, NOT_ACCESSIBLE}
+use Rattle.lisp_object.specs.declared.refusal.TheConstants.{NO_SUCH_PACKAGE, PACKAGE_IS_LOCKED}
 use Rattle.package_table.specs.Table.{package_named, is_locked}
-use Rattle.package_table.specs.Changes.{finds_this, after_export, after_import, export_changes, import_changes}
+use Rattle.package_table.specs.Changes.{after_import, import_changes}
 use Rattle.plist_state.specs.State.{Worlds}
 use Rattle.plist_state.specs.Sound.{IsSymbol}
 use Rattle.plist_state.specs.Shown.{symbol_of}
-use Rattle.form_eval.specs.declared.error.EvaluationError.TheVariants.{Refused}
 use Rattle.form_eval.specs.Kinds.{a_symbol, a_name, one_or_each, given_or}
 use Rattle.form_eval.specs.Outcomes.{of_kind}
 use Rattle.form_eval.specs.Packages.{in_package, unlocked, changed, one_by_one}
 use Rattle.form_eval.specs.Evaluated.{Makes}
-use Rattle.form_eval.proofs.KindSteps.{kind_is, option_is, not_refused, goes_on}
+use Rattle.form_eval.proofs.KindSteps.{kind_is, option_is, not_refused}
 use Rattle.form_eval.proofs.MemberLists.{all_of_map}
 use Rattle.form_eval.proofs.Storable.{symbols_kind}
 use Rattle.form_eval.proofs.package_lists.import.Goals as goal

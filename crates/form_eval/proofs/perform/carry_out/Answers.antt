@@ -1,7 +1,6 @@
 use Rattle.std.proofs.Common.{map, sym, subst}
 use Rattle.lisp_object.specs.Datum.{object_of}
 use Rattle.form_eval.specs.Outcomes.{gives}
-use Rattle.form_eval.specs.Properties.{get, remove}
 use Rattle.form_eval.specs.Value.{last}
 use Rattle.form_eval.specs.Operations.{function_of}
 use Rattle.form_eval.specs.Evaluated.{Answers, done}
