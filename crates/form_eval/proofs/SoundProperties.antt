@@ -28,11 +28,11 @@ pub refused : (s : State) (code : ℕ) → Goods {A = Object} IsValue s (Err cod
 refused s code = record { good = tt }
 
 -- ---- what a state holds
-record HasValues (u : packages.Table) (ps : Plist) : Type 0 where
-  indicators : All (λ p. IsSymbol u p.0) ps
-  values : All (λ p. IsValue u p.1) ps
+pub record HasValues (u : packages.Table) (ps : Plist) : Type 0 where
+  pub indicators : All (λ p. IsSymbol u p.0) ps
+  pub values : All (λ p. IsValue u p.1) ps
 
-held : (s : State) (x : Symbol) → IsSound s → HasValues s.packages (plist s x)
+pub held : (s : State) (x : Symbol) → IsSound s → HasValues s.packages (plist s x)
 held s x sound =
     elim (finite.get s.properties x) as (λ o. finite.get s.properties x ≡ o → HasValues s.packages (unwrap_or o [])) [
       | None ↦ λ _. record { indicators = All-nil (λ (p : Symbol × Object). IsSymbol s.packages p.0); values = All-nil (λ (p : Symbol × Object). IsValue s.packages p.1) }

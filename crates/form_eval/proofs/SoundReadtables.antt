@@ -1,5 +1,5 @@
 -- That the operators on readtables leave a sound state and give values that may be stored.
-use Rattle.std.proofs.Common.{◌≡◌, Bool, true, false, cond, not, ◌||◌, List, [], ◌∷◌, Option, Some, None, Result, Ok, Err, bytes_eq, IsTrue, IsFalse, option_map, refl, ap, subst}
+use Rattle.std.proofs.Common.{◌≡◌, Bool, true, false, cond, not, ◌||◌, List, [], ◌∷◌, Option, Some, None, Result, Ok, Err, bytes_eq, IsTrue, IsFalse, option_map, refl, sym, ap, subst, ◌∙◌}
 use Rattle.std.specs.List.{list_all}
 use Rattle.std.specs.Option.{option_map_or}
 use Rattle.std.specs.FinMap as finite
@@ -57,7 +57,7 @@ standard_are (x ∷ xs) all f e =
       | false ↦ λ _ among. standard_are xs both.1 f among
     ] refl e
 
-function_named : (names : List Name) (f : Name) → AreFunctionNames names → is_function names f ≡ true → IsFalse (is_dispatch_name f) × IsTrue (is_function_name f)
+pub function_named : (names : List Name) (f : Name) → AreFunctionNames names → is_function names f ≡ true → IsFalse (is_dispatch_name f) × IsTrue (is_function_name f)
 function_named names f all e =
     let both = and_parts (not (is_dispatch_name f)) (is_standard f || is_among names f) e in (
       elim (is_dispatch_name f) as (λ b. not b ≡ true → b ≡ false) [ true ↦ λ no. absurd (false≢true no) | false ↦ λ _. refl ] both.0,
@@ -66,6 +66,11 @@ function_named names f all e =
         | false ↦ λ _ among. named_among names f all among
       ] refl both.1,
     )
+
+-- a name that no function may have
+pub no_function : (names : List Name) (f : Name) → AreFunctionNames names → is_function_name f ≡ false → is_function names f ≡ false
+no_function names f all e =
+    elim (is_function names f) as (λ b. is_function names f ≡ b → b ≡ false) [ true ↦ λ is. absurd (false≢true (sym e ∙ (function_named names f all is).1)) | false ↦ λ _. refl ] refl
 
 -- ---- values
 keyword_value : (s : State) (n : Name) → IsSound s → IsSymbol s.packages (keyword, n) → IsValue s.packages (symbol keyword n)

@@ -81,3 +81,7 @@ given_or_nil (x ∷ xs) = x
 abbrev pub is_true : Object → Bool
 is_true (symbol home name) = if is_nil home name then false else true
 is_true _ = true
+
+abbrev pub is_pair : Object → Bool
+is_pair (pair x xs) = true
+is_pair _ = false

@@ -1,3 +1,5 @@
+pub mod Errors
+pub mod Evaluated
 pub mod Outcomes
 pub mod Kinds
 pub mod Properties
@@ -7,3 +9,6 @@ pub mod Operators
 pub mod Value
 pub mod Acceptance
 pub mod Laws
+pub mod Operations
+pub mod Gathered
+pub mod Members

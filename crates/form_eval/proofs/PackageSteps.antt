@@ -1,0 +1,50 @@
+-- Changes of the packages one after the other.
+--     one_step, one_refused      the first of some changes
+--     from_place, at_the_end      what is from a place on
+use Rattle.std.proofs.Common.{◌≡◌, ◌<◌, ◌+◌, ℕ, Bool, ◌||◌, List, [], ◌∷◌, Result, Ok, Err, map, length, drop, get_or, sym, ap, ◌∙◌, add-one, suc}
+use Rattle.std.proofs.Math.Seq.{drop-cons, drop-length}
+use Rattle.package_table.specs.declared.error.PackageError.{PackageError}
+use Rattle.package_table.specs.declared.error.PackageError.TheVariants.{NoPackage, NotExternal, LockedPackage, EmptyName, NoSuchPackage, PackageExists, PackageIsLocked, NameConflict, NotAccessible, Limit, OutOfMemory}
+use Rattle.package_table.specs.Table.{Table}
+use Rattle.package_table.specs.Changes.{Gives}
+use Rattle.form_eval.specs.Packages.{one_by_one, then_others}
+use Rattle.form_eval.specs.Evaluated.{Makes}
+
+module _ {A : Type 0} (change : Table → A → Result Table PackageError) (changes : Table → A → Bool) where
+  pub one_step : (u v : Table) (w b : Bool) (xs ys : List A) (y : A) → xs ≡ y ∷ ys → change u y ≡ Ok v → b ≡ changes u y → one_by_one change changes u w xs ≡ one_by_one change changes v (w || b) ys
+  one_step u v w b xs ys y is made tells =
+      ap (one_by_one change changes u w) is ∙ ap (λ r. then_others r (λ later. one_by_one change changes later (w || changes u y) ys)) made ∙ ap (λ c. one_by_one change changes v (w || c) ys) (sym tells)
+
+  first_refused : (u : Table) (w : Bool) (xs ys : List A) (y : A) (e : PackageError) → xs ≡ y ∷ ys → change u y ≡ Err e → one_by_one change changes u w xs ≡ Err e
+  first_refused u w xs ys y e is made = ap (one_by_one change changes u w) is ∙ ap (λ r. then_others r (λ later. one_by_one change changes later (w || changes u y) ys)) made
+
+  pub one_refused : {B : Type 0} (view : B → Table) (e : PackageError) (u v : Table) (w : Bool) (xs ys : List A) (y : A) (o : Result (Table × Bool) PackageError) → o ≡ one_by_one change changes u w xs → xs ≡ y ∷ ys
+      → Gives view (Err e) (change u y) → Makes (Err e) v o
+  one_refused view NoPackage u v w xs ys y o same is h = same ∙ first_refused u w xs ys y NoPackage is h
+  one_refused view NotExternal u v w xs ys y o same is h = same ∙ first_refused u w xs ys y NotExternal is h
+  one_refused view LockedPackage u v w xs ys y o same is h = same ∙ first_refused u w xs ys y LockedPackage is h
+  one_refused view EmptyName u v w xs ys y o same is h = same ∙ first_refused u w xs ys y EmptyName is h
+  one_refused view NoSuchPackage u v w xs ys y o same is h = same ∙ first_refused u w xs ys y NoSuchPackage is h
+  one_refused view PackageExists u v w xs ys y o same is h = same ∙ first_refused u w xs ys y PackageExists is h
+  one_refused view PackageIsLocked u v w xs ys y o same is h = same ∙ first_refused u w xs ys y PackageIsLocked is h
+  one_refused view NameConflict u v w xs ys y o same is h = same ∙ first_refused u w xs ys y NameConflict is h
+  one_refused view NotAccessible u v w xs ys y o same is h = same ∙ first_refused u w xs ys y NotAccessible is h
+  one_refused view Limit u v w xs ys y o same is h = same ∙ first_refused u w xs ys y Limit is h
+  one_refused view OutOfMemory u v w xs ys y o same is h = tt
+
+-- what is from a place on
+pub from_place : {X Y : Type 0} (f : X → Y) (xs : List X) (i : ℕ) (x : X) → i < length xs → x ≡ get_or xs i x → map f (drop i xs) ≡ f x ∷ map f (drop (i + 1) xs)
+from_place f xs i x within is =
+    ap (map f) (drop-cons xs i x within) ∙ ap (λ z. f z ∷ map f (drop (suc i) xs)) (sym is) ∙ ap (λ n. f x ∷ map f (drop n xs)) (sym (add-one i))
+
+pub at_the_end : {X Y : Type 0} (f : X → Y) (xs : List X) (i : ℕ) → i ≡ length xs → map f (drop i xs) ≡ []
+at_the_end f xs i is = ap (λ n. map f (drop n xs)) is ∙ ap (map f) (drop-length xs)
+
+pub both : (h n : List ℕ) (y : List ℕ × List ℕ) → h ≡ y.0 → n ≡ y.1 → (h, n) ≡ y
+both h n y e f = ap (λ k. (k, n)) e ∙ ap (λ k. (y.0, k)) f
+
+pub item_from : {X : Type 0} (xs : List X) (i : ℕ) (x : X) → i < length xs → x ≡ get_or xs i x → drop i xs ≡ x ∷ drop (i + 1) xs
+item_from xs i x within is = drop-cons xs i x within ∙ ap (λ z. z ∷ drop (suc i) xs) (sym is) ∙ ap (λ n. x ∷ drop n xs) (sym (add-one i))
+
+pub none_left : {X : Type 0} (xs : List X) (i : ℕ) → i ≡ length xs → drop i xs ≡ []
+none_left xs i is = ap (λ n. drop n xs) is ∙ drop-length xs

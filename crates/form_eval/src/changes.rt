@@ -1,0 +1,100 @@
+//! Changes of the packages, one after the other.
+ghost use Rattle.std.specs.Prelude.{◌≡◌, false, map, All};
+ghost use Rattle.package_table.specs.Changes.{after_export, after_import, after_use, finds_this, export_changes, import_changes, use_changes};
+ghost use Rattle.package_table.specs.Table.{IsPackage};
+ghost use Rattle.std.specs.List.{list_all};
+ghost use Rattle.plist_state.specs.Changes.{with_packages};
+ghost use Rattle.plist_state.specs.Shown.{symbol_of};
+ghost use Rattle.plist_state.specs.Sound.{IsSymbol};
+ghost use Rattle.form_eval.specs.Packages.{one_by_one};
+ghost use Rattle.form_eval.specs.Evaluated.{Makes};
+
+use crate::control::either;
+use lisp_object::Bytes;
+use package_table::{PackageError, Packages, Resolved};
+use plist_state::{Symbol, World};
+
+// Whether a package finds this symbol by its name.
+fn finds(packages: &Packages, owner: &[u8], symbol: &Symbol) -> bool
+    requires { IsPackage packages.now.0 owner.now }
+    ensures { result ≡ finds_this packages.now.0 owner.now (symbol_of symbol.now).0 (symbol_of symbol.now).1 }
+{
+    match packages.resolve(owner, symbol.name()) {
+        Ok(resolved) => match resolved {
+            Resolved::Found(home) => home == symbol.home(),
+            Resolved::New(_) => false,
+        },
+        Err(_) => false,
+    }
+}
+
+/// Whether a package finds each of these symbols by its name.
+pub(crate) fn finds_all(packages: &Packages, owner: &[u8], symbols: &[Symbol]) -> bool
+    requires { IsPackage packages.now.0 owner.now }
+    ensures { result ≡ list_all (λ y. finds_this packages.now.0 owner.now y.0 y.1) (map symbol_of symbols.now) }
+{
+    for symbol in symbols {
+        if !finds(packages, owner, symbol) {
+            return false;
+        }
+    }
+    true
+}
+
+/// EXPORT of these symbols, one after the other, and whether the packages changed.
+pub(crate) fn export_all(
+    world: &mut World,
+    owner: &[u8],
+    symbols: &[Symbol],
+) -> Result<bool, PackageError>
+    ensures gives { Makes result world.new.0.packages (one_by_one (λ u y. after_export u owner.now y.0 y.1) (λ u y. export_changes u owner.now y.1) world.old.0.packages false (map symbol_of symbols.now)) }
+    ensures rest { world.new ≡ (with_packages world.old.0 world.new.0.packages, world.old.1) }
+{
+    let mut wrote = false;
+    for symbol in symbols {
+        match world.export(owner, symbol.home(), symbol.name()) {
+            Ok(changed) => wrote = either(wrote, changed),
+            Err(error) => return Err(error),
+        }
+    }
+    Ok(wrote)
+}
+
+/// IMPORT of these symbols, which are there, one after the other, and whether the packages changed.
+pub(crate) fn import_all(
+    world: &mut World,
+    owner: &[u8],
+    symbols: &[Symbol],
+) -> Result<bool, PackageError>
+    requires { All (λ x. IsSymbol world.old.0.packages (symbol_of x)) symbols.now }
+    ensures gives { Makes result world.new.0.packages (one_by_one (λ u y. after_import u owner.now y.0 y.1) (λ u y. import_changes u owner.now y.1) world.old.0.packages false (map symbol_of symbols.now)) }
+    ensures rest { world.new ≡ (with_packages world.old.0 world.new.0.packages, world.old.1) }
+{
+    let mut wrote = false;
+    for symbol in symbols {
+        match world.import(owner, symbol.home(), symbol.name()) {
+            Ok(changed) => wrote = either(wrote, changed),
+            Err(error) => return Err(error),
+        }
+    }
+    Ok(wrote)
+}
+
+/// USE-PACKAGE of these, one after the other, and whether the packages changed.
+pub(crate) fn use_each(
+    world: &mut World,
+    owner: &[u8],
+    used: &[Bytes],
+) -> Result<bool, PackageError>
+    ensures gives { Makes result world.new.0.packages (one_by_one (λ u q. after_use u owner.now q) (λ u q. use_changes u owner.now q) world.old.0.packages false used.now) }
+    ensures rest { world.new ≡ (with_packages world.old.0 world.new.0.packages, world.old.1) }
+{
+    let mut wrote = false;
+    for package in used {
+        match world.use_package(owner, package.as_slice()) {
+            Ok(changed) => wrote = either(wrote, changed),
+            Err(error) => return Err(error),
+        }
+    }
+    Ok(wrote)
+}

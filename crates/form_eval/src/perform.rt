@@ -1,0 +1,117 @@
+//! What an operator makes of the values of its arguments.
+ghost use Rattle.std.specs.Prelude.{◌≡◌, true, if◌then◌else◌, map, All, IfOk};
+ghost use Rattle.lisp_object.specs.Datum.{object_of, is_proper};
+ghost use Rattle.form_eval.specs.Laws.{AreFunctionNames};
+ghost use Rattle.form_eval.specs.Outcomes.{also};
+ghost use Rattle.form_eval.specs.Properties.{set};
+ghost use Rattle.form_eval.specs.Readtables.{set_case};
+ghost use Rattle.form_eval.specs.Operations.{function_of};
+ghost use Rattle.form_eval.specs.Evaluated.{IsArgument, Answers, done};
+
+use crate::EvaluationError::Refused;
+use crate::control::{after, last};
+use crate::evaluated::Values;
+use crate::operators::Operation;
+use crate::{Evaluated, EvaluationError, calls, values};
+use lisp_object::Datum;
+use lisp_object::refusal::ARGUMENT_KIND;
+use plist_state::World;
+use readtable_core::FnName;
+use std::alloc::Global;
+
+/// What an operator gives of these values, which were evaluated for it.
+pub(crate) fn perform(
+    alloc: Global,
+    world: &mut World,
+    names: &[FnName],
+    operation: Operation,
+    is_case: bool,
+    values: Values,
+) -> Result<Evaluated, EvaluationError>
+    requires names { AreFunctionNames names.now }
+    requires values { All (IsArgument world.old.0.packages) values.values.items }
+    ensures gives { Answers done result world.new.0 (also values.wrote (function_of names.now operation is_case (map object_of values.values.items) world.old.0)) }
+    ensures proper { IfOk result (λ e. is_proper e.value ≡ true) }
+    ensures marked { world.new.1 ≡ world.old.1 }
+{
+    let Values { values, wrote } = values;
+    after(
+        wrote,
+        carry_out(alloc, world, names, operation, is_case, values),
+    )
+}
+
+fn carry_out(
+    alloc: Global,
+    world: &mut World,
+    names: &[FnName],
+    operation: Operation,
+    is_case: bool,
+    values: Vec<Datum>,
+) -> Result<Evaluated, EvaluationError>
+    requires names { AreFunctionNames names.now }
+    requires values { All (IsArgument world.old.0.packages) values.items }
+    ensures gives { Answers done result world.new.0 (function_of names.now operation is_case (map object_of values.items) world.old.0) }
+    ensures proper { IfOk result (λ e. is_proper e.value ≡ true) }
+    ensures marked { world.new.1 ≡ world.old.1 }
+{
+    match operation {
+        Operation::Progn => last(alloc, values),
+        Operation::MakeList => values::list(alloc, values),
+        Operation::Get => calls::get(alloc, world, values.as_slice()),
+        Operation::Setf => put(alloc, world, is_case, values.as_slice()),
+        Operation::Remprop => calls::remove(alloc, world, values.as_slice()),
+        Operation::SymbolPlist => calls::symbol_plist(alloc, world, values.as_slice()),
+        Operation::Incf => calls::increment(alloc, world, values.as_slice()),
+        Operation::Push => calls::push(alloc, world, values.as_slice()),
+        Operation::MakePackage => calls::make(alloc, world, values.as_slice()),
+        Operation::Export => calls::export(alloc, world, values.as_slice()),
+        Operation::Import => calls::import(alloc, world, values.as_slice()),
+        Operation::UsePackage => calls::use_package(alloc, world, values.as_slice()),
+        Operation::Intern => calls::intern(alloc, world, values.as_slice()),
+        Operation::CopyReadtable => calls::copy_readtable(alloc, world, values.as_slice()),
+        Operation::InReadtable => calls::enter_readtable(alloc, world, values.as_slice()),
+        Operation::SetSyntaxFromChar => calls::set_syntax(alloc, world, values.as_slice()),
+        Operation::SetMacroCharacter => calls::set_macro(alloc, world, names, values.as_slice()),
+        Operation::GetMacroCharacter => calls::get_macro(alloc, world, values.as_slice()),
+        Operation::MakeDispatchMacroCharacter => calls::make_dispatch(
+            alloc,
+            world,
+            values.as_slice(),
+        ),
+        Operation::SetDispatchMacroCharacter => calls::set_dispatch(
+            alloc,
+            world,
+            names,
+            values.as_slice(),
+        ),
+        Operation::GetDispatchMacroCharacter => calls::get_dispatch(
+            alloc,
+            world,
+            values.as_slice(),
+        ),
+        Operation::ReadtableCase => calls::readtable_case(alloc, world, values.as_slice()),
+        Operation::Quote => Err(Refused(ARGUMENT_KIND)),
+        Operation::If => Err(Refused(ARGUMENT_KIND)),
+        Operation::InPackage => Err(Refused(ARGUMENT_KIND)),
+    }
+}
+
+// SETF of a readtable's case, or of a property.
+fn put(
+    alloc: Global,
+    world: &mut World,
+    is_case: bool,
+    values: &[Datum],
+) -> Result<Evaluated, EvaluationError>
+    requires { All (IsArgument world.old.0.packages) values.now }
+    ensures gives { Answers done result world.new.0 (if is_case then set_case (map object_of values.now) world.old.0 else set (map object_of values.now) world.old.0) }
+    ensures proper { IfOk result (λ e. is_proper e.value ≡ true) }
+    ensures marked { world.new.1 ≡ world.old.1 }
+{
+    if is_case {
+        calls::set_case(alloc, world, values)
+    } else {
+        calls::set(alloc, world, values)
+    }
+}

@@ -1,0 +1,257 @@
+//! The operators on property lists (standard 10.2, 14.2), of the values of their arguments.
+ghost use Rattle.std.specs.Prelude.{◌≡◌, true, [], ◌∷◌, map, unwrap_or, All, IfOk};
+ghost use Rattle.std.specs.List.{list_all};
+ghost use Rattle.lisp_object.specs.Object.{IsSound, pair, nil};
+ghost use Rattle.lisp_object.specs.Datum.{object_of, is_proper};
+ghost use Rattle.plist_state.specs.Changes.{property};
+ghost use Rattle.plist_state.specs.Shown.{symbol_of, property_of};
+ghost use Rattle.form_eval.specs.Properties.{get, set, remove, in_turn, symbol_plist, amount, increment, push};
+ghost use Rattle.form_eval.specs.Evaluated.{IsArgument, Answers, Gives, done, object_of_symbol};
+
+use crate::EvaluationError::Refused;
+use crate::arguments::{given, given_or_nil};
+use crate::{Evaluated, EvaluationError, kinds, values};
+use lisp_object::Datum;
+use lisp_object::refusal::{ARGUMENT_KIND, INTEGER_RANGE, LIMIT, VALUE_TOO_DEEP};
+use plist_state::{Property, Symbol, World};
+use std::alloc::{AllocError, Global};
+
+/// GET of a symbol and an indicator, and what is given where there is no such property.
+pub(crate) fn get(
+    alloc: Global,
+    world: &World,
+    symbol: &Datum,
+    indicator: &Datum,
+    rest: &[Datum],
+) -> Result<Evaluated, EvaluationError>
+    requires symbol { IsArgument world.now.0.packages symbol.now }
+    requires indicator { IsArgument world.now.0.packages indicator.now }
+    requires rest { All (IsArgument world.now.0.packages) rest.now }
+    ensures gives { Gives done result world.now.0 (get (object_of symbol.now ∷ object_of indicator.now ∷ map object_of rest.now) world.now.0) }
+    ensures proper { IfOk result (λ e. is_proper e.value ≡ true) }
+{
+    let Some((home, name)) = kinds::symbol(symbol) else {
+        return Err(Refused(ARGUMENT_KIND));
+    };
+    let Some((indicator_home, indicator_name)) = kinds::symbol(indicator) else {
+        return Err(Refused(ARGUMENT_KIND));
+    };
+    let symbol = Symbol::from_bytes(alloc, home, name)?;
+    let indicator = Symbol::from_bytes(alloc, indicator_home, indicator_name)?;
+    let value = match world.get(&symbol, &indicator) {
+        Some(value) => value.copy(alloc)?,
+        None => given_or_nil(alloc, rest)?,
+    };
+    Ok(Evaluated {
+        value,
+        wrote: false,
+    })
+}
+
+/// SETF of a property: the new value.
+pub(crate) fn set(
+    alloc: Global,
+    world: &mut World,
+    symbol: &Datum,
+    indicator: &Datum,
+    value: &Datum,
+) -> Result<Evaluated, EvaluationError>
+    requires symbol { IsArgument world.old.0.packages symbol.now }
+    requires indicator { IsArgument world.old.0.packages indicator.now }
+    requires value { IsArgument world.old.0.packages value.now }
+    ensures gives { Gives done result world.new.0 (set (object_of symbol.now ∷ object_of indicator.now ∷ object_of value.now ∷ []) world.old.0) }
+    ensures proper { IfOk result (λ e. is_proper e.value ≡ true) }
+    ensures marked { world.new.1 ≡ world.old.1 }
+{
+    let Some((home, name)) = kinds::symbol(symbol) else {
+        return Err(Refused(ARGUMENT_KIND));
+    };
+    let Some((indicator_home, indicator_name)) = kinds::symbol(indicator) else {
+        return Err(Refused(ARGUMENT_KIND));
+    };
+    let symbol = Symbol::from_bytes(alloc, home, name)?;
+    let indicator = Symbol::from_bytes(alloc, indicator_home, indicator_name)?;
+    let value = value.copy(alloc)?;
+    let stored = value.copy(alloc)?;
+    world.put(&symbol, indicator, stored)?;
+    Ok(Evaluated { value, wrote: true })
+}
+
+/// REMPROP: whether the symbol had the property.
+pub(crate) fn remove(
+    alloc: Global,
+    world: &mut World,
+    symbol: &Datum,
+    indicator: &Datum,
+) -> Result<Evaluated, EvaluationError>
+    requires symbol { IsArgument world.old.0.packages symbol.now }
+    requires indicator { IsArgument world.old.0.packages indicator.now }
+    ensures gives { Gives done result world.new.0 (remove (object_of symbol.now ∷ object_of indicator.now ∷ []) world.old.0) }
+    ensures proper { IfOk result (λ e. is_proper e.value ≡ true) }
+    ensures marked { world.new.1 ≡ world.old.1 }
+{
+    let Some((home, name)) = kinds::symbol(symbol) else {
+        return Err(Refused(ARGUMENT_KIND));
+    };
+    let Some((indicator_home, indicator_name)) = kinds::symbol(indicator) else {
+        return Err(Refused(ARGUMENT_KIND));
+    };
+    let symbol = Symbol::from_bytes(alloc, home, name)?;
+    let indicator = Symbol::from_bytes(alloc, indicator_home, indicator_name)?;
+    if world.get(&symbol, &indicator).is_none() {
+        return Ok(Evaluated {
+            value: values::empty_list(alloc)?,
+            wrote: false,
+        });
+    }
+    let _had = world.remove(&symbol, &indicator)?;
+    Ok(Evaluated {
+        value: values::truth(alloc)?,
+        wrote: true,
+    })
+}
+
+// Indicators and values in turn.
+fn in_turn(alloc: Global, row: &[Property]) -> Result<Vec<Datum>, AllocError>
+    requires indicators { All (λ p. IsSound (object_of_symbol (property_of p).0)) row.now }
+    requires values { All (λ p. is_proper p.value ≡ true) row.now }
+    ensures value { IfOk result (λ v. map object_of v.items ≡ in_turn (map property_of row.now)) }
+    ensures proper { IfOk result (λ v. list_all is_proper v.items ≡ true) }
+{
+    let mut values = Vec::new(alloc);
+    for property in row {
+        let indicator = property.indicator();
+        values.push(values::symbol(alloc, indicator.home(), indicator.name())?)?;
+        values.push(property.value().copy(alloc)?)?;
+    }
+    Ok(values)
+}
+
+/// SYMBOL-PLIST: the indicators and the values of a symbol in turn.
+pub(crate) fn symbol_plist(
+    alloc: Global,
+    world: &World,
+    symbol: &Datum,
+) -> Result<Evaluated, EvaluationError>
+    requires { IsArgument world.now.0.packages symbol.now }
+    ensures gives { Answers done result world.now.0 (symbol_plist (object_of symbol.now ∷ []) world.now.0) }
+    ensures proper { IfOk result (λ e. is_proper e.value ≡ true) }
+{
+    let Some((home, name)) = kinds::symbol(symbol) else {
+        return Err(Refused(ARGUMENT_KIND));
+    };
+    world.soundness();
+    let symbol = Symbol::from_bytes(alloc, home, name)?;
+    let values = in_turn(alloc, world.plist(&symbol))?;
+    values::list(alloc, values)
+}
+
+// By how much INCF adds: 1 where it is not given.
+fn amount(rest: &[Datum]) -> Option<i128>
+    requires { All (λ d. is_proper d ≡ true) rest.now }
+    ensures { result ≡ amount (map object_of rest.now) }
+{
+    match given(rest) {
+        Some(datum) => kinds::integer(datum),
+        None => Some(1),
+    }
+}
+
+/// INCF of a property, by an integer or by 1: the sum.
+pub(crate) fn increment(
+    alloc: Global,
+    world: &mut World,
+    symbol: &Datum,
+    indicator: &Datum,
+    rest: &[Datum],
+) -> Result<Evaluated, EvaluationError>
+    requires symbol { IsArgument world.old.0.packages symbol.now }
+    requires indicator { IsArgument world.old.0.packages indicator.now }
+    requires rest { All (IsArgument world.old.0.packages) rest.now }
+    ensures gives { Answers done result world.new.0 (increment (object_of symbol.now ∷ object_of indicator.now ∷ map object_of rest.now) world.old.0) }
+    ensures proper { IfOk result (λ e. is_proper e.value ≡ true) }
+    ensures marked { world.new.1 ≡ world.old.1 }
+{
+    let Some((home, name)) = kinds::symbol(symbol) else {
+        return Err(Refused(ARGUMENT_KIND));
+    };
+    let Some((indicator_home, indicator_name)) = kinds::symbol(indicator) else {
+        return Err(Refused(ARGUMENT_KIND));
+    };
+    let Some(amount) = amount(rest) else {
+        return Err(Refused(ARGUMENT_KIND));
+    };
+    let symbol = Symbol::from_bytes(alloc, home, name)?;
+    let indicator = Symbol::from_bytes(alloc, indicator_home, indicator_name)?;
+    let Some(value) = world.get(&symbol, &indicator) else {
+        return Err(Refused(ARGUMENT_KIND));
+    };
+    let Some(before) = kinds::integer(value) else {
+        return Err(Refused(ARGUMENT_KIND));
+    };
+    let Some(sum) = before.checked_add(amount) else {
+        return Err(Refused(INTEGER_RANGE));
+    };
+    world.put(&symbol, indicator, Datum::Integer(sum))?;
+    Ok(Evaluated {
+        value: Datum::Integer(sum),
+        wrote: true,
+    })
+}
+
+// The pair of a value and the property, or NIL where there is none.
+fn pushed(
+    alloc: Global,
+    world: &World,
+    value: &Datum,
+    symbol: &Symbol,
+    indicator: &Symbol,
+) -> Result<Datum, AllocError>
+    requires { is_proper value.now ≡ true }
+    ensures value { IfOk result (λ d. object_of d ≡ pair (object_of value.now) (unwrap_or (property world.now.0 (symbol_of symbol.now) (symbol_of indicator.now)) nil)) }
+    ensures proper { IfOk result (λ d. is_proper d ≡ true) }
+{
+    let old = match world.get(symbol, indicator) {
+        Some(old) => old.copy(alloc)?,
+        None => values::empty_list(alloc)?,
+    };
+    let mut items = Vec::new(alloc);
+    items.push(value.copy(alloc)?)?;
+    Datum::list(alloc, items, Some(old))
+}
+
+/// PUSH of a value to a property: the pair of the two.
+pub(crate) fn push(
+    alloc: Global,
+    world: &mut World,
+    value: &Datum,
+    symbol: &Datum,
+    indicator: &Datum,
+) -> Result<Evaluated, EvaluationError>
+    requires value { IsArgument world.old.0.packages value.now }
+    requires symbol { IsArgument world.old.0.packages symbol.now }
+    requires indicator { IsArgument world.old.0.packages indicator.now }
+    ensures gives { Answers done result world.new.0 (push (object_of value.now ∷ object_of symbol.now ∷ object_of indicator.now ∷ []) world.old.0) }
+    ensures proper { IfOk result (λ e. is_proper e.value ≡ true) }
+    ensures marked { world.new.1 ≡ world.old.1 }
+{
+    let Some((home, name)) = kinds::symbol(symbol) else {
+        return Err(Refused(ARGUMENT_KIND));
+    };
+    let Some((indicator_home, indicator_name)) = kinds::symbol(indicator) else {
+        return Err(Refused(ARGUMENT_KIND));
+    };
+    let symbol = Symbol::from_bytes(alloc, home, name)?;
+    let indicator = Symbol::from_bytes(alloc, indicator_home, indicator_name)?;
+    let value = pushed(alloc, world, value, &symbol, &indicator)?;
+    if values::is_too_deep(&value) {
+        return Err(Refused(VALUE_TOO_DEEP));
+    }
+    if values::is_too_large(&value) {
+        return Err(Refused(LIMIT));
+    }
+    world.soundness();
+    let stored = value.copy(alloc)?;
+    world.put(&symbol, indicator, stored)?;
+    Ok(Evaluated { value, wrote: true })
+}
