@@ -1,6 +1,6 @@
 -- That a form which is accepted in a sound state leaves a sound state.
 --     accepted_sound      of a whole form
-use Rattle.std.proofs.Common.{◌≡◌, inl, inr, ◌<◌, Bool, false, not, cond, ◌||◌, List, [], ◌∷◌, ◌++◌, length, All, Some, None, Result, Ok, Err, bytes_eq, nat_lt, nat_le, refl, sym, ap, subst, ◌∙◌}
+use Rattle.std.proofs.Common.{◌≡◌, map, inl, inr, ◌<◌, Bool, false, not, cond, ◌||◌, List, [], ◌∷◌, ◌++◌, length, All, Some, None, Result, Ok, Err, bytes_eq, nat_lt, nat_le, refl, sym, ap, subst, ◌∙◌}
 use Rattle.std.specs.Option.{option_map_or}
 use Rattle.std.specs.FinMap as finite
 use Rattle.std.proofs.lemmas.List.Elements.{All-append, All-cons, All-nil, All-head, All-tail}
@@ -84,12 +84,12 @@ step u y v sound can is =
           };
         }
 
-record AllInterned (u v : Table) (ys : List Symbol) : Type 0 where
-  sound : packages.IsSound v
-  grows : Grows u v
-  present : All (IsSymbol v) ys
+pub record AllInterned (u v : Table) (ys : List Symbol) : Type 0 where
+  pub sound : packages.IsSound v
+  pub grows : Grows u v
+  pub present : All (IsSymbol v) ys
 
-abbrev InternedWhere : Table → List Symbol → Result (Table × Bool) PackageError → Type 0
+abbrev pub InternedWhere : Table → List Symbol → Result (Table × Bool) PackageError → Type 0
 InternedWhere u ys (Ok p) = AllInterned u p.0 ys
 InternedWhere u ys (Err e) = Unit {0}
 
@@ -105,10 +105,10 @@ all_can : (u v : Table) (ys : List Symbol) → ((z : Symbol) → CanIntern u z �
 all_can u v [] others all = All-nil (CanIntern v)
 all_can u v (y ∷ ys) others all = All-cons (CanIntern v) y ys (others y (All-head (CanIntern u) y ys all)) (all_can u v ys others (All-tail (CanIntern u) y ys all))
 
-abbrev changes : Table → Symbol → Bool
+abbrev pub changes : Table → Symbol → Bool
 changes u y = intern_changes u y.0 y.1
 
-all_interned : (u : Table) (wrote : Bool) (ys : List Symbol) → packages.IsSound u → All (CanIntern u) ys → InternedWhere u ys (one_by_one after_symbol changes u wrote ys)
+pub all_interned : (u : Table) (wrote : Bool) (ys : List Symbol) → packages.IsSound u → All (CanIntern u) ys → InternedWhere u ys (one_by_one after_symbol changes u wrote ys)
 all_interned u wrote [] sound all = record { sound = sound; grows = grows_same u; present = All-nil (IsSymbol u) }
 all_interned u wrote (y ∷ ys) sound all =
     elim (after_symbol u y) as (λ r. after_symbol u y ≡ r → InternedWhere u (y ∷ ys) (then_others r (λ later. one_by_one after_symbol changes later (wrote || changes u y) ys))) [
@@ -120,7 +120,7 @@ all_interned u wrote (y ∷ ys) sound all =
     ] refl
 
 -- ---- the symbols of an object
-symbols_can : (u : Table) (x : Object) → object.IsSound x → AllAtoms (Fits u) x → All (CanIntern u) (symbols x)
+pub symbols_can : (u : Table) (x : Object) → object.IsSound x → AllAtoms (Fits u) x → All (CanIntern u) (symbols x)
 symbols_can u (symbol home name) sound fits = All-cons (CanIntern u) (home, name) [] (record { fits = fits; ascii = sound.1 }) (All-nil (CanIntern u))
 symbols_can u (pair a b) sound fits = All-append (CanIntern u) (symbols a) (symbols b) (symbols_can u a sound.0 fits.0) (symbols_can u b sound.1 fits.1)
 symbols_can u (vector xs) sound fits = symbols_can u xs sound.0 fits
@@ -136,7 +136,7 @@ both_parts P (x ∷ xs) ys all =
     let later = both_parts P xs ys (All-tail P x (xs ++ ys) all) in
     (All-cons P x xs (All-head P x (xs ++ ys) all) later.0, later.1)
 
-known_from : (u v : Table) (x : Object) → AllAtoms (Fits u) x → All (IsSymbol v) (symbols x) → AllAtoms (IsKnown v) x
+pub known_from : (u v : Table) (x : Object) → AllAtoms (Fits u) x → All (IsSymbol v) (symbols x) → AllAtoms (IsKnown v) x
 known_from u v (symbol home name) fits all = All-head (IsSymbol v) (home, name) [] all
 known_from u v (pair a b) fits all =
     let both = both_parts (IsSymbol v) (symbols a) (symbols b) all in
@@ -147,6 +147,21 @@ known_from u v (rational n d) fits all = tt
 known_from u v (character c) fits all = tt
 known_from u v (text characters) fits all = tt
 known_from u v (uninterned name) fits all = fits
+
+-- the names of what can be interned are of characters
+pub ascii_of : (u : Table) (ys : List Symbol) → All (CanIntern u) ys → All (λ y. All (λ b. b < 128) y.1) ys
+ascii_of u [] all = All-nil (λ y. All (λ b. b < 128) y.1)
+ascii_of u (y ∷ ys) all = All-cons (λ y. All (λ b. b < 128) y.1) y ys (All-head (CanIntern u) y ys all).ascii (ascii_of u ys (All-tail (CanIntern u) y ys all))
+
+pub all_of_mapped : {X Y : Type 0} (P : Y → Type 0) (f : X → Y) (xs : List X) → All P (map f xs) → All (λ x. P (f x)) xs
+all_of_mapped P f [] all = All-nil (λ x. P (f x))
+all_of_mapped P f (x ∷ xs) all = All-cons (λ x. P (f x)) x xs (All-head P (f x) (map f xs) all) (all_of_mapped P f xs (All-tail P (f x) (map f xs) all))
+
+-- where the symbols of a form are interned, it can be evaluated
+pub form_may : (s : State) (x : Object) (v : Table) (wrote : Bool) → packages.IsSound s.packages → IsForm s.packages x → with_symbols s.packages (symbols x) ≡ Ok (v, wrote) → IsValue v x
+form_may s x v wrote sound form is =
+    let done : AllInterned s.packages v (symbols x) = subst (InternedWhere s.packages (symbols x)) is (all_interned s.packages false (symbols x) sound (symbols_can s.packages x form.object form.symbols)) in
+    record { object = form.object; depth = form.depth; symbols = known_from s.packages v x form.symbols done.present }
 
 -- ---- whole forms
 module _ (names : List Name) (all : AreFunctionNames names) (s : State) (x : Object) (sound : IsSound s) (form : IsForm s.packages x) where

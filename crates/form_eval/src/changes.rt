@@ -1,11 +1,12 @@
 //! Changes of the packages, one after the other.
-ghost use Rattle.std.specs.Prelude.{◌≡◌, false, map, All};
+ghost use Rattle.std.specs.Prelude.{◌≡◌, ◌<◌, false, map, All};
 ghost use Rattle.package_table.specs.Changes.{after_export, after_import, after_use, finds_this, export_changes, import_changes, use_changes};
 ghost use Rattle.package_table.specs.Table.{IsPackage};
 ghost use Rattle.std.specs.List.{list_all};
 ghost use Rattle.plist_state.specs.Changes.{with_packages};
 ghost use Rattle.plist_state.specs.Shown.{symbol_of};
 ghost use Rattle.plist_state.specs.Sound.{IsSymbol};
+ghost use Rattle.form_eval.specs.Acceptance.{with_symbols};
 ghost use Rattle.form_eval.specs.Packages.{one_by_one};
 ghost use Rattle.form_eval.specs.Evaluated.{Makes};
 
@@ -93,6 +94,22 @@ pub(crate) fn use_each(
     for package in used {
         match world.use_package(owner, package.as_slice()) {
             Ok(changed) => wrote = either(wrote, changed),
+            Err(error) => return Err(error),
+        }
+    }
+    Ok(wrote)
+}
+
+/// Each of these symbols is interned in its home, one after the other, and whether one of them is new.
+pub(crate) fn intern_all(world: &mut World, symbols: &[Symbol]) -> Result<bool, PackageError>
+    requires { All (λ x. All (λ b. b < 128) (symbol_of x).1) symbols.now }
+    ensures gives { Makes result world.new.0.packages (with_symbols world.old.0.packages (map symbol_of symbols.now)) }
+    ensures rest { world.new ≡ (with_packages world.old.0 world.new.0.packages, world.old.1) }
+{
+    let mut wrote = false;
+    for symbol in symbols {
+        match world.intern(symbol.home(), symbol.name()) {
+            Ok(interned) => wrote = either(wrote, interned.is_new),
             Err(error) => return Err(error),
         }
     }

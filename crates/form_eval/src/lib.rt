@@ -2,9 +2,10 @@
 //!
 //! `specs/` says what a form means: `value` gives what an object evaluates to in a state of the world, or the number of its
 //! refusal, and whether anything was written; `accept` interns the symbols of the object first. `laws` proves what holds of
-//! every form. `evaluation` evaluates a form in a `World`, exactly as `value` says. What interns the symbols first, and takes
-//! a form back that is refused, is not here yet.
+//! every form. The function `accept` does with a `World` exactly what the definition says, and leaves the world as it was where
+//! a form is refused.
 //!
+//! - `transaction`: `accept`; `symbols`: the symbols of a datum
 //! - `error`, `evaluated`: what a form gives, `EvaluationError` and `Evaluated`
 //! - `evaluation`: the value of a form, by recursion on it; `operators`: what is at its head; `place`: the places of SETF,
 //!   INCF and PUSH; `perform`: what an operator makes of the values of its arguments
@@ -34,7 +35,10 @@ mod perform;
 mod place;
 mod properties;
 mod readtables;
+mod symbols;
+mod transaction;
 mod values;
 
 pub use error::EvaluationError;
 pub use evaluated::Evaluated;
+pub use transaction::accept;
