@@ -1,46 +1,67 @@
 -- Which texts a world accepts as forms, and the world after a list of forms.
-use Rattle.std.specs.Prelude.{ℕ, ◌==◌, ◌-◌, if◌then◌else◌, List, [], ◌∷◌, length, take, drop, Option, None, Some, Result, Ok, Err}
+use Rattle.std.specs.Prelude.{ℕ, ◌==◌, ◌-◌, Bool, if◌then◌else◌, List, [], ◌∷◌, length, take, drop, Option, None, Some, Result, Ok, Err, unwrap_or}
+use Rattle.std.specs.FinMap as finite
 use Rattle.gate_log.specs.Layout.{Entry}
 use Rattle.lisp_object.specs.Object.{Object}
 use Rattle.lisp_object.specs.declared.refusal.TheConstants.{END_OF_FILE, TEXT_LEFT_OVER}
-use Rattle.readtable_core.specs.Tables.{standard}
+use Rattle.readtable_core.specs.Tables.{Table, standard}
+use Rattle.package_table.specs.Table.{common_lisp_user}
+use Rattle.plist_state.specs.State.{State as World}
+use Rattle.form_reader.specs.declared.limits.Limits.{Limits}
+use Rattle.form_reader.specs.Setting.{Setting, setting_of}
+use Rattle.form_reader.specs.Reading.{Outcome as Reading, form, empty, refused, reads}
+use Rattle.form_eval.specs.Outcomes.{Done, Outcome as Evaluation}
+use Rattle.form_eval.specs.Acceptance.{accept}
 use Rattle.prevalence_store.specs.declared.mode.Mode.{Mode}
 use Rattle.prevalence_store.specs.declared.mode.Mode.TheVariants.{Current, Rescue}
-use Rattle.prevalence_store.specs.World.{World}
-use Rattle.prevalence_store.specs.Parses.{form_limits}
-use Rattle.prevalence_store.specs.Reading.{Reading, form, empty, refused, reads}
-use Rattle.prevalence_store.specs.Evaluation.{value}
+use Rattle.prevalence_store.specs.Functions.{Functions}
 
--- what an accepted form gives: its value, the world that it leaves, and the text of its object alone
+-- What an accepted form gives: its value, the world that it leaves, whether it wrote anything, and the text of its object alone.
 pub record Acceptance : Type 0 where
   pub value : Object
   pub world : World
+  pub wrote : Bool
   pub text : List ℕ
+
+-- the limits of a form, in bytes, characters and open calls
+abbrev pub form_limits : Limits
+form_limits = record { text = 65536; token = 4096; nesting = 100 }
+
+-- the readtable of the world's current name
+abbrev pub current_table : World → Table
+current_table world = unwrap_or (finite.get world.readtables world.current_readtable) standard
+
+-- Under what a text is read: the world's current readtable, in its current package; or, to get out of a readtable that has
+-- become unusable, the standard one, in COMMON-LISP-USER.
+abbrev pub setting_in : Functions → World → Mode → Setting
+setting_in functions world Current =
+    setting_of form_limits (current_table world) world.packages world.current_package functions.names functions.way functions.answer
+setting_in functions world Rescue =
+    setting_of form_limits standard world.packages common_lisp_user functions.names functions.way functions.answer
+
+-- what a text begins with, as it is read in this world and mode
+abbrev pub read_in : Functions → World → Mode → List ℕ → Reading
+read_in functions world mode text = reads (setting_in functions world mode) text
 
 -- the bytes from one place to another
 abbrev pub between : ℕ → ℕ → List ℕ → List ℕ
 between start end text = take (end - start) (drop start text)
 
--- what evaluation gave for the object of this text: a value and a world, or the number of a refusal
-abbrev pub acceptance_of : List ℕ → Result (Object × World) ℕ → Result Acceptance ℕ
-acceptance_of text (Ok given) = Ok (record { value = given.0; world = given.1; text = text })
+-- what evaluation gave for the object of this text, or the number of a refusal
+abbrev pub acceptance_of : List ℕ → Evaluation Object → Result Acceptance ℕ
+acceptance_of text (Ok done) = Ok (record { value = done.value; world = done.state; wrote = done.wrote; text = text })
 acceptance_of text (Err number) = Err number
 
 -- by what was read: a text without an object is refused, and one with more after it
-abbrev pub accepted_of : World → List ℕ → Reading → Result Acceptance ℕ
-accepted_of world text (form object start end next) =
-    if next == length text then acceptance_of (between start end text) (value world object) else Err TEXT_LEFT_OVER
-accepted_of world text empty = Err END_OF_FILE
-accepted_of world text (refused number place) = Err number
+abbrev pub accepted_of : Functions → World → List ℕ → Reading → Result Acceptance ℕ
+accepted_of functions world text (form object start end next) =
+    if next == length text then acceptance_of (between start end text) (accept functions.names world object) else Err TEXT_LEFT_OVER
+accepted_of functions world text empty = Err END_OF_FILE
+accepted_of functions world text (refused number place) = Err number
 
--- What a text begins with, as it is read in this world and mode. For now both modes read under the standard readtable, in
--- COMMON-LISP-USER.
-abbrev pub read_in : World → Mode → List ℕ → Reading
-read_in world mode text = reads form_limits standard text
-
--- What a text gives in a world: the form is read whole, and then evaluated.
-abbrev pub accepts : World → Mode → List ℕ → Result Acceptance ℕ
-accepts world mode text = accepted_of world text (read_in world mode text)
+-- What a text gives in a world: the form is read whole, its symbols are interned, and then it is evaluated.
+abbrev pub accepts : Functions → World → Mode → List ℕ → Result Acceptance ℕ
+accepts functions world mode text = accepted_of functions world text (read_in functions world mode text)
 
 -- the byte that says in which mode a record is read
 abbrev pub kind_of : Mode → ℕ
@@ -54,8 +75,18 @@ mode_of kind = if kind == 0 then Current else Rescue
 abbrev pub logged : Mode → List ℕ → Entry
 logged mode text = record { kind = kind_of mode; text = text }
 
+-- a form is logged exactly where it wrote
+abbrev pub records_of : Bool → Mode → List ℕ → List Entry
+records_of wrote mode text = if wrote then logged mode text ∷ [] else []
+
 -- The world after these records, each accepted in the world that the ones before it left. None where one is not accepted.
-abbrev pub after : World → List Entry → Option World
-after world [] = Some world
-after world (entry ∷ entries) =
-    elim (accepts world (mode_of entry.kind) entry.text) [ Ok given ↦ after given.world entries | Err number ↦ None ]
+abbrev pub after : Functions → World → List Entry → Option World
+after functions world [] = Some world
+after functions world (entry ∷ entries) =
+    elim (accepts functions world (mode_of entry.kind) entry.text) [ Ok given ↦ after functions given.world entries | Err number ↦ None ]
+
+-- the number under which the first of these records that is not accepted is refused
+abbrev pub first_refusal : Functions → World → List Entry → Option ℕ
+first_refusal functions world [] = None
+first_refusal functions world (entry ∷ entries) =
+    elim (accepts functions world (mode_of entry.kind) entry.text) [ Ok given ↦ first_refusal functions given.world entries | Err number ↦ Some number ]

@@ -1,6 +1,8 @@
 -- Why a form is not accepted, and what is left after it.
-use Rattle.std.specs.Prelude.{◌≡◌, ℕ, ◌+◌, ◌<◌, ◌≤◌, Bool, true, false, length, Result, Ok, Err}
+use Rattle.std.specs.Prelude.{◌≡◌, ℕ, ◌+◌, ◌<◌, ◌≤◌, Bool, true, false, length, Ok, Err}
+use Rattle.lisp_object.specs.Object.{Object}
 use Rattle.lisp_object.specs.declared.refusal.TheConstants.{DEVICE, LOG_FULL, NO_MEMORY}
+use Rattle.form_eval.specs.Outcomes.{Done, Outcome as Evaluation}
 use Rattle.prevalence_store.specs.declared.failure.Failure.{Failure}
 use Rattle.prevalence_store.specs.declared.failure.Failure.TheVariants.{Refused, Full, DeviceFault, OutOfMemory}
 
@@ -16,10 +18,14 @@ is_device Full = false
 is_device DeviceFault = true
 is_device OutOfMemory = false
 
+-- what was evaluated to this has written something
+abbrev pub Writes : Evaluation Object → Type 0
+Writes given = (done : Done Object) × (given ≡ Ok done) × (done.wrote ≡ true)
+
 -- Each failure with its cause, of a form whose evaluation gave this, in a half of this size and limit, by a record with a
--- text of this length: evaluation refused it; or it did not, and the record does not fit; or it does, and the device failed.
-abbrev pub IsCause : {A : Type 0} → Result A ℕ → (size limit length : ℕ) → Failure → Type 0
+-- text of this length: evaluation refused it; or the form wrote, and the record does not fit; or it does, and the device failed.
+abbrev pub IsCause : Evaluation Object → (size limit length : ℕ) → Failure → Type 0
 IsCause given size limit length (Refused number) = given ≡ Err number
-IsCause {A} given size limit length Full = ((x : A) × (given ≡ Ok x)) × (limit < size + (6 + length))
-IsCause {A} given size limit length DeviceFault = ((x : A) × (given ≡ Ok x)) × (size + (6 + length) ≤ limit)
+IsCause given size limit length Full = Writes given × (limit < size + (6 + length))
+IsCause given size limit length DeviceFault = Writes given × (size + (6 + length) ≤ limit)
 IsCause given size limit length OutOfMemory = Unit {0}

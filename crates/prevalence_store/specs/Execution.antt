@@ -1,5 +1,5 @@
 -- What `execute` answers, each answer with its cause and with what is left after it.
-use Rattle.std.specs.Prelude.{true, ◌≡◌, ◌⊎◌, ℕ, ◌+◌, ◌<◌, ◌≤◌, List, [], ◌∷◌, length, None, Some, Result, Ok, Err}
+use Rattle.std.specs.Prelude.{Bool, true, false, ◌≡◌, ◌⊎◌, ℕ, ◌+◌, ◌<◌, ◌≤◌, List, [], ◌∷◌, length, None, Some, Result, Ok, Err}
 use Rattle.disk_trait.specs.Disk.{Image, State, IsHonest}
 use Rattle.disk_trait.specs.Half.{opposite_of}
 use Rattle.gate_log.specs.Layout.{Contents, Entry, with_entry}
@@ -7,17 +7,19 @@ use Rattle.gate_log.specs.Log as gated
 use Rattle.lisp_object.specs.Object.{Object}
 use Rattle.lisp_object.specs.Datum.{object_of, is_proper}
 use Rattle.lisp_object.specs.declared.datum.Datum.{Datum}
+use Rattle.form_eval.specs.declared.evaluated.Evaluated.{Evaluated}
 use Rattle.lisp_object.specs.declared.refusal.TheConstants.{DEVICE, LOG_FULL, NO_MEMORY}
 use Rattle.prevalence_store.specs.declared.failure.Failure.{Failure}
 use Rattle.prevalence_store.specs.declared.failure.Failure.TheVariants as failure
 use Rattle.prevalence_store.specs.declared.mode.Mode.{Mode}
 use Rattle.prevalence_store.specs.declared.outcome.Outcome.{Outcome}
 use Rattle.prevalence_store.specs.declared.outcome.Outcome.TheVariants.{Accepted, Refused}
-use Rattle.prevalence_store.specs.Acceptance.{Acceptance, accepts, logged}
+use Rattle.prevalence_store.specs.Acceptance.{Acceptance, accepts, logged, records_of}
 use Rattle.prevalence_store.specs.LeftAlone.{LeavesAlone}
 use Rattle.prevalence_store.specs.Session.{Session, Describes}
 use Rattle.prevalence_store.specs.Theorem.{Keeps, Survives}
-use Rattle.prevalence_store.specs.World.{World}
+use Rattle.plist_state.specs.State.{State as World}
+use Rattle.prevalence_store.specs.Functions.{Functions}
 
 -- the log holds what it held, or this record more
 abbrev pub IsBeforeOrAfter : Contents → Entry → Image → Type 0
@@ -25,24 +27,24 @@ IsBeforeOrAfter k entry = gated.MeansEither (Some k) (Some (with_entry k entry))
 
 -- ---- the forms that a call took, and how many of them it acknowledged
 
--- of a form that was read: its one form, where it was accepted, and where it was under way as the device failed
-abbrev pub taken_in : Mode → List ℕ → Result Datum Failure → List Entry
-taken_in mode text (Ok value) = logged mode text ∷ []
+-- of a form that was read: its one form, where it was accepted and wrote, and where it was under way as the device failed
+abbrev pub taken_in : Mode → List ℕ → Result Evaluated Failure → List Entry
+taken_in mode text (Ok evaluated) = records_of evaluated.wrote mode text
 taken_in mode text (Err failure.DeviceFault) = logged mode text ∷ []
 taken_in mode text (Err (failure.Refused number)) = []
 taken_in mode text (Err failure.Full) = []
 taken_in mode text (Err failure.OutOfMemory) = []
 
-abbrev pub acknowledged_in : Result Datum Failure → ℕ
-acknowledged_in (Ok value) = 1
-acknowledged_in (Err failure) = 0
+abbrev pub acknowledged_in : Mode → List ℕ → Result Evaluated Failure → ℕ
+acknowledged_in mode text (Ok evaluated) = length (records_of evaluated.wrote mode text)
+acknowledged_in mode text (Err failure) = 0
 
-module _ {D : Type 0} (state : D → State) (old new : Session D) where
+module _ (functions : Functions) {D R : Type 0} (state : D → State) (old new : Session D R) where
   -- what a crash leaves: on an honest disk of which each crash would have left the world that was there
   abbrev pub SurvivesAs : World → List Entry → ℕ → Type 0
   SurvivesAs world taken acknowledged =
-      old.world ≡ Some world → IsHonest (state old.disk) → Keeps (state old.disk) world
-      → Survives (state old.disk) (state new.disk) world taken acknowledged new.world
+      old.world ≡ Some world → IsHonest (state old.disk) → Keeps functions (state old.disk) world
+      → Survives functions (state old.disk) (state new.disk) world taken acknowledged new.world
 
   -- A form with this text was logged, and left this world. On an honest disk its record, which is its mode and its text,
   -- comes after those that were there, and the store tells of it.
@@ -54,10 +56,16 @@ module _ {D : Type 0} (state : D → State) (old new : Session D) where
     pub size : new.size ≡ old.size + (6 + length text)
     pub fits : new.size ≤ old.limit
     pub limit : new.limit ≡ old.limit
+    pub macros : new.macros ≡ old.macros
     pub described : (k : Contents) → IsHonest (state old.disk) → Describes old k (state old.disk).reads
         → Describes new (with_entry k (logged mode text)) (state new.disk).reads
     pub other : IsHonest (state old.disk) → LeavesAlone (opposite_of old.half) (state old.disk) (state new.disk)
     pub failures : (state new.disk).failures ≡ (state old.disk).failures
+
+  -- A form that wrote was logged. One that wrote nothing left all as it was, the disk too.
+  abbrev pub Stores : Bool → Mode → List ℕ → World → Type 0
+  Stores true mode text world = Logs mode text world
+  Stores false mode text world = (new ≡ old) × (new.world ≡ Some world)
 
   -- The device failed in the call. Nothing is known of the world until the store is opened again.
   pub record DeviceFails : Type 0 where
@@ -67,40 +75,43 @@ module _ {D : Type 0} (state : D → State) (old new : Session D) where
     pub record_count : new.record_count ≡ old.record_count
     pub size : new.size ≡ old.size
     pub limit : new.limit ≡ old.limit
+    pub macros : new.macros ≡ old.macros
     pub other : IsHonest (state old.disk) → LeavesAlone (opposite_of old.half) (state old.disk) (state new.disk)
     pub failures : (state new.disk).failures ≡ (state old.disk).failures + 1
 
   -- ---- what became of a text, in the world that the store had
 
   module _ (world : World) (mode : Mode) (text : List ℕ) where
-    -- the world accepts the text, and it was logged
+    -- the world accepts the text, and what it wrote was logged
     pub record IsAccepted (value : Object) : Type 0 where
       pub given : Acceptance
-      pub accepted : accepts world mode text ≡ Ok given
+      pub accepted : accepts functions world mode text ≡ Ok given
       pub answered : value ≡ given.value
-      pub logs : Logs mode given.text given.world
-      pub survives : SurvivesAs world (logged mode given.text ∷ []) 1
+      pub stored : Stores given.wrote mode given.text given.world
+      pub survives : SurvivesAs world (records_of given.wrote mode given.text) (length (records_of given.wrote mode given.text))
 
     -- the world does not accept the text, and this is why
     pub record IsTurnedDown (number : ℕ) : Type 0 where
-      pub refused : accepts world mode text ≡ Err number
+      pub refused : accepts functions world mode text ≡ Err number
       pub unchanged : new ≡ old
       pub survives : SurvivesAs world [] 0
 
-    -- the world accepts the text, and the half would pass its limit by the record
+    -- the world accepts the text, which writes, and the half would pass its limit by the record
     pub record HasNoRoom (number : ℕ) : Type 0 where
       pub full : number ≡ LOG_FULL
       pub given : Acceptance
-      pub accepted : accepts world mode text ≡ Ok given
+      pub accepted : accepts functions world mode text ≡ Ok given
+      pub wrote : given.wrote ≡ true
       pub over : old.limit < old.size + (6 + length given.text)
       pub unchanged : new ≡ old
       pub survives : SurvivesAs world [] 0
 
-    -- the world accepts the text, there is room for the record, and the device failed
+    -- the world accepts the text, which writes, there is room for the record, and the device failed
     pub record IsFault (number : ℕ) : Type 0 where
       pub device : number ≡ DEVICE
       pub given : Acceptance
-      pub accepted : accepts world mode text ≡ Ok given
+      pub accepted : accepts functions world mode text ≡ Ok given
+      pub wrote : given.wrote ≡ true
       pub fits : old.size + (6 + length given.text) ≤ old.limit
       pub failed : DeviceFails
       pub survives : SurvivesAs world (logged mode given.text ∷ []) 0

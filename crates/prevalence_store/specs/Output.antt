@@ -6,22 +6,24 @@ use Rattle.gate_log.specs.Layout.{Entry}
 use Rattle.lisp_object.specs.Object.{Object}
 use Rattle.lisp_object.specs.Refusal.{name_of}
 use Rattle.prevalence_store.specs.declared.mode.Mode.{Mode}
-use Rattle.prevalence_store.specs.World.{World}
-use Rattle.prevalence_store.specs.Acceptance.{between, logged, read_in}
-use Rattle.prevalence_store.specs.Reading.{Reading, form, empty, refused}
-use Rattle.prevalence_store.specs.Evaluation.{value}
-use Rattle.prevalence_store.specs.Printing.{printed}
+use Rattle.plist_state.specs.State.{State as World}
+use Rattle.prevalence_store.specs.Acceptance.{between, read_in, records_of}
+use Rattle.form_reader.specs.Reading.{Outcome as Reading, form, empty, refused}
+use Rattle.form_eval.specs.Outcomes.{Outcome as Evaluation}
+use Rattle.form_eval.specs.Acceptance.{accept}
+use Rattle.canon_printer.specs.Printed.{printed}
+use Rattle.prevalence_store.specs.Functions.{Functions}
 
 -- a value, as it is printed in the world after its form, and a newline
 abbrev pub value_line : World → Object → List ℕ
-value_line world x = printed x ++ 10 ∷ []
+value_line world x = printed world.packages world.current_package x ++ 10 ∷ []
 
 -- an exclamation mark, the number of a refusal, its name, and a newline
 abbrev pub refusal_line : ℕ → List ℕ
 refusal_line number = codes "! " ++ decimal number ++ 32 ∷ name_of number ++ 10 ∷ []
 
--- How far a session has come: its world, the text that is left, the records of the forms that were accepted, and the lines of
--- all forms.
+-- How far a session has come: its world, the text that is left, the records of the forms that were accepted and wrote, and the
+-- lines of all forms.
 pub record Progress : Type 0 where
   pub world : World
   pub rest : List ℕ
@@ -37,31 +39,31 @@ abbrev pub onward : Progress → Progress → Progress
 onward p q = record { world = q.world; rest = q.rest; taken = p.taken ++ q.taken; lines = p.lines ++ q.lines }
 
 -- What comes of a form with this text of its own, after which this is left, by what its evaluation gave. A form that is refused
--- leaves no record.
-abbrev pub evaluated : World → Mode → List ℕ → List ℕ → Result (Object × World) ℕ → Progress
-evaluated world mode own rest (Ok given) = record {
-  world = given.1;
+-- leaves no record, nor does one that writes nothing.
+abbrev pub evaluated : World → Mode → List ℕ → List ℕ → Evaluation Object → Progress
+evaluated world mode own rest (Ok done) = record {
+  world = done.state;
   rest = rest;
-  taken = logged mode own ∷ [];
-  lines = value_line given.1 given.0;
+  taken = records_of done.wrote mode own;
+  lines = value_line done.state done.value;
 }
 evaluated world mode own rest (Err number) = record { world = world; rest = rest; taken = []; lines = refusal_line number }
 
 -- of what the text begins with, where that is a form
-abbrev pub one_form : World → Mode → List ℕ → Reading → Option Progress
-one_form world mode text (form object start end next) =
-    Some (evaluated world mode (between start end text) (drop next text) (value world object))
-one_form world mode text empty = None
-one_form world mode text (refused number place) = None
+abbrev pub one_form : Functions → World → Mode → List ℕ → Reading → Option Progress
+one_form functions world mode text (form object start end next) =
+    Some (evaluated world mode (between start end text) (drop next text) (accept functions.names world object))
+one_form functions world mode text empty = None
+one_form functions world mode text (refused number place) = None
 
 -- one form more
-abbrev pub one_form_more : Mode → Progress → Option Progress
-one_form_more mode p = option_map (onward p) (one_form p.world mode p.rest (read_in p.world mode p.rest))
+abbrev pub one_form_more : Functions → Mode → Progress → Option Progress
+one_form_more functions mode p = option_map (onward p) (one_form functions p.world mode p.rest (read_in functions p.world mode p.rest))
 
 -- After so many forms of a text, each read in the world that the ones before it left. None where it has not so many.
-abbrev pub after_forms : ℕ → World → Mode → List ℕ → Option Progress
-after_forms zero world mode text = Some (begun world text)
-after_forms (suc n) world mode text = option_and_then (one_form_more mode) (after_forms n world mode text)
+abbrev pub after_forms : Functions → ℕ → World → Mode → List ℕ → Option Progress
+after_forms functions zero world mode text = Some (begun world text)
+after_forms functions (suc n) world mode text = option_and_then (one_form_more functions mode) (after_forms functions n world mode text)
 
 -- the line that ends a session at a refusal of the reader
 abbrev pub last_line : Reading → List ℕ

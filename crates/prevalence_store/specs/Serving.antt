@@ -12,10 +12,11 @@ use Rattle.prevalence_store.specs.Acceptance.{read_in}
 use Rattle.prevalence_store.specs.Execution.{SurvivesAs}
 use Rattle.prevalence_store.specs.LeftAlone.{LeavesAlone}
 use Rattle.prevalence_store.specs.Output.{Progress, after_forms, last_line, one_form, refusal_line}
-use Rattle.prevalence_store.specs.Reading.{Reading, form, empty, refused}
+use Rattle.form_reader.specs.Reading.{Outcome as Reading, form, empty, refused}
 use Rattle.prevalence_store.specs.Session.{Session, Describes}
 use Rattle.prevalence_store.specs.Streams.{Writes}
-use Rattle.prevalence_store.specs.World.{World}
+use Rattle.plist_state.specs.State.{State as World}
+use Rattle.prevalence_store.specs.Functions.{Functions}
 
 -- the contents with these records more
 abbrev pub with_entries : Contents → List Entry → Contents
@@ -31,7 +32,7 @@ MayGoOn text (refused number place) = place ≡ length text
 abbrev pub room_of : List Entry → ℕ
 room_of = sum_by (λ entry. 6 + length entry.text)
 
-module _ {D : Type 0} (state : D → State) (old new : Session D) where
+module _ (functions : Functions) {D R : Type 0} (state : D → State) (old new : Session D R) where
   -- The device has not failed: the world, the records and the size are those after these forms, on an honest disk in the files too.
   pub record IsAfter (far : Progress) : Type 0 where
     pub left : new.world ≡ Some far.world
@@ -42,6 +43,7 @@ module _ {D : Type 0} (state : D → State) (old new : Session D) where
     -- each record had room
     pub fits : new.size ≤ max old.size old.limit
     pub limit : new.limit ≡ old.limit
+    pub macros : new.macros ≡ old.macros
     pub described : (k : Contents) → IsHonest (state old.disk) → Describes old k (state old.disk).reads
         → Describes new (with_entries k far.taken) (state new.disk).reads
     -- the half that is not in use is left alone
@@ -53,10 +55,10 @@ module _ {D : Type 0} (state : D → State) (old new : Session D) where
   module _ (world : World) (mode : Mode) (text : List ℕ) (held written : Option (List ℕ)) where
     -- the first forms of the text were taken and answered, each line whole
     pub record Advances (forms : ℕ) (far : Progress) : Type 0 where
-      pub far_is : after_forms forms world mode text ≡ Some far
+      pub far_is : after_forms functions forms world mode text ≡ Some far
       pub lines : Writes held written far.lines
       pub after : IsAfter far
-      pub survives : SurvivesAs state old new world far.taken (length far.taken)
+      pub survives : SurvivesAs functions state old new world far.taken (length far.taken)
 
     -- ---- how a session ends: the forms that were taken, those whose lines were written whole, and the part of the next line
 
@@ -65,14 +67,14 @@ module _ {D : Type 0} (state : D → State) (old new : Session D) where
       pub record IsDone : Type 0 where
         pub all : lines ≡ forms
         pub no_part : part ≡ []
-        pub nothing_left : read_in far.world mode far.rest ≡ empty
+        pub nothing_left : read_in functions far.world mode far.rest ≡ empty
         pub after : IsAfter far
 
       -- the reader refused what is left, and that was answered
       pub record IsRefused (number : ℕ) : Type 0 where
         pub all : lines ≡ forms
         pub place : ℕ
-        pub reads : read_in far.world mode far.rest ≡ refused number place
+        pub reads : read_in functions far.world mode far.rest ≡ refused number place
         pub line : part ≡ refusal_line number
         pub after : IsAfter far
 
@@ -90,6 +92,7 @@ module _ {D : Type 0} (state : D → State) (old new : Session D) where
         -- its record had room
         pub fits : old.size + room_of far.taken ≤ old.limit
         pub limit : new.limit ≡ old.limit
+        pub macros : new.macros ≡ old.macros
         pub other : IsHonest (state old.disk) → LeavesAlone (opposite_of old.half) (state old.disk) (state new.disk)
         pub failures : (state new.disk).failures ≡ (state old.disk).failures + 1
 
@@ -99,7 +102,7 @@ module _ {D : Type 0} (state : D → State) (old new : Session D) where
         pub all : lines ≡ forms
         pub no_part : part ≡ []
         pub next : Progress
-        pub next_is : one_form far.world mode far.rest (read_in far.world mode far.rest) ≡ Some next
+        pub next_is : one_form functions far.world mode far.rest (read_in functions far.world mode far.rest) ≡ Some next
         pub record_ : Entry
         pub is_taken : next.taken ≡ record_ ∷ []
         pub over : new.limit < new.size + (6 + length record_.text)
@@ -111,7 +114,7 @@ module _ {D : Type 0} (state : D → State) (old new : Session D) where
         pub all : lines ≡ forms
         pub no_part : part ≡ []
         -- more was needed: no form of what was read is left unanswered
-        pub more : MayGoOn far.rest (read_in far.world mode far.rest)
+        pub more : MayGoOn far.rest (read_in functions far.world mode far.rest)
         pub after : IsAfter far
 
       -- a write failed, or took nothing: the lines so far are the first part of what was to be written
@@ -119,7 +122,7 @@ module _ {D : Type 0} (state : D → State) (old new : Session D) where
         pub output : number ≡ OUTPUT
         pub unwritten : List ℕ
         pub some_left : unwritten ≢ []
-        pub front : far.lines ++ last_line (read_in far.world mode far.rest) ≡ answered.lines ++ part ++ unwritten
+        pub front : far.lines ++ last_line (read_in functions far.world mode far.rest) ≡ answered.lines ++ part ++ unwritten
         pub after : IsAfter far
 
       -- a growth was refused
@@ -139,40 +142,40 @@ module _ {D : Type 0} (state : D → State) (old new : Session D) where
     pub record Serves (ending : Ending) : Type 0 where
       pub forms : ℕ
       pub far : Progress
-      pub far_is : after_forms forms world mode text ≡ Some far
+      pub far_is : after_forms functions forms world mode text ≡ Some far
       -- of these so many were answered whole
       pub lines : ℕ
       pub answered : Progress
-      pub answered_is : after_forms lines world mode text ≡ Some answered
+      pub answered_is : after_forms functions lines world mode text ≡ Some answered
       pub at_most : lines ≤ forms
       pub in_turn : forms ≤ lines + 1
       -- and a part of the next line was written
       pub part : List ℕ
       pub output : Writes held written (answered.lines ++ part)
-      pub survives : SurvivesAs state old new world far.taken (length answered.taken)
+      pub survives : SurvivesAs functions state old new world far.taken (length answered.taken)
       pub ends : Ends forms far lines answered part ending
 
 -- where the reader refused the text, it refuses it with more after it too, and the forms before are the same
-abbrev pub StaysRefused : {D : Type 0} (state : D → State) (old new : Session D) (world : World) (mode : Mode) (text : List ℕ)
-    (held written : Option (List ℕ)) (number : ℕ) → Serves state old new world mode text held written (Reader number) → Type 0
-StaysRefused state old new world mode text held written number served = (more : List ℕ)
-    → (after_forms served.forms world mode (text ++ more) ≡ Some (record served.far { rest = served.far.rest ++ more }))
-    × ((place : ℕ) × (read_in served.far.world mode (served.far.rest ++ more) ≡ refused number place))
+abbrev pub StaysRefused : Functions → {D R : Type 0} (state : D → State) (old new : Session D R) (world : World) (mode : Mode) (text : List ℕ)
+    (held written : Option (List ℕ)) (number : ℕ) → Serves functions state old new world mode text held written (Reader number) → Type 0
+StaysRefused functions state old new world mode text held written number served = (more : List ℕ)
+    → (after_forms functions served.forms world mode (text ++ more) ≡ Some (record served.far { rest = served.far.rest ++ more }))
+    × ((place : ℕ) × (read_in functions served.far.world mode (served.far.rest ++ more) ≡ refused number place))
 
 -- How much a session has read when it ends: at the end of the input all of it; at a refusal of the reader all of it, or so much
 -- that what follows makes no difference; else what the reader has left is what was not read. Where a read failed or memory was
 -- refused before the first form, it is not told how much was read.
-abbrev pub HasRead : {D : Type 0} (state : D → State) (old new : Session D) (world : World) (mode : Mode) (text : List ℕ)
-    (held written : Option (List ℕ)) (ending : Ending) → Serves state old new world mode text held written ending → List ℕ → Option (List ℕ) → Type 0
-HasRead state old new world mode text held written End served left reader = (left ≡ []) × (reader ≡ Some left)
-HasRead state old new world mode text held written (Reader number) served left reader =
-    ((left ≡ []) ⊎ StaysRefused state old new world mode text held written number served) × (reader ≡ Some left)
-HasRead state old new world mode text held written (Store number) served left reader =
+abbrev pub HasRead : Functions → {D R : Type 0} (state : D → State) (old new : Session D R) (world : World) (mode : Mode) (text : List ℕ)
+    (held written : Option (List ℕ)) (ending : Ending) → Serves functions state old new world mode text held written ending → List ℕ → Option (List ℕ) → Type 0
+HasRead functions state old new world mode text held written End served left reader = (left ≡ []) × (reader ≡ Some left)
+HasRead functions state old new world mode text held written (Reader number) served left reader =
+    ((left ≡ []) ⊎ StaysRefused functions state old new world mode text held written number served) × (reader ≡ Some left)
+HasRead functions state old new world mode text held written (Store number) served left reader =
     ((served.forms ≡ 0) × ((number ≡ INPUT) ⊎ (number ≡ NO_MEMORY))) ⊎ (reader ≡ Some left)
 
 -- A session over what a reader gives: what the reader had is what was read and what is left.
-pub record ServesInput {D : Type 0} (state : D → State) (old new : Session D) (world : World) (mode : Mode) (had has held written : Option (List ℕ)) (ending : Ending) : Type 0 where
+pub record ServesInput (functions : Functions) {D R : Type 0} (state : D → State) (old new : Session D R) (world : World) (mode : Mode) (had has held written : Option (List ℕ)) (ending : Ending) : Type 0 where
   pub text : List ℕ
-  pub serves : Serves state old new world mode text held written ending
+  pub serves : Serves functions state old new world mode text held written ending
   pub reads : (all : List ℕ) → had ≡ Some all
-      → (left : List ℕ) × (all ≡ text ++ left) × HasRead state old new world mode text held written ending serves left has
+      → (left : List ℕ) × (all ≡ text ++ left) × HasRead functions state old new world mode text held written ending serves left has

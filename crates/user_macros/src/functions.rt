@@ -51,4 +51,8 @@ pub trait MacroFunctions {
     /// registered. Takes no memory.
     fn covers(&self, readtable: &Readtable) -> bool
         ensures { result ≡ list_all (is_covered (registered self.now)) (functions_of readtable.now) };
+
+    // only functions that the meaning has names of are registered
+    ghost known: { (macros : Self) → answers macros → (name : List ℕ)
+        → IsTrue (is_among (registered macros) name) → IsTrue (is_among Self.Meaning.names name) };
 }

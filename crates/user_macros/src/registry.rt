@@ -8,6 +8,8 @@ ghost use Rattle.user_macros.specs.Calls.{call_of, answer_of};
 ghost use Rattle.user_macros.specs.Sound.{IsSoundCall};
 ghost use Rattle.user_macros.specs.Registry.{refusal, is_covered};
 
+ghost use Rattle.user_macros.specs.Known.{known_among};
+
 use crate::stored::Stored;
 use crate::{Answer, Call, Gather, MacroFn, MacroFunctions, Meaning};
 use readtable_core::{CharacterEntry, FnName, Readtable};
@@ -148,6 +150,8 @@ impl<M: Meaning> MacroFunctions for Macros<M> {
     ghost answers = { λ m. All (λ s. IsTrue (is_among M.names s.name)) m.stored.items
         × All (λ s. (call : _) (a : _) → IsSoundCall call.now → MacroFn.post s.function call (Ok a)
         → answer_of a ≡ M.answer s.name (call_of call.now)) m.stored.items };
+
+    ghost known = { λ m answers name is. known_among (λ s. s.name) M.names m.stored.items name answers.0 is };
 
     fn meaning(&self) -> &M {
         &self.meaning

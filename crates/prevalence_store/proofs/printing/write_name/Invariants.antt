@@ -1,6 +1,0 @@
-use Rattle.std.proofs.Common.{◌≡◌, ◌++◌, take}
-use Rattle.prevalence_store.specs.Printing.{escaped, is_escaped_in_bars}
-use Rattle.prevalence_store.proofs.printing.write_name.Given as goal
-
-abbrev pub invariant-loop-c : goal.invariant-loop-c
-invariant-loop-c l = l.text.items ≡ l.initial.text.items ++ escaped is_escaped_in_bars (take l.c-index l.name)

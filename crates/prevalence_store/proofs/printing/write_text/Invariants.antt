@@ -1,6 +1,0 @@
-use Rattle.std.proofs.Common.{◌≡◌, ◌++◌, take}
-use Rattle.prevalence_store.specs.Printing.{escaped, is_escaped_in_text}
-use Rattle.prevalence_store.proofs.printing.write_text.Given as goal
-
-abbrev pub invariant-loop-c : goal.invariant-loop-c
-invariant-loop-c l = l.text.items ≡ l.initial.text.items ++ escaped is_escaped_in_text (take l.c-index l.bytes)
