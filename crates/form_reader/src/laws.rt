@@ -22,6 +22,12 @@ pub fn forms_are_decided()
         → reads setting (text ++ more) ≡ form x start end next }
 {}
 
+/// A form has at most as many bytes as the limit of the text says.
+pub fn forms_are_within_the_limit()
+    ensures { (setting : Setting) (text : List ℕ) (x : Object) (start end next : ℕ)
+        → reads setting text ≡ form x start end next → end - start ≤ setting.limits.text }
+{}
+
 /// A form with which a whitespace character was discarded is read again from its own bytes and this character, whatever
 /// follows them.
 pub fn spaced_forms_are_framed()

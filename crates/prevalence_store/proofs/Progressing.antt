@@ -16,12 +16,11 @@ use Rattle.prevalence_store.specs.Output.{Progress, after_forms, begun, last_lin
 use Rattle.prevalence_store.specs.Serving.{Advances, Ends, IsAfter, Serves, room_of, with_entries}
 use Rattle.prevalence_store.specs.Session.{Session, Describes}
 use Rattle.prevalence_store.specs.Streams.{Writes}
-use Rattle.prevalence_store.specs.World.{World}
+use Rattle.plist_state.specs.State.{State as World}
 use Rattle.prevalence_store.specs.Theorem.{Survives}
 use Rattle.prevalence_store.proofs.LeftAlone.{alone_both}
 use Rattle.prevalence_store.proofs.Surviving.{both_survive}
-
--- ---- progress
+use Rattle.prevalence_store.specs.Functions.{Functions}
 
 onward_onward : (p q r : Progress) → onward (onward p q) r ≡ onward p (onward q r)
 onward_onward p q r =
@@ -39,26 +38,6 @@ more_onward p q r (Some s) is =
     let same : onward q s ≡ r = cc in
     ap (λ o. Some o) (onward_onward p q s ∙ ap (onward p) same)
 
-step_back : (mode : Mode) (o : Option Progress) (r : Progress) → option_and_then (one_form_more mode) o ≡ Some r → (q : Progress) × (o ≡ Some q) × (one_form_more mode q ≡ Some r)
-step_back mode None r is = absurd (cc)
-step_back mode (Some q) r is = (q, refl, is)
-
--- so many forms of the rest, after others
-pub forms_onward : (n m k : ℕ) (w : World) (mode : Mode) (text : List ℕ) (p q : Progress) → k ≡ n + m
-    → after_forms m w mode text ≡ Some p → after_forms n p.world mode p.rest ≡ Some q → after_forms k w mode text ≡ Some (onward p q)
-forms_onward zero m k w mode text p q is here there =
-    let count : k ≡ m = omega arith in
-    let start : begun p.world p.rest ≡ q = cc in
-    ap (λ j. after_forms j w mode text) count ∙ here ∙ ap (λ o. Some o) (sym (onward_begun p) ∙ ap (onward p) start)
-forms_onward (suc n) m zero w mode text p q is here there = absurd (omega arith)
-forms_onward (suc n) m (suc k) w mode text p q is here there =
-    let last = step_back mode (after_forms n p.world mode p.rest) q there in
-    let less : k ≡ n + m = omega arith in
-    ap (option_and_then (one_form_more mode)) (forms_onward n m k w mode text p last.0 less here last.1)
-    ∙ more_onward p last.0 q (one_form last.0.world mode last.0.rest (read_in last.0.world mode last.0.rest)) last.2
-
--- ---- what was written
-
 pub writes_both : (a b c : Option (List ℕ)) (front back : List ℕ) → Writes a b front → Writes b c back → Writes a c (front ++ back)
 writes_both a b c front back first second = λ held is.
     second (held ++ front) (first held is) ∙ ap (λ t. Some t) (append_assoc held front back)
@@ -68,9 +47,7 @@ none_of_both : (xs ys : List Entry) → xs ++ ys ≡ [] → (xs ≡ []) × (ys �
 none_of_both [] ys is = (refl, is)
 none_of_both (x ∷ xs) ys is = absurd (cc)
 
--- ---- a session goes on
-
-module _ {D : Type 0} (state : D → State) (sound : (d : D) → IsHonest (state d) → IsSound (state d)) (old mid new : Session D) (p : Progress) (first : IsAfter state old mid p)
+module _ {D R : Type 0} (state : D → State) (sound : (d : D) → IsHonest (state d) → IsSound (state d)) (old mid new : Session D R) (p : Progress) (first : IsAfter state old mid p)
     (honest : (state mid.disk).honest ≡ (state old.disk).honest) where
   described_both : (q : List Entry)
       → ((k : Contents) → IsHonest (state mid.disk) → Describes mid k (state mid.disk).reads → Describes new (with_entries k q) (state new.disk).reads)
@@ -111,110 +88,135 @@ module _ {D : Type 0} (state : D → State) (sound : (d : D) → IsHonest (state
     untouched = λ is. let none = none_of_both p.taken q.taken is in second.untouched none.1 ∙ first.untouched none.0;
   }
 
-module _ {D : Type 0} (state : D → State) (sound : (d : D) → IsHonest (state d) → IsSound (state d)) (old mid new : Session D) (w : World) (mode : Mode) (text : List ℕ) (a b c : Option (List ℕ)) (m : ℕ) (p : Progress)
-    (first : Advances state old mid w mode text a b m p) (honest : (state mid.disk).honest ≡ (state old.disk).honest) where
-  survive_both : (taken : List Entry) (n : ℕ) → SurvivesAs state mid new p.world taken n → SurvivesAs state old new w (p.taken ++ taken) (length p.taken + n)
-  survive_both taken n second known claims keeps =
-      let before = first.survives known claims keeps in
-      let left = first.after.left in
-      both_survive (state old.disk) (state mid.disk) (state new.disk) w p.world p.taken taken n new.world
-      (subst (λ o. Survives (state old.disk) (state mid.disk) w p.taken (length p.taken) o) left before)
-      (second left (subst IsTrue (sym honest) claims) (before.kept p.world left))
+module _ (functions : Functions) where
+  -- ---- progress
 
-  survive_with : (taken : List Entry) (n k : ℕ) → k ≡ length p.taken + n → SurvivesAs state mid new p.world taken n → SurvivesAs state old new w (p.taken ++ taken) k
-  survive_with taken n k is second = subst (λ j. SurvivesAs state old new w (p.taken ++ taken) j) (sym is) (survive_both taken n second)
+  step_back : (mode : Mode) (o : Option Progress) (r : Progress) → option_and_then (one_form_more functions mode) o ≡ Some r → (q : Progress) × (o ≡ Some q) × (one_form_more functions mode q ≡ Some r)
+  step_back mode None r is = absurd (cc)
+  step_back mode (Some q) r is = (q, refl, is)
 
-  -- some forms, and some more
-  pub advance_both : (n k : ℕ) (q : Progress) → k ≡ n + m → Advances state mid new p.world mode p.rest b c n q → Advances state old new w mode text a c k (onward p q)
-  advance_both n k q is second = record {
-    far_is = forms_onward n m k w mode text p q is first.far_is second.far_is;
-    lines = writes_both a b c p.lines q.lines first.lines second.lines;
-    after = after_both state sound old mid new p first.after honest q second.after;
-    survives = survive_with q.taken (length q.taken) (length (p.taken ++ q.taken)) (length-append p.taken q.taken) second.survives;
-  }
+  -- so many forms of the rest, after others
+  pub forms_onward : (n m k : ℕ) (w : World) (mode : Mode) (text : List ℕ) (p q : Progress) → k ≡ n + m
+      → after_forms functions m w mode text ≡ Some p → after_forms functions n p.world mode p.rest ≡ Some q → after_forms functions k w mode text ≡ Some (onward p q)
+  forms_onward zero m k w mode text p q is here there =
+      let count : k ≡ m = omega arith in
+      let start : begun p.world p.rest ≡ q = cc in
+      ap (λ j. after_forms functions j w mode text) count ∙ here ∙ ap (λ o. Some o) (sym (onward_begun p) ∙ ap (onward p) start)
+  forms_onward (suc n) m zero w mode text p q is here there = absurd (omega arith)
+  forms_onward (suc n) m (suc k) w mode text p q is here there =
+      let last = step_back mode (after_forms functions n p.world mode p.rest) q there in
+      let less : k ≡ n + m = omega arith in
+      ap (option_and_then (one_form_more functions mode)) (forms_onward n m k w mode text p last.0 less here last.1)
+      ∙ more_onward p last.0 q (one_form functions last.0.world mode last.0.rest (read_in functions last.0.world mode last.0.rest)) last.2
 
-  ends_both : (forms : ℕ) (far : Progress) (lines : ℕ) (answered : Progress) (part : List ℕ) (ending : Ending)
-      → Ends state mid new p.world mode p.rest b c forms far lines answered part ending
-      → Ends state old new w mode text a c (forms + m) (onward p far) (lines + m) (onward p answered) part ending
-  ends_both forms far lines answered part End ends = record {
-    all = let all = ends.all in omega arith;
-    no_part = ends.no_part;
-    nothing_left = ends.nothing_left;
-    after = after_both state sound old mid new p first.after honest far ends.after;
-  }
-  ends_both forms far lines answered part (Reader number) ends = record {
-    all = let all = ends.all in omega arith;
-    place = ends.place;
-    reads = ends.reads;
-    line = ends.line;
-    after = after_both state sound old mid new p first.after honest far ends.after;
-  }
-  ends_both forms far lines answered part (Store number) (inl stopped) = inl (record {
-    device = stopped.device;
-    one_open = let one = stopped.one_open in omega arith;
-    was_accepted =
-        let one = stopped.was_accepted in let all = length-append p.taken far.taken in let known = length-append p.taken answered.taken in omega arith;
-    no_part = stopped.no_part;
-    unknown = stopped.unknown;
-    half = stopped.half ∙ first.after.half;
-    generation = stopped.generation ∙ first.after.generation;
-    record_count = count_both state sound old mid new p first.after honest answered.taken new.record_count stopped.record_count;
-    size = size_both state sound old mid new p first.after honest answered.taken new.size stopped.size;
-    fits = fits_both state sound old mid new p first.after honest far.taken stopped.fits;
-    limit = stopped.limit ∙ first.after.limit;
-    other = other_both state sound old mid new p first.after honest stopped.other;
-    failures = stopped.failures ∙ ap (λ n. n + 1) first.after.failures;
-  })
-  ends_both forms far lines answered part (Store number) (inr (inl full)) = inr (inl (record {
-    full = full.full;
-    all = let all = full.all in omega arith;
-    no_part = full.no_part;
-    next = full.next;
-    next_is = full.next_is;
-    record_ = full.record_;
-    is_taken = full.is_taken;
-    over = full.over;
-    after = after_both state sound old mid new p first.after honest far full.after;
-  }))
-  ends_both forms far lines answered part (Store number) (inr (inr (inl unread))) = inr (inr (inl (record {
-    input = unread.input;
-    all = let all = unread.all in omega arith;
-    no_part = unread.no_part;
-    more = unread.more;
-    after = after_both state sound old mid new p first.after honest far unread.after;
-  })))
-  ends_both forms far lines answered part (Store number) (inr (inr (inr (inl unwritten)))) = inr (inr (inr (inl (record {
-    output = unwritten.output;
-    unwritten = unwritten.unwritten;
-    some_left = unwritten.some_left;
-    front =
-        append_assoc p.lines far.lines (last_line (read_in far.world mode far.rest))
-        ∙ ap (λ t. p.lines ++ t) unwritten.front
-        ∙ ap (λ t. p.lines ++ t) (append_assoc answered.lines part unwritten.unwritten)
-        ∙ sym (append_assoc p.lines answered.lines (part ++ unwritten.unwritten))
-        ∙ sym (append_assoc (p.lines ++ answered.lines) part unwritten.unwritten);
-    after = after_both state sound old mid new p first.after honest far unwritten.after;
-  }))))
-  ends_both forms far lines answered part (Store number) (inr (inr (inr (inr out)))) = inr (inr (inr (inr (record {
-    memory = out.memory;
-    no_part = out.no_part;
-    after = after_both state sound old mid new p first.after honest far out.after;
-  }))))
+  -- ---- what was written
 
-  -- some forms, and how the session ended after them
-  pub serve_both : (ending : Ending) → Serves state mid new p.world mode p.rest b c ending → Serves state old new w mode text a c ending
-  serve_both ending second = record {
-    forms = second.forms + m;
-    far = onward p second.far;
-    far_is = forms_onward second.forms m (second.forms + m) w mode text p second.far refl first.far_is second.far_is;
-    lines = second.lines + m;
-    answered = onward p second.answered;
-    answered_is = forms_onward second.lines m (second.lines + m) w mode text p second.answered refl first.far_is second.answered_is;
-    at_most = let at_most = second.at_most in omega arith;
-    in_turn = let in_turn = second.in_turn in omega arith;
-    part = second.part;
-    output = λ held is. writes_both a b c p.lines (second.answered.lines ++ second.part) first.lines second.output held is
-        ∙ ap (λ t. Some (held ++ t)) (sym (append_assoc p.lines second.answered.lines second.part));
-    survives = survive_with second.far.taken (length second.answered.taken) (length (p.taken ++ second.answered.taken)) (length-append p.taken second.answered.taken) second.survives;
-    ends = ends_both second.forms second.far second.lines second.answered second.part ending second.ends;
-  }
+  -- ---- a session goes on
+
+  module _ {D R : Type 0} (state : D → State) (sound : (d : D) → IsHonest (state d) → IsSound (state d)) (old mid new : Session D R) (w : World) (mode : Mode) (text : List ℕ) (a b c : Option (List ℕ)) (m : ℕ) (p : Progress)
+      (first : Advances functions state old mid w mode text a b m p) (honest : (state mid.disk).honest ≡ (state old.disk).honest) where
+    survive_both : (taken : List Entry) (n : ℕ) → SurvivesAs functions state mid new p.world taken n → SurvivesAs functions state old new w (p.taken ++ taken) (length p.taken + n)
+    survive_both taken n second known claims keeps =
+        let before = first.survives known claims keeps in
+        let left = first.after.left in
+        both_survive functions (state old.disk) (state mid.disk) (state new.disk) w p.world p.taken taken n new.world
+        (subst (λ o. Survives functions (state old.disk) (state mid.disk) w p.taken (length p.taken) o) left before)
+        (second left (subst IsTrue (sym honest) claims) (before.kept p.world left))
+
+    survive_with : (taken : List Entry) (n k : ℕ) → k ≡ length p.taken + n → SurvivesAs functions state mid new p.world taken n → SurvivesAs functions state old new w (p.taken ++ taken) k
+    survive_with taken n k is second = subst (λ j. SurvivesAs functions state old new w (p.taken ++ taken) j) (sym is) (survive_both taken n second)
+
+    -- some forms, and some more
+    pub advance_both : (n k : ℕ) (q : Progress) → k ≡ n + m → Advances functions state mid new p.world mode p.rest b c n q → Advances functions state old new w mode text a c k (onward p q)
+    advance_both n k q is second = record {
+      far_is = forms_onward n m k w mode text p q is first.far_is second.far_is;
+      lines = writes_both a b c p.lines q.lines first.lines second.lines;
+      after = after_both state sound old mid new p first.after honest q second.after;
+      survives = survive_with q.taken (length q.taken) (length (p.taken ++ q.taken)) (length-append p.taken q.taken) second.survives;
+    }
+
+    ends_both : (forms : ℕ) (far : Progress) (lines : ℕ) (answered : Progress) (part : List ℕ) (ending : Ending)
+        → Ends functions state mid new p.world mode p.rest b c forms far lines answered part ending
+        → Ends functions state old new w mode text a c (forms + m) (onward p far) (lines + m) (onward p answered) part ending
+    ends_both forms far lines answered part End ends = record {
+      all = let all = ends.all in omega arith;
+      no_part = ends.no_part;
+      nothing_left = ends.nothing_left;
+      after = after_both state sound old mid new p first.after honest far ends.after;
+    }
+    ends_both forms far lines answered part (Reader number) ends = record {
+      all = let all = ends.all in omega arith;
+      place = ends.place;
+      reads = ends.reads;
+      line = ends.line;
+      after = after_both state sound old mid new p first.after honest far ends.after;
+    }
+    ends_both forms far lines answered part (Store number) (inl stopped) = inl (record {
+      device = stopped.device;
+      one_open = let one = stopped.one_open in omega arith;
+      was_accepted =
+          let one = stopped.was_accepted in let all = length-append p.taken far.taken in let known = length-append p.taken answered.taken in omega arith;
+      no_part = stopped.no_part;
+      unknown = stopped.unknown;
+      half = stopped.half ∙ first.after.half;
+      generation = stopped.generation ∙ first.after.generation;
+      record_count = count_both state sound old mid new p first.after honest answered.taken new.record_count stopped.record_count;
+      size = size_both state sound old mid new p first.after honest answered.taken new.size stopped.size;
+      fits = fits_both state sound old mid new p first.after honest far.taken stopped.fits;
+      limit = stopped.limit ∙ first.after.limit;
+      other = other_both state sound old mid new p first.after honest stopped.other;
+      failures = stopped.failures ∙ ap (λ n. n + 1) first.after.failures;
+    })
+    ends_both forms far lines answered part (Store number) (inr (inl full)) = inr (inl (record {
+      full = full.full;
+      all = let all = full.all in omega arith;
+      no_part = full.no_part;
+      next = full.next;
+      next_is = full.next_is;
+      record_ = full.record_;
+      is_taken = full.is_taken;
+      over = full.over;
+      after = after_both state sound old mid new p first.after honest far full.after;
+    }))
+    ends_both forms far lines answered part (Store number) (inr (inr (inl unread))) = inr (inr (inl (record {
+      input = unread.input;
+      all = let all = unread.all in omega arith;
+      no_part = unread.no_part;
+      more = unread.more;
+      after = after_both state sound old mid new p first.after honest far unread.after;
+    })))
+    ends_both forms far lines answered part (Store number) (inr (inr (inr (inl unwritten)))) = inr (inr (inr (inl (record {
+      output = unwritten.output;
+      unwritten = unwritten.unwritten;
+      some_left = unwritten.some_left;
+      front =
+          append_assoc p.lines far.lines (last_line (read_in functions far.world mode far.rest))
+          ∙ ap (λ t. p.lines ++ t) unwritten.front
+          ∙ ap (λ t. p.lines ++ t) (append_assoc answered.lines part unwritten.unwritten)
+          ∙ sym (append_assoc p.lines answered.lines (part ++ unwritten.unwritten))
+          ∙ sym (append_assoc (p.lines ++ answered.lines) part unwritten.unwritten);
+      after = after_both state sound old mid new p first.after honest far unwritten.after;
+    }))))
+    ends_both forms far lines answered part (Store number) (inr (inr (inr (inr out)))) = inr (inr (inr (inr (record {
+      memory = out.memory;
+      no_part = out.no_part;
+      after = after_both state sound old mid new p first.after honest far out.after;
+    }))))
+
+    -- some forms, and how the session ended after them
+    pub serve_both : (ending : Ending) → Serves functions state mid new p.world mode p.rest b c ending → Serves functions state old new w mode text a c ending
+    serve_both ending second = record {
+      forms = second.forms + m;
+      far = onward p second.far;
+      far_is = forms_onward second.forms m (second.forms + m) w mode text p second.far refl first.far_is second.far_is;
+      lines = second.lines + m;
+      answered = onward p second.answered;
+      answered_is = forms_onward second.lines m (second.lines + m) w mode text p second.answered refl first.far_is second.answered_is;
+      at_most = let at_most = second.at_most in omega arith;
+      in_turn = let in_turn = second.in_turn in omega arith;
+      part = second.part;
+      output = λ held is. writes_both a b c p.lines (second.answered.lines ++ second.part) first.lines second.output held is
+          ∙ ap (λ t. Some (held ++ t)) (sym (append_assoc p.lines second.answered.lines second.part));
+      survives = survive_with second.far.taken (length second.answered.taken) (length (p.taken ++ second.answered.taken)) (length-append p.taken second.answered.taken) second.survives;
+      ends = ends_both second.forms second.far second.lines second.answered second.part ending second.ends;
+    }

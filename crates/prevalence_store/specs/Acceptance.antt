@@ -5,7 +5,7 @@ use Rattle.gate_log.specs.Layout.{Entry}
 use Rattle.lisp_object.specs.Object.{Object}
 use Rattle.lisp_object.specs.declared.refusal.TheConstants.{END_OF_FILE, TEXT_LEFT_OVER}
 use Rattle.readtable_core.specs.Tables.{Table, standard}
-use Rattle.package_table.specs.Table.{common_lisp_user}
+use Rattle.package_table.specs.Table.{Name, common_lisp_user}
 use Rattle.plist_state.specs.State.{State as World}
 use Rattle.form_reader.specs.declared.limits.Limits.{Limits}
 use Rattle.form_reader.specs.Setting.{Setting, setting_of}
@@ -27,17 +27,21 @@ pub record Acceptance : Type 0 where
 abbrev pub form_limits : Limits
 form_limits = record { text = 65536; token = 4096; nesting = 100 }
 
--- the readtable of the world's current name
-abbrev pub current_table : World → Table
-current_table world = unwrap_or (finite.get world.readtables world.current_readtable) standard
+-- the readtable under which a text is read: the world's current one; or, to get out of a readtable that has become unusable,
+-- the standard one
+abbrev pub table_in : World → Mode → Table
+table_in world Current = unwrap_or (finite.get world.readtables world.current_readtable) standard
+table_in world Rescue = standard
 
--- Under what a text is read: the world's current readtable, in its current package; or, to get out of a readtable that has
--- become unusable, the standard one, in COMMON-LISP-USER.
+-- and the package in which it is read
+abbrev pub package_in : World → Mode → Name
+package_in world Current = world.current_package
+package_in world Rescue = common_lisp_user
+
+-- under what a text is read
 abbrev pub setting_in : Functions → World → Mode → Setting
-setting_in functions world Current =
-    setting_of form_limits (current_table world) world.packages world.current_package functions.names functions.way functions.answer
-setting_in functions world Rescue =
-    setting_of form_limits standard world.packages common_lisp_user functions.names functions.way functions.answer
+setting_in functions world mode =
+    setting_of form_limits (table_in world mode) world.packages (package_in world mode) functions.names functions.way functions.answer
 
 -- what a text begins with, as it is read in this world and mode
 abbrev pub read_in : Functions → World → Mode → List ℕ → Reading

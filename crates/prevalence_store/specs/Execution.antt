@@ -39,13 +39,9 @@ abbrev pub acknowledged_in : Mode → List ℕ → Result Evaluated Failure → 
 acknowledged_in mode text (Ok evaluated) = length (records_of evaluated.wrote mode text)
 acknowledged_in mode text (Err failure) = 0
 
-module _ (functions : Functions) {D R : Type 0} (state : D → State) (old new : Session D R) where
-  -- what a crash leaves: on an honest disk of which each crash would have left the world that was there
-  abbrev pub SurvivesAs : World → List Entry → ℕ → Type 0
-  SurvivesAs world taken acknowledged =
-      old.world ≡ Some world → IsHonest (state old.disk) → Keeps functions (state old.disk) world
-      → Survives functions (state old.disk) (state new.disk) world taken acknowledged new.world
+-- ---- what is left of a form
 
+module _ {D R : Type 0} (state : D → State) (old new : Session D R) where
   -- A form with this text was logged, and left this world. On an honest disk its record, which is its mode and its text,
   -- comes after those that were there, and the store tells of it.
   pub record Logs (mode : Mode) (text : List ℕ) (world : World) : Type 0 where
@@ -79,7 +75,14 @@ module _ (functions : Functions) {D R : Type 0} (state : D → State) (old new :
     pub other : IsHonest (state old.disk) → LeavesAlone (opposite_of old.half) (state old.disk) (state new.disk)
     pub failures : (state new.disk).failures ≡ (state old.disk).failures + 1
 
-  -- ---- what became of a text, in the world that the store had
+-- ---- what became of a text, in the world that the store had
+
+module _ (functions : Functions) {D R : Type 0} (state : D → State) (old new : Session D R) where
+  -- what a crash leaves: on an honest disk of which each crash would have left the world that was there
+  abbrev pub SurvivesAs : World → List Entry → ℕ → Type 0
+  SurvivesAs world taken acknowledged =
+      old.world ≡ Some world → IsHonest (state old.disk) → Keeps functions (state old.disk) world
+      → Survives functions (state old.disk) (state new.disk) world taken acknowledged new.world
 
   module _ (world : World) (mode : Mode) (text : List ℕ) where
     -- the world accepts the text, and what it wrote was logged
@@ -87,7 +90,7 @@ module _ (functions : Functions) {D R : Type 0} (state : D → State) (old new :
       pub given : Acceptance
       pub accepted : accepts functions world mode text ≡ Ok given
       pub answered : value ≡ given.value
-      pub stored : Stores given.wrote mode given.text given.world
+      pub stored : Stores state old new given.wrote mode given.text given.world
       pub survives : SurvivesAs world (records_of given.wrote mode given.text) (length (records_of given.wrote mode given.text))
 
     -- the world does not accept the text, and this is why
@@ -113,7 +116,7 @@ module _ (functions : Functions) {D R : Type 0} (state : D → State) (old new :
       pub accepted : accepts functions world mode text ≡ Ok given
       pub wrote : given.wrote ≡ true
       pub fits : old.size + (6 + length given.text) ≤ old.limit
-      pub failed : DeviceFails
+      pub failed : DeviceFails state old new
       pub survives : SurvivesAs world (logged mode given.text ∷ []) 0
 
     -- a growth was refused

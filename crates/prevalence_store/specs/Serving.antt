@@ -32,7 +32,7 @@ MayGoOn text (refused number place) = place ≡ length text
 abbrev pub room_of : List Entry → ℕ
 room_of = sum_by (λ entry. 6 + length entry.text)
 
-module _ (functions : Functions) {D R : Type 0} (state : D → State) (old new : Session D R) where
+module _ {D R : Type 0} (state : D → State) (old new : Session D R) where
   -- The device has not failed: the world, the records and the size are those after these forms, on an honest disk in the files too.
   pub record IsAfter (far : Progress) : Type 0 where
     pub left : new.world ≡ Some far.world
@@ -52,12 +52,13 @@ module _ (functions : Functions) {D R : Type 0} (state : D → State) (old new :
     -- forms that leave no record leave all as it was, the disk too
     pub untouched : far.taken ≡ [] → new ≡ old
 
+module _ (functions : Functions) {D R : Type 0} (state : D → State) (old new : Session D R) where
   module _ (world : World) (mode : Mode) (text : List ℕ) (held written : Option (List ℕ)) where
     -- the first forms of the text were taken and answered, each line whole
     pub record Advances (forms : ℕ) (far : Progress) : Type 0 where
       pub far_is : after_forms functions forms world mode text ≡ Some far
       pub lines : Writes held written far.lines
-      pub after : IsAfter far
+      pub after : IsAfter state old new far
       pub survives : SurvivesAs functions state old new world far.taken (length far.taken)
 
     -- ---- how a session ends: the forms that were taken, those whose lines were written whole, and the part of the next line
@@ -68,7 +69,7 @@ module _ (functions : Functions) {D R : Type 0} (state : D → State) (old new :
         pub all : lines ≡ forms
         pub no_part : part ≡ []
         pub nothing_left : read_in functions far.world mode far.rest ≡ empty
-        pub after : IsAfter far
+        pub after : IsAfter state old new far
 
       -- the reader refused what is left, and that was answered
       pub record IsRefused (number : ℕ) : Type 0 where
@@ -76,7 +77,7 @@ module _ (functions : Functions) {D R : Type 0} (state : D → State) (old new :
         pub place : ℕ
         pub reads : read_in functions far.world mode far.rest ≡ refused number place
         pub line : part ≡ refusal_line number
-        pub after : IsAfter far
+        pub after : IsAfter state old new far
 
       -- the device failed in the last form, which was accepted; it was not answered, and nothing is known of the world
       pub record IsStopped (number : ℕ) : Type 0 where
@@ -106,7 +107,7 @@ module _ (functions : Functions) {D R : Type 0} (state : D → State) (old new :
         pub record_ : Entry
         pub is_taken : next.taken ≡ record_ ∷ []
         pub over : new.limit < new.size + (6 + length record_.text)
-        pub after : IsAfter far
+        pub after : IsAfter state old new far
 
       -- a read failed
       pub record IsUnread (number : ℕ) : Type 0 where
@@ -115,7 +116,7 @@ module _ (functions : Functions) {D R : Type 0} (state : D → State) (old new :
         pub no_part : part ≡ []
         -- more was needed: no form of what was read is left unanswered
         pub more : MayGoOn far.rest (read_in functions far.world mode far.rest)
-        pub after : IsAfter far
+        pub after : IsAfter state old new far
 
       -- a write failed, or took nothing: the lines so far are the first part of what was to be written
       pub record IsUnwritten (number : ℕ) : Type 0 where
@@ -123,13 +124,13 @@ module _ (functions : Functions) {D R : Type 0} (state : D → State) (old new :
         pub unwritten : List ℕ
         pub some_left : unwritten ≢ []
         pub front : far.lines ++ last_line (read_in functions far.world mode far.rest) ≡ answered.lines ++ part ++ unwritten
-        pub after : IsAfter far
+        pub after : IsAfter state old new far
 
       -- a growth was refused
       pub record IsOutOfMemory (number : ℕ) : Type 0 where
         pub memory : number ≡ NO_MEMORY
         pub no_part : part ≡ []
-        pub after : IsAfter far
+        pub after : IsAfter state old new far
 
       abbrev pub Ends : Ending → Type 0
       Ends End = IsDone
@@ -156,7 +157,7 @@ module _ (functions : Functions) {D R : Type 0} (state : D → State) (old new :
       pub ends : Ends forms far lines answered part ending
 
 -- where the reader refused the text, it refuses it with more after it too, and the forms before are the same
-abbrev pub StaysRefused : Functions → {D R : Type 0} (state : D → State) (old new : Session D R) (world : World) (mode : Mode) (text : List ℕ)
+abbrev pub StaysRefused : (functions : Functions) {D R : Type 0} (state : D → State) (old new : Session D R) (world : World) (mode : Mode) (text : List ℕ)
     (held written : Option (List ℕ)) (number : ℕ) → Serves functions state old new world mode text held written (Reader number) → Type 0
 StaysRefused functions state old new world mode text held written number served = (more : List ℕ)
     → (after_forms functions served.forms world mode (text ++ more) ≡ Some (record served.far { rest = served.far.rest ++ more }))
@@ -165,7 +166,7 @@ StaysRefused functions state old new world mode text held written number served 
 -- How much a session has read when it ends: at the end of the input all of it; at a refusal of the reader all of it, or so much
 -- that what follows makes no difference; else what the reader has left is what was not read. Where a read failed or memory was
 -- refused before the first form, it is not told how much was read.
-abbrev pub HasRead : Functions → {D R : Type 0} (state : D → State) (old new : Session D R) (world : World) (mode : Mode) (text : List ℕ)
+abbrev pub HasRead : (functions : Functions) {D R : Type 0} (state : D → State) (old new : Session D R) (world : World) (mode : Mode) (text : List ℕ)
     (held written : Option (List ℕ)) (ending : Ending) → Serves functions state old new world mode text held written ending → List ℕ → Option (List ℕ) → Type 0
 HasRead functions state old new world mode text held written End served left reader = (left ≡ []) × (reader ≡ Some left)
 HasRead functions state old new world mode text held written (Reader number) served left reader =

@@ -32,7 +32,6 @@
 #![tactic(auto)]
 
 mod commit;
-mod evaluation;
 mod failure;
 mod input;
 mod laws;
@@ -40,16 +39,13 @@ mod mode;
 mod open_fault;
 mod outcome;
 mod output;
-mod printing;
-mod reading;
 mod replay;
+mod setting;
 mod store;
 mod turn;
-mod world;
 
 pub use laws::{form_numbers, headline, one_world};
 pub use mode::Mode;
 pub use open_fault::OpenFault;
 pub use outcome::{Ending, Outcome};
 pub use store::{Store, Unopened};
-pub use world::{Property, Symbol, World};

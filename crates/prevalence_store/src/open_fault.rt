@@ -3,7 +3,9 @@ ghost use Rattle.std.specs.Prelude.{◌≡◌};
 ghost use Rattle.prevalence_store.specs.Opening.{fault_number};
 
 use gate_log::{OpenRefusal, ReadError};
-use lisp_object::refusal::{DAMAGED, DEVICE, NO_MEMORY, SNAPSHOT_TOO_LARGE, VERSION};
+use lisp_object::refusal::{
+    DAMAGED, DEVICE, MISSING_MACRO, NO_MEMORY, SNAPSHOT_TOO_LARGE, VERSION,
+};
 
 /// Why a store is not opened. No call gives one, but the clause of a refused opening names it as the cause of its number.
 #[derive(Clone, Copy, Debug, PartialEq, Eq)]
@@ -18,6 +20,10 @@ pub enum OpenFault {
     UnknownVersion,
     /// The half that is to be started does not fit the limit.
     TooLarge,
+    /// A macro function of the meaning is not registered.
+    NotWhole,
+    /// A record asks for a macro function that the meaning has not.
+    UnknownFunction,
 }
 
 impl OpenFault {
@@ -31,6 +37,7 @@ impl OpenFault {
             OpenFault::Damaged => DAMAGED,
             OpenFault::UnknownVersion => VERSION,
             OpenFault::TooLarge => SNAPSHOT_TOO_LARGE,
+            OpenFault::NotWhole | OpenFault::UnknownFunction => MISSING_MACRO,
         }
     }
 }

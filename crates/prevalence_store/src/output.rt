@@ -4,12 +4,12 @@ ghost use Rattle.lisp_object.specs.Datum.{object_of, is_proper};
 ghost use Rattle.prevalence_store.specs.Output.{refusal_line, value_line};
 ghost use Rattle.prevalence_store.specs.Turns.{IsLineOf, IsStop};
 ghost use Rattle.prevalence_store.specs.Streams.{Writes, WritesPart};
-ghost use Rattle.prevalence_store.specs.World.{World as LispWorld};
 
 use crate::failure::Failure;
-use crate::printing::print;
-use lisp_object::Datum;
+use canon_printer::print;
+use form_eval::Evaluated;
 use lisp_object::refusal::{NO_MEMORY, name_of};
+use plist_state::World;
 use std::alloc::{AllocError, Global};
 use std::io::Write;
 
@@ -35,12 +35,18 @@ pub(crate) fn write_text<W: Write>(writer: &mut W, text: &[u8]) -> Result<(), Ou
     Ok(())
 }
 
-/// The line that answers a form which was accepted: its value as the printer writes it.
-pub(crate) fn line_of_value(alloc: Global, value: &Datum) -> Result<Vec<u8>, AllocError>
-    requires { is_proper value.now ≡ true }
-    ensures { IfOk result (λ line. (world : LispWorld) → line.items ≡ value_line world (object_of value.now)) }
+/// The line that answers a form which was accepted: its value, as it is printed in the world after the form.
+pub(crate) fn line_of_value(
+    alloc: Global,
+    world: &World,
+    evaluated: &Evaluated,
+) -> Result<Vec<u8>, AllocError>
+    requires { is_proper evaluated.now.value ≡ true }
+    ensures { IfOk result (λ line. line.items ≡ value_line world.now.0 (object_of evaluated.now.value)) }
 {
-    let mut line = print(alloc, value)?;
+    world.soundness();
+    let packages = world.packages();
+    let mut line = print(alloc, &evaluated.value, packages, world.current_package())?;
     line.push(b'\n')?;
     Ok(line)
 }
@@ -63,13 +69,17 @@ pub(crate) fn line_of_refusal(alloc: Global, number: u16) -> Result<Vec<u8>, All
 /// # Errors
 ///
 /// The number of the fault where the form ends the session, or of memory that was refused.
-pub(crate) fn line_of_answer(alloc: Global, answer: &Result<Datum, Failure>) -> Result<Vec<u8>, u16>
-    requires { IfOk answer.now (λ value. is_proper value ≡ true) }
-    ensures line { IfOk result (λ line. (world : LispWorld) → IsLineOf world answer.now line.items) }
+pub(crate) fn line_of_answer(
+    alloc: Global,
+    world: &World,
+    answer: &Result<Evaluated, Failure>,
+) -> Result<Vec<u8>, u16>
+    requires { IfOk answer.now (λ e. is_proper e.value ≡ true) }
+    ensures line { IfOk result (λ line. IsLineOf world.now.0 answer.now line.items) }
     ensures stop { IfErr result (IsStop answer.now) }
 {
     match answer {
-        Ok(value) => match line_of_value(alloc, value) {
+        Ok(evaluated) => match line_of_value(alloc, world, evaluated) {
             Ok(line) => Ok(line),
             Err(_) => Err(NO_MEMORY),
         },
