@@ -25,3 +25,7 @@ pub mod TurnsTaken
 pub mod Endings
 pub mod ReaderSteps
 pub mod Standings
+pub mod Keeping
+pub mod Backs
+pub mod Language
+pub mod Fittings
