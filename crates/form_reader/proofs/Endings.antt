@@ -1,5 +1,5 @@
 -- What the end of the text is to a reader, in any open calls.
-use Rattle.std.proofs.Common.{◌≡◌, ℕ, ◌+◌, ◌-◌, ◌≤◌, Bool, true, false, List, [], ◌∷◌, length, Option, Some, None, Result, Ok, Err, IfOk, refl, sym, ap, subst, ◌∙◌, arith}
+use Rattle.std.proofs.Common.{◌≡◌, ℕ, ◌+◌, ◌-◌, ◌≤◌, Bool, true, false, List, [], ◌∷◌, length, Option, Some, None, Result, Ok, IfOk, refl, sym, ap, subst, ◌∙◌, arith}
 use Rattle.std.specs.declared.alloc.AllocError.{AllocError}
 use Rattle.lisp_object.specs.declared.refusal.TheConstants.{END_OF_FILE}
 use Rattle.readtable_core.specs.Tables.{Table}
@@ -27,7 +27,7 @@ use Rattle.form_reader.specs.Setting.{Setting}
 use Rattle.form_reader.specs.Calls.{InvokedCall}
 use Rattle.form_reader.specs.Completing.{plan_of}
 use Rattle.form_reader.specs.Gathering.{text_turn, line_turn, block_turn, number_turn}
-use Rattle.form_reader.specs.Reading.{Piece, Outcome, without_space, empty, token_found, completed, line_after, sub_there, dispatched}
+use Rattle.form_reader.specs.Reading.{Piece, without_space, empty, token_found, completed, line_after, sub_there, dispatched}
 use Rattle.form_reader.specs.Feeding.{token_read}
 use Rattle.form_reader.specs.Frames.{attempt_in, place_in, call_in, close_of, given, between, token_goes_on}
 use Rattle.form_reader.specs.Resuming.{inner_at, stage_gives, Brings, ComesTo}

@@ -27,6 +27,14 @@ all_ascii (b ∷ bs) h =
 abbrev Fits : Resolution → Type 0
 Fits r = list_all is_ascii (home_of r) ≡ true
 
+-- an external symbol is present
+pub external_there : (t : Table) (p n h : Name) → external_home t p n ≡ Some h → IsPresent t p n h
+external_there t p n h e =
+    elim (entry_at t p n) as (λ o. option_map_or (λ (e : Entry). cond e.external (Some e.home) None) o None ≡ Some h → option_map (λ (e : Entry). e.home) o ≡ Some h) [
+      | None ↦ λ e. absurd cc
+      | Some x ↦ elim x.external as (λ b. cond b (Some x.home) None ≡ Some h → Some x.home ≡ Some h) [ true ↦ λ e. e | false ↦ λ e. absurd cc ]
+    ] e
+
 module _ (t : Table) (sound : IsSound t) where
   package_ascii : (p : Name) → IsPackage t p → list_all is_ascii p ≡ true
   package_ascii p there = all_ascii p (sound.within.package_names p there).ascii
@@ -43,13 +51,7 @@ module _ (t : Table) (sound : IsSound t) where
       package_ascii h (present_package h n h (present_at_home t p n h sound.joined (found_finds t n p h e)))
 
   external_ascii : (p n h : Name) → external_home t p n ≡ Some h → list_all is_ascii h ≡ true
-  external_ascii p n h e =
-      let here : IsPresent t p n h =
-      elim (entry_at t p n) as (λ o. option_map_or (λ (e : Entry). cond e.external (Some e.home) None) o None ≡ Some h → option_map (λ (e : Entry). e.home) o ≡ Some h) [
-        | None ↦ λ e. absurd cc
-        | Some x ↦ elim x.external as (λ b. cond b (Some x.home) None ≡ Some h → Some x.home ≡ Some h) [ true ↦ λ e. e | false ↦ λ e. absurd cc ]
-      ] e in
-      package_ascii h (present_package h n h (sound.joined.homes p n h here))
+  external_ascii p n h e = package_ascii h (present_package h n h (sound.joined.homes p n h (external_there t p n h e)))
 
   resolved_by : (p n : Name) (r : Resolution) (o : Option Name) → found t p n ≡ o → IsPackage t p
       → option_map_or (λ h. Ok (found_at h)) o (if bytes_eq p common_lisp then Err LockedPackage else Ok (new_in p)) ≡ Ok r → Fits r

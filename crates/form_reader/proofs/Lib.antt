@@ -26,3 +26,7 @@ pub mod Endings
 pub mod ReaderSteps
 pub mod Standings
 pub mod Bounded
+pub mod Keeping
+pub mod Backs
+pub mod Language
+pub mod Fittings

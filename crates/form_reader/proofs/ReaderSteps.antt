@@ -1,15 +1,13 @@
 -- What a step and the end of the text are to a reader, from what a turn is to the outcome.
-use Rattle.std.proofs.Common.{◌≡◌, ℕ, ◌+◌, ◌≤◌, true, List, [], ◌∷◌, ◌++◌, length, take, drop, refl, sym, ap, subst, ◌∙◌, append_assoc, append-nil, length-append, arith}
-use Rattle.lisp_object.specs.Object.{Object}
+use Rattle.std.proofs.Common.{◌≡◌, ℕ, ◌+◌, ◌≤◌, true, List, [], ◌∷◌, ◌++◌, length, take, drop, sym, ap, subst, ◌∙◌, append_assoc, append-nil, length-append, arith}
 use Rattle.std.proofs.lemmas.List.{take-append-drop}
 use Rattle.lisp_object.specs.declared.datum.Datum.{Datum}
 use Rattle.lisp_object.specs.Datum.{object_of, is_proper}
-use Rattle.form_reader.specs.declared.ending.ReadOutcome.{ReadOutcome}
 use Rattle.form_reader.specs.declared.frame.Frame.{Frame}
 use Rattle.form_reader.specs.declared.limits.Limits.{Limits}
 use Rattle.form_reader.specs.declared.reader.FormReader.{FormReader}
 use Rattle.form_reader.specs.declared.reader.State.{State}
-use Rattle.form_reader.specs.declared.reader.State.TheVariants.{Open, Refused, OutOfMemory}
+use Rattle.form_reader.specs.declared.reader.State.TheVariants.{Open, Refused}
 use Rattle.form_reader.specs.declared.reader.Step.{Step}
 use Rattle.form_reader.specs.declared.reader.Step.TheVariants.{More as StepMore, Form as StepForm, Refused as StepRefused}
 use Rattle.form_reader.specs.declared.stage.Stage.{Stage}
@@ -17,9 +15,9 @@ use Rattle.form_reader.specs.declared.stage.Stage.TheVariants.{Object as AtObjec
 use Rattle.form_reader.specs.declared.turn.Turn.{Turn}
 use Rattle.form_reader.specs.declared.turn.Turn.TheVariants.{Goes, Form as TurnForm, Refused as TurnRefused}
 use Rattle.form_reader.specs.Setting.{Setting}
-use Rattle.form_reader.specs.Reading.{Outcome, form, refused, reads}
-use Rattle.form_reader.specs.Turning.{rest_of, TurnsTo, IsReadyTurn}
-use Rattle.form_reader.specs.Reader.{fed, IsNew, IsAfter, IsAfterIn, Steps, Takes, IsOutcome}
+use Rattle.form_reader.specs.Reading.{form, refused, reads}
+use Rattle.form_reader.specs.Turning.{rest_of, TurnsTo, IsReadyTurn, BeginsFrom}
+use Rattle.form_reader.specs.Reader.{fed, IsNew, IsAfter, IsAfterIn, Steps, BeginsLater, Takes}
 use Rattle.form_reader.proofs.Forms.{reads_is}
 
 -- a reader that was fed nothing is after no bytes
@@ -73,6 +71,15 @@ fed_taking mid new after limits count (TurnForm x start «end» next) (StepForm 
 fed_taking mid new after limits count (TurnForm x start «end» next) StepMore takes ready many = absurd takes
 fed_taking mid new after limits count (TurnForm x start «end» next) (StepRefused code place) takes ready many = absurd takes
 fed_taking mid new after limits count (TurnRefused code place) step takes ready many = omega (arith, takes.2, takes.3, many)
+
+-- what is open after a turn began no earlier
+pub begins_taking : (mid new : FormReader) (turn : Turn) (step : Step) → Takes turn mid new step → BeginsFrom mid.start turn → BeginsLater mid new step
+begins_taking mid new (Goes start at st) step takes from =
+    subst (λ (s : Step). BeginsLater mid new s) (sym takes.0) (omega (arith, takes.1, from), omega (arith, takes.1))
+begins_taking mid new (TurnForm x start «end» next) (StepForm datum s e n) takes from = (omega (arith, takes.2, from), takes.5)
+begins_taking mid new (TurnForm x start «end» next) StepMore takes from = absurd takes
+begins_taking mid new (TurnForm x start «end» next) (StepRefused code place) takes from = absurd takes
+begins_taking mid new (TurnRefused code place) step takes from = subst (λ (s : Step). BeginsLater mid new s) (sym takes.0) takes.2
 
 -- ---- the end
 

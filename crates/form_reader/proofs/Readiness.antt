@@ -1,5 +1,5 @@
 -- What keeps a reader going, where calls and tokens end.
-use Rattle.std.proofs.Common.{◌≡◌, ℕ, ◌+◌, ◌≤◌, Bool, true, false, subst, arith}
+use Rattle.std.proofs.Common.{◌≡◌, ℕ, ◌≤◌, Bool, true, false, subst, arith}
 use Rattle.std.specs.Prelude.{◌||◌}
 use Rattle.form_reader.specs.declared.limits.Limits.{Limits}
 use Rattle.form_reader.specs.declared.stage.Event.{Event}

@@ -1,7 +1,7 @@
 -- What always holds of a reader, as a test and as what is asked where a byte is taken.
-use Rattle.std.proofs.Common.{◌≡◌, ℕ, ◌≤◌, Bool, true, false, List, [], length, refl, sym, ap, subst, ◌∙◌, arith}
+use Rattle.std.proofs.Common.{◌≡◌, ℕ, ◌≤◌, Bool, true, false, List, length, refl, subst}
 use Rattle.std.specs.Prelude.{◌&&◌, nat_le, IsTrue}
-use Rattle.std.proofs.lemmas.Bool.{le-leb, leb-true, false≢true}
+use Rattle.std.proofs.lemmas.Bool.{leb-true, false≢true}
 use Rattle.form_reader.specs.declared.frame.Frame.{Frame}
 use Rattle.form_reader.specs.declared.limits.Limits.{Limits}
 use Rattle.form_reader.specs.declared.reader.State.{State}

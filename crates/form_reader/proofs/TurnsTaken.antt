@@ -1,32 +1,21 @@
 -- What a turn is to the outcome, from what a byte brings.
-use Rattle.std.proofs.Common.{◌≡◌, ℕ, ◌+◌, ◌≤◌, Bool, true, false, List, [], ◌∷◌, length, Result, Ok, IfOk, refl, sym, ap, subst, ◌∙◌, arith}
-use Rattle.std.specs.Prelude.{◌&&◌, if◌then◌else◌}
-use Rattle.lisp_object.specs.Object.{Object}
-use Rattle.readtable_core.specs.Tables.{Table}
-use Rattle.form_reader.specs.declared.deliver.Delivered.{Delivered}
-use Rattle.form_reader.specs.declared.deliver.Delivered.TheVariants.{Waits, Done as DeliveredDone, Refused as DeliveredRefused}
+use Rattle.std.proofs.Common.{◌≡◌, ℕ, ◌+◌, ◌≤◌, Bool, List, [], ◌∷◌, length, Result, Ok, IfOk, sym, ap, subst, ◌∙◌}
 use Rattle.form_reader.specs.declared.found.Found.{Found}
-use Rattle.form_reader.specs.declared.found.Found.TheVariants.{Nothing as nothing, One as one, LoneDot as lone_dot, TheEnd as the_end}
+use Rattle.form_reader.specs.declared.found.Found.TheVariants.{Nothing as nothing}
 use Rattle.form_reader.specs.declared.frame.Frame.{Frame}
 use Rattle.form_reader.specs.declared.limits.Limits.{Limits}
-use Rattle.form_reader.specs.declared.stage.Event.{Event}
-use Rattle.form_reader.specs.declared.stage.Event.TheVariants.{Gives as IsGiven}
-use Rattle.form_reader.specs.declared.stage.Stage.{Stage}
 use Rattle.form_reader.specs.declared.stage.Stage.TheVariants.{Object as AtObject}
 use Rattle.form_reader.specs.declared.turn.Settled.{Settled}
-use Rattle.form_reader.specs.declared.turn.Settled.TheVariants.{Open as SettledOpen, Done as SettledDone, Refused as SettledRefused}
+use Rattle.form_reader.specs.declared.turn.Settled.TheVariants.{Done as SettledDone}
 use Rattle.form_reader.specs.declared.turn.Turn.{Turn}
-use Rattle.form_reader.specs.declared.turn.Turn.TheVariants.{Goes, Form, Refused}
-use Rattle.form_reader.specs.Plans.{gives, Read, fault, run}
+use Rattle.form_reader.specs.Plans.{Read, run}
 use Rattle.form_reader.specs.Setting.{Setting}
 use Rattle.std.specs.declared.alloc.AllocError.{AllocError}
 use Rattle.form_reader.specs.declared.objects.Passed.{Passed}
 use Rattle.form_reader.specs.declared.objects.Passed.TheVariants.{Done as PassedDone}
-use Rattle.form_reader.specs.Delivering.{Delivers, Passes}
-use Rattle.form_reader.specs.Frames.{given, between}
-use Rattle.form_reader.specs.Reading.{Outcome, form, refused, is_whitespace, space_at}
-use Rattle.form_reader.specs.Ready.{space}
-use Rattle.form_reader.specs.Resuming.{Brings}
+use Rattle.form_reader.specs.Delivering.{Passes}
+use Rattle.form_reader.specs.Frames.{between}
+use Rattle.form_reader.specs.Reading.{Outcome}
 use Rattle.form_reader.specs.Turning.{outcome_of, rest_of, Settles, TurnsTo, IsReadySettled}
 use Rattle.form_reader.proofs.Forms.{reads_is}
 

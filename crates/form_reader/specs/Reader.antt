@@ -1,6 +1,7 @@
 -- A reader that takes a text one byte at a time: what it is after, and what it answers.
 use Rattle.std.specs.Prelude.{ℕ, ◌≡◌, ◌+◌, ◌≤◌, true, List, [], ◌++◌, length}
 use Rattle.lisp_object.specs.Datum.{object_of, is_proper}
+use Rattle.form_reader.specs.declared.limits.Limits.{Limits}
 use Rattle.form_reader.specs.declared.stage.Stage.TheVariants.{Object as AtObject}
 use Rattle.form_reader.specs.declared.reader.FormReader.{FormReader}
 use Rattle.form_reader.specs.declared.reader.State.{State}
@@ -15,9 +16,25 @@ use Rattle.form_reader.specs.Setting.{Setting}
 use Rattle.form_reader.specs.Reading.{Outcome, form, empty, refused, reads}
 use Rattle.form_reader.specs.Turning.{rest_of}
 
+-- the limits under which it reads
+abbrev pub limits_of : FormReader → Limits
+limits_of reader = reader.limits
+
 -- how many bytes it was fed, while it goes on
 abbrev pub fed : FormReader → ℕ
 fed reader = reader.start + reader.at
+
+-- where the object, or the discarded call or text, that is now open began; the bytes before it matter no more
+abbrev pub begun : FormReader → ℕ
+begun reader = reader.start
+
+-- it refused the text, with this number, at this place
+abbrev pub HasRefused : FormReader → ℕ → ℕ → Type 0
+HasRefused reader code place = reader.state ≡ Refused code place
+
+-- it ran out of memory
+abbrev pub HasNoMemory : FormReader → Type 0
+HasNoMemory reader = reader.state ≡ OutOfMemory
 
 -- It was fed nothing.
 pub record IsNew (reader : FormReader) : Type 0 where
@@ -47,7 +64,13 @@ Steps setting reader bytes (StepForm datum start «end» next) =
     ((cs : List ℕ) → reads setting (bytes ++ cs) ≡ form (object_of datum) start «end» next)
     × (is_proper datum ≡ true) × (next ≤ length bytes) × (length bytes ≤ next + 1) × IsNew reader × ((later : Setting) → IsAfter later reader [])
 Steps setting reader bytes (StepRefused code place) =
-    ((cs : List ℕ) → reads setting (bytes ++ cs) ≡ refused code place) × (reader.state ≡ Refused code place)
+    ((cs : List ℕ) → reads setting (bytes ++ cs) ≡ refused code place) × HasRefused reader code place
+
+-- What was open began where what is open after a step began, or before: of a form, its object; after a form nothing is open.
+abbrev pub BeginsLater : FormReader → FormReader → Step → Type 0
+BeginsLater old new StepMore = (begun old ≤ begun new) × (begun new ≤ fed new)
+BeginsLater old new (StepForm datum start «end» next) = (begun old ≤ start) × (begun new ≡ 0)
+BeginsLater old new (StepRefused code place) = begun new ≡ begun old
 
 -- What is answered is the outcome.
 abbrev pub IsOutcome : ReadOutcome → Outcome → Type 0

@@ -1,5 +1,5 @@
 -- What always holds of a reader: where it is in a form is within the limits.
-use Rattle.std.specs.Prelude.{ℕ, ◌≤◌, ◌&&◌, nat_le, Bool, true, List, length}
+use Rattle.std.specs.Prelude.{ℕ, ◌&&◌, nat_le, Bool, true, List, length}
 use Rattle.form_reader.specs.declared.frame.Frame.{Frame}
 use Rattle.form_reader.specs.declared.limits.Limits.{Limits}
 use Rattle.form_reader.specs.declared.reader.State.{State}

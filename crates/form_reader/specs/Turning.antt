@@ -50,3 +50,9 @@ abbrev pub IsReadySettled : Limits → List Frame → ℕ → Settled → Type 0
 IsReadySettled limits frames at (SettledOpen stage) = IsStanding limits frames stage at
 IsReadySettled limits frames at (SettledDone found) = (lookahead found ≡ 0) × (length frames ≤ limits.nesting)
 IsReadySettled limits frames at (SettledRefused code place) = place ≤ at
+
+-- what is open after it, or the object of the form, began at this place or later
+abbrev pub BeginsFrom : ℕ → Turn → Type 0
+BeginsFrom from (Goes start at stage) = from ≤ start
+BeginsFrom from (Form x start «end» next) = from ≤ start
+BeginsFrom from (Refused code place) = Unit {0}

@@ -1,11 +1,13 @@
 //! Laws of the definition of reading, as contracts of functions that do nothing.
 ghost use Rattle.std.specs.Prelude.{◌≡◌, ◌≤◌, ◌<◌, ◌++◌, ◌-◌, ℕ, List, Option, length, take, drop};
 ghost use Rattle.lisp_object.specs.Object.{Object};
+ghost use Rattle.package_table.specs.Table.{IsSound};
 ghost use Rattle.form_reader.specs.declared.way.Keep.{Keep};
 ghost use Rattle.form_reader.specs.Plans.{Plan, loop, run};
 ghost use Rattle.form_reader.specs.Setting.{Setting};
 ghost use Rattle.form_reader.specs.Gathering.{text_turn, line_turn, block_turn, number_turn};
 ghost use Rattle.form_reader.specs.Reading.{form, place_turn, place, items_turn, items_after, attempt, outcome, reads_at, reads, IsFramed};
+ghost use Rattle.form_reader.specs.Fitting.{IsFitting};
 
 /// A form is read again, alone, from the bytes from its start up to its end. They are one byte or more, and with it at
 /// most one more byte is discarded.
@@ -34,6 +36,14 @@ pub fn spaced_forms_are_framed()
     ensures { (setting : Setting) (text more : List ℕ) (x : Object) (start end next : ℕ)
         → reads setting text ≡ form x start end next → end < next
         → reads setting (take (next - start) (drop start text) ++ more) ≡ form x 0 (end - start) (next - start) }
+{}
+
+/// A form that was read in sound packages has a depth of at most 100, and its symbols fit the packages: what the home of a
+/// symbol finds by its name, if anything, is this symbol. So the form may be evaluated and stored.
+pub fn forms_fit()
+    ensures { (setting : Setting) (text : List ℕ) (x : Object) (start end next : ℕ)
+        → IsSound setting.packages → setting.limits.nesting ≤ 100 → setting.limits.token ≤ 4096
+        → reads setting text ≡ form x start end next → IsFitting setting.packages x }
 {}
 
 /// What is read is what the next byte says, and then what is read after it: before a form, at a place inside a call,

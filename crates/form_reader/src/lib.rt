@@ -66,7 +66,9 @@ mod way;
 mod whole;
 
 pub use ending::ReadOutcome;
-pub use laws::{forms_are_decided, forms_are_framed, reading_goes_on, spaced_forms_are_framed};
+pub use laws::{
+    forms_are_decided, forms_are_framed, forms_fit, reading_goes_on, spaced_forms_are_framed,
+};
 pub use limits::Limits;
 pub use reader::{FormReader, Step};
 pub use way::{Function, Keep, Way};

@@ -62,15 +62,15 @@ impl FormReader {
     ghost use Rattle.package_table.specs.Table.{IsPackage};
     ghost use Rattle.form_reader.specs.Setting.{Setting, setting_of};
     ghost use Rattle.form_reader.specs.Reading.{reads};
-    ghost use Rattle.form_reader.specs.declared.reader.State.TheVariants.{Refused as IsRefused, OutOfMemory as IsOutOfMemory};
     ghost use Rattle.form_reader.specs.declared.reader.Step.TheVariants.{Refused as StepRefused};
-    ghost use Rattle.form_reader.specs.Turning.{IsReadyTurn};
-    ghost use Rattle.form_reader.specs.Reader.{fed, IsNew, IsAfter, Steps, Takes, IsOutcome};
+    ghost use Rattle.form_reader.specs.Turning.{IsReadyTurn, BeginsFrom};
+    ghost use Rattle.form_reader.specs.Reader.{limits_of, fed, begun, HasRefused, HasNoMemory, IsNew, IsAfter, Steps, BeginsLater, Takes, IsOutcome};
 
     /// A reader that was fed nothing. It keeps `alloc` for what it gathers.
     pub fn new(alloc: Global, limits: Limits) -> FormReader
         ensures new { IsNew result }
-        ensures limits { result.limits ≡ limits }
+        ensures limits { limits_of result ≡ limits }
+        ensures begun { begun result ≡ 0 }
         ensures after { (setting : Setting) → IsAfter setting result [] }
     {
         FormReader {
@@ -81,6 +81,15 @@ impl FormReader {
             frames: Frames::new(alloc),
             state: State::Open(Stage::Object),
         }
+    }
+
+    /// Where the object, or the discarded call or text, that is now open began: the bytes before it matter no more. It is a
+    /// number of bytes from the beginning of the text.
+    pub fn begun(&self) -> usize
+        ensures place { result ≡ begun self.now }
+        ensures within { result ≤ fed self.now }
+    {
+        self.start
     }
 
     /// One more byte of the text, under the same readtable, packages, current package and functions as the bytes before it.
@@ -97,18 +106,19 @@ impl FormReader {
         requires current { IsPackage packages.now.0 current.now }
         requires count { fed self.old < 2 ^ 63 }
         ensures steps { (bytes : List ℕ) → IsAfter
-            (setting_of self.old.limits readtable.now packages.now.0 current.now
+            (setting_of (limits_of self.old) readtable.now packages.now.0 current.now
             (R.registered macros.now) R.Meaning.way R.Meaning.answer)
             self.old bytes → IfOk result (Steps
-            (setting_of self.old.limits readtable.now packages.now.0 current.now
+            (setting_of (limits_of self.old) readtable.now packages.now.0 current.now
             (R.registered macros.now) R.Meaning.way R.Meaning.answer)
             self.new (bytes ++ byte ∷ [])) }
-        ensures limits { self.new.limits ≡ self.old.limits }
+        ensures limits { limits_of self.new ≡ limits_of self.old }
         ensures fed { fed self.new ≤ fed self.old + 1 }
-        ensures refused { (code place : ℕ) → self.old.state ≡ IsRefused code place
-            → (result ≡ Ok (StepRefused code place)) × (self.new.state ≡ IsRefused code place) }
-        ensures memory { OnErr result (self.new.state ≡ IsOutOfMemory) }
-        ensures spent { self.old.state ≡ IsOutOfMemory → IsErr result }
+        ensures begun { IfOk result (BeginsLater self.old self.new) }
+        ensures refused { (code place : ℕ) → HasRefused self.old code place
+            → (result ≡ Ok (StepRefused code place)) × HasRefused self.new code place }
+        ensures memory { OnErr result (HasNoMemory self.new) }
+        ensures spent { HasNoMemory self.old → IsErr result }
     {
         match mem::replace(&mut self.state, State::OutOfMemory) {
             State::Open(stage) => {
@@ -133,8 +143,8 @@ impl FormReader {
 
     /// Takes what a byte is to the text.
     fn take(&mut self, turn: Turn) -> Step
-        requires ready { IsReadyTurn self.old.limits self.old.frames (fed self.old + 1) turn }
-        ensures limits { self.new.limits ≡ self.old.limits }
+        requires ready { IsReadyTurn (limits_of self.old) self.old.frames (fed self.old + 1) turn }
+        ensures limits { limits_of self.new ≡ limits_of self.old }
         ensures takes { Takes turn self.old self.new result }
     {
         match turn {
@@ -174,10 +184,10 @@ impl FormReader {
         requires current { IsPackage packages.now.0 current.now }
         requires count { fed self ≤ 2 ^ 63 }
         ensures { (bytes : List ℕ) → IsAfter
-            (setting_of self.limits readtable.now packages.now.0 current.now
+            (setting_of (limits_of self) readtable.now packages.now.0 current.now
             (R.registered macros.now) R.Meaning.way R.Meaning.answer)
             self bytes → IfOk result (λ outcome. IsOutcome outcome (reads
-            (setting_of self.limits readtable.now packages.now.0 current.now
+            (setting_of (limits_of self) readtable.now packages.now.0 current.now
             (R.registered macros.now) R.Meaning.way R.Meaning.answer)
             bytes)) }
     {

@@ -9,7 +9,7 @@ ghost use Rattle.form_reader.specs.Setting.{Setting, setting_of};
 ghost use Rattle.form_reader.specs.Delivering.{Passes};
 ghost use Rattle.form_reader.specs.Resuming.{Brings, IsStageAt, stage_gives};
 ghost use Rattle.form_reader.specs.Ready.{lookahead, IsReady, IsReadyPass};
-ghost use Rattle.form_reader.specs.Turning.{outcome_of, rest_of, Settles, TurnsTo, IsStanding, IsReadySettled, IsReadyTurn};
+ghost use Rattle.form_reader.specs.Turning.{outcome_of, rest_of, Settles, TurnsTo, IsStanding, IsReadySettled, IsReadyTurn, BeginsFrom};
 
 use crate::advance::advance;
 use crate::deliver::{Delivered, deliver};
@@ -116,6 +116,7 @@ fn done_after(found: Found, start: usize, at: usize) -> Turn
     requires count { start + at ≤ 2 ^ 63 }
     ensures turns { (setting : Setting) (cs : List ℕ) → TurnsTo setting [] cs result (outcome_of setting start (Ok (found, at, cs))) }
     ensures ready { (limits : Bounds) (frames : List OpenCall) → length frames ≤ limits.nesting → IsReadyTurn limits frames (start + at) result }
+    ensures begins { BeginsFrom start result }
 {
     match found {
         Found::Nothing(_) => Turn::Goes(start + at, 0, Stage::Object),
@@ -148,6 +149,7 @@ fn turn_of<R: MacroFunctions>(
         (R.registered with.now.macros.now) R.Meaning.way R.Meaning.answer)
         start read)) }
     ensures ready { IfOk result (IsReadyTurn with.now.limits frames.new (start + at)) }
+    ensures begins { IfOk result (BeginsFrom start) }
 {
     match settle(with, frames, event, at)? {
         Settled::Open(stage) => Ok(Turn::Goes(start, at, stage)),
@@ -177,6 +179,7 @@ fn done_before<R: MacroFunctions>(
         (R.registered with.now.macros.now) R.Meaning.way R.Meaning.answer)
         start (Ok (found, at, c ∷ cs)))) }
     ensures ready { IfOk result (IsReadyTurn with.now.limits frames.new (start + at + 1)) }
+    ensures begins { IfOk result (BeginsFrom start) }
 {
     match found {
         Found::Nothing(_) => {
@@ -216,6 +219,7 @@ pub(crate) fn take_byte<R: MacroFunctions>(
         (R.registered with.now.macros.now) R.Meaning.way R.Meaning.answer)
         frames.old stage start at (c ∷ cs))) }
     ensures ready { IfOk result (IsReadyTurn with.now.limits frames.new (start + at + 1)) }
+    ensures begins { IfOk result (BeginsFrom start) }
 {
     match feed(with, frames, stage, at, c)? {
         Passed::Taken(event) => turn_of(with, frames, event, start, at + 1),

@@ -2,7 +2,7 @@ use Rattle.std.proofs.Common.{◌+◌, refl, sym, subst, ◌∙◌}
 use Rattle.form_reader.specs.declared.reader.State.{State}
 use Rattle.form_reader.specs.Setting.{setting_of}
 use Rattle.form_reader.specs.Reader.{IsAfterIn}
-use Rattle.form_reader.proofs.ReaderSteps.{stepped, fed_taking}
+use Rattle.form_reader.proofs.ReaderSteps.{stepped, fed_taking, begins_taking}
 use Rattle.form_reader.proofs.Standings.{standing_of}
 use Rattle.form_reader.proofs.reader.FormReader.step.Goals as goal
 
@@ -22,3 +22,7 @@ returns-in_ok-next-in-Open-clause-steps g c = λ bytes after.
     stepped setting c.args.self.now _ c.take.new.self c.in-Open.stage bytes c.args.byte c.take_byte.new.frames c.in_ok-next-in-Open.next c.take.result
     (subst (λ (s : State). IsAfterIn setting c.args.self.now s bytes) (sym c.replace.ensures.value ∙ c.in-Open.is) after)
     c.in_ok-next-in-Open.ensures.turns c.in_ok-next-in-Open.ensures.ready c.take.ensures.takes refl
+
+pub returns-in_ok-next-in-Open-clause-begun : goal.returns-in_ok-next-in-Open-clause-begun
+returns-in_ok-next-in-Open-clause-begun g c =
+    begins_taking _ c.take.new.self c.in_ok-next-in-Open.next c.take.result c.take.ensures.takes c.in_ok-next-in-Open.ensures.begins
