@@ -8,3 +8,4 @@ pub mod Replaying
 pub mod StreamLemmas
 pub mod Surviving
 pub mod Turning
+pub mod Fitting

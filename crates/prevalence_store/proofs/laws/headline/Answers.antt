@@ -6,11 +6,11 @@ use Rattle.prevalence_store.proofs.Joining.{headline_holds}
 use Rattle.prevalence_store.proofs.laws.headline.Goals as goal
 
 pub returns-clause-holds : goal.returns-clause-holds
-returns-clause-holds g c = λ start world earlier later honest keeps run. headline_holds g.D.Disk.state g.met.D.Disk.sound start world earlier later honest keeps run
+returns-clause-holds g c = λ functions start world earlier later honest keeps run. headline_holds functions g.D.Disk.state g.met.D.Disk.sound start world earlier later honest keeps run
 
 pub returns-clause-refused : goal.returns-clause-refused
-returns-clause-refused g c = λ start world earlier later image crashed back limit number honest keeps run might reads still refused.
-    let all = headline_holds g.D.Disk.state g.met.D.Disk.sound start world earlier later honest keeps run in
+returns-clause-refused g c = λ functions start world earlier later image crashed back limit number honest keeps run might reads still refused.
+    let all = headline_holds functions g.D.Disk.state g.met.D.Disk.sound start world earlier later honest keeps run in
     let some = all.any_moment image might in
     subst (λ (i : Image). IsNoWord (limit_of limit) i refused.fault) reads
-    (refused.meant some.left still (subst (λ (i : Image). MeansWorld i some.left) (sym reads) some.meant))
+    (refused.meant some.left still (subst (λ (i : Image). MeansWorld functions i some.left) (sym reads) some.meant))
