@@ -25,3 +25,4 @@ pub mod TurnsTaken
 pub mod Endings
 pub mod ReaderSteps
 pub mod Standings
+pub mod Numbers
