@@ -30,3 +30,4 @@ pub mod Keeping
 pub mod Backs
 pub mod Language
 pub mod Fittings
+pub mod Numbers
