@@ -9,3 +9,4 @@ pub mod StreamLemmas
 pub mod Surviving
 pub mod Turning
 pub mod Fitting
+pub mod Numbered
