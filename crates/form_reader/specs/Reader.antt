@@ -1,5 +1,6 @@
 -- A reader that takes a text one byte at a time: what it is after, and what it answers.
 use Rattle.std.specs.Prelude.{ℕ, ◌≡◌, ◌+◌, ◌≤◌, true, List, [], ◌++◌, length}
+use Rattle.lisp_object.specs.Object.{IsSound}
 use Rattle.lisp_object.specs.Datum.{object_of, is_proper}
 use Rattle.form_reader.specs.declared.limits.Limits.{Limits}
 use Rattle.form_reader.specs.declared.stage.Stage.TheVariants.{Object as AtObject}
@@ -72,11 +73,16 @@ BeginsLater old new StepMore = (begun old ≤ begun new) × (begun new ≤ fed n
 BeginsLater old new (StepForm datum start «end» next) = (begun old ≤ start) × (begun new ≡ 0)
 BeginsLater old new (StepRefused code place) = begun new ≡ begun old
 
--- What is answered is the outcome.
+-- What is answered is the outcome, and the object of a form is sound.
 abbrev pub IsOutcome : ReadOutcome → Outcome → Type 0
-IsOutcome (ReadForm datum start «end» next) o = (o ≡ form (object_of datum) start «end» next) × (is_proper datum ≡ true)
+IsOutcome (ReadForm datum start «end» next) o = (o ≡ form (object_of datum) start «end» next) × (is_proper datum ≡ true) × IsSound (object_of datum)
 IsOutcome ReadEmpty o = o ≡ empty
 IsOutcome (ReadRefused code place) o = o ≡ refused code place
+
+-- of a form, the object is sound
+abbrev pub IsSoundStep : Step → Type 0
+IsSoundStep (StepForm datum start «end» next) = IsSound (object_of datum)
+IsSoundStep _ = Unit {0}
 
 -- what a turn makes of a reader, and what is answered
 abbrev pub Takes : Turn → FormReader → FormReader → Step → Type 0
