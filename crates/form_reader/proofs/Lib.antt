@@ -31,3 +31,6 @@ pub mod Backs
 pub mod Language
 pub mod Fittings
 pub mod Numbers
+pub mod TokenFaults
+pub mod Faults
+pub mod Deciding

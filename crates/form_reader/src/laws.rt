@@ -31,6 +31,14 @@ pub fn forms_are_within_the_limit()
         → reads setting text ≡ form x start end next → end - start ≤ setting.limits.text }
 {}
 
+/// A refusal is at the end of the text at most, and one before the end is the same whatever follows the text. So a reader
+/// may give it as soon as the byte at its place is there.
+pub fn refusals_are_decided()
+    ensures inside { (setting : Setting) (text : List ℕ) (code place : ℕ) → reads setting text ≡ refused code place → place ≤ length text }
+    ensures decided { (setting : Setting) (text more : List ℕ) (code place : ℕ)
+        → reads setting text ≡ refused code place → place < length text → reads setting (text ++ more) ≡ refused code place }
+{}
+
 /// A form with which a whitespace character was discarded is read again from its own bytes and this character, whatever
 /// follows them.
 pub fn spaced_forms_are_framed()
