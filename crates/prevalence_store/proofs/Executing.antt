@@ -4,7 +4,7 @@ use Rattle.std.proofs.lemmas.List.{length-take-le}
 use Rattle.std.proofs.lemmas.Bool.{eq-eqb, ne_eqb}
 use Rattle.disk_trait.specs.Disk.{State}
 use Rattle.gate_log.specs.Place.{HalvesValue}
-use Rattle.lisp_object.specs.Object.{Object}
+use Rattle.lisp_object.specs.Object.{Object, IsSound}
 use Rattle.lisp_object.specs.declared.datum.Datum.{Datum}
 use Rattle.lisp_object.specs.Datum.{object_of, is_proper}
 use Rattle.form_reader.specs.declared.ending.ReadOutcome.{ReadOutcome}
@@ -50,7 +50,7 @@ length-between start «end» text within =
 
 -- what the reader answered as a form was read as this form
 pub form_read : (o : ReadOutcome) (read : Reading) (datum : Datum) (start «end» next : ℕ) → IsOutcome o read → o ≡ ReadForm datum start «end» next
-    → (read ≡ form (object_of datum) start «end» next) × (is_proper datum ≡ true)
+    → (read ≡ form (object_of datum) start «end» next) × (is_proper datum ≡ true) × IsSound (object_of datum)
 form_read o read datum start «end» next is form_is = subst (λ (p : ReadOutcome). IsOutcome p read) form_is is
 
 module _ (functions : Functions) where
