@@ -1,5 +1,6 @@
 -- The numbers under which a text is not accepted.
 use Rattle.std.proofs.Common.{◌≡◌, ℕ, ◌==◌, Bool, true, false, List, length, Result, Ok, Err, refl, sym, subst, arith}
+use Rattle.std.specs.Prelude.{if◌then◌else◌}
 use Rattle.lisp_object.specs.declared.refusal.TheConstants.{END_OF_FILE, TEXT_LEFT_OVER}
 use Rattle.form_eval.specs.Acceptance.{accept}
 use Rattle.form_eval.specs.Outcomes.{Outcome as Evaluation}
@@ -18,7 +19,7 @@ evaluation_numbered text (Ok done) number each is = absurd (cc)
 evaluation_numbered text (Err n) number each is = let same : n ≡ number = cc in subst IsFormNumber same (each n refl)
 
 whole_numbered : (text : List ℕ) (b : Bool) (given : Evaluation Object) (number : ℕ) → ((n : ℕ) → given ≡ Err n → IsFormNumber n)
-    → ◌≡◌ {A = Result Acceptance ℕ} (elim b [ true ↦ acceptance_of text given | false ↦ Err TEXT_LEFT_OVER ]) (Err number) → IsFormNumber number
+    → ◌≡◌ {A = Result Acceptance ℕ} (if b then acceptance_of text given else Err TEXT_LEFT_OVER) (Err number) → IsFormNumber number
 whole_numbered text true given number each is = evaluation_numbered text given number each is
 whole_numbered text false given number each is = let same : TEXT_LEFT_OVER ≡ number = cc in subst IsFormNumber same (record { from = omega arith; to = omega arith })
 
