@@ -1,4 +1,4 @@
-//! A crash-safe prevalence store for Lisp forms: what is accepted is logged before it is answered.
+//! A crash-safe prevalence store for Lisp forms: what is accepted and writes is logged before it is answered.
 //!
 //! # What it promises the crate above
 //!
@@ -26,9 +26,7 @@
 //!   `replay` makes the world again from the records of a log; `input` and `output` are the streams of a session.
 //! - `mode`, `outcome`, `open_fault`: the words of its calls. `failure`, `turn`: their inner reasons.
 //! - `laws`: the headline, that an image means one world, and which numbers refuse a form.
-//! - `world`: the property lists, with the way back from a form that is refused.
-//! - `reading` (`read_one`), `evaluation` (`evaluate_form`) and `printing` (`print`): each a layer of its own, after the call
-//!   that a crate of its own will offer.
+//! - `setting`: under what a text is read, by the mode, and what it begins with (`form_reader`).
 #![tactic(auto)]
 
 mod commit;
@@ -44,7 +42,7 @@ mod setting;
 mod store;
 mod turn;
 
-pub use laws::{form_numbers, headline, one_world};
+pub use laws::{form_numbers, fresh_files, headline, one_world, refused_openings};
 pub use mode::Mode;
 pub use open_fault::OpenFault;
 pub use outcome::{Ending, Outcome};

@@ -5,7 +5,7 @@ use lisp_object::Datum;
 /// What became of a form.
 #[derive(PartialEq, Eq, Debug, Drop)]
 pub enum Outcome {
-    /// It was accepted, with this value, and is logged.
+    /// It was accepted, with this value, and is logged where it wrote.
     Accepted(Datum),
     /// It was refused, with the number of the refusal; nothing of it is left.
     Refused(u16),
