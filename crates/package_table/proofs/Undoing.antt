@@ -21,14 +21,14 @@ set_later : {A : Type 0} (y : A) (ys : List A) (i : ℕ) (w : A) → slice_set (
 set_later y ys i w = rw (add-one i) refl
 
 -- x is the last of xs, at n, and a write there leaves the others
-abbrev IsLast : {A : Type 0} → List A → ℕ → A → Type 0
+abbrev pub IsLast : {A : Type 0} → List A → ℕ → A → Type 0
 IsLast {A} xs n x = (before : List A) × (xs ≡ before ++ x ∷ []) × ((w : A) → slice_set xs n w ≡ before ++ w ∷ [])
 
 longer : {A : Type 0} (y : A) (zs : List A) (x : A) (n k : ℕ) → k ≡ n + 1 → IsLast zs n x → IsLast (y ∷ zs) k x
 longer y zs x n k next (before, split, write) =
     (y ∷ before, ap (λ ys. y ∷ ys) split, λ w. ap (λ i. slice_set (y ∷ zs) i w) next ∙ set_later y zs n w ∙ ap (λ ys. y ∷ ys) (write w))
 
-at_last : {A : Type 0} (xs : List A) (x : A) → 0 < length xs → x ≡ slice_index_or xs (length xs - 1) x → IsLast xs (length xs - 1) x
+pub at_last : {A : Type 0} (xs : List A) (x : A) → 0 < length xs → x ≡ slice_index_or xs (length xs - 1) x → IsLast xs (length xs - 1) x
 at_last [] x some is = absurd (omega (arith, some))
 at_last (y ∷ []) x some is = ([], ap (λ z. z ∷ []) (sym is), λ w. refl)
 at_last (y ∷ z ∷ xs) x some is =
@@ -108,11 +108,11 @@ pub append_nil : {A : Type 0} (xs : List A) → xs ≡ xs ++ []
 append_nil [] = refl
 append_nil (x ∷ xs) = ap (λ ys. x ∷ ys) (append_nil xs)
 
-take_seam : {A : Type 0} (xs ys : List A) → take (length xs) (xs ++ ys) ≡ xs
+pub take_seam : {A : Type 0} (xs ys : List A) → take (length xs) (xs ++ ys) ≡ xs
 take_seam [] ys = refl
 take_seam (x ∷ xs) ys = ap (λ ls. x ∷ ls) (take_seam xs ys)
 
-get_seam : {A : Type 0} (xs : List A) (y : A) (ys : List A) → slice_get (xs ++ y ∷ ys) (length xs) ≡ Some y
+pub get_seam : {A : Type 0} (xs : List A) (y : A) (ys : List A) → slice_get (xs ++ y ∷ ys) (length xs) ≡ Some y
 get_seam [] y ys = refl
 get_seam (x ∷ xs) y ys = get_seam xs y ys
 

@@ -5,10 +5,9 @@ ghost use Rattle.package_table.specs.Changes.{after_export, export_changes, with
 ghost use Rattle.package_table.specs.Growth.{Grows, Tells};
 ghost use Rattle.package_table.specs.Shown.{marked_tables};
 
-use crate::entry::Symbol;
 use crate::find::is_locked;
 use crate::journal::Mark;
-use crate::put::put_entry;
+use crate::put::put_symbol;
 use crate::table::PackageTable;
 use crate::{PackageError, Packages};
 use std::alloc::Global;
@@ -61,18 +60,7 @@ fn export_symbol(
     if table.external_home(owner, name).is_some() {
         return Ok(false);
     }
-    let symbol = Symbol {
-        home: table.shared_name(alloc, home)?,
-        external: true,
-    };
-    put_entry(
-        alloc,
-        table,
-        marks,
-        owner,
-        Vec::from_slice(alloc, name)?,
-        symbol,
-    )?;
+    put_symbol(alloc, table, marks, owner, home, name, true)?;
     Ok(true)
 }
 

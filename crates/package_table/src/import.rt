@@ -5,10 +5,9 @@ ghost use Rattle.package_table.specs.Changes.{after_import, import_changes, with
 ghost use Rattle.package_table.specs.Growth.{Grows, Tells};
 ghost use Rattle.package_table.specs.Shown.{marked_tables};
 
-use crate::entry::Symbol;
 use crate::find::is_locked;
 use crate::journal::Mark;
-use crate::put::put_entry;
+use crate::put::put_symbol;
 use crate::table::PackageTable;
 use crate::{PackageError, Packages};
 use std::alloc::Global;
@@ -56,18 +55,7 @@ fn import_symbol(
     if table.is_present(owner, name) {
         return Ok(false);
     }
-    let symbol = Symbol {
-        home: table.shared_name(alloc, home)?,
-        external: false,
-    };
-    put_entry(
-        alloc,
-        table,
-        marks,
-        owner,
-        Vec::from_slice(alloc, name)?,
-        symbol,
-    )?;
+    put_symbol(alloc, table, marks, owner, home, name, false)?;
     Ok(true)
 }
 

@@ -6,10 +6,9 @@ ghost use Rattle.package_table.specs.Changes.{after_intern, intern_changes, with
 ghost use Rattle.package_table.specs.Growth.{Grows, IsSameBut, Tells};
 ghost use Rattle.package_table.specs.Shown.{marked_tables};
 
-use crate::entry::Symbol;
 use crate::journal::Mark;
 use crate::limits::{MAX_SYMBOL_NAME, MAX_SYMBOLS};
-use crate::put::put_entry;
+use crate::put::put_symbol;
 use crate::standardized::{COMMON_LISP, KEYWORD};
 use crate::table::PackageTable;
 use crate::{PackageError, Packages};
@@ -37,18 +36,8 @@ fn put_new(
     ensures err { IfErr result (λ _. table.new ≡ table.old) }
     ensures marked { marked_tables marks.new.items table.new ≡ marked_tables marks.old.items table.old }
 {
-    let symbol = Symbol {
-        home: table.shared_name(alloc, owner)?,
-        external: owner == KEYWORD,
-    };
-    put_entry(
-        alloc,
-        table,
-        marks,
-        owner,
-        Vec::from_slice(alloc, name)?,
-        symbol,
-    )?;
+    let external = owner == KEYWORD;
+    put_symbol(alloc, table, marks, owner, owner, name, external)?;
     Ok(())
 }
 

@@ -33,8 +33,8 @@ pub(crate) fn put_package(
     Ok(())
 }
 
-/// Makes a symbol present at a name of the package `owner`, which exists.
-pub(crate) fn put_entry(
+// Makes a symbol present at a name of the package `owner`, which exists.
+fn put_entry(
     alloc: Global,
     table: &mut PackageTable,
     marks: &mut Vec<Mark>,
@@ -65,6 +65,30 @@ pub(crate) fn put_entry(
         },
     );
     Ok(())
+}
+
+/// Makes the symbol of this home and name present in `owner`, which exists, external there or not.
+pub(crate) fn put_symbol(
+    alloc: Global,
+    table: &mut PackageTable,
+    marks: &mut Vec<Mark>,
+    owner: &[u8],
+    home: &[u8],
+    name: &[u8],
+    external: bool,
+) -> Result<(), AllocError>
+    requires { IsPackage table.old owner.now }
+    ensures ok { OnOk result (table.new
+        ≡ with_entry table.old owner.now name.now (record { home = home.now; external = external })) }
+    ensures err { OnErr result (table.new ≡ table.old) }
+    ensures marked { marked_tables marks.new.items table.new ≡ marked_tables marks.old.items table.old }
+{
+    let symbol = Symbol {
+        home: table.shared_name(alloc, home)?,
+        external,
+    };
+    let name = Vec::from_slice(alloc, name)?;
+    put_entry(alloc, table, marks, owner, name, symbol)
 }
 
 /// Makes the package `owner`, which exists, use another that it does not use yet.
