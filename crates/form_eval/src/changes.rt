@@ -1,12 +1,12 @@
 //! Changes of the packages, one after the other.
-ghost use Rattle.std.specs.Prelude.{◌≡◌, ◌<◌, false, map, All};
-ghost use Rattle.package_table.specs.Changes.{after_export, after_import, after_use, finds_this, export_changes, import_changes, use_changes};
+ghost use Rattle.std.specs.Prelude.{◌≡◌, ◌<◌, false, map, All, IfOk};
+ghost use Rattle.package_table.specs.Changes.{after_export, after_import, after_use, finds_this, export_changes, import_changes, intern_changes, use_changes, Gives};
 ghost use Rattle.package_table.specs.Table.{IsPackage};
 ghost use Rattle.std.specs.List.{list_all};
 ghost use Rattle.plist_state.specs.Changes.{with_packages};
 ghost use Rattle.plist_state.specs.Shown.{symbol_of};
 ghost use Rattle.plist_state.specs.Sound.{IsSymbol};
-ghost use Rattle.form_eval.specs.Acceptance.{with_symbols};
+ghost use Rattle.form_eval.specs.Acceptance.{after_symbol, with_symbols};
 ghost use Rattle.form_eval.specs.Packages.{one_by_one};
 ghost use Rattle.form_eval.specs.Evaluated.{Makes};
 
@@ -100,16 +100,32 @@ pub(crate) fn use_each(
     Ok(wrote)
 }
 
+// A symbol is interned in its home, and whether it is new.
+fn intern_one(world: &mut World, symbol: &(&[u8], &[u8])) -> Result<bool, PackageError>
+    requires { All (λ b. b < 128) symbol.now.1.now }
+    ensures gives { Gives (λ _. world.new.0.packages) result (after_symbol world.old.0.packages (symbol.now.0.now, symbol.now.1.now)) }
+    ensures is_new { IfOk result (λ is_new. is_new ≡ intern_changes world.old.0.packages symbol.now.0.now symbol.now.1.now) }
+    ensures rest { world.new ≡ (with_packages world.old.0 world.new.0.packages, world.old.1) }
+{
+    match world.intern(symbol.0, symbol.1) {
+        Ok(interned) => Ok(interned.is_new),
+        Err(error) => Err(error),
+    }
+}
+
 /// Each of these symbols is interned in its home, one after the other, and whether one of them is new.
-pub(crate) fn intern_all(world: &mut World, symbols: &[Symbol]) -> Result<bool, PackageError>
-    requires { All (λ x. All (λ b. b < 128) (symbol_of x).1) symbols.now }
-    ensures gives { Makes result world.new.0.packages (with_symbols world.old.0.packages (map symbol_of symbols.now)) }
+pub(crate) fn intern_all(
+    world: &mut World,
+    symbols: &[(&[u8], &[u8])],
+) -> Result<bool, PackageError>
+    requires { All (λ p. All (λ b. b < 128) p.1.now) symbols.now }
+    ensures gives { Makes result world.new.0.packages (with_symbols world.old.0.packages (map (λ p. (p.0.now, p.1.now)) symbols.now)) }
     ensures rest { world.new ≡ (with_packages world.old.0 world.new.0.packages, world.old.1) }
 {
     let mut wrote = false;
     for symbol in symbols {
-        match world.intern(symbol.home(), symbol.name()) {
-            Ok(interned) => wrote = either(wrote, interned.is_new),
+        match intern_one(world, symbol) {
+            Ok(is_new) => wrote = either(wrote, is_new),
             Err(error) => return Err(error),
         }
     }

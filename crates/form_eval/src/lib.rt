@@ -42,3 +42,6 @@ mod values;
 pub use error::EvaluationError;
 pub use evaluated::Evaluated;
 pub use transaction::accept;
+
+#[cfg(test)]
+mod tests;

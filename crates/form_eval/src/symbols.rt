@@ -4,42 +4,43 @@ ghost use Rattle.std.specs.List.{flat_map};
 ghost use Rattle.std.specs.Option.{option_map_or};
 ghost use Rattle.lisp_object.specs.Object.{nil};
 ghost use Rattle.lisp_object.specs.Datum.{object_of};
-ghost use Rattle.plist_state.specs.Shown.{symbol_of};
 ghost use Rattle.form_eval.specs.Acceptance.{symbols};
 
 use lisp_object::{Boxed, Datum, Items};
 use package_table::standardized::COMMON_LISP;
-use plist_state::Symbol;
 use std::alloc::{AllocError, Global};
 
-/// The interned symbols of a datum, from left to right. The NIL that ends a list is one of them.
-pub(crate) fn symbols_of(alloc: Global, datum: &Datum) -> Result<Vec<Symbol>, AllocError>
-    ensures { IfOk result (λ found. map symbol_of found.items ≡ symbols (object_of datum.now)) }
+/// The interned symbols of a datum, from left to right, each by its home and its name. The NIL that ends a list is one of
+/// them. Nothing of them is copied.
+pub(crate) fn symbols_of<'a>(
+    alloc: Global,
+    datum: &'a Datum,
+) -> Result<Vec<(&'a [u8], &'a [u8])>, AllocError>
+    ensures { IfOk result (λ found. map (λ p. (p.0.now, p.1.now)) found.items ≡ symbols (object_of datum.now)) }
 {
     let mut found = Vec::new(alloc);
-    add(alloc, &mut found, datum)?;
+    add(&mut found, datum)?;
     Ok(found)
 }
 
 // These, and those of a datum.
 #[cycle(adding)]
 #[tactic(auto, using(crate::proofs::Collected::symbols_list, crate::proofs::Collected::symbols_vector))]
-fn add(alloc: Global, found: &mut Vec<Symbol>, datum: &Datum) -> Result<(), AllocError>
-    ensures { OnOk result (map symbol_of found.new.items ≡ map symbol_of found.old.items ++ symbols (object_of datum.now)) }
+fn add<'a>(found: &mut Vec<(&'a [u8], &'a [u8])>, datum: &'a Datum) -> Result<(), AllocError>
+    ensures { OnOk result (map (λ p. (p.0.now, p.1.now)) found.new.items ≡ map (λ p. (p.0.now, p.1.now)) found.old.items ++ symbols (object_of datum.now)) }
 {
     match datum {
         Datum::Symbol { package, name } => {
-            let symbol = Symbol::from_bytes(alloc, package.as_slice(), name.as_slice())?;
-            found.push(symbol)?;
+            found.push((package.as_slice(), name.as_slice()))?;
             Ok(())
         }
         Datum::List { items, tail } => {
-            add_all(alloc, found, items)?;
-            add_end(alloc, found, tail)
+            add_all(found, items)?;
+            add_end(found, tail)
         }
         Datum::Vector(items) => {
-            add_all(alloc, found, items)?;
-            add_nil(alloc, found)
+            add_all(found, items)?;
+            add_nil(found)
         }
         Datum::Integer(_) => Ok(()),
         Datum::Rational(_) => Ok(()),
@@ -51,38 +52,39 @@ fn add(alloc: Global, found: &mut Vec<Symbol>, datum: &Datum) -> Result<(), Allo
 
 // These, and those of some data.
 #[cycle(adding)]
-fn add_all(alloc: Global, found: &mut Vec<Symbol>, items: &Items<Datum>) -> Result<(), AllocError>
-    ensures { OnOk result (map symbol_of found.new.items
-        ≡ map symbol_of found.old.items ++ flat_map (λ d. symbols (object_of d)) items.now) }
+fn add_all<'a>(
+    found: &mut Vec<(&'a [u8], &'a [u8])>,
+    items: &'a Items<Datum>,
+) -> Result<(), AllocError>
+    ensures { OnOk result (map (λ p. (p.0.now, p.1.now)) found.new.items
+        ≡ map (λ p. (p.0.now, p.1.now)) found.old.items ++ flat_map (λ d. symbols (object_of d)) items.now) }
 {
     let items = items.as_slice();
     for item in items {
-        add(alloc, found, item)?;
+        add(found, item)?;
     }
     Ok(())
 }
 
 // These, and those of what ends a list.
 #[cycle(adding)]
-fn add_end(
-    alloc: Global,
-    found: &mut Vec<Symbol>,
-    tail: &Option<Boxed<Datum>>,
+fn add_end<'a>(
+    found: &mut Vec<(&'a [u8], &'a [u8])>,
+    tail: &'a Option<Boxed<Datum>>,
 ) -> Result<(), AllocError>
-    ensures { OnOk result (map symbol_of found.new.items
-        ≡ map symbol_of found.old.items ++ symbols (option_map_or object_of tail.now nil)) }
+    ensures { OnOk result (map (λ p. (p.0.now, p.1.now)) found.new.items
+        ≡ map (λ p. (p.0.now, p.1.now)) found.old.items ++ symbols (option_map_or object_of tail.now nil)) }
 {
     match tail {
-        None => add_nil(alloc, found),
-        Some(tail) => add(alloc, found, tail.get()),
+        None => add_nil(found),
+        Some(tail) => add(found, tail.get()),
     }
 }
 
 // These, and NIL.
-fn add_nil(alloc: Global, found: &mut Vec<Symbol>) -> Result<(), AllocError>
-    ensures { OnOk result (map symbol_of found.new.items ≡ map symbol_of found.old.items ++ symbols nil) }
+fn add_nil<'a>(found: &mut Vec<(&'a [u8], &'a [u8])>) -> Result<(), AllocError>
+    ensures { OnOk result (map (λ p. (p.0.now, p.1.now)) found.new.items ≡ map (λ p. (p.0.now, p.1.now)) found.old.items ++ symbols nil) }
 {
-    let symbol = Symbol::from_bytes(alloc, COMMON_LISP, b"NIL")?;
-    found.push(symbol)?;
+    found.push((COMMON_LISP, b"NIL"))?;
     Ok(())
 }

@@ -3,7 +3,7 @@ ghost use Rattle.std.specs.Prelude.{◌≡◌, ◌<◌, All, Some, IfErr, IfOk};
 ghost use Rattle.package_table.specs.Table.{IsPresent};
 ghost use Rattle.package_table.specs.Lookup.{found};
 ghost use Rattle.package_table.specs.Changes.{after_make, after_intern, after_export, after_import, after_use, intern_changes, export_changes, import_changes, use_changes, Gives};
-ghost use Rattle.package_table.specs.Growth.{Grows, Tells};
+ghost use Rattle.package_table.specs.Growth.{Grows, Tells, IsSameBut};
 ghost use Rattle.plist_state.specs.Changes.{with_packages, after_in_package};
 
 use crate::World;
@@ -41,6 +41,7 @@ impl World {
         ensures is_new { IfOk result (λ interned. interned.is_new ≡ intern_changes self.old.0.packages owner.now name.now) }
         ensures exactly { IfOk result (λ interned. Tells interned.is_new self.old.0.packages self.new.0.packages) }
         ensures finds { IfOk result (λ interned. found self.new.0.packages owner.now name.now ≡ Some interned.home) }
+        ensures others { IsSameBut self.old.0.packages self.new.0.packages owner.now name.now }
         ensures rest { self.new ≡ (with_packages self.old.0 self.new.0.packages, self.old.1) }
         ensures grows { Grows self.old.0.packages self.new.0.packages }
         ensures unchanged { IfErr result (λ _. self.new ≡ self.old) }

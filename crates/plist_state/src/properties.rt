@@ -37,11 +37,13 @@ impl World {
     }
 
     /// Removes the property of an indicator from the list of a symbol, and answers whether it was there (standard 10.2,
-    /// `remprop`). The symbol is there. After out of memory nothing has changed.
+    /// `remprop`). The symbol is there. Takes no memory where the property is absent. After out of memory nothing has
+    /// changed.
     pub fn remove(&mut self, symbol: &Symbol, indicator: &Symbol) -> Result<bool, AllocError>
         requires { IsSymbol self.old.0.packages (symbol_of symbol.now) }
         ensures ok { OnOk result (self.new ≡ (without_property self.old.0 (symbol_of symbol.now) (symbol_of indicator.now), self.old.1)) }
         ensures had { IfOk result (λ had. had ≡ is_some (property self.old.0 (symbol_of symbol.now) (symbol_of indicator.now))) }
+        ensures absent { OnErr result (is_some (property self.old.0 (symbol_of symbol.now) (symbol_of indicator.now)) ≡ true) }
         ensures err { OnErr result (self.new ≡ self.old) }
     {
         stored::remove(

@@ -147,7 +147,9 @@ fn add_row(
         return Ok(());
     }
     let symbol = symbol.copy(alloc)?;
-    match rows.insert(symbol, Vec::new(alloc)) {
+    // Most symbols have one property.
+    let row = Vec::with_capacity(alloc, 1)?;
+    match rows.insert(symbol, row) {
         Ok(_) => Ok(()),
         Err(_) => Err(AllocError),
     }

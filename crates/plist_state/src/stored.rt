@@ -98,6 +98,7 @@ pub(crate) fn remove(
     ensures ok { let r = rest_of stored.old in let x = symbol_of symbol.now in
         OnOk result (rest_of stored.new ≡ record r { properties = with_list r.properties x (without_value (list_at r.properties x) (symbol_of indicator.now)) }) }
     ensures had { IfOk result (λ had. had ≡ is_some (value_at (list_at (rest_of stored.old).properties (symbol_of symbol.now)) (symbol_of indicator.now))) }
+    ensures absent { OnErr result (is_some (value_at (list_at (rest_of stored.old).properties (symbol_of symbol.now)) (symbol_of indicator.now)) ≡ true) }
     ensures err { OnErr result (rest_of stored.new ≡ rest_of stored.old) }
     ensures wider { IsWider stored.old.properties.entries stored.new.properties.entries }
     ensures marked { Continues (marks_of marks.old.items) (rest_of stored.old) (marks_of marks.new.items) (rest_of stored.new) }

@@ -1,14 +1,13 @@
 use Rattle.std.proofs.Common.{◌≡◌, false, map, drop}
 use Rattle.package_table.specs.Changes.{intern_changes}
 use Rattle.plist_state.specs.Changes.{with_packages}
-use Rattle.plist_state.specs.Shown.{symbol_of}
 use Rattle.form_eval.specs.Packages.{one_by_one}
 use Rattle.form_eval.specs.Acceptance.{after_symbol}
 use Rattle.form_eval.proofs.changes.intern_all.Given as goal
 
 abbrev pub invariant-loop-symbol : goal.invariant-loop-symbol
 invariant-loop-symbol l = record {
-  same : one_by_one after_symbol (λ u y. intern_changes u y.0 y.1) l.fn.world.0.packages false (map symbol_of l.symbols)
-      ≡ one_by_one after_symbol (λ u y. intern_changes u y.0 y.1) l.world.0.packages l.wrote (map symbol_of (drop l.symbol-index l.symbols));
+  same : one_by_one after_symbol (λ u y. intern_changes u y.0 y.1) l.fn.world.0.packages false (map (λ p. (p.0.now, p.1.now)) l.symbols)
+      ≡ one_by_one after_symbol (λ u y. intern_changes u y.0 y.1) l.world.0.packages l.wrote (map (λ p. (p.0.now, p.1.now)) (drop l.symbol-index l.symbols));
   rest : l.world ≡ (with_packages l.fn.world.0 l.world.0.packages, l.fn.world.1);
 }

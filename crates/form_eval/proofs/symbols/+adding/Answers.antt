@@ -1,14 +1,18 @@
-use Rattle.std.proofs.Common.{◌++◌, ◌∷◌, [], map, ap, sym, ◌∙◌}
+use Rattle.std.proofs.Common.{ℕ, List, ◌++◌, ◌∷◌, [], map, Bor, ap, sym, ◌∙◌}
 use Rattle.std.proofs.lemmas.List.{map-append}
 use Rattle.lisp_object.specs.Datum.{object_of}
 use Rattle.lisp_object.proofs.Objects.{object_of-Symbol}
-use Rattle.plist_state.specs.Shown.{symbol_of}
+use Rattle.plist_state.specs.Properties.{Symbol}
 use Rattle.form_eval.specs.Acceptance.{symbols}
 use Rattle.form_eval.proofs.symbols.+adding.Goals as goal
 
+abbrev seen : Bor (List ℕ) × Bor (List ℕ) → Symbol
+seen p = (p.0.now, p.1.now)
+
 pub add-returns-in_ok-push-in-Symbol : goal.add-returns-in_ok-push-in-Symbol
 add-returns-in_ok-push-in-Symbol t c =
-    ap (map symbol_of) c.in_ok-push-in-Symbol.ensures.items
-    ∙ map-append symbol_of c.args.found.now.items (c.in_ok-symbol-in-Symbol.symbol ∷ [])
-    ∙ ap (λ x. map symbol_of c.args.found.now.items ++ x ∷ []) (c.in_ok-symbol-in-Symbol.ensures ∙ (λ i. (c.as_slice.ensures i, c.as_slice-in-Symbol.ensures i)))
-    ∙ ap (λ x. map symbol_of c.args.found.now.items ++ symbols x) (sym (ap object_of c.in-Symbol.is ∙ object_of-Symbol c.in-Symbol.package c.in-Symbol.name))
+    let before = c.args.found.now.items in
+    ap (map seen) c.in_ok-push-in-Symbol.ensures.items
+    ∙ map-append seen before ((c.as_slice.result, c.as_slice-in-Symbol.result) ∷ [])
+    ∙ (λ i. map seen before ++ (c.as_slice.ensures i, c.as_slice-in-Symbol.ensures i) ∷ [])
+    ∙ ap (λ x. map seen before ++ symbols x) (sym (ap object_of c.in-Symbol.is ∙ object_of-Symbol c.in-Symbol.package c.in-Symbol.name))
