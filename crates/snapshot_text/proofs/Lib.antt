@@ -10,3 +10,4 @@ pub mod Others
 pub mod Begun
 pub mod Lists
 pub mod Whole
+pub mod Ranges

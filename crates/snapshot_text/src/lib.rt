@@ -12,6 +12,7 @@
 mod laws;
 mod package_rows;
 mod property_rows;
+mod table_rows;
 mod texts;
 
 pub use laws::printed_objects_read_back;
