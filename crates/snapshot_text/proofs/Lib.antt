@@ -11,3 +11,5 @@ pub mod Begun
 pub mod Lists
 pub mod Whole
 pub mod Ranges
+pub mod Worlds
+pub mod ThreeLines

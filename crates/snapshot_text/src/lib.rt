@@ -14,5 +14,10 @@ mod package_rows;
 mod property_rows;
 mod table_rows;
 mod texts;
+mod writer;
 
 pub use laws::printed_objects_read_back;
+pub use writer::write;
+
+#[cfg(test)]
+mod tests;

@@ -1,5 +1,5 @@
 //! The readtables of a snapshot, as data.
-ghost use Rattle.std.specs.Prelude.{◌≡◌, ◌++◌, ◌<◌, ◌≤◌, [], ◌∷◌, not, filter, true, pos, map, IfOk, OnOk, unwrap_or, None, get_or};
+ghost use Rattle.std.specs.Prelude.{bytes_eq, ◌≡◌, ◌++◌, ◌<◌, ◌≤◌, [], ◌∷◌, not, filter, true, pos, map, IfOk, OnOk, unwrap_or, None, get_or};
 ghost use Rattle.std.specs.List.{list_all, flat_map, range_with_len};
 ghost use Rattle.lisp_object.specs.Object.{list_of, text};
 ghost use Rattle.lisp_object.specs.Datum.{object_of, is_proper};
@@ -8,10 +8,12 @@ ghost use Rattle.readtable_core.specs.Cases.{case_name};
 ghost use Rattle.readtable_core.specs.Characters.{syntax_number};
 ghost use Rattle.readtable_core.specs.Named.{same_entry};
 ghost use Rattle.readtable_core.specs.Tables.{entry_at, standard};
-ghost use Rattle.snapshot_text.specs.Snapshot.{number, dispatch_object, dispatch_objects, entry_object, entry_objects, readtable_object};
+ghost use Rattle.plist_state.specs.State.{standard_name};
+ghost use Rattle.snapshot_text.specs.Snapshot.{table_named, readtables_object, tables_object, number, dispatch_object, dispatch_objects, entry_object, entry_objects, readtable_object};
 
 use crate::texts::{list_of_three, text_of};
-use lisp_object::Datum;
+use lisp_object::{Bytes, Datum};
+use plist_state::{STANDARD, World};
 use readtable_core::{Case, CharacterEntry, FnName, Readtable};
 use std::alloc::{AllocError, Global};
 
@@ -195,4 +197,72 @@ fn readtable_of(
     let letters = case_of(alloc, table.case())?;
     let entries = Datum::list(alloc, entry_rows(alloc, table, first)?, None)?;
     list_of_three(alloc, text_of(alloc, name)?, letters, entries)
+}
+
+// The readtable of a name, or the standard one where there is none.
+fn table_named<'a>(world: &'a World, first: &'a Readtable, name: &[u8]) -> &'a Readtable
+    requires { first.now ≡ standard }
+    ensures { result.now ≡ table_named world.now.0 name.now }
+{
+    match world.readtable(name) {
+        Some(table) => table,
+        None => first,
+    }
+}
+
+// The readtables of these names, but for the standard one.
+fn readtable_rows(alloc: Global, world: &World, names: &[Bytes]) -> Result<Vec<Datum>, AllocError>
+    ensures objects { IfOk result (λ rows. map object_of rows.items
+        ≡ map (λ n. readtable_object n (table_named world.now.0 n)) (filter (λ n. not (bytes_eq n standard_name)) names.now)) }
+    ensures proper { list_all (λ name. list_all is_ascii name) names.now ≡ true → IfOk result (λ rows. list_all is_proper rows.items ≡ true) }
+{
+    let first = Readtable::standard(alloc)?;
+    let mut rows = Vec::new(alloc);
+    for name in names {
+        let name = name.as_slice();
+        if name != STANDARD {
+            let table = table_named(world, &first, name);
+            rows.push(readtable_of(alloc, name, table, &first)?)?;
+        }
+    }
+    Ok(rows)
+}
+
+// All readtables but the standard one.
+fn readtables_of(alloc: Global, world: &World) -> Result<Datum, AllocError>
+    ensures object { IfOk result (λ d. object_of d ≡ readtables_object world.now.0) }
+    ensures proper { IfOk result (λ d. is_proper d ≡ true) }
+{
+    world.soundness();
+    let names = world.readtable_names(alloc)?;
+    let rows = readtable_rows(alloc, world, names.as_slice())?;
+    Datum::list(alloc, rows, None)
+}
+
+// The name of the current package, or of the current readtable, as a text.
+fn package_text(alloc: Global, world: &World) -> Result<Datum, AllocError>
+    ensures object { IfOk result (λ d. object_of d ≡ text world.now.0.current_package) }
+    ensures proper { IfOk result (λ d. is_proper d ≡ true) }
+{
+    world.soundness();
+    text_of(alloc, world.current_package())
+}
+
+fn readtable_text(alloc: Global, world: &World) -> Result<Datum, AllocError>
+    ensures object { IfOk result (λ d. object_of d ≡ text world.now.0.current_readtable) }
+    ensures proper { IfOk result (λ d. is_proper d ≡ true) }
+{
+    world.soundness();
+    text_of(alloc, world.current_readtable())
+}
+
+// The current package, the current readtable, and the readtables.
+pub(crate) fn tables_of(alloc: Global, world: &World) -> Result<Datum, AllocError>
+    ensures object { IfOk result (λ d. object_of d ≡ tables_object world.now.0) }
+    ensures proper { IfOk result (λ d. is_proper d ≡ true) }
+{
+    let package = package_text(alloc, world)?;
+    let readtable = readtable_text(alloc, world)?;
+    let readtables = readtables_of(alloc, world)?;
+    list_of_three(alloc, package, readtable, readtables)
 }
