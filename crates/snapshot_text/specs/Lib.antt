@@ -1,2 +1,4 @@
+pub mod Covered
+pub mod Refused
 pub mod Snapshot
 pub mod Tokens

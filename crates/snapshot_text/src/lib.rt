@@ -9,14 +9,23 @@
 //! - `texts`: lists of texts; `package_rows`, `property_rows`: packages and property lists, as data
 #![tactic(auto)]
 
+mod error;
+mod known;
 mod laws;
+mod package_parts;
 mod package_rows;
+mod parts;
+mod property_parts;
 mod property_rows;
+mod reader;
+mod table_parts;
 mod table_rows;
 mod texts;
 mod writer;
 
+pub use error::SnapshotError;
 pub use laws::printed_objects_read_back;
+pub use reader::read;
 pub use writer::write;
 
 #[cfg(test)]

@@ -200,7 +200,7 @@ fn readtable_of(
 }
 
 // The readtable of a name, or the standard one where there is none.
-fn table_named<'a>(world: &'a World, first: &'a Readtable, name: &[u8]) -> &'a Readtable
+pub(crate) fn table_named<'a>(world: &'a World, first: &'a Readtable, name: &[u8]) -> &'a Readtable
     requires { first.now ≡ standard }
     ensures { result.now ≡ table_named world.now.0 name.now }
 {
