@@ -1,12 +1,14 @@
 //! Texts of worlds, byte for byte.
-use crate::write;
-use lisp_object::Datum;
+use crate::{SnapshotError, read, write};
+use lisp_object::{Bytes, Datum};
 use package_table::PackageError;
 use package_table::standardized::{COMMON_LISP_USER, KEYWORD};
-use plist_state::{Symbol, USER, World};
+use plist_state::{STANDARD, Symbol, USER, World};
 use readtable_core::{Case, FnName};
 use std::alloc::Global;
 use std::test::Fail;
+use user_macros::Macros;
+use user_macros::example::Notes;
 
 // Makes `[` a macro character of USER, where the function is the name of a keyword.
 fn set_bracket(world: &mut World, name: &[u8]) -> Option<()> {
@@ -100,5 +102,112 @@ fn packages_and_dispatch(rt: HostRuntime) -> Result<(), Fail> {
         text.as_slice()
             == b"((\"COMMON-LISP-USER\" (\"COMMON-LISP\") NIL NIL ((\"X\" \"P\"))) (\"KEYWORD\" NIL NIL NIL NIL) (\"P\" NIL (\"X\") (\"X\") NIL) (\"Q\" (\"P\") NIL NIL NIL))\nNIL\n(\"Q\" \"USER\" ((\"USER\" \"INVERT\" ((33 3 \"STD-DISPATCH\" NIL)))))\n".as_slice()
     );
+    Ok(())
+}
+
+// The text of the world that is read from a text, or the number of the refusal.
+fn read_back(alloc: Global, bytes: &[u8]) -> Result<Result<Vec<u8>, u16>, Fail> {
+    let macros = Macros::new(alloc, Notes::new());
+    match read(alloc, bytes, &macros) {
+        Ok(world) => Ok(Ok(write(alloc, &world)?)),
+        Err(refusal) => Ok(Err(refusal.number())),
+    }
+}
+
+// Whether the text is that of a world, which is read.
+fn is_read(alloc: Global, bytes: &[u8]) -> Result<bool, Fail> {
+    Ok(match read_back(alloc, bytes)? {
+        Ok(text) => text.as_slice() == bytes,
+        Err(_) => false,
+    })
+}
+
+// A world with something in each part.
+fn full_world(alloc: Global) -> Result<World, Fail> {
+    let mut world = World::new(alloc)?;
+    add_packages(&mut world)?;
+    for name in [b"A".as_slice(), b"b|c", b""] {
+        let name = Bytes::from_slice(alloc, name)?;
+        if name.is_ascii() {
+            world.intern(COMMON_LISP_USER, name.as_slice())?;
+        }
+        put_seven(alloc, &mut world, name.as_slice(), b"A");
+        put_seven(alloc, &mut world, b"A", name.as_slice());
+    }
+    world.make_dispatch(USER, b'!', true)?;
+    world.set_syntax_from_char(USER, b'x', STANDARD, b' ')?;
+    world.set_case(USER, Case::Preserve)?;
+    Ok(world)
+}
+
+// A world with more readtables, and functions on characters and sub-characters.
+fn world_of_tables(alloc: Global) -> Result<World, Fail> {
+    let mut world = full_world(alloc)?;
+    for (c, d) in [
+        (b'A', b'#'),
+        (b'B', b'|'),
+        (b'C', b'\\'),
+        (b'(', b'a'),
+        (b'z', 0),
+    ] {
+        world.set_syntax_from_char(USER, c, STANDARD, d)?;
+    }
+    if world.packages().is_symbol(KEYWORD, b"UPCASE") {
+        world.copy_readtable(USER, b"UPCASE")?;
+    }
+    world.set_current_readtable(b"UPCASE")?;
+    world.set_current_package(b"P")?;
+    Ok(world)
+}
+
+#[test]
+fn worlds_are_read_back(rt: HostRuntime) -> Result<(), Fail> {
+    let alloc = rt.alloc();
+    let worlds = [
+        World::new(alloc)?,
+        full_world(alloc)?,
+        world_of_tables(alloc)?,
+    ];
+    for world in &worlds {
+        assert!(rt; is_read(alloc, write(alloc, world)?.as_slice())?);
+    }
+    Ok(())
+}
+
+#[test]
+fn other_texts_are_refused(rt: HostRuntime) -> Result<(), Fail> {
+    let rows: [(&[u8], u16); 4] = [
+        (b"", 62),
+        (b"NIL", 62),
+        (
+            b"((\"COMMON-LISP-USER\" (\"COMMON-LISP\") NIL NIL NIL) (\"KEYWORD\" NIL NIL NIL NIL))\nNIL\n(\"COMMON-LISP-USER\" \"USER\" ((\"USER\" \"UPCASE\"  NIL)))\n",
+            62,
+        ),
+        (
+            b"((\"COMMON-LISP-USER\" (\"COMMON-LISP\") NIL NIL NIL) (\"KEYWORD\" NIL (\"SQUARE\") NIL NIL))\nNIL\n(\"COMMON-LISP-USER\" \"USER\" ((\"USER\" \"UPCASE\" ((91 2 \"SQUARE\" NIL)))))\n",
+            63,
+        ),
+    ];
+    for (text, number) in rows {
+        assert!(rt; matches!(read_back(rt.alloc(), text)?, Err(n) if n == number));
+    }
+    assert_eq!(rt; SnapshotError::OutOfMemory.number(), 90);
+    Ok(())
+}
+
+// With each byte altered the text is refused, or is that of another world.
+#[test]
+fn altered_texts(rt: HostRuntime) -> Result<(), Fail> {
+    let alloc = rt.alloc();
+    let text = write(alloc, &World::new(alloc)?)?;
+    for place in 0..text.len() {
+        let mut altered = Vec::from_slice(alloc, text.as_slice())?;
+        altered[place] ^= 1;
+        let good = match read_back(alloc, altered.as_slice())? {
+            Ok(again) => again.as_slice() == altered.as_slice(),
+            Err(number) => number == 62 || number == 63,
+        };
+        assert!(rt; good);
+    }
     Ok(())
 }
