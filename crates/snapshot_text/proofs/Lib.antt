@@ -13,3 +13,12 @@ pub mod Whole
 pub mod Ranges
 pub mod Worlds
 pub mod ThreeLines
+pub mod RowsByKey
+pub mod SameProperties
+pub mod SameTables
+pub mod PackageEntries
+pub mod SamePackages
+pub mod PlainObjects
+pub mod PlainLines
+pub mod OneLine
+pub mod SameText

@@ -12,6 +12,9 @@ ghost use Rattle.canon_printer.specs.Symbols.{HasAllSymbols};
 ghost use Rattle.form_reader.specs.declared.limits.Limits.{Limits};
 ghost use Rattle.form_reader.specs.Setting.{setting_of};
 ghost use Rattle.form_reader.specs.Reading.{form, space_at, reads};
+ghost use Rattle.plist_state.specs.State.{State};
+ghost use Rattle.plist_state.specs.Sound.{IsSound as IsSoundState};
+ghost use Rattle.snapshot_text.specs.Snapshot.{snapshot};
 ghost use Rattle.snapshot_text.specs.Tokens.{AreTokensWithin, ends_with_token};
 
 /// The printed text of an object is read back (standard 22.1.3): with sound packages that have its symbols, under the
@@ -29,4 +32,10 @@ pub fn printed_objects_read_back()
         → reads (setting_of limits standard packages current registered way answer) (printed packages current x ++ rest)
         ≡ form x 0 (length (printed packages current x))
         (length (printed packages current x) + space_at standard (ends_with_token x) rest) }
+{}
+
+/// A text is that of one sound state at most: what a snapshot does not say, a state does not have. So a world that `read`
+/// gives is the one whose text the bytes are.
+pub fn one_text_one_state()
+    ensures { (s t : State) → IsSoundState s → IsSoundState t → snapshot s ≡ snapshot t → s ≡ t }
 {}
