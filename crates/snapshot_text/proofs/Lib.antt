@@ -22,3 +22,5 @@ pub mod PlainObjects
 pub mod PlainLines
 pub mod OneLine
 pub mod SameText
+pub mod WithinLimits
+pub mod LinesRead

@@ -9,7 +9,7 @@ use Rattle.std.specs.FinMap.{contains_key-keys}
 use Rattle.std.proofs.lemmas.Bool.{or_left, or_right}
 use Rattle.std.proofs.lemmas.List.{append_cancel_left}
 use Rattle.lisp_object.specs.Object as o
-use Rattle.lisp_object.specs.Object.{Object, IsSound, OfSymbol, object_depth, list_of, nil}
+use Rattle.lisp_object.specs.Object.{Object, IsSound, OfSymbol, AllAtoms, object_depth, list_of, nil}
 use Rattle.lisp_object.proofs.Atoms.{atoms_weaker}
 use Rattle.readtable_core.specs.Tables.{standard}
 use Rattle.token_scan.specs.Spelling.{may_end}
@@ -33,15 +33,28 @@ use Rattle.snapshot_text.specs.Tokens.{token_length, AreTokensWithin, ends_with_
 use Rattle.snapshot_text.specs.Snapshot.{symbol_object, plist_object, properties_object}
 use Rattle.snapshot_text.proofs.Spelling.{met_text}
 use Rattle.snapshot_text.proofs.Whole.{object_read_back}
-use Rattle.snapshot_text.proofs.PlainObjects.{IsPlain, plain_sound, plain_symbols, plain_nil}
+use Rattle.snapshot_text.proofs.PlainObjects.{IsPlain, plain_sound, plain_known, plain_nil}
 
 -- an object that is read back with these packages
 pub record IsGood (t : Table) (x : Object) : Type 0 where
   pub sound : IsSound x
-  pub symbols : HasAllSymbols t x
+  pub known : AllAtoms (IsKnown t) x
+
+known_symbol : (t : Table) (x : Object) → IsKnown t x → OfSymbol (λ home name. packages.IsPresent t home name home) x
+known_symbol t (o.symbol home name) k = k
+known_symbol t (o.integer n) k = tt
+known_symbol t (o.rational n d) k = tt
+known_symbol t (o.character c) k = tt
+known_symbol t (o.text bytes) k = tt
+known_symbol t (o.uninterned name) k = tt
+known_symbol t (o.pair a b) k = tt
+known_symbol t (o.vector xs) k = tt
+
+pub good_symbols : (t : Table) (x : Object) → IsGood t x → HasAllSymbols t x
+good_symbols t x good = atoms_weaker (IsKnown t) (OfSymbol (λ home name. packages.IsPresent t home name home)) (known_symbol t) x good.known
 
 pub plain_good : (t : Table) → packages.IsSound t → (x : Object) → IsPlain x → IsGood t x
-plain_good t sound x p = record { sound = plain_sound x p; symbols = plain_symbols t sound x p }
+plain_good t sound x p = record { sound = plain_sound x p; known = plain_known t sound x p }
 
 -- ---- some limit is enough for its tokens
 
@@ -65,7 +78,7 @@ module _ (t : Table) (current : Name) where
   tokens_bound (o.symbol home name) = (token_length t current (o.symbol home name), same_size (token_length t current (o.symbol home name)))
   tokens_bound (o.uninterned name) = (token_length t current (o.uninterned name), same_size (token_length t current (o.uninterned name)))
 
-ends_line : (rest : List ℕ) → may_end (met_text (10 ∷ rest)) ≡ true
+pub ends_line : (rest : List ℕ) → may_end (met_text (10 ∷ rest)) ≡ true
 unfolding standard
 ends_line rest = refl
 
@@ -78,7 +91,7 @@ module _ (t : Table) (sound : packages.IsSound t) where
       → reads (setting_of limits standard t common_lisp_user [] (λ _. None) (λ _ _. no_value)) (printed t common_lisp_user x ++ 10 ∷ rest)
       ≡ form x 0 (length (printed t common_lisp_user x)) (length (printed t common_lisp_user x) + space_at standard (ends_with_token x) (10 ∷ rest))
   read_line limits room x good deep fits few rest =
-      object_read_back limits t common_lisp_user [] (λ _. None) (λ _ _. no_value) sound room x (good.sound, good.symbols, few) deep fits (10 ∷ rest) (ends_line rest)
+      object_read_back limits t common_lisp_user [] (λ _. None) (λ _ _. no_value) sound room x (good.sound, good_symbols t x good, few) deep fits (10 ∷ rest) (ends_line rest)
 
   one_object : (x y : Object) → IsGood t x → IsGood t y → (rest more : List ℕ) → printed t common_lisp_user x ++ 10 ∷ rest ≡ printed t common_lisp_user y ++ 10 ∷ more → x ≡ y
   one_object x y gx gy rest more e =
@@ -118,31 +131,18 @@ each_any R tied P [] h = tt
 each_any R tied P (k ∷ ks) h =
     (h k (or_left (eq_by_cmp R k k) _ (tied k)), each_any R tied P ks (λ n e. h n (or_right (eq_by_cmp R n k) _ e)))
 
-known_symbol : (t : Table) (x : Object) → IsKnown t x → OfSymbol (λ home name. packages.IsPresent t home name home) x
-known_symbol t (o.symbol home name) k = k
-known_symbol t (o.integer n) k = tt
-known_symbol t (o.rational n d) k = tt
-known_symbol t (o.character c) k = tt
-known_symbol t (o.text bytes) k = tt
-known_symbol t (o.uninterned name) k = tt
-known_symbol t (o.pair a b) k = tt
-known_symbol t (o.vector xs) k = tt
-
 module _ (t : Table) (sound : packages.IsSound t) where
   value_good : (x : Object) → IsValue t x → IsGood t x
-  value_good x v = record {
-    sound = v.object;
-    symbols = atoms_weaker (IsKnown t) (OfSymbol (λ home name. packages.IsPresent t home name home)) (known_symbol t) x v.symbols;
-  }
+  value_good x v = record { sound = v.object; known = v.symbols }
 
   symbol_good : (x : Symbol) → IsSymbol t x → IsGood t (symbol_object x)
   symbol_good x there = record {
     sound = ((sound.within.package_names x.0 (home_there t x.0 x.1 sound there)).ascii, (sound.within.symbol_names x.0 x.1 x.0 there).ascii);
-    symbols = there;
+    known = there;
   }
 
   pair_good : (a b : Object) → IsGood t a → IsGood t b → IsGood t (o.pair a b)
-  pair_good a b ga gb = record { sound = (ga.sound, gb.sound); symbols = (ga.symbols, gb.symbols) }
+  pair_good a b ga gb = record { sound = (ga.sound, gb.sound); known = (ga.known, gb.known) }
 
   nil_good : IsGood t nil
   nil_good = plain_good t sound nil plain_nil

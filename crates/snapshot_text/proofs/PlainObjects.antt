@@ -6,7 +6,7 @@ use Rattle.std.specs.FinMap as finite
 use Rattle.std.specs.FinMap.{get-from_entries}
 use Rattle.std.proofs.lemmas.Bool.{and_parts}
 use Rattle.lisp_object.specs.Object as o
-use Rattle.lisp_object.specs.Object.{Object, IsSound, nil, list_of}
+use Rattle.lisp_object.specs.Object.{Object, AllAtoms, IsSound, nil, list_of}
 use Rattle.lisp_object.proofs.Sound.{all_below}
 use Rattle.package_table.specs.Table as packages
 use Rattle.package_table.specs.Table.{Name, Table, Entry, Package, IsExternal, common_lisp, common_lisp_user, common_lisp_names, common_lisp_package}
@@ -15,7 +15,7 @@ use Rattle.package_table.proofs.Names.{name_total}
 use Rattle.package_table.proofs.Found.{found_is}
 use Rattle.canon_printer.specs.Printed.{printed, printed_prefix, is_accessible, has_home}
 use Rattle.canon_printer.specs.Written.{written, written_rest}
-use Rattle.canon_printer.specs.Symbols.{HasAllSymbols}
+use Rattle.plist_state.specs.Sound.{IsKnown}
 use Rattle.canon_printer.proofs.Resolved.{nil_present}
 use Rattle.snapshot_text.specs.Snapshot.{texts, imported_name}
 use Rattle.snapshot_text.proofs.Ascii.{are_ascii_names, are_ascii_imports, is_ascii_name}
@@ -37,16 +37,16 @@ plain_sound (o.character c) p = absurd p
 plain_sound (o.uninterned name) p = absurd p
 plain_sound (o.vector xs) p = absurd p
 
-pub plain_symbols : (t : Table) → packages.IsSound t → (x : Object) → IsPlain x → HasAllSymbols t x
-plain_symbols t sound (o.integer n) p = tt
-plain_symbols t sound (o.text bytes) p = tt
-plain_symbols t sound (o.symbol home name) p =
+pub plain_known : (t : Table) → packages.IsSound t → (x : Object) → IsPlain x → AllAtoms (IsKnown t) x
+plain_known t sound (o.integer n) p = tt
+plain_known t sound (o.text bytes) p = tt
+plain_known t sound (o.symbol home name) p =
     subst (λ h. packages.IsPresent t h name h) (sym p.0) (subst (λ n. packages.IsPresent t common_lisp n common_lisp) (sym p.1) (nil_present t sound))
-plain_symbols t sound (o.pair a b) p = (plain_symbols t sound a p.0, plain_symbols t sound b p.1)
-plain_symbols t sound (o.rational n d) p = absurd p
-plain_symbols t sound (o.character c) p = absurd p
-plain_symbols t sound (o.uninterned name) p = absurd p
-plain_symbols t sound (o.vector xs) p = absurd p
+plain_known t sound (o.pair a b) p = (plain_known t sound a p.0, plain_known t sound b p.1)
+plain_known t sound (o.rational n d) p = absurd p
+plain_known t sound (o.character c) p = absurd p
+plain_known t sound (o.uninterned name) p = absurd p
+plain_known t sound (o.vector xs) p = absurd p
 
 -- ---- NIL is written alike
 

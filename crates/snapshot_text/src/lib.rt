@@ -11,7 +11,7 @@
 //! - `reader`: `read`; `package_parts`, `property_parts`, `table_parts`: a world made from data, by its own calls; `parts`:
 //!   texts, lists and numbers in data; `known`: which data may be stored
 //! - `error`: `SnapshotError`
-//! - `laws`: `printed_objects_read_back`, `one_text_one_state`
+//! - `laws`: `printed_objects_read_back`, `one_text_one_state`, `snapshot_lines_are_read`
 #![tactic(auto)]
 
 mod error;
@@ -29,7 +29,7 @@ mod texts;
 mod writer;
 
 pub use error::SnapshotError;
-pub use laws::{one_text_one_state, printed_objects_read_back};
+pub use laws::{one_text_one_state, printed_objects_read_back, snapshot_lines_are_read};
 pub use reader::read;
 pub use writer::write;
 
