@@ -1,5 +1,8 @@
 //! Texts of worlds, byte for byte.
-use crate::{SnapshotError, read, write};
+use crate::{
+    SnapshotError, one_text_one_state, printed_objects_read_back, read, snapshot_lines_are_read,
+    write,
+};
 use lisp_object::{Bytes, Datum};
 use package_table::PackageError;
 use package_table::standardized::{COMMON_LISP_USER, KEYWORD};
@@ -209,5 +212,19 @@ fn altered_texts(rt: HostRuntime) -> Result<(), Fail> {
         };
         assert!(rt; good);
     }
+    Ok(())
+}
+
+#[test]
+fn laws(rt: HostRuntime) -> Result<(), Fail> {
+    printed_objects_read_back();
+    one_text_one_state();
+    snapshot_lines_are_read();
+    assert!(rt;
+        is_read(
+            rt.alloc(),
+            write(rt.alloc(), &full_world(rt.alloc())?)?.as_slice()
+        )?
+    );
     Ok(())
 }
