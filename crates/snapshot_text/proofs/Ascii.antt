@@ -34,7 +34,7 @@ all_any (k ∷ ks) P h =
     and_from (P k) (list_all P ks) (h k (or_left (eq_by_cmp name_cmp k k) _ (same_tied k)))
     (all_any ks P (λ n e. h n (or_right (eq_by_cmp name_cmp n k) _ e)))
 
-from_truth : (b : Bool) → T b → b ≡ true
+pub from_truth : (b : Bool) → T b → b ≡ true
 from_truth true h = refl
 from_truth false h = absurd h
 
@@ -42,7 +42,7 @@ module _ {X : Type 0} where
   pub keys_pass : (m : finite.FinMap name_cmp X) (P : Name → Bool) → ((n : Name) → IsTrue (finite.contains_key m n) → P n ≡ true) → list_all P (finite.keys m) ≡ true
   keys_pass m P h = all_any (finite.keys m) P (λ n e. h n (contains_key-keys m n ∙ e))
 
-  below_none : (k : Name) (es : List (Name × X)) → below_all name_cmp k es ≡ true → find name_cmp k es ≡ None
+  pub below_none : (k : Name) (es : List (Name × X)) → below_all name_cmp k es ≡ true → find name_cmp k es ≡ None
   below_none k [] h = refl
   below_none k (e ∷ es) h =
       let both = and_parts (is_lt (name_cmp k e.0)) (below_all name_cmp k es) h in

@@ -10,3 +10,17 @@ pub mod Others
 pub mod Begun
 pub mod Lists
 pub mod Whole
+pub mod Ranges
+pub mod Worlds
+pub mod ThreeLines
+pub mod RowsByKey
+pub mod SameProperties
+pub mod SameTables
+pub mod PackageEntries
+pub mod SamePackages
+pub mod PlainObjects
+pub mod PlainLines
+pub mod OneLine
+pub mod SameText
+pub mod WithinLimits
+pub mod LinesRead

@@ -68,7 +68,7 @@ dispatch_object None sub = []
 dispatch_object (Some function) sub = list_of (number sub ∷ text function ∷ []) ∷ []
 
 -- its dispatch table, in the order of the sub-characters
-abbrev pub dispatch_objects : Entry → List Object
+unfoldable pub dispatch_objects : Entry → List Object
 dispatch_objects e = flat_map (λ sub. dispatch_object (get_or e.dispatch sub None) sub) (range_with_len 0 128)
 
 -- a character, its syntax type, its function or the empty text, and its dispatch table
@@ -77,7 +77,7 @@ entry_object c e =
     list_of (number c ∷ number (syntax_number e.syntax) ∷ text (unwrap_or e.function []) ∷ list_of (dispatch_objects e) ∷ [])
 
 -- the entries that are not as in the standard readtable
-abbrev pub entry_objects : readtable.Table → List Object
+unfoldable pub entry_objects : readtable.Table → List Object
 entry_objects table =
     map (λ c. entry_object c (entry_at table c)) (filter (λ c. not (same_entry (entry_at table c) (entry_at standard c))) (range_with_len 0 128))
 

@@ -1,17 +1,37 @@
 //! Snapshots as text.
 //!
-//! `printed_objects_read_back` is the law that printed text is read back: the printed text of an object is read, under the
-//! standard readtable and in the same packages, as the same object. What is asked of the tokens in the text, specs/Tokens.antt
-//! says. `snapshot` of specs/Snapshot.antt is the text of a snapshot. The rows of packages and of property lists are made here,
-//! each proved; no public call writes a snapshot or reads one yet.
+//! The text of a world is three printed objects: its packages, its property lists and its readtables (`snapshot` of
+//! specs/Snapshot.antt). `write` gives exactly this text. `read` gives a world whose text the bytes are, with no function
+//! missing (specs/Covered.antt), or says why not (specs/Refused.antt); the law `one_text_one_state` says that no other sound
+//! state has that text. `printed_objects_read_back` is the law that the printed text of an object is read, under the standard
+//! readtable and in the same packages, as the same object. What it asks of the tokens in the text, specs/Tokens.antt says.
 //!
-//! - `laws`: `printed_objects_read_back`
-//! - `texts`: lists of texts; `package_rows`, `property_rows`: packages and property lists, as data
+//! - `writer`: `write`; `package_rows`, `property_rows`, `table_rows`: packages, property lists and readtables as data;
+//!   `texts`: lists of texts
+//! - `reader`: `read`; `package_parts`, `property_parts`, `table_parts`: a world made from data, by its own calls; `parts`:
+//!   texts, lists and numbers in data; `known`: which data may be stored
+//! - `error`: `SnapshotError`
+//! - `laws`: `printed_objects_read_back`, `one_text_one_state`, `snapshot_lines_are_read`
 #![tactic(auto)]
 
+mod error;
+mod known;
 mod laws;
+mod package_parts;
 mod package_rows;
+mod parts;
+mod property_parts;
 mod property_rows;
+mod reader;
+mod table_parts;
+mod table_rows;
 mod texts;
+mod writer;
 
-pub use laws::printed_objects_read_back;
+pub use error::SnapshotError;
+pub use laws::{one_text_one_state, printed_objects_read_back, snapshot_lines_are_read};
+pub use reader::read;
+pub use writer::write;
+
+#[cfg(test)]
+mod tests;

@@ -11,7 +11,8 @@ use std::alloc::{AllocError, Global};
 
 // A text with these bytes.
 pub(crate) fn text_of(alloc: Global, bytes: &[u8]) -> Result<Datum, AllocError>
-    ensures { IfOk result (λ d. d ≡ Datum.Text bytes.now) }
+    ensures value { IfOk result (λ d. d ≡ Datum.Text bytes.now) }
+    ensures proper { list_all is_ascii bytes.now ≡ true → IfOk result (λ d. is_proper d ≡ true) }
 {
     Ok(Datum::Text(Bytes::from_slice(alloc, bytes)?))
 }

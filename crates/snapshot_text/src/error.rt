@@ -1,0 +1,105 @@
+//! Why a text is refused as a snapshot.
+ghost use Rattle.std.specs.Prelude.{◌≡◌};
+ghost use Rattle.snapshot_text.specs.Refused.{number_of};
+
+use lisp_object::refusal;
+use package_table::PackageError;
+use plist_state::ReadtableError;
+use std::alloc::AllocError;
+
+/// Why a text is refused as a snapshot.
+#[derive(Clone, Copy, Debug, PartialEq, Eq)]
+pub enum SnapshotError {
+    /// The text is that of no world.
+    Damaged,
+    /// A readtable names a function that is neither standard nor registered.
+    MissingFunction,
+    /// Memory ran out.
+    OutOfMemory,
+}
+
+impl SnapshotError {
+    /// The number of the refusal: 62, 63 or 90.
+    pub fn number(self) -> u16
+        ensures { result ≡ number_of self }
+    {
+        match self {
+            SnapshotError::Damaged => refusal::DAMAGED,
+            SnapshotError::MissingFunction => refusal::MISSING_MACRO,
+            SnapshotError::OutOfMemory => refusal::NO_MEMORY,
+        }
+    }
+}
+
+impl From<AllocError> for SnapshotError {
+    ghost use Rattle.std.specs.Prelude.{◌≡◌};
+    ghost use Rattle.snapshot_text.specs.declared.error.SnapshotError.TheVariants.{OutOfMemory};
+
+    ghost from_gives = { λ _ e. e ≡ OutOfMemory };
+
+    fn from(_: AllocError) -> SnapshotError {
+        SnapshotError::OutOfMemory
+    }
+}
+
+impl From<BuildError> for SnapshotError {
+    ghost use Rattle.std.specs.Prelude.{◌≡◌};
+    ghost use Rattle.snapshot_text.specs.Refused.{of_build};
+
+    ghost from_gives = { λ error refusal. refusal ≡ of_build error };
+
+    fn from(error: BuildError) -> SnapshotError {
+        match error {
+            BuildError::Damaged => SnapshotError::Damaged,
+            BuildError::OutOfMemory => SnapshotError::OutOfMemory,
+        }
+    }
+}
+
+/// Why no world is built from a text.
+#[derive(Clone, Copy, Debug, PartialEq, Eq)]
+pub(crate) enum BuildError {
+    /// The text is of no world.
+    Damaged,
+    /// Memory ran out.
+    OutOfMemory,
+}
+
+impl From<AllocError> for BuildError {
+    ghost use Rattle.std.specs.Prelude.{◌≡◌};
+    ghost use Rattle.snapshot_text.specs.declared.error.BuildError.TheVariants.{OutOfMemory};
+
+    ghost from_gives = { λ _ e. e ≡ OutOfMemory };
+
+    fn from(_: AllocError) -> BuildError {
+        BuildError::OutOfMemory
+    }
+}
+
+impl From<PackageError> for BuildError {
+    ghost use Rattle.std.specs.Prelude.{◌≡◌};
+    ghost use Rattle.snapshot_text.specs.Refused.{of_packages};
+
+    ghost from_gives = { λ error refusal. refusal ≡ of_packages error };
+
+    fn from(error: PackageError) -> BuildError {
+        match error {
+            PackageError::OutOfMemory => BuildError::OutOfMemory,
+            _ => BuildError::Damaged,
+        }
+    }
+}
+
+impl From<ReadtableError> for BuildError {
+    ghost use Rattle.std.specs.Prelude.{◌≡◌};
+    ghost use Rattle.snapshot_text.specs.Refused.{of_readtables};
+
+    ghost from_gives = { λ error refusal. refusal ≡ of_readtables error };
+
+    fn from(error: ReadtableError) -> BuildError {
+        match error {
+            ReadtableError::OutOfMemory => BuildError::OutOfMemory,
+            _ => BuildError::Damaged,
+        }
+    }
+}

@@ -1,0 +1,117 @@
+//! The world of a text.
+ghost use Rattle.std.specs.Prelude.{◌≡◌, ◌≤◌, [], true, length, IfOk, IfErr};
+ghost use Rattle.snapshot_text.specs.Covered.{are_covered, IsMissing};
+ghost use Rattle.snapshot_text.specs.Snapshot.{snapshot};
+
+use crate::error::BuildError;
+use crate::package_parts::make_packages;
+use crate::property_parts::put_properties;
+use crate::table_parts::put_tables;
+use crate::table_rows::table_named;
+use crate::{SnapshotError, write};
+use form_reader::{Limits, ReadOutcome, read_one};
+use lisp_object::Datum;
+use package_table::standardized::COMMON_LISP_USER;
+use plist_state::World;
+use readtable_core::Readtable;
+use std::alloc::{AllocError, Global};
+use user_macros::MacroFunctions;
+
+// The most bytes in the text of a snapshot.
+const MOST_BYTES: usize = 4_294_967_295;
+
+// The object with which the rest of a text begins, and where the next begins.
+fn next_object<R: MacroFunctions>(
+    alloc: Global,
+    world: &World,
+    macros: &R,
+    bytes: &[u8],
+    at: usize,
+) -> Result<(Datum, usize), BuildError>
+    requires { R.answers macros.now }
+{
+    let Some(rest) = bytes.get(at..) else {
+        return Err(BuildError::Damaged);
+    };
+    let standard = Readtable::standard(alloc)?;
+    let packages = world.packages();
+    packages.soundness();
+    let limits = Limits::snapshot();
+    match read_one(
+        alloc,
+        limits,
+        &standard,
+        packages,
+        COMMON_LISP_USER,
+        macros,
+        rest,
+    )? {
+        ReadOutcome::Form { datum, next, .. } => Ok((datum, next.saturating_add(at))),
+        _ => Err(BuildError::Damaged),
+    }
+}
+
+// A world made from the three objects of a text.
+fn built<R: MacroFunctions>(alloc: Global, bytes: &[u8], macros: &R) -> Result<World, BuildError>
+    requires { R.answers macros.now }
+{
+    let mut world = World::new(alloc)?;
+    let (packages, at) = next_object(alloc, &world, macros, bytes, 0)?;
+    make_packages(alloc, &mut world, &packages)?;
+    let (properties, at) = next_object(alloc, &world, macros, bytes, at)?;
+    put_properties(alloc, &mut world, &properties)?;
+    let (tables, _) = next_object(alloc, &world, macros, bytes, at)?;
+    put_tables(&mut world, &tables)?;
+    Ok(world)
+}
+
+// Whether the functions that the readtables of a world name are standard or registered.
+fn is_covered<R: MacroFunctions>(
+    alloc: Global,
+    world: &World,
+    macros: &R,
+) -> Result<bool, AllocError>
+    ensures { IfOk result (λ covered. covered ≡ are_covered (R.registered macros.now) world.now.0) }
+{
+    let first = Readtable::standard(alloc)?;
+    let names = world.readtable_names(alloc)?;
+    for name in names.as_slice() {
+        if !macros.covers(table_named(world, &first, name.as_slice())) {
+            return Ok(false);
+        }
+    }
+    Ok(true)
+}
+
+/// The world of which these bytes are the text, with nothing marked, where the functions that its readtables name are standard
+/// or among `macros`. Only the text that `write` gives is read.
+///
+/// # Errors
+/// `MissingFunction` where the bytes are the text of a world, and one of its readtables names a function that is neither
+/// standard nor registered; `OutOfMemory` where memory runs out; `Damaged` else.
+pub fn read<R: MacroFunctions>(
+    alloc: Global,
+    bytes: &[u8],
+    macros: &R,
+) -> Result<World, SnapshotError>
+    requires { R.answers macros.now }
+    ensures text { IfOk result (λ world. snapshot world.0 ≡ bytes.now) }
+    ensures size { IfOk result (λ world. length bytes.now ≤ 4294967295) }
+    ensures covered { IfOk result (λ world. are_covered (R.registered macros.now) world.0 ≡ true) }
+    ensures unmarked { IfOk result (λ world. world.1 ≡ []) }
+    ensures missing { IfErr result (IsMissing (R.registered macros.now) bytes.now) }
+{
+    if bytes.len() > MOST_BYTES {
+        return Err(SnapshotError::Damaged);
+    }
+    let mut world = built(alloc, bytes, macros)?;
+    world.settle();
+    world.soundness();
+    if write(alloc, &world)?.as_slice() != bytes {
+        return Err(SnapshotError::Damaged);
+    }
+    if !is_covered(alloc, &world, macros)? {
+        return Err(SnapshotError::MissingFunction);
+    }
+    Ok(world)
+}
