@@ -6,6 +6,7 @@ pub mod Naming
 pub mod Answering
 pub mod Reading
 pub mod Fitting
+pub mod Discarding
 pub mod Frames
 pub mod Completing
 pub mod Feeding
@@ -18,3 +19,4 @@ pub mod Turning
 pub mod Ending
 pub mod Standing
 pub mod Reader
+pub mod Trial

@@ -6,7 +6,8 @@ ghost use Rattle.form_reader.specs.declared.way.Keep.{Keep};
 ghost use Rattle.form_reader.specs.Plans.{Plan, loop, run};
 ghost use Rattle.form_reader.specs.Setting.{Setting};
 ghost use Rattle.form_reader.specs.Gathering.{text_turn, line_turn, block_turn, number_turn};
-ghost use Rattle.form_reader.specs.Reading.{form, refused, place_turn, place, items_turn, items_after, attempt, outcome, reads_at, reads, IsFramed};
+ghost use Rattle.form_reader.specs.Reading.{form, empty, refused, place_turn, place, items_turn, items_after, attempt, outcome, reads_at, reads, IsFramed};
+ghost use Rattle.form_reader.specs.Discarding.{IsDiscarded};
 ghost use Rattle.form_reader.specs.Fitting.{IsFitting};
 
 /// A form is read again, alone, from the bytes from its start up to its end. They are one byte or more, and with it at
@@ -22,6 +23,12 @@ pub fn forms_are_decided()
     ensures { (setting : Setting) (text more : List ℕ) (x : Object) (start end next : ℕ)
         → reads setting text ≡ form x start end next → end < length text
         → reads setting (text ++ more) ≡ form x start end next }
+{}
+
+/// A text is empty exactly where it is discarded text: whitespace, and calls that give no object, one after the other.
+pub fn empty_texts_are_discarded()
+    ensures discarded { (setting : Setting) (text : List ℕ) → reads setting text ≡ empty → IsDiscarded setting text }
+    ensures empty { (setting : Setting) (text : List ℕ) → IsDiscarded setting text → reads setting text ≡ empty }
 {}
 
 /// A refusal is at the end of the text at most, and one before the end is the same whatever follows the text. So a reader
