@@ -33,3 +33,4 @@ pub mod TokenFaults
 pub mod Faults
 pub mod Deciding
 pub mod Discardings
+pub mod Dependings

@@ -7,6 +7,7 @@ pub mod Answering
 pub mod Reading
 pub mod Fitting
 pub mod Discarding
+pub mod Depending
 pub mod Frames
 pub mod Completing
 pub mod Feeding

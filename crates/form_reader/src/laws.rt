@@ -1,12 +1,13 @@
 //! Laws of the definition of reading, as contracts of functions that do nothing.
 ghost use Rattle.std.specs.Prelude.{◌≡◌, ◌≤◌, ◌<◌, ◌++◌, ◌-◌, ℕ, List, Option, length, take, drop};
 ghost use Rattle.lisp_object.specs.Object.{Object};
-ghost use Rattle.package_table.specs.Table.{IsSound};
+ghost use Rattle.package_table.specs.Table.{Table as Packages, IsSound};
 ghost use Rattle.form_reader.specs.declared.way.Keep.{Keep};
 ghost use Rattle.form_reader.specs.Plans.{Plan, loop, run};
 ghost use Rattle.form_reader.specs.Setting.{Setting};
 ghost use Rattle.form_reader.specs.Gathering.{text_turn, line_turn, block_turn, number_turn};
 ghost use Rattle.form_reader.specs.Reading.{form, empty, refused, place_turn, place, items_turn, items_after, attempt, outcome, reads_at, reads, IsFramed};
+ghost use Rattle.form_reader.specs.Depending.{FindsSame};
 ghost use Rattle.form_reader.specs.Discarding.{IsDiscarded};
 ghost use Rattle.form_reader.specs.Fitting.{IsFitting};
 
@@ -53,6 +54,12 @@ pub fn forms_fit()
     ensures { (setting : Setting) (text : List ℕ) (x : Object) (start end next : ℕ)
         → IsSound setting.packages → setting.limits.nesting ≤ 100 → setting.limits.token ≤ 4096
         → reads setting text ≡ form x start end next → IsFitting setting.packages x }
+{}
+
+/// What is read depends on the packages only through which names are packages, and what each finds and shows by each name.
+pub fn only_what_is_found_matters()
+    ensures { (setting : Setting) (packages : Packages) (text : List ℕ) → FindsSame setting.packages packages
+        → reads (record setting { packages = packages }) text ≡ reads setting text }
 {}
 
 /// What is read is what the next byte says, and then what is read after it: before a form, at a place inside a call,
