@@ -46,7 +46,7 @@ use Rattle.form_reader.proofs.Turns.{attempt_ends, loop_is, text_guarded, line_g
 -- ---- refusals before the end
 
 -- nothing is asked of objects
-any : (setting : Setting) → AreKept setting (λ depth x. Unit {0})
+pub any : (setting : Setting) → AreKept setting (λ depth x. Unit {0})
 any setting = record { tokens = λ depth marks x e. tt; values = λ depth kind number material x h e. tt; answers = λ depth x le known deep. tt }
 
 first_decided : (setting : Setting) (text : List ℕ) → Decided 0 0 (0 + length text) (λ more. first setting (text ++ more)) (first setting text)

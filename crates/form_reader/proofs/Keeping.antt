@@ -33,6 +33,12 @@ keeps_either P more true (refuses code back) h = omega arith
 keeps_either P more true (takes other test on) h = h
 keeps_either P more true (scans escaped limit on) h = h
 
+pub keeps_weaker : {A : Type 0} (P Q : Bool → A → Type 0) → ((taken : Bool) (x : A) → P taken x → Q taken x) → (taken : Bool) (plan : Plan A) → Keeps P taken plan → Keeps Q taken plan
+keeps_weaker P Q more taken (gives x) h = more taken x h
+keeps_weaker P Q more taken (refuses code back) h = h
+keeps_weaker P Q more taken (takes other test on) h = (keeps_weaker P Q more false other h.0, λ c. keeps_weaker P Q more true (on c) (h.1 c))
+keeps_weaker P Q more taken (scans escaped limit on) h = λ marks few. keeps_weaker P Q more false (on marks) (h marks few)
+
 pub keeps_then : {A B : Type 0} (P : Bool → A → Type 0) (Q : Bool → B → Type 0) (taken : Bool) (plan : Plan A) (next : A → Plan B) → Keeps P taken plan
     → ((t : Bool) (x : A) → P t x → Keeps Q t (next x)) → Keeps Q taken (then_plan plan next)
 unfolding then_plan

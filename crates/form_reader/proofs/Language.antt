@@ -33,7 +33,7 @@ use Rattle.form_reader.specs.Naming.{told}
 use Rattle.form_reader.specs.Plans.{Plan, gives, refuses, then_plan, next_byte}
 use Rattle.form_reader.specs.Setting.{Setting, macro_call, way_in, function_of}
 use Rattle.form_reader.specs.Reading.{text_to, line_after, block_after, number_after, Piece, item, dot, closed, without_space, at_place, or_closed, place_turn, place, Items, items_step, items_turn, items_after, undotted, after_tail, after_dot, list_end, one_piece, bytes_back, finished, answered, completed_by, completed, gathered, gathered_by, called, sub_called, sub_there, dispatched, macro_called, alone, told_found, token_found, attempt_by, inner, attempt}
-use Rattle.form_reader.proofs.Keeping.{most_back, Keeps, keeps_either, keeps_then, keeps_loop, keeps_character, keeps_next}
+use Rattle.form_reader.proofs.Keeping.{most_back, Keeps, keeps_either, keeps_weaker, keeps_then, keeps_loop, keeps_character, keeps_next}
 use Rattle.form_reader.proofs.Backs.{back_of, StaysIn, way_stays}
 
 -- ---- what is gathered, where it is no object
@@ -119,6 +119,25 @@ module _ (V : ℕ → Object → Type 0) where
   FoundAt depth taken (one token x) = V depth x
   FoundAt depth taken _ = Unit {0}
 
+  -- the same of a call, which comes to an object or to nothing
+  abbrev pub CallAt : ℕ → Bool → Found → Type 0
+  CallAt depth taken (one token x) = V depth x
+  CallAt depth taken (nothing token) = Unit {0}
+  CallAt depth taken lone_dot = ⊥
+  CallAt depth taken the_end = ⊥
+
+  pub call_more : (depth : ℕ) (f : Found) → CallAt depth false f → CallAt depth true f
+  call_more depth (nothing token) h = h
+  call_more depth (one token x) h = h
+  call_more depth lone_dot h = h
+  call_more depth the_end h = h
+
+  call_found : (depth : ℕ) (taken : Bool) (f : Found) → CallAt depth taken f → FoundAt depth taken f
+  call_found depth taken (nothing token) h = h
+  call_found depth taken (one token x) h = h
+  call_found depth taken lone_dot h = absurd h
+  call_found depth taken the_end h = absurd h
+
   pub found_more : (depth : ℕ) (f : Found) → FoundAt depth false f → FoundAt depth true f
   found_more depth (nothing token) h = h
   found_more depth (one token x) h = h
@@ -160,8 +179,8 @@ pub record AreKept (setting : Setting) (V : ℕ → Object → Type 0) : Type 0 
       → object_depth x + (setting.limits.nesting - depth) ≤ setting.limits.nesting → V depth x
 
 module _ (setting : Setting) (V : ℕ → Object → Type 0) (laws : AreKept setting V) where
-  found_either : (depth : ℕ) (taken : Bool) (plan : Plan Found) → Keeps (FoundAt V depth) false plan → Keeps (FoundAt V depth) taken plan
-  found_either depth taken plan h = keeps_either (FoundAt V depth) (found_more V depth) taken plan h
+  call_either : (depth : ℕ) (taken : Bool) (plan : Plan Found) → Keeps (CallAt V depth) false plan → Keeps (CallAt V depth) taken plan
+  call_either depth taken plan h = keeps_either (CallAt V depth) (call_more V depth) taken plan h
 
   space_keeps : {A : Type 0} (P : Bool → A → Type 0) (token taken : Bool) (plan : Plan A) → ((x : A) → P false x → P true x) → Keeps P false plan
       → Keeps P taken (without_space setting.table token plan)
@@ -215,17 +234,17 @@ module _ (setting : Setting) (V : ℕ → Object → Type 0) (laws : AreKept set
   -- ---- what a call gives
 
   finished_keeps : (depth : ℕ) (taken token : Bool) (v : Value) → ((x : Object) → v ≡ Ok (Some x) → V depth x)
-      → ((refusal : StdRefusal) → v ≡ Err refusal → bytes_back refusal ≤ most_back taken) → Keeps (FoundAt V depth) taken (finished token v)
+      → ((refusal : StdRefusal) → v ≡ Err refusal → bytes_back refusal ≤ most_back taken) → Keeps (CallAt V depth) taken (finished token v)
   finished_keeps depth taken token (Ok (Some x)) all back = all x refl
   finished_keeps depth taken token (Ok None) all back = tt
   finished_keeps depth taken token (Err refusal) all back = back refusal refl
 
   answered_keeps : (depth : ℕ) (taken token spaced : Bool) (a : MacroAnswer) → depth ≤ setting.limits.nesting
-      → Keeps (FoundAt V depth) taken (answered setting.packages setting.limits.nesting (setting.limits.nesting - depth) token spaced a)
+      → Keeps (CallAt V depth) taken (answered setting.packages setting.limits.nesting (setting.limits.nesting - depth) token spaced a)
   answered_keeps depth taken token spaced (value x) h =
       let test = may_be_answered setting.packages x && nat_le (object_depth x + (setting.limits.nesting - depth)) setting.limits.nesting in
-      let by : (b : Bool) → test ≡ b → Keeps (FoundAt V depth) taken (elim b [ true ↦ gives (one token x) | false ↦ refuses MACRO_ANSWER 0 ]) =
-      λ b. elim b as (λ b. test ≡ b → Keeps (FoundAt V depth) taken (elim b [ true ↦ gives (one token x) | false ↦ refuses MACRO_ANSWER 0 ])) [
+      let by : (b : Bool) → test ≡ b → Keeps (CallAt V depth) taken (elim b [ true ↦ gives (one token x) | false ↦ refuses MACRO_ANSWER 0 ]) =
+      λ b. elim b as (λ b. test ≡ b → Keeps (CallAt V depth) taken (elim b [ true ↦ gives (one token x) | false ↦ refuses MACRO_ANSWER 0 ])) [
         | true ↦ λ e.
             let parts = and_parts (may_be_answered setting.packages x) (nat_le (object_depth x + (setting.limits.nesting - depth)) setting.limits.nesting) e in
             laws.answers depth x h parts.0 (leb-true (object_depth x + (setting.limits.nesting - depth)) setting.limits.nesting parts.1)
@@ -238,7 +257,7 @@ module _ (setting : Setting) (V : ℕ → Object → Type 0) (laws : AreKept set
 
   completed_by_keeps : (depth : ℕ) (taken : Bool) (call : InvokedCall) (f : Function) (token spaced : Bool) (material : Material) → depth ≤ setting.limits.nesting
       → StaysIn setting.table.letters call.number (most_back taken) f → MaterialAt V setting.limits.token depth material
-      → Keeps (FoundAt V depth) taken (completed_by setting (setting.limits.nesting - depth) call f token spaced material)
+      → Keeps (CallAt V depth) taken (completed_by setting (setting.limits.nesting - depth) call f token spaced material)
   completed_by_keeps depth taken call (AStandard kind) token spaced material le back h =
       finished_keeps depth taken token (value_of kind setting.table.letters call.number material)
       (λ x e. laws.values depth kind call.number material x h e) (λ refusal e. back material refusal e)
@@ -248,55 +267,55 @@ module _ (setting : Setting) (V : ℕ → Object → Type 0) (laws : AreKept set
   -- after which nothing more is asked of the place
   completed_keeps : (depth : ℕ) (taken : Bool) (call : InvokedCall) (token spaced : Bool) (material : Material) → depth ≤ setting.limits.nesting
       → StaysIn setting.table.letters call.number 0 call.function → MaterialAt V setting.limits.token depth material
-      → Keeps (FoundAt V depth) taken (completed setting (setting.limits.nesting - depth) call token spaced material)
+      → Keeps (CallAt V depth) taken (completed setting (setting.limits.nesting - depth) call token spaced material)
   completed_keeps depth taken call token spaced material le back h =
-      found_either depth taken (completed setting (setting.limits.nesting - depth) call token spaced material)
+      call_either depth taken (completed setting (setting.limits.nesting - depth) call token spaced material)
       (completed_by_keeps depth false call call.function token spaced material le back h)
 
   -- ---- lists
 
-  undotted_keeps : (depth : ℕ) (on : Material → Plan Found) (taken : Bool) (xs : List Object) (all : Bool) → ((t : Bool) → Keeps (FoundAt V depth) t (on (many xs)))
-      → Keeps (FoundAt V depth) taken (undotted on (xs, all))
+  undotted_keeps : (depth : ℕ) (on : Material → Plan Found) (taken : Bool) (xs : List Object) (all : Bool) → ((t : Bool) → Keeps (CallAt V depth) t (on (many xs)))
+      → Keeps (CallAt V depth) taken (undotted on (xs, all))
   undotted_keeps depth on taken xs true h = h taken
   undotted_keeps depth on taken xs false h = omega arith
 
-  tail_keeps : (depth : ℕ) (on : Material → Plan Found) (xs : List Object) (tail : Object) (taken : Bool) (p : Piece) → ((t : Bool) → Keeps (FoundAt V depth) t (on (dotted xs tail)))
-      → Keeps (FoundAt V depth) taken (after_tail on xs tail p)
+  tail_keeps : (depth : ℕ) (on : Material → Plan Found) (xs : List Object) (tail : Object) (taken : Bool) (p : Piece) → ((t : Bool) → Keeps (CallAt V depth) t (on (dotted xs tail)))
+      → Keeps (CallAt V depth) taken (after_tail on xs tail p)
   tail_keeps depth on xs tail taken closed h = h taken
   tail_keeps depth on xs tail taken dot h = omega arith
   tail_keeps depth on xs tail taken (item token x) h = omega arith
 
   module _ (depth : ℕ) (may : Plan Found) (attempts : Keeps (FoundAt V depth) false may) (on : Material → Plan Found)
-      (lists : (xs : List Object) → All (V depth) xs → (t : Bool) → Keeps (FoundAt V (suc depth)) t (on (many xs)))
-      (pairs : (xs : List Object) (tail : Object) → All (V depth) xs → V depth tail → (t : Bool) → Keeps (FoundAt V (suc depth)) t (on (dotted xs tail))) where
-    dot_keeps : (xs : List Object) (taken : Bool) (p : Piece) → All (V depth) xs → PieceAt V depth taken p → Keeps (FoundAt V (suc depth)) taken (after_dot setting may on xs p)
+      (lists : (xs : List Object) → All (V depth) xs → (t : Bool) → Keeps (CallAt V (suc depth)) t (on (many xs)))
+      (pairs : (xs : List Object) (tail : Object) → All (V depth) xs → V depth tail → (t : Bool) → Keeps (CallAt V (suc depth)) t (on (dotted xs tail))) where
+    dot_keeps : (xs : List Object) (taken : Bool) (p : Piece) → All (V depth) xs → PieceAt V depth taken p → Keeps (CallAt V (suc depth)) taken (after_dot setting may on xs p)
     dot_keeps xs taken closed all p = elim taken as (λ t. t ≡ true → 1 ≤ most_back t) [ true ↦ λ e. omega arith | false ↦ λ e. absurd cc ] p
     dot_keeps xs taken dot all p = omega arith
     dot_keeps xs taken (item token x) all p =
-        space_keeps (FoundAt V (suc depth)) token taken (then_plan (place setting (Some 41) may) (after_tail on xs x))
-        (found_more V (suc depth))
-        (keeps_then (PieceAt V depth) (FoundAt V (suc depth)) false (place setting (Some 41) may) (after_tail on xs x) (place_keeps depth (Some 41) may attempts)
+        space_keeps (CallAt V (suc depth)) token taken (then_plan (place setting (Some 41) may) (after_tail on xs x))
+        (call_more V (suc depth))
+        (keeps_then (PieceAt V depth) (CallAt V (suc depth)) false (place setting (Some 41) may) (after_tail on xs x) (place_keeps depth (Some 41) may attempts)
         (λ t q f. tail_keeps (suc depth) on xs x t q (pairs xs x all p)))
 
-    list_end_keeps : (taken : Bool) (xs : List Object) (b : Bool) → All (V depth) xs → Keeps (FoundAt V (suc depth)) taken (list_end setting may on (xs, b))
+    list_end_keeps : (taken : Bool) (xs : List Object) (b : Bool) → All (V depth) xs → Keeps (CallAt V (suc depth)) taken (list_end setting may on (xs, b))
     list_end_keeps taken xs true all = lists xs all taken
     list_end_keeps taken [] false all = omega arith
     list_end_keeps taken (x ∷ xs) false all =
-        found_either (suc depth) taken (then_plan (place setting (Some 41) may) (after_dot setting may on (x ∷ xs)))
-        (keeps_then (PieceAt V depth) (FoundAt V (suc depth)) false (place setting (Some 41) may) (after_dot setting may on (x ∷ xs)) (place_keeps depth (Some 41) may attempts)
+        call_either (suc depth) taken (then_plan (place setting (Some 41) may) (after_dot setting may on (x ∷ xs)))
+        (keeps_then (PieceAt V depth) (CallAt V (suc depth)) false (place setting (Some 41) may) (after_dot setting may on (x ∷ xs)) (place_keeps depth (Some 41) may attempts)
         (λ t p f. dot_keeps (x ∷ xs) t p all f))
 
   -- ---- calls, at their last byte
 
   one_piece_keeps : (depth : ℕ) (on : Bool → Object → Plan Found) (taken : Bool) (p : Piece)
-      → ((token : Bool) (x : Object) → V depth x → Keeps (FoundAt V (suc depth)) taken (on token x)) → PieceAt V depth taken p → Keeps (FoundAt V (suc depth)) taken (one_piece on p)
+      → ((token : Bool) (x : Object) → V depth x → Keeps (CallAt V (suc depth)) taken (on token x)) → PieceAt V depth taken p → Keeps (CallAt V (suc depth)) taken (one_piece on p)
   one_piece_keeps depth on taken (item token x) all p = all token x p
   one_piece_keeps depth on taken dot all p = omega arith
   one_piece_keeps depth on taken closed all p = omega arith
 
   gathered_keeps : (depth : ℕ) (may : Option (Plan Found)) (call : InvokedCall) (way : Way) → depth ≤ setting.limits.nesting → InnerAt V depth may
       → StaysIn setting.table.letters call.number (back_of way) call.function
-      → Keeps (FoundAt V depth) true (gathered setting (setting.limits.nesting - depth) may call way)
+      → Keeps (CallAt V depth) true (gathered setting (setting.limits.nesting - depth) may call way)
   gathered_keeps depth may call Nothing le h back = completed_by_keeps depth true call call.function false false no_material le back tt
   gathered_keeps depth None call Next le h back = omega arith
   gathered_keeps depth None call AList le h back = omega arith
@@ -305,69 +324,69 @@ module _ (setting : Setting) (V : ℕ → Object → Type 0) (laws : AreKept set
   gathered_keeps zero (Some may) call AList le h back = absurd h
   gathered_keeps zero (Some may) call (Until close) le h back = absurd h
   gathered_keeps (suc depth) (Some may) call Next le h back =
-      found_either (suc depth) true (gathered setting (setting.limits.nesting - suc depth) (Some may) call Next)
-      (keeps_then (PieceAt V depth) (FoundAt V (suc depth)) false (place setting None may)
+      call_either (suc depth) true (gathered setting (setting.limits.nesting - suc depth) (Some may) call Next)
+      (keeps_then (PieceAt V depth) (CallAt V (suc depth)) false (place setting None may)
       (one_piece (λ token x. completed setting (setting.limits.nesting - suc depth) call token token (one_object x))) (place_keeps depth None may h)
       (λ t p f. one_piece_keeps depth (λ token x. completed setting (setting.limits.nesting - suc depth) call token token (one_object x)) t p
       (λ token x v. completed_keeps (suc depth) t call token token (one_object x) le back v) f))
   gathered_keeps (suc depth) (Some may) call AList le h back =
       let on : Material → Plan Found = λ m. completed setting (setting.limits.nesting - suc depth) call false false m in
-      found_either (suc depth) true (gathered setting (setting.limits.nesting - suc depth) (Some may) call AList)
-      (keeps_then (ItemsAt V depth) (FoundAt V (suc depth)) false (items_after setting 41 may []) (list_end setting may on) (items_keep depth 41 may [] h (All-nil (V depth)))
+      call_either (suc depth) true (gathered setting (setting.limits.nesting - suc depth) (Some may) call AList)
+      (keeps_then (ItemsAt V depth) (CallAt V (suc depth)) false (items_after setting 41 may []) (list_end setting may on) (items_keep depth 41 may [] h (All-nil (V depth)))
       (λ t xs f. list_end_keeps depth may h on (λ ys all u. completed_keeps (suc depth) u call false false (many ys) le back all)
       (λ ys tail all v u. completed_keeps (suc depth) u call false false (dotted ys tail) le back (all, v)) t xs.0 xs.1 f))
   gathered_keeps (suc depth) (Some may) call (Until close) le h back =
       let on : Material → Plan Found = λ m. completed setting (setting.limits.nesting - suc depth) call false false m in
-      found_either (suc depth) true (gathered setting (setting.limits.nesting - suc depth) (Some may) call (Until close))
-      (keeps_then (ItemsAt V depth) (FoundAt V (suc depth)) false (items_after setting close may []) (undotted on) (items_keep depth close may [] h (All-nil (V depth)))
+      call_either (suc depth) true (gathered setting (setting.limits.nesting - suc depth) (Some may) call (Until close))
+      (keeps_then (ItemsAt V depth) (CallAt V (suc depth)) false (items_after setting close may []) (undotted on) (items_keep depth close may [] h (All-nil (V depth)))
       (λ t xs f. undotted_keeps (suc depth) on t xs.0 xs.1 (λ u. completed_keeps (suc depth) u call false false (many xs.0) le back f)))
   gathered_keeps depth may call (Text close) le h back =
-      keeps_then (Any {A = List ℕ}) (FoundAt V depth) true (text_to setting close []) (λ cs. completed setting (setting.limits.nesting - depth) call false false (letters cs))
+      keeps_then (Any {A = List ℕ}) (CallAt V depth) true (text_to setting close []) (λ cs. completed setting (setting.limits.nesting - depth) call false false (letters cs))
       (text_keeps setting close true []) (λ t cs f. completed_keeps depth t call false false (letters cs) le back tt)
   gathered_keeps depth may call (Line keep) le h back =
-      keeps_then (Any {A = List ℕ}) (FoundAt V depth) true (line_after setting keep []) (λ cs. completed setting (setting.limits.nesting - depth) call false false (letters cs))
+      keeps_then (Any {A = List ℕ}) (CallAt V depth) true (line_after setting keep []) (λ cs. completed setting (setting.limits.nesting - depth) call false false (letters cs))
       (line_keeps setting keep true []) (λ t cs f. completed_keeps depth t call false false (letters cs) le back tt)
   gathered_keeps depth may call Block le h back =
-      keeps_then (Any {A = Unit {0}}) (FoundAt V depth) true (block_after setting (0, 0)) (λ u. completed setting (setting.limits.nesting - depth) call false false no_material)
+      keeps_then (Any {A = Unit {0}}) (CallAt V depth) true (block_after setting (0, 0)) (λ u. completed setting (setting.limits.nesting - depth) call false false no_material)
       (block_keeps setting true (0, 0)) (λ t u f. completed_keeps depth t call false false no_material le back tt)
   gathered_keeps depth may call Token le h back = λ marks few. completed_keeps depth false call true false (marked marks) le back few
   gathered_keeps depth may call EscapedToken le h back = λ marks few. completed_keeps depth false call true false (marked marks) le back few
 
   gathered_by_keeps : (depth : ℕ) (may : Option (Plan Found)) (call : InvokedCall) (o : Option Way) → way_in setting call ≡ o → depth ≤ setting.limits.nesting → InnerAt V depth may
-      → Keeps (FoundAt V depth) true (gathered_by setting (setting.limits.nesting - depth) may call o)
+      → Keeps (CallAt V depth) true (gathered_by setting (setting.limits.nesting - depth) may call o)
   gathered_by_keeps depth may call None e le h = omega arith
   gathered_by_keeps depth may call (Some way) e le h = gathered_keeps depth may call way le h (way_stays setting call way e)
 
   called_keeps : (depth : ℕ) (may : Option (Plan Found)) (call : InvokedCall) → depth ≤ setting.limits.nesting → InnerAt V depth may
-      → Keeps (FoundAt V depth) true (called setting (setting.limits.nesting - depth) may call)
+      → Keeps (CallAt V depth) true (called setting (setting.limits.nesting - depth) may call)
   called_keeps depth may call le h = gathered_by_keeps depth may call (way_in setting call) refl le h
 
   -- ---- dispatch
 
   module _ (depth : ℕ) (may : Option (Plan Found)) (le : depth ≤ setting.limits.nesting) (h : InnerAt V depth may) where
-    sub_called_keeps : (c sub : ℕ) (number : Option ℕ) (o : Option (List ℕ)) → Keeps (FoundAt V depth) true (sub_called setting (setting.limits.nesting - depth) may c sub number o)
+    sub_called_keeps : (c sub : ℕ) (number : Option ℕ) (o : Option (List ℕ)) → Keeps (CallAt V depth) true (sub_called setting (setting.limits.nesting - depth) may c sub number o)
     sub_called_keeps c sub number None = omega arith
     sub_called_keeps c sub number (Some name) =
         called_keeps depth may (record { function = function_of name; character = c; sub = Some (upper_case sub); number = number }) le h
 
-    dispatched_keeps : (taken : Bool) (c : ℕ) (number : Option ℕ) → Keeps (FoundAt V depth) taken (dispatched setting (setting.limits.nesting - depth) may c number)
+    dispatched_keeps : (taken : Bool) (c : ℕ) (number : Option ℕ) → Keeps (CallAt V depth) taken (dispatched setting (setting.limits.nesting - depth) may c number)
     dispatched_keeps taken c number =
-        keeps_then (Any {A = Option ℕ}) (FoundAt V depth) taken (number_after setting number) (sub_there setting (setting.limits.nesting - depth) may c) (number_keeps setting taken number)
-        (λ t n f. keeps_next (FoundAt V depth) t (λ sub. sub_called setting (setting.limits.nesting - depth) may c sub n (dispatch_at setting.table c sub))
+        keeps_then (Any {A = Option ℕ}) (CallAt V depth) taken (number_after setting number) (sub_there setting (setting.limits.nesting - depth) may c) (number_keeps setting taken number)
+        (λ t n f. keeps_next (CallAt V depth) t (λ sub. sub_called setting (setting.limits.nesting - depth) may c sub n (dispatch_at setting.table c sub))
         (λ sub small. sub_called_keeps c sub n (dispatch_at setting.table c sub)))
 
-    macro_keeps : (c : ℕ) (o : Option (List ℕ)) → Keeps (FoundAt V depth) true (macro_called setting (setting.limits.nesting - depth) may c o)
+    macro_keeps : (c : ℕ) (o : Option (List ℕ)) → Keeps (CallAt V depth) true (macro_called setting (setting.limits.nesting - depth) may c o)
     macro_keeps c None = omega arith
     macro_keeps c (Some name) =
         let one_call : InvokedCall = record { function = function_of name; character = c; sub = None; number = None } in
-        elim (is_dispatch_name name) as (λ b. Keeps (FoundAt V depth) true (elim b [
+        elim (is_dispatch_name name) as (λ b. Keeps (CallAt V depth) true (elim b [
           | true ↦ dispatched setting (setting.limits.nesting - depth) may c None
           | false ↦ called setting (setting.limits.nesting - depth) may (record { function = function_of name; character = c; sub = None; number = None })
         ])) [ true ↦ dispatched_keeps true c None | false ↦ called_keeps depth may one_call le h ]
 
     -- ---- attempts
 
-    alone_keeps : (c : ℕ) (s : Syntax) → Keeps (FoundAt V depth) true (alone setting (setting.limits.nesting - depth) may c s)
+    alone_keeps : (c : ℕ) (s : Syntax) → Keeps (CallAt V depth) true (alone setting (setting.limits.nesting - depth) may c s)
     alone_keeps c Whitespace = tt
     alone_keeps c TerminatingMacro = macro_keeps c (entry_at setting.table c).function
     alone_keeps c NonTerminatingMacro = macro_keeps c (entry_at setting.table c).function
@@ -386,7 +405,11 @@ module _ (setting : Setting) (V : ℕ → Object → Type 0) (laws : AreKept set
     token_keeps (m ∷ ms) = told_keeps (m ∷ ms) (told setting (m ∷ ms)) refl
 
     attempt_keeps : Keeps (FoundAt V depth) false (attempt_by setting (setting.limits.nesting - depth) may)
-    attempt_keeps = (λ marks few. token_keeps marks, λ c. alone_keeps c (entry_at setting.table c).syntax)
+    attempt_keeps = (
+      λ marks few. token_keeps marks,
+      λ c. keeps_weaker (CallAt V depth) (FoundAt V depth) (call_found V depth) true (alone setting (setting.limits.nesting - depth) may c (entry_at setting.table c).syntax)
+          (alone_keeps c (entry_at setting.table c).syntax),
+    )
 
   inner_keeps : (depth : ℕ) → depth ≤ setting.limits.nesting → InnerAt V depth (inner setting depth)
   unfolding inner
@@ -395,3 +418,6 @@ module _ (setting : Setting) (V : ℕ → Object → Type 0) (laws : AreKept set
 
   pub outermost_keeps : Keeps (FoundAt V setting.limits.nesting) false (attempt setting setting.limits.nesting)
   outermost_keeps = attempt_keeps setting.limits.nesting (inner setting setting.limits.nesting) (omega arith) (inner_keeps setting.limits.nesting (omega arith))
+
+  pub outermost_calls : (c : ℕ) (s : Syntax) → Keeps (CallAt V setting.limits.nesting) true (alone setting (setting.limits.nesting - setting.limits.nesting) (inner setting setting.limits.nesting) c s)
+  outermost_calls c s = alone_keeps setting.limits.nesting (inner setting setting.limits.nesting) (omega arith) (inner_keeps setting.limits.nesting (omega arith)) c s

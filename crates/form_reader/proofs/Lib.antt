@@ -34,3 +34,5 @@ pub mod Numbers
 pub mod TokenFaults
 pub mod Faults
 pub mod Deciding
+pub mod Discardings
+pub mod Dependings

@@ -6,6 +6,8 @@ pub mod Naming
 pub mod Answering
 pub mod Reading
 pub mod Fitting
+pub mod Discarding
+pub mod Depending
 pub mod Frames
 pub mod Completing
 pub mod Feeding
@@ -18,3 +20,4 @@ pub mod Turning
 pub mod Ending
 pub mod Standing
 pub mod Reader
+pub mod Trial

@@ -1,13 +1,15 @@
 //! Laws of the definition of reading, as contracts of functions that do nothing.
 ghost use Rattle.std.specs.Prelude.{◌≡◌, ◌≤◌, ◌<◌, ◌++◌, ◌-◌, ℕ, List, Option, length, take, drop};
 ghost use Rattle.lisp_object.specs.Object.{Object};
-ghost use Rattle.package_table.specs.Table.{IsSound};
 ghost use Rattle.lisp_object.specs.declared.refusal.TheConstants.{END_OF_FILE, OUT_OF_PROFILE};
+ghost use Rattle.package_table.specs.Table.{Table as Packages, IsSound};
 ghost use Rattle.form_reader.specs.declared.way.Keep.{Keep};
 ghost use Rattle.form_reader.specs.Plans.{Plan, loop, run};
 ghost use Rattle.form_reader.specs.Setting.{Setting};
 ghost use Rattle.form_reader.specs.Gathering.{text_turn, line_turn, block_turn, number_turn};
-ghost use Rattle.form_reader.specs.Reading.{form, place_turn, place, items_turn, items_after, attempt, outcome, refused, reads_at, reads, IsFramed};
+ghost use Rattle.form_reader.specs.Reading.{form, empty, refused, place_turn, place, items_turn, items_after, attempt, outcome, reads_at, reads, IsFramed};
+ghost use Rattle.form_reader.specs.Depending.{FindsSame};
+ghost use Rattle.form_reader.specs.Discarding.{IsDiscarded};
 ghost use Rattle.form_reader.specs.Fitting.{IsFitting};
 
 /// A form is read again, alone, from the bytes from its start up to its end. They are one byte or more, and with it at
@@ -29,6 +31,12 @@ pub fn forms_are_decided()
 pub fn forms_are_within_the_limit()
     ensures { (setting : Setting) (text : List ℕ) (x : Object) (start end next : ℕ)
         → reads setting text ≡ form x start end next → end - start ≤ setting.limits.text }
+{}
+
+/// A text is empty exactly where it is discarded text: whitespace, and calls that give no object, one after the other.
+pub fn empty_texts_are_discarded()
+    ensures discarded { (setting : Setting) (text : List ℕ) → reads setting text ≡ empty → IsDiscarded setting text }
+    ensures empty { (setting : Setting) (text : List ℕ) → IsDiscarded setting text → reads setting text ≡ empty }
 {}
 
 /// A refusal is at the end of the text at most, and one before the end is the same whatever follows the text. So a reader
@@ -53,6 +61,12 @@ pub fn forms_fit()
     ensures { (setting : Setting) (text : List ℕ) (x : Object) (start end next : ℕ)
         → IsSound setting.packages → setting.limits.nesting ≤ 100 → setting.limits.token ≤ 4096
         → reads setting text ≡ form x start end next → IsFitting setting.packages x }
+{}
+
+/// What is read depends on the packages only through which names are packages, and what each finds and shows by each name.
+pub fn only_what_is_found_matters()
+    ensures { (setting : Setting) (packages : Packages) (text : List ℕ) → FindsSame setting.packages packages
+        → reads (record setting { packages = packages }) text ≡ reads setting text }
 {}
 
 /// What is read is what the next byte says, and then what is read after it: before a form, at a place inside a call,

@@ -1,7 +1,12 @@
 //! Rows: forms, empty texts and refusals with their places, a byte at a time, and the laws.
+mod calls;
+mod hostile;
+mod trial;
+
 use crate::{
-    FormReader, Limits, ReadOutcome, Step, forms_are_decided, forms_are_framed, forms_fit,
-    read_one, reading_goes_on, refusals_are_decided, spaced_forms_are_framed,
+    FormReader, Limits, ReadOutcome, Step, empty_texts_are_discarded, forms_are_decided,
+    forms_are_framed, forms_fit, only_what_is_found_matters, read_one, reading_goes_on,
+    refusals_are_decided, spaced_forms_are_framed,
 };
 use package_table::Packages;
 use readtable_core::Readtable;
@@ -24,7 +29,9 @@ fn limits_and_laws(rt: HostRuntime) {
     spaced_forms_are_framed();
     forms_are_decided();
     refusals_are_decided();
+    empty_texts_are_discarded();
     forms_fit();
+    only_what_is_found_matters();
     reading_goes_on();
 }
 

@@ -1,0 +1,51 @@
+-- What the functions of the tests mean.
+use Rattle.std.specs.Prelude.{ℕ, ◌≡◌, pos, true, false, ◌||◌, is_some, if◌then◌else◌, List, [], ◌∷◌, length, map, Option, Some, None, unwrap_or, codes, refl}
+use Rattle.readtable_core.specs.Names.{same_name, is_among}
+use Rattle.lisp_object.specs.Object.{integer, symbol}
+use Rattle.user_macros.specs.declared.call.Gather.{Gather}
+use Rattle.user_macros.specs.declared.call.Gather.TheVariants.{Nothing, Next, Until, Text, TextSame, Line, Token}
+use Rattle.user_macros.specs.Calls.{Material, nothing, one, many, text, MacroCall, MacroAnswer, value, no_value, refused}
+
+-- the ways of seven that count what they gather, and of others
+abbrev pub rows : List (List ℕ × Gather)
+rows =
+    (codes "NONE", Nothing) ∷ (codes "NEXT", Next) ∷ (codes "UNTIL", Until 93) ∷ (codes "TEXT", Text 125) ∷ (codes "SAME", TextSame)
+    ∷ (codes "LINE", Line) ∷ (codes "TOKEN", Token) ∷ (codes "MUTE", Token) ∷ (codes "LOW", Nothing) ∷ (codes "ALIEN", Nothing)
+    ∷ (codes "NICKNAME", Nothing) ∷ (codes "FRESH", Nothing) ∷ []
+
+abbrev pub way_among : List (List ℕ × Gather) → List ℕ → Option Gather
+way_among [] name = None
+way_among (r ∷ rs) name = if same_name r.0 name then Some r.1 else way_among rs name
+
+abbrev pub trial_names : List (List ℕ)
+trial_names = map (λ r. r.0) rows
+
+abbrev pub trial_way : List ℕ → Option Gather
+trial_way name = way_among rows name
+
+pub some_way : (rs : List (List ℕ × Gather)) (name : List ℕ) → is_some (way_among rs name) ≡ is_among (map (λ r. r.0) rs) name
+some_way [] name = refl
+some_way (r ∷ rs) name =
+    elim (same_name r.0 name) as (λ b. is_some (if b then Some r.1 else way_among rs name) ≡ (b || is_among (map (λ r. r.0) rs) name)) [
+      | true ↦ refl
+      | false ↦ some_way rs name
+    ]
+
+abbrev pub count : Material → ℕ
+count nothing = 0
+count (one x) = 1
+count (many xs) = length xs
+count (text cs) = length cs
+
+-- what the others answer
+abbrev pub other_answer : List ℕ → Option MacroAnswer
+other_answer name =
+    if same_name (codes "MUTE") name then Some no_value
+    else (if same_name (codes "LOW") name then Some (refused 0)
+    else (if same_name (codes "ALIEN") name then Some (value (symbol (codes "NOWHERE") (codes "X")))
+    else (if same_name (codes "NICKNAME") name then Some (value (symbol (codes "CL-USER") (codes "X")))
+    else (if same_name (codes "FRESH") name then Some (value (symbol (codes "COMMON-LISP-USER") (codes "X")))
+    else None))))
+
+abbrev pub trial_answer : List ℕ → MacroCall → MacroAnswer
+trial_answer name call = unwrap_or (other_answer name) (value (integer (pos (count call.gathered))))

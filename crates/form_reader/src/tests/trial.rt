@@ -1,0 +1,121 @@
+//! A meaning of functions in each way of gathering, and of some that answer what may not be answered.
+ghost use Rattle.std.specs.Prelude.{◌≡◌, pos, true, IfOk};
+ghost use Rattle.std.specs.List.{list_all};
+ghost use Rattle.lisp_object.specs.Ascii.{is_ascii};
+ghost use Rattle.lisp_object.specs.Object.{integer, symbol};
+ghost use Rattle.user_macros.specs.Calls.{answer_of, call_of, value};
+ghost use Rattle.form_reader.specs.Trial.{trial_names, trial_way, trial_answer, count};
+
+use lisp_object::{Bytes, Datum};
+use readtable_core::FnName;
+use std::alloc::{AllocError, Global};
+use user_macros::{Answer, Call, Gather, Gathered, Meaning};
+
+#[derive(Drop)]
+pub struct Trial {
+    names: [FnName; 12],
+    ghost are: { names ≡ trial_names },
+}
+
+impl Trial {
+    pub fn new() -> Trial {
+        Trial {
+            names: [
+                FnName::new(b"NONE").unwrap(),
+                FnName::new(b"NEXT").unwrap(),
+                FnName::new(b"UNTIL").unwrap(),
+                FnName::new(b"TEXT").unwrap(),
+                FnName::new(b"SAME").unwrap(),
+                FnName::new(b"LINE").unwrap(),
+                FnName::new(b"TOKEN").unwrap(),
+                FnName::new(b"MUTE").unwrap(),
+                FnName::new(b"LOW").unwrap(),
+                FnName::new(b"ALIEN").unwrap(),
+                FnName::new(b"NICKNAME").unwrap(),
+                FnName::new(b"FRESH").unwrap(),
+            ],
+        }
+    }
+}
+
+impl Meaning for Trial {
+    ghost use Rattle.form_reader.specs.Trial.{rows, some_way};
+
+    ghost names = { trial_names };
+
+    ghost way = { trial_way };
+
+    ghost answer = { trial_answer };
+
+    ghost gathers = { some_way rows };
+
+    fn names(&self) -> &[FnName] {
+        &self.names
+    }
+
+    fn gather(&self, name: FnName) -> Option<Gather> {
+        if b"NONE".as_slice() == name.as_bytes() {
+            return Some(Gather::Nothing);
+        }
+        if b"NEXT".as_slice() == name.as_bytes() {
+            return Some(Gather::Next);
+        }
+        if b"UNTIL".as_slice() == name.as_bytes() {
+            return Some(Gather::Until(b']'));
+        }
+        if b"TEXT".as_slice() == name.as_bytes() {
+            return Some(Gather::Text(b'}'));
+        }
+        if b"SAME".as_slice() == name.as_bytes() {
+            return Some(Gather::TextSame);
+        }
+        if b"LINE".as_slice() == name.as_bytes() {
+            return Some(Gather::Line);
+        }
+        if b"TOKEN".as_slice() == name.as_bytes() {
+            return Some(Gather::Token);
+        }
+        if b"MUTE".as_slice() == name.as_bytes() {
+            return Some(Gather::Token);
+        }
+        if b"LOW".as_slice() == name.as_bytes() {
+            return Some(Gather::Nothing);
+        }
+        if b"ALIEN".as_slice() == name.as_bytes() {
+            return Some(Gather::Nothing);
+        }
+        if b"NICKNAME".as_slice() == name.as_bytes() {
+            return Some(Gather::Nothing);
+        }
+        if b"FRESH".as_slice() == name.as_bytes() {
+            return Some(Gather::Nothing);
+        }
+        None
+    }
+}
+
+/// How much was gathered.
+#[tactic(auto, using(lisp_object::proofs::Objects::object_laws))]
+pub fn counted(call: &Call) -> Answer
+    ensures { answer_of result ≡ value (integer (pos (count (call_of call.now).gathered))) }
+{
+    let count = match &call.gathered {
+        Gathered::Nothing => 0,
+        Gathered::One(_) => 1,
+        Gathered::Many(items) => items.as_slice().len(),
+        Gathered::Text(bytes) => bytes.as_slice().len(),
+    };
+    Answer::One(Datum::Integer(count as i128))
+}
+
+/// The symbol of this home and name.
+#[tactic(auto, using(lisp_object::proofs::Objects::object_laws, lisp_object::proofs::Properness::proper_laws))]
+pub fn symbol(alloc: Global, home: &[u8], name: &[u8]) -> Result<Answer, AllocError>
+    requires { (list_all is_ascii home.now ≡ true) × (list_all is_ascii name.now ≡ true) }
+    ensures { IfOk result (λ a. answer_of a ≡ value (symbol home.now name.now)) }
+{
+    Ok(Answer::One(Datum::Symbol {
+        package: Bytes::from_slice(alloc, home)?,
+        name: Bytes::from_slice(alloc, name)?,
+    }))
+}
