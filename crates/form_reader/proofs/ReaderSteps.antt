@@ -1,26 +1,30 @@
 -- What a step and the end of the text are to a reader, from what a turn is to the outcome.
-use Rattle.std.proofs.Common.{◌≡◌, ℕ, ◌+◌, ◌≤◌, true, List, [], ◌∷◌, ◌++◌, length, take, drop, sym, ap, subst, ◌∙◌, append_assoc, append-nil, length-append, arith}
+use Rattle.std.proofs.Common.{◌≡◌, ℕ, ◌+◌, ◌≤◌, true, List, [], ◌∷◌, ◌++◌, length, Ok, Err, take, drop, sym, ap, subst, ◌∙◌, append_assoc, append-nil, length-append, arith}
 use Rattle.std.proofs.lemmas.List.{take-append-drop}
 use Rattle.lisp_object.specs.declared.datum.Datum.{Datum}
-use Rattle.lisp_object.specs.Object.{IsSound}
+use Rattle.lisp_object.specs.Object.{Object, IsSound}
 use Rattle.lisp_object.specs.Datum.{object_of, is_proper}
 use Rattle.form_reader.specs.declared.frame.Frame.{Frame}
 use Rattle.form_reader.specs.declared.limits.Limits.{Limits}
 use Rattle.form_reader.specs.declared.reader.FormReader.{FormReader}
 use Rattle.form_reader.specs.declared.reader.State.{State}
-use Rattle.form_reader.specs.declared.reader.State.TheVariants.{Open, Refused}
+use Rattle.form_reader.specs.declared.reader.State.TheVariants.{Open, Refused, OutOfMemory}
 use Rattle.form_reader.specs.declared.reader.Step.{Step}
 use Rattle.form_reader.specs.declared.reader.Step.TheVariants.{More as StepMore, Form as StepForm, Refused as StepRefused}
 use Rattle.form_reader.specs.declared.stage.Stage.{Stage}
 use Rattle.form_reader.specs.declared.stage.Stage.TheVariants.{Object as AtObject}
 use Rattle.form_reader.specs.declared.turn.Turn.{Turn}
 use Rattle.form_reader.specs.declared.turn.Turn.TheVariants.{Goes, Form as TurnForm, Refused as TurnRefused}
+use Rattle.form_reader.specs.declared.found.Found.{Found}
+use Rattle.form_reader.specs.declared.found.Found.TheVariants.{Nothing as nothing, One as one, LoneDot as lone_dot, TheEnd as the_end}
+use Rattle.form_reader.specs.Plans.{Read}
+use Rattle.form_reader.specs.Resuming.{stage_gives}
 use Rattle.form_reader.specs.Setting.{Setting}
 use Rattle.form_reader.specs.Reading.{form, refused, reads}
-use Rattle.form_reader.specs.Turning.{rest_of, TurnsTo, IsReadyTurn, BeginsFrom}
-use Rattle.form_reader.specs.Reader.{fed, IsNew, IsAfter, IsAfterIn, Steps, BeginsLater, IsSoundStep, Takes}
+use Rattle.form_reader.specs.Turning.{outcome_of, rest_of, TurnsTo, IsReadyTurn, BeginsFrom}
+use Rattle.form_reader.specs.Reader.{fed, begun, IsNew, IsAfter, IsAfterIn, Steps, BeginsLater, IsSoundStep, Takes}
 use Rattle.form_reader.proofs.Deciding.{may_go_on}
-use Rattle.form_reader.proofs.Forms.{reads_is}
+use Rattle.form_reader.proofs.Forms.{reads_is, stood}
 
 -- a reader that was fed nothing is after no bytes
 pub new_rest : (setting : Setting) (frames : List Frame) → frames ≡ [] → (cs : List ℕ) → reads setting cs ≡ rest_of setting frames AtObject 0 0 cs
@@ -83,6 +87,26 @@ begins_taking mid new (TurnForm x start «end» next) (StepForm datum s e n) tak
 begins_taking mid new (TurnForm x start «end» next) StepMore takes from = absurd takes
 begins_taking mid new (TurnForm x start «end» next) (StepRefused code place) takes from = absurd takes
 begins_taking mid new (TurnRefused code place) step takes from = subst (λ (s : Step). BeginsLater mid new s) (sym takes.0) takes.2
+
+-- a form begins where the attempt that is open began, or later
+begins_from : (setting : Setting) (start : ℕ) (r : Read Found) (x : Object) (from «end» next : ℕ) → outcome_of setting start r ≡ form x from «end» next → start ≤ from
+begins_from setting start (Ok (one token y, at, cs)) x from «end» next e = let same : start ≡ from = cc in omega (arith, same)
+begins_from setting start (Ok (nothing token, at, cs)) x from «end» next e =
+    let s = stood setting (length cs + 1) (start + at) cs x from «end» next e in
+    omega (arith, s.start_is)
+begins_from setting start (Ok (lone_dot, at, cs)) x from «end» next e = cc
+begins_from setting start (Ok (the_end, at, cs)) x from «end» next e = cc
+begins_from setting start (Err f) x from «end» next e = cc
+
+pub begun_first : (setting : Setting) (reader : FormReader) (bytes more : List ℕ) (x : Object) (start «end» next : ℕ) → IsAfter setting reader bytes
+    → reads setting (bytes ++ more) ≡ form x start «end» next → begun reader ≤ start
+begun_first setting reader bytes more x start «end» next after e = by reader.state after
+  where
+    by : (state : State) → IsAfterIn setting reader state bytes → begun reader ≤ start
+    by (Open stage) a =
+        begins_from setting reader.start (stage_gives setting reader.frames stage reader.at more) x start «end» next (sym (a.1 more) ∙ e)
+    by (Refused code place) a = let same : refused code place ≡ form x start «end» next = sym (a more) ∙ e in cc
+    by OutOfMemory a = absurd a
 
 -- ---- the end
 

@@ -62,9 +62,10 @@ IsAfterIn setting reader OutOfMemory bytes = ⊥
 abbrev pub IsAfter : Setting → FormReader → List ℕ → Type 0
 IsAfter setting reader bytes = IsAfterIn setting reader reader.state bytes
 
--- What a step answers, after which these bytes were fed: the reader is after them, and they decide nothing alone; or they begin with a form, or are refused,
--- whatever follows them. Where the form's next is the number of bytes, the last byte was taken; where it is one less, that byte
--- is for the next form. After a form the reader is new, and after no bytes, whatever is handed to it then.
+-- What a step answers, after which these bytes were fed: the reader is after them, and they decide nothing alone; or they begin
+-- with a form, or are refused, whatever follows them. Where the form's next is the number of bytes, the last byte was taken;
+-- where it is one less, that byte is for the next form. After a form the reader is new, and after no bytes, whatever is handed
+-- to it then.
 abbrev pub Steps : Setting → FormReader → List ℕ → Step → Type 0
 Steps setting reader bytes StepMore = IsAfter setting reader bytes × (fed reader ≡ length bytes) × MayGoOn bytes (reads setting bytes)
 Steps setting reader bytes (StepForm datum start «end» next) =

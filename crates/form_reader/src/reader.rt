@@ -61,7 +61,8 @@ impl FormReader {
     ghost use Rattle.std.specs.Prelude.{◌≡◌, ◌<◌, ◌≤◌, ◌+◌, ◌^◌, ℕ, List, [], ◌∷◌, ◌++◌, length, Ok, IfOk, IsErr, OnErr};
     ghost use Rattle.package_table.specs.Table.{IsPackage};
     ghost use Rattle.form_reader.specs.Setting.{Setting, setting_of};
-    ghost use Rattle.form_reader.specs.Reading.{reads};
+    ghost use Rattle.lisp_object.specs.Object.{Object};
+    ghost use Rattle.form_reader.specs.Reading.{form, reads};
     ghost use Rattle.form_reader.specs.declared.reader.Step.TheVariants.{Refused as StepRefused};
     ghost use Rattle.form_reader.specs.Turning.{IsReadyTurn, BeginsFrom};
     ghost use Rattle.form_reader.specs.Reader.{limits_of, fed, begun, HasRefused, HasNoMemory, IsNew, IsAfter, Steps, BeginsLater, IsSoundStep, Takes, IsOutcome};
@@ -83,11 +84,13 @@ impl FormReader {
         }
     }
 
-    /// Where the object, or the discarded call or text, that is now open began: the bytes before it matter no more. It is a
-    /// number of bytes from the beginning of the text.
+    /// Where the object, or the discarded call or text, that is now open began, as a number of bytes from the beginning of
+    /// the text. The bytes before it matter no more: a form that is read begins there or later.
     pub fn begun(&self) -> usize
         ensures place { result ≡ begun self.now }
         ensures within { result ≤ fed self.now }
+        ensures form { (setting : Setting) (bytes more : List ℕ) (x : Object) (start end next : ℕ) → IsAfter setting self.now bytes
+            → reads setting (bytes ++ more) ≡ form x start end next → result ≤ start }
     {
         let FormReader { start, .. } = self;
         *start
