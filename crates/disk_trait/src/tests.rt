@@ -114,3 +114,22 @@ fn a_sync_that_failed_is_never_forgotten(rt: HostRuntime) -> Result<(), Fail> {
     }
     Ok(())
 }
+
+/// A regular file of the system, at whose start nothing can be read or written.
+const UNREAD: &str = "/proc/self/mem";
+
+#[test]
+fn a_call_that_failed_is_a_fault(rt: HostRuntime) -> Result<(), Fail> {
+    let dir = folder(&rt, "faults")?;
+    fs::create_dir(&rt, dir.as_str())?;
+    let path = format!(in rt.alloc(); "{}/half-a", dir.as_str())?;
+    unix::symlink(&rt, UNREAD, path.as_str())?;
+    let mut disk = HostDisk::open(&rt, dir.as_str())?;
+    let mut buffer = [0; 8];
+    assert!(rt; disk.read(Half::A, 0, &mut buffer).is_err());
+    assert!(rt; disk.write_at(Half::A, 0, b"abc").is_err());
+    assert_eq!(rt; disk.failures(), 2);
+    drop(disk);
+    fs::remove_dir_all(&rt, dir.as_str())?;
+    Ok(())
+}
