@@ -11,6 +11,7 @@ use Rattle.std.specs.Option.{option_map_or}
 use Rattle.std.specs.Global.{Vec}
 use Rattle.std.specs.Vec.{vec_len, vec_capacity}
 use Rattle.std.proofs.lemmas.List.{length-map, map_push, append_assoc}
+pub use Rattle.package_table.proofs.Undoing.{IsLast, at_last, no_more, on_ok, take_seam, get_seam}
 use Rattle.plist_state.specs.declared.note.Note.{Note}
 use Rattle.plist_state.specs.declared.property.Property.{Property}
 use Rattle.plist_state.specs.Properties.{Properties, list_at}
@@ -89,33 +90,6 @@ fits_now rows r is x =
     ])
 
 -- ---- the newest mark
-later : {A : Type 0} (y : A) (ys : List A) (i : ℕ) (d : A) → slice_index_or (y ∷ ys) (i + 1) d ≡ slice_index_or ys i d
-later y ys i d = rw (add-one i) refl
-
-set_later : {A : Type 0} (y : A) (ys : List A) (i : ℕ) (w : A) → slice_set (y ∷ ys) (i + 1) w ≡ y ∷ slice_set ys i w
-set_later y ys i w = rw (add-one i) refl
-
--- x is the last of xs, at n, and a write there leaves the others
-abbrev IsLast : {A : Type 0} → List A → ℕ → A → Type 0
-IsLast {A} xs n x = (before : List A) × (xs ≡ before ++ x ∷ []) × ((w : A) → slice_set xs n w ≡ before ++ w ∷ [])
-
-longer : {A : Type 0} (y : A) (zs : List A) (x : A) (n k : ℕ) → k ≡ n + 1 → IsLast zs n x → IsLast (y ∷ zs) k x
-longer y zs x n k next (before, split, write) =
-    (y ∷ before, ap (λ ys. y ∷ ys) split, λ w. ap (λ i. slice_set (y ∷ zs) i w) next ∙ set_later y zs n w ∙ ap (λ ys. y ∷ ys) (write w))
-
-at_last : {A : Type 0} (xs : List A) (x : A) → 0 < length xs → x ≡ slice_index_or xs (length xs - 1) x → IsLast xs (length xs - 1) x
-at_last [] x some is = absurd (omega (arith, some))
-at_last (y ∷ []) x some is = ([], ap (λ z. z ∷ []) (sym is), λ w. refl)
-at_last (y ∷ z ∷ xs) x some is =
-    let n : ℕ = length (z ∷ xs) - 1 in
-    let next : length (y ∷ z ∷ xs) - 1 ≡ n + 1 = omega arith in
-    let same : slice_index_or (y ∷ z ∷ xs) (length (y ∷ z ∷ xs) - 1) x ≡ slice_index_or (z ∷ xs) n x = ap (λ i. slice_index_or (y ∷ z ∷ xs) i x) next ∙ later y (z ∷ xs) n x in
-    longer y (z ∷ xs) x n (length (y ∷ z ∷ xs) - 1) next (at_last (z ∷ xs) x (omega arith) (is ∙ same))
-
-pub on_ok : {T E : Type 0} {P Q : Type 0} (r : Result T E) → (P → Q) → OnOk r P → OnOk r Q
-on_ok (Ok x) f p = f p
-on_ok (Err e) f p = p
-
 room_at_end : (ms : List (Vec Note)) (m : Vec Note) → vec_len m < vec_capacity m → has_room (ms ++ m ∷ [])
 room_at_end [] m room = room
 room_at_end (n ∷ []) m room = room
@@ -179,18 +153,6 @@ module _ (ms : List (Vec Note)) (n : ℕ) (m w : Vec Note) (is_length : length m
       (continues_push (marks_of last.0) m.items note t u proper undoes))
 
 -- ---- the newest mark taken away
-pub no_more : {A : Type 0} (xs : List A) → length xs ≡ 0 → xs ≡ []
-no_more [] e = refl
-no_more (x ∷ xs) e = absurd (omega arith)
-
-take_seam : {A : Type 0} (xs ys : List A) → take (length xs) (xs ++ ys) ≡ xs
-take_seam [] ys = refl
-take_seam (x ∷ xs) ys = ap (λ ls. x ∷ ls) (take_seam xs ys)
-
-get_seam : {A : Type 0} (xs : List A) (y : A) (ys : List A) → slice_get (xs ++ y ∷ ys) (length xs) ≡ Some y
-get_seam [] y ys = refl
-get_seam (x ∷ xs) y ys = get_seam xs y ys
-
 module _ (before : List (Vec Note)) (m : Vec Note) (ms : List (Vec Note)) (split : ms ≡ before ++ m ∷ []) (t u : Rest) (undoes : u ≡ all_undone m.items t) where
   marks_split : marks_of ms ≡ marks_of before ++ m.items ∷ []
   marks_split = ap marks_of split ∙ map_push notes_of before m

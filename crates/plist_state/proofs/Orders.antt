@@ -7,7 +7,8 @@ use Rattle.std.specs.Ordering.{is_eq, eq_by_cmp}
 use Rattle.std.specs.Cmp.{IsTotalOrder, tied_itself}
 use Rattle.std.specs.Cmp.Lexicographic.{nat_list_cmp_total}
 use Rattle.std.specs.FinMap.{IsAntisymmetric}
-use Rattle.package_table.specs.Table.{Name, name_cmp}
+use Rattle.package_table.specs.Table.{name_cmp}
+pub use Rattle.package_table.proofs.Names.{name_total, name_exact, tied_same as one_name, same_tied as name_tied}
 use Rattle.plist_state.specs.Properties.{Symbol, symbol_cmp}
 
 pub symbol_total : IsTotalOrder symbol_cmp
@@ -21,15 +22,3 @@ one_symbol = tells_apart symbol_exact
 
 pub symbol_tied : (x : Symbol) → eq_by_cmp symbol_cmp x x ≡ true
 symbol_tied x = ap is_eq (tied_itself symbol_total x)
-
-pub name_total : IsTotalOrder name_cmp
-name_total = nat_list_cmp_total
-
-pub name_exact : IsAntisymmetric name_cmp
-name_exact = exact_bytes
-
-pub one_name : (x y : Name) → eq_by_cmp name_cmp x y ≡ true → x ≡ y
-one_name = tells_apart name_exact
-
-pub name_tied : (x : Name) → eq_by_cmp name_cmp x x ≡ true
-name_tied x = ap is_eq (tied_itself name_total x)

@@ -17,7 +17,7 @@ use Rattle.std.proofs.Math.Nat.{div-one}
 use Rattle.lisp_object.specs.Object.{Object, integer, rational}
 use Rattle.lisp_object.specs.Lowest.{IsLowest}
 use Rattle.lisp_object.specs.Quotient.{quotient, gcd}
-use Rattle.lisp_object.proofs.Quotients.{gcd_from_IsGcd}
+use Rattle.lisp_object.proofs.Quotients.{lowest_stays}
 use Rattle.token_meaning.specs.Numerals.{is_digit, is_numeral, are_digits, is_empty, value, signed, is_in_range}
 use Rattle.token_meaning.specs.Numbers.{is_point, ratio_of, number_of}
 use Rattle.token_meaning.specs.Grammar.{Sign, absent, minus, IsDigits, IsRatio}
@@ -121,18 +121,6 @@ is_ratio (negsuc n) d fits small =
       worth_above = decimal_value (suc n) top;
       worth_below = decimal_value d small;
     }
-
-by_one : (n : ℤ) → int_div n (pos 1) ≡ n
-by_one (pos n) = ap (λ (m : ℕ). pos m) (div-one n)
-by_one (negsuc n) = ap (λ (m : ℕ). neg_ℤ (pos m)) (div-one (suc n))
-
-lowest_stays : (n : ℤ) (d : ℕ) → IsLowest n d → quotient n d ≡ Some (rational n d)
-lowest_stays n d is =
-    let over : 1 < d = is.over_one in
-    let one : 1 ≡ gcd (unsigned_abs n) d = gcd_from_IsGcd (unsigned_abs n) d 1 (omega arith) is.coprime in
-    let some : (d == 0) ≡ false = ne_eqb d 0 (λ e. omega arith) in
-    let more : (d == 1) ≡ false = ne_eqb d 1 (λ e. omega arith) in
-    rw (some, ← one, div-one d, more, by_one n) refl
 
 when : {X : Type 0} (b : Bool) (x y : X) → b ≡ true → (if b then x else y) ≡ x
 when true x y e = refl
