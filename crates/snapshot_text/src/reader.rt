@@ -5,6 +5,8 @@ ghost use Rattle.readtable_core.specs.Tables.{standard};
 ghost use Rattle.package_table.specs.Table.{Table, common_lisp_user};
 ghost use Rattle.form_reader.specs.Setting.{setting_of};
 ghost use Rattle.snapshot_text.specs.Lines.{snapshot_limits, IsLineRead, IsFirst};
+ghost use Rattle.plist_state.specs.State.{State};
+ghost use Rattle.plist_state.specs.Sound.{IsSound as IsSoundState};
 ghost use Rattle.snapshot_text.specs.Covered.{are_covered, IsMissing};
 ghost use Rattle.snapshot_text.specs.Snapshot.{line, snapshot};
 
@@ -118,6 +120,7 @@ pub fn read<R: MacroFunctions>(
 ) -> Result<World, SnapshotError>
     requires { R.answers macros.now }
     ensures text { IfOk result (λ world. snapshot world.0 ≡ bytes.now) }
+    ensures only { IfOk result (λ world. (s : State) → IsSoundState s → snapshot s ≡ bytes.now → s ≡ world.0) }
     ensures size { IfOk result (λ world. length bytes.now ≤ 4294967295) }
     ensures covered { IfOk result (λ world. are_covered (R.registered macros.now) world.0 ≡ true) }
     ensures unmarked { IfOk result (λ world. world.1 ≡ []) }
