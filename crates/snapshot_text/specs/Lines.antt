@@ -1,11 +1,15 @@
 -- The lines of a snapshot, as they are read.
-use Rattle.std.specs.Prelude.{◌≡◌, ℕ, List, ◌++◌, length}
+use Rattle.std.specs.Prelude.{◌≡◌, ℕ, true, List, ◌++◌, length, Result, Ok, Err}
+use Rattle.lisp_object.specs.declared.datum.Datum.{Datum}
+use Rattle.lisp_object.specs.Datum.{object_of, is_proper}
 use Rattle.lisp_object.specs.Object.{Object}
 use Rattle.package_table.specs.Table.{Table, common_lisp_user}
 use Rattle.canon_printer.specs.Printed.{printed}
 use Rattle.form_reader.specs.declared.limits.Limits.{Limits}
 use Rattle.form_reader.specs.Setting.{Setting}
 use Rattle.form_reader.specs.Reading.{form, reads}
+use Rattle.snapshot_text.specs.declared.error.BuildError.{BuildError}
+use Rattle.snapshot_text.specs.declared.error.BuildError.TheVariants.{OutOfMemory}
 use Rattle.snapshot_text.specs.Snapshot.{line}
 
 -- the limits under which a snapshot is read
@@ -17,3 +21,9 @@ snapshot_limits = record { text = 4294967295; token = 8192; nesting = 104 }
 abbrev pub IsLineRead : Setting → Table → Object → List ℕ → Type 0
 IsLineRead setting packages x rest =
     (next : ℕ) × (reads setting (line packages x ++ rest) ≡ form x 0 (length (printed packages common_lisp_user x)) next)
+
+-- What was read is the object of the line, with its end; or memory ran out.
+abbrev pub IsFirst : Table → Object → Result (Datum × ℕ) BuildError → Type 0
+IsFirst packages x (Ok read) =
+    (object_of read.0 ≡ x) × (is_proper read.0 ≡ true) × (read.1 ≡ length (printed packages common_lisp_user x))
+IsFirst packages x (Err e) = e ≡ OutOfMemory

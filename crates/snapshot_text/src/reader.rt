@@ -1,7 +1,14 @@
 //! The world of a text.
-ghost use Rattle.std.specs.Prelude.{◌≡◌, ◌≤◌, [], true, length, IfOk, IfErr};
+ghost use Rattle.std.specs.Prelude.{◌≡◌, ◌≤◌, ℕ, List, [], ◌++◌, true, length, IfOk, IfErr};
+ghost use Rattle.lisp_object.specs.Object.{Object};
+ghost use Rattle.readtable_core.specs.Tables.{standard};
+ghost use Rattle.package_table.specs.Table.{Table, common_lisp_user};
+ghost use Rattle.form_reader.specs.Setting.{setting_of};
+ghost use Rattle.snapshot_text.specs.Lines.{snapshot_limits, IsLineRead, IsFirst};
+ghost use Rattle.plist_state.specs.State.{State};
+ghost use Rattle.plist_state.specs.Sound.{IsSound as IsSoundState};
 ghost use Rattle.snapshot_text.specs.Covered.{are_covered, IsMissing};
-ghost use Rattle.snapshot_text.specs.Snapshot.{snapshot};
+ghost use Rattle.snapshot_text.specs.Snapshot.{line, snapshot};
 
 use crate::error::BuildError;
 use crate::package_parts::make_packages;
@@ -20,7 +27,38 @@ use user_macros::MacroFunctions;
 // The most bytes in the text of a snapshot.
 const MOST_BYTES: usize = 4_294_967_295;
 
-// The object with which the rest of a text begins, and where the next begins.
+// The object with which a text begins, and its end. Where the text begins with the line of an object, it is this object.
+fn first_object<R: MacroFunctions>(
+    alloc: Global,
+    world: &World,
+    macros: &R,
+    bytes: &[u8],
+) -> Result<(Datum, usize), BuildError>
+    requires { R.answers macros.now }
+    ensures { (packages : Table) (x : Object) (rest : List ℕ) → bytes.now ≡ line packages x ++ rest
+        → IsLineRead (setting_of snapshot_limits standard world.now.0.packages common_lisp_user (R.registered macros.now) R.Meaning.way R.Meaning.answer) packages x rest
+        → IsFirst packages x result }
+{
+    let standard = Readtable::standard(alloc)?;
+    let packages = world.packages();
+    packages.soundness();
+    let limits = Limits::snapshot();
+    match read_one(
+        alloc,
+        limits,
+        &standard,
+        packages,
+        COMMON_LISP_USER,
+        macros,
+        bytes,
+    )? {
+        ReadOutcome::Form { datum, end, .. } => Ok((datum, end)),
+        ReadOutcome::Empty => Err(BuildError::Damaged),
+        ReadOutcome::Refused { .. } => Err(BuildError::Damaged),
+    }
+}
+
+// The object of the line that begins at `at`, and where the next line begins.
 fn next_object<R: MacroFunctions>(
     alloc: Global,
     world: &World,
@@ -33,22 +71,8 @@ fn next_object<R: MacroFunctions>(
     let Some(rest) = bytes.get(at..) else {
         return Err(BuildError::Damaged);
     };
-    let standard = Readtable::standard(alloc)?;
-    let packages = world.packages();
-    packages.soundness();
-    let limits = Limits::snapshot();
-    match read_one(
-        alloc,
-        limits,
-        &standard,
-        packages,
-        COMMON_LISP_USER,
-        macros,
-        rest,
-    )? {
-        ReadOutcome::Form { datum, next, .. } => Ok((datum, next.saturating_add(at))),
-        _ => Err(BuildError::Damaged),
-    }
+    let (datum, end) = first_object(alloc, world, macros, rest)?;
+    Ok((datum, at.saturating_add(end).saturating_add(1)))
 }
 
 // A world made from the three objects of a text.
@@ -96,6 +120,7 @@ pub fn read<R: MacroFunctions>(
 ) -> Result<World, SnapshotError>
     requires { R.answers macros.now }
     ensures text { IfOk result (λ world. snapshot world.0 ≡ bytes.now) }
+    ensures only { IfOk result (λ world. (s : State) → IsSoundState s → snapshot s ≡ bytes.now → s ≡ world.0) }
     ensures size { IfOk result (λ world. length bytes.now ≤ 4294967295) }
     ensures covered { IfOk result (λ world. are_covered (R.registered macros.now) world.0 ≡ true) }
     ensures unmarked { IfOk result (λ world. world.1 ≡ []) }
