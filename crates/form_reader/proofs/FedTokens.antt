@@ -19,7 +19,7 @@ use Rattle.form_reader.specs.Plans.{Read, fault, stands_below, limited}
 use Rattle.form_reader.specs.declared.limits.Limits.{Limits}
 use Rattle.form_reader.specs.Feeding.{token_read, refused_number}
 
-abbrev cut : ℕ → Scanned → Read (List Mark)
+abbrev pub cut : ℕ → Scanned → Read (List Mark)
 cut limit r = limited limit (in_bytes r) (λ p. p.1)
 
 -- it is taken
@@ -72,7 +72,7 @@ byte_cut limit at code h =
     ] in
     by (nat_lt at limit) refl
 
-refused_cut : (limit : ℕ) (refusal : ScanRefusal) (at : ℕ) → at ≤ limit → cut limit (Err (record { refusal = refusal; at = at })) ≡ fault (refused_number limit refusal at) at
+pub refused_cut : (limit : ℕ) (refusal : ScanRefusal) (at : ℕ) → at ≤ limit → cut limit (Err (record { refusal = refusal; at = at })) ≡ fault (refused_number limit refusal at) at
 refused_cut limit EndOfFile at h =
     let by : Bool → Read (List Mark) = λ b. elim b [ true ↦ Err (record { code = 1; at = at }) | false ↦ Err (record { code = FORM_TOO_LONG; at = limit }) ] in
     ap by (le-leb at limit h)

@@ -1,5 +1,5 @@
 -- The depth of a form is within the nesting, and its symbols fit the packages under which it was read.
-use Rattle.std.proofs.Common.{◌≡◌, ℕ, zero, suc, ◌+◌, ◌-◌, ◌<◌, ◌≤◌, ◌^◌, ◌/◌, ℤ, pos, Bool, true, false, List, [], ◌∷◌, ◌++◌, length, map, replicate, All, codes, bytes_eq, Option, Some, None, Result, Ok, Err, inl, inr, refl, sym, ap, subst, ◌∙◌, arith}
+use Rattle.std.proofs.Common.{◌≡◌, ℕ, zero, suc, ◌+◌, ◌-◌, ◌≤◌, ◌^◌, ◌/◌, ℤ, pos, Bool, true, false, List, [], ◌∷◌, ◌++◌, length, map, replicate, All, codes, bytes_eq, Option, Some, None, Result, Ok, Err, inl, inr, refl, sym, ap, subst, ◌∙◌, arith}
 use Rattle.std.specs.Prelude.{nat_lt, nat_le, not, ◌&&◌, ◌||◌, ◌==◌, if◌then◌else◌, option_map, option_and_then, unsigned_abs, int_div}
 use Rattle.std.specs.Option.{option_map_or, option_or, ok_or}
 use Rattle.std.specs.List.{list_all, slice_split}
@@ -14,11 +14,10 @@ use Rattle.lisp_object.proofs.ProperLists.{nil_symbol}
 use Rattle.readtable_core.specs.Characters.{upper_case}
 use Rattle.readtable_core.specs.declared.table.Case.{Case}
 use Rattle.readtable_core.specs.declared.table.Case.TheVariants.{Upcase, Downcase, Preserve, Invert}
-use Rattle.package_table.specs.declared.error.PackageError.{PackageError}
 use Rattle.package_table.specs.declared.error.PackageError.TheVariants.{LockedPackage, NoPackage, NotExternal}
-use Rattle.package_table.specs.Table.{Name, Entry, Package, Table as Packages, common_lisp, common_lisp_names, common_lisp_package, keyword, package_named, IsPresent, IsSound, Finds}
+use Rattle.package_table.specs.Table.{Name, Entry, Package, Table as Packages, common_lisp, common_lisp_names, common_lisp_package, keyword, package_named, IsSound, Finds}
 use Rattle.package_table.specs.Lookup.{found, external_home}
-use Rattle.package_table.specs.Resolving.{Resolution, found_at, new_in, home_of, resolution, external_resolution, internal_resolution}
+use Rattle.package_table.specs.Resolving.{found_at, new_in, resolution}
 use Rattle.package_table.proofs.Found.{found_finds, present_found}
 use Rattle.package_table.proofs.Frames.{equal_names}
 use Rattle.package_table.proofs.Keeping.{present_at_home}
@@ -28,25 +27,22 @@ use Rattle.token_scan.specs.declared.mark.Mark.TheVariants.{Plain, Quoted, Bar}
 use Rattle.token_scan.specs.Marks.{characters, character_count}
 use Rattle.token_scan.proofs.Spelled.{plain_counts, quoted_counts, bar_counts}
 use Rattle.token_meaning.specs.declared.refusal.MeaningRefusal.{MeaningRefusal}
-use Rattle.token_meaning.specs.declared.refusal.MeaningRefusal.TheVariants.{NumberRange, ZeroDenominator, FloatToken, DotsOnly, PackageMarkers}
+use Rattle.token_meaning.specs.declared.refusal.MeaningRefusal.TheVariants.{NumberRange, ZeroDenominator, FloatToken, DotsOnly}
 use Rattle.token_meaning.specs.declared.token.TokenName.{TokenName}
 use Rattle.token_meaning.specs.declared.token.TokenName.TheVariants.{Unqualified, Keyword, External, Internal}
 use Rattle.token_meaning.specs.Folding.{on_plain, lower_case, has_upper_case, has_lower_case, in_upper_case, in_lower_case, folded}
-use Rattle.token_meaning.specs.Meanings.{Meaning, number, dot, name, is_plain, number_meaning, number_or_name, name_of, dots_of, pattern, meaning_of, rational_of, is_package_marker}
+use Rattle.token_meaning.specs.Meanings.{Meaning, dot, is_plain, number_or_name, name_of, dots_of, pattern, meaning_of, rational_of, is_package_marker}
 use Rattle.token_meaning.specs.Numbers.{integer_of, ratio_of, integer_form, decimal_form, ratio_form, float_form, is_float, rational_form, decimal_or_float_form, number_of, rational_number, is_slash, is_point}
 use Rattle.token_meaning.specs.Numerals.{is_empty, is_numeral, value, without_sign, is_negative, signed, is_in_range, cut}
 use Rattle.std_macros.specs.declared.kind.Standard.{Standard}
 use Rattle.std_macros.specs.declared.kind.Standard.TheVariants.{List as AList, Close, Quote, Comment, String, Out, Char, Function as FunctionName, Vector, Uninterned, Block as ABlock, Binary, Octal, Hex, Radix}
-use Rattle.std_macros.specs.declared.refusal.StdRefusal.TheVariants.{CharacterName, VectorLength, UninternedToken}
+use Rattle.std_macros.specs.declared.refusal.StdRefusal.TheVariants.{VectorLength, UninternedToken}
 use Rattle.std_macros.specs.Kinds.{radix_of}
-use Rattle.std_macros.specs.Values.{Material, nothing, one, many, dotted, letters, marked, Value, given, headed, headed_value, list_value, text_value, code_named, character_or_refused, character_of, character_value, last_of, bounded, vector_with, vector_of, vector_value, is_own_name, uninterned_of, uninterned_value, rational_or_refused, rational_value, radix_value, value_of}
-use Rattle.form_reader.specs.declared.found.Found.{Found}
-use Rattle.form_reader.specs.declared.found.Found.TheVariants.{One as found_one}
+use Rattle.std_macros.specs.Values.{Material, nothing, one, many, dotted, letters, marked, Value, given, headed_value, list_value, text_value, code_named, character_or_refused, character_of, character_value, last_of, bounded, vector_with, vector_of, vector_value, is_own_name, uninterned_value, rational_or_refused, rational_value, radix_value, value_of}
 use Rattle.form_reader.specs.declared.told.Told.{Told}
 use Rattle.form_reader.specs.declared.told.Told.TheVariants.{Object as told_object, Dot as dot_alone}
-use Rattle.form_reader.specs.Answering.{is_home, is_known, are_known, may_be_answered}
-use Rattle.form_reader.specs.Naming.{symbol_at, symbol_in, named, told_of, told}
-use Rattle.form_reader.specs.Plans.{Read, run}
+use Rattle.form_reader.specs.Answering.{is_home, is_known, are_known}
+use Rattle.form_reader.specs.Naming.{symbol_at, symbol_in, named, told_of}
 use Rattle.form_reader.specs.Setting.{Setting}
 use Rattle.form_reader.specs.Fitting.{Fits, IsFitting}
 use Rattle.form_reader.specs.Reading.{form, attempt, reads}

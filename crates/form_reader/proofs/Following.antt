@@ -46,7 +46,7 @@ token_at table scan at text more (Ok (marks, next, d ∷ ds)) st =
     ap scan (ap (λ (cs : List ℕ). cs ++ more) st.split ∙ append_assoc st.taken (d ∷ ds) more) ∙ st.again (d ∷ ds ++ more) st.ends
 token_at table scan at text more (Err e) st = tt
 
-token_follows : (escaped : Bool) (table : Table) (limit at : ℕ) (text more : List ℕ)
+pub token_follows : (escaped : Bool) (table : Table) (limit at : ℕ) (text more : List ℕ)
     → Follows more (scanned escaped table limit at (text ++ more)) (scanned escaped table limit at text)
 token_follows false table limit at text more =
     token_at table (token_in table limit at) at text more (token_in table limit at text) (token_stands table limit at text)
@@ -99,7 +99,7 @@ follows table limits (scans escaped limit on) at cs more =
 
 -- ---- forms
 
-space_front : (table : Table) (token : Bool) (d : ℕ) (ds es : List ℕ) → space_at table token (d ∷ ds) ≡ space_at table token (d ∷ es)
+pub space_front : (table : Table) (token : Bool) (d : ℕ) (ds es : List ℕ) → space_at table token (d ∷ ds) ≡ space_at table token (d ∷ es)
 space_front table true d ds es = refl
 space_front table false d ds es = refl
 

@@ -67,7 +67,7 @@ few_by : (spells : List TypedByte → List Mark → Type 0) (limit at : ℕ) (te
 few_by spells limit at text (Ok (marks, next, rest)) s = s.fits
 few_by spells limit at text (Err e) s = tt
 
-few : (escaped : Bool) (table : Table) (limit at : ℕ) (text : List ℕ) → IfOk (scanned escaped table limit at text) (λ t. character_count t.0 ≤ limit)
+pub few : (escaped : Bool) (table : Table) (limit at : ℕ) (text : List ℕ) → IfOk (scanned escaped table limit at text) (λ t. character_count t.0 ≤ limit)
 few false table limit at text = few_by (Spells false) limit at (typed_text table text) _ (splits limit at (typed_text table text))
 few true table limit at text = few_by SpellsEscaped limit at (typed_text table text) _ (escaped_token_splits limit at (typed_text table text))
 

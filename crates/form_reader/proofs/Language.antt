@@ -1,14 +1,14 @@
 -- What holds of each object that is read, where it holds of what tokens mean, of what functions make, and of what may be
 -- answered; and that a refusal is at the last byte that was taken, or later.
-use Rattle.std.proofs.Common.{◌≡◌, ℕ, zero, suc, ◌+◌, ◌-◌, ◌<◌, ◌≤◌, Bool, true, false, List, [], ◌∷◌, ◌++◌, All, Option, Some, None, Result, Ok, Err, refl, sym, ap, ◌∙◌, arith}
+use Rattle.std.proofs.Common.{◌≡◌, ℕ, zero, suc, ◌+◌, ◌-◌, ◌≤◌, Bool, true, false, List, [], ◌∷◌, ◌++◌, All, Option, Some, None, Result, Ok, Err, refl, arith}
 use Rattle.std.specs.Prelude.{nat_le, ◌&&◌, ◌==◌}
 use Rattle.std.proofs.lemmas.Bool.{and_parts, leb-true}
 use Rattle.std.proofs.lemmas.List.Elements.{All-nil, All-push}
-use Rattle.lisp_object.specs.declared.refusal.TheConstants.{DOT_CONTEXT, MACRO_ANSWER}
+use Rattle.lisp_object.specs.declared.refusal.TheConstants.{MACRO_ANSWER}
 use Rattle.lisp_object.specs.Object.{Object, object_depth}
-use Rattle.readtable_core.specs.Tables.{Table, entry_at, dispatch_at}
+use Rattle.readtable_core.specs.Tables.{entry_at, dispatch_at}
 use Rattle.readtable_core.specs.Names.{is_dispatch_name}
-use Rattle.readtable_core.specs.Characters.{upper_case, is_digit}
+use Rattle.readtable_core.specs.Characters.{upper_case}
 use Rattle.readtable_core.specs.declared.characters.Syntax.{Syntax}
 use Rattle.readtable_core.specs.declared.characters.Syntax.TheVariants.{Whitespace, Constituent, TerminatingMacro, NonTerminatingMacro, SingleEscape, MultipleEscape, Invalid}
 use Rattle.token_scan.specs.declared.mark.Mark.{Mark}
@@ -17,7 +17,6 @@ use Rattle.user_macros.specs.Calls.{MacroAnswer, value, no_value, improper, refu
 use Rattle.std_macros.specs.declared.kind.Standard.{Standard}
 use Rattle.std_macros.specs.declared.refusal.StdRefusal.{StdRefusal}
 use Rattle.std_macros.specs.Values.{Value, value_of, Material, nothing as no_material, one as one_object, many, dotted, letters, marked}
-use Rattle.std_macros.specs.Results.{std_refusal_number}
 use Rattle.form_reader.specs.declared.found.Found.{Found}
 use Rattle.form_reader.specs.declared.found.Found.TheVariants.{Nothing as nothing, One as one, LoneDot as lone_dot, TheEnd as the_end}
 use Rattle.form_reader.specs.declared.told.Told.{Told}
@@ -31,9 +30,9 @@ use Rattle.form_reader.specs.Answering.{may_be_answered}
 use Rattle.form_reader.specs.Calls.{InvokedCall}
 use Rattle.form_reader.specs.Gathering.{text_turn, is_escape, kept, line_turn, block_next, block_goes, block_turn, number_turn, next_digit}
 use Rattle.form_reader.specs.Naming.{told}
-use Rattle.form_reader.specs.Plans.{Plan, gives, refuses, takes, scans, then_plan, character, next_byte, loop}
+use Rattle.form_reader.specs.Plans.{Plan, gives, refuses, then_plan, next_byte}
 use Rattle.form_reader.specs.Setting.{Setting, macro_call, way_in, function_of}
-use Rattle.form_reader.specs.Reading.{text_to, line_after, block_after, number_after, Piece, item, dot, closed, is_whitespace, without_space, at_place, or_closed, place_turn, place, Items, items_step, items_turn, items_after, undotted, after_tail, after_dot, list_end, one_piece, bytes_back, finished, answered, completed_by, completed, opened, gathered, gathered_by, called, sub_called, sub_there, dispatched, macro_called, stands_alone, alone, told_found, token_found, attempt_by, inner, attempt}
+use Rattle.form_reader.specs.Reading.{text_to, line_after, block_after, number_after, Piece, item, dot, closed, without_space, at_place, or_closed, place_turn, place, Items, items_step, items_turn, items_after, undotted, after_tail, after_dot, list_end, one_piece, bytes_back, finished, answered, completed_by, completed, gathered, gathered_by, called, sub_called, sub_there, dispatched, macro_called, alone, told_found, token_found, attempt_by, inner, attempt}
 use Rattle.form_reader.proofs.Keeping.{most_back, Keeps, keeps_either, keeps_then, keeps_loop, keeps_character, keeps_next}
 use Rattle.form_reader.proofs.Backs.{back_of, StaysIn, way_stays}
 

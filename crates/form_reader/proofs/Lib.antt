@@ -30,3 +30,6 @@ pub mod Keeping
 pub mod Backs
 pub mod Language
 pub mod Fittings
+pub mod TokenFaults
+pub mod Faults
+pub mod Deciding

@@ -44,7 +44,7 @@ token_at : (table : Table) (scan : List ℕ → ScannedBytes) (at : ℕ) (text :
 token_at table scan at text (Ok (marks, next, rest)) st = record { taken = st.taken; split = st.split; place = st.place }
 token_at table scan at text (Err e) st = tt
 
-token_parts : (escaped : Bool) (table : Table) (limit at : ℕ) (text : List ℕ) → Parts at text (scanned escaped table limit at text)
+pub token_parts : (escaped : Bool) (table : Table) (limit at : ℕ) (text : List ℕ) → Parts at text (scanned escaped table limit at text)
 token_parts false table limit at text = token_at table (token_in table limit at) at text (token_in table limit at text) (token_stands table limit at text)
 token_parts true table limit at text =
     token_at table (escaped_token_in table limit at) at text (escaped_token_in table limit at text) (escaped_token_stands table limit at text)

@@ -2,6 +2,7 @@
 use Rattle.std.proofs.Common.{◌≡◌, ℕ, ◌+◌, ◌≤◌, true, List, [], ◌∷◌, ◌++◌, length, take, drop, sym, ap, subst, ◌∙◌, append_assoc, append-nil, length-append, arith}
 use Rattle.std.proofs.lemmas.List.{take-append-drop}
 use Rattle.lisp_object.specs.declared.datum.Datum.{Datum}
+use Rattle.lisp_object.specs.Object.{IsSound}
 use Rattle.lisp_object.specs.Datum.{object_of, is_proper}
 use Rattle.form_reader.specs.declared.frame.Frame.{Frame}
 use Rattle.form_reader.specs.declared.limits.Limits.{Limits}
@@ -17,7 +18,8 @@ use Rattle.form_reader.specs.declared.turn.Turn.TheVariants.{Goes, Form as TurnF
 use Rattle.form_reader.specs.Setting.{Setting}
 use Rattle.form_reader.specs.Reading.{form, refused, reads}
 use Rattle.form_reader.specs.Turning.{rest_of, TurnsTo, IsReadyTurn, BeginsFrom}
-use Rattle.form_reader.specs.Reader.{fed, IsNew, IsAfter, IsAfterIn, Steps, BeginsLater, Takes}
+use Rattle.form_reader.specs.Reader.{fed, IsNew, IsAfter, IsAfterIn, Steps, BeginsLater, IsSoundStep, Takes}
+use Rattle.form_reader.proofs.Deciding.{may_go_on}
 use Rattle.form_reader.proofs.Forms.{reads_is}
 
 -- a reader that was fed nothing is after no bytes
@@ -47,6 +49,7 @@ module _ (setting : Setting) (old mid new : FormReader) (stage : Stage) (bytes :
       subst (λ (s : Step). Steps setting new fed_now s) (sym takes.0) (
         subst (λ (s : State). IsAfterIn setting new s fed_now) (sym takes.4) (omega (arith, many, takes.1, takes.2, ready.1, a.0), rest),
         omega (arith, many, takes.1, takes.2, ready.1, a.0),
+        may_go_on setting after st start at fed_now ready.0.place (omega (arith, many, ready.1, a.0)) (λ cs. one_more a cs ∙ turns cs),
       )
   stepped (TurnForm x start «end» next) (StepForm datum s e n) a turns ready takes same =
       let many : length fed_now ≡ length bytes + 1 = length-append bytes (byte ∷ []) in
@@ -104,13 +107,13 @@ module _ (under : Limits → Setting) (held handed : Limits) (old reader : FormR
   whole_text : take (k + 1) bytes ≡ front ++ byte ∷ [] → bytes ≡ (front ++ byte ∷ []) ++ drop (k + 1) bytes
   whole_text same = sym (take-append-drop (k + 1) bytes) ∙ ap (λ (t : List ℕ). t ++ drop (k + 1) bytes) same
 
-  pub decided_form : (datum : Datum) (start «end» next : ℕ) → step ≡ StepForm datum start «end» next → held ≡ handed → IsAfter (under handed) old front
+  pub decided_form : (datum : Datum) (start «end» next : ℕ) → step ≡ StepForm datum start «end» next → IsSoundStep step → held ≡ handed → IsAfter (under handed) old front
       → (IsAfter (under held) old front → Steps (under held) reader (front ++ byte ∷ []) step) → take (k + 1) bytes ≡ front ++ byte ∷ []
-      → (reads (under handed) bytes ≡ form (object_of datum) start «end» next) × (is_proper datum ≡ true)
-  decided_form datum start «end» next e limits after steps same =
+      → (reads (under handed) bytes ≡ form (object_of datum) start «end» next) × (is_proper datum ≡ true) × IsSound (object_of datum)
+  decided_form datum start «end» next e sound limits after steps same =
       let told : Steps (under handed) reader (front ++ byte ∷ []) (StepForm datum start «end» next) =
       subst (λ (s : Step). Steps (under handed) reader (front ++ byte ∷ []) s) e (under_limits limits after steps) in
-      (ap (reads (under handed)) (whole_text same) ∙ told.0 (drop (k + 1) bytes), told.1)
+      (ap (reads (under handed)) (whole_text same) ∙ told.0 (drop (k + 1) bytes), told.1, subst IsSoundStep e sound)
 
   pub decided_refusal : (code place : ℕ) → step ≡ StepRefused code place → held ≡ handed → IsAfter (under handed) old front
       → (IsAfter (under held) old front → Steps (under held) reader (front ++ byte ∷ []) step) → take (k + 1) bytes ≡ front ++ byte ∷ []

@@ -1,5 +1,6 @@
 -- A reader that takes a text one byte at a time: what it is after, and what it answers.
 use Rattle.std.specs.Prelude.{ℕ, ◌≡◌, ◌+◌, ◌≤◌, true, List, [], ◌++◌, length}
+use Rattle.lisp_object.specs.Object.{IsSound}
 use Rattle.lisp_object.specs.Datum.{object_of, is_proper}
 use Rattle.form_reader.specs.declared.limits.Limits.{Limits}
 use Rattle.form_reader.specs.declared.stage.Stage.TheVariants.{Object as AtObject}
@@ -36,6 +37,12 @@ HasRefused reader code place = reader.state ≡ Refused code place
 abbrev pub HasNoMemory : FormReader → Type 0
 HasNoMemory reader = reader.state ≡ OutOfMemory
 
+-- The outcome of a text that more bytes may change: it is empty, a form to the end of the text, or a refusal there.
+abbrev pub MayGoOn : List ℕ → Outcome → Type 0
+MayGoOn text empty = Unit {0}
+MayGoOn text (form x start «end» next) = next ≡ length text
+MayGoOn text (refused code place) = place ≡ length text
+
 -- It was fed nothing.
 pub record IsNew (reader : FormReader) : Type 0 where
   pub start : reader.start ≡ 0
@@ -55,11 +62,11 @@ IsAfterIn setting reader OutOfMemory bytes = ⊥
 abbrev pub IsAfter : Setting → FormReader → List ℕ → Type 0
 IsAfter setting reader bytes = IsAfterIn setting reader reader.state bytes
 
--- What a step answers, after which these bytes were fed: the reader is after them; or they begin with a form, or are refused,
+-- What a step answers, after which these bytes were fed: the reader is after them, and they decide nothing alone; or they begin with a form, or are refused,
 -- whatever follows them. Where the form's next is the number of bytes, the last byte was taken; where it is one less, that byte
 -- is for the next form. After a form the reader is new, and after no bytes, whatever is handed to it then.
 abbrev pub Steps : Setting → FormReader → List ℕ → Step → Type 0
-Steps setting reader bytes StepMore = IsAfter setting reader bytes × (fed reader ≡ length bytes)
+Steps setting reader bytes StepMore = IsAfter setting reader bytes × (fed reader ≡ length bytes) × MayGoOn bytes (reads setting bytes)
 Steps setting reader bytes (StepForm datum start «end» next) =
     ((cs : List ℕ) → reads setting (bytes ++ cs) ≡ form (object_of datum) start «end» next)
     × (is_proper datum ≡ true) × (next ≤ length bytes) × (length bytes ≤ next + 1) × IsNew reader × ((later : Setting) → IsAfter later reader [])
@@ -72,11 +79,16 @@ BeginsLater old new StepMore = (begun old ≤ begun new) × (begun new ≤ fed n
 BeginsLater old new (StepForm datum start «end» next) = (begun old ≤ start) × (begun new ≡ 0)
 BeginsLater old new (StepRefused code place) = begun new ≡ begun old
 
--- What is answered is the outcome.
+-- What is answered is the outcome, and the object of a form is sound.
 abbrev pub IsOutcome : ReadOutcome → Outcome → Type 0
-IsOutcome (ReadForm datum start «end» next) o = (o ≡ form (object_of datum) start «end» next) × (is_proper datum ≡ true)
+IsOutcome (ReadForm datum start «end» next) o = (o ≡ form (object_of datum) start «end» next) × (is_proper datum ≡ true) × IsSound (object_of datum)
 IsOutcome ReadEmpty o = o ≡ empty
 IsOutcome (ReadRefused code place) o = o ≡ refused code place
+
+-- of a form, the object is sound
+abbrev pub IsSoundStep : Step → Type 0
+IsSoundStep (StepForm datum start «end» next) = IsSound (object_of datum)
+IsSoundStep _ = Unit {0}
 
 -- what a turn makes of a reader, and what is answered
 abbrev pub Takes : Turn → FormReader → FormReader → Step → Type 0

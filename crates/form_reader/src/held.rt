@@ -4,6 +4,7 @@ ghost use Rattle.readtable_core.specs.Characters.{is_digit};
 ghost use Rattle.form_reader.specs.Gathering.{next_digit};
 ghost use Rattle.std.specs.List.{list_all};
 ghost use Rattle.lisp_object.specs.Ascii.{is_ascii};
+ghost use Rattle.lisp_object.specs.Object.{IsSound};
 ghost use Rattle.lisp_object.specs.Datum.{object_of, is_proper};
 
 use lisp_object::{Bytes, Datum, Items};
@@ -47,6 +48,17 @@ impl HeldObject {
         ensures proper { is_proper result ≡ true }
     {
         let HeldObject { datum } = self;
+        datum
+    }
+
+    /// The datum, moved out, and seen to be sound. It looks at each part of the object once.
+    pub(crate) fn into_sound_datum(self) -> Datum
+        ensures object { object_of result ≡ self }
+        ensures proper { is_proper result ≡ true }
+        ensures sound { IsSound (object_of result) }
+    {
+        let datum = self.into_datum();
+        let _proper = datum.is_proper();
         datum
     }
 }

@@ -6,7 +6,7 @@ ghost use Rattle.form_reader.specs.declared.way.Keep.{Keep};
 ghost use Rattle.form_reader.specs.Plans.{Plan, loop, run};
 ghost use Rattle.form_reader.specs.Setting.{Setting};
 ghost use Rattle.form_reader.specs.Gathering.{text_turn, line_turn, block_turn, number_turn};
-ghost use Rattle.form_reader.specs.Reading.{form, place_turn, place, items_turn, items_after, attempt, outcome, reads_at, reads, IsFramed};
+ghost use Rattle.form_reader.specs.Reading.{form, refused, place_turn, place, items_turn, items_after, attempt, outcome, reads_at, reads, IsFramed};
 ghost use Rattle.form_reader.specs.Fitting.{IsFitting};
 
 /// A form is read again, alone, from the bytes from its start up to its end. They are one byte or more, and with it at
@@ -28,6 +28,14 @@ pub fn forms_are_decided()
 pub fn forms_are_within_the_limit()
     ensures { (setting : Setting) (text : List ℕ) (x : Object) (start end next : ℕ)
         → reads setting text ≡ form x start end next → end - start ≤ setting.limits.text }
+{}
+
+/// A refusal is at the end of the text at most, and one before the end is the same whatever follows the text. So a reader
+/// may give it as soon as the byte at its place is there.
+pub fn refusals_are_decided()
+    ensures inside { (setting : Setting) (text : List ℕ) (code place : ℕ) → reads setting text ≡ refused code place → place ≤ length text }
+    ensures decided { (setting : Setting) (text more : List ℕ) (code place : ℕ)
+        → reads setting text ≡ refused code place → place < length text → reads setting (text ++ more) ≡ refused code place }
 {}
 
 /// A form with which a whitespace character was discarded is read again from its own bytes and this character, whatever

@@ -35,7 +35,8 @@
 //! - `objects`: a byte where an object may begin, after a token there, and in a token; what a token comes to
 //! - `attempt`, `macros`, `opening`: an attempt from its first byte on, and how a call begins
 //! - `deliver`, `close`: what open calls make of what is found, and how they end
-//! - `laws`: `forms_are_framed`, `spaced_forms_are_framed`, `forms_are_decided`, `reading_goes_on`
+//! - `laws`: `forms_are_framed`, `spaced_forms_are_framed`, `forms_are_decided`, `refusals_are_decided`, `forms_fit`,
+//!   `reading_goes_on`
 #![tactic(auto)]
 
 mod advance;
@@ -67,7 +68,8 @@ mod whole;
 
 pub use ending::ReadOutcome;
 pub use laws::{
-    forms_are_decided, forms_are_framed, forms_fit, reading_goes_on, spaced_forms_are_framed,
+    forms_are_decided, forms_are_framed, forms_fit, reading_goes_on, refusals_are_decided,
+    spaced_forms_are_framed,
 };
 pub use limits::Limits;
 pub use reader::{FormReader, Step};

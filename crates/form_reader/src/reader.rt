@@ -64,7 +64,7 @@ impl FormReader {
     ghost use Rattle.form_reader.specs.Reading.{reads};
     ghost use Rattle.form_reader.specs.declared.reader.Step.TheVariants.{Refused as StepRefused};
     ghost use Rattle.form_reader.specs.Turning.{IsReadyTurn, BeginsFrom};
-    ghost use Rattle.form_reader.specs.Reader.{limits_of, fed, begun, HasRefused, HasNoMemory, IsNew, IsAfter, Steps, BeginsLater, Takes, IsOutcome};
+    ghost use Rattle.form_reader.specs.Reader.{limits_of, fed, begun, HasRefused, HasNoMemory, IsNew, IsAfter, Steps, BeginsLater, IsSoundStep, Takes, IsOutcome};
 
     /// A reader that was fed nothing. It keeps `alloc` for what it gathers.
     pub fn new(alloc: Global, limits: Limits) -> FormReader
@@ -115,6 +115,7 @@ impl FormReader {
         ensures limits { limits_of self.new ≡ limits_of self.old }
         ensures fed { fed self.new ≤ fed self.old + 1 }
         ensures begun { IfOk result (BeginsLater self.old self.new) }
+        ensures sound { IfOk result IsSoundStep }
         ensures refused { (code place : ℕ) → HasRefused self.old code place
             → (result ≡ Ok (StepRefused code place)) × HasRefused self.new code place }
         ensures memory { OnErr result (HasNoMemory self.new) }
@@ -146,6 +147,7 @@ impl FormReader {
         requires ready { IsReadyTurn (limits_of self.old) self.old.frames (fed self.old + 1) turn }
         ensures limits { limits_of self.new ≡ limits_of self.old }
         ensures takes { Takes turn self.old self.new result }
+        ensures sound { IsSoundStep result }
     {
         match turn {
             Turn::Goes(start, at, stage) => {
@@ -159,7 +161,7 @@ impl FormReader {
                 self.at = 0;
                 self.state = State::Open(Stage::Object);
                 Step::Form {
-                    datum: x.into_datum(),
+                    datum: x.into_sound_datum(),
                     start,
                     end,
                     next,

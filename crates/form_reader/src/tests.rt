@@ -1,7 +1,7 @@
 //! Rows: forms, empty texts and refusals with their places, a byte at a time, and the laws.
 use crate::{
-    FormReader, Limits, ReadOutcome, Step, forms_are_decided, forms_are_framed, read_one,
-    reading_goes_on, spaced_forms_are_framed,
+    FormReader, Limits, ReadOutcome, Step, forms_are_decided, forms_are_framed, forms_fit,
+    read_one, reading_goes_on, refusals_are_decided, spaced_forms_are_framed,
 };
 use package_table::Packages;
 use readtable_core::Readtable;
@@ -23,6 +23,8 @@ fn limits_and_laws(rt: HostRuntime) {
     forms_are_framed();
     spaced_forms_are_framed();
     forms_are_decided();
+    refusals_are_decided();
+    forms_fit();
     reading_goes_on();
 }
 

@@ -10,7 +10,7 @@ returns-in-Form g c =
     let under : Limits → Setting = λ limits. setting_of limits c.args.readtable.now c.args.packages.now.0 c.args.current.now
     (g.R.MacroFunctions.registered c.args.macros.now) g.R.Meaning.Meaning.way g.R.Meaning.Meaning.answer in
     decided_form under c.loop-byte.reader.limits c.args.limits c.loop-byte.reader c.step.new.self c.args.bytes.now c.loop-byte.byte-index _ c.in_ok-step.field-0
-    c.in-Form.datum c.in-Form.start c.in-Form.end c.in-Form.next c.in-Form.is c.loop-byte.invariant.limits c.loop-byte.invariant.after
+    c.in-Form.datum c.in-Form.start c.in-Form.end c.in-Form.next c.in-Form.is c.in_ok-step.ensures.sound c.loop-byte.invariant.limits c.loop-byte.invariant.after
     (c.in_ok-step.ensures.steps (take c.loop-byte.byte-index c.args.bytes.now)) (take_more c.args.bytes.now c.loop-byte.byte-index 0 c.loop-byte-test.true)
 
 pub returns-in-Refused : goal.returns-in-Refused

@@ -1,0 +1,299 @@
+-- A refusal before the end of a text is that of each longer text. Where a reader waits for more, the bytes before decide nothing:
+-- a byte that is no character would be refused where it is.
+use Rattle.std.proofs.Common.{◌≡◌, ℕ, zero, suc, ◌+◌, ◌-◌, ◌<◌, ◌≤◌, Bool, true, false, List, [], ◌∷◌, ◌++◌, length, Option, Some, None, unwrap_or, Ok, Err, refl, sym, ap, subst, ◌∙◌, length-append, arith}
+use Rattle.std.specs.Prelude.{nat_le, nat_lt, ◌==◌, ◌&&◌, if◌then◌else◌}
+use Rattle.std.proofs.lemmas.Bool.{le-ltb, lt-leb, ne_eqb, ltb-true, ltb-false}
+use Rattle.std.proofs.lemmas.List.{get_or_past}
+use Rattle.lisp_object.specs.declared.refusal.TheConstants.{INVALID_CHARACTER, FORM_TOO_LONG}
+use Rattle.readtable_core.specs.Tables.{Table, Entry, no_entry, entry_at}
+use Rattle.readtable_core.specs.Characters.{is_digit}
+use Rattle.token_scan.specs.declared.mark.Mark.{Mark}
+use Rattle.token_scan.specs.declared.refusal.ScanRefusal.{ScanRefusal}
+use Rattle.token_scan.specs.declared.refusal.ScanRefusal.TheVariants.{InvalidCharacter}
+use Rattle.token_scan.specs.declared.stage.Stage.{Stage as ScanStage}
+use Rattle.token_scan.specs.declared.stage.Stage.TheVariants.{Outside, Inside, EscapedOutside, EscapedInside, Refused as ScanRefused}
+use Rattle.token_scan.specs.Tokens.{Scanned, fault as scan_fault, with_front, one_more, quoted, kind, typed, outside, inside}
+use Rattle.token_scan.specs.Scans.{Scan, from_stage}
+use Rattle.readtable_core.specs.declared.characters.Syntax.TheVariants.{Invalid}
+use Rattle.token_scan.proofs.Steps.{outside_invalid, inside_invalid}
+use Rattle.form_reader.specs.declared.found.Found.{Found}
+use Rattle.form_reader.specs.declared.found.Found.TheVariants.{Nothing as nothing, One as one, LoneDot as lone_dot, TheEnd as the_end}
+use Rattle.form_reader.specs.declared.frame.Frame.{Frame}
+use Rattle.form_reader.specs.declared.limits.Limits.{Limits}
+use Rattle.form_reader.specs.declared.stage.Stage.{Stage}
+use Rattle.form_reader.specs.declared.stage.Stage.TheVariants.{Object as AtObject, Token as AtToken, CallToken as AtCallToken, Text as AtText, Escaped as AtEscaped, Line as AtLine, Block as AtBlock, Number as AtNumber}
+use Rattle.form_reader.specs.declared.way.Keep.{Keep}
+use Rattle.form_reader.specs.Plans.{Plan, gives, refuses, takes, then_plan, character, next_byte, loop, Read, fault, within, run}
+use Rattle.form_reader.specs.Setting.{Setting}
+use Rattle.form_reader.specs.Feeding.{token_read, refused_number}
+use Rattle.form_reader.specs.Frames.{close_of, close_of_frames, place_in, call_in, given, between, token_goes_on}
+use Rattle.form_reader.specs.Gathering.{text_turn, kept, line_turn, block_turn}
+use Rattle.form_reader.specs.Reading.{Piece, Outcome, form, empty, refused, at_place, closed, or_closed, place_turn, place, stands_alone, alone, inner, attempt, outcome, reads_in, reads_at, reads, number_after, sub_there, dispatched}
+use Rattle.form_reader.specs.Resuming.{inner_at, stage_gives}
+use Rattle.form_reader.specs.Reader.{MayGoOn}
+use Rattle.form_reader.specs.Turning.{outcome_of, rest_of}
+use Rattle.form_reader.proofs.FedTokens.{cut, refused_cut}
+use Rattle.form_reader.proofs.Faults.{Decided, decided}
+use Rattle.form_reader.proofs.Fed.{number_ends}
+use Rattle.form_reader.proofs.Following.{Follows, follows, form_follows}
+use Rattle.form_reader.proofs.Forms.{first, form_framed, reads_is, the_end_there}
+use Rattle.form_reader.proofs.Language.{AreKept, FoundAt, outermost_keeps}
+use Rattle.form_reader.proofs.Opened.{given_fault, gathering_ends, gathering_fails}
+use Rattle.form_reader.proofs.Places.{Parts, parts}
+use Rattle.form_reader.proofs.Steps.{and_then, run_then}
+use Rattle.form_reader.proofs.Turns.{attempt_ends, loop_is, text_guarded, line_guarded, block_guarded, place_guarded}
+
+-- ---- refusals before the end
+
+-- nothing is asked of objects
+any : (setting : Setting) → AreKept setting (λ depth x. Unit {0})
+any setting = record { tokens = λ depth marks x e. tt; values = λ depth kind number material x h e. tt; answers = λ depth x le known deep. tt }
+
+first_decided : (setting : Setting) (text : List ℕ) → Decided 0 0 (0 + length text) (λ more. first setting (text ++ more)) (first setting text)
+first_decided setting text =
+    decided (FoundAt (λ depth x. Unit {0}) setting.limits.nesting) setting.table setting.limits (attempt setting setting.limits.nesting) false 0 text (omega arith)
+    (outermost_keeps setting (λ depth x. Unit {0}) (any setting))
+
+no_refusal : (setting : Setting) (n start code place : ℕ) → reads_in setting n start [] ≡ refused code place → ⊥
+unfolding reads_in
+no_refusal setting zero start code place e = cc
+no_refusal setting (suc n) start code place e =
+    let none : empty ≡ refused code place = sym (ap (outcome setting.table start (λ next cs. reads_in setting n next cs)) (the_end_there setting)) ∙ e in
+    cc
+
+module _ (setting : Setting) (code place : ℕ) where
+  -- it is at the end at most, and before it the same whatever follows
+  abbrev Stays : ℕ → List ℕ → Type 0
+  Stays start whole = (place ≤ start + length whole) × (place < start + length whole → (more : List ℕ) → reads_at setting start (whole ++ more) ≡ refused code place)
+
+  abbrev goes : ℕ → Read Found → Outcome
+  goes start r = outcome setting.table start (λ next cs. reads_at setting next cs) r
+
+  turn_stays : (again : ℕ → List ℕ → Outcome) (start : ℕ) (whole : List ℕ) (r : Read Found) → ((at : ℕ) → again at [] ≡ refused code place → ⊥)
+      → ((at : ℕ) (cs : List ℕ) → again at cs ≡ refused code place → Stays at cs) → Parts 0 whole r
+      → ((more : List ℕ) → Follows more (first setting (whole ++ more)) r) → Decided 0 0 (0 + length whole) (λ more. first setting (whole ++ more)) r
+      → outcome setting.table start again r ≡ refused code place → Stays start whole
+  turn_stays again start whole (Ok (nothing token, at, [])) never all p f d e = absurd (never (start + at) e)
+  turn_stays again start whole (Ok (nothing token, at, c ∷ cs)) never all p f d e =
+      let rest = all (start + at) (c ∷ cs) e in
+      let total : length whole ≡ length p.taken + suc (length cs) = ap length p.split ∙ length-append p.taken (c ∷ cs) in (
+        omega (arith, rest.0, total, p.place),
+        λ lt more. reads_is setting start (whole ++ more) ∙ ap (goes start) (f more) ∙ rest.1 (omega (arith, lt, total, p.place)) more,
+      )
+  turn_stays again start whole (Ok (one token x, at, cs)) never all p f d e = cc
+  turn_stays again start whole (Ok (lone_dot, at, [])) never all p f d e =
+      let here : start + at ≡ place = cc in
+      let total : length whole ≡ length p.taken + 0 = ap length p.split ∙ length-append p.taken [] in
+      (omega (arith, here, total, p.place), λ lt. absurd (omega (arith, lt, here, total, p.place)))
+  turn_stays again start whole (Ok (lone_dot, at, c ∷ cs)) never all p f d e =
+      let here : start + at ≡ place = cc in
+      let total : length whole ≡ length p.taken + suc (length cs) = ap length p.split ∙ length-append p.taken (c ∷ cs) in
+      (omega (arith, here, total, p.place), λ lt more. reads_is setting start (whole ++ more) ∙ ap (goes start) (f more) ∙ e)
+  turn_stays again start whole (Ok (the_end, at, cs)) never all p f d e = cc
+  turn_stays again start whole (Err f) never all p g d e =
+      let here : start + f.at ≡ place = cc in
+      (omega (arith, here, d.1), λ lt more. reads_is setting start (whole ++ more) ∙ ap (goes start) (d.2 (omega (arith, lt, here)) more) ∙ e)
+
+  stays : (n start : ℕ) (whole : List ℕ) → reads_in setting n start whole ≡ refused code place → Stays start whole
+  unfolding reads_in
+  stays zero start whole e = cc
+  stays (suc n) start whole e =
+      turn_stays (λ next cs. reads_in setting n next cs) start whole (first setting whole) (λ at. no_refusal setting n at code place) (λ at cs f. stays n at cs f)
+      (parts setting.table setting.limits (attempt setting setting.limits.nesting) 0 whole) (λ more. follows setting.table setting.limits (attempt setting setting.limits.nesting) 0 whole more)
+      (first_decided setting whole) e
+
+pub refusal_stays : (setting : Setting) (text : List ℕ) (code place : ℕ) → reads setting text ≡ refused code place
+    → (place ≤ length text) × (place < length text → (more : List ℕ) → reads setting (text ++ more) ≡ refused code place)
+unfolding reads
+refusal_stays setting text code place e =
+    let h = stays setting code place (length text + 1) 0 text e in
+    (omega (arith, h.0), λ lt more. h.1 (omega (arith, lt)) more)
+
+-- ---- a byte that is no character
+
+no_digit : (c : ℕ) → 128 ≤ c → is_digit c ≡ false
+no_digit c beyond = and_false (nat_le 48 c) (nat_le c 57) (lt-leb c 57 (omega arith))
+  where
+    and_false : (a b : Bool) → b ≡ false → (a && b) ≡ false
+    and_false true b e = e
+    and_false false b e = refl
+
+-- refused at this place
+abbrev Fails : {A : Type 0} → ℕ → Read A → Type 0
+Fails at r = (code : ℕ) × (r ≡ fault code at)
+
+-- a byte that no readtable has
+pub record IsAlien (setting : Setting) (close : Option ℕ) (c : ℕ) : Type 0 where
+  pub beyond : 128 ≤ c
+  pub none : length setting.table.entries ≤ c
+  pub other : unwrap_or close 0 < c
+
+alien_entry : (setting : Setting) (close : Option ℕ) (c : ℕ) → IsAlien setting close c → entry_at setting.table c ≡ no_entry
+alien_entry setting close c alien = get_or_past setting.table.entries c no_entry alien.none
+
+taken_fails : {A : Type 0} (table : Table) (limits : Limits) (other : Plan A) (test : ℕ → Bool) (on : ℕ → Plan A) (at c code : ℕ) → test c ≡ true → on c ≡ refuses code 1
+    → Fails at (run table limits (takes other test on) at (c ∷ []))
+unfolding run
+taken_fails {A = A} table limits other test on at c code passes refuses_it =
+    let back : at + 1 - 1 ≡ at = omega arith in
+    let read : Bool → Plan A → Read A = λ b p. elim b [ true ↦ within (nat_le limits.text at) at (run table limits p (at + 1) []) | false ↦ run table limits other at (c ∷ []) ] in
+    let whole : run table limits (takes other test on) at (c ∷ []) ≡ within (nat_le limits.text at) at (fault code (at + 1 - 1)) = (λ i. read (passes i) (refuses_it i)) in
+    elim (nat_le limits.text at) as (λ full. run table limits (takes other test on) at (c ∷ []) ≡ within full at (fault code (at + 1 - 1)) → Fails at (run table limits (takes other test on) at (c ∷ []))) [
+      | true ↦ λ e. (FORM_TOO_LONG, e)
+      | false ↦ λ e. (code, e ∙ ap (λ (n : ℕ). fault code n) back)
+    ] whole
+
+-- a byte that is not taken is left to the other plan
+passed : {A : Type 0} (table : Table) (limits : Limits) (other : Plan A) (test : ℕ → Bool) (on : ℕ → Plan A) (at c : ℕ) → test c ≡ false
+    → run table limits (takes other test on) at (c ∷ []) ≡ run table limits other at (c ∷ [])
+unfolding run
+passed {A = A} table limits other test on at c e =
+    let read : Bool → Read A = λ b. elim b [ true ↦ within (nat_le limits.text at) at (run table limits (on c) (at + 1) []) | false ↦ run table limits other at (c ∷ []) ] in
+    ap read e
+
+no_character : {A : Type 0} (on : ℕ → Plan A) (c : ℕ) → 128 ≤ c → character on c ≡ refuses INVALID_CHARACTER 1
+no_character {A = A} on c le =
+    let by : Bool → Plan A = λ b. elim b [ true ↦ on c | false ↦ refuses INVALID_CHARACTER 1 ] in
+    ap by (le-ltb c 128 le)
+
+next_fails : {A : Type 0} (table : Table) (limits : Limits) (on : ℕ → Plan A) (at c : ℕ) → 128 ≤ c → Fails at (run table limits (next_byte on) at (c ∷ []))
+next_fails table limits on at c le = taken_fails table limits (refuses 1 0) (λ d. true) (character on) at c INVALID_CHARACTER refl (no_character on c le)
+
+module _ (setting : Setting) (frames : List Frame) (at c : ℕ) where
+  abbrev reading : {A : Type 0} → Plan A → Read A
+  reading plan = run setting.table setting.limits plan at (c ∷ [])
+
+  gathering : {A : Type 0} (plan : Plan A) (on : A → Plan Found) → Fails at (reading plan) → Fails at (reading (given setting frames (then_plan plan on)))
+  gathering plan on h = (h.0, gathering_fails setting frames plan on (record { code = h.0; at = at }) at (c ∷ []) h.1)
+
+  -- ---- in a text, a line, a block and a number
+
+  module _ (le : at ≤ setting.limits.text) (beyond : 128 ≤ c) where
+    text_fails : (terminator : ℕ) (text : List ℕ) → Fails at (reading (loop setting.limits (text_turn setting.table terminator) text))
+    text_fails terminator text =
+        subst (Fails at) (sym (loop_is setting.table setting.limits (text_turn setting.table terminator) (text_guarded setting.table setting.limits terminator) text at (c ∷ []) le))
+        (next_fails setting.table setting.limits _ at c beyond)
+
+    line_fails : (keep : Keep) (text : List ℕ) → Fails at (reading (loop setting.limits (line_turn keep) text))
+    line_fails keep text =
+        let on : ℕ → Plan (List ℕ) = λ d. elim (d == 10) [ true ↦ gives text | false ↦ loop setting.limits (line_turn keep) (kept keep text d) ] in
+        subst (Fails at) (sym (loop_is setting.table setting.limits (line_turn keep) (line_guarded setting.table setting.limits keep) text at (c ∷ []) le))
+        (taken_fails setting.table setting.limits (gives text) (λ d. true) (character on) at c INVALID_CHARACTER refl (no_character on c beyond))
+
+    block_fails : (levels : ℕ × ℕ) → Fails at (reading (loop setting.limits block_turn levels))
+    block_fails levels =
+        subst (Fails at) (sym (loop_is setting.table setting.limits block_turn (block_guarded setting.table setting.limits) levels at (c ∷ []) le))
+        (next_fails setting.table setting.limits _ at c beyond)
+
+    number_stops : (number : Option ℕ) → reading (number_after setting number) ≡ Ok (number, at, c ∷ [])
+    number_stops number = number_ends setting.table setting.limits number at c [] le (no_digit c beyond)
+
+    number_fails : (character : ℕ) (number : Option ℕ) → Fails at (reading (given setting frames (dispatched setting (length frames) (inner_at setting (length frames)) character number)))
+    number_fails character number =
+        let sub = sub_there setting (length frames) (inner_at setting (length frames)) character number in
+        let h : Fails at (reading sub) = next_fails setting.table setting.limits _ at c beyond in (
+          h.0,
+          gathering_ends setting frames (number_after setting number) (sub_there setting (length frames) (inner_at setting (length frames)) character) number at at (c ∷ []) (c ∷ []) (number_stops number)
+              ∙ given_fault setting frames sub at (c ∷ []) (record { code = h.0; at = at }) h.1,
+        )
+
+    -- ---- where an object may begin
+
+    module _ (alien : entry_at setting.table c ≡ no_entry) where
+      attempt_fails : (depth : ℕ) → Fails at (reading (attempt setting depth))
+      attempt_fails depth =
+          taken_fails setting.table setting.limits _ (λ d. stands_alone (entry_at setting.table d).syntax)
+          (λ d. alone setting (setting.limits.nesting - depth) (inner setting depth) d (entry_at setting.table d).syntax) at c INVALID_CHARACTER
+          (ap (λ (e : Entry). stands_alone e.syntax) alien) (ap (λ (e : Entry). alone setting (setting.limits.nesting - depth) (inner setting depth) c e.syntax) alien)
+
+      then_fails : {A B : Type 0} (plan : Plan A) (on : A → Plan B) → Fails at (reading plan) → Fails at (reading (then_plan plan on))
+      then_fails plan on h = (h.0, run_then setting.table setting.limits plan on at (c ∷ []) ∙ ap (and_then setting.table setting.limits on) h.1)
+
+      closed_fails : (close : Option ℕ) (plan : Plan Piece) → unwrap_or close 0 < c → Fails at (reading plan) → Fails at (reading (or_closed close plan))
+      closed_fails None plan other h = h
+      closed_fails (Some k) plan other h = (h.0, passed setting.table setting.limits plan (λ d. d == k) (λ d. gives closed) at c (ne_eqb c k (λ e. omega (arith, e, other))) ∙ h.1)
+
+      place_fails : (depth : ℕ) (close : Option ℕ) → unwrap_or close 0 < c → Fails at (reading (place setting close (attempt setting depth)))
+      place_fails depth close other =
+          let may = attempt setting depth in
+          let again : Unit {0} → Plan Piece = λ u. place setting close may in
+          let turn = then_plan may (λ found. at_place setting.table (again tt) found) in
+          subst (Fails at) (sym (loop_is setting.table setting.limits (place_turn setting.table close may) (place_guarded setting.table setting.limits close may (attempt_ends setting _ _)) tt at (c ∷ []) le))
+          (closed_fails close turn other (then_fails may (λ found. at_place setting.table (again tt) found) (attempt_fails depth)))
+
+-- where the innermost call looks for this character
+between_fails : (setting : Setting) (frames : List Frame) (at c : ℕ) → at ≤ setting.limits.text → IsAlien setting (close_of_frames frames) c
+    → Fails at (run setting.table setting.limits (between setting frames) at (c ∷ []))
+between_fails setting [] at c le alien = attempt_fails setting [] at c le alien.beyond (alien_entry setting None c alien) setting.limits.nesting
+between_fails setting (f ∷ fs) at c le alien =
+    gathering setting fs at c (place_in setting f fs) (λ p. call_in setting f fs p)
+    (place_fails setting fs at c le alien.beyond (alien_entry setting (close_of f.part) c alien) (setting.limits.nesting - (length fs + 1)) (close_of f.part) alien.other)
+
+-- ---- in a token
+
+no_kind : (table : Table) (c : ℕ) → 128 ≤ c → kind (typed table c) ≡ Invalid
+no_kind table c beyond = ap (λ b. if b then (typed table c).syntax else Invalid) (le-ltb c 128 beyond)
+
+-- a token refuses it
+scan_fails : (table : Table) (c left at : ℕ) (stage : ScanStage) → 128 ≤ c → (refusal : ScanRefusal) × (from_stage stage left at (typed table c ∷ []) ≡ scan_fault refusal at)
+unfolding outside
+scan_fails table c left at Outside beyond = (InvalidCharacter, outside_invalid (typed table c) [] left at (no_kind table c beyond))
+scan_fails table c left at Inside beyond = (InvalidCharacter, inside_invalid (typed table c) [] left at (no_kind table c beyond))
+scan_fails table c left at EscapedOutside beyond = (InvalidCharacter, ap (λ b. if b then one_more left at (λ left. quoted c (outside left (at + 1) [])) else scan_fault InvalidCharacter at) (le-ltb c 128 beyond))
+scan_fails table c left at EscapedInside beyond = (InvalidCharacter, ap (λ b. if b then one_more left at (λ left. quoted c (inside left (at + 1) [])) else scan_fault InvalidCharacter at) (le-ltb c 128 beyond))
+scan_fails table c left at (ScanRefused refusal) beyond = (refusal, refl)
+
+token_fails : (setting : Setting) (frames : List Frame) (on : List Mark → Plan Found) (scan : Scan) (at c : ℕ) → at ≤ setting.limits.text → 128 ≤ c
+    → Fails at (token_goes_on setting frames on (token_read setting.table setting.limits scan at (c ∷ [])))
+token_fails setting frames on scan at c le beyond =
+    let h = scan_fails setting.table c scan.left at scan.stage beyond in (
+      refused_number setting.limits.text h.0 at,
+      ap (token_goes_on setting frames on) (ap (λ (r : Scanned). cut setting.limits.text (with_front scan.marks r)) h.1 ∙ refused_cut setting.limits.text h.0 at le),
+    )
+
+-- ---- at each stage
+
+stage_fails : (setting : Setting) (frames : List Frame) (stage : Stage) (at c : ℕ) → at ≤ setting.limits.text → IsAlien setting (close_of_frames frames) c
+    → Fails at (stage_gives setting frames stage at (c ∷ []))
+stage_fails setting frames AtObject at c le alien = between_fails setting frames at c le alien
+stage_fails setting frames (AtToken scan) at c le alien = token_fails setting frames _ scan at c le alien.beyond
+stage_fails setting frames (AtCallToken call scan) at c le alien = token_fails setting frames _ scan at c le alien.beyond
+stage_fails setting frames (AtText call terminator text) at c le alien = gathering setting frames at c _ _ (text_fails setting frames at c le alien.beyond terminator text)
+stage_fails setting frames (AtEscaped call terminator text) at c le alien = gathering setting frames at c _ _ (next_fails setting.table setting.limits _ at c alien.beyond)
+stage_fails setting frames (AtLine call keep text) at c le alien = gathering setting frames at c _ _ (line_fails setting frames at c le alien.beyond keep text)
+stage_fails setting frames (AtBlock call levels) at c le alien = gathering setting frames at c _ _ (block_fails setting frames at c le alien.beyond levels)
+stage_fails setting frames (AtNumber character number) at c le alien = number_fails setting frames at c le alien.beyond character number
+
+-- ---- where a reader waits for more
+
+-- what one byte more refuses at the end decided nothing before
+undecided : (setting : Setting) (bytes : List ℕ) (c code : ℕ) (o : Outcome) → reads setting bytes ≡ o → reads setting (bytes ++ c ∷ []) ≡ refused code (length bytes) → MayGoOn bytes o
+undecided setting bytes c code empty e next = tt
+undecided setting bytes c code (form x start «end» last) e next =
+    let framed = form_framed setting bytes x start «end» last e in
+    by (nat_lt «end» (length bytes)) refl
+  where
+    by : (b : Bool) → nat_lt «end» (length bytes) ≡ b → last ≡ length bytes
+    by true is =
+        let same : form x start «end» last ≡ refused code (length bytes) = sym (form_follows setting bytes (c ∷ []) x start «end» last e (ltb-true «end» (length bytes) is)) ∙ next in
+        cc
+    by false is =
+        let framed = form_framed setting bytes x start «end» last e in
+        omega (arith, framed.after, framed.inside, ltb-false «end» (length bytes) is)
+undecided setting bytes c code (refused number place) e next =
+    let h = refusal_stays setting bytes number place e in
+    by (nat_lt place (length bytes)) refl
+  where
+    by : (b : Bool) → nat_lt place (length bytes) ≡ b → place ≡ length bytes
+    by true is =
+        let same : refused number place ≡ refused code (length bytes) = sym ((refusal_stays setting bytes number place e).1 (ltb-true place (length bytes) is) (c ∷ [])) ∙ next in
+        cc
+    by false is = omega (arith, (refusal_stays setting bytes number place e).0, ltb-false place (length bytes) is)
+
+pub may_go_on : (setting : Setting) (frames : List Frame) (stage : Stage) (start at : ℕ) (bytes : List ℕ) → at ≤ setting.limits.text → start + at ≡ length bytes
+    → ((cs : List ℕ) → reads setting (bytes ++ cs) ≡ rest_of setting frames stage start at cs) → MayGoOn bytes (reads setting bytes)
+may_go_on setting frames stage start at bytes le count rest =
+    let c = 128 + length setting.table.entries + unwrap_or (close_of_frames frames) 0 + 1 in
+    let h = stage_fails setting frames stage at c le (record { beyond = omega arith; none = omega arith; other = omega arith }) in
+    undecided setting bytes c h.0 (reads setting bytes) refl
+    (rest (c ∷ []) ∙ ap (outcome_of setting start) h.1 ∙ ap (λ (n : ℕ). refused h.0 n) count)
