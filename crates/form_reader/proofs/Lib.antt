@@ -33,3 +33,4 @@ pub mod Fittings
 pub mod TokenFaults
 pub mod Faults
 pub mod Deciding
+pub mod Numbers

@@ -2,11 +2,12 @@
 ghost use Rattle.std.specs.Prelude.{◌≡◌, ◌≤◌, ◌<◌, ◌++◌, ◌-◌, ℕ, List, Option, length, take, drop};
 ghost use Rattle.lisp_object.specs.Object.{Object};
 ghost use Rattle.package_table.specs.Table.{IsSound};
+ghost use Rattle.lisp_object.specs.declared.refusal.TheConstants.{END_OF_FILE, OUT_OF_PROFILE};
 ghost use Rattle.form_reader.specs.declared.way.Keep.{Keep};
 ghost use Rattle.form_reader.specs.Plans.{Plan, loop, run};
 ghost use Rattle.form_reader.specs.Setting.{Setting};
 ghost use Rattle.form_reader.specs.Gathering.{text_turn, line_turn, block_turn, number_turn};
-ghost use Rattle.form_reader.specs.Reading.{form, refused, place_turn, place, items_turn, items_after, attempt, outcome, reads_at, reads, IsFramed};
+ghost use Rattle.form_reader.specs.Reading.{form, place_turn, place, items_turn, items_after, attempt, outcome, refused, reads_at, reads, IsFramed};
 ghost use Rattle.form_reader.specs.Fitting.{IsFitting};
 
 /// A form is read again, alone, from the bytes from its start up to its end. They are one byte or more, and with it at
@@ -78,4 +79,10 @@ pub fn reading_goes_on()
     ensures number { (setting : Setting) (number : Option ℕ) (at : ℕ) (cs : List ℕ) → at ≤ setting.limits.text
         → run setting.table setting.limits (loop setting.limits number_turn number) at cs
         ≡ run setting.table setting.limits (number_turn (loop setting.limits number_turn) number) at cs }
+{}
+
+/// A text is refused under a number of reading alone, 1 to 25, whatever the functions of users answer.
+pub fn refusals_are_of_reading()
+    ensures { (setting : Setting) (text : List ℕ) (code place : ℕ)
+        → reads setting text ≡ refused code place → (END_OF_FILE ≤ code) × (code ≤ OUT_OF_PROFILE) }
 {}

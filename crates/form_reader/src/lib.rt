@@ -68,8 +68,8 @@ mod whole;
 
 pub use ending::ReadOutcome;
 pub use laws::{
-    forms_are_decided, forms_are_framed, forms_fit, reading_goes_on, refusals_are_decided,
-    spaced_forms_are_framed,
+    forms_are_decided, forms_are_framed, forms_are_within_the_limit, forms_fit, reading_goes_on,
+    refusals_are_decided, refusals_are_of_reading, spaced_forms_are_framed,
 };
 pub use limits::Limits;
 pub use reader::{FormReader, Step};

@@ -4,7 +4,11 @@ use Rattle.std.proofs.lemmas.List.{length-take-le}
 use Rattle.std.proofs.lemmas.Bool.{eq-eqb, ne_eqb}
 use Rattle.disk_trait.specs.Disk.{State}
 use Rattle.lisp_object.specs.Object.{Object}
-use Rattle.lisp_object.specs.Datum.{object_of}
+use Rattle.lisp_object.specs.declared.datum.Datum.{Datum}
+use Rattle.lisp_object.specs.Datum.{object_of, is_proper}
+use Rattle.form_reader.specs.declared.ending.ReadOutcome.{ReadOutcome}
+use Rattle.form_reader.specs.declared.ending.ReadOutcome.TheVariants.{Form as ReadForm}
+use Rattle.form_reader.specs.Reader.{IsOutcome}
 use Rattle.lisp_object.specs.declared.refusal.TheConstants.{NO_MEMORY, TEXT_LEFT_OVER}
 use Rattle.form_eval.specs.Acceptance.{accept}
 use Rattle.form_eval.specs.Evaluated.{done}
@@ -32,6 +36,11 @@ pub length-between : (start «end» : ℕ) (text : List ℕ) → «end» ≤ len
 length-between start «end» text within =
     let room : «end» - start ≤ length (drop start text) = rw (length-drop start text) (omega arith) in
     length-take-le («end» - start) (drop start text) room
+
+-- what the reader answered as a form was read as this form
+pub form_read : (o : ReadOutcome) (read : Reading) (datum : Datum) (start «end» next : ℕ) → IsOutcome o read → o ≡ ReadForm datum start «end» next
+    → (read ≡ form (object_of datum) start «end» next) × (is_proper datum ≡ true)
+form_read o read datum start «end» next is form_is = subst (λ (p : ReadOutcome). IsOutcome p read) form_is is
 
 module _ (functions : Functions) where
   -- acceptance, by what was read

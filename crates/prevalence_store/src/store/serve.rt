@@ -1,5 +1,5 @@
 // A session: forms from a reader, answers to a writer.
-ghost use Rattle.std.specs.Prelude.{◌≡◌, ◌≤◌, ◌<◌, ◌+◌, ◌^◌, ℕ, List, [], ◌∷◌, ◌++◌, None, Some, IsSome, IsNone, IfOk, true, length};
+ghost use Rattle.std.specs.Prelude.{◌≡◌, ◌≤◌, ◌<◌, ◌+◌, ◌^◌, ℕ, List, [], ◌∷◌, ◌++◌, None, Some, IsSome, IsNone, IfOk, OnOk, OnErr, true, length};
 ghost use Rattle.std.specs.List.{list_all};
 ghost use Rattle.lisp_object.specs.Datum.{object_of, is_proper};
 ghost use Rattle.lisp_object.specs.declared.refusal.TheConstants.{REOPEN};
@@ -9,12 +9,13 @@ ghost use Rattle.form_reader.specs.Reader.{fed};
 ghost use Rattle.prevalence_store.specs.Functions.{functions_of};
 ghost use Rattle.prevalence_store.specs.Pending.{IsPending, IsProperFed, Feeds, Finishes};
 ghost use Rattle.prevalence_store.specs.Serving.{Serves, ServesInput};
+ghost use Rattle.prevalence_store.specs.Streams.{Writes, WritesPart};
 ghost use Rattle.prevalence_store.specs.Turns.{Answers, AnswersFault, AnswersForm, BeginsWith, TurnsInto};
 
 use crate::input::{Fed, Pending};
 use crate::mode::Mode;
 use crate::outcome::Ending;
-use crate::output::{line_of_answer, line_of_refusal, write_text};
+use crate::output::{OutputFault, line_of_answer, line_of_refusal, write_text};
 use crate::store::Store;
 use crate::turn::Turn;
 use disk_trait::Disk;
@@ -247,7 +248,7 @@ impl<D: Disk, R: MacroFunctions> Store<D, R> {
         let Ok(line) = line_of_refusal(self.alloc, number) else {
             return Ending::Store(NO_MEMORY);
         };
-        match write_text(writer, line.as_slice()) {
+        match write_line(writer, line.as_slice()) {
             Ok(()) => Ending::Reader(number),
             Err(_) => Ending::Store(OUTPUT),
         }
@@ -279,9 +280,19 @@ impl<D: Disk, R: MacroFunctions> Store<D, R> {
             Ok(line) => line,
             Err(number) => return Some(Ending::Store(number)),
         };
-        match write_text(writer, line.as_slice()) {
+        match write_line(writer, line.as_slice()) {
             Ok(()) => None,
             Err(_) => Some(Ending::Store(OUTPUT)),
         }
     }
+}
+
+// Writes a line whole, or a part of it from its front, and flushes what was written whole.
+fn write_line<W: Write>(writer: &mut W, line: &[u8]) -> Result<(), OutputFault>
+    ensures whole { OnOk result (Writes (W.contents writer.old) (W.contents writer.new) line.now) }
+    ensures part { OnErr result (WritesPart (W.contents writer.old) (W.contents writer.new) line.now) }
+{
+    write_text(writer, line)?;
+    let _flushed = writer.flush();
+    Ok(())
 }
