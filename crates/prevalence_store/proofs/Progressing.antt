@@ -82,6 +82,7 @@ module _ {D R : Type 0} (state : D → State) (sound : (d : D) → IsHonest (sta
     size = size_both q.taken new.size second.size;
     fits = let first_fits = first.fits in let second_fits = second.fits in let limit = first.limit in omega arith;
     limit = second.limit ∙ first.limit;
+    macros = second.macros ∙ first.macros;
     described = described_both q.taken second.described;
     other = other_both second.other;
     failures = second.failures ∙ first.failures;
@@ -164,6 +165,7 @@ module _ (functions : Functions) where
       size = size_both state sound old mid new p first.after honest answered.taken new.size stopped.size;
       fits = fits_both state sound old mid new p first.after honest far.taken stopped.fits;
       limit = stopped.limit ∙ first.after.limit;
+      macros = stopped.macros ∙ first.after.macros;
       other = other_both state sound old mid new p first.after honest stopped.other;
       failures = stopped.failures ∙ ap (λ n. n + 1) first.after.failures;
     })

@@ -33,10 +33,10 @@ pub record BeginsWith (functions : Functions) (world : World) (mode : Mode) (tex
   pub is_own : own ≡ between start stop text
 
 module _ (functions : Functions) {D R : Type 0} (state : D → State) (old new : Session D R) (world : World) (mode : Mode) where
-  -- the form that the text begins with was answered; or the session has ended in it
-  abbrev pub AnswersForm : List ℕ → Option (List ℕ) → Option (List ℕ) → Option Ending → Type 0
+  -- the form that the text begins with was answered; or the session has ended in it, with this number
+  abbrev pub AnswersForm : List ℕ → Option (List ℕ) → Option (List ℕ) → Option ℕ → Type 0
   AnswersForm text held written None = (far : Progress) × Advances functions state old new world mode text held written 1 far
-  AnswersForm text held written (Some ending) = Serves functions state old new world mode text held written ending
+  AnswersForm text held written (Some number) = Serves functions state old new world mode text held written (Store number)
 
 -- A reader refusal ends the session: its line was written, or the writer failed in it, or there was no memory for it.
 abbrev pub AnswersFault : ℕ → Option (List ℕ) → Option (List ℕ) → Ending → Type 0

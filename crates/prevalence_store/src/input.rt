@@ -6,7 +6,7 @@ ghost use Rattle.readtable_core.specs.Names.{is_among};
 ghost use Rattle.plist_state.specs.State.{State as LispWorld};
 ghost use Rattle.form_reader.specs.Reader.{fed, begun, limits_of, IsAfter, Steps, BeginsLater, IsOutcome};
 ghost use Rattle.prevalence_store.specs.Acceptance.{form_limits, read_in, setting_in};
-ghost use Rattle.prevalence_store.specs.Functions.{functions_of};
+ghost use Rattle.prevalence_store.specs.Functions.{Functions, functions_of};
 ghost use Rattle.prevalence_store.specs.Pending.{IsPending, IsProperFed, Feeds, Finishes};
 
 use crate::mode::Mode;

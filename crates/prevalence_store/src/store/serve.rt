@@ -163,7 +163,7 @@ impl<D: Disk, R: MacroFunctions> Store<D, R> {
             Fed::Refused(code) => Turn::Ended(self.answer_fault(writer, code)),
             Fed::Form { datum, own, left } => {
                 match self.answer_form(writer, mode, &datum, own.as_slice()) {
-                    Some(ending) => Turn::Ended(ending),
+                    Some(number) => Turn::Ended(Ending::Store(number)),
                     None => {
                         if left {
                             Turn::Left
@@ -217,7 +217,7 @@ impl<D: Disk, R: MacroFunctions> Store<D, R> {
             Fed::Refused(code) => self.answer_fault(writer, code),
             Fed::Form { datum, own, .. } => {
                 match self.answer_form(writer, mode, &datum, own.as_slice()) {
-                    Some(ending) => ending,
+                    Some(number) => Ending::Store(number),
                     None => Ending::End,
                 }
             }
@@ -254,14 +254,15 @@ impl<D: Disk, R: MacroFunctions> Store<D, R> {
         }
     }
 
-    // Evaluates a form that was read, logs it where it writes, and answers it.
+    // Evaluates a form that was read, logs it where it writes, and answers it. Gives the number of the fault that ends the
+    // session in it.
     fn answer_form<W: Write>(
         &mut self,
         writer: &mut W,
         mode: Mode,
         datum: &Datum,
         own: &[u8],
-    ) -> Option<Ending>
+    ) -> Option<u16>
         requires known { IsSome self.old.world }
         requires read { (w : LispWorld) → self.old.world ≡ Some w → (text : List ℕ) × ((next : ℕ)
             × BeginsWith (functions_of R.Meaning.names R.Meaning.way R.Meaning.answer) w mode text (object_of datum.now) own.now next) }
@@ -278,11 +279,11 @@ impl<D: Disk, R: MacroFunctions> Store<D, R> {
         let answer = self.take_form(mode, datum, own);
         let line = match line_of_answer(self.alloc, &self.world, &answer) {
             Ok(line) => line,
-            Err(number) => return Some(Ending::Store(number)),
+            Err(number) => return Some(number),
         };
         match write_line(writer, line.as_slice()) {
             Ok(()) => None,
-            Err(_) => Some(Ending::Store(OUTPUT)),
+            Err(_) => Some(OUTPUT),
         }
     }
 }

@@ -1,0 +1,160 @@
+-- How what was answered joins, and that it stays whatever follows the text.
+use Rattle.std.proofs.Common.{◌≡◌, ℕ, ◌+◌, ◌-◌, ◌<◌, ◌≤◌, Bool, true, false, cond, List, [], ◌∷◌, ◌++◌, length, take, drop, Option, None, Some, IsSome, refl, sym, ap, subst, ◌∙◌, append_assoc, append-nil, length-append, arith}
+use Rattle.disk_trait.specs.Disk.{State, IsHonest, IsSound}
+use Rattle.lisp_object.specs.Object.{Object}
+use Rattle.lisp_object.specs.declared.refusal.TheConstants.{NO_MEMORY}
+use Rattle.plist_state.specs.State.{State as World}
+use Rattle.form_reader.specs.Reading.{refused}
+use Rattle.prevalence_store.specs.declared.input.Pending.{Pending}
+use Rattle.prevalence_store.specs.declared.mode.Mode.{Mode}
+use Rattle.prevalence_store.specs.declared.outcome.Ending.{Ending}
+use Rattle.prevalence_store.specs.declared.outcome.Ending.TheVariants.{End, Reader, Store}
+use Rattle.prevalence_store.specs.Acceptance.{read_in}
+use Rattle.prevalence_store.specs.Functions.{Functions}
+use Rattle.prevalence_store.specs.Output.{Progress, after_forms, begun, onward}
+use Rattle.prevalence_store.specs.Pending.{IsPending, HasRefusal}
+use Rattle.prevalence_store.specs.Serving.{Advances, IsAfter, Serves, StaysRefused}
+use Rattle.prevalence_store.specs.Session.{Session}
+use Rattle.prevalence_store.specs.Turns.{Answers, AnswersFault, GoesOn, HasEnded, StaysEnded}
+use Rattle.prevalence_store.proofs.Progressing.{advance_both, forms_onward, serve_both}
+use Rattle.prevalence_store.proofs.Surviving.{unchanged_survives}
+use Rattle.prevalence_store.proofs.Turning.{after_none, fault_answered, no_memory, nothing, writes_nothing}
+
+-- with more text after what is left
+abbrev pub longer : Progress → List ℕ → Progress
+longer far more = record far { rest = far.rest ++ more }
+
+module _ (functions : Functions) {D R : Type 0} (state : D → State) where
+  after_longer : (old new : Session D R) (far : Progress) (more : List ℕ) → IsAfter state old new far → IsAfter state old new (longer far more)
+  after_longer old new far more a = record {
+    left = a.left;
+    half = a.half;
+    generation = a.generation;
+    record_count = a.record_count;
+    size = a.size;
+    fits = a.fits;
+    limit = a.limit;
+    macros = a.macros;
+    described = a.described;
+    other = a.other;
+    failures = a.failures;
+    untouched = a.untouched;
+  }
+
+  -- the same forms, of a text that goes on
+  pub extended : (old new : Session D R) (w : World) (mode : Mode) (text : List ℕ) (a b : Option (List ℕ)) (pending : Pending) (left more : List ℕ)
+      → GoesOn functions state old new w mode text a b pending left → GoesOn functions state old new w mode (text ++ more) a b pending (left ++ more)
+  extended old new w mode text a b pending left more goes = record {
+    forms = goes.forms;
+    far = longer goes.far more;
+    advances = record {
+      far_is = goes.stays more;
+      lines = goes.advances.lines;
+      after = after_longer old new goes.far more goes.advances.after;
+      survives = goes.advances.survives;
+    };
+    stays = λ others. ap (after_forms functions goes.forms w mode) (append_assoc text more others) ∙ goes.stays (more ++ others)
+        ∙ ap (λ rest. Some (record goes.far { rest = rest })) (sym (append_assoc goes.far.rest more others));
+    bytes = goes.bytes;
+    rest = ap (λ t. t ++ more) goes.rest ∙ append_assoc goes.bytes left more;
+    is_pending = goes.is_pending;
+  }
+
+  -- nothing was answered yet
+  pub nothing_answered : ((d : D) → IsHonest (state d) → IsSound (state d)) → (old : Session D R) (w : World) (mode : Mode) (text : List ℕ) (held : Option (List ℕ)) (pending : Pending)
+      → old.world ≡ Some w → IsPending functions w mode pending text → GoesOn functions state old old w mode text held held pending []
+  nothing_answered sound old w mode text held pending known is = record {
+    forms = 0;
+    far = begun w text;
+    advances = record {
+      far_is = refl;
+      lines = writes_nothing held held refl;
+      after = after_none functions state sound old old w mode text held held known text [] refl;
+      survives = unchanged_survives functions state sound old old w refl;
+    };
+    stays = λ more. refl;
+    bytes = text;
+    rest = sym (append-nil text);
+    is_pending = is;
+  }
+
+  -- what is pending after it
+  pub pending_again : (old new : Session D R) (w : World) (mode : Mode) (text : List ℕ) (a b : Option (List ℕ)) (pending : Pending) (left : List ℕ)
+      → GoesOn functions state old new w mode text a b pending left → (v : World) → new.world ≡ Some v → (bytes : List ℕ) × IsPending functions v mode pending bytes
+  pending_again old new w mode text a b pending left goes v known =
+      let same : goes.far.world ≡ v = let left_is = goes.advances.after.left in cc in
+      (goes.bytes, subst (λ u. IsPending functions u mode pending goes.bytes) same goes.is_pending)
+
+  -- the session ended before any answer, whatever follows the text
+  pub ends_at_once : (old new : Session D R) (w : World) (mode : Mode) (text : List ℕ) (a b : Option (List ℕ)) (number : ℕ)
+      → Serves functions state old new w mode text a b (Store number) → HasEnded functions state old new w mode text a b (Store number)
+  ends_at_once old new w mode text a b number serves = record { serves = serves; stays = tt }
+
+  -- the reader refused the text, whatever follows it
+  pub fault_ended : (sound : (d : D) → IsHonest (state d) → IsSound (state d)) (old new : Session D R) (w : World) (mode : Mode) (text : List ℕ) (a b : Option (List ℕ)) (pending : Pending)
+      (number : ℕ) → old.world ≡ Some w → HasRefusal functions w mode text number → new ≡ old → (ending : Ending) → AnswersFault number a b ending
+      → Answers functions state old new w mode text a b pending (Some ending)
+  unfolding fault_answered nothing
+  fault_ended sound old new w mode text a b pending number known refuses same ending answers more = record {
+    serves = fault_answered functions state sound old new w mode (text ++ more) a b known number refuses.place (refuses.reads more) same ending answers;
+    stays = by_ending ending answers;
+  } where
+    by_ending : (e : Ending) (is : AnswersFault number a b e)
+        → StaysEnded functions state old new w mode (text ++ more) a b e
+        (fault_answered functions state sound old new w mode (text ++ more) a b known number refuses.place (refuses.reads more) same e is)
+    by_ending End is = absurd is
+    by_ending (Reader code) is = λ others.
+        (refl, refuses.place, ap (read_in functions w mode) (append_assoc text more others) ∙ refuses.reads (more ++ others) ∙ ap (λ n. refused n refuses.place) (sym is.0))
+    by_ending (Store code) is = tt
+
+  -- ---- one after the other
+
+  module _ (sound : (d : D) → IsHonest (state d) → IsSound (state d)) (old mid new : Session D R) (w : World) (mode : Mode) (a b c : Option (List ℕ)) (pending : Pending)
+      (honest : (state mid.disk).honest ≡ (state old.disk).honest) where
+    module _ (text : List ℕ) (left : List ℕ) (first : GoesOn functions state old mid w mode text a b pending left) where
+      abbrev p : Progress
+      p = first.far
+
+      abbrev rest : List ℕ
+      rest = first.bytes ++ left
+
+      goes_on_both : (after : Pending) (others : List ℕ) → GoesOn functions state mid new p.world mode rest b c after others
+          → GoesOn functions state old new w mode text a c after others
+      goes_on_both after others second = record {
+        forms = second.forms + first.forms;
+        far = onward p second.far;
+        advances = advance_both functions state sound old mid new w mode text a b c first.forms p first.advances honest second.forms (second.forms + first.forms) second.far refl
+            (subst (λ t. Advances functions state mid new p.world mode t b c second.forms second.far) (sym first.rest) second.advances);
+        stays = λ more. forms_onward functions second.forms first.forms (second.forms + first.forms) w mode (text ++ more) (longer p more) (longer second.far more) refl (first.stays more)
+            (ap (λ t. after_forms functions second.forms p.world mode (t ++ more)) first.rest ∙ second.stays more);
+        bytes = second.bytes;
+        rest = second.rest;
+        is_pending = second.is_pending;
+      }
+
+      serves_both : (ending : Ending) → HasEnded functions state mid new p.world mode p.rest b c ending → HasEnded functions state old new w mode text a c ending
+      unfolding serve_both
+      serves_both ending second = record {
+        serves = serve_both functions state sound old mid new w mode text a b c first.forms p first.advances honest ending second.serves;
+        stays = by_ending ending second;
+      } where
+        by_ending : (e : Ending) (is : HasEnded functions state mid new p.world mode p.rest b c e)
+            → StaysEnded functions state old new w mode text a c e
+            (serve_both functions state sound old mid new w mode text a b c first.forms p first.advances honest e is.serves)
+        by_ending End is = tt
+        by_ending (Reader code) is = λ more.
+            (forms_onward functions is.serves.forms first.forms (is.serves.forms + first.forms) w mode (text ++ more) (longer p more) (longer is.serves.far more) refl (first.stays more)
+                (is.stays more).0,
+                (is.stays more).1)
+        by_ending (Store code) is = tt
+
+      pub ended_both : (ending : Ending) → HasEnded functions state mid new p.world mode rest b c ending → HasEnded functions state old new w mode text a c ending
+      ended_both ending second = serves_both ending (subst (λ t. HasEnded functions state mid new p.world mode t b c ending) (sym first.rest) second)
+
+    -- what was answered, and what became of what was left
+    pub answers_both : (text left : List ℕ) (first : GoesOn functions state old mid w mode text a b pending left) (after : Pending) (result : Option Ending)
+        → Answers functions state mid new first.far.world mode (first.bytes ++ left) b c after result → Answers functions state old new w mode text a c after result
+    answers_both text left first after None second = goes_on_both text left first after [] second
+    answers_both text left first after (Some ending) second = λ more.
+        ended_both (text ++ more) (left ++ more) (extended old mid w mode text a b pending left more first) ending
+        (subst (λ t. HasEnded functions state mid new first.far.world mode t b c ending) (append_assoc first.bytes left more) (second more))
