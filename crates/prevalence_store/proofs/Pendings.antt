@@ -1,18 +1,36 @@
 -- What is pending of a session.
-use Rattle.std.proofs.Common.{◌≡◌, ℕ, ◌+◌, ◌-◌, ◌<◌, ◌≤◌, true, false, Bool, cond, List, [], ◌∷◌, ◌++◌, length, take, drop, Option, Some, IsTrue, Result, Ok, Err, refl, sym, ap, subst, ◌∙◌, arith, append_assoc, append-nil, length-append, length-drop}
+use Rattle.std.proofs.Common.{◌≡◌, ℕ, suc, ◌+◌, ◌-◌, ◌<◌, ◌≤◌, true, false, Bool, cond, List, [], ◌∷◌, ◌++◌, length, take, drop, Option, Some, IsTrue, Result, Ok, Err, nat_lt, refl, sym, ap, subst, ◌∙◌, arith, append_assoc, append-nil, length-append, length-drop}
 use Rattle.std.specs.List.{list_all}
+use Rattle.std.proofs.lemmas.Bool.{ltb-true, ltb-false}
+use Rattle.std.proofs.lemmas.List.{drop-append-le}
 use Rattle.lisp_object.specs.Object.{Object}
+use Rattle.lisp_object.specs.Datum.{object_of, is_proper}
+use Rattle.lisp_object.specs.declared.datum.Datum.{Datum}
 use Rattle.readtable_core.specs.Names.{is_among}
 use Rattle.readtable_core.specs.Tables.{Table}
 use Rattle.package_table.specs.Table.{Name, Table as Packages}
 use Rattle.user_macros.specs.declared.call.Gather.{Gather}
 use Rattle.user_macros.specs.Calls.{MacroCall, MacroAnswer}
+use Rattle.form_reader.specs.declared.found.Found.{Found}
+use Rattle.form_reader.specs.declared.found.Found.TheVariants.{Nothing as nothing, One as one, LoneDot as lone_dot, TheEnd as the_end}
 use Rattle.form_reader.specs.declared.limits.Limits.{Limits}
-use Rattle.form_reader.specs.Setting.{setting_of}
+use Rattle.form_reader.specs.declared.reader.FormReader.{FormReader}
+use Rattle.form_reader.specs.declared.reader.State.{State as ReaderState}
+use Rattle.form_reader.specs.declared.reader.State.TheVariants.{Open, Refused, OutOfMemory}
+use Rattle.form_reader.specs.declared.reader.Step.{Step}
+use Rattle.form_reader.specs.declared.reader.Step.TheVariants.{More as StepMore, Form as StepForm, Refused as StepRefused}
+use Rattle.form_reader.specs.Plans.{Read}
+use Rattle.form_reader.specs.Reader.{begun, fed, limits_of, BeginsLater, IsAfter, IsAfterIn, MayGoOn, Steps}
+use Rattle.form_reader.specs.Reading.{form, empty, outcome, reads, reads_at}
+use Rattle.form_reader.specs.Setting.{Setting, setting_of}
+use Rattle.form_reader.proofs.Forms.{reads_is, stood, the_end_there}
 use Rattle.plist_state.specs.State.{State as World}
+use Rattle.prevalence_store.specs.declared.input.Pending.{Pending}
 use Rattle.prevalence_store.specs.declared.mode.Mode.{Mode}
-use Rattle.prevalence_store.specs.Acceptance.{form_limits, package_in, setting_in, table_in}
-use Rattle.prevalence_store.specs.Functions.{functions_of}
+use Rattle.prevalence_store.specs.Acceptance.{between, form_limits, package_in, read_in, setting_in, table_in}
+use Rattle.prevalence_store.specs.Functions.{Functions, functions_of}
+use Rattle.prevalence_store.specs.Pending.{HasForm, IsLastForm, IsPending}
+use Rattle.prevalence_store.proofs.Executing.{form_places}
 use Rattle.prevalence_store.proofs.Fitting.{among_same, setting_same}
 
 -- the setting of a call, with the functions that are registered, is that of the world
@@ -24,3 +42,109 @@ pub called_setting : (w : World) (mode : Mode) (names registered : List (List �
 called_setting w mode names registered way answer limits table packages current whole known limits_is table_is packages_is current_is =
     (λ i. setting_of (limits_is i) (table_is i) (packages_is i) (current_is i) registered way answer)
     ∙ setting_same form_limits (table_in w mode) w.packages (package_in w mode) names registered way answer (among_same names registered whole known)
+
+-- ---- no bytes
+
+pub reads_none : (setting : Setting) → reads setting [] ≡ empty
+unfolding reads
+reads_none setting = reads_is setting 0 [] ∙ ap (outcome setting.table 0 (λ next cs. reads_at setting next cs)) (the_end_there setting)
+
+-- nothing is pending, where the reader is new
+pub none_pending : (functions : Functions) (w : World) (mode : Mode) (pending : Pending) → limits_of pending.reader ≡ form_limits → IsAfter (setting_in functions w mode) pending.reader []
+    → fed pending.reader ≡ 0 → pending.text.items ≡ [] → pending.dropped ≡ 0 → IsPending functions w mode pending []
+none_pending functions w mode pending limits after count none zero = record {
+  limits = limits;
+  after = after;
+  count = count;
+  kept = none ∙ ap (λ n. drop n []) (sym zero);
+  enough = omega arith;
+  more = subst (MayGoOn []) (sym (reads_none (setting_in functions w mode))) tt;
+}
+
+-- ---- a form
+
+-- where the attempt that gives it began
+form_from : (setting : Setting) (start : ℕ) (read : Read Found) (x : Object) (place stop next : ℕ)
+    → outcome setting.table start (λ later cs. reads_at setting later cs) read ≡ form x place stop next → start ≤ place
+form_from setting start (Ok (nothing token, at, cs)) x place stop next is =
+    let s = stood setting (length cs + 1) (start + at) cs x place stop next is in let from = s.start_is in omega arith
+form_from setting start (Ok (one token y, at, cs)) x place stop next is = let same : start ≡ place = cc in omega arith
+form_from setting start (Ok (lone_dot, at, cs)) x place stop next is = absurd (cc)
+form_from setting start (Ok (the_end, at, cs)) x place stop next is = absurd (cc)
+form_from setting start (Err e) x place stop next is = absurd (cc)
+
+-- a form at the end of the text began where what is open began, or later
+pub form_begun : (setting : Setting) (reader : FormReader) (bytes : List ℕ) (x : Object) (start stop next : ℕ) → IsAfter setting reader bytes
+    → reads setting bytes ≡ form x start stop next → begun reader ≤ start
+form_begun setting reader bytes x start stop next after is = by_state reader.state after where
+  whole : reads setting (bytes ++ []) ≡ form x start stop next
+  whole = ap (reads setting) (append-nil bytes) ∙ is
+
+  by_state : (s : ReaderState) → IsAfterIn setting reader s bytes → begun reader ≤ start
+  by_state (Open stage) a = form_from setting reader.start _ x start stop next (sym (a.1 []) ∙ whole)
+  by_state (Refused code place) a = let e = sym (a []) ∙ whole in absurd (cc)
+  by_state OutOfMemory a = absurd a
+
+-- one byte more is kept
+pub kept_more : (text bytes : List ℕ) (byte dropped : ℕ) → dropped ≤ length bytes → text ≡ drop dropped bytes → text ++ byte ∷ [] ≡ drop dropped (bytes ++ byte ∷ [])
+kept_more text bytes byte dropped within is = ap (λ t. t ++ byte ∷ []) is ∙ sym (drop-append-le dropped bytes (byte ∷ []) within)
+
+module _ (functions : Functions) (w : World) (mode : Mode) (old : Pending) (bytes : List ℕ) (pending : IsPending functions w mode old bytes) where
+  -- what was dropped, of the bytes
+  pub dropped_within : old.dropped ≤ length bytes
+  dropped_within = let a = pending.enough in let b = pending.count in omega arith
+
+  pub kept_count : old.dropped + length old.text.items ≡ length bytes
+  kept_count = let same : length old.text.items ≡ length bytes - old.dropped = ap length pending.kept ∙ length-drop old.dropped bytes in let within = dropped_within in omega arith
+
+  -- the places of a form that a byte more decides
+  pub record FedPlaces (byte start stop next : ℕ) : Type 0 where
+    pub from : old.dropped ≤ start
+    pub order : start < stop
+    pub after : stop ≤ next
+    pub within : next ≤ length bytes + 1
+    pub close : length bytes ≤ next
+
+  module _ (byte : ℕ) (new : FormReader) (step : Step) (datum : Datum) (start stop next : ℕ) (is : step ≡ StepForm datum start stop next)
+      (steps : Steps (setting_in functions w mode) new (bytes ++ byte ∷ []) step) where
+    form_told : Steps (setting_in functions w mode) new (bytes ++ byte ∷ []) (StepForm datum start stop next)
+    form_told = subst (λ (s : Step). Steps (setting_in functions w mode) new (bytes ++ byte ∷ []) s) is steps
+
+    pub form_proper : is_proper datum ≡ true
+    form_proper = form_told.1
+
+    pub fed_places : BeginsLater old.reader new step → FedPlaces byte start stop next
+    fed_places later =
+        let from : (begun old.reader ≤ start) × (begun new ≡ 0) = subst (λ (s : Step). BeginsLater old.reader new s) is later in
+        let places = form_places functions w mode ((bytes ++ byte ∷ []) ++ []) (object_of datum) start stop next (form_told.0 []) in
+        let many : length (bytes ++ byte ∷ []) ≡ length bytes + 1 = length-append bytes (byte ∷ []) in
+        record {
+          from = let a = pending.enough in let b = from.0 in omega arith;
+          order = places.0;
+          after = places.1;
+          within = let a = form_told.2 in omega arith;
+          close = let a = form_told.3 in omega arith;
+        }
+
+    by_left : (n count : ℕ) (b : Bool) → nat_lt (n - old.dropped) count ≡ b → FedPlaces byte start stop n → old.dropped + count ≡ length bytes + 1 → n + cond b 1 0 ≡ length bytes + 1
+    by_left n count true is_left places all = let less : n - old.dropped < count = ltb-true (n - old.dropped) count is_left in let a = places.close in omega arith
+    by_left n count false is_left places all = let more : count ≤ n - old.dropped = ltb-false (n - old.dropped) count is_left in let a = places.within in let c = places.from in omega arith
+
+    pub has_form : (after : Pending) (own : List ℕ) (count : ℕ) → FedPlaces byte start stop next → after.reader ≡ new → after.text.items ≡ [] → after.dropped ≡ 0 → limits_of new ≡ form_limits
+        → old.dropped + count ≡ length bytes + 1 → own ≡ between start stop (bytes ++ byte ∷ [])
+        → HasForm functions w mode after (bytes ++ byte ∷ []) (object_of datum) own (nat_lt (next - old.dropped) count)
+    has_form after own count places reader none zero limits all is_own =
+        let many : length (bytes ++ byte ∷ []) ≡ length bytes + 1 = length-append bytes (byte ∷ []) in
+        let fresh = form_told.4 in
+        let fed_none : fed new ≡ 0 = let a = fresh.start in let b = fresh.at in omega arith in
+        record {
+          start = start;
+          stop = stop;
+          next = next;
+          reads = form_told.0;
+          is_own = is_own;
+          next_is = by_left next count (nat_lt (next - old.dropped) count) refl places all ∙ sym many;
+          none = λ later in_mode. none_pending functions later in_mode after (ap limits_of reader ∙ limits)
+              (subst (λ (r : FormReader). IsAfter (setting_in functions later in_mode) r []) (sym reader) (form_told.5 (setting_in functions later in_mode)))
+              (ap fed reader ∙ fed_none) none zero;
+        }

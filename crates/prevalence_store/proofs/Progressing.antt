@@ -206,7 +206,7 @@ module _ (functions : Functions) where
     }))))
 
     -- some forms, and how the session ended after them
-    pub serve_both : (ending : Ending) → Serves functions state mid new p.world mode p.rest b c ending → Serves functions state old new w mode text a c ending
+    unfoldable pub serve_both : (ending : Ending) → Serves functions state mid new p.world mode p.rest b c ending → Serves functions state old new w mode text a c ending
     serve_both ending second = record {
       forms = second.forms + m;
       far = onward p second.far;

@@ -81,7 +81,7 @@ module _ (functions : Functions) where
           untouched = λ is. refl;
         })
 
-    pub nothing : (ending : Ending) (part : List ℕ) → new ≡ old → Writes held written part
+    unfoldable pub nothing : (ending : Ending) (part : List ℕ) → new ≡ old → Writes held written part
         → Ends functions state old new w mode text held written 0 (begun w text) 0 (begun w text) part ending → Serves functions state old new w mode text held written ending
     nothing ending part same writes ends = record {
       forms = 0;
@@ -111,12 +111,12 @@ module _ (functions : Functions) where
         (inr (inr (inl (record { input = is; all = refl; no_part = refl; more = more; after = after_none text [] same }))))
 
     -- the reader refused what the text begins with
-    pub fault_answered : (number place : ℕ) → read_in functions w mode text ≡ refused number place → new ≡ old → (ending : Ending) → AnswersFault number held written ending
+    unfoldable pub fault_answered : (number place : ℕ) → read_in functions w mode text ≡ refused number place → new ≡ old → (ending : Ending) → AnswersFault number held written ending
         → Serves functions state old new w mode text held written ending
     fault_answered number place is same End answers = absurd answers
     fault_answered number place is same (Reader code) answers =
         nothing (Reader code) (refusal_line number) same answers.1
-        (record { all = refl; place = place; reads = is ∙ ap (λ n. refused n place) (sym answers.0); line = ap refusal_line (sym answers.0); after = after_none text [] same })
+        (record { all = refl; place = place; reads = subst (λ n. read_in functions w mode text ≡ refused n place) (sym answers.0) is; line = ap refusal_line (sym answers.0); after = after_none text [] same })
     fault_answered number place is same (Store code) (inl full) =
         let part = part_of held written (refusal_line number) (λ none. absurd (cc)) full.1 in
         nothing (Store code) part.0 same part.4

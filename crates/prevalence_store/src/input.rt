@@ -1,11 +1,11 @@
 // What a session has read and not answered yet.
-ghost use Rattle.std.specs.Prelude.{◌≡◌, ◌+◌, ◌<◌, ◌≤◌, ◌^◌, ℕ, List, [], ◌∷◌, ◌++◌, drop, true, IfOk, OnOk, vec_len};
+ghost use Rattle.std.specs.Prelude.{◌≡◌, ◌+◌, ◌<◌, ◌≤◌, ◌^◌, ℕ, List, [], ◌∷◌, ◌++◌, drop, length, true, IfOk, OnOk, vec_len};
 ghost use Rattle.std.specs.List.{list_all};
 ghost use Rattle.lisp_object.specs.Datum.{is_proper};
 ghost use Rattle.readtable_core.specs.Names.{is_among};
 ghost use Rattle.plist_state.specs.State.{State as LispWorld};
 ghost use Rattle.form_reader.specs.Reader.{fed, begun, limits_of, IsAfter, Steps, BeginsLater, IsOutcome};
-ghost use Rattle.prevalence_store.specs.Acceptance.{form_limits, read_in, setting_in};
+ghost use Rattle.prevalence_store.specs.Acceptance.{between, form_limits, read_in, setting_in};
 ghost use Rattle.prevalence_store.specs.Functions.{Functions, functions_of};
 ghost use Rattle.prevalence_store.specs.Pending.{IsPending, IsProperFed, Feeds, Finishes};
 
@@ -88,7 +88,7 @@ impl Pending {
                 end,
                 next,
             } => {
-                let own = Vec::from_slice(alloc, &self.text[start - self.dropped..end - self.dropped])?;
+                let own = own_text(alloc, self.text.as_slice(), self.dropped, start, end)?;
                 let left = next - self.dropped < self.text.len();
                 self.text.clear();
                 self.dropped = 0;
@@ -145,12 +145,28 @@ impl Pending {
             ReadOutcome::Form {
                 datum, start, end, ..
             } => {
-                let own = Vec::from_slice(alloc, &text[start - dropped..end - dropped])?;
+                let own = own_text(alloc, text.as_slice(), dropped, start, end)?;
                 let left = false;
                 Ok(Fed::Form { datum, own, left })
             }
         }
     }
+}
+
+// The text of a form, by its places among bytes of which so many were dropped.
+fn own_text(
+    alloc: Global,
+    text: &[u8],
+    dropped: usize,
+    start: usize,
+    end: usize,
+) -> Result<Vec<u8>, AllocError>
+    requires kept { dropped ≤ start }
+    requires order { start ≤ end }
+    requires within { end ≤ dropped + length text.now }
+    ensures { (bytes : List ℕ) → text.now ≡ drop dropped bytes → IfOk result (λ own. own.items ≡ between start end bytes) }
+{
+    Vec::from_slice(alloc, &text[start - dropped..end - dropped])
 }
 
 // One byte more to a reader, as the world reads in this mode.
