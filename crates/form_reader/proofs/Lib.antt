@@ -30,7 +30,7 @@ pub mod Keeping
 pub mod Backs
 pub mod Language
 pub mod Fittings
+pub mod Numbers
 pub mod TokenFaults
 pub mod Faults
 pub mod Deciding
-pub mod Numbers

@@ -89,7 +89,8 @@ impl FormReader {
         ensures place { result ≡ begun self.now }
         ensures within { result ≤ fed self.now }
     {
-        self.start
+        let FormReader { start, .. } = self;
+        *start
     }
 
     /// One more byte of the text, under the same readtable, packages, current package and functions as the bytes before it.

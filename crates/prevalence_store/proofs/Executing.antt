@@ -1,9 +1,10 @@
 -- From what was read and evaluated to what `execute` answers.
-use Rattle.std.proofs.Common.{◌≡◌, ℕ, ◌+◌, ◌-◌, ◌<◌, ◌≤◌, Bool, false, true, List, [], ◌∷◌, length, drop, Option, None, Some, IsSome, Ok, Err, refl, sym, ap, subst, ◌∙◌, inl, inr, arith, length-drop}
+use Rattle.std.proofs.Common.{◌≡◌, ℕ, ◌+◌, ◌-◌, ◌<◌, ◌≤◌, Bool, false, true, cond, List, [], ◌∷◌, length, drop, Option, None, Some, IsSome, Ok, Err, refl, sym, ap, subst, ◌∙◌, inl, inr, arith, length-drop}
 use Rattle.std.proofs.lemmas.List.{length-take-le}
 use Rattle.std.proofs.lemmas.Bool.{eq-eqb, ne_eqb}
 use Rattle.disk_trait.specs.Disk.{State}
-use Rattle.lisp_object.specs.Object.{Object}
+use Rattle.gate_log.specs.Place.{HalvesValue}
+use Rattle.lisp_object.specs.Object.{Object, IsSound}
 use Rattle.lisp_object.specs.declared.datum.Datum.{Datum}
 use Rattle.lisp_object.specs.Datum.{object_of, is_proper}
 use Rattle.form_reader.specs.declared.ending.ReadOutcome.{ReadOutcome}
@@ -23,13 +24,23 @@ use Rattle.prevalence_store.specs.declared.outcome.Outcome.TheVariants as outcom
 use Rattle.prevalence_store.specs.Acceptance.{Acceptance, accepts, accepted_of, acceptance_of, between, form_limits, read_in, records_of, setting_in}
 use Rattle.prevalence_store.specs.Causes.{failure_number, is_device, IsCause}
 use Rattle.prevalence_store.specs.Execution.{Executes, DeviceFails, IsAccepted, Stores, SurvivesAs, taken_in}
-use Rattle.prevalence_store.specs.Session.{Session}
+use Rattle.prevalence_store.specs.Session.{Session, session_of}
 use Rattle.prevalence_store.specs.Functions.{Functions}
 
 -- an open store has a world
 pub known_world : (world : Option World) → IsSome world → (w : World) × (world ≡ Some w)
 known_world None known = cc
 known_world (Some w) known = (w, refl)
+
+-- the world of an open store is the one in memory
+pub world_inside : {D R : Type 0} (failed : Bool) (log : HalvesValue D) (v w : World) (macros : R) (now : Session D R) → session_of failed log v macros ≡ now
+    → now.world ≡ Some w → v ≡ w
+world_inside {D = D} {R = R} failed log v w macros now view known =
+    by_failed failed (ap (λ (s : Session D R). s.world) view ∙ known)
+  where
+    by_failed : (b : Bool) → cond b None (Some v) ≡ Some w → v ≡ w
+    by_failed true is = absurd (cc)
+    by_failed false is = cc
 
 -- a text cut out between places within it is as long as they are apart
 pub length-between : (start «end» : ℕ) (text : List ℕ) → «end» ≤ length text → length (between start «end» text) ≡ «end» - start
@@ -39,7 +50,7 @@ length-between start «end» text within =
 
 -- what the reader answered as a form was read as this form
 pub form_read : (o : ReadOutcome) (read : Reading) (datum : Datum) (start «end» next : ℕ) → IsOutcome o read → o ≡ ReadForm datum start «end» next
-    → (read ≡ form (object_of datum) start «end» next) × (is_proper datum ≡ true)
+    → (read ≡ form (object_of datum) start «end» next) × (is_proper datum ≡ true) × IsSound (object_of datum)
 form_read o read datum start «end» next is form_is = subst (λ (p : ReadOutcome). IsOutcome p read) form_is is
 
 module _ (functions : Functions) where

@@ -11,3 +11,4 @@ pub mod StreamLemmas
 pub mod Surviving
 pub mod Turning
 pub mod Fitting
+pub mod Numbered
