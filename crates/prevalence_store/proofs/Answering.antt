@@ -1,28 +1,131 @@
 -- How what was answered joins, and that it stays whatever follows the text.
-use Rattle.std.proofs.Common.{◌≡◌, ℕ, ◌+◌, ◌-◌, ◌<◌, ◌≤◌, Bool, true, false, cond, List, [], ◌∷◌, ◌++◌, length, take, drop, Option, None, Some, IsSome, refl, sym, ap, subst, ◌∙◌, append_assoc, append-nil, length-append, arith}
+use Rattle.std.proofs.Common.{◌≡◌, ℕ, ◌+◌, ◌-◌, ◌<◌, ◌≤◌, Bool, true, false, cond, List, [], ◌∷◌, ◌++◌, length, take, drop, Option, None, Some, IsSome, Ok, Err, refl, sym, ap, subst, ◌∙◌, append_assoc, append-nil, length-append, length-drop, arith}
+use Rattle.std.proofs.lemmas.List.{take-append-le, drop-append-le, drop_all}
 use Rattle.disk_trait.specs.Disk.{State, IsHonest, IsSound}
+use Rattle.form_eval.specs.Acceptance.{accept}
+use Rattle.form_eval.specs.Outcomes.{Outcome as Evaluation}
 use Rattle.lisp_object.specs.Object.{Object}
 use Rattle.lisp_object.specs.declared.refusal.TheConstants.{NO_MEMORY}
 use Rattle.plist_state.specs.State.{State as World}
-use Rattle.form_reader.specs.Reading.{refused}
+use Rattle.form_reader.specs.Reading.{form, refused}
 use Rattle.prevalence_store.specs.declared.input.Pending.{Pending}
 use Rattle.prevalence_store.specs.declared.mode.Mode.{Mode}
 use Rattle.prevalence_store.specs.declared.outcome.Ending.{Ending}
 use Rattle.prevalence_store.specs.declared.outcome.Ending.TheVariants.{End, Reader, Store}
-use Rattle.prevalence_store.specs.Acceptance.{read_in}
+use Rattle.prevalence_store.specs.Acceptance.{between, read_in}
 use Rattle.prevalence_store.specs.Functions.{Functions}
-use Rattle.prevalence_store.specs.Output.{Progress, after_forms, begun, onward}
-use Rattle.prevalence_store.specs.Pending.{IsPending, HasRefusal}
+use Rattle.prevalence_store.specs.Output.{Progress, after_forms, begun, evaluated, one_form, onward}
+use Rattle.prevalence_store.specs.Pending.{HasForm, IsPending, HasRefusal}
 use Rattle.prevalence_store.specs.Serving.{Advances, IsAfter, Serves, StaysRefused}
 use Rattle.prevalence_store.specs.Session.{Session}
-use Rattle.prevalence_store.specs.Turns.{Answers, AnswersFault, GoesOn, HasEnded, StaysEnded}
+use Rattle.prevalence_store.specs.Turns.{Answers, AnswersFault, AnswersForm, BeginsWith, GoesOn, HasEnded, LeavesByte, StaysEnded}
+use Rattle.prevalence_store.proofs.Executing.{form_places}
 use Rattle.prevalence_store.proofs.Progressing.{advance_both, forms_onward, serve_both}
 use Rattle.prevalence_store.proofs.Surviving.{unchanged_survives}
-use Rattle.prevalence_store.proofs.Turning.{after_none, fault_answered, no_memory, nothing, writes_nothing}
+use Rattle.prevalence_store.proofs.Turning.{after_none, after_one_form, fault_answered, no_memory, nothing, writes_nothing}
 
 -- with more text after what is left
 abbrev pub longer : Progress → List ℕ → Progress
 longer far more = record far { rest = far.rest ++ more }
+
+-- the places of a form are the same in a text that goes on
+between_more : (start stop : ℕ) (text more : List ℕ) → start ≤ stop → stop ≤ length text → between start stop (text ++ more) ≡ between start stop text
+between_more start stop text more order within =
+    let room : stop - start ≤ length (drop start text) = rw (length-drop start text) (omega arith) in
+    ap (take (stop - start)) (drop-append-le start text more (omega arith)) ∙ take-append-le (stop - start) (drop start text) more room
+
+longer_evaluated : (w : World) (mode : Mode) (own rest more : List ℕ) (given : Evaluation Object) → evaluated w mode own (rest ++ more) given ≡ longer (evaluated w mode own rest given) more
+longer_evaluated w mode own rest more (Ok done) = refl
+longer_evaluated w mode own rest more (Err number) = refl
+
+rest_evaluated : (w : World) (mode : Mode) (own rest : List ℕ) (given : Evaluation Object) → (evaluated w mode own rest given).rest ≡ rest
+rest_evaluated w mode own rest (Ok done) = refl
+rest_evaluated w mode own rest (Err number) = refl
+
+-- ---- a form that the bytes begin with, whatever follows them
+
+module _ (functions : Functions) (w : World) (mode : Mode) (pending : Pending) (text : List ℕ) (x : Object) (own : List ℕ) (left : Bool)
+    (has : HasForm functions w mode pending text x own left) where
+  next_within : has.next ≤ length text
+  next_within = let is = has.next_is in omega arith
+
+  reads_here : read_in functions w mode text ≡ form x has.start has.stop has.next
+  reads_here = ap (read_in functions w mode) (sym (append-nil text)) ∙ has.reads []
+
+  stop_within : (has.start < has.stop) × (has.stop ≤ has.next)
+  stop_within = let places = form_places functions w mode text x has.start has.stop has.next reads_here in (places.0, places.1)
+
+  abbrev given : Evaluation Object
+  given = accept functions.names w x
+
+  own_again : (more : List ℕ) → between has.start has.stop (text ++ more) ≡ between has.start has.stop text
+  own_again more = between_more has.start has.stop text more (let a = stop_within.0 in omega arith) (let a = stop_within.1 in let b = next_within in omega arith)
+
+  pub form_begins : (slice more : List ℕ) → slice ≡ own → BeginsWith functions w mode (text ++ more) x slice has.next
+  form_begins slice more same = record {
+    start = has.start;
+    stop = has.stop;
+    reads = has.reads more;
+    is_own = same ∙ has.is_own ∙ sym (own_again more);
+  }
+
+  pub form_begins_here : (slice : List ℕ) → slice ≡ own → BeginsWith functions w mode text x slice has.next
+  form_begins_here slice same = record { start = has.start; stop = has.stop; reads = reads_here; is_own = same ∙ has.is_own }
+
+  one_form_of : (t : List ℕ) → read_in functions w mode t ≡ form x has.start has.stop has.next
+      → after_forms functions 1 w mode t ≡ Some (evaluated w mode (between has.start has.stop t) (drop has.next t) given)
+  one_form_of t reads = after_one_form functions w mode t _ (ap (one_form functions w mode t) reads)
+
+  far_is_one : (far : Progress) → after_forms functions 1 w mode text ≡ Some far → far ≡ evaluated w mode (between has.start has.stop text) (drop has.next text) given
+  far_is_one far is = let same = sym is ∙ one_form_of text reads_here in cc
+
+  one_stays : (far : Progress) → after_forms functions 1 w mode text ≡ Some far → (more : List ℕ) → after_forms functions 1 w mode (text ++ more) ≡ Some (longer far more)
+  one_stays far is more =
+      one_form_of (text ++ more) (has.reads more)
+      ∙ (λ i. Some (evaluated w mode (own_again more i) (drop-append-le has.next text more next_within i) given))
+      ∙ ap (λ p. Some p) (longer_evaluated w mode (between has.start has.stop text) (drop has.next text) more given)
+      ∙ ap (λ p. Some (longer p more)) (sym (far_is_one far is))
+
+  one_rest : (far : Progress) → after_forms functions 1 w mode text ≡ Some far → far.rest ≡ drop has.next text
+  one_rest far is = ap (λ (p : Progress). p.rest) (far_is_one far is) ∙ rest_evaluated w mode (between has.start has.stop text) (drop has.next text) given
+
+  module _ {D R : Type 0} (state : D → State) (old new : Session D R) (a b : Option (List ℕ)) (answered : AnswersForm functions state old new w mode text a b None) where
+    -- the form was answered, and this is left
+    unfoldable after_form : (rest : List ℕ) → drop has.next text ≡ rest → GoesOn functions state old new w mode text a b pending rest
+    after_form rest is = record {
+      forms = 1;
+      far = answered.0;
+      advances = answered.1;
+      stays = one_stays answered.0 answered.1.far_is;
+      bytes = [];
+      rest = one_rest answered.0 answered.1.far_is ∙ is;
+      is_pending = has.none answered.0.world mode;
+    }
+
+    pub form_taken : left ≡ false → GoesOn functions state old new w mode text a b pending []
+    form_taken is =
+        let all : has.next + cond left 1 0 ≡ length text = has.next_is in
+        let same : has.next + 0 ≡ length text = subst (λ l. has.next + cond l 1 0 ≡ length text) is all in
+        after_form [] (drop_all has.next text (omega arith))
+
+  module _ {D R : Type 0} (state : D → State) (old new : Session D R) (a b : Option (List ℕ)) (bytes : List ℕ) (byte : ℕ) (whole : text ≡ bytes ++ byte ∷ [])
+      (answered : AnswersForm functions state old new w mode text a b None) where
+    byte_left : left ≡ true → has.next + 1 ≡ length text
+    byte_left is = subst (λ l. has.next + cond l 1 0 ≡ length text) is has.next_is
+
+    rest_left : left ≡ true → drop has.next text ≡ byte ∷ []
+    rest_left is =
+        let all = byte_left is in
+        let many : length text ≡ length bytes + 1 = ap length whole ∙ length-append bytes (byte ∷ []) in
+        ap (drop has.next) whole ∙ drop-append-le has.next bytes (byte ∷ []) (omega arith) ∙ ap (λ t. t ++ byte ∷ []) (drop_all has.next bytes (omega arith))
+
+    pub form_left : left ≡ true → LeavesByte functions state old new w mode text a b pending byte
+    unfolding after_form
+    form_left is = record {
+      goes = after_form state old new a b answered (byte ∷ []) (rest_left is);
+      alone = refl;
+      not_first = let all = byte_left is in let order = stop_within.0 in let after = stop_within.1 in omega arith;
+    }
 
 module _ (functions : Functions) {D R : Type 0} (state : D → State) where
   after_longer : (old new : Session D R) (far : Progress) (more : List ℕ) → IsAfter state old new far → IsAfter state old new (longer far more)

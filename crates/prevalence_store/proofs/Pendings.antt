@@ -23,15 +23,19 @@ use Rattle.form_reader.specs.Plans.{Read}
 use Rattle.form_reader.specs.Reader.{begun, fed, limits_of, BeginsLater, IsAfter, IsAfterIn, MayGoOn, Steps}
 use Rattle.form_reader.specs.Reading.{form, empty, outcome, reads, reads_at}
 use Rattle.form_reader.specs.Setting.{Setting, setting_of}
+use Rattle.form_reader.specs.Fitting.{IsFitting}
+use Rattle.form_reader.proofs.Bounded.{form_below}
 use Rattle.form_reader.proofs.Forms.{reads_is, stood, the_end_there}
+use Rattle.plist_state.specs.Sound.{IsSound}
 use Rattle.plist_state.specs.State.{State as World}
 use Rattle.prevalence_store.specs.declared.input.Pending.{Pending}
 use Rattle.prevalence_store.specs.declared.mode.Mode.{Mode}
 use Rattle.prevalence_store.specs.Acceptance.{between, form_limits, package_in, read_in, setting_in, table_in}
 use Rattle.prevalence_store.specs.Functions.{Functions, functions_of}
 use Rattle.prevalence_store.specs.Pending.{HasForm, IsLastForm, IsPending}
-use Rattle.prevalence_store.proofs.Executing.{form_places}
-use Rattle.prevalence_store.proofs.Fitting.{among_same, setting_same}
+use Rattle.prevalence_store.specs.Turns.{BeginsWith}
+use Rattle.prevalence_store.proofs.Executing.{form_places, length-between, own_whole}
+use Rattle.prevalence_store.proofs.Fitting.{among_same, fits_in, setting_same}
 
 -- the setting of a call, with the functions that are registered, is that of the world
 pub called_setting : (w : World) (mode : Mode) (names registered : List (List ℕ)) (way : List ℕ → Option Gather) (answer : List ℕ → MacroCall → MacroAnswer)
@@ -97,6 +101,21 @@ module _ (functions : Functions) (w : World) (mode : Mode) (old : Pending) (byte
   pub kept_count : old.dropped + length old.text.items ≡ length bytes
   kept_count = let same : length old.text.items ≡ length bytes - old.dropped = ap length pending.kept ∙ length-drop old.dropped bytes in let within = dropped_within in omega arith
 
+  -- the places of a form at the end of the input
+  pub last_places : (x : Object) (start stop next : ℕ) → read_in functions w mode bytes ≡ form x start stop next
+      → (old.dropped ≤ start) × (start ≤ stop) × (stop ≤ length bytes)
+  last_places x start stop next is =
+      let from = form_begun (setting_in functions w mode) old.reader bytes x start stop next pending.after is in
+      let places = form_places functions w mode bytes x start stop next is in
+      (let a = pending.enough in omega arith, let a = places.0 in omega arith, let a = places.1 in let b = places.2 in omega arith)
+
+  -- the form that it is
+  pub last_form : (x : Object) (own : List ℕ) (start stop next : ℕ) → read_in functions w mode bytes ≡ form x start stop next → own ≡ between start stop bytes
+      → IsLastForm functions w mode bytes x own
+  last_form x own start stop next is is_own =
+      let ends : next ≡ length bytes = subst (MayGoOn bytes) is pending.more in
+      record { start = start; stop = stop; reads = is ∙ ap (form x start stop) ends; is_own = is_own }
+
   -- the places of a form that a byte more decides
   pub record FedPlaces (byte start stop next : ℕ) : Type 0 where
     pub from : old.dropped ≤ start
@@ -148,3 +167,21 @@ module _ (functions : Functions) (w : World) (mode : Mode) (old : Pending) (byte
               (subst (λ (r : FormReader). IsAfter (setting_in functions later in_mode) r []) (sym reader) (form_told.5 (setting_in functions later in_mode)))
               (ap fed reader ∙ fed_none) none zero;
         }
+
+-- ---- the form that a text begins with
+
+module _ (functions : Functions) (w : World) (mode : Mode) (text : List ℕ) (x : Object) (own : List ℕ) (next : ℕ) (begins : BeginsWith functions w mode text x own next) where
+  pub begins_whole : read_in functions w mode own ≡ form x 0 (length own) (length own)
+  begins_whole = subst (λ t. read_in functions w mode t ≡ form x 0 (length t) (length t)) (sym begins.is_own)
+      (own_whole functions w mode text x begins.start begins.stop next begins.reads)
+
+  pub begins_within : length own ≤ form_limits.text
+  begins_within =
+      let places = form_places functions w mode text x begins.start begins.stop next begins.reads in
+      let below = form_below (setting_in functions w mode) text x begins.start begins.stop next begins.reads in
+      let long = length-between begins.start begins.stop text (let a = places.1 in let b = places.2 in omega arith) in
+      let same : length own ≡ length (between begins.start begins.stop text) = ap length begins.is_own in
+      omega arith
+
+  pub begins_fits : IsSound w → IsFitting w.packages x
+  begins_fits sound = fits_in functions w mode text x begins.start begins.stop next sound begins.reads

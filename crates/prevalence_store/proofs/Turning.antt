@@ -5,11 +5,11 @@ use Rattle.disk_trait.specs.Disk.{State, IsHonest, IsSound}
 use Rattle.disk_trait.specs.Half.{opposite_of}
 use Rattle.gate_log.specs.Layout.{Entry}
 use Rattle.lisp_object.specs.Object.{Object}
-use Rattle.lisp_object.specs.Datum.{object_of}
+use Rattle.lisp_object.specs.Datum.{object_of, is_proper}
 use Rattle.lisp_object.specs.declared.refusal.TheConstants.{INPUT, OUTPUT, NO_MEMORY}
 use Rattle.form_eval.specs.Acceptance.{accept}
 use Rattle.form_eval.specs.Outcomes.{Done, Outcome as Evaluation}
-use Rattle.form_eval.specs.Evaluated.{done as done_of}
+use Rattle.form_eval.specs.Evaluated.{IsArgument, done as done_of}
 use Rattle.form_eval.specs.declared.evaluated.Evaluated.{Evaluated}
 use Rattle.canon_printer.specs.Printed.{printed}
 use Rattle.form_reader.specs.Reader.{MayGoOn}
@@ -25,9 +25,11 @@ use Rattle.prevalence_store.specs.Causes.{is_device, IsCause}
 use Rattle.prevalence_store.specs.Execution.{DeviceFails, Stores, SurvivesAs, acknowledged_in, taken_in}
 use Rattle.prevalence_store.specs.Output.{Progress, after_forms, begun, evaluated, last_line, one_form, onward, refusal_line, value_line}
 use Rattle.prevalence_store.specs.Serving.{Advances, Ends, IsAfter, Serves, room_of}
-use Rattle.prevalence_store.specs.Session.{Session, Describes}
+use Rattle.gate_log.specs.Place.{HalvesValue}
+use Rattle.prevalence_store.specs.Session.{Session, Describes, session_of}
+use Rattle.prevalence_store.proofs.Executing.{world_inside}
 use Rattle.prevalence_store.specs.Streams.{Writes, WritesPart}
-use Rattle.prevalence_store.specs.Turns.{AnswersFault, AnswersForm, BeginsWith, IsLineOf, IsStop}
+use Rattle.prevalence_store.specs.Turns.{AnswersFault, AnswersForm, IsLine, IsLineOf, IsStop}
 use Rattle.prevalence_store.proofs.LeftAlone.{alone_still}
 use Rattle.prevalence_store.proofs.Surviving.{fewer_survive, unchanged_survives}
 use Rattle.prevalence_store.specs.Functions.{Functions}
@@ -53,6 +55,12 @@ some_last (x ∷ xs) y is = absurd (cc)
 
 some_line : (lines line : List ℕ) → line ≡ lines → lines ≢ [] → line ≢ []
 some_line lines line same some is = some (sym same ∙ is)
+
+-- the line of an answer, in the world in memory
+pub line_inside : {E D R : Type 0} (failed : Bool) (log : HalvesValue D) (w : World) (macros : R) (now : Session D R) → session_of failed log w macros ≡ now
+    → (answer : Result Evaluated Failure) (line : Result Bytes E) → IfOk line (λ l. IsLineOf w answer l.items) → IfOk line (λ l. IsLine now answer l.items)
+line_inside failed log w macros now view answer (Ok line) is = record { world = w; one = λ v known. sym (world_inside failed log w v macros now view known); line_of = is }
+line_inside failed log w macros now view answer (Err error) is = tt
 
 module _ (functions : Functions) where
   -- ---- what was written
@@ -133,12 +141,6 @@ module _ (functions : Functions) where
     pub unchanged : IfErr answer (λ e. is_device e ≡ false → new ≡ old)
     pub fault : IfErr answer (λ e. is_device e ≡ true → DeviceFails state old new)
     pub survives : (w : World) → SurvivesAs functions state old new w (taken_in mode own answer) (acknowledged_in mode own answer)
-
-  -- the line that answers a form, in the world that the store has after it, if any
-  pub record IsLine {D R : Type 0} (new : Session D R) (answer : Result Evaluated Failure) (line : List ℕ) : Type 0 where
-    pub world : World
-    pub one : (v : World) → new.world ≡ Some v → v ≡ world
-    pub line_of : IsLineOf world answer line
 
   stores_left : {D R : Type 0} (state : D → State) (old new : Session D R) (wrote : Bool) (mode : Mode) (own : List ℕ) (given : World) → Stores state old new wrote mode own given → new.world ≡ Some given
   stores_left state old new true mode own given stores = stores.left
@@ -314,6 +316,14 @@ module _ (functions : Functions) where
           other = failed.other;
           failures = failed.failures;
         }))
+
+  -- what is answered is proper
+  pub answer_proper : {D R : Type 0} (state : D → State) (old new : Session D R) (w : World) (mode : Mode) (own : List ℕ) (x : Object) (answer : Result Evaluated Failure)
+      → IsAnswerOf state old new mode own x answer → old.world ≡ Some w → ((v : World) → new.world ≡ Some v → IfOk answer (λ e. IsArgument v.packages e.value))
+      → IfOk answer (λ e. is_proper e.value ≡ true)
+  answer_proper state old new w mode own x (Ok e) of known argument =
+      let given = of.accepted w known in (argument given.0 (stores_left state old new e.wrote mode own given.0 given.2)).proper
+  answer_proper state old new w mode own x (Err failure) of known argument = tt
 
   -- a store whose form has a line has a world
   pub line_known : {D R : Type 0} (state : D → State) (old new : Session D R) (w : World) (mode : Mode) (own : List ℕ) (x : Object) (answer : Result Evaluated Failure) (line : List ℕ)

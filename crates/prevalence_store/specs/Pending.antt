@@ -1,6 +1,6 @@
 -- What a session has read and not answered yet: what is pending, and what one byte more, or the end of the input, is to it.
 use Rattle.std.specs.Prelude.{◌≡◌, ℕ, ◌+◌, ◌≤◌, Bool, true, cond, List, [], ◌++◌, length, drop}
-use Rattle.lisp_object.specs.Object.{Object}
+use Rattle.lisp_object.specs.Object.{Object, IsSound}
 use Rattle.lisp_object.specs.Datum.{object_of, is_proper}
 use Rattle.plist_state.specs.State.{State as World}
 use Rattle.form_reader.specs.Reader.{begun, fed, limits_of, IsAfter, MayGoOn}
@@ -57,8 +57,8 @@ Finishes functions world mode bytes Nothing = read_in functions world mode bytes
 Finishes functions world mode bytes (Form datum own left) = IsLastForm functions world mode bytes (object_of datum) own.items
 Finishes functions world mode bytes (Refused number) = (place : ℕ) × (read_in functions world mode bytes ≡ refused number place)
 
--- a form has a proper datum
-abbrev pub IsProperFed : Fed → Type 0
-IsProperFed Nothing = Unit {0}
-IsProperFed (Form datum own left) = is_proper datum ≡ true
-IsProperFed (Refused number) = Unit {0}
+-- a form has a proper datum, and a sound object
+abbrev pub IsSoundFed : Fed → Type 0
+IsSoundFed Nothing = Unit {0}
+IsSoundFed (Form datum own left) = (is_proper datum ≡ true) × IsSound (object_of datum)
+IsSoundFed (Refused number) = Unit {0}

@@ -53,6 +53,12 @@ IsLineOf world (Err Full) line = ⊥
 IsLineOf world (Err DeviceFault) line = ⊥
 IsLineOf world (Err OutOfMemory) line = ⊥
 
+-- the line that answers a form, in the world that the store has after it, if any
+pub record IsLine {D R : Type 0} (new : Session D R) (answer : Result Evaluated Failure) (line : List ℕ) : Type 0 where
+  pub world : World
+  pub one : (v : World) → new.world ≡ Some v → v ≡ world
+  pub line_of : IsLineOf world answer line
+
 -- why there is no such line
 abbrev pub IsStop : Result Evaluated Failure → ℕ → Type 0
 IsStop (Ok evaluated) number = number ≡ NO_MEMORY

@@ -1,13 +1,12 @@
 // What a session has read and not answered yet.
 ghost use Rattle.std.specs.Prelude.{◌≡◌, ◌+◌, ◌<◌, ◌≤◌, ◌^◌, ℕ, List, [], ◌∷◌, ◌++◌, drop, length, true, IfOk, OnOk, vec_len};
 ghost use Rattle.std.specs.List.{list_all};
-ghost use Rattle.lisp_object.specs.Datum.{is_proper};
 ghost use Rattle.readtable_core.specs.Names.{is_among};
 ghost use Rattle.plist_state.specs.State.{State as LispWorld};
-ghost use Rattle.form_reader.specs.Reader.{fed, begun, limits_of, IsAfter, Steps, BeginsLater, IsOutcome};
+ghost use Rattle.form_reader.specs.Reader.{fed, begun, limits_of, IsAfter, Steps, BeginsLater, IsOutcome, IsSoundStep};
 ghost use Rattle.prevalence_store.specs.Acceptance.{between, form_limits, read_in, setting_in};
 ghost use Rattle.prevalence_store.specs.Functions.{Functions, functions_of};
-ghost use Rattle.prevalence_store.specs.Pending.{IsPending, IsProperFed, Feeds, Finishes};
+ghost use Rattle.prevalence_store.specs.Pending.{IsPending, IsSoundFed, Feeds, Finishes};
 
 use crate::mode::Mode;
 use crate::setting::{package_in, readtable_in};
@@ -72,7 +71,7 @@ impl Pending {
             → IsPending (functions_of R.Meaning.names R.Meaning.way R.Meaning.answer) world.now.0 mode self.old bytes
             → IfOk result (Feeds (functions_of R.Meaning.names R.Meaning.way R.Meaning.answer) world.now.0 mode self.new
             (bytes ++ byte ∷ [])) }
-        ensures proper { IfOk result IsProperFed }
+        ensures sound { IfOk result IsSoundFed }
         ensures count { fed self.new.reader ≤ fed self.old.reader + 1 }
     {
         self.text.push(byte)?;
@@ -132,7 +131,7 @@ impl Pending {
         ensures finishes { (bytes : List ℕ)
             → IsPending (functions_of R.Meaning.names R.Meaning.way R.Meaning.answer) world.now.0 mode self bytes
             → IfOk result (Finishes (functions_of R.Meaning.names R.Meaning.way R.Meaning.answer) world.now.0 mode bytes) }
-        ensures proper { IfOk result IsProperFed }
+        ensures sound { IfOk result IsSoundFed }
     {
         let Pending {
             reader,
@@ -188,6 +187,7 @@ fn step_in<R: MacroFunctions>(
     ensures limits { limits_of reader.new ≡ limits_of reader.old }
     ensures count { fed reader.new ≤ fed reader.old + 1 }
     ensures begun { IfOk result (BeginsLater reader.old reader.new) }
+    ensures sound { IfOk result IsSoundStep }
 {
     let readtable = readtable_in(world, mode);
     let package = package_in(world, mode);

@@ -1,17 +1,19 @@
 // A session: forms from a reader, answers to a writer.
-ghost use Rattle.std.specs.Prelude.{◌≡◌, ◌≤◌, ◌<◌, ◌+◌, ◌^◌, ℕ, List, [], ◌∷◌, ◌++◌, None, Some, IsSome, IsNone, IfOk, OnOk, OnErr, true, length};
+ghost use Rattle.std.specs.Prelude.{◌≡◌, ◌≤◌, ◌<◌, ◌+◌, ◌^◌, ℕ, List, [], ◌∷◌, ◌++◌, None, Some, IsSome, IsNone, IfOk, IfErr, OnOk, OnErr, true, length};
 ghost use Rattle.std.specs.List.{list_all};
+ghost use Rattle.lisp_object.specs.Object.{IsSound};
 ghost use Rattle.lisp_object.specs.Datum.{object_of, is_proper};
 ghost use Rattle.lisp_object.specs.declared.refusal.TheConstants.{REOPEN};
 ghost use Rattle.readtable_core.specs.Names.{is_among};
 ghost use Rattle.plist_state.specs.State.{State as LispWorld};
 ghost use Rattle.form_reader.specs.Reader.{fed};
 ghost use Rattle.prevalence_store.specs.Functions.{functions_of};
-ghost use Rattle.prevalence_store.specs.Pending.{IsPending, IsProperFed, Feeds, Finishes};
+ghost use Rattle.prevalence_store.specs.Pending.{IsPending, IsSoundFed, Feeds, Finishes};
 ghost use Rattle.prevalence_store.specs.Serving.{Serves, ServesInput};
 ghost use Rattle.prevalence_store.specs.Streams.{Writes, WritesPart};
-ghost use Rattle.prevalence_store.specs.Turns.{Answers, AnswersFault, AnswersForm, BeginsWith, TurnsInto};
+ghost use Rattle.prevalence_store.specs.Turns.{Answers, AnswersFault, AnswersForm, BeginsWith, IsLine, IsStop, TurnsInto};
 
+use crate::failure::Failure;
 use crate::input::{Fed, Pending};
 use crate::mode::Mode;
 use crate::outcome::Ending;
@@ -19,6 +21,7 @@ use crate::output::{OutputFault, line_of_answer, line_of_refusal, write_text};
 use crate::store::Store;
 use crate::turn::Turn;
 use disk_trait::Disk;
+use form_eval::Evaluated;
 use lisp_object::Datum;
 use lisp_object::refusal::{INPUT, NO_MEMORY, OUTPUT, REOPEN};
 use std::alloc::AllocError;
@@ -187,7 +190,7 @@ impl<D: Disk, R: MacroFunctions> Store<D, R> {
         ensures feeds { (w : LispWorld) → self.now.world ≡ Some w → (bytes : List ℕ)
             → IsPending (functions_of R.Meaning.names R.Meaning.way R.Meaning.answer) w mode pending.old bytes
             → IfOk result (Feeds (functions_of R.Meaning.names R.Meaning.way R.Meaning.answer) w mode pending.new (bytes ++ byte ∷ [])) }
-        ensures proper { IfOk result IsProperFed }
+        ensures sound { IfOk result IsSoundFed }
         ensures count { fed pending.new.reader ≤ fed pending.old.reader + 1 }
     {
         pending.feed(self.alloc, &self.world, &self.macros, mode, byte)
@@ -235,7 +238,7 @@ impl<D: Disk, R: MacroFunctions> Store<D, R> {
         ensures finishes { (w : LispWorld) → self.now.world ≡ Some w → (bytes : List ℕ)
             → IsPending (functions_of R.Meaning.names R.Meaning.way R.Meaning.answer) w mode pending bytes
             → IfOk result (Finishes (functions_of R.Meaning.names R.Meaning.way R.Meaning.answer) w mode bytes) }
-        ensures proper { IfOk result IsProperFed }
+        ensures sound { IfOk result IsSoundFed }
     {
         pending.finish(self.alloc, &self.world, &self.macros, mode)
     }
@@ -267,6 +270,7 @@ impl<D: Disk, R: MacroFunctions> Store<D, R> {
         requires read { (w : LispWorld) → self.old.world ≡ Some w → (text : List ℕ) × ((next : ℕ)
             × BeginsWith (functions_of R.Meaning.names R.Meaning.way R.Meaning.answer) w mode text (object_of datum.now) own.now next) }
         requires proper { is_proper datum.now ≡ true }
+        requires sound { IsSound (object_of datum.now) }
         ensures answers { (w : LispWorld) → self.old.world ≡ Some w → (text : List ℕ) (next : ℕ)
             → BeginsWith (functions_of R.Meaning.names R.Meaning.way R.Meaning.answer) w mode text (object_of datum.now) own.now next
             → AnswersForm (functions_of R.Meaning.names R.Meaning.way R.Meaning.answer) D.state self.old self.new w mode
@@ -277,7 +281,7 @@ impl<D: Disk, R: MacroFunctions> Store<D, R> {
     {
         self.world.soundness();
         let answer = self.take_form(mode, datum, own);
-        let line = match line_of_answer(self.alloc, &self.world, &answer) {
+        let line = match self.line(&answer) {
             Ok(line) => line,
             Err(number) => return Some(number),
         };
@@ -285,6 +289,17 @@ impl<D: Disk, R: MacroFunctions> Store<D, R> {
             Ok(()) => None,
             Err(_) => Some(OUTPUT),
         }
+    }
+}
+
+impl<D: Disk, R> Store<D, R> {
+    // The line that answers a form, or the number of the fault that ends the session.
+    fn line(&self, answer: &Result<Evaluated, Failure>) -> Result<Vec<u8>, u16>
+        requires proper { IfOk answer.now (λ e. is_proper e.value ≡ true) }
+        ensures line { IfOk result (λ line. IsLine self.now answer.now line.items) }
+        ensures stop { IfErr result (IsStop answer.now) }
+    {
+        line_of_answer(self.alloc, &self.world, answer)
     }
 }
 
