@@ -12,14 +12,16 @@ use Rattle.prevalence_store.specs.declared.input.Pending.{Pending}
 use Rattle.prevalence_store.specs.declared.mode.Mode.{Mode}
 use Rattle.prevalence_store.specs.declared.outcome.Ending.{Ending}
 use Rattle.prevalence_store.specs.declared.outcome.Ending.TheVariants.{End, Reader, Store}
-use Rattle.prevalence_store.specs.Acceptance.{between, read_in}
+use Rattle.prevalence_store.specs.Acceptance.{between, read_in, setting_in}
 use Rattle.prevalence_store.specs.Functions.{Functions}
 use Rattle.prevalence_store.specs.Output.{Progress, after_forms, begun, evaluated, one_form, onward}
-use Rattle.prevalence_store.specs.Pending.{HasForm, IsPending, HasRefusal}
+use Rattle.prevalence_store.specs.Pending.{HasForm, IsLastForm, IsPending, HasRefusal}
 use Rattle.prevalence_store.specs.Serving.{Advances, IsAfter, Serves, StaysRefused}
 use Rattle.prevalence_store.specs.Session.{Session}
 use Rattle.prevalence_store.specs.Turns.{Answers, AnswersFault, AnswersForm, BeginsWith, GoesOn, HasEnded, LeavesByte, StaysEnded}
 use Rattle.prevalence_store.proofs.Executing.{form_places}
+use Rattle.prevalence_store.specs.Streams.{Writes}
+use Rattle.prevalence_store.proofs.Pendings.{reads_none}
 use Rattle.prevalence_store.proofs.Progressing.{advance_both, forms_onward, serve_both}
 use Rattle.prevalence_store.proofs.Surviving.{unchanged_survives}
 use Rattle.prevalence_store.proofs.Turning.{after_none, after_one_form, fault_answered, no_memory, nothing, writes_nothing}
@@ -127,6 +129,45 @@ module _ (functions : Functions) (w : World) (mode : Mode) (pending : Pending) (
       not_first = let all = byte_left is in let order = stop_within.0 in let after = stop_within.1 in omega arith;
     }
 
+-- ---- the form that ends the input
+
+module _ (functions : Functions) (w : World) (mode : Mode) (text : List ℕ) (x : Object) (own : List ℕ) (last : IsLastForm functions w mode text x own) where
+  pub last_begins : (slice : List ℕ) → slice ≡ own → BeginsWith functions w mode text x slice (length text)
+  last_begins slice same = record { start = last.start; stop = last.stop; reads = last.reads; is_own = same ∙ last.is_own }
+
+  last_rest : (far : Progress) → after_forms functions 1 w mode text ≡ Some far → far.rest ≡ []
+  last_rest far is =
+      let given = accept functions.names w x in
+      let one = after_one_form functions w mode text _ (ap (one_form functions w mode text) last.reads) in
+      let same : far ≡ evaluated w mode (between last.start last.stop text) (drop (length text) text) given = let both = sym is ∙ one in cc in
+      ap (λ (p : Progress). p.rest) same ∙ rest_evaluated w mode (between last.start last.stop text) (drop (length text) text) given ∙ drop_all (length text) text (omega arith)
+
+  -- it was answered, and nothing is left
+  pub ended_form : {D R : Type 0} (state : D → State) (old new : Session D R) (a b : Option (List ℕ)) → AnswersForm functions state old new w mode text a b None
+      → Serves functions state old new w mode text a b End
+  ended_form state old new a b answered =
+      let far : Progress = answered.0 in
+      let advances = answered.1 in
+      record {
+        forms = 1;
+        far = far;
+        far_is = advances.far_is;
+        lines = 1;
+        answered = far;
+        answered_is = advances.far_is;
+        at_most = omega arith;
+        in_turn = omega arith;
+        part = [];
+        output = subst (Writes a b) (sym (append-nil far.lines)) advances.lines;
+        survives = advances.survives;
+        ends = record {
+          all = refl;
+          no_part = refl;
+          nothing_left = ap (read_in functions far.world mode) (last_rest far advances.far_is) ∙ reads_none (setting_in functions far.world mode);
+          after = advances.after;
+        };
+      }
+
 module _ (functions : Functions) {D R : Type 0} (state : D → State) where
   after_longer : (old new : Session D R) (far : Progress) (more : List ℕ) → IsAfter state old new far → IsAfter state old new (longer far more)
   after_longer old new far more a = record {
@@ -207,7 +248,7 @@ module _ (functions : Functions) {D R : Type 0} (state : D → State) where
         (fault_answered functions state sound old new w mode (text ++ more) a b known number refuses.place (refuses.reads more) same e is)
     by_ending End is = absurd is
     by_ending (Reader code) is = λ others.
-        (refl, refuses.place, ap (read_in functions w mode) (append_assoc text more others) ∙ refuses.reads (more ++ others) ∙ ap (λ n. refused n refuses.place) (sym is.0))
+        (refl, (refuses.place, ap (read_in functions w mode) (append_assoc text more others) ∙ refuses.reads (more ++ others) ∙ ap (λ n. refused n refuses.place) (sym is.0)))
     by_ending (Store code) is = tt
 
   -- ---- one after the other
@@ -261,3 +302,20 @@ module _ (functions : Functions) {D R : Type 0} (state : D → State) where
     answers_both text left first after (Some ending) second = λ more.
         ended_both (text ++ more) (left ++ more) (extended old mid w mode text a b pending left more first) ending
         (subst (λ t. HasEnded functions state mid new first.far.world mode t b c ending) (append_assoc first.bytes left more) (second more))
+
+    -- a byte that was left, and what it came to
+    pub left_both : (text : List ℕ) (byte : ℕ) (first : LeavesByte functions state old mid w mode text a b pending byte) (after : Pending) (result : Option Ending)
+        → Answers functions state mid new first.goes.far.world mode (byte ∷ []) b c after result → Answers functions state old new w mode text a c after result
+    left_both text byte first after result second =
+        answers_both text (byte ∷ []) first.goes after result
+        (subst (λ bytes. Answers functions state mid new first.goes.far.world mode (bytes ++ byte ∷ []) b c after result) (sym first.alone) second)
+
+    -- more of the text, and what it came to
+    pub more_both : (text more : List ℕ) (first : GoesOn functions state old mid w mode text a b pending []) (after : Pending) (result : Option Ending)
+        → Answers functions state mid new first.far.world mode (first.bytes ++ more) b c after result → Answers functions state old new w mode (text ++ more) a c after result
+    more_both text more first after result second = answers_both (text ++ more) more (extended old mid w mode text a b pending [] more first) after result second
+
+  -- what is pending where a byte was left
+  pub none_left : (old new : Session D R) (w : World) (mode : Mode) (text : List ℕ) (a b : Option (List ℕ)) (pending : Pending) (byte : ℕ)
+      (first : LeavesByte functions state old new w mode text a b pending byte) → IsPending functions first.goes.far.world mode pending []
+  none_left old new w mode text a b pending byte first = subst (λ bytes. IsPending functions first.goes.far.world mode pending bytes) first.alone first.goes.is_pending

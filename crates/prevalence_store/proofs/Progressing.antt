@@ -124,7 +124,7 @@ module _ (functions : Functions) where
         (subst (λ o. Survives functions (state old.disk) (state mid.disk) w p.taken (length p.taken) o) left before)
         (second left (subst IsTrue (sym honest) claims) (before.kept p.world left))
 
-    survive_with : (taken : List Entry) (n k : ℕ) → k ≡ length p.taken + n → SurvivesAs functions state mid new p.world taken n → SurvivesAs functions state old new w (p.taken ++ taken) k
+    pub survive_with : (taken : List Entry) (n k : ℕ) → k ≡ length p.taken + n → SurvivesAs functions state mid new p.world taken n → SurvivesAs functions state old new w (p.taken ++ taken) k
     survive_with taken n k is second = subst (λ j. SurvivesAs functions state old new w (p.taken ++ taken) j) (sym is) (survive_both taken n second)
 
     -- some forms, and some more
@@ -136,7 +136,7 @@ module _ (functions : Functions) where
       survives = survive_with q.taken (length q.taken) (length (p.taken ++ q.taken)) (length-append p.taken q.taken) second.survives;
     }
 
-    ends_both : (forms : ℕ) (far : Progress) (lines : ℕ) (answered : Progress) (part : List ℕ) (ending : Ending)
+    pub ends_both : (forms : ℕ) (far : Progress) (lines : ℕ) (answered : Progress) (part : List ℕ) (ending : Ending)
         → Ends functions state mid new p.world mode p.rest b c forms far lines answered part ending
         → Ends functions state old new w mode text a c (forms + m) (onward p far) (lines + m) (onward p answered) part ending
     ends_both forms far lines answered part End ends = record {

@@ -57,10 +57,13 @@ some_line : (lines line : List ℕ) → line ≡ lines → lines ≢ [] → line
 some_line lines line same some is = some (sym same ∙ is)
 
 -- the line of an answer, in the world in memory
-pub line_inside : {E D R : Type 0} (failed : Bool) (log : HalvesValue D) (w : World) (macros : R) (now : Session D R) → session_of failed log w macros ≡ now
-    → (answer : Result Evaluated Failure) (line : Result Bytes E) → IfOk line (λ l. IsLineOf w answer l.items) → IfOk line (λ l. IsLine now answer l.items)
-line_inside failed log w macros now view answer (Ok line) is = record { world = w; one = λ v known. sym (world_inside failed log w v macros now view known); line_of = is }
-line_inside failed log w macros now view answer (Err error) is = tt
+pub line_inside : {D R : Type 0} (failed : Bool) (log : HalvesValue D) (w : World) (macros : R) (now : Session D R) → session_of failed log w macros ≡ now
+    → (answer : Result Evaluated Failure) (line : List ℕ) → IsLineOf w answer line → IsLine now answer line
+line_inside failed log w macros now view answer line is = record { world = w; one = λ v known. sym (world_inside failed log w v macros now view known); line_of = is }
+
+pub ok_map : {V E : Type 0} (P Q : V → Type 0) (r : Result V E) → ((v : V) → P v → Q v) → IfOk r P → IfOk r Q
+ok_map P Q (Ok v) f is = f v is
+ok_map P Q (Err e) f is = tt
 
 module _ (functions : Functions) where
   -- ---- what was written

@@ -58,7 +58,9 @@ impl<D: Disk, R: MacroFunctions> Store<D, R> {
         }
         let mut pending = Pending::new(self.alloc);
         let mut buffer = [0u8; 4096];
-        'reads: for _done in 0..MOST_READS {
+        let mut reads = 0;
+        'reads: while reads < MOST_READS {
+            reads += 1;
             let Ok(count) = reader.read(&mut buffer) else {
                 return Ending::Store(INPUT);
             };
@@ -129,8 +131,9 @@ impl<D: Disk, R: MacroFunctions> Store<D, R> {
             Turn::Taken => None,
             Turn::Ended(ending) => Some(ending),
             Turn::Left => match self.turn(pending, writer, mode, byte) {
+                Turn::Taken => None,
                 Turn::Ended(ending) => Some(ending),
-                Turn::Taken | Turn::Left => None,
+                Turn::Left => None,
             },
         }
     }

@@ -38,7 +38,7 @@ answer_form-requires-clause-read g c = λ w known.
     let text = p.0 ++ c.args.byte ∷ [] in
     let f = c.in-Form in
     let has = subst (λ (fed : Fed). Feeds functions w c.args.mode c.feed.new.pending text fed) f.is (c.in-Ok.ensures.feeds w known p.0 p.1) in
-    (text, has.next, form_begins_here functions w c.args.mode c.feed.new.pending text (object_of f.datum) f.own.items f.left has c.as_slice.result.now c.as_slice.ensures.value)
+    (text, (has.next, form_begins_here functions w c.args.mode c.feed.new.pending text (object_of f.datum) f.own.items f.left has c.as_slice.result.now c.as_slice.ensures.value))
 
 pub returns-in-Some-clause-turns : goal.returns-in-Some-clause-turns
 returns-in-Some-clause-turns g c = λ w known bytes p more.
