@@ -1,12 +1,13 @@
 -- How what was answered joins, and that it stays whatever follows the text.
-use Rattle.std.proofs.Common.{◌≡◌, ℕ, ◌+◌, ◌-◌, ◌<◌, ◌≤◌, Bool, true, false, cond, List, [], ◌∷◌, ◌++◌, length, take, drop, Option, None, Some, IsSome, Ok, Err, refl, sym, ap, subst, ◌∙◌, append_assoc, append-nil, length-append, length-drop, arith}
-use Rattle.std.proofs.lemmas.List.{take-append-le, drop-append-le, drop_all}
+use Rattle.std.proofs.Common.{◌≡◌, ℕ, ◌+◌, ◌-◌, ◌<◌, ◌≤◌, Bool, true, false, cond, List, [], ◌∷◌, ◌++◌, length, take, drop, Option, None, Some, IsSome, Ok, Err, inl, inr, refl, sym, ap, subst, ◌∙◌, append_assoc, append-nil, length-append, length-drop, arith}
+use Rattle.std.proofs.lemmas.List.{take-append-drop, take-append-le, drop-append-le, drop_all}
 use Rattle.disk_trait.specs.Disk.{State, IsHonest, IsSound}
 use Rattle.form_eval.specs.Acceptance.{accept}
 use Rattle.form_eval.specs.Outcomes.{Outcome as Evaluation}
 use Rattle.lisp_object.specs.Object.{Object}
-use Rattle.lisp_object.specs.declared.refusal.TheConstants.{NO_MEMORY}
+use Rattle.lisp_object.specs.declared.refusal.TheConstants.{INPUT}
 use Rattle.plist_state.specs.State.{State as World}
+use Rattle.form_reader.specs.Reader.{MayGoOn}
 use Rattle.form_reader.specs.Reading.{form, refused}
 use Rattle.prevalence_store.specs.declared.input.Pending.{Pending}
 use Rattle.prevalence_store.specs.declared.mode.Mode.{Mode}
@@ -285,7 +286,7 @@ module _ (functions : Functions) {D R : Type 0} (state : D → State) where
         by_ending : (e : Ending) (is : HasEnded functions state mid new p.world mode p.rest b c e)
             → StaysEnded functions state old new w mode text a c e
             (serve_both functions state sound old mid new w mode text a b c first.forms p first.advances honest e is.serves)
-        by_ending End is = tt
+        by_ending End is = absurd is.stays
         by_ending (Reader code) is = λ more.
             (forms_onward functions is.serves.forms first.forms (is.serves.forms + first.forms) w mode (text ++ more) (longer p more) (longer is.serves.far more) refl (first.stays more)
                 (is.stays more).0,
@@ -298,6 +299,7 @@ module _ (functions : Functions) {D R : Type 0} (state : D → State) where
     -- what was answered, and what became of what was left
     pub answers_both : (text left : List ℕ) (first : GoesOn functions state old mid w mode text a b pending left) (after : Pending) (result : Option Ending)
         → Answers functions state mid new first.far.world mode (first.bytes ++ left) b c after result → Answers functions state old new w mode text a c after result
+    unfolding extended
     answers_both text left first after None second = goes_on_both text left first after [] second
     answers_both text left first after (Some ending) second = λ more.
         ended_both (text ++ more) (left ++ more) (extended old mid w mode text a b pending left more first) ending
@@ -313,7 +315,60 @@ module _ (functions : Functions) {D R : Type 0} (state : D → State) where
     -- more of the text, and what it came to
     pub more_both : (text more : List ℕ) (first : GoesOn functions state old mid w mode text a b pending []) (after : Pending) (result : Option Ending)
         → Answers functions state mid new first.far.world mode (first.bytes ++ more) b c after result → Answers functions state old new w mode (text ++ more) a c after result
+    unfolding extended
     more_both text more first after result second = answers_both (text ++ more) more (extended old mid w mode text a b pending [] more first) after result second
+
+    piece_is : (bytes piece : List ℕ) (k byte : ℕ) → take (k + 1) piece ≡ take k piece ++ byte ∷ [] → (bytes ++ take k piece) ++ byte ∷ [] ≡ bytes ++ take (k + 1) piece
+    piece_is bytes piece k byte taken = append_assoc bytes (take k piece) (byte ∷ []) ∙ ap (λ t. bytes ++ t) (sym taken)
+
+    -- one byte more of a piece, and what it came to
+    pub byte_both : (bytes piece : List ℕ) (k byte : ℕ) → take (k + 1) piece ≡ take k piece ++ byte ∷ []
+        → (first : GoesOn functions state old mid w mode (bytes ++ take k piece) a b pending []) (after : Pending) (result : Option Ending)
+        → Answers functions state mid new first.far.world mode (first.bytes ++ byte ∷ []) b c after result → Answers functions state old new w mode (bytes ++ take (k + 1) piece) a c after result
+    byte_both bytes piece k byte taken first after result second =
+        subst (λ t. Answers functions state old new w mode t a c after result) (piece_is bytes piece k byte taken)
+        (more_both (bytes ++ take k piece) (byte ∷ []) first after result second)
+
+    -- the end of the input, and what it came to
+    pub end_both : (text : List ℕ) (first : GoesOn functions state old mid w mode text a b pending []) (ending : Ending)
+        → Serves functions state mid new first.far.world mode first.bytes b c ending → Serves functions state old new w mode text a c ending
+    end_both text first ending second =
+        serve_both functions state sound old mid new w mode text a b c first.forms first.far first.advances honest ending
+        (subst (λ t. Serves functions state mid new first.far.world mode t b c ending) (sym (first.rest ∙ append-nil first.bytes)) second)
+
+  -- the session ended within a piece
+  pub ended_within : (old new : Session D R) (w : World) (mode : Mode) (a b : Option (List ℕ)) (after : Pending) (bytes piece : List ℕ) (n : ℕ) (ending : Ending)
+      → Answers functions state old new w mode (bytes ++ take n piece) a b after (Some ending) → Answers functions state old new w mode (bytes ++ piece) a b after (Some ending)
+  ended_within old new w mode a b after bytes piece n ending ended more =
+      subst (λ t. HasEnded functions state old new w mode t a b ending)
+      (append_assoc bytes (take n piece) (drop n piece ++ more) ∙ ap (λ t. bytes ++ t) (sym (append_assoc (take n piece) (drop n piece) more) ∙ ap (λ t. t ++ more) (take-append-drop n piece))
+      ∙ sym (append_assoc bytes piece more)) (ended (drop n piece ++ more))
+
+  -- a read failed after it
+  pub unread_after : (old new : Session D R) (w : World) (mode : Mode) (text : List ℕ) (a b : Option (List ℕ)) (pending : Pending)
+      → GoesOn functions state old new w mode text a b pending [] → Serves functions state old new w mode text a b (Store INPUT)
+  unread_after old new w mode text a b pending goes =
+      let far : Progress = goes.far in
+      record {
+        forms = goes.forms;
+        far = far;
+        far_is = goes.advances.far_is;
+        lines = goes.forms;
+        answered = far;
+        answered_is = goes.advances.far_is;
+        at_most = omega arith;
+        in_turn = omega arith;
+        part = [];
+        output = subst (Writes a b) (sym (append-nil far.lines)) goes.advances.lines;
+        survives = goes.advances.survives;
+        ends = inr (inr (inl (record {
+          input = refl;
+          all = refl;
+          no_part = refl;
+          more = subst (λ t. MayGoOn t (read_in functions far.world mode t)) (sym (goes.rest ∙ append-nil goes.bytes)) goes.is_pending.more;
+          after = goes.advances.after;
+        })));
+      }
 
   -- what is pending where a byte was left
   pub none_left : (old new : Session D R) (w : World) (mode : Mode) (text : List ℕ) (a b : Option (List ℕ)) (pending : Pending) (byte : ℕ)

@@ -1,6 +1,7 @@
 pub mod Answering
 pub mod Committing
 pub mod Executing
+pub mod Inputs
 pub mod Joining
 pub mod LeftAlone
 pub mod Loading

@@ -81,9 +81,9 @@ module _ (functions : Functions) {D R : Type 0} (state : D → State) (old new :
     pub rest : far.rest ≡ bytes ++ left
     pub is_pending : IsPending functions far.world mode pending bytes
 
-  -- a refusal of the reader stays one, whatever follows the text
+  -- a refusal of the reader stays one, whatever follows the text; the end of the input is not told by a text that may go on
   abbrev pub StaysEnded : (ending : Ending) → Serves functions state old new world mode text held written ending → Type 0
-  StaysEnded End served = Unit {0}
+  StaysEnded End served = ⊥
   StaysEnded (Reader number) served = StaysRefused functions state old new world mode text held written number served
   StaysEnded (Store number) served = Unit {0}
 

@@ -61,15 +61,17 @@ impl<D: Disk, R: MacroFunctions> Store<D, R> {
         let mut reads = 0;
         'reads: while reads < MOST_READS {
             reads += 1;
-            let Ok(count) = reader.read(&mut buffer) else {
-                return Ending::Store(INPUT);
+            let count = match reader.read(&mut buffer) {
+                Ok(count) => count,
+                Err(_) => return Ending::Store(INPUT),
             };
             if count == 0 {
                 return self.answer_end(pending, writer, mode);
             }
             let piece = &buffer[..count];
-            if let Some(ending) = self.answer_piece(&mut pending, writer, mode, piece) {
-                return ending;
+            match self.answer_piece(&mut pending, writer, mode, piece) {
+                Some(ending) => return ending,
+                None => {}
             }
         }
         Ending::Store(INPUT)
@@ -98,8 +100,9 @@ impl<D: Disk, R: MacroFunctions> Store<D, R> {
         ensures macros { self.new.macros ≡ self.old.macros }
     {
         'bytes: for byte in piece {
-            if let Some(ending) = self.answer_byte(pending, writer, mode, *byte) {
-                return Some(ending);
+            match self.answer_byte(pending, writer, mode, *byte) {
+                Some(ending) => return Some(ending),
+                None => {}
             }
         }
         None
