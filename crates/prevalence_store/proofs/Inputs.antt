@@ -25,6 +25,14 @@ kept None new left is keeps = absurd (cc)
 kept (Some xs) None left is keeps = absurd keeps
 kept (Some xs) (Some ys) left is keeps = let same : xs ≡ left = cc in ap (λ t. Some t) (keeps ∙ same)
 
+pub keeps_same : (has : Option (List ℕ)) → Keeps has has
+keeps_same None = tt
+keeps_same (Some xs) = refl
+
+pub consumes_none : (has : Option (List ℕ)) → Consumes has has []
+consumes_none None = tt
+consumes_none (Some xs) = refl
+
 at_end : (new : Option (List ℕ)) (rest : List ℕ) → new ≡ Some rest → IsAtEnd new → rest ≡ []
 at_end None rest is ends = absurd (cc)
 at_end (Some ys) rest is ends = let same : ys ≡ rest = cc in sym same ∙ ends
