@@ -287,10 +287,11 @@ module _ (functions : Functions) {D R : Type 0} (state : D → State) where
             → StaysEnded functions state old new w mode text a c e
             (serve_both functions state sound old mid new w mode text a b c first.forms p first.advances honest e is.serves)
         by_ending End is = absurd is.stays
-        by_ending (Reader code) is = λ more.
-            (forms_onward functions is.serves.forms first.forms (is.serves.forms + first.forms) w mode (text ++ more) (longer p more) (longer is.serves.far more) refl (first.stays more)
-                (is.stays more).0,
-                (is.stays more).1)
+        by_ending (Reader code) is = λ more. (
+          forms_onward functions is.serves.forms first.forms (is.serves.forms + first.forms) w mode (text ++ more) (longer p more) (longer is.serves.far more) refl (first.stays more)
+              (is.stays more).0,
+          (is.stays more).1,
+        )
         by_ending (Store code) is = tt
 
       pub ended_both : (ending : Ending) → HasEnded functions state mid new p.world mode rest b c ending → HasEnded functions state old new w mode text a c ending

@@ -142,7 +142,10 @@ impl Pending {
             ReadOutcome::Empty => Ok(Fed::Nothing),
             ReadOutcome::Refused { code, at: _ } => Ok(Fed::Refused(code)),
             ReadOutcome::Form {
-                datum, start, end, ..
+                datum,
+                start,
+                end,
+                ..
             } => {
                 let own = own_text(alloc, text.as_slice(), dropped, start, end)?;
                 let left = false;

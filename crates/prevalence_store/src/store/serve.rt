@@ -173,13 +173,7 @@ impl<D: Disk, R: MacroFunctions> Store<D, R> {
             Fed::Form { datum, own, left } => {
                 match self.answer_form(writer, mode, &datum, own.as_slice()) {
                     Some(number) => Turn::Ended(Ending::Store(number)),
-                    None => {
-                        if left {
-                            Turn::Left
-                        } else {
-                            Turn::Taken
-                        }
-                    }
+                    None => { if left { Turn::Left } else { Turn::Taken } }
                 }
             }
         }

@@ -33,11 +33,11 @@ take_form-answer-requires-clause-whole g c = λ w known.
 pub line-requires : goal.line-requires
 line-requires g c = record {
   proper =
-    let functions = functions_of g.R.Meaning.Meaning.names g.R.Meaning.Meaning.way g.R.Meaning.Meaning.answer in
-    let here = known_world c.args.self.now.world c.requires.known in
-    let e = c.take_form-answer.ensures in
-    answer_proper functions g.D.Disk.state c.args.self.now c.take_form-answer.new.self here.0 c.args.mode c.args.own.now (object_of c.args.datum.now) c.take_form-answer.result
-    (record { accepted = e.accepted; cause = e.cause; unchanged = e.unchanged; fault = e.fault; survives = e.survives }) here.1 e.argument;
+      let functions = functions_of g.R.Meaning.Meaning.names g.R.Meaning.Meaning.way g.R.Meaning.Meaning.answer in
+      let here = known_world c.args.self.now.world c.requires.known in
+      let e = c.take_form-answer.ensures in
+      answer_proper functions g.D.Disk.state c.args.self.now c.take_form-answer.new.self here.0 c.args.mode c.args.own.now (object_of c.args.datum.now) c.take_form-answer.result
+      (record { accepted = e.accepted; cause = e.cause; unchanged = e.unchanged; fault = e.fault; survives = e.survives }) here.1 e.argument;
 }
 
 pub returns-in-Err-clause-answers : goal.returns-in-Err-clause-answers

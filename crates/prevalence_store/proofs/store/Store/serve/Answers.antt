@@ -14,9 +14,14 @@ reads-init g c = record {
   most = omega arith;
   count = let none = c.new-pending.ensures.count in omega arith;
   far = λ w known.
-      let functions = functions_of g.R.Meaning.Meaning.names g.R.Meaning.Meaning.way g.R.Meaning.Meaning.answer in
-      ([], (nothing_answered functions g.D.Disk.state g.met.D.Disk.sound c.args.self.now w c.args.mode [] (g.W.Write.contents c.args.writer.now) c.new-pending.result known
-          (c.new-pending.ensures.none functions w c.args.mode), λ all is. (all, (is, refl))));
+      let functions = functions_of g.R.Meaning.Meaning.names g.R.Meaning.Meaning.way g.R.Meaning.Meaning.answer in (
+        [],
+        (
+          nothing_answered functions g.D.Disk.state g.met.D.Disk.sound c.args.self.now w c.args.mode [] (g.W.Write.contents c.args.writer.now) c.new-pending.result known
+              (c.new-pending.ensures.none functions w c.args.mode),
+          λ all is. (all, (is, refl)),
+        ),
+      );
 }
 
 pub returns-in-Err-clause-serves : goal.returns-in-Err-clause-serves
@@ -74,11 +79,14 @@ reads-preserved g c =
       count = search rules;
       far = λ w known.
           let far = c.reads.invariant.far w known in
-          let goes = far.1.0 in
-          (far.0 ++ piece,
-              (more_both functions g.D.Disk.state g.met.D.Disk.sound c.args.self.now c.reads.self c.answer_piece.new.self w c.args.mode
-              (g.W.Write.contents c.args.writer.now) (g.W.Write.contents c.reads.writer) (g.W.Write.contents c.answer_piece.new.writer) c.reads.pending c.reads.invariant.honest
-              far.0 piece goes c.answer_piece.new.pending None
-              (c.in-None.ensures.answers goes.far.world goes.advances.after.left goes.bytes goes.is_pending),
-              left_both _ _ _ far.0 piece far.1.1 c.in-Ok.ensures.bytes.0));
+          let goes = far.1.0 in (
+            far.0 ++ piece,
+            (
+              more_both functions g.D.Disk.state g.met.D.Disk.sound c.args.self.now c.reads.self c.answer_piece.new.self w c.args.mode
+                  (g.W.Write.contents c.args.writer.now) (g.W.Write.contents c.reads.writer) (g.W.Write.contents c.answer_piece.new.writer) c.reads.pending c.reads.invariant.honest
+                  far.0 piece goes c.answer_piece.new.pending None
+                  (c.in-None.ensures.answers goes.far.world goes.advances.after.left goes.bytes goes.is_pending),
+              left_both _ _ _ far.0 piece far.1.1 c.in-Ok.ensures.bytes.0,
+            ),
+          );
     }
