@@ -1,8 +1,11 @@
+pub mod Answering
 pub mod Committing
 pub mod Executing
+pub mod Inputs
 pub mod Joining
 pub mod LeftAlone
 pub mod Loading
+pub mod Pendings
 pub mod Progressing
 pub mod Replaying
 pub mod StreamLemmas

@@ -82,6 +82,7 @@ module _ {D R : Type 0} (state : D → State) (sound : (d : D) → IsHonest (sta
     size = size_both q.taken new.size second.size;
     fits = let first_fits = first.fits in let second_fits = second.fits in let limit = first.limit in omega arith;
     limit = second.limit ∙ first.limit;
+    macros = second.macros ∙ first.macros;
     described = described_both q.taken second.described;
     other = other_both second.other;
     failures = second.failures ∙ first.failures;
@@ -123,7 +124,7 @@ module _ (functions : Functions) where
         (subst (λ o. Survives functions (state old.disk) (state mid.disk) w p.taken (length p.taken) o) left before)
         (second left (subst IsTrue (sym honest) claims) (before.kept p.world left))
 
-    survive_with : (taken : List Entry) (n k : ℕ) → k ≡ length p.taken + n → SurvivesAs functions state mid new p.world taken n → SurvivesAs functions state old new w (p.taken ++ taken) k
+    pub survive_with : (taken : List Entry) (n k : ℕ) → k ≡ length p.taken + n → SurvivesAs functions state mid new p.world taken n → SurvivesAs functions state old new w (p.taken ++ taken) k
     survive_with taken n k is second = subst (λ j. SurvivesAs functions state old new w (p.taken ++ taken) j) (sym is) (survive_both taken n second)
 
     -- some forms, and some more
@@ -135,7 +136,7 @@ module _ (functions : Functions) where
       survives = survive_with q.taken (length q.taken) (length (p.taken ++ q.taken)) (length-append p.taken q.taken) second.survives;
     }
 
-    ends_both : (forms : ℕ) (far : Progress) (lines : ℕ) (answered : Progress) (part : List ℕ) (ending : Ending)
+    pub ends_both : (forms : ℕ) (far : Progress) (lines : ℕ) (answered : Progress) (part : List ℕ) (ending : Ending)
         → Ends functions state mid new p.world mode p.rest b c forms far lines answered part ending
         → Ends functions state old new w mode text a c (forms + m) (onward p far) (lines + m) (onward p answered) part ending
     ends_both forms far lines answered part End ends = record {
@@ -164,6 +165,7 @@ module _ (functions : Functions) where
       size = size_both state sound old mid new p first.after honest answered.taken new.size stopped.size;
       fits = fits_both state sound old mid new p first.after honest far.taken stopped.fits;
       limit = stopped.limit ∙ first.after.limit;
+      macros = stopped.macros ∙ first.after.macros;
       other = other_both state sound old mid new p first.after honest stopped.other;
       failures = stopped.failures ∙ ap (λ n. n + 1) first.after.failures;
     })
@@ -204,7 +206,7 @@ module _ (functions : Functions) where
     }))))
 
     -- some forms, and how the session ended after them
-    pub serve_both : (ending : Ending) → Serves functions state mid new p.world mode p.rest b c ending → Serves functions state old new w mode text a c ending
+    unfoldable pub serve_both : (ending : Ending) → Serves functions state mid new p.world mode p.rest b c ending → Serves functions state old new w mode text a c ending
     serve_both ending second = record {
       forms = second.forms + m;
       far = onward p second.far;

@@ -14,4 +14,5 @@ pub mod Output
 pub mod Streams
 pub mod Serving
 -- how the code answers it
+pub mod Pending
 pub mod Turns

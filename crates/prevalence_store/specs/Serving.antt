@@ -12,7 +12,8 @@ use Rattle.prevalence_store.specs.Acceptance.{read_in}
 use Rattle.prevalence_store.specs.Execution.{SurvivesAs}
 use Rattle.prevalence_store.specs.LeftAlone.{LeavesAlone}
 use Rattle.prevalence_store.specs.Output.{Progress, after_forms, last_line, one_form, refusal_line}
-use Rattle.form_reader.specs.Reading.{Outcome as Reading, form, empty, refused}
+use Rattle.form_reader.specs.Reader.{MayGoOn}
+use Rattle.form_reader.specs.Reading.{empty, refused}
 use Rattle.prevalence_store.specs.Session.{Session, Describes}
 use Rattle.prevalence_store.specs.Streams.{Writes}
 use Rattle.plist_state.specs.State.{State as World}
@@ -21,12 +22,6 @@ use Rattle.prevalence_store.specs.Functions.{Functions}
 -- the contents with these records more
 abbrev pub with_entries : Contents → List Entry → Contents
 with_entries k entries = record k { entries = k.entries ++ entries }
-
--- what a text begins with may be another thing where the text goes on
-abbrev pub MayGoOn : List ℕ → Reading → Type 0
-MayGoOn text empty = Unit {0}
-MayGoOn text (form object start end next) = next ≡ length text
-MayGoOn text (refused number place) = place ≡ length text
 
 -- the bytes that these records take in a half
 abbrev pub room_of : List Entry → ℕ

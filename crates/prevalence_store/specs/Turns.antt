@@ -1,45 +1,48 @@
--- One turn of a session: what a text begins with is answered.
-use Rattle.std.specs.Prelude.{◌≡◌, ◌⊎◌, ℕ, ◌<◌, ◌≤◌, List, length, drop, Option, IsSome, Result, Ok, Err}
+-- One turn of a session: what one byte more comes to.
+use Rattle.std.specs.Prelude.{◌≡◌, ◌⊎◌, ℕ, ◌<◌, List, [], ◌∷◌, ◌++◌, length, Option, None, Some, Ok, Err, Result}
 use Rattle.disk_trait.specs.Disk.{State}
+use Rattle.lisp_object.specs.Object.{Object}
 use Rattle.lisp_object.specs.Datum.{object_of}
 use Rattle.form_eval.specs.declared.evaluated.Evaluated.{Evaluated}
 use Rattle.lisp_object.specs.declared.refusal.TheConstants.{DEVICE, LOG_FULL, OUTPUT, NO_MEMORY}
+use Rattle.form_reader.specs.Reading.{form}
 use Rattle.prevalence_store.specs.declared.failure.Failure.{Failure}
 use Rattle.prevalence_store.specs.declared.failure.Failure.TheVariants.{Refused, Full, DeviceFault, OutOfMemory}
+use Rattle.prevalence_store.specs.declared.input.Pending.{Pending}
 use Rattle.prevalence_store.specs.declared.mode.Mode.{Mode}
 use Rattle.prevalence_store.specs.declared.turn.Turn.{Turn}
-use Rattle.prevalence_store.specs.declared.turn.Turn.TheVariants.{Taken, Ended}
+use Rattle.prevalence_store.specs.declared.turn.Turn.TheVariants.{Taken, Left, Ended}
+use Rattle.prevalence_store.specs.declared.outcome.Ending.{Ending}
 use Rattle.prevalence_store.specs.declared.outcome.Ending.TheVariants.{End, Reader, Store}
-use Rattle.prevalence_store.specs.Output.{Progress, refusal_line, value_line}
-use Rattle.prevalence_store.specs.Serving.{Advances, Serves}
+use Rattle.prevalence_store.specs.Acceptance.{between, read_in}
+use Rattle.prevalence_store.specs.Output.{Progress, after_forms, refusal_line, value_line}
+use Rattle.prevalence_store.specs.Pending.{IsPending}
+use Rattle.prevalence_store.specs.Serving.{Advances, Serves, StaysRefused}
 use Rattle.prevalence_store.specs.Session.{Session}
 use Rattle.prevalence_store.specs.Streams.{Writes, WritesPart}
 use Rattle.plist_state.specs.State.{State as World}
 use Rattle.prevalence_store.specs.Functions.{Functions}
 
-module _ (functions : Functions) {D R : Type 0} (state : D → State) (old new : Session D R) (world : World) (mode : Mode) (text : List ℕ) (held written : Option (List ℕ)) where
-  -- a form was answered, and the next one begins at this place
-  pub record IsAnswered (next : ℕ) : Type 0 where
-    pub far : Progress
-    pub advances : Advances functions state old new world mode text held written 1 far
-    pub rest : far.rest ≡ drop next text
+-- ---- the answer to a form, and to a refusal of the reader
 
-  -- what a turn comes to
-  abbrev pub TurnsInto : Turn → Type 0
-  TurnsInto (Taken next) = IsAnswered next
-  TurnsInto (Ended ending) = Serves functions state old new world mode text held written ending
+-- the text begins with this form, and this is its own text
+pub record BeginsWith (functions : Functions) (world : World) (mode : Mode) (text : List ℕ) (object : Object) (own : List ℕ) (next : ℕ) : Type 0 where
+  pub start : ℕ
+  pub stop : ℕ
+  pub reads : read_in functions world mode text ≡ form object start stop next
+  pub is_own : own ≡ between start stop text
 
--- where a form was answered, the store has a world, and the next one begins later in the text
-abbrev pub GoesOn : {D R : Type 0} → Session D R → List ℕ → Turn → Type 0
-GoesOn new text (Taken next) = IsSome new.world × (0 < next) × (next ≤ length text)
-GoesOn new text (Ended ending) = Unit {0}
+module _ (functions : Functions) {D R : Type 0} (state : D → State) (old new : Session D R) (world : World) (mode : Mode) where
+  -- the form that the text begins with was answered; or the session has ended in it, with this number
+  abbrev pub AnswersForm : List ℕ → Option (List ℕ) → Option (List ℕ) → Option ℕ → Type 0
+  AnswersForm text held written None = (far : Progress) × Advances functions state old new world mode text held written 1 far
+  AnswersForm text held written (Some number) = Serves functions state old new world mode text held written (Store number)
 
 -- A reader refusal ends the session: its line was written, or the writer failed in it, or there was no memory for it.
-abbrev pub AnswersFault : ℕ → Option (List ℕ) → Option (List ℕ) → Turn → Type 0
-AnswersFault number held written (Taken next) = ⊥
-AnswersFault number held written (Ended End) = ⊥
-AnswersFault number held written (Ended (Reader code)) = (code ≡ number) × Writes held written (refusal_line number)
-AnswersFault number held written (Ended (Store code)) =
+abbrev pub AnswersFault : ℕ → Option (List ℕ) → Option (List ℕ) → Ending → Type 0
+AnswersFault number held written End = ⊥
+AnswersFault number held written (Reader code) = (code ≡ number) × Writes held written (refusal_line number)
+AnswersFault number held written (Store code) =
     ((code ≡ OUTPUT) × WritesPart held written (refusal_line number)) ⊎ ((code ≡ NO_MEMORY) × (written ≡ held))
 
 -- the line that answers a form, in the world that it left
@@ -50,6 +53,12 @@ IsLineOf world (Err Full) line = ⊥
 IsLineOf world (Err DeviceFault) line = ⊥
 IsLineOf world (Err OutOfMemory) line = ⊥
 
+-- the line that answers a form, in the world that the store has after it, if any
+pub record IsLine {D R : Type 0} (new : Session D R) (answer : Result Evaluated Failure) (line : List ℕ) : Type 0 where
+  pub world : World
+  pub one : (v : World) → new.world ≡ Some v → v ≡ world
+  pub line_of : IsLineOf world answer line
+
 -- why there is no such line
 abbrev pub IsStop : Result Evaluated Failure → ℕ → Type 0
 IsStop (Ok evaluated) number = number ≡ NO_MEMORY
@@ -57,3 +66,46 @@ IsStop (Err (Refused code)) number = number ≡ NO_MEMORY
 IsStop (Err Full) number = number ≡ LOG_FULL
 IsStop (Err DeviceFault) number = number ≡ DEVICE
 IsStop (Err OutOfMemory) number = number ≡ NO_MEMORY
+
+-- ---- what became of what was read
+
+module _ (functions : Functions) {D R : Type 0} (state : D → State) (old new : Session D R) (world : World) (mode : Mode) (text : List ℕ) (held written : Option (List ℕ)) where
+  -- Forms were answered, and the same ones of any text that goes on. Of what is left of the text the reader was fed all but
+  -- these last bytes.
+  pub record GoesOn (pending : Pending) (left : List ℕ) : Type 0 where
+    pub forms : ℕ
+    pub far : Progress
+    pub advances : Advances functions state old new world mode text held written forms far
+    pub stays : (more : List ℕ) → after_forms functions forms world mode (text ++ more) ≡ Some (record far { rest = far.rest ++ more })
+    pub bytes : List ℕ
+    pub rest : far.rest ≡ bytes ++ left
+    pub is_pending : IsPending functions far.world mode pending bytes
+
+  -- a refusal of the reader stays one, whatever follows the text; the end of the input is not told by a text that may go on
+  abbrev pub StaysEnded : (ending : Ending) → Serves functions state old new world mode text held written ending → Type 0
+  StaysEnded End served = ⊥
+  StaysEnded (Reader number) served = StaysRefused functions state old new world mode text held written number served
+  StaysEnded (Store number) served = Unit {0}
+
+  -- the session has ended
+  pub record HasEnded (ending : Ending) : Type 0 where
+    pub serves : Serves functions state old new world mode text held written ending
+    pub stays : StaysEnded ending serves
+
+module _ (functions : Functions) {D R : Type 0} (state : D → State) (old new : Session D R) (world : World) (mode : Mode) (text : List ℕ) (held written : Option (List ℕ)) (pending : Pending) where
+  -- The session goes on; or it has ended, whatever follows the text.
+  abbrev pub Answers : Option Ending → Type 0
+  Answers None = GoesOn functions state old new world mode text held written pending []
+  Answers (Some ending) = (more : List ℕ) → HasEnded functions state old new world mode (text ++ more) held written ending
+
+  -- the last byte is the first of what follows a form
+  pub record LeavesByte (byte : ℕ) : Type 0 where
+    pub goes : GoesOn functions state old new world mode text held written pending (byte ∷ [])
+    pub alone : goes.bytes ≡ []
+    pub not_first : 1 < length text
+
+  -- what a turn comes to, with the last byte of the text
+  abbrev pub TurnsInto : ℕ → Turn → Type 0
+  TurnsInto byte Taken = Answers None
+  TurnsInto byte Left = LeavesByte byte
+  TurnsInto byte (Ended ending) = Answers (Some ending)

@@ -1,12 +1,14 @@
-// One turn of a session.
+// One byte of a session.
 
 use crate::outcome::Ending;
 
-/// What a turn of a session comes to.
+/// What a byte of the input comes to in a session.
 #[derive(Clone, Copy, Debug, PartialEq, Eq)]
 pub(crate) enum Turn {
-    /// A form was answered; the next one begins at this place.
-    Taken(usize),
+    /// The byte is part of what is open, or of the form that was answered.
+    Taken,
+    /// A form was answered, and the byte is the first of what follows it.
+    Left,
     /// The session has ended.
     Ended(Ending),
 }

@@ -1,0 +1,377 @@
+-- How what was answered joins, and that it stays whatever follows the text.
+use Rattle.std.proofs.Common.{◌≡◌, ℕ, ◌+◌, ◌-◌, ◌<◌, ◌≤◌, Bool, true, false, cond, List, [], ◌∷◌, ◌++◌, length, take, drop, Option, None, Some, IsSome, Ok, Err, inl, inr, refl, sym, ap, subst, ◌∙◌, append_assoc, append-nil, length-append, length-drop, arith}
+use Rattle.std.proofs.lemmas.List.{take-append-drop, take-append-le, drop-append-le, drop_all}
+use Rattle.disk_trait.specs.Disk.{State, IsHonest, IsSound}
+use Rattle.form_eval.specs.Acceptance.{accept}
+use Rattle.form_eval.specs.Outcomes.{Outcome as Evaluation}
+use Rattle.lisp_object.specs.Object.{Object}
+use Rattle.lisp_object.specs.declared.refusal.TheConstants.{INPUT}
+use Rattle.plist_state.specs.State.{State as World}
+use Rattle.form_reader.specs.Reader.{MayGoOn}
+use Rattle.form_reader.specs.Reading.{form, refused}
+use Rattle.prevalence_store.specs.declared.input.Pending.{Pending}
+use Rattle.prevalence_store.specs.declared.mode.Mode.{Mode}
+use Rattle.prevalence_store.specs.declared.outcome.Ending.{Ending}
+use Rattle.prevalence_store.specs.declared.outcome.Ending.TheVariants.{End, Reader, Store}
+use Rattle.prevalence_store.specs.Acceptance.{between, read_in, setting_in}
+use Rattle.prevalence_store.specs.Functions.{Functions}
+use Rattle.prevalence_store.specs.Output.{Progress, after_forms, begun, evaluated, one_form, onward}
+use Rattle.prevalence_store.specs.Pending.{HasForm, IsLastForm, IsPending, HasRefusal}
+use Rattle.prevalence_store.specs.Serving.{Advances, IsAfter, Serves, StaysRefused}
+use Rattle.prevalence_store.specs.Session.{Session}
+use Rattle.prevalence_store.specs.Turns.{Answers, AnswersFault, AnswersForm, BeginsWith, GoesOn, HasEnded, LeavesByte, StaysEnded}
+use Rattle.prevalence_store.proofs.Executing.{form_places}
+use Rattle.prevalence_store.specs.Streams.{Writes}
+use Rattle.prevalence_store.proofs.Pendings.{reads_none}
+use Rattle.prevalence_store.proofs.Progressing.{advance_both, forms_onward, serve_both}
+use Rattle.prevalence_store.proofs.Surviving.{unchanged_survives}
+use Rattle.prevalence_store.proofs.Turning.{after_none, after_one_form, fault_answered, no_memory, nothing, writes_nothing}
+
+-- with more text after what is left
+abbrev pub longer : Progress → List ℕ → Progress
+longer far more = record far { rest = far.rest ++ more }
+
+-- the places of a form are the same in a text that goes on
+between_more : (start stop : ℕ) (text more : List ℕ) → start ≤ stop → stop ≤ length text → between start stop (text ++ more) ≡ between start stop text
+between_more start stop text more order within =
+    let room : stop - start ≤ length (drop start text) = rw (length-drop start text) (omega arith) in
+    ap (take (stop - start)) (drop-append-le start text more (omega arith)) ∙ take-append-le (stop - start) (drop start text) more room
+
+longer_evaluated : (w : World) (mode : Mode) (own rest more : List ℕ) (given : Evaluation Object) → evaluated w mode own (rest ++ more) given ≡ longer (evaluated w mode own rest given) more
+longer_evaluated w mode own rest more (Ok done) = refl
+longer_evaluated w mode own rest more (Err number) = refl
+
+rest_evaluated : (w : World) (mode : Mode) (own rest : List ℕ) (given : Evaluation Object) → (evaluated w mode own rest given).rest ≡ rest
+rest_evaluated w mode own rest (Ok done) = refl
+rest_evaluated w mode own rest (Err number) = refl
+
+-- ---- a form that the bytes begin with, whatever follows them
+
+module _ (functions : Functions) (w : World) (mode : Mode) (pending : Pending) (text : List ℕ) (x : Object) (own : List ℕ) (left : Bool)
+    (has : HasForm functions w mode pending text x own left) where
+  next_within : has.next ≤ length text
+  next_within = let is = has.next_is in omega arith
+
+  reads_here : read_in functions w mode text ≡ form x has.start has.stop has.next
+  reads_here = ap (read_in functions w mode) (sym (append-nil text)) ∙ has.reads []
+
+  stop_within : (has.start < has.stop) × (has.stop ≤ has.next)
+  stop_within = let places = form_places functions w mode text x has.start has.stop has.next reads_here in (places.0, places.1)
+
+  abbrev given : Evaluation Object
+  given = accept functions.names w x
+
+  own_again : (more : List ℕ) → between has.start has.stop (text ++ more) ≡ between has.start has.stop text
+  own_again more = between_more has.start has.stop text more (let a = stop_within.0 in omega arith) (let a = stop_within.1 in let b = next_within in omega arith)
+
+  pub form_begins : (slice more : List ℕ) → slice ≡ own → BeginsWith functions w mode (text ++ more) x slice has.next
+  form_begins slice more same = record {
+    start = has.start;
+    stop = has.stop;
+    reads = has.reads more;
+    is_own = same ∙ has.is_own ∙ sym (own_again more);
+  }
+
+  pub form_begins_here : (slice : List ℕ) → slice ≡ own → BeginsWith functions w mode text x slice has.next
+  form_begins_here slice same = record { start = has.start; stop = has.stop; reads = reads_here; is_own = same ∙ has.is_own }
+
+  one_form_of : (t : List ℕ) → read_in functions w mode t ≡ form x has.start has.stop has.next
+      → after_forms functions 1 w mode t ≡ Some (evaluated w mode (between has.start has.stop t) (drop has.next t) given)
+  one_form_of t reads = after_one_form functions w mode t _ (ap (one_form functions w mode t) reads)
+
+  far_is_one : (far : Progress) → after_forms functions 1 w mode text ≡ Some far → far ≡ evaluated w mode (between has.start has.stop text) (drop has.next text) given
+  far_is_one far is = let same = sym is ∙ one_form_of text reads_here in cc
+
+  one_stays : (far : Progress) → after_forms functions 1 w mode text ≡ Some far → (more : List ℕ) → after_forms functions 1 w mode (text ++ more) ≡ Some (longer far more)
+  one_stays far is more =
+      one_form_of (text ++ more) (has.reads more)
+      ∙ (λ i. Some (evaluated w mode (own_again more i) (drop-append-le has.next text more next_within i) given))
+      ∙ ap (λ p. Some p) (longer_evaluated w mode (between has.start has.stop text) (drop has.next text) more given)
+      ∙ ap (λ p. Some (longer p more)) (sym (far_is_one far is))
+
+  one_rest : (far : Progress) → after_forms functions 1 w mode text ≡ Some far → far.rest ≡ drop has.next text
+  one_rest far is = ap (λ (p : Progress). p.rest) (far_is_one far is) ∙ rest_evaluated w mode (between has.start has.stop text) (drop has.next text) given
+
+  module _ {D R : Type 0} (state : D → State) (old new : Session D R) (a b : Option (List ℕ)) (answered : AnswersForm functions state old new w mode text a b None) where
+    -- the form was answered, and this is left
+    unfoldable after_form : (rest : List ℕ) → drop has.next text ≡ rest → GoesOn functions state old new w mode text a b pending rest
+    after_form rest is = record {
+      forms = 1;
+      far = answered.0;
+      advances = answered.1;
+      stays = one_stays answered.0 answered.1.far_is;
+      bytes = [];
+      rest = one_rest answered.0 answered.1.far_is ∙ is;
+      is_pending = has.none answered.0.world mode;
+    }
+
+    pub form_taken : left ≡ false → GoesOn functions state old new w mode text a b pending []
+    form_taken is =
+        let all : has.next + cond left 1 0 ≡ length text = has.next_is in
+        let same : has.next + 0 ≡ length text = subst (λ l. has.next + cond l 1 0 ≡ length text) is all in
+        after_form [] (drop_all has.next text (omega arith))
+
+  module _ {D R : Type 0} (state : D → State) (old new : Session D R) (a b : Option (List ℕ)) (bytes : List ℕ) (byte : ℕ) (whole : text ≡ bytes ++ byte ∷ [])
+      (answered : AnswersForm functions state old new w mode text a b None) where
+    byte_left : left ≡ true → has.next + 1 ≡ length text
+    byte_left is = subst (λ l. has.next + cond l 1 0 ≡ length text) is has.next_is
+
+    rest_left : left ≡ true → drop has.next text ≡ byte ∷ []
+    rest_left is =
+        let all = byte_left is in
+        let many : length text ≡ length bytes + 1 = ap length whole ∙ length-append bytes (byte ∷ []) in
+        ap (drop has.next) whole ∙ drop-append-le has.next bytes (byte ∷ []) (omega arith) ∙ ap (λ t. t ++ byte ∷ []) (drop_all has.next bytes (omega arith))
+
+    pub form_left : left ≡ true → LeavesByte functions state old new w mode text a b pending byte
+    unfolding after_form
+    form_left is = record {
+      goes = after_form state old new a b answered (byte ∷ []) (rest_left is);
+      alone = refl;
+      not_first = let all = byte_left is in let order = stop_within.0 in let after = stop_within.1 in omega arith;
+    }
+
+-- ---- the form that ends the input
+
+module _ (functions : Functions) (w : World) (mode : Mode) (text : List ℕ) (x : Object) (own : List ℕ) (last : IsLastForm functions w mode text x own) where
+  pub last_begins : (slice : List ℕ) → slice ≡ own → BeginsWith functions w mode text x slice (length text)
+  last_begins slice same = record { start = last.start; stop = last.stop; reads = last.reads; is_own = same ∙ last.is_own }
+
+  last_rest : (far : Progress) → after_forms functions 1 w mode text ≡ Some far → far.rest ≡ []
+  last_rest far is =
+      let given = accept functions.names w x in
+      let one = after_one_form functions w mode text _ (ap (one_form functions w mode text) last.reads) in
+      let same : far ≡ evaluated w mode (between last.start last.stop text) (drop (length text) text) given = let both = sym is ∙ one in cc in
+      ap (λ (p : Progress). p.rest) same ∙ rest_evaluated w mode (between last.start last.stop text) (drop (length text) text) given ∙ drop_all (length text) text (omega arith)
+
+  -- it was answered, and nothing is left
+  pub ended_form : {D R : Type 0} (state : D → State) (old new : Session D R) (a b : Option (List ℕ)) → AnswersForm functions state old new w mode text a b None
+      → Serves functions state old new w mode text a b End
+  ended_form state old new a b answered =
+      let far : Progress = answered.0 in
+      let advances = answered.1 in
+      record {
+        forms = 1;
+        far = far;
+        far_is = advances.far_is;
+        lines = 1;
+        answered = far;
+        answered_is = advances.far_is;
+        at_most = omega arith;
+        in_turn = omega arith;
+        part = [];
+        output = subst (Writes a b) (sym (append-nil far.lines)) advances.lines;
+        survives = advances.survives;
+        ends = record {
+          all = refl;
+          no_part = refl;
+          nothing_left = ap (read_in functions far.world mode) (last_rest far advances.far_is) ∙ reads_none (setting_in functions far.world mode);
+          after = advances.after;
+        };
+      }
+
+module _ (functions : Functions) {D R : Type 0} (state : D → State) where
+  after_longer : (old new : Session D R) (far : Progress) (more : List ℕ) → IsAfter state old new far → IsAfter state old new (longer far more)
+  after_longer old new far more a = record {
+    left = a.left;
+    half = a.half;
+    generation = a.generation;
+    record_count = a.record_count;
+    size = a.size;
+    fits = a.fits;
+    limit = a.limit;
+    macros = a.macros;
+    described = a.described;
+    other = a.other;
+    failures = a.failures;
+    untouched = a.untouched;
+  }
+
+  -- the same forms, of a text that goes on
+  pub extended : (old new : Session D R) (w : World) (mode : Mode) (text : List ℕ) (a b : Option (List ℕ)) (pending : Pending) (left more : List ℕ)
+      → GoesOn functions state old new w mode text a b pending left → GoesOn functions state old new w mode (text ++ more) a b pending (left ++ more)
+  extended old new w mode text a b pending left more goes = record {
+    forms = goes.forms;
+    far = longer goes.far more;
+    advances = record {
+      far_is = goes.stays more;
+      lines = goes.advances.lines;
+      after = after_longer old new goes.far more goes.advances.after;
+      survives = goes.advances.survives;
+    };
+    stays = λ others. ap (after_forms functions goes.forms w mode) (append_assoc text more others) ∙ goes.stays (more ++ others)
+        ∙ ap (λ rest. Some (record goes.far { rest = rest })) (sym (append_assoc goes.far.rest more others));
+    bytes = goes.bytes;
+    rest = ap (λ t. t ++ more) goes.rest ∙ append_assoc goes.bytes left more;
+    is_pending = goes.is_pending;
+  }
+
+  -- nothing was answered yet
+  pub nothing_answered : ((d : D) → IsHonest (state d) → IsSound (state d)) → (old : Session D R) (w : World) (mode : Mode) (text : List ℕ) (held : Option (List ℕ)) (pending : Pending)
+      → old.world ≡ Some w → IsPending functions w mode pending text → GoesOn functions state old old w mode text held held pending []
+  nothing_answered sound old w mode text held pending known is = record {
+    forms = 0;
+    far = begun w text;
+    advances = record {
+      far_is = refl;
+      lines = writes_nothing held held refl;
+      after = after_none functions state sound old old w mode text held held known text [] refl;
+      survives = unchanged_survives functions state sound old old w refl;
+    };
+    stays = λ more. refl;
+    bytes = text;
+    rest = sym (append-nil text);
+    is_pending = is;
+  }
+
+  -- what is pending after it
+  pub pending_again : (old new : Session D R) (w : World) (mode : Mode) (text : List ℕ) (a b : Option (List ℕ)) (pending : Pending) (left : List ℕ)
+      → GoesOn functions state old new w mode text a b pending left → (v : World) → new.world ≡ Some v → (bytes : List ℕ) × IsPending functions v mode pending bytes
+  pending_again old new w mode text a b pending left goes v known =
+      let same : goes.far.world ≡ v = let left_is = goes.advances.after.left in cc in
+      (goes.bytes, subst (λ u. IsPending functions u mode pending goes.bytes) same goes.is_pending)
+
+  -- the session ended before any answer, whatever follows the text
+  pub ends_at_once : (old new : Session D R) (w : World) (mode : Mode) (text : List ℕ) (a b : Option (List ℕ)) (number : ℕ)
+      → Serves functions state old new w mode text a b (Store number) → HasEnded functions state old new w mode text a b (Store number)
+  ends_at_once old new w mode text a b number serves = record { serves = serves; stays = tt }
+
+  -- the reader refused the text, whatever follows it
+  pub fault_ended : (sound : (d : D) → IsHonest (state d) → IsSound (state d)) (old new : Session D R) (w : World) (mode : Mode) (text : List ℕ) (a b : Option (List ℕ)) (pending : Pending)
+      (number : ℕ) → old.world ≡ Some w → HasRefusal functions w mode text number → new ≡ old → (ending : Ending) → AnswersFault number a b ending
+      → Answers functions state old new w mode text a b pending (Some ending)
+  unfolding fault_answered nothing
+  fault_ended sound old new w mode text a b pending number known refuses same ending answers more = record {
+    serves = fault_answered functions state sound old new w mode (text ++ more) a b known number refuses.place (refuses.reads more) same ending answers;
+    stays = by_ending ending answers;
+  } where
+    by_ending : (e : Ending) (is : AnswersFault number a b e)
+        → StaysEnded functions state old new w mode (text ++ more) a b e
+        (fault_answered functions state sound old new w mode (text ++ more) a b known number refuses.place (refuses.reads more) same e is)
+    by_ending End is = absurd is
+    by_ending (Reader code) is = λ others.
+        (refl, (refuses.place, ap (read_in functions w mode) (append_assoc text more others) ∙ refuses.reads (more ++ others) ∙ ap (λ n. refused n refuses.place) (sym is.0)))
+    by_ending (Store code) is = tt
+
+  -- ---- one after the other
+
+  module _ (sound : (d : D) → IsHonest (state d) → IsSound (state d)) (old mid new : Session D R) (w : World) (mode : Mode) (a b c : Option (List ℕ)) (pending : Pending)
+      (honest : (state mid.disk).honest ≡ (state old.disk).honest) where
+    module _ (text : List ℕ) (left : List ℕ) (first : GoesOn functions state old mid w mode text a b pending left) where
+      abbrev p : Progress
+      p = first.far
+
+      abbrev rest : List ℕ
+      rest = first.bytes ++ left
+
+      goes_on_both : (after : Pending) (others : List ℕ) → GoesOn functions state mid new p.world mode rest b c after others
+          → GoesOn functions state old new w mode text a c after others
+      goes_on_both after others second = record {
+        forms = second.forms + first.forms;
+        far = onward p second.far;
+        advances = advance_both functions state sound old mid new w mode text a b c first.forms p first.advances honest second.forms (second.forms + first.forms) second.far refl
+            (subst (λ t. Advances functions state mid new p.world mode t b c second.forms second.far) (sym first.rest) second.advances);
+        stays = λ more. forms_onward functions second.forms first.forms (second.forms + first.forms) w mode (text ++ more) (longer p more) (longer second.far more) refl (first.stays more)
+            (ap (λ t. after_forms functions second.forms p.world mode (t ++ more)) first.rest ∙ second.stays more);
+        bytes = second.bytes;
+        rest = second.rest;
+        is_pending = second.is_pending;
+      }
+
+      serves_both : (ending : Ending) → HasEnded functions state mid new p.world mode p.rest b c ending → HasEnded functions state old new w mode text a c ending
+      unfolding serve_both
+      serves_both ending second = record {
+        serves = serve_both functions state sound old mid new w mode text a b c first.forms p first.advances honest ending second.serves;
+        stays = by_ending ending second;
+      } where
+        by_ending : (e : Ending) (is : HasEnded functions state mid new p.world mode p.rest b c e)
+            → StaysEnded functions state old new w mode text a c e
+            (serve_both functions state sound old mid new w mode text a b c first.forms p first.advances honest e is.serves)
+        by_ending End is = absurd is.stays
+        by_ending (Reader code) is = λ more. (
+          forms_onward functions is.serves.forms first.forms (is.serves.forms + first.forms) w mode (text ++ more) (longer p more) (longer is.serves.far more) refl (first.stays more)
+              (is.stays more).0,
+          (is.stays more).1,
+        )
+        by_ending (Store code) is = tt
+
+      pub ended_both : (ending : Ending) → HasEnded functions state mid new p.world mode rest b c ending → HasEnded functions state old new w mode text a c ending
+      ended_both ending second = serves_both ending (subst (λ t. HasEnded functions state mid new p.world mode t b c ending) (sym first.rest) second)
+
+    -- what was answered, and what became of what was left
+    pub answers_both : (text left : List ℕ) (first : GoesOn functions state old mid w mode text a b pending left) (after : Pending) (result : Option Ending)
+        → Answers functions state mid new first.far.world mode (first.bytes ++ left) b c after result → Answers functions state old new w mode text a c after result
+    unfolding extended
+    answers_both text left first after None second = goes_on_both text left first after [] second
+    answers_both text left first after (Some ending) second = λ more.
+        ended_both (text ++ more) (left ++ more) (extended old mid w mode text a b pending left more first) ending
+        (subst (λ t. HasEnded functions state mid new first.far.world mode t b c ending) (append_assoc first.bytes left more) (second more))
+
+    -- a byte that was left, and what it came to
+    pub left_both : (text : List ℕ) (byte : ℕ) (first : LeavesByte functions state old mid w mode text a b pending byte) (after : Pending) (result : Option Ending)
+        → Answers functions state mid new first.goes.far.world mode (byte ∷ []) b c after result → Answers functions state old new w mode text a c after result
+    left_both text byte first after result second =
+        answers_both text (byte ∷ []) first.goes after result
+        (subst (λ bytes. Answers functions state mid new first.goes.far.world mode (bytes ++ byte ∷ []) b c after result) (sym first.alone) second)
+
+    -- more of the text, and what it came to
+    pub more_both : (text more : List ℕ) (first : GoesOn functions state old mid w mode text a b pending []) (after : Pending) (result : Option Ending)
+        → Answers functions state mid new first.far.world mode (first.bytes ++ more) b c after result → Answers functions state old new w mode (text ++ more) a c after result
+    unfolding extended
+    more_both text more first after result second = answers_both (text ++ more) more (extended old mid w mode text a b pending [] more first) after result second
+
+    piece_is : (bytes piece : List ℕ) (k byte : ℕ) → take (k + 1) piece ≡ take k piece ++ byte ∷ [] → (bytes ++ take k piece) ++ byte ∷ [] ≡ bytes ++ take (k + 1) piece
+    piece_is bytes piece k byte taken = append_assoc bytes (take k piece) (byte ∷ []) ∙ ap (λ t. bytes ++ t) (sym taken)
+
+    -- one byte more of a piece, and what it came to
+    pub byte_both : (bytes piece : List ℕ) (k byte : ℕ) → take (k + 1) piece ≡ take k piece ++ byte ∷ []
+        → (first : GoesOn functions state old mid w mode (bytes ++ take k piece) a b pending []) (after : Pending) (result : Option Ending)
+        → Answers functions state mid new first.far.world mode (first.bytes ++ byte ∷ []) b c after result → Answers functions state old new w mode (bytes ++ take (k + 1) piece) a c after result
+    byte_both bytes piece k byte taken first after result second =
+        subst (λ t. Answers functions state old new w mode t a c after result) (piece_is bytes piece k byte taken)
+        (more_both (bytes ++ take k piece) (byte ∷ []) first after result second)
+
+    -- the end of the input, and what it came to
+    pub end_both : (text : List ℕ) (first : GoesOn functions state old mid w mode text a b pending []) (ending : Ending)
+        → Serves functions state mid new first.far.world mode first.bytes b c ending → Serves functions state old new w mode text a c ending
+    end_both text first ending second =
+        serve_both functions state sound old mid new w mode text a b c first.forms first.far first.advances honest ending
+        (subst (λ t. Serves functions state mid new first.far.world mode t b c ending) (sym (first.rest ∙ append-nil first.bytes)) second)
+
+  -- the session ended within a piece
+  pub ended_within : (old new : Session D R) (w : World) (mode : Mode) (a b : Option (List ℕ)) (after : Pending) (bytes piece : List ℕ) (n : ℕ) (ending : Ending)
+      → Answers functions state old new w mode (bytes ++ take n piece) a b after (Some ending) → Answers functions state old new w mode (bytes ++ piece) a b after (Some ending)
+  ended_within old new w mode a b after bytes piece n ending ended more =
+      subst (λ t. HasEnded functions state old new w mode t a b ending)
+      (append_assoc bytes (take n piece) (drop n piece ++ more) ∙ ap (λ t. bytes ++ t) (sym (append_assoc (take n piece) (drop n piece) more) ∙ ap (λ t. t ++ more) (take-append-drop n piece))
+      ∙ sym (append_assoc bytes piece more)) (ended (drop n piece ++ more))
+
+  -- a read failed after it
+  pub unread_after : (old new : Session D R) (w : World) (mode : Mode) (text : List ℕ) (a b : Option (List ℕ)) (pending : Pending)
+      → GoesOn functions state old new w mode text a b pending [] → Serves functions state old new w mode text a b (Store INPUT)
+  unread_after old new w mode text a b pending goes =
+      let far : Progress = goes.far in
+      record {
+        forms = goes.forms;
+        far = far;
+        far_is = goes.advances.far_is;
+        lines = goes.forms;
+        answered = far;
+        answered_is = goes.advances.far_is;
+        at_most = omega arith;
+        in_turn = omega arith;
+        part = [];
+        output = subst (Writes a b) (sym (append-nil far.lines)) goes.advances.lines;
+        survives = goes.advances.survives;
+        ends = inr (inr (inl (record {
+          input = refl;
+          all = refl;
+          no_part = refl;
+          more = subst (λ t. MayGoOn t (read_in functions far.world mode t)) (sym (goes.rest ∙ append-nil goes.bytes)) goes.is_pending.more;
+          after = goes.advances.after;
+        })));
+      }
+
+  -- what is pending where a byte was left
+  pub none_left : (old new : Session D R) (w : World) (mode : Mode) (text : List ℕ) (a b : Option (List ℕ)) (pending : Pending) (byte : ℕ)
+      (first : LeavesByte functions state old new w mode text a b pending byte) → IsPending functions first.goes.far.world mode pending []
+  none_left old new w mode text a b pending byte first = subst (λ bytes. IsPending functions first.goes.far.world mode pending bytes) first.alone first.goes.is_pending

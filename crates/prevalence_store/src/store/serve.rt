@@ -1,0 +1,314 @@
+// A session: forms from a reader, answers to a writer.
+ghost use Rattle.std.specs.Prelude.{◌≡◌, ◌≤◌, ◌<◌, ◌+◌, ◌^◌, ℕ, List, [], ◌∷◌, ◌++◌, None, Some, IsSome, IsNone, IfOk, IfErr, OnOk, OnErr, true, length};
+ghost use Rattle.std.specs.List.{list_all};
+ghost use Rattle.lisp_object.specs.Object.{IsSound};
+ghost use Rattle.lisp_object.specs.Datum.{object_of, is_proper};
+ghost use Rattle.lisp_object.specs.declared.refusal.TheConstants.{REOPEN};
+ghost use Rattle.readtable_core.specs.Names.{is_among};
+ghost use Rattle.plist_state.specs.State.{State as LispWorld};
+ghost use Rattle.form_reader.specs.Reader.{fed};
+ghost use Rattle.prevalence_store.specs.Functions.{functions_of};
+ghost use Rattle.prevalence_store.specs.Pending.{IsPending, IsSoundFed, Feeds, Finishes};
+ghost use Rattle.prevalence_store.specs.Serving.{Serves, ServesInput};
+ghost use Rattle.prevalence_store.specs.Streams.{Writes, WritesPart};
+ghost use Rattle.prevalence_store.specs.Turns.{Answers, AnswersFault, AnswersForm, BeginsWith, IsLine, IsStop, TurnsInto};
+
+use crate::failure::Failure;
+use crate::input::{Fed, Pending};
+use crate::mode::Mode;
+use crate::outcome::Ending;
+use crate::output::{OutputFault, line_of_answer, line_of_refusal, write_text};
+use crate::store::Store;
+use crate::turn::Turn;
+use disk_trait::Disk;
+use form_eval::Evaluated;
+use lisp_object::Datum;
+use lisp_object::refusal::{INPUT, NO_MEMORY, OUTPUT, REOPEN};
+use std::alloc::AllocError;
+use std::io::{Read, Write};
+use user_macros::MacroFunctions;
+
+/// The most reads of a session.
+const MOST_READS: u64 = 1 << 40;
+
+impl<D: Disk, R: MacroFunctions> Store<D, R> {
+    /// Reads forms to the end of the input, and answers each with a line: its value, or the number and the name of its
+    /// refusal. A refusal of the reader ends the session, as where the next form begins is undecided.
+    ///
+    /// The input is read in pieces of at most 4,096 bytes. Each form is answered as soon as the bytes that were read decide
+    /// it, before the next read; what is kept of the input is what the form that is open needs. The writer is flushed after
+    /// each line; where only that fails, the session goes on, since the line was taken.
+    ///
+    /// Ends with `Store` and, in this order: 61 at once after an earlier device fault; 64 where the half has no room for a
+    /// record; 60 where the device failed; 67 where a read failed, or after 2^40 reads; 68 where a write failed or took
+    /// nothing; 90 where a growth was refused. Of these nothing is written.
+    pub fn serve<I: Read, W: Write>(&mut self, reader: &mut I, writer: &mut W, mode: Mode) -> Ending
+        requires answers { R.answers self.old.macros }
+        requires whole { list_all (is_among (R.registered self.old.macros)) R.Meaning.names ≡ true }
+        ensures reopen { self.old.world ≡ None → (result ≡ Ending.Store REOPEN) × (self.new ≡ self.old)
+            × (reader.new ≡ reader.old) × (writer.new ≡ writer.old) }
+        ensures serves { (world : LispWorld) → self.old.world ≡ Some world
+            → ServesInput (functions_of R.Meaning.names R.Meaning.way R.Meaning.answer) D.state self.old self.new world mode
+            (I.remaining reader.old) (I.remaining reader.new) (W.contents writer.old) (W.contents writer.new) result }
+        ensures honest { (D.state self.new.disk).honest ≡ (D.state self.old.disk).honest }
+        ensures macros { self.new.macros ≡ self.old.macros }
+    {
+        if !self.is_open() {
+            return Ending::Store(REOPEN);
+        }
+        let mut pending = Pending::new(self.alloc);
+        let mut buffer = [0u8; 4096];
+        let mut reads = 0;
+        'reads: while reads < MOST_READS {
+            reads += 1;
+            let count = match reader.read(&mut buffer) {
+                Ok(count) => count,
+                Err(_) => return Ending::Store(INPUT),
+            };
+            if count == 0 {
+                return self.answer_end(pending, writer, mode);
+            }
+            let piece = &buffer[..count];
+            match self.answer_piece(&mut pending, writer, mode, piece) {
+                Some(ending) => return ending,
+                None => {}
+            }
+        }
+        Ending::Store(INPUT)
+    }
+
+    // Answers what these bytes decide, with those that are pending.
+    fn answer_piece<W: Write>(
+        &mut self,
+        pending: &mut Pending,
+        writer: &mut W,
+        mode: Mode,
+        piece: &[u8],
+    ) -> Option<Ending>
+        requires answers { R.answers self.old.macros }
+        requires whole { list_all (is_among (R.registered self.old.macros)) R.Meaning.names ≡ true }
+        requires known { IsSome self.old.world }
+        requires pending { (w : LispWorld) → self.old.world ≡ Some w → (bytes : List ℕ)
+            × IsPending (functions_of R.Meaning.names R.Meaning.way R.Meaning.answer) w mode pending.old bytes }
+        requires count { fed pending.old.reader + length piece.now ≤ 2 ^ 63 }
+        ensures answers { (w : LispWorld) → self.old.world ≡ Some w → (bytes : List ℕ)
+            → IsPending (functions_of R.Meaning.names R.Meaning.way R.Meaning.answer) w mode pending.old bytes
+            → Answers (functions_of R.Meaning.names R.Meaning.way R.Meaning.answer) D.state self.old self.new w mode
+            (bytes ++ piece.now) (W.contents writer.old) (W.contents writer.new) pending.new result }
+        ensures count { fed pending.new.reader ≤ fed pending.old.reader + length piece.now }
+        ensures honest { (D.state self.new.disk).honest ≡ (D.state self.old.disk).honest }
+        ensures macros { self.new.macros ≡ self.old.macros }
+    {
+        'bytes: for byte in piece {
+            match self.answer_byte(pending, writer, mode, *byte) {
+                Some(ending) => return Some(ending),
+                None => {}
+            }
+        }
+        None
+    }
+
+    // Answers what one byte more decides. Where it is the first one after a form, it is fed twice.
+    fn answer_byte<W: Write>(
+        &mut self,
+        pending: &mut Pending,
+        writer: &mut W,
+        mode: Mode,
+        byte: u8,
+    ) -> Option<Ending>
+        requires answers { R.answers self.old.macros }
+        requires whole { list_all (is_among (R.registered self.old.macros)) R.Meaning.names ≡ true }
+        requires known { IsSome self.old.world }
+        requires pending { (w : LispWorld) → self.old.world ≡ Some w → (bytes : List ℕ)
+            × IsPending (functions_of R.Meaning.names R.Meaning.way R.Meaning.answer) w mode pending.old bytes }
+        requires count { fed pending.old.reader < 2 ^ 63 }
+        ensures answers { (w : LispWorld) → self.old.world ≡ Some w → (bytes : List ℕ)
+            → IsPending (functions_of R.Meaning.names R.Meaning.way R.Meaning.answer) w mode pending.old bytes
+            → Answers (functions_of R.Meaning.names R.Meaning.way R.Meaning.answer) D.state self.old self.new w mode
+            (bytes ++ byte ∷ []) (W.contents writer.old) (W.contents writer.new) pending.new result }
+        ensures count { fed pending.new.reader ≤ fed pending.old.reader + 1 }
+        ensures honest { (D.state self.new.disk).honest ≡ (D.state self.old.disk).honest }
+        ensures macros { self.new.macros ≡ self.old.macros }
+    {
+        match self.turn(pending, writer, mode, byte) {
+            Turn::Taken => None,
+            Turn::Ended(ending) => Some(ending),
+            Turn::Left => match self.turn(pending, writer, mode, byte) {
+                Turn::Taken => None,
+                Turn::Ended(ending) => Some(ending),
+                Turn::Left => None,
+            },
+        }
+    }
+
+    // Feeds one byte more, and answers the form that it ends.
+    fn turn<W: Write>(
+        &mut self,
+        pending: &mut Pending,
+        writer: &mut W,
+        mode: Mode,
+        byte: u8,
+    ) -> Turn
+        requires answers { R.answers self.old.macros }
+        requires whole { list_all (is_among (R.registered self.old.macros)) R.Meaning.names ≡ true }
+        requires known { IsSome self.old.world }
+        requires pending { (w : LispWorld) → self.old.world ≡ Some w → (bytes : List ℕ)
+            × IsPending (functions_of R.Meaning.names R.Meaning.way R.Meaning.answer) w mode pending.old bytes }
+        requires count { fed pending.old.reader < 2 ^ 63 }
+        ensures turns { (w : LispWorld) → self.old.world ≡ Some w → (bytes : List ℕ)
+            → IsPending (functions_of R.Meaning.names R.Meaning.way R.Meaning.answer) w mode pending.old bytes
+            → TurnsInto (functions_of R.Meaning.names R.Meaning.way R.Meaning.answer) D.state self.old self.new w mode
+            (bytes ++ byte ∷ []) (W.contents writer.old) (W.contents writer.new) pending.new byte result }
+        ensures count { fed pending.new.reader ≤ fed pending.old.reader + 1 }
+        ensures honest { (D.state self.new.disk).honest ≡ (D.state self.old.disk).honest }
+        ensures macros { self.new.macros ≡ self.old.macros }
+    {
+        let fed = match self.feed(pending, mode, byte) {
+            Ok(fed) => fed,
+            Err(_) => return Turn::Ended(Ending::Store(NO_MEMORY)),
+        };
+        match fed {
+            Fed::Nothing => Turn::Taken,
+            Fed::Refused(code) => Turn::Ended(self.answer_fault(writer, code)),
+            Fed::Form { datum, own, left } => {
+                match self.answer_form(writer, mode, &datum, own.as_slice()) {
+                    Some(number) => Turn::Ended(Ending::Store(number)),
+                    None => { if left { Turn::Left } else { Turn::Taken } }
+                }
+            }
+        }
+    }
+
+    // Feeds one byte more, as the world reads.
+    fn feed(&self, pending: &mut Pending, mode: Mode, byte: u8) -> Result<Fed, AllocError>
+        requires answers { R.answers self.now.macros }
+        requires whole { list_all (is_among (R.registered self.now.macros)) R.Meaning.names ≡ true }
+        requires known { IsSome self.now.world }
+        requires pending { (w : LispWorld) → self.now.world ≡ Some w → (bytes : List ℕ)
+            × IsPending (functions_of R.Meaning.names R.Meaning.way R.Meaning.answer) w mode pending.old bytes }
+        requires count { fed pending.old.reader < 2 ^ 63 }
+        ensures feeds { (w : LispWorld) → self.now.world ≡ Some w → (bytes : List ℕ)
+            → IsPending (functions_of R.Meaning.names R.Meaning.way R.Meaning.answer) w mode pending.old bytes
+            → IfOk result (Feeds (functions_of R.Meaning.names R.Meaning.way R.Meaning.answer) w mode pending.new (bytes ++ byte ∷ [])) }
+        ensures sound { IfOk result IsSoundFed }
+        ensures count { fed pending.new.reader ≤ fed pending.old.reader + 1 }
+    {
+        pending.feed(self.alloc, &self.world, &self.macros, mode, byte)
+    }
+
+    // Answers what is pending at the end of the input.
+    fn answer_end<W: Write>(&mut self, pending: Pending, writer: &mut W, mode: Mode) -> Ending
+        requires answers { R.answers self.old.macros }
+        requires whole { list_all (is_among (R.registered self.old.macros)) R.Meaning.names ≡ true }
+        requires known { IsSome self.old.world }
+        requires pending { (w : LispWorld) → self.old.world ≡ Some w → (bytes : List ℕ)
+            × IsPending (functions_of R.Meaning.names R.Meaning.way R.Meaning.answer) w mode pending bytes }
+        requires count { fed pending.reader ≤ 2 ^ 63 }
+        ensures serves { (w : LispWorld) → self.old.world ≡ Some w → (bytes : List ℕ)
+            → IsPending (functions_of R.Meaning.names R.Meaning.way R.Meaning.answer) w mode pending bytes
+            → Serves (functions_of R.Meaning.names R.Meaning.way R.Meaning.answer) D.state self.old self.new w mode
+            bytes (W.contents writer.old) (W.contents writer.new) result }
+        ensures honest { (D.state self.new.disk).honest ≡ (D.state self.old.disk).honest }
+        ensures macros { self.new.macros ≡ self.old.macros }
+    {
+        let last = match self.finish(pending, mode) {
+            Ok(last) => last,
+            Err(_) => return Ending::Store(NO_MEMORY),
+        };
+        match last {
+            Fed::Nothing => Ending::End,
+            Fed::Refused(code) => self.answer_fault(writer, code),
+            Fed::Form { datum, own, .. } => {
+                match self.answer_form(writer, mode, &datum, own.as_slice()) {
+                    Some(number) => Ending::Store(number),
+                    None => Ending::End,
+                }
+            }
+        }
+    }
+
+    // What is pending at the end of the input, as the world reads.
+    fn finish(&self, pending: Pending, mode: Mode) -> Result<Fed, AllocError>
+        requires answers { R.answers self.now.macros }
+        requires whole { list_all (is_among (R.registered self.now.macros)) R.Meaning.names ≡ true }
+        requires known { IsSome self.now.world }
+        requires pending { (w : LispWorld) → self.now.world ≡ Some w → (bytes : List ℕ)
+            × IsPending (functions_of R.Meaning.names R.Meaning.way R.Meaning.answer) w mode pending bytes }
+        requires count { fed pending.reader ≤ 2 ^ 63 }
+        ensures finishes { (w : LispWorld) → self.now.world ≡ Some w → (bytes : List ℕ)
+            → IsPending (functions_of R.Meaning.names R.Meaning.way R.Meaning.answer) w mode pending bytes
+            → IfOk result (Finishes (functions_of R.Meaning.names R.Meaning.way R.Meaning.answer) w mode bytes) }
+        ensures sound { IfOk result IsSoundFed }
+    {
+        pending.finish(self.alloc, &self.world, &self.macros, mode)
+    }
+
+    // Answers a refusal of the reader, and ends the session.
+    fn answer_fault<W: Write>(&mut self, writer: &mut W, number: u16) -> Ending
+        ensures answers { AnswersFault number (W.contents writer.old) (W.contents writer.new) result }
+        ensures same { self.new ≡ self.old }
+    {
+        let Ok(line) = line_of_refusal(self.alloc, number) else {
+            return Ending::Store(NO_MEMORY);
+        };
+        match write_line(writer, line.as_slice()) {
+            Ok(()) => Ending::Reader(number),
+            Err(_) => Ending::Store(OUTPUT),
+        }
+    }
+
+    // Evaluates a form that was read, logs it where it writes, and answers it. Gives the number of the fault that ends the
+    // session in it.
+    fn answer_form<W: Write>(
+        &mut self,
+        writer: &mut W,
+        mode: Mode,
+        datum: &Datum,
+        own: &[u8],
+    ) -> Option<u16>
+        requires known { IsSome self.old.world }
+        requires read { (w : LispWorld) → self.old.world ≡ Some w → (text : List ℕ) × ((next : ℕ)
+            × BeginsWith (functions_of R.Meaning.names R.Meaning.way R.Meaning.answer) w mode text (object_of datum.now) own.now next) }
+        requires proper { is_proper datum.now ≡ true }
+        requires sound { IsSound (object_of datum.now) }
+        ensures answers { (w : LispWorld) → self.old.world ≡ Some w → (text : List ℕ) (next : ℕ)
+            → BeginsWith (functions_of R.Meaning.names R.Meaning.way R.Meaning.answer) w mode text (object_of datum.now) own.now next
+            → AnswersForm (functions_of R.Meaning.names R.Meaning.way R.Meaning.answer) D.state self.old self.new w mode
+            text (W.contents writer.old) (W.contents writer.new) result }
+        ensures known { IsNone result → IsSome self.new.world }
+        ensures honest { (D.state self.new.disk).honest ≡ (D.state self.old.disk).honest }
+        ensures macros { self.new.macros ≡ self.old.macros }
+    {
+        self.world.soundness();
+        let answer = self.take_form(mode, datum, own);
+        let line = match self.line(&answer) {
+            Ok(line) => line,
+            Err(number) => return Some(number),
+        };
+        match write_line(writer, line.as_slice()) {
+            Ok(()) => None,
+            Err(_) => Some(OUTPUT),
+        }
+    }
+}
+
+impl<D: Disk, R> Store<D, R> {
+    // The line that answers a form, or the number of the fault that ends the session.
+    fn line(&self, answer: &Result<Evaluated, Failure>) -> Result<Vec<u8>, u16>
+        requires proper { IfOk answer.now (λ e. is_proper e.value ≡ true) }
+        ensures line { IfOk result (λ line. IsLine self.now answer.now line.items) }
+        ensures stop { IfErr result (IsStop answer.now) }
+    {
+        line_of_answer(self.alloc, &self.world, answer)
+    }
+}
+
+// Writes a line whole, or a part of it from its front, and flushes what was written whole.
+fn write_line<W: Write>(writer: &mut W, line: &[u8]) -> Result<(), OutputFault>
+    ensures whole { OnOk result (Writes (W.contents writer.old) (W.contents writer.new) line.now) }
+    ensures part { OnErr result (WritesPart (W.contents writer.old) (W.contents writer.new) line.now) }
+{
+    write_text(writer, line)?;
+    let _flushed = writer.flush();
+    Ok(())
+}
