@@ -1,7 +1,9 @@
 -- The symbols of lists and vectors are those of their items, and of what ends them.
-use Rattle.std.proofs.Common.{◌≡◌, List, [], ◌∷◌, ◌++◌, map, length, append_assoc, Option, Some, None, Result, Ok, Err, sym, ap, ◌∙◌, refl}
+use Rattle.std.proofs.Common.{◌≡◌, true, false, not, ◌||◌, if◌then◌else◌, nat_lt, nat_le, List, [], ◌∷◌, ◌++◌, map, length, append_assoc, Option, Some, None, is_some, is_none, option_map, Result, Ok, Err, sym, ap, ◌∙◌, refl}
+use Rattle.std.specs.Str.{bytes_eq}
+use Rattle.std.specs.FinMap as finite
 use Rattle.std.specs.List.{flat_map, slice_get}
-use Rattle.std.specs.Option.{option_map_or}
+use Rattle.std.specs.Option.{option_map_or, option_and_then}
 use Rattle.lisp_object.specs.Object.{Object, nil, pairs}
 use Rattle.lisp_object.specs.declared.datum.Datum
 use Rattle.lisp_object.specs.declared.datum.Datum.{Datum}
@@ -10,9 +12,11 @@ use Rattle.lisp_object.proofs.Objects.{object_of-List, object_of-dotted, object_
 use Rattle.plist_state.specs.Properties.{Symbol}
 use Rattle.package_table.specs.declared.error.PackageError.{PackageError}
 use Rattle.package_table.specs.declared.error.PackageError.TheVariants.{NoPackage, NotExternal, LockedPackage, EmptyName, NoSuchPackage, PackageExists, PackageIsLocked, NameConflict, NotAccessible, Limit, OutOfMemory}
-use Rattle.package_table.specs.Table.{Name, Table}
-use Rattle.package_table.specs.Changes.{Gives}
-use Rattle.form_eval.specs.Acceptance.{symbols, table_of}
+use Rattle.package_table.specs.Table.{Name, Table, Package, Entry, IsPresent, common_lisp, symbol_count}
+use Rattle.package_table.specs.Limits.{most_symbols, longest_symbol_name}
+use Rattle.package_table.specs.Changes.{Gives, intern_changes, with_new_symbol}
+use Rattle.package_table.proofs.Found.{present_found}
+use Rattle.form_eval.specs.Acceptance.{symbols, table_of, after_symbol}
 
 pub symbols_pairs : (items : List Datum) (end' : Object) → symbols (pairs (map object_of items) end') ≡ flat_map (λ d. symbols (object_of d)) items ++ symbols end'
 symbols_pairs [] end' = refl
@@ -51,3 +55,21 @@ interned_gives view OutOfMemory (Err e) h = absurd cc
 pub marked_last : {X : Type 0} (xs : List X) (x : X) → slice_get (xs ++ x ∷ []) (length xs) ≡ Some x
 marked_last [] x = refl
 marked_last (y ∷ ys) x = marked_last ys x
+
+-- a symbol that is there is interned by changing nothing
+module _ (t : Table) (h n : Name) (there : IsPresent t h n h) where
+  is_package : finite.contains_key t h ≡ true
+  is_package =
+      elim (finite.get t h) as (λ o. option_map (λ (e : Entry). e.home) (option_and_then (λ (k : Package). finite.get k.symbols n) o) ≡ Some h → is_some o ≡ true) [
+        | None ↦ λ e. absurd (let none : None ≡ Some h = e in cc)
+        | Some k ↦ λ _. refl
+      ] there
+
+  abbrev others : Result (Name × Table) PackageError
+  others = if bytes_eq h common_lisp then Err PackageIsLocked else (if nat_lt longest_symbol_name (length n) || nat_le most_symbols (symbol_count t) then Err Limit else Ok (h, with_new_symbol t h n))
+
+  pub interned_there : after_symbol t (h, n) ≡ Ok t
+  interned_there = λ i. table_of (if not (is_package i) then Err NoSuchPackage else option_map_or (λ g. Ok (g, t)) (present_found t n h h there i) others)
+
+  pub old_there : intern_changes t h n ≡ false
+  old_there = ap is_none (present_found t n h h there)

@@ -100,13 +100,16 @@ pub(crate) fn use_each(
     Ok(wrote)
 }
 
-// A symbol is interned in its home, and whether it is new.
+// A symbol is interned in its home, and whether it is new. Takes no memory where it is there.
 fn intern_one(world: &mut World, symbol: &(&[u8], &[u8])) -> Result<bool, PackageError>
     requires { All (λ b. b < 128) symbol.now.1.now }
     ensures gives { Gives (λ _. world.new.0.packages) result (after_symbol world.old.0.packages (symbol.now.0.now, symbol.now.1.now)) }
     ensures is_new { IfOk result (λ is_new. is_new ≡ intern_changes world.old.0.packages symbol.now.0.now symbol.now.1.now) }
     ensures rest { world.new ≡ (with_packages world.old.0 world.new.0.packages, world.old.1) }
 {
+    if world.packages().is_symbol(symbol.0, symbol.1) {
+        return Ok(false);
+    }
     match world.intern(symbol.0, symbol.1) {
         Ok(interned) => Ok(interned.is_new),
         Err(error) => Err(error),
