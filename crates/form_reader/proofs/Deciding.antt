@@ -30,7 +30,7 @@ use Rattle.form_reader.specs.Frames.{close_of, close_of_frames, place_in, call_i
 use Rattle.form_reader.specs.Gathering.{text_turn, kept, line_turn, block_turn}
 use Rattle.form_reader.specs.Reading.{Piece, Outcome, form, empty, refused, at_place, closed, or_closed, place_turn, place, stands_alone, alone, inner, attempt, outcome, reads_in, reads_at, reads, number_after, sub_there, dispatched}
 use Rattle.form_reader.specs.Resuming.{inner_at, stage_gives}
-use Rattle.form_reader.specs.Reader.{MayGoOn}
+use Rattle.form_reader.specs.Reader.{MayGoOn, DecideNothing}
 use Rattle.form_reader.specs.Turning.{outcome_of, rest_of}
 use Rattle.form_reader.proofs.FedTokens.{cut, refused_cut}
 use Rattle.form_reader.proofs.Faults.{Decided, decided}
@@ -289,6 +289,13 @@ undecided setting bytes c code (refused number place) e next =
         let same : refused number place ≡ refused code (length bytes) = sym ((refusal_stays setting bytes number place e).1 (ltb-true place (length bytes) is) (c ∷ [])) ∙ next in
         cc
     by false is = omega (arith, (refusal_stays setting bytes number place e).0, ltb-false place (length bytes) is)
+
+pub decide_nothing : (setting : Setting) (frames : List Frame) (stage : Stage) (start at : ℕ) (bytes : List ℕ) → at ≤ setting.limits.text → start + at ≡ length bytes
+    → ((cs : List ℕ) → reads setting (bytes ++ cs) ≡ rest_of setting frames stage start at cs) → DecideNothing setting bytes
+decide_nothing setting frames stage start at bytes le count rest =
+    let c = 128 + length setting.table.entries + unwrap_or (close_of_frames frames) 0 + 1 in
+    let h = stage_fails setting frames stage at c le (record { beyond = omega arith; none = omega arith; other = omega arith }) in
+    (c, (h.0, rest (c ∷ []) ∙ ap (outcome_of setting start) h.1 ∙ ap (λ (n : ℕ). refused h.0 n) count))
 
 pub may_go_on : (setting : Setting) (frames : List Frame) (stage : Stage) (start at : ℕ) (bytes : List ℕ) → at ≤ setting.limits.text → start + at ≡ length bytes
     → ((cs : List ℕ) → reads setting (bytes ++ cs) ≡ rest_of setting frames stage start at cs) → MayGoOn bytes (reads setting bytes)

@@ -23,7 +23,7 @@ use Rattle.form_reader.specs.Setting.{Setting}
 use Rattle.form_reader.specs.Reading.{form, refused, reads}
 use Rattle.form_reader.specs.Turning.{outcome_of, rest_of, TurnsTo, IsReadyTurn, BeginsFrom}
 use Rattle.form_reader.specs.Reader.{fed, begun, IsNew, IsAfter, IsAfterIn, Steps, BeginsLater, IsSoundStep, Takes}
-use Rattle.form_reader.proofs.Deciding.{may_go_on}
+use Rattle.form_reader.proofs.Deciding.{may_go_on, decide_nothing}
 use Rattle.form_reader.proofs.Forms.{reads_is, stood}
 
 -- a reader that was fed nothing is after no bytes
@@ -54,6 +54,7 @@ module _ (setting : Setting) (old mid new : FormReader) (stage : Stage) (bytes :
         subst (λ (s : State). IsAfterIn setting new s fed_now) (sym takes.4) (omega (arith, many, takes.1, takes.2, ready.1, a.0), rest),
         omega (arith, many, takes.1, takes.2, ready.1, a.0),
         may_go_on setting after st start at fed_now ready.0.place (omega (arith, many, ready.1, a.0)) (λ cs. one_more a cs ∙ turns cs),
+        decide_nothing setting after st start at fed_now ready.0.place (omega (arith, many, ready.1, a.0)) (λ cs. one_more a cs ∙ turns cs),
       )
   stepped (TurnForm x start «end» next) (StepForm datum s e n) a turns ready takes same =
       let many : length fed_now ≡ length bytes + 1 = length-append bytes (byte ∷ []) in

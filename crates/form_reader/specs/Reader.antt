@@ -1,5 +1,5 @@
 -- A reader that takes a text one byte at a time: what it is after, and what it answers.
-use Rattle.std.specs.Prelude.{ℕ, ◌≡◌, ◌+◌, ◌≤◌, true, List, [], ◌++◌, length}
+use Rattle.std.specs.Prelude.{ℕ, ◌≡◌, ◌+◌, ◌≤◌, true, List, [], ◌∷◌, ◌++◌, length}
 use Rattle.lisp_object.specs.Object.{IsSound}
 use Rattle.lisp_object.specs.Datum.{object_of, is_proper}
 use Rattle.form_reader.specs.declared.limits.Limits.{Limits}
@@ -43,6 +43,10 @@ MayGoOn text empty = Unit {0}
 MayGoOn text (form x start «end» next) = next ≡ length text
 MayGoOn text (refused code place) = place ≡ length text
 
+-- These bytes decide nothing alone: some byte after them is refused at its own place.
+abbrev pub DecideNothing : Setting → List ℕ → Type 0
+DecideNothing setting bytes = (c : ℕ) × ((code : ℕ) × (reads setting (bytes ++ c ∷ []) ≡ refused code (length bytes)))
+
 -- It was fed nothing.
 pub record IsNew (reader : FormReader) : Type 0 where
   pub start : reader.start ≡ 0
@@ -67,7 +71,8 @@ IsAfter setting reader bytes = IsAfterIn setting reader reader.state bytes
 -- where it is one less, that byte is for the next form. After a form the reader is new, and after no bytes, whatever is handed
 -- to it then.
 abbrev pub Steps : Setting → FormReader → List ℕ → Step → Type 0
-Steps setting reader bytes StepMore = IsAfter setting reader bytes × (fed reader ≡ length bytes) × MayGoOn bytes (reads setting bytes)
+Steps setting reader bytes StepMore =
+    IsAfter setting reader bytes × (fed reader ≡ length bytes) × MayGoOn bytes (reads setting bytes) × DecideNothing setting bytes
 Steps setting reader bytes (StepForm datum start «end» next) =
     ((cs : List ℕ) → reads setting (bytes ++ cs) ≡ form (object_of datum) start «end» next)
     × (is_proper datum ≡ true) × (next ≤ length bytes) × (length bytes ≤ next + 1) × IsNew reader × ((later : Setting) → IsAfter later reader [])

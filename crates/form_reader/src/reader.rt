@@ -64,6 +64,7 @@ impl FormReader {
     ghost use Rattle.lisp_object.specs.Object.{Object};
     ghost use Rattle.form_reader.specs.Reading.{form, reads};
     ghost use Rattle.form_reader.specs.declared.reader.Step.TheVariants.{Refused as StepRefused};
+    ghost use Rattle.form_reader.specs.declared.ending.ReadOutcome.TheVariants.{Refused as ReadRefused};
     ghost use Rattle.form_reader.specs.Turning.{IsReadyTurn, BeginsFrom};
     ghost use Rattle.form_reader.specs.Reader.{limits_of, fed, begun, HasRefused, HasNoMemory, IsNew, IsAfter, Steps, BeginsLater, IsSoundStep, Takes, IsOutcome};
 
@@ -189,7 +190,9 @@ impl FormReader {
         requires answers { R.answers macros.now }
         requires current { IsPackage packages.now.0 current.now }
         requires count { fed self ≤ 2 ^ 63 }
-        ensures { (bytes : List ℕ) → IsAfter
+        ensures refused { (code place : ℕ) → HasRefused self code place → result ≡ Ok (ReadRefused code place) }
+        ensures spent { HasNoMemory self → IsErr result }
+        ensures outcome { (bytes : List ℕ) → IsAfter
             (setting_of (limits_of self) readtable.now packages.now.0 current.now
             (R.registered macros.now) R.Meaning.way R.Meaning.answer)
             self bytes → IfOk result (λ outcome. IsOutcome outcome (reads

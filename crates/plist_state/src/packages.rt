@@ -2,7 +2,7 @@
 ghost use Rattle.std.specs.Prelude.{◌≡◌, ◌<◌, All, Some, IfErr, IfOk};
 ghost use Rattle.package_table.specs.Table.{IsPresent};
 ghost use Rattle.package_table.specs.Lookup.{found};
-ghost use Rattle.package_table.specs.Changes.{after_make, after_intern, after_export, after_import, after_use, intern_changes, export_changes, import_changes, use_changes, Gives};
+ghost use Rattle.package_table.specs.Changes.{after_make, after_intern, after_export, after_import, after_use, intern_changes, export_changes, import_changes, use_changes, Gives, RunsOutOnlyIf};
 ghost use Rattle.package_table.specs.Growth.{Grows, Tells, IsSameBut};
 ghost use Rattle.plist_state.specs.Changes.{with_packages, after_in_package};
 
@@ -60,6 +60,7 @@ impl World {
         ensures gives { Gives (λ _. self.new.0.packages) result
             (after_export self.old.0.packages owner.now home.now name.now) }
         ensures changed { IfOk result (λ changed. changed ≡ export_changes self.old.0.packages owner.now name.now) }
+        ensures memory { IfErr result (RunsOutOnlyIf (export_changes self.old.0.packages owner.now name.now)) }
         ensures exactly { IfOk result (λ changed. Tells changed self.old.0.packages self.new.0.packages) }
         ensures rest { self.new ≡ (with_packages self.old.0 self.new.0.packages, self.old.1) }
         ensures grows { Grows self.old.0.packages self.new.0.packages }
@@ -80,6 +81,7 @@ impl World {
         ensures gives { Gives (λ _. self.new.0.packages) result
             (after_import self.old.0.packages owner.now home.now name.now) }
         ensures changed { IfOk result (λ changed. changed ≡ import_changes self.old.0.packages owner.now name.now) }
+        ensures memory { IfErr result (RunsOutOnlyIf (import_changes self.old.0.packages owner.now name.now)) }
         ensures exactly { IfOk result (λ changed. Tells changed self.old.0.packages self.new.0.packages) }
         ensures rest { self.new ≡ (with_packages self.old.0 self.new.0.packages, self.old.1) }
         ensures grows { Grows self.old.0.packages self.new.0.packages }
@@ -99,6 +101,7 @@ impl World {
         ensures gives { Gives (λ _. self.new.0.packages) result
             (after_use self.old.0.packages owner.now used.now) }
         ensures changed { IfOk result (λ changed. changed ≡ use_changes self.old.0.packages owner.now used.now) }
+        ensures memory { IfErr result (RunsOutOnlyIf (use_changes self.old.0.packages owner.now used.now)) }
         ensures exactly { IfOk result (λ changed. Tells changed self.old.0.packages self.new.0.packages) }
         ensures rest { self.new ≡ (with_packages self.old.0 self.new.0.packages, self.old.1) }
         ensures grows { Grows self.old.0.packages self.new.0.packages }
