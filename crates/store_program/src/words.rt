@@ -22,7 +22,8 @@ const RESCUE: &str = "rescue";
 const USAGE: &str = "./pazturrok run DIR [--rescue]";
 
 /// What a person has to know to work with it, at the end of the help.
-const MANUAL: &str = "";
+const MANUAL: &str =
+    "DIR holds the two files of the store, half-a and half-b, of at most 1,073,741,824 bytes each.\nOne process at a time serves a folder.\n\nA form is answered once its record has been synced. Stopped at any moment, a store on an honest\ndisk opens again with the world that some first part of the accepted forms gives, and that\npart holds each form that was answered. README.md has the premises, and what is proved.\n\nWith --rescue each form is read under the standard readtable in COMMON-LISP-USER, whatever readtable\nand package the store has. It is the way out of a readtable that can no longer be used:\n(COPY-READTABLE NIL :USER) makes :USER the standard one again.\n\nMacro functions, for SET-MACRO-CHARACTER and SET-DISPATCH-MACRO-CHARACTER:\n  :SQUARE  a vector of the objects up to the next ]\n  :CLOSE   refuses each call, as 20; for a ] that stands alone\n  :NOTE    discards what follows, up to the end of the line\n  :SKIP    discards the object that follows\n  :UNIT    a text of the characters up to the next }\n  :SCALE   the integer that follows, times the numeric argument\n\nExit status:\n  0  the input was served to its end, or help was asked for\n  1  a text was refused by the reader, which ends the session; its line is the last answer\n  2  the words of the command line were refused\n  3  a fault of the folder, the files, the input, the output or the memory, with the line\n     ! <number> <NAME> on standard error; docs/operating.md says what to do";
 
 /// What the words ask for.
 #[derive(Clone, Copy, Debug)]
@@ -39,7 +40,7 @@ fn folder_command<'a>(alloc: Global) -> Result<Command<'a>, AllocError>
     ensures local { IfOk result (λ command. (fields_of command).has_globals ≡ false) }
 {
     let directory = Arg::new(alloc, DIRECTORY)
-        .help("The folder of the store's two files; made where it is missing")
+        .help("The folder of the store, made where it is missing")
         .required(true)
         .action(ArgAction::Set);
     Command::new(alloc, RUN)
@@ -55,7 +56,7 @@ fn run_command<'a>(alloc: Global) -> Result<Command<'a>, AllocError>
 {
     let rescue = Arg::new(alloc, RESCUE)
         .long(RESCUE)
-        .help("Read the forms under the standard readtable in COMMON-LISP-USER")
+        .help("Read each form under the standard readtable in COMMON-LISP-USER")
         .action(ArgAction::SetTrue);
     let command = folder_command(alloc)?;
     command.arg(rescue)
