@@ -2,164 +2,166 @@
 use Rattle.std.proofs.Common.{◌≡◌, ◌⊎◌, ℕ, ◌+◌, ◌≤◌, List, [], ◌++◌, Option, Some, refl, sym, ap, subst, ◌∙◌, inl, inr, append-nil, arith}
 use Rattle.disk_trait.specs.Disk.{State}
 use Rattle.lisp_object.specs.declared.refusal.TheConstants.{DEVICE, OUTPUT, NO_MEMORY}
-use Rattle.prevalence_store.specs.declared.mode.Mode.TheVariants.{Current}
+use Rattle.plist_state.specs.State.{State as World, initial}
+use Rattle.prevalence_store.specs.declared.mode.Mode.{Mode}
 use Rattle.prevalence_store.specs.declared.open_fault.OpenFault.{OpenFault}
 use Rattle.prevalence_store.specs.declared.open_fault.OpenFault.TheVariants as opening
 use Rattle.prevalence_store.specs.declared.outcome.Ending.{Ending}
 use Rattle.prevalence_store.specs.declared.outcome.Ending.TheVariants.{End, Reader, Store}
+use Rattle.prevalence_store.specs.Functions.{Functions}
 use Rattle.prevalence_store.specs.Opening.{fault_number}
 use Rattle.prevalence_store.specs.Output.{Progress, after_forms, begun, last_line}
 use Rattle.prevalence_store.specs.Serving.{HasRead, Serves, ServesInput}
 use Rattle.prevalence_store.specs.Session.{Session}
 use Rattle.prevalence_store.specs.Acceptance.{read_in}
-use Rattle.prevalence_store.specs.World.{World, initial}
 use Rattle.store_program.specs.Session.{AnswersInput, IsBrokenOff, ReadsToEnd}
 use Rattle.store_program.specs.Status.{HasFaultNumber, IsFaultNumber, status_of_ending}
 
-same_progress : (n m : ℕ) (w : World) (text : List ℕ) (p q : Progress) → n ≡ m → after_forms n w Current text ≡ Some p → after_forms m w Current text ≡ Some q → p ≡ q
-same_progress n m w text p q is here there = let same : after_forms n w Current text ≡ after_forms m w Current text = ap (λ k. after_forms k w Current text) is in cc
+module _ (functions : Functions) (mode : Mode) where
+  same_progress : (n m : ℕ) (w : World) (text : List ℕ) (p q : Progress) → n ≡ m → after_forms functions n w mode text ≡ Some p → after_forms functions m w mode text ≡ Some q → p ≡ q
+  same_progress n m w text p q is here there = let same : after_forms functions n w mode text ≡ after_forms functions m w mode text = ap (λ k. after_forms functions k w mode text) is in cc
 
--- all lines were written, and this part
-whole : (held : List ℕ) (written : Option (List ℕ)) (p q : Progress) (part last : List ℕ) → written ≡ Some (held ++ (p.lines ++ part)) → p ≡ q → part ≡ last
-    → written ≡ Some (held ++ (q.lines ++ last))
-whole held written p q part last is same part_is = is ∙ ap (λ l. Some (held ++ l)) (ap (λ (r : Progress). r.lines ++ part) same ∙ ap (λ l. q.lines ++ l) part_is)
+  -- all lines were written, and this part
+  whole : (held : List ℕ) (written : Option (List ℕ)) (p q : Progress) (part last : List ℕ) → written ≡ Some (held ++ (p.lines ++ part)) → p ≡ q → part ≡ last
+      → written ≡ Some (held ++ (q.lines ++ last))
+  whole held written p q part last is same part_is = is ∙ ap (λ l. Some (held ++ l)) (ap (λ (r : Progress). r.lines ++ part) same ∙ ap (λ l. q.lines ++ l) part_is)
 
--- nothing was read and nothing written
-pub nothing_written : (input held : List ℕ) (written : Option (List ℕ)) → written ≡ Some held → IsBrokenOff input held written
-nothing_written input held written is = record {
-  world = initial;
-  read = [];
-  left = input;
-  parts = refl;
-  forms = 0;
-  far = begun initial [];
-  far_is = refl;
-  front = [];
-  unwritten = last_line (read_in initial Current []);
-  lines = refl;
-  all = is ∙ ap (λ l. Some l) (sym (append-nil held));
-}
+  -- nothing was read and nothing written
+  pub nothing_written : (input held : List ℕ) (written : Option (List ℕ)) → written ≡ Some held → IsBrokenOff functions mode input held written
+  nothing_written input held written is = record {
+    world = initial;
+    read = [];
+    left = input;
+    parts = refl;
+    forms = 0;
+    far = begun initial [];
+    far_is = refl;
+    front = [];
+    unwritten = last_line (read_in functions initial mode []);
+    lines = refl;
+    all = is ∙ ap (λ l. Some l) (sym (append-nil held));
+  }
 
-no_more : (lines part last : List ℕ) → part ≡ [] → lines ++ last ≡ (lines ++ part) ++ last
-no_more lines part last none = ap (λ l. l ++ last) (sym (append-nil lines)) ∙ ap (λ p. (lines ++ p) ++ last) (sym none)
+  no_more : (lines part last : List ℕ) → part ≡ [] → lines ++ last ≡ (lines ++ part) ++ last
+  no_more lines part last none = ap (λ l. l ++ last) (sym (append-nil lines)) ∙ ap (λ p. (lines ++ p) ++ last) (sym none)
 
-module _ {D : Type 0} (state : D → State) (old new : Session D) (w : World) (had has held_now written : Option (List ℕ)) where
-  pub answers_input : (ending : Ending) → ServesInput state old new w Current had has held_now written ending → (input held : List ℕ) → had ≡ Some input → held_now ≡ Some held
-      → AnswersInput (status_of_ending ending) input held written
-  answers_input End served input held left holds =
-      let s = served.serves in
-      let read = served.reads input left in
-      let text_is : served.text ≡ input = sym (read.1 ∙ ap (λ l. served.text ++ l) read.2.0 ∙ append-nil served.text) in (
-        w,
-        record {
-          forms = s.forms;
-          far = s.far;
-          far_is = subst (λ t. after_forms s.forms w Current t ≡ Some s.far) text_is s.far_is;
-          all = whole held written s.answered s.far s.part [] (s.output held holds) (same_progress s.lines s.forms w served.text s.answered s.far s.ends.all s.answered_is s.far_is) s.ends.no_part;
-        },
-        s.ends.nothing_left,
-      )
-  answers_input (Reader number) served input held left holds =
-      let s = served.serves in
-      let read = served.reads input left in
-      let lines = whole held written s.answered s.far s.part _ (s.output held holds) (same_progress s.lines s.forms w served.text s.answered s.far s.ends.all s.answered_is s.far_is) s.ends.line in
-      elim read.2.0 [
-        | inl none ↦
-            let text_is : served.text ≡ input = sym (read.1 ∙ ap (λ l. served.text ++ l) none ∙ append-nil served.text) in (
-              w,
-              number,
-              record { forms = s.forms; far = s.far; far_is = subst (λ t. after_forms s.forms w Current t ≡ Some s.far) text_is s.far_is; all = lines },
-              (s.ends.place, s.ends.reads),
-            )
-        | inr stays ↦
-            let more = stays read.0 in (
-              w,
-              number,
-              record {
-                forms = s.forms;
-                far = record s.far { rest = s.far.rest ++ read.0 };
-                far_is = subst (λ t. after_forms s.forms w Current t ≡ Some (record s.far { rest = s.far.rest ++ read.0 })) (sym read.1) more.0;
-                all = lines;
-              },
-              more.1,
-            )
-      ]
-  answers_input (Store number) served input held left holds = tt
+  module _ {D R : Type 0} (state : D → State) (old new : Session D R) (w : World) (had has held_now written : Option (List ℕ)) where
+    pub answers_input : (ending : Ending) → ServesInput functions state old new w mode had has held_now written ending → (input held : List ℕ) → had ≡ Some input → held_now ≡ Some held
+        → AnswersInput functions mode (status_of_ending ending) input held written
+    answers_input End served input held left holds =
+        let s = served.serves in
+        let read = served.reads input left in
+        let text_is : served.text ≡ input = sym (read.1 ∙ ap (λ l. served.text ++ l) read.2.0 ∙ append-nil served.text) in (
+          w,
+          record {
+            forms = s.forms;
+            far = s.far;
+            far_is = subst (λ t. after_forms functions s.forms w mode t ≡ Some s.far) text_is s.far_is;
+            all = whole held written s.answered s.far s.part [] (s.output held holds) (same_progress s.lines s.forms w served.text s.answered s.far s.ends.all s.answered_is s.far_is) s.ends.no_part;
+          },
+          s.ends.nothing_left,
+        )
+    answers_input (Reader number) served input held left holds =
+        let s = served.serves in
+        let read = served.reads input left in
+        let lines = whole held written s.answered s.far s.part _ (s.output held holds) (same_progress s.lines s.forms w served.text s.answered s.far s.ends.all s.answered_is s.far_is) s.ends.line in
+        elim read.2.0 [
+          | inl none ↦
+              let text_is : served.text ≡ input = sym (read.1 ∙ ap (λ l. served.text ++ l) none ∙ append-nil served.text) in (
+                w,
+                number,
+                record { forms = s.forms; far = s.far; far_is = subst (λ t. after_forms functions s.forms w mode t ≡ Some s.far) text_is s.far_is; all = lines },
+                (s.ends.place, s.ends.reads),
+              )
+          | inr stays ↦
+              let more = stays read.0 in (
+                w,
+                number,
+                record {
+                  forms = s.forms;
+                  far = record s.far { rest = s.far.rest ++ read.0 };
+                  far_is = subst (λ t. after_forms functions s.forms w mode t ≡ Some (record s.far { rest = s.far.rest ++ read.0 })) (sym read.1) more.0;
+                  all = lines;
+                },
+                more.1,
+              )
+        ]
+    answers_input (Store number) served input held left holds = tt
 
-  pub broken_input : (number : ℕ) → ServesInput state old new w Current had has held_now written (Store number) → (input held : List ℕ) → had ≡ Some input → held_now ≡ Some held
-      → IsBrokenOff input held written
-  broken_input number served input held left holds =
-      let s = served.serves in
-      let read = served.reads input left in
-      let quiet : s.part ≡ [] → IsBrokenOff input held written = λ none. record {
-        world = w;
-        read = served.text;
-        left = read.0;
-        parts = read.1;
-        forms = s.lines;
-        far = s.answered;
-        far_is = s.answered_is;
-        front = s.answered.lines ++ s.part;
-        unwritten = last_line (read_in s.answered.world Current s.answered.rest);
-        lines = no_more s.answered.lines s.part (last_line (read_in s.answered.world Current s.answered.rest)) none;
-        all = s.output held holds;
-      } in
-      elim s.ends [
-        | inl stopped ↦ quiet stopped.no_part
-        | inr else ↦ elim else [
-          | inl full ↦ quiet full.no_part
+    pub broken_input : (number : ℕ) → ServesInput functions state old new w mode had has held_now written (Store number) → (input held : List ℕ) → had ≡ Some input → held_now ≡ Some held
+        → IsBrokenOff functions mode input held written
+    broken_input number served input held left holds =
+        let s = served.serves in
+        let read = served.reads input left in
+        let quiet : s.part ≡ [] → IsBrokenOff functions mode input held written = λ none. record {
+          world = w;
+          read = served.text;
+          left = read.0;
+          parts = read.1;
+          forms = s.lines;
+          far = s.answered;
+          far_is = s.answered_is;
+          front = s.answered.lines ++ s.part;
+          unwritten = last_line (read_in functions s.answered.world mode s.answered.rest);
+          lines = no_more s.answered.lines s.part (last_line (read_in functions s.answered.world mode s.answered.rest)) none;
+          all = s.output held holds;
+        } in
+        elim s.ends [
+          | inl stopped ↦ quiet stopped.no_part
           | inr else ↦ elim else [
-            | inl unread ↦ quiet unread.no_part
+            | inl full ↦ quiet full.no_part
             | inr else ↦ elim else [
-              | inl cut ↦
-                  record {
-                    world = w;
-                    read = served.text;
-                    left = read.0;
-                    parts = read.1;
-                    forms = s.forms;
-                    far = s.far;
-                    far_is = s.far_is;
-                    front = s.answered.lines ++ s.part;
-                    unwritten = cut.unwritten;
-                    lines = cut.front;
-                    all = s.output held holds;
-                  }
-              | inr memory ↦ quiet memory.no_part
+              | inl unread ↦ quiet unread.no_part
+              | inr else ↦ elim else [
+                | inl cut ↦
+                    record {
+                      world = w;
+                      read = served.text;
+                      left = read.0;
+                      parts = read.1;
+                      forms = s.forms;
+                      far = s.far;
+                      far_is = s.far_is;
+                      front = s.answered.lines ++ s.part;
+                      unwritten = cut.unwritten;
+                      lines = cut.front;
+                      all = s.output held holds;
+                    }
+                | inr memory ↦ quiet memory.no_part
+              ]
             ]
           ]
         ]
-      ]
 
-  pub broken_at : (ending : Ending) (number : ℕ) → ending ≡ Store number → ServesInput state old new w Current had has held_now written ending → (input held : List ℕ) → had ≡ Some input → held_now ≡ Some held
-      → IsBrokenOff input held written
-  broken_at ending number is served = broken_input number (subst (λ (e : Ending). ServesInput state old new w Current had has held_now written e) is served)
+    pub broken_at : (ending : Ending) (number : ℕ) → ending ≡ Store number → ServesInput functions state old new w mode had has held_now written ending → (input held : List ℕ) → had ≡ Some input → held_now ≡ Some held
+        → IsBrokenOff functions mode input held written
+    broken_at ending number is served = broken_input number (subst (λ (e : Ending). ServesInput functions state old new w mode had has held_now written e) is served)
 
-  pub reads_input : (ending : Ending) → ServesInput state old new w Current had has held_now written ending → (input : List ℕ) → had ≡ Some input
-      → ReadsToEnd (status_of_ending ending) has
-  reads_input End served input left = let read = served.reads input left in read.2.1 ∙ ap (λ l. Some l) read.2.0
-  reads_input (Reader number) served input left = tt
-  reads_input (Store number) served input left = tt
+    pub reads_input : (ending : Ending) → ServesInput functions state old new w mode had has held_now written ending → (input : List ℕ) → had ≡ Some input
+        → ReadsToEnd (status_of_ending ending) has
+    reads_input End served input left = let read = served.reads input left in read.2.1 ∙ ap (λ l. Some l) read.2.0
+    reads_input (Reader number) served input left = tt
+    reads_input (Store number) served input left = tt
 
-  between_numbers : (number given : ℕ) → number ≡ given → (DEVICE ≤ given) × (given ≤ OUTPUT) → IsFaultNumber number
-  between_numbers number given is within = subst IsFaultNumber (sym is) (inl within)
+    between_numbers : (number given : ℕ) → number ≡ given → (DEVICE ≤ given) × (given ≤ OUTPUT) → IsFaultNumber number
+    between_numbers number given is within = subst IsFaultNumber (sym is) (inl within)
 
-  pub fault_of_session : (ending : Ending) → ServesInput state old new w Current had has held_now written ending → HasFaultNumber (status_of_ending ending)
-  fault_of_session End served = λ number is. absurd (cc)
-  fault_of_session (Reader code) served = λ number is. absurd (cc)
-  fault_of_session (Store code) served = λ number is. let same : code ≡ number = cc in subst IsFaultNumber same (elim served.serves.ends [
-    | inl stopped ↦ between_numbers code DEVICE stopped.device (omega arith, omega arith)
-    | inr else ↦ elim else [
-      | inl full ↦ between_numbers code _ full.full (omega arith, omega arith)
+    pub fault_of_session : (ending : Ending) → ServesInput functions state old new w mode had has held_now written ending → HasFaultNumber (status_of_ending ending)
+    fault_of_session End served = λ number is. absurd (cc)
+    fault_of_session (Reader code) served = λ number is. absurd (cc)
+    fault_of_session (Store code) served = λ number is. let same : code ≡ number = cc in subst IsFaultNumber same (elim served.serves.ends [
+      | inl stopped ↦ between_numbers code DEVICE stopped.device (omega arith, omega arith)
       | inr else ↦ elim else [
-        | inl unread ↦ between_numbers code _ unread.input (omega arith, omega arith)
+        | inl full ↦ between_numbers code _ full.full (omega arith, omega arith)
         | inr else ↦ elim else [
-          | inl unwritten ↦ between_numbers code _ unwritten.output (omega arith, omega arith)
-          | inr memory ↦ inr memory.memory
+          | inl unread ↦ between_numbers code _ unread.input (omega arith, omega arith)
+          | inr else ↦ elim else [
+            | inl unwritten ↦ between_numbers code _ unwritten.output (omega arith, omega arith)
+            | inr memory ↦ inr memory.memory
+          ]
         ]
       ]
-    ]
-  ])
+    ])
 
 fault_is : (fault : OpenFault) → IsFaultNumber (fault_number fault)
 fault_is opening.OutOfMemory = inr refl
@@ -167,6 +169,8 @@ fault_is opening.DeviceFault = inl (omega arith, omega arith)
 fault_is opening.Damaged = inl (omega arith, omega arith)
 fault_is opening.UnknownVersion = inl (omega arith, omega arith)
 fault_is opening.TooLarge = inl (omega arith, omega arith)
+fault_is opening.NotWhole = inl (omega arith, omega arith)
+fault_is opening.UnknownFunction = inl (omega arith, omega arith)
 
 pub fault_of_opening : (number : ℕ) (fault : OpenFault) → number ≡ fault_number fault → HasFaultNumber (status_of_ending (Store number))
 fault_of_opening number fault is = λ other same. let here : number ≡ other = cc in subst IsFaultNumber here (subst IsFaultNumber (sym is) (fault_is fault))

@@ -1,14 +1,16 @@
 //! The program: it serves the forms of standard input to standard output, over a store whose files are in a folder.
 //!
 //! - `program` (module `program`) does what the words of the command line ask for, and answers a `Status`.
-//! - `words` has the command line: `run DIR`.
+//! - `words` has the command line: `run DIR [--rescue]`.
 //! - `fault` writes the line of a fault.
 //! - `meaning` says what the program's macro functions mean, and `macro_functions` has those that compute an object.
-//! - `main` registers the macro functions, which `run` does not use yet, hands `program` the words, the standard streams
-//!   and the files of the system, and ends with its status.
+//! - `main` registers the macro functions, hands them to `program` with the words, the standard streams and the files of
+//!   the system, and ends with its status.
 #![tactic(auto)]
 
-ghost use Rattle.std.specs.Prelude.{◌≡◌, IfErr, is_ok};
+ghost use Rattle.std.specs.Prelude.{◌≡◌, true, IfErr, is_ok};
+ghost use Rattle.std.specs.List.{list_all};
+ghost use Rattle.readtable_core.specs.Names.{is_among};
 ghost use Rattle.user_macros.specs.Sound.{IsSoundCall};
 
 mod fault;
@@ -39,11 +41,15 @@ fn words_given(rt: &HostRuntime) -> Result<Vec<String>, Status> {
     }
 }
 
-// Does what the words ask for.
-fn serve<F: Write>(rt: &HostRuntime, faults: &mut F) -> Status {
+// Does what the words ask for, with macro functions that are all registered.
+fn serve<M: MacroFunctions + Drop, F: Write>(rt: &HostRuntime, macros: M, faults: &mut F) -> Status
+    requires answers { M.answers macros }
+    requires whole { list_all (is_among (M.registered macros)) M.Meaning.names ≡ true }
+{
     match words_given(rt) {
         Ok(words) => program::program(
             rt,
+            macros,
             words.as_slice(),
             &mut rt.stdin(),
             &mut rt.stdout(),
@@ -99,9 +105,7 @@ fn start<F: Write>(rt: &HostRuntime, faults: &mut F) -> Result<Status, AllocErro
     registered(macros.register(FnName::new(b"SKIP").unwrap(), skip))?;
     registered(macros.register(FnName::new(b"UNIT").unwrap(), unit))?;
     registered(macros.register(FnName::new(b"SCALE").unwrap(), scale))?;
-    let is_whole = macros.is_whole();
-    prove!(is_whole);
-    Ok(serve(rt, faults))
+    Ok(serve(rt, macros, faults))
 }
 
 fn main(rt: HostRuntime) -> ExitCode {

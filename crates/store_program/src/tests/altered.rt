@@ -1,5 +1,6 @@
 //! Files that were altered while no store was open.
 
+use super::by_name::ByName;
 use super::long::LongDisk;
 use super::{AMPLE, Trouble, bytes_of, disk_of, fresh_session, opened, session_over};
 use disk_trait::{Disk, Half};
@@ -85,11 +86,11 @@ fn the_greater_generation_is_in_use(rt: HostRuntime) -> Result<(), Fail> {
         bytes_of(alloc, &mut found.disk, Half::A)?.as_slice(),
         a.as_slice()
     );
-    assert_eq!(rt; bytes_of(alloc, &mut found.disk, Half::B)?.len(), 194);
+    assert_eq!(rt; bytes_of(alloc, &mut found.disk, Half::B)?.len(), 177);
     let store = opened(alloc, found.disk, AMPLE)?;
     let seen = (store.half(), store.generation(), store.record_count());
     let _disk = store.close();
-    assert_eq!(rt; seen, (Half::B, 2, 2));
+    assert_eq!(rt; seen, (Half::B, 2, 1));
     Ok(())
 }
 
@@ -104,15 +105,19 @@ fn given_back(
     if disk.failures() > 0 {
         return Err(Trouble::Device);
     }
-    match Store::open(alloc, disk, limit) {
+    match Store::open(alloc, disk, ByName::new(alloc), limit) {
         Ok(store) => {
-            let mut disk = store.close();
+            let (mut disk, _macros) = store.close();
             let a = bytes_of(alloc, &mut disk, Half::A)?;
             let b = bytes_of(alloc, &mut disk, Half::B)?;
             Ok((0, a, b))
         }
         Err(unopened) => {
-            let Unopened { number, mut disk } = unopened;
+            let Unopened {
+                number,
+                mut disk,
+                macros: _,
+            } = unopened;
             let a = bytes_of(alloc, &mut disk, Half::A)?;
             let b = bytes_of(alloc, &mut disk, Half::B)?;
             Ok((number, a, b))
@@ -129,13 +134,17 @@ fn given_back_long(alloc: Global, a: &[u8]) -> Result<(u16, Vec<u8>), Trouble> {
     if disk.failures() > 0 {
         return Err(Trouble::Device);
     }
-    match Store::open(alloc, disk, AMPLE) {
+    match Store::open(alloc, disk, ByName::new(alloc), AMPLE) {
         Ok(store) => {
             let _disk = store.close();
             Ok((0, Vec::new(alloc)))
         }
         Err(unopened) => {
-            let Unopened { number, disk } = unopened;
+            let Unopened {
+                number,
+                disk,
+                macros: _,
+            } = unopened;
             let LongDisk { disk, is_long: _ } = disk;
             Ok((number, session_over(alloc, disk, b"(GET 'A 'B)")?.answers))
         }

@@ -1,95 +1,107 @@
-//! Callers over any disk, by the clauses of the store's public calls alone.
-ghost use Rattle.std.specs.Prelude.{◌≡◌, ◌<◌, ◌-◌, ◌^◌, [], ◌∷◌, ◌++◌, ℕ, List, Some, Ok, IfSome, IfOk, length};
+//! Callers over any disk and any macro functions, by the clauses of the store's public calls alone.
+ghost use Rattle.std.specs.Prelude.{◌≡◌, ◌<◌, ◌+◌, ◌-◌, ◌^◌, ◌++◌, ℕ, List, Some, Ok, IfSome, IfOk, length};
 ghost use Rattle.disk_trait.specs.Disk.{IsHonest};
-ghost use Rattle.prevalence_store.specs.Acceptance.{Acceptance, accepts, logged};
+ghost use Rattle.plist_state.specs.State.{State as LispWorld};
+ghost use Rattle.prevalence_store.specs.Acceptance.{Acceptance, accepts, records_of};
+ghost use Rattle.prevalence_store.specs.Functions.{functions_of};
 ghost use Rattle.prevalence_store.specs.Output.{Progress, after_forms};
 ghost use Rattle.prevalence_store.specs.Streams.{Writes};
 ghost use Rattle.prevalence_store.specs.Theorem.{IsAfterSome, Keeps};
-ghost use Rattle.prevalence_store.specs.World.{World as LispWorld};
 
+use super::by_name::ByName;
 use super::{AMPLE, Trouble, fresh_session};
 use disk_trait::{Crash, Disk, MemoryDisk};
 use prevalence_store::{Ending, Mode, Outcome, Store, Unopened, headline};
 use std::alloc::Global;
 use std::io::{Read, Write};
 use std::test::Fail;
+use user_macros::MacroFunctions;
 
 /// A disk that was closed after two forms, and what the opening of another one gave.
-type Again<D> = (D, Result<Store<D>, Unopened<D>>);
+type Again<D, M> = (D, Result<Store<D, M>, Unopened<D, M>>);
 
-/// Opens a disk, executes two forms, closes it, and opens another disk. `None` where it is not opened or a form is refused.
+/// Opens a disk, executes two forms, closes it, and opens another disk with the same macro functions. `None` where it is
+/// not opened or a form is refused.
 ///
 /// Both forms were accepted. Where the other disk reads as a crash may leave the first one, at any moment since the start, its
 /// store has the world after some of them, from the first on; and where the crash comes after the close, after both.
-fn two_forms<D: Disk + Drop>(
+fn two_forms<D: Disk + Drop, M: MacroFunctions + Drop>(
     alloc: Global,
     disk: D,
     crashed: D,
+    macros: M,
     first: &[u8],
     second: &[u8],
-) -> Option<Again<D>>
+) -> Option<Again<D, M>>
     requires room { (D.state disk).failures < 2 ^ 64 - 1 }
     requires room_again { (D.state crashed).failures < 2 ^ 64 - 1 }
+    requires answers { M.answers macros }
     ensures found { IfSome result (λ two. (w : LispWorld)
-        → IsHonest (D.state disk) → Keeps (D.state disk) w → IsHonest (D.state crashed)
+        → IsHonest (D.state disk) → Keeps (functions_of M.Meaning.names M.Meaning.way M.Meaning.answer) (D.state disk) w → IsHonest (D.state crashed)
         → (one : Acceptance) × (both : Acceptance)
-        × (accepts w Mode.Current first.now ≡ Ok one) × (accepts one.world Mode.Current second.now ≡ Ok both)
+        × (accepts (functions_of M.Meaning.names M.Meaning.way M.Meaning.answer) w Mode.Current first.now ≡ Ok one)
+        × (accepts (functions_of M.Meaning.names M.Meaning.way M.Meaning.answer) one.world Mode.Current second.now ≡ Ok both)
         × ((D.state two.0).left_since (D.state disk).moment (D.state crashed).reads
         → IfOk two.1 (λ store. (now : LispWorld) × (store.world ≡ Some now)
-        × IsAfterSome w (logged Mode.Current one.text ∷ logged Mode.Current both.text ∷ []) 0 now))
+        × IsAfterSome (functions_of M.Meaning.names M.Meaning.way M.Meaning.answer) w (records_of one.wrote Mode.Current one.text ++ records_of both.wrote Mode.Current both.text) 0 now))
         × ((D.state two.0).left_since (D.state two.0).moment (D.state crashed).reads
         → IfOk two.1 (λ store. (now : LispWorld) × (store.world ≡ Some now)
-        × IsAfterSome w (logged Mode.Current one.text ∷ logged Mode.Current both.text ∷ []) 2 now))) }
+        × IsAfterSome (functions_of M.Meaning.names M.Meaning.way M.Meaning.answer) w (records_of one.wrote Mode.Current one.text ++ records_of both.wrote Mode.Current both.text)
+        (length (records_of one.wrote Mode.Current one.text) + length (records_of both.wrote Mode.Current both.text)) now))) }
 {
-    let Ok(mut store) = Store::open(alloc, disk, AMPLE) else {
+    let Ok(mut store) = Store::open(alloc, disk, macros, AMPLE) else {
         return None;
     };
     let Outcome::Accepted(_) = store.execute(Mode::Current, first) else {
-        let _disk = store.close();
+        let _closed = store.close();
         return None;
     };
     let Outcome::Accepted(_) = store.execute(Mode::Current, second) else {
-        let _disk = store.close();
+        let _closed = store.close();
         return None;
     };
-    let closed = store.close();
+    let (closed, macros) = store.close();
     headline::<D>();
-    Some((closed, Store::open(alloc, crashed, AMPLE)))
+    Some((closed, Store::open(alloc, crashed, macros, AMPLE)))
 }
 
 /// How a session ended, the disk that was closed after it, and what the opening of another one gave.
-type Served<D> = (Ending, D, Result<Store<D>, Unopened<D>>);
+type Served<D, M> = (Ending, D, Result<Store<D, M>, Unopened<D, M>>);
 
-/// Opens a disk, serves a session, closes it, and opens another disk. `None` where the first one is not opened.
+/// Opens a disk, serves a session, closes it, and opens another disk with the same macro functions. `None` where the first
+/// one is not opened.
 ///
 /// Where the other disk reads as a crash after the close may leave the first one, its store has the world after some of the forms
 /// that were read, from the first on, and after all whose lines were written whole.
-fn one_session<D: Disk + Drop, R: Read, W: Write>(
+fn one_session<D: Disk + Drop, M: MacroFunctions + Drop, R: Read, W: Write>(
     alloc: Global,
     disk: D,
     crashed: D,
+    macros: M,
     reader: &mut R,
     writer: &mut W,
-) -> Option<Served<D>>
+) -> Option<Served<D, M>>
     requires room { (D.state disk).failures < 2 ^ 64 - 1 }
     requires room_again { (D.state crashed).failures < 2 ^ 64 - 1 }
+    requires answers { M.answers macros }
     ensures acknowledged { IfSome result (λ served. (w : LispWorld) (input : List ℕ)
-        → IsHonest (D.state disk) → Keeps (D.state disk) w → IsHonest (D.state crashed)
+        → IsHonest (D.state disk) → Keeps (functions_of M.Meaning.names M.Meaning.way M.Meaning.answer) (D.state disk) w → IsHonest (D.state crashed)
         → R.remaining reader.old ≡ Some input
         → (D.state served.1).may_leave (D.state crashed).reads
         → IfOk served.2 (λ store. (text : List ℕ) × (rest : List ℕ) × (input ≡ text ++ rest)
-        × ((forms : ℕ) × (far : Progress) × (after_forms forms w Mode.Current text ≡ Some far)
-        × ((lines : ℕ) × (answered : Progress) × (part : List ℕ) × (after_forms lines w Mode.Current text ≡ Some answered)
+        × ((forms : ℕ) × (far : Progress) × (after_forms (functions_of M.Meaning.names M.Meaning.way M.Meaning.answer) forms w Mode.Current text ≡ Some far)
+        × ((lines : ℕ) × (answered : Progress) × (part : List ℕ)
+        × (after_forms (functions_of M.Meaning.names M.Meaning.way M.Meaning.answer) lines w Mode.Current text ≡ Some answered)
         × (Writes (W.contents writer.old) (W.contents writer.new) (answered.lines ++ part)
         × ((now : LispWorld) × (store.world ≡ Some now)
-        × IsAfterSome w far.taken (length answered.taken) now)))))) }
+        × IsAfterSome (functions_of M.Meaning.names M.Meaning.way M.Meaning.answer) w far.taken (length answered.taken) now)))))) }
 {
-    let Ok(mut store) = Store::open(alloc, disk, AMPLE) else {
+    let Ok(mut store) = Store::open(alloc, disk, macros, AMPLE) else {
         return None;
     };
     let ending = store.serve(reader, writer, Mode::Current);
-    let closed = store.close();
-    Some((ending, closed, Store::open(alloc, crashed, AMPLE)))
+    let (closed, macros) = store.close();
+    Some((ending, closed, Store::open(alloc, crashed, macros, AMPLE)))
 }
 
 /// Files with the property 7, on which a crash of this kind came.
@@ -103,7 +115,7 @@ fn left(alloc: Global, kind: Crash) -> Result<MemoryDisk, Trouble> {
 }
 
 /// Whether the other disk was opened too.
-fn opened_too(again: Result<Store<MemoryDisk>, Unopened<MemoryDisk>>) -> bool {
+fn opened_too(again: Result<Store<MemoryDisk, ByName>, Unopened<MemoryDisk, ByName>>) -> bool {
     match again {
         Ok(store) => {
             let _disk = store.close();
@@ -125,7 +137,7 @@ fn accepted_twice(
     if disk.failures() > 0 || crashed.failures() > 0 {
         return Err(Trouble::Device);
     }
-    match two_forms(alloc, disk, crashed, first, second) {
+    match two_forms(alloc, disk, crashed, ByName::new(alloc), first, second) {
         Some((_, again)) => Ok(opened_too(again)),
         None => Ok(false),
     }
@@ -140,10 +152,11 @@ fn served_once(alloc: Global, kind: Crash, input: &[u8]) -> Result<(bool, Vec<u8
     }
     let mut reader = input;
     let mut answers = Vec::new(alloc);
-    let Some((_, _, again)) = one_session(alloc, disk, crashed, &mut reader, &mut answers) else {
-        return Ok((false, answers));
-    };
-    Ok((opened_too(again), answers))
+    let macros = ByName::new(alloc);
+    match one_session(alloc, disk, crashed, macros, &mut reader, &mut answers) {
+        Some((_, _, again)) => Ok((opened_too(again), answers)),
+        None => Ok((false, answers)),
+    }
 }
 
 #[test]

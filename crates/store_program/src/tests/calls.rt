@@ -1,54 +1,19 @@
 //! Calls of the store: its refusals, its limit, and a device that fails.
 
+use super::by_name::ByName;
 use super::{AMPLE, Trouble, bytes_of, opened};
 use disk_trait::{Disk, FuseDisk, Half, MemoryDisk};
 use lisp_object::Datum;
-use lisp_object::refusal::name_of;
-use prevalence_store::{Ending, Mode, Outcome, Property, Store, Symbol, World};
-use std::alloc::{AllocError, Global};
+use prevalence_store::{Ending, Mode, Outcome, Store};
+use std::alloc::Global;
 use std::test::Fail;
 
 /// The number of the refusal of a form, if it is refused.
-pub(super) fn refused<D: Disk>(store: &mut Store<D>, text: &[u8]) -> Option<u16> {
+pub(super) fn refused<D: Disk>(store: &mut Store<D, ByName>, text: &[u8]) -> Option<u16> {
     match store.execute(Mode::Current, text) {
         Outcome::Accepted(_) => None,
         Outcome::Refused(number) => Some(number),
     }
-}
-
-/// The number that stands as the property B of A.
-fn property(alloc: Global, world: &World) -> Result<Option<i128>, AllocError> {
-    let symbol = Symbol::from_bytes(alloc, b"COMMON-LISP-USER", b"A")?;
-    let indicator = Symbol::from_bytes(alloc, b"COMMON-LISP-USER", b"B")?;
-    Ok(match world.get(&symbol, &indicator) {
-        Some(Datum::Integer(n)) if is_only(world.plist(&symbol), *n) => Some(*n),
-        _ => None,
-    })
-}
-
-/// Whether the list has one property, B, with this number.
-fn is_only(plist: &[Property], number: i128) -> bool {
-    let [only] = plist else {
-        return false;
-    };
-    if only.indicator().name() != b"B".as_slice() {
-        return false;
-    }
-    match only.value() {
-        Datum::Integer(n) => *n == number,
-        _ => false,
-    }
-}
-
-#[test]
-fn a_symbol_is_told_by_its_names(rt: HostRuntime) -> Result<(), Fail> {
-    let symbol = Symbol::from_bytes(rt.alloc(), b"COMMON-LISP", b"GET")?;
-    let copied = symbol.copy(rt.alloc())?;
-    assert_eq!(rt; copied.home(), b"COMMON-LISP".as_slice());
-    assert_eq!(rt; copied.name(), b"GET".as_slice());
-    assert_eq!(rt; name_of(64), "LOG-FULL");
-    assert_eq!(rt; name_of(47), "");
-    Ok(())
 }
 
 /// The refusals of two texts that are not one form.
@@ -70,16 +35,16 @@ fn a_text_is_one_form(rt: HostRuntime) -> Result<(), Fail> {
 }
 
 /// What becomes of two forms where there is room for one record, and the property then.
-fn fill(alloc: Global) -> Result<(Option<u16>, Option<u16>, Option<i128>), Trouble> {
+fn fill(alloc: Global) -> Result<(Option<u16>, Option<u16>, bool), Trouble> {
     let mut store = opened(alloc, MemoryDisk::new(alloc), 202)?;
     let first = refused(&mut store, b"(SETF (GET 'A 'B) 7)");
     let second = refused(&mut store, b"(SETF (GET 'A 'B) 8)");
-    let property = match store.world() {
-        Some(world) => property(alloc, world),
-        None => Ok(None),
+    let is_seven = match store.execute(Mode::Current, b"(GET 'A 'B)") {
+        Outcome::Accepted(Datum::Integer(n)) => n == 7,
+        _ => false,
     };
     let _disk = store.close();
-    Ok((first, second, property?))
+    Ok((first, second, is_seven))
 }
 
 /// The bytes of the mode in the records of two forms, the second of a session.
@@ -88,7 +53,7 @@ fn mode_bytes(alloc: Global, mode: Mode) -> Result<[Option<u8>; 2], Trouble> {
     let _outcome = store.execute(mode, b"(SETF (GET 'A 'B) 7)");
     let mut reader: &[u8] = b"(SETF (GET 'A 'B) 8)";
     let _ending = store.serve(&mut reader, &mut Vec::new(alloc), mode);
-    let mut disk = store.close();
+    let (mut disk, _macros) = store.close();
     let bytes = bytes_of(alloc, &mut disk, Half::A)?;
     Ok([bytes.get(151).copied(), bytes.get(177).copied()])
 }
@@ -104,7 +69,7 @@ fn a_record_tells_its_mode(rt: HostRuntime) -> Result<(), Fail> {
 #[test]
 fn a_half_has_a_limit(rt: HostRuntime) -> Result<(), Fail> {
     let alloc = rt.alloc();
-    assert_eq!(rt; fill(alloc)?, (None, Some(64), Some(7)));
+    assert_eq!(rt; fill(alloc)?, (None, Some(64), true));
     match opened(alloc, MemoryDisk::new(alloc), 150) {
         Ok(store) => {
             let _disk = store.close();

@@ -1,10 +1,13 @@
 //! The program: its words, its statuses, and real files.
 
+use super::by_name::ByName;
 use super::{BrokenReader, FullWriter};
+use crate::meaning::SixFunctions;
 use crate::program::program;
 use std::alloc::Global;
 use std::test::Fail;
 use std::{env, fs, process};
+use user_macros::Macros;
 
 /// What the program wrote, and its status.
 #[derive(Drop)]
@@ -18,7 +21,8 @@ fn run(rt: &HostRuntime, words: &[&str], input: &[u8]) -> Ran {
     let mut reader = input;
     let mut output = Vec::new(rt.alloc());
     let mut faults = Vec::new(rt.alloc());
-    let status = program(rt, words, &mut reader, &mut output, &mut faults).code();
+    let macros = ByName::new(rt.alloc());
+    let status = program(rt, macros, words, &mut reader, &mut output, &mut faults).code();
     Ran {
         status,
         output,
@@ -36,7 +40,7 @@ fn place(rt: &HostRuntime, name: &str) -> std::io::Result<String> {
 /// The help.
 const HELP: &str = "A store for Lisp forms that keeps what it has answered
 
-Usage: ./pazturrok run DIR
+Usage: ./pazturrok run DIR [--rescue]
 
 Commands:
   run   Serves the forms of standard input to standard output
@@ -45,19 +49,62 @@ Commands:
 Options:
   -h, --help  Print help
 
+DIR holds the two files of the store, half-a and half-b, of at most 1,073,741,824 bytes each.
+One process at a time serves a folder.
+
 A form is answered once its record has been synced. Stopped at any moment, a store on an honest
 disk opens again with the world that some first part of the accepted forms gives, and that
 part holds each form that was answered. README.md has the premises, and what is proved.
+
+With --rescue each form is read under the standard readtable in COMMON-LISP-USER, whatever readtable
+and package the store has. It is the way out of a readtable that can no longer be used:
+(COPY-READTABLE NIL :USER) makes :USER the standard one again.
+
+Macro functions, for SET-MACRO-CHARACTER and SET-DISPATCH-MACRO-CHARACTER:
+  :SQUARE  a vector of the objects up to the next ]
+  :CLOSE   refuses each call, as 20; for a ] that stands alone
+  :NOTE    discards what follows, up to the end of the line
+  :SKIP    discards the object that follows
+  :UNIT    a text of the characters up to the next }
+  :SCALE   the integer that follows, times the numeric argument
+
+Exit status:
+  0  the input was served to its end, or help was asked for
+  1  a text was refused by the reader, which ends the session; its line is the last answer
+  2  the words of the command line were refused
+  3  a fault of the folder, the files, the input, the output or the memory, with the line
+     ! <number> <NAME> on standard error; docs/operating.md says what to do
 ";
+
+/// The help of `run`, up to what both have.
+const RUN_HELP: &str = "Serves the forms of standard input to standard output
+
+Usage: ./pazturrok run DIR [--rescue]
+
+Arguments:
+  <DIR>  The folder of the store, made where it is missing
+
+Options:
+      --rescue  Read each form under the standard readtable in COMMON-LISP-USER
+  -h, --help    Print help
+
+DIR holds";
 
 #[test]
 fn words_are_judged_first(rt: HostRuntime) {
-    let cases: [(&[&str], u8, bool, bool); 9] = [
+    let cases: [(&[&str], u8, bool, bool); 11] = [
         (&[], 2, false, true),
         (&["store_program"], 2, false, true),
         (&["store_program", "walk", "/dev/null"], 2, false, true),
         (&["store_program", "run"], 2, false, true),
         (&["store_program", "run", "-store"], 2, false, true),
+        (&["store_program", "run", "--rescue"], 2, false, true),
+        (
+            &["store_program", "run", "/dev/null", "--rescue=no"],
+            2,
+            false,
+            true,
+        ),
         (&["store_program", "run", ""], 3, false, true),
         (
             &["store_program", "run", "/dev/null", "more"],
@@ -79,6 +126,8 @@ fn words_are_judged_first(rt: HostRuntime) {
     );
     let found = run(&rt, &["store_program", "--help"], b"7");
     assert_eq!(rt; found.output.as_slice(), HELP.as_bytes());
+    let found = run(&rt, &["store_program", "run", "--help"], b"7");
+    assert!(rt; found.output.starts_with(RUN_HELP.as_bytes()));
 }
 
 #[test]
@@ -101,7 +150,7 @@ fn files_stay_between_runs(rt: HostRuntime) -> Result<(), Fail> {
     let mut cut = whole.clone()?;
     cut.truncate(100);
     let mut other = whole.clone()?;
-    assert_eq!(rt; (whole.len(), other.len()), (211, 211));
+    assert_eq!(rt; (whole.len(), other.len()), (177, 177));
     assert_eq!(rt; whole[151], 0, "the mode is Current");
     other[2] = 9;
     let cases: [(&[u8], &[u8]); 2] = [
@@ -120,6 +169,52 @@ fn files_stay_between_runs(rt: HostRuntime) -> Result<(), Fail> {
 }
 
 #[test]
+fn a_store_is_rescued(rt: HostRuntime) -> Result<(), Fail> {
+    let place = place(&rt, "rescue")?;
+    let current: [&str; 3] = ["store_program", "run", place.as_str()];
+    let rescue: [&str; 4] = ["store_program", "run", place.as_str(), "--rescue"];
+    let rescue_first: [&str; 4] = ["store_program", "run", "--rescue", place.as_str()];
+    let cases: [(&[&str], &[u8], u8, &[u8]); 8] = [
+        (
+            &current,
+            b"(SET-SYNTAX-FROM-CHAR #\\( #\\;)\n(GET 'A 'B)\n",
+            0,
+            b"T\n",
+        ),
+        (&current, b"(COPY-READTABLE NIL :USER)\n", 0, b""),
+        (&rescue, b"(COPY-READTABLE NIL :USER)\n", 0, b":USER\n"),
+        (&current, b"(GET 'A 'B)\n", 0, b"NIL\n"),
+        (
+            &current,
+            b"(SET-SYNTAX-FROM-CHAR #\\) #\\a)\n(LIST 1 )\n(LIST 1)\n",
+            1,
+            b"T\n(1)\n! 1 END-OF-FILE\n",
+        ),
+        (
+            &rescue_first,
+            b"(COPY-READTABLE NIL :USER)\n",
+            0,
+            b":USER\n",
+        ),
+        (&current, b"(LIST 1)\n", 0, b"(1)\n"),
+        (
+            &current,
+            b"(SET-SYNTAX-FROM-CHAR #\\Space #\\a)\n'a b\n",
+            1,
+            b"T\n! 3 INVALID-TRAIT\n",
+        ),
+    ];
+    for (words, input, status, output) in cases {
+        let found = run(&rt, words, input);
+        assert_eq!(rt; found.status, status);
+        assert_eq!(rt; found.output.as_slice(), output);
+        assert_eq!(rt; found.faults.len(), 0);
+    }
+    fs::remove_dir_all(&rt, place.as_str())?;
+    Ok(())
+}
+
+#[test]
 fn a_file_is_no_folder(rt: HostRuntime) -> Result<(), Fail> {
     let place = place(&rt, "file")?;
     fs::write(&rt, place.as_str(), "")?;
@@ -132,18 +227,32 @@ fn a_file_is_no_folder(rt: HostRuntime) -> Result<(), Fail> {
 }
 
 #[test]
-fn broken_streams_are_faults(rt: HostRuntime) -> Result<(), Fail> {
+fn broken_streams_and_missing_functions_are_faults(rt: HostRuntime) -> Result<(), Fail> {
     let place = place(&rt, "streams")?;
     let words = ["store_program", "run", place.as_str()];
     let mut faults = Vec::new(rt.alloc());
     let mut output = Vec::new(rt.alloc());
     let mut reader = BrokenReader { has_begun: false };
-    let unread = program(&rt, &words, &mut reader, &mut output, &mut faults);
+    let macros = ByName::new(rt.alloc());
+    let unread = program(&rt, macros, &words, &mut reader, &mut output, &mut faults);
     let mut reader: &[u8] = b"7";
-    let unwritten = program(&rt, &words, &mut reader, &mut FullWriter, &mut faults);
+    let macros = ByName::new(rt.alloc());
+    let unwritten = program(
+        &rt,
+        macros,
+        &words,
+        &mut reader,
+        &mut FullWriter,
+        &mut faults,
+    );
     let mut reader: &[u8] = b"7";
+    let none = Macros::new(rt.alloc(), SixFunctions::new());
+    let missing = program(&rt, none, &words, &mut reader, &mut output, &mut faults);
+    let mut reader: &[u8] = b"7";
+    let macros = ByName::new(rt.alloc());
     let helpless = program(
         &rt,
+        macros,
         &["store_program", "--help"],
         &mut reader,
         &mut FullWriter,
@@ -151,13 +260,18 @@ fn broken_streams_are_faults(rt: HostRuntime) -> Result<(), Fail> {
     );
     fs::remove_dir_all(&rt, place.as_str())?;
     assert_eq!(rt;
-        (unread.code(), unwritten.code(), helpless.code()),
-        (3, 3, 3)
+        (
+            unread.code(),
+            unwritten.code(),
+            missing.code(),
+            helpless.code()
+        ),
+        (3, 3, 3, 3)
     );
     assert_eq!(rt; output.len(), 0);
     assert_eq!(rt;
         faults.as_slice(),
-        b"! 67 INPUT\n! 68 OUTPUT\n! 68 OUTPUT\n".as_slice()
+        b"! 67 INPUT\n! 68 OUTPUT\n! 63 MISSING-MACRO\n! 68 OUTPUT\n".as_slice()
     );
     Ok(())
 }

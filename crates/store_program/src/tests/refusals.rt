@@ -6,80 +6,70 @@ use prevalence_store::{Ending, Mode};
 use std::alloc::{AllocError, Global};
 use std::test::Fail;
 
-#[test]
-fn evaluation_refuses_and_goes_on(rt: HostRuntime) -> Result<(), Fail> {
-    let cases: [(&[u8], &[u8]); 4] = [
-        (b"X 1", b"! 30 NOT-A-FORM\n1\n"),
-        (b"(FROB A) 1", b"! 31 UNKNOWN-OPERATOR\n1\n"),
-        (b"(GET 'A) 1", b"! 32 ARGUMENT-COUNT\n1\n"),
-        (b"(GET 1 'A) 1", b"! 33 ARGUMENT-KIND\n1\n"),
-    ];
-    for (input, answers) in cases {
-        let found = fresh_session(rt.alloc(), input)?;
-        assert_eq!(rt; found.answers.as_slice(), answers);
-        assert_eq!(rt; found.ending, Ending::End);
-    }
-    Ok(())
-}
+/// A text, so many times.
+type Part = (&'static [u8], usize);
 
-#[test]
-fn the_reader_refuses_and_ends(rt: HostRuntime) -> Result<(), Fail> {
-    let cases: [(&[u8], u16, &[u8]); 9] = [
-        (b"(GET 'A", 1, b"! 1 END-OF-FILE\n"),
-        (b"\xc3", 2, b"! 2 INVALID-CHARACTER\n"),
-        (b"\x08", 3, b"! 3 INVALID-TRAIT\n"),
-        (b") 1", 4, b"! 4 STRAY-CLOSE\n"),
-        (
-            b"170141183460469231731687303715884105728",
-            8,
-            b"! 8 NUMBER-RANGE\n",
-        ),
-        (b"\"x\"", 25, b"! 25 OUT-OF-PROFILE\n"),
-        (b"A:B", 25, b"! 25 OUT-OF-PROFILE\n"),
-        (b"1.5", 25, b"! 25 OUT-OF-PROFILE\n"),
-        (b"#A", 25, b"! 25 OUT-OF-PROFILE\n"),
-    ];
-    for (input, number, answers) in cases {
-        let found = fresh_session(rt.alloc(), input)?;
-        assert_eq!(rt; found.answers.as_slice(), answers);
-        assert_eq!(rt; found.ending, Ending::Reader(number));
+/// Texts after one another, each so many times.
+fn composed(alloc: Global, parts: &[Part]) -> Result<Vec<u8>, AllocError> {
+    let mut text = Vec::new(alloc);
+    for (part, count) in parts {
+        for _ in 0..*count {
+            text.extend_from_slice(part)?;
+        }
     }
-    Ok(())
-}
-
-/// A text, a character so many times, and a text.
-fn drawn_out(
-    alloc: Global,
-    front: &[u8],
-    character: u8,
-    count: usize,
-    back: &[u8],
-) -> Result<Vec<u8>, AllocError> {
-    let mut text = Vec::from_slice(alloc, front)?;
-    text.extend_from_slice(&vec![in alloc; character; count]?)?;
-    text.extend_from_slice(back)?;
     Ok(text)
 }
 
 #[test]
 fn long_and_deep_texts_are_refused(rt: HostRuntime) -> Result<(), Fail> {
     let alloc = rt.alloc();
-    let cases: [(&[u8], u8, usize, &[u8], &[u8]); 5] = [
-        (b"", b'(', 101, b"", b"! 22 TOO-DEEP\n"),
-        (b"(", b' ', 65_535, b")", b"! 23 FORM-TOO-LONG\n"),
-        (b"(", b' ', 65_534, b")", b"NIL\n"),
-        (b"'", b'A', 4_097, b"", b"! 24 TOKEN-TOO-LONG\n"),
-        (b"", b'(', 100, b"", b"! 1 END-OF-FILE\n"),
+    let cases: [(&[Part], &[Part]); 8] = [
+        (&[(b"(", 101)], &[(b"! 22 TOO-DEEP\n", 1)]),
+        (&[(b"(", 100)], &[(b"! 1 END-OF-FILE\n", 1)]),
+        (
+            &[(b"(QUOTE ", 1), (b"(", 99), (b")", 100)],
+            &[(b"(", 98), (b"NIL", 1), (b")", 98), (b"\n", 1)],
+        ),
+        (
+            &[(b"(QUOTE ", 1), (b"(", 100), (b")", 101)],
+            &[(b"! 22 TOO-DEEP\n", 1)],
+        ),
+        (
+            &[(b"(", 1), (b" ", 65_535), (b")", 1)],
+            &[(b"! 23 FORM-TOO-LONG\n", 1)],
+        ),
+        (&[(b"(", 1), (b" ", 65_534), (b")", 1)], &[(b"NIL\n", 1)]),
+        (&[(b"'", 1), (b"A", 4_096)], &[(b"A", 4_096), (b"\n", 1)]),
+        (
+            &[(b"'", 1), (b"A", 4_097)],
+            &[(b"! 24 TOKEN-TOO-LONG\n", 1)],
+        ),
     ];
-    for (front, character, count, back, answers) in cases {
-        let input = drawn_out(alloc, front, character, count, back)?;
-        let found = fresh_session(alloc, input.as_slice())?;
-        assert_eq!(rt; found.answers.as_slice(), answers);
+    for (input, answers) in cases {
+        let text = composed(alloc, input)?;
+        let wanted = composed(alloc, answers)?;
+        let found = fresh_session(alloc, text.as_slice())?;
+        assert_eq!(rt; found.answers.as_slice(), wanted.as_slice());
     }
-    let name = drawn_out(alloc, b"", b'A', 4_096, b"\n")?;
-    let quoted = drawn_out(alloc, b"'", b'A', 4_096, b"")?;
-    let found = fresh_session(alloc, quoted.as_slice())?;
-    assert_eq!(rt; found.answers.as_slice(), name.as_slice());
+    Ok(())
+}
+
+#[test]
+fn a_value_has_at_most_a_hundred_levels(rt: HostRuntime) -> Result<(), Fail> {
+    let alloc = rt.alloc();
+    let input = composed(alloc, &[(b"(SETF (GET 'A 'B) (LIST (GET 'A 'B)))\n", 101)])?;
+    let mut wanted = Vec::new(alloc);
+    for depth in 1..101 {
+        let line = composed(
+            alloc,
+            &[(b"(", depth), (b"NIL", 1), (b")", depth), (b"\n", 1)],
+        )?;
+        wanted.extend_from_slice(line.as_slice())?;
+    }
+    wanted.extend_from_slice(b"! 45 VALUE-TOO-DEEP\n")?;
+    let found = fresh_session(alloc, input.as_slice())?;
+    assert_eq!(rt; found.answers.as_slice(), wanted.as_slice());
+    assert_eq!(rt; found.ending, Ending::End);
     Ok(())
 }
 

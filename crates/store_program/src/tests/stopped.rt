@@ -35,7 +35,8 @@ fn set<D: Disk + Drop>(alloc: Global, disk: D) -> Result<(u16, u16, D), Trouble>
     if first != 0 {
         next = refused(&mut store, GET).unwrap_or(0);
     }
-    Ok((first, next, store.close()))
+    let (disk, _macros) = store.close();
+    Ok((first, next, disk))
 }
 
 /// What GET answers after a crash.
@@ -105,7 +106,8 @@ fn served(alloc: Global, calls: u64, kind: Crash) -> Result<(usize, Vec<u8>), Tr
     let mut reader: &[u8] = b"(SETF (GET 'A 'B) 1)(SETF (GET 'A 'B) 2)(SETF (GET 'A 'B) 3)";
     let mut answers = Vec::new(alloc);
     let _ending = store.serve(&mut reader, &mut answers, Mode::Current);
-    let left = get_after(alloc, store.close().into_inner(), kind)?;
+    let (disk, _macros) = store.close();
+    let left = get_after(alloc, disk.into_inner(), kind)?;
     Ok((answers.len() / 2, left))
 }
 

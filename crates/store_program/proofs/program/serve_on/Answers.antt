@@ -8,5 +8,5 @@ returns-clause-served g c =
       is_opened = opened;
       closed = c.serve-ending.new.self;
       serves = c.serve-ending.ensures.serves opened.world opened.known;
-      disk_is = c.close.ensures.disk;
+      disk_is = c.close-disk.ensures.disk;
     }

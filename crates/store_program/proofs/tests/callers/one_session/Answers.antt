@@ -1,6 +1,6 @@
 use Rattle.std.proofs.Common.{◌≡◌, IsTrue, Option, Some, refl, sym, ap, subst, ◌∙◌}
 use Rattle.std.proofs.lemmas.Result.{IfOk-weaker}
-use Rattle.prevalence_store.specs.World.{World}
+use Rattle.plist_state.specs.State.{State as World}
 use Rattle.store_program.proofs.tests.callers.one_session.Goals as goal
 
 pub returns : goal.returns

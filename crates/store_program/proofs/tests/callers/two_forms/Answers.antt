@@ -1,15 +1,27 @@
-use Rattle.std.proofs.Common.{◌≡◌, IsTrue, [], ◌∷◌, List, Option, Some, refl, sym, subst, ◌∙◌}
+use Rattle.std.proofs.Common.{◌≡◌, IsTrue, true, false, Bool, ℕ, [], ◌∷◌, ◌++◌, ◌+◌, List, length, append-nil, Option, Some, refl, sym, subst, ◌∙◌}
 use Rattle.std.proofs.lemmas.Result.{IfOk-weaker}
+use Rattle.disk_trait.specs.Disk.{State}
+use Rattle.plist_state.specs.State.{State as World}
+use Rattle.prevalence_store.specs.declared.mode.Mode.{Mode}
 use Rattle.prevalence_store.specs.declared.mode.Mode.TheVariants.{Current}
-use Rattle.prevalence_store.specs.Acceptance.{logged}
-use Rattle.prevalence_store.specs.Theorem.{Call, Run, Survives}
-use Rattle.prevalence_store.specs.World.{World}
+use Rattle.prevalence_store.specs.Acceptance.{records_of}
+use Rattle.prevalence_store.specs.Execution.{Stores}
+use Rattle.prevalence_store.specs.Functions.{functions_of}
+use Rattle.prevalence_store.specs.Session.{Session}
+use Rattle.prevalence_store.specs.Theorem.{Call, IsAfterSome, Run, Survives}
 use Rattle.store_program.proofs.tests.callers.two_forms.Goals as goal
+
+-- the world that an accepted form leaves
+left_by : {D R : Type 0} (state : D → State) (old new : Session D R) (wrote : Bool) (mode : Mode) (text : List ℕ) (world : World)
+    → Stores state old new wrote mode text world → new.world ≡ Some world
+left_by state old new true mode text world stored = stored.left
+left_by state old new false mode text world stored = stored.1
 
 pub returns : goal.returns
 returns g c = record {
   found = λ w honest keeps fresh.
       let state = g.D.Disk.state in
+      let functions = functions_of g.M.Meaning.Meaning.names g.M.Meaning.Meaning.way g.M.Meaning.Meaning.answer in
       let store = c.in-Ok.store in
       let first = c.execute.new.self in
       let second = c.execute-2.new.self in
@@ -20,23 +32,29 @@ returns g c = record {
       let once = c.in-Accepted.ensures.answer w known in
       let still = subst IsTrue (sym opening.honest) honest in
       let one = once.survives known still (opening.kept w known) in
-      let twice = c.in-Accepted-execute.ensures.answer once.given.world once.logs.left in
-      let both = twice.survives once.logs.left (subst IsTrue (sym one.honest) still) (one.kept once.given.world once.logs.left) in
+      let left_once : first.world ≡ Some once.given.world = left_by state store first once.given.wrote Current once.given.text once.given.world once.stored in
+      let twice = c.in-Accepted-execute.ensures.answer once.given.world left_once in
+      let both = twice.survives left_once (subst IsTrue (sym one.honest) still) (one.kept once.given.world left_once) in
+      let left_twice : second.world ≡ Some twice.given.world = left_by state first second twice.given.wrote Current twice.given.text twice.given.world twice.stored in
+      let records = records_of once.given.wrote Current once.given.text in
+      let more = records_of twice.given.wrote Current twice.given.text in
       let calls : List (Call g.row.D.Denot) =
       (record { disk = store.disk; taken = []; acknowledged = 0; left = Some w })
-      ∷ (record { disk = first.disk; taken = logged Current once.given.text ∷ []; acknowledged = 1; left = Some once.given.world })
-      ∷ (record { disk = second.disk; taken = logged Current twice.given.text ∷ []; acknowledged = 1; left = Some twice.given.world })
+      ∷ (record { disk = first.disk; taken = records; acknowledged = length records; left = Some once.given.world })
+      ∷ (record { disk = second.disk; taken = more; acknowledged = length more; left = Some twice.given.world })
       ∷ [] in
-      let run : Run state c.args.disk (Some w) calls = (
-        subst (λ (left : Option World). Survives (state c.args.disk) (state store.disk) w [] 0 left) known opening,
+      let run : Run functions state c.args.disk (Some w) calls = (
+        subst (λ (left : Option World). Survives functions (state c.args.disk) (state store.disk) w [] 0 left) known opening,
         (
-          subst (λ (left : Option World). Survives (state store.disk) (state first.disk) w (logged Current once.given.text ∷ []) 1 left) once.logs.left one,
+          subst (λ (left : Option World). Survives functions (state store.disk) (state first.disk) w records (length records) left) left_once one,
           (
-            subst (λ (left : Option World). Survives (state first.disk) (state second.disk) once.given.world (logged Current twice.given.text ∷ []) 1 left) twice.logs.left both,
+            subst (λ (left : Option World). Survives functions (state first.disk) (state second.disk) once.given.world more (length more) left) left_twice both,
             tt,
           ),
         ),
-      ) in (
+      ) in
+      let as_two : (n : ℕ) (now : World) → IsAfterSome functions w (records ++ (more ++ [])) n now → IsAfterSome functions w (records ++ more) n now
+      = λ n now. subst (λ forms. IsAfterSome functions w (records ++ forms) n now) (append-nil more) in (
         once.given,
         twice.given,
         once.accepted,
@@ -44,14 +62,14 @@ returns g c = record {
         λ might. IfOk-weaker c.open-2.result _ _ (λ again opened. (
           opened.world,
           opened.known,
-          (c.headline.ensures.holds c.args.disk w [] calls honest keeps run).reopened _ c.args.crashed again.disk opened.world
-              (subst (λ d. (state d).left_since (state c.args.disk).moment (state c.args.crashed).reads) c.close-closed.ensures.disk might) refl (opened.reopens fresh),
+          as_two 0 opened.world ((c.headline.ensures.holds functions c.args.disk w [] calls honest keeps run).reopened _ c.args.crashed again.disk opened.world
+              (subst (λ d. (state d).left_since (state c.args.disk).moment (state c.args.crashed).reads) c.close-closed.ensures.disk might) refl (opened.reopens fresh)),
         )) c.open-2.ensures.opened,
         λ might. IfOk-weaker c.open-2.result _ _ (λ again opened. (
           opened.world,
           opened.known,
-          (c.headline.ensures.holds c.args.disk w calls [] honest keeps run).reopened _ c.args.crashed again.disk opened.world
-              (subst (λ d. (state d).left_since (state d).moment (state c.args.crashed).reads) c.close-closed.ensures.disk might) refl (opened.reopens fresh),
+          as_two (length records + length more) opened.world ((c.headline.ensures.holds functions c.args.disk w calls [] honest keeps run).reopened _ c.args.crashed again.disk opened.world
+              (subst (λ d. (state d).left_since (state d).moment (state c.args.crashed).reads) c.close-closed.ensures.disk might) refl (opened.reopens fresh)),
         )) c.open-2.ensures.opened,
       );
 }
