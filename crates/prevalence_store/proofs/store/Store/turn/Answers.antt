@@ -4,7 +4,6 @@ use Rattle.prevalence_store.specs.Functions.{functions_of}
 use Rattle.prevalence_store.specs.Pending.{Feeds}
 use Rattle.prevalence_store.specs.declared.input.Fed.{Fed}
 use Rattle.prevalence_store.proofs.Answering.{ends_at_once, fault_ended, form_begins, form_begins_here, form_left, form_taken, nothing_answered}
-use Rattle.prevalence_store.proofs.Executing.{known_world}
 use Rattle.prevalence_store.proofs.Turning.{no_memory}
 use Rattle.prevalence_store.proofs.store.Store.turn.Goals as goal
 
