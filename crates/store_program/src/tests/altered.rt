@@ -3,6 +3,7 @@
 use super::by_name::ByName;
 use super::long::LongDisk;
 use super::{AMPLE, Trouble, bytes_of, disk_of, fresh_session, opened, session_over};
+use crate::meaning::SixFunctions;
 use disk_trait::{Disk, Half};
 use prevalence_store::{Store, Unopened};
 use std::alloc::Global;
@@ -105,7 +106,7 @@ fn given_back(
     if disk.failures() > 0 {
         return Err(Trouble::Device);
     }
-    match Store::open(alloc, disk, ByName::new(alloc), limit) {
+    match Store::open(alloc, disk, ByName::new(alloc, SixFunctions::new()), limit) {
         Ok(store) => {
             let (mut disk, _macros) = store.close();
             let a = bytes_of(alloc, &mut disk, Half::A)?;
@@ -134,7 +135,7 @@ fn given_back_long(alloc: Global, a: &[u8]) -> Result<(u16, Vec<u8>), Trouble> {
     if disk.failures() > 0 {
         return Err(Trouble::Device);
     }
-    match Store::open(alloc, disk, ByName::new(alloc), AMPLE) {
+    match Store::open(alloc, disk, ByName::new(alloc, SixFunctions::new()), AMPLE) {
         Ok(store) => {
             let _disk = store.close();
             Ok((0, Vec::new(alloc)))

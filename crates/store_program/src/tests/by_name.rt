@@ -21,12 +21,9 @@ pub struct ByName {
 }
 
 impl ByName {
-    /// The functions, which allocate their answers so.
-    pub fn new(alloc: Global) -> ByName {
-        ByName {
-            alloc,
-            meaning: SixFunctions::new(),
-        }
+    /// The functions of this meaning, which allocate their answers so.
+    pub fn new(alloc: Global, meaning: SixFunctions) -> ByName {
+        ByName { alloc, meaning }
     }
 
     fn covers_function(&self, function: Option<FnName>) -> bool
@@ -78,12 +75,17 @@ impl MacroFunctions for ByName {
     }
 
     fn call(&self, name: FnName, call: &Call) -> Result<Answer, AllocError> {
-        match name.as_bytes() {
-            b"SQUARE" => macro_functions::square(self.alloc, call),
-            b"CLOSE" => Ok(Answer::Refused(1)),
-            b"UNIT" => macro_functions::unit(self.alloc, call),
-            b"SCALE" => Ok(macro_functions::scale(call)),
-            _ => Ok(Answer::Nothing),
+        let name = name.as_bytes();
+        if b"SQUARE".as_slice() == name {
+            macro_functions::square(self.alloc, call)
+        } else if b"CLOSE".as_slice() == name {
+            Ok(Answer::Refused(1))
+        } else if b"UNIT".as_slice() == name {
+            macro_functions::unit(self.alloc, call)
+        } else if b"SCALE".as_slice() == name {
+            Ok(macro_functions::scale(call))
+        } else {
+            Ok(Answer::Nothing)
         }
     }
 

@@ -10,6 +10,7 @@ ghost use Rattle.prevalence_store.specs.Theorem.{IsAfterSome, Keeps};
 
 use super::by_name::ByName;
 use super::{AMPLE, Trouble, fresh_session};
+use crate::meaning::SixFunctions;
 use disk_trait::{Crash, Disk, MemoryDisk};
 use prevalence_store::{Ending, Mode, Outcome, Store, Unopened, headline};
 use std::alloc::Global;
@@ -137,7 +138,14 @@ fn accepted_twice(
     if disk.failures() > 0 || crashed.failures() > 0 {
         return Err(Trouble::Device);
     }
-    match two_forms(alloc, disk, crashed, ByName::new(alloc), first, second) {
+    match two_forms(
+        alloc,
+        disk,
+        crashed,
+        ByName::new(alloc, SixFunctions::new()),
+        first,
+        second,
+    ) {
         Some((_, again)) => Ok(opened_too(again)),
         None => Ok(false),
     }
@@ -152,7 +160,7 @@ fn served_once(alloc: Global, kind: Crash, input: &[u8]) -> Result<(bool, Vec<u8
     }
     let mut reader = input;
     let mut answers = Vec::new(alloc);
-    let macros = ByName::new(alloc);
+    let macros = ByName::new(alloc, SixFunctions::new());
     match one_session(alloc, disk, crashed, macros, &mut reader, &mut answers) {
         Some((_, _, again)) => Ok((opened_too(again), answers)),
         None => Ok((false, answers)),

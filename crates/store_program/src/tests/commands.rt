@@ -4,6 +4,7 @@ use super::by_name::ByName;
 use super::{BrokenReader, FullWriter};
 use crate::meaning::SixFunctions;
 use crate::program::program;
+use readtable_core::FnName;
 use std::alloc::Global;
 use std::test::Fail;
 use std::{env, fs, process};
@@ -21,7 +22,9 @@ fn run(rt: &HostRuntime, words: &[&str], input: &[u8]) -> Ran {
     let mut reader = input;
     let mut output = Vec::new(rt.alloc());
     let mut faults = Vec::new(rt.alloc());
-    let macros = ByName::new(rt.alloc());
+    // the borrow checker has to be told of the type of a name, which the macro functions hold
+    let _name = FnName::new(b"SQUARE");
+    let macros = ByName::new(rt.alloc(), SixFunctions::new());
     let status = program(rt, macros, words, &mut reader, &mut output, &mut faults).code();
     Ran {
         status,
@@ -233,10 +236,10 @@ fn broken_streams_and_missing_functions_are_faults(rt: HostRuntime) -> Result<()
     let mut faults = Vec::new(rt.alloc());
     let mut output = Vec::new(rt.alloc());
     let mut reader = BrokenReader { has_begun: false };
-    let macros = ByName::new(rt.alloc());
+    let macros = ByName::new(rt.alloc(), SixFunctions::new());
     let unread = program(&rt, macros, &words, &mut reader, &mut output, &mut faults);
     let mut reader: &[u8] = b"7";
-    let macros = ByName::new(rt.alloc());
+    let macros = ByName::new(rt.alloc(), SixFunctions::new());
     let unwritten = program(
         &rt,
         macros,
@@ -249,7 +252,7 @@ fn broken_streams_and_missing_functions_are_faults(rt: HostRuntime) -> Result<()
     let none = Macros::new(rt.alloc(), SixFunctions::new());
     let missing = program(&rt, none, &words, &mut reader, &mut output, &mut faults);
     let mut reader: &[u8] = b"7";
-    let macros = ByName::new(rt.alloc());
+    let macros = ByName::new(rt.alloc(), SixFunctions::new());
     let helpless = program(
         &rt,
         macros,

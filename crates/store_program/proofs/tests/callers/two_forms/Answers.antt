@@ -1,4 +1,4 @@
-use Rattle.std.proofs.Common.{◌≡◌, IsTrue, true, false, Bool, ℕ, [], ◌∷◌, ◌++◌, ◌+◌, List, length, append-nil, Option, Some, refl, sym, subst, ◌∙◌}
+use Rattle.std.proofs.Common.{◌≡◌, IsTrue, true, false, Bool, ℕ, [], ◌∷◌, ◌++◌, ◌+◌, List, length, append-nil, arith, Option, Some, refl, sym, subst, ◌∙◌}
 use Rattle.std.proofs.lemmas.Result.{IfOk-weaker}
 use Rattle.disk_trait.specs.Disk.{State}
 use Rattle.plist_state.specs.State.{State as World}
@@ -6,7 +6,7 @@ use Rattle.prevalence_store.specs.declared.mode.Mode.{Mode}
 use Rattle.prevalence_store.specs.declared.mode.Mode.TheVariants.{Current}
 use Rattle.prevalence_store.specs.Acceptance.{records_of}
 use Rattle.prevalence_store.specs.Execution.{Stores}
-use Rattle.prevalence_store.specs.Functions.{functions_of}
+use Rattle.prevalence_store.specs.Functions.{Functions, functions_of}
 use Rattle.prevalence_store.specs.Session.{Session}
 use Rattle.prevalence_store.specs.Theorem.{Call, IsAfterSome, Run, Survives}
 use Rattle.store_program.proofs.tests.callers.two_forms.Goals as goal
@@ -16,6 +16,14 @@ left_by : {D R : Type 0} (state : D → State) (old new : Session D R) (wrote : 
     → Stores state old new wrote mode text world → new.world ≡ Some world
 left_by state old new true mode text world stored = stored.left
 left_by state old new false mode text world stored = stored.1
+
+-- the records of two forms, as the theorem joins them
+as_two : (functions : Functions) (w : World) (wrote : Bool) (text : List ℕ) (wrote_more : Bool) (more : List ℕ) (n m : ℕ) (now : World) → n ≡ m
+    → IsAfterSome functions w (records_of wrote Current text ++ (records_of wrote_more Current more ++ [])) n now
+    → IsAfterSome functions w (records_of wrote Current text ++ records_of wrote_more Current more) m now
+as_two functions w wrote text wrote_more more n m now same some =
+    subst (λ k. IsAfterSome functions w (records_of wrote Current text ++ records_of wrote_more Current more) k now) same
+    (subst (λ forms. IsAfterSome functions w (records_of wrote Current text ++ forms) n now) (append-nil (records_of wrote_more Current more)) some)
 
 pub returns : goal.returns
 returns g c = record {
@@ -52,9 +60,7 @@ returns g c = record {
             tt,
           ),
         ),
-      ) in
-      let as_two : (n : ℕ) (now : World) → IsAfterSome functions w (records ++ (more ++ [])) n now → IsAfterSome functions w (records ++ more) n now
-      = λ n now. subst (λ forms. IsAfterSome functions w (records ++ forms) n now) (append-nil more) in (
+      ) in (
         once.given,
         twice.given,
         once.accepted,
@@ -62,14 +68,14 @@ returns g c = record {
         λ might. IfOk-weaker c.open-2.result _ _ (λ again opened. (
           opened.world,
           opened.known,
-          as_two 0 opened.world ((c.headline.ensures.holds functions c.args.disk w [] calls honest keeps run).reopened _ c.args.crashed again.disk opened.world
-              (subst (λ d. (state d).left_since (state c.args.disk).moment (state c.args.crashed).reads) c.close-closed.ensures.disk might) refl (opened.reopens fresh)),
+          as_two functions w once.given.wrote once.given.text twice.given.wrote twice.given.text 0 0 opened.world refl ((c.headline.ensures.holds functions c.args.disk w [] calls honest keeps run).reopened _ c.args.crashed again.disk opened.world
+              (subst (λ d. (state d).left_since (state c.args.disk).moment (state c.args.crashed).reads) c.close-closed-2.ensures.disk might) refl (opened.reopens fresh)),
         )) c.open-2.ensures.opened,
         λ might. IfOk-weaker c.open-2.result _ _ (λ again opened. (
           opened.world,
           opened.known,
-          as_two (length records + length more) opened.world ((c.headline.ensures.holds functions c.args.disk w calls [] honest keeps run).reopened _ c.args.crashed again.disk opened.world
-              (subst (λ d. (state d).left_since (state d).moment (state c.args.crashed).reads) c.close-closed.ensures.disk might) refl (opened.reopens fresh)),
+          as_two functions w once.given.wrote once.given.text twice.given.wrote twice.given.text (0 + (length records + length more)) (length records + length more) opened.world (omega arith) ((c.headline.ensures.holds functions c.args.disk w calls [] honest keeps run).reopened _ c.args.crashed again.disk opened.world
+              (subst (λ d. (state d).left_since (state d).moment (state c.args.crashed).reads) c.close-closed-2.ensures.disk might) refl (opened.reopens fresh)),
         )) c.open-2.ensures.opened,
       );
 }
