@@ -7,7 +7,6 @@ ghost use Rattle.readtable_core.specs.Named.{functions_at};
 ghost use Rattle.user_macros.specs.Calls.{call_of, answer_of};
 ghost use Rattle.user_macros.specs.Sound.{IsSoundCall};
 ghost use Rattle.user_macros.specs.Registry.{refusal, is_covered};
-
 ghost use Rattle.user_macros.specs.Known.{known_among};
 
 use crate::stored::Stored;
