@@ -5,7 +5,6 @@ use Rattle.std.specs.Option.{option_map_or}
 use Rattle.std.specs.List.{list_all}
 use Rattle.std.specs.Borrow.{Bor}
 use Rattle.std.specs.FinMap as finite
-
 use Rattle.lisp_object.specs.Ascii.{is_ascii}
 use Rattle.lisp_object.proofs.Sound.{all_ascii}
 use Rattle.package_table.specs.declared.error.PackageError.{PackageError}
