@@ -9,12 +9,12 @@ use Rattle.std.proofs.lemmas.Bool.{ltb-false, and_from}
 use Rattle.std.proofs.lemmas.List.{take_more, map-append}
 use Rattle.std.proofs.lemmas.List.Folds.{list_all-append}
 use Rattle.std.proofs.lemmas.List.Elements.{All-weaker, All-cons, All-head, All-tail}
-use Rattle.std.proofs.lemmas.Bool.Decides.{nat_tests}
 use Rattle.lisp_object.specs.Ascii.{is_ascii}
 use Rattle.lisp_object.specs.declared.datum.Datum.{Datum}
 use Rattle.lisp_object.specs.Object as object
 use Rattle.lisp_object.specs.Object.{Object, symbol, pair, nil, object_depth}
 use Rattle.lisp_object.specs.Datum.{object_of, is_proper}
+use Rattle.lisp_object.proofs.Sound.{all_ascii}
 use Rattle.package_table.specs.Table.{Table, keyword, IsPackage}
 use Rattle.package_table.specs.Lookup.{found}
 use Rattle.package_table.proofs.Found.{found_finds}
@@ -66,13 +66,6 @@ in_turn_more row i p vs k v within is before key value =
     two : (xs : List Object) (x y : Object) → (xs ++ x ∷ []) ++ y ∷ [] ≡ xs ++ (x ∷ y ∷ [])
     two [] x y = refl
     two (z ∷ zs) x y = ap (λ r. z ∷ r) (two zs x y)
-
-pub all_ascii : (bytes : List ℕ) → All (λ b. b < 128) bytes → list_all is_ascii bytes ≡ true
-all_ascii [] all = refl
-all_ascii (b ∷ bs) all = and_from (is_ascii b) (list_all is_ascii bs) (byte b (All-head (λ x. x < 128) b bs all)) (all_ascii bs (All-tail (λ x. x < 128) b bs all))
-  where
-    byte : (x : ℕ) → x < 128 → is_ascii x ≡ true
-    byte x below = grind (arith, nat_tests)
 
 pub ascii_home : (h n : List ℕ) → object.IsSound (symbol h n) → list_all is_ascii h ≡ true
 ascii_home h n sound = all_ascii h sound.0

@@ -42,6 +42,3 @@ mod values;
 pub use error::EvaluationError;
 pub use evaluated::Evaluated;
 pub use transaction::accept;
-
-#[cfg(test)]
-mod tests;

@@ -5,9 +5,8 @@ use Rattle.std.specs.Option.{option_map_or}
 use Rattle.std.specs.List.{list_all}
 use Rattle.std.specs.Borrow.{Bor}
 use Rattle.std.specs.FinMap as finite
-use Rattle.std.proofs.lemmas.Bool.{lt-ltb, and_from}
-use Rattle.std.proofs.lemmas.List.Elements.{All-head, All-tail}
 use Rattle.lisp_object.specs.Ascii.{is_ascii}
+use Rattle.lisp_object.proofs.Sound.{all_ascii}
 use Rattle.package_table.specs.declared.error.PackageError.{PackageError}
 use Rattle.package_table.specs.declared.error.PackageError.TheVariants.{LockedPackage, NoPackage, NotExternal}
 use Rattle.package_table.specs.declared.resolve.Resolved.{Resolved}
@@ -18,11 +17,6 @@ use Rattle.package_table.proofs.Found.{found_finds}
 use Rattle.package_table.proofs.Keeping.{present_at_home}
 use Rattle.package_table.proofs.Frames.{equal_names, equal_itself}
 use Rattle.form_reader.specs.Naming.{view_resolved, view_home}
-
-all_ascii : (bs : List ℕ) → All (λ b. b < 128) bs → list_all is_ascii bs ≡ true
-all_ascii [] h = refl
-all_ascii (b ∷ bs) h =
-    and_from (is_ascii b) (list_all is_ascii bs) (lt-ltb b 128 (All-head (λ b. b < 128) b bs h)) (all_ascii bs (All-tail (λ b. b < 128) b bs h))
 
 abbrev Fits : Resolution → Type 0
 Fits r = list_all is_ascii (home_of r) ≡ true

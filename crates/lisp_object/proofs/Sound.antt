@@ -4,7 +4,7 @@ use Rattle.std.specs.Prelude.{All, codes, slice_index_or, Option, Some, None, un
 use Rattle.std.specs.List.{list_all}
 use Rattle.std.proofs.lemmas.List.Elements.{All-nil, All-cons, All-head, All-tail}
 use Rattle.std.proofs.lemmas.List.Folds.{list_all-map, list_all_at, list_all_more}
-use Rattle.std.proofs.lemmas.Bool.{and_parts, and_from, ltb-true}
+use Rattle.std.proofs.lemmas.Bool.{and_parts, and_from, ltb-true, lt-ltb}
 use Rattle.lisp_object.specs.declared.datum.Datum
 use Rattle.lisp_object.specs.declared.datum.Datum.{Datum}
 use Rattle.lisp_object.specs.Ascii.{is_ascii}
@@ -18,6 +18,11 @@ all_below [] h = All-nil (λ b. b < 128)
 all_below (b ∷ bs) h =
     let parts : (is_ascii b ≡ true) × (list_all is_ascii bs ≡ true) = and_parts (is_ascii b) (list_all is_ascii bs) h in
     All-cons (λ b. b < 128) b bs (ltb-true b 128 parts.0) (all_below bs parts.1)
+
+pub all_ascii : (bytes : List ℕ) → All (λ b. b < 128) bytes → list_all is_ascii bytes ≡ true
+all_ascii [] h = refl
+all_ascii (b ∷ bs) h =
+    and_from (is_ascii b) (list_all is_ascii bs) (lt-ltb b 128 (All-head (λ b. b < 128) b bs h)) (all_ascii bs (All-tail (λ b. b < 128) b bs h))
 
 pub sound_nil : IsSound nil
 sound_nil = (all_below (codes "COMMON-LISP") refl, all_below (codes "NIL") refl)

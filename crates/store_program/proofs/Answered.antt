@@ -3,7 +3,7 @@ use Rattle.std.proofs.Common.{◌≡◌, ℕ, ◌<◌, List, [], ◌∷◌, map,
 use Rattle.std.specs.Prelude.{All}
 use Rattle.std.specs.List.{list_all}
 use Rattle.std.proofs.lemmas.List.Elements.{All-head, All-tail}
-use Rattle.std.proofs.lemmas.Bool.{and_from, lt-ltb}
+use Rattle.std.proofs.lemmas.Bool.{and_from}
 use Rattle.lisp_object.specs.declared.datum.Datum
 use Rattle.lisp_object.specs.declared.datum.Datum.{Datum}
 use Rattle.lisp_object.specs.Ascii.{is_ascii}
@@ -11,6 +11,7 @@ use Rattle.lisp_object.specs.Object.{Object, list_of, text, vector}
 use Rattle.lisp_object.specs.Datum.{is_proper, object_of}
 use Rattle.lisp_object.proofs.Objects.{object_of-Text, object_of-Vector}
 use Rattle.lisp_object.proofs.Properness.{is_proper-Text, is_proper-Vector}
+use Rattle.lisp_object.proofs.Sound.{all_ascii}
 use Rattle.user_macros.specs.declared.call.Answer.TheVariants.{One}
 use Rattle.user_macros.specs.Calls.{answer_of, improper, value}
 
@@ -18,11 +19,6 @@ all_proper : (given : List Datum) → All (λ d. is_proper d ≡ true) given →
 all_proper [] each = refl
 all_proper (d ∷ ds) each =
     and_from _ _ (All-head (λ d. is_proper d ≡ true) d ds each) (all_proper ds (All-tail (λ d. is_proper d ≡ true) d ds each))
-
-all_ascii : (bytes : List ℕ) → All (λ b. b < 128) bytes → list_all is_ascii bytes ≡ true
-all_ascii [] each = refl
-all_ascii (b ∷ bs) each =
-    and_from _ _ (lt-ltb b 128 (All-head (λ b. b < 128) b bs each)) (all_ascii bs (All-tail (λ b. b < 128) b bs each))
 
 -- with a proper datum
 answered : (d : Datum) (object : Object) → is_proper d ≡ true → object_of d ≡ object → answer_of (One d) ≡ value object
