@@ -24,3 +24,4 @@ pub mod OneLine
 pub mod SameText
 pub mod WithinLimits
 pub mod LinesRead
+pub mod ReadParts
