@@ -25,3 +25,4 @@ pub mod SameText
 pub mod WithinLimits
 pub mod LinesRead
 pub mod PartSteps
+pub mod ReadParts
