@@ -24,3 +24,5 @@ pub mod OneLine
 pub mod SameText
 pub mod WithinLimits
 pub mod LinesRead
+pub mod PartFinds
+pub mod PartOrder
