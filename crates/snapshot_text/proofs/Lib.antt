@@ -26,3 +26,4 @@ pub mod WithinLimits
 pub mod LinesRead
 pub mod PartFinds
 pub mod PartOrder
+pub mod PartCounts

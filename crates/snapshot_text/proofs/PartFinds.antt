@@ -1,6 +1,6 @@
 -- What packages find, others find of which they are a part; so a call meets no conflict that those do not have.
 --     present_more, external_more, finds_more, found_more      what is there, and what is found, there too
---     only_found, entry_found      what is found of a symbol that is found there
+--     only_found      what is found by a name that finds a symbol there
 --     none_other, no_user_other, no_shown_other      no other symbol is found
 use Rattle.std.proofs.Common.{◌≡◌, Bool, true, false, not, None, Some, IsTrue, bytes_eq, is_some, refl, sym, ap, ◌∙◌, inl, inr}
 use Rattle.std.specs.Option.{option_map, option_map_or, option_and_then}
