@@ -26,3 +26,6 @@ pub mod WithinLimits
 pub mod LinesRead
 pub mod PartSteps
 pub mod ReadParts
+pub mod PartFinds
+pub mod PartOrder
+pub mod PartCounts
