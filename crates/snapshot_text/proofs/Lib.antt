@@ -24,8 +24,14 @@ pub mod OneLine
 pub mod SameText
 pub mod WithinLimits
 pub mod LinesRead
-pub mod PartSteps
 pub mod ReadParts
 pub mod PartFinds
 pub mod PartOrder
 pub mod PartCounts
+pub mod PartSteps
+pub mod SamePart
+pub mod Gave
+pub mod ReadRows
+pub mod PackageLists
+pub mod Begins
+pub mod Exports
