@@ -27,3 +27,4 @@ pub mod LinesRead
 pub mod PartFinds
 pub mod PartOrder
 pub mod PartCounts
+pub mod PartSame
