@@ -24,6 +24,8 @@ pub mod OneLine
 pub mod SameText
 pub mod WithinLimits
 pub mod LinesRead
+pub mod PartSteps
+pub mod ReadParts
 pub mod PartFinds
 pub mod PartOrder
 pub mod PartCounts
