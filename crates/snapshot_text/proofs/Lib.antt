@@ -30,3 +30,4 @@ pub mod PartFinds
 pub mod PartOrder
 pub mod PartCounts
 pub mod PartSame
+pub mod PartMakes

@@ -14,7 +14,7 @@ use Rattle.snapshot_text.specs.Part.{IsPartOf}
 
 -- t has the package p, with the symbols that are at home there in s
 pub record HasOwn (t s : Table) (p : Name) : Type 0 where
-  pub package : IsPackage t p
+  pub there : IsPackage t p
   pub names : (n : Name) → IsPresent s p n p → IsPresent t p n p
 
 -- t has in p all symbols that are present there in s
