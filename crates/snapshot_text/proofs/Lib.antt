@@ -31,3 +31,4 @@ pub mod PartOrder
 pub mod PartCounts
 pub mod PartSame
 pub mod PartMakes
+pub mod OwnNames

@@ -38,10 +38,12 @@ loop-name-preserved c =
       there = λ s sound part here lisp own.
           let now = c.loop-name.invariant.there s sound part here lisp own in
           let item : IsOwnName s c.args.owner.now c.name-item.result = subst (IsOwnName s c.args.owner.now) (sym c.name-item.is) (own i c.name-item.result c.loop-name-test.true) in
-          let one = c.in_ok-intern_one.ensures.there s sound now.0 (c.loop-name.invariant.grows.packages c.args.owner.now here) lisp item in
-          (one.0, All-more (HasOwnName u c.args.owner.now) names i c.name-item.result c.loop-name-test.true
-          (still t u c.args.owner.now (take i names) c.intern_one.ensures.grows now.1)
-          (subst (HasOwnName u c.args.owner.now) c.name-item.is one.1));
+          let one = c.in_ok-intern_one.ensures.there s sound now.0 (c.loop-name.invariant.grows.packages c.args.owner.now here) lisp item in (
+            one.0,
+            All-more (HasOwnName u c.args.owner.now) names i c.name-item.result c.loop-name-test.true
+                (still t u c.args.owner.now (take i names) c.intern_one.ensures.grows now.1)
+                (subst (HasOwnName u c.args.owner.now) c.name-item.is one.1),
+          );
       rest = c.intern_one.ensures.rest ∙ ap (λ (w : Worlds). (with_packages w.0 u, w.1)) c.loop-name.invariant.rest;
       grows = grows_both c.args.world.now.0.packages t u c.loop-name.invariant.grows c.intern_one.ensures.grows;
     }
