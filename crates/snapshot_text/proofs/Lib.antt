@@ -35,3 +35,6 @@ pub mod ReadRows
 pub mod PackageLists
 pub mod Begins
 pub mod Exports
+pub mod PartSame
+pub mod PartMakes
+pub mod OwnNames

@@ -1,5 +1,6 @@
 pub mod Covered
 pub mod Lines
+pub mod Own
 pub mod Part
 pub mod Phases
 pub mod Refused

@@ -12,6 +12,7 @@ ghost use Rattle.snapshot_text.specs.Phases.{HasSymbols, HasExternals, HasUses, 
 ghost use Rattle.snapshot_text.specs.Snapshot.{imported_name, shown_names, package_object};
 
 use crate::error::BuildError;
+use crate::own_parts::make_own;
 use crate::parts::{items_in, name_in, text_in};
 use lisp_object::Datum;
 use plist_state::World;
@@ -45,18 +46,6 @@ fn push_parts<'a>(
     parts: PackageParts<'a>,
 ) -> Result<(), AllocError> {
     rows.push(parts)?;
-    Ok(())
-}
-
-// Makes a package, where it is none of the first, and its own symbols.
-fn make_own(world: &mut World, name: &Datum, own: &[Datum]) -> Result<(), BuildError> {
-    let owner = name_in(name)?;
-    if !world.packages().has_package(owner) {
-        world.make(owner)?;
-    }
-    for name in own {
-        world.intern(owner, name_in(name)?)?;
-    }
     Ok(())
 }
 
