@@ -25,3 +25,5 @@ pub mod SameText
 pub mod WithinLimits
 pub mod LinesRead
 pub mod ReadParts
+pub mod KeysSoFar
+pub mod PropertyParts
