@@ -2,18 +2,19 @@
 --     lisp_symbols, lisp_externals, lisp_uses, lisp_own      what is in COMMON-LISP
 --     everywhere      of all packages
 --     row_at      the row of a package, one after the other
-use Rattle.std.proofs.Common.{◌≡◌, ◌≢◌, ℕ, ◌<◌, List, [], length, get_or, is_some, refl, sym, ap, subst, ◌∙◌, inl, inr, arith}
+--     same_packages      where all is made, the packages are the same
+use Rattle.std.proofs.Common.{◌≡◌, ◌≢◌, ℕ, ◌<◌, List, [], true, Some, length, get_or, is_some, sym, ap, subst, ◌∙◌, inl, inr, arith}
 use Rattle.std.specs.Prelude.{All, option_map, option_and_then}
 use Rattle.std.specs.FinMap as finite
-use Rattle.std.proofs.lemmas.List.{take_all}
 use Rattle.package_table.specs.Table.{Name, Entry, Package, Table, common_lisp, IsPackage, IsPresent, IsSound}
-use Rattle.package_table.specs.Growth.{Grows}
 use Rattle.package_table.proofs.Frames.{name_cases}
+use Rattle.package_table.proofs.KeptSound.{used_is_package}
+use Rattle.package_table.proofs.Names.{same_some}
 use Rattle.snapshot_text.specs.declared.package_parts.PackageParts.{PackageParts}
-use Rattle.snapshot_text.specs.Part.{IsPartOf}
 use Rattle.snapshot_text.specs.Phases.{HasOwn, HasSymbols, HasExternals, HasUses, IsBegun, IsRowOf, AreRowsOf, Everywhere, other_packages}
 use Rattle.snapshot_text.proofs.PackageLists.{others_are, other_among}
-use Rattle.snapshot_text.proofs.PartFinds.{present_entry, external_entry}
+use Rattle.snapshot_text.proofs.PartFinds.{present_entry, present_package}
+use Rattle.snapshot_text.proofs.PartSame.{same_parts}
 
 module _ (t s : Table) (sound_t : IsSound t) (sound_s : IsSound s) where
   same_lisp : finite.get s common_lisp ≡ finite.get t common_lisp
@@ -71,3 +72,24 @@ row_at s rows i row are lt at =
       there = other.0;
       other = other.1;
     }
+
+-- ---- at the end
+
+pub same_packages : (t s : Table) → IsBegun t s → Everywhere s (HasSymbols t s) → Everywhere s (HasExternals t s) → Everywhere s (HasUses t s) → t ≡ s
+same_packages t s begun symbols externals uses = same_parts t s begun.part (record {
+  packages = λ p there. (begun.own p there).there;
+  symbols = λ p n e at.
+      let here : IsPresent s p n e.home = ap (option_map (λ (e : Entry). e.home)) at in
+      let owner = present_package s p n e.home here in
+      let f = present_entry t p n e.home ((symbols p owner).names n e.home here) in
+      (
+        f.0,
+        f.1,
+        record {
+          home = sym f.2;
+          external = λ shown.
+              same_some f.0.external true (sym (ap (option_map (λ (e : Entry). e.external)) f.1) ∙ (externals p owner).names n (ap (option_map (λ (e : Entry). e.external)) at ∙ ap (λ b. Some b) shown));
+        },
+      );
+  uses = λ p q used. (uses p (used_is_package s p q used)).names q used;
+})
