@@ -38,3 +38,5 @@ pub mod Exports
 pub mod PartSame
 pub mod PartMakes
 pub mod OwnNames
+pub mod KeysSoFar
+pub mod PropertyParts

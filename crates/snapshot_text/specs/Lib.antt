@@ -1,3 +1,4 @@
+pub mod Built
 pub mod Covered
 pub mod Lines
 pub mod Own
