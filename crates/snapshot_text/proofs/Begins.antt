@@ -8,11 +8,14 @@ use Rattle.package_table.specs.Growth.{Grows}
 use Rattle.snapshot_text.specs.Part.{IsPartOf}
 use Rattle.snapshot_text.specs.Phases.{HasOwn, HasSymbols, HasExternals, HasUses, IsBegun}
 
+pub own_grown : (t u s : Table) (p : Name) → HasOwn t s p → Grows t u → HasOwn u s p
+own_grown t u s p own grows = record { there = grows.packages p own.there; names = λ n here. grows.homes p n p (own.names n here) }
+
 pub begun_grown : (t u s : Table) → IsBegun t s → Grows t u → IsPartOf u s → IsBegun u s
 begun_grown t u s begun grows part = record {
   sound = begun.sound;
   part = part;
-  own = λ q there. let own = begun.own q there in record { there = grows.packages q own.there; names = λ n here. grows.homes q n q (own.names n here) };
+  own = λ q there. own_grown t u s q (begun.own q there) grows;
 }
 
 pub symbols_grown : (t u s : Table) (p : Name) → HasSymbols t s p → Grows t u → HasSymbols u s p

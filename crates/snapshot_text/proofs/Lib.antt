@@ -29,11 +29,11 @@ pub mod PartFinds
 pub mod PartOrder
 pub mod PartCounts
 pub mod PartSteps
-pub mod SamePart
 pub mod Gave
 pub mod ReadRows
 pub mod PackageLists
 pub mod Begins
+pub mod AllPackages
 pub mod Exports
 pub mod PartSame
 pub mod PartMakes

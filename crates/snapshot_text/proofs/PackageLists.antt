@@ -20,6 +20,7 @@ use Rattle.package_table.proofs.Frames.{equal_names, not_equal, unequal_names, e
 use Rattle.snapshot_text.specs.Snapshot.{shown_names}
 use Rattle.snapshot_text.proofs.Ascii.{from_truth, below_none}
 use Rattle.snapshot_text.proofs.PackageEntries.{eq, names_passing, imported_at, other_home}
+use Rattle.snapshot_text.proofs.SamePackages.{any_passing}
 
 -- ---- lists in order
 
@@ -60,20 +61,6 @@ all_any [] = All-nil (λ n. list_any (eq n) [] ≡ true)
 all_any (m ∷ ns) =
     All-cons (λ n. list_any (eq n) (m ∷ ns) ≡ true) m ns (or_left (eq m m) (list_any (eq m) ns) (same_tied m))
     (All-weaker (λ n. list_any (eq n) ns ≡ true) (λ n. list_any (eq n) (m ∷ ns) ≡ true) (λ n e. or_right (eq n m) (list_any (eq n) ns) e) ns (all_any ns))
-
-any_passing : (n : Name) (g : Name → Bool) (ns : List Name) → g n ≡ true → list_any (eq n) ns ≡ true → list_any (eq n) (filter g ns) ≡ true
-any_passing n g [] good any = any
-any_passing n g (m ∷ ns) good any =
-    elim (g m) as (λ b. g m ≡ b → list_any (eq n) (if b then m ∷ filter g ns else filter g ns) ≡ true) [
-      | true ↦ λ _. elim (eq n m) as (λ b. (b || list_any (eq n) ns) ≡ true → (b || list_any (eq n) (filter g ns)) ≡ true) [
-        | true ↦ λ e. e
-        | false ↦ λ later. any_passing n g ns good later
-      ] any
-      | false ↦ λ bad. elim (eq n m) as (λ b. eq n m ≡ b → (b || list_any (eq n) ns) ≡ true → list_any (eq n) (filter g ns) ≡ true) [
-        | true ↦ λ same _. absurd (false≢true (sym bad ∙ ap g (sym (tied_same n m same)) ∙ good))
-        | false ↦ λ _ later. any_passing n g ns good later
-      ] refl any
-    ] refl
 
 -- ---- the symbols of a package
 
@@ -189,5 +176,5 @@ others_are s = λ k d lt.
 pub other_among : (s : Table) (P : Name → Type 0) → All P (filter is_other (package_names s)) → (p : Name) → IsPackage s p → p ≢ common_lisp → P p
 other_among s P all p there differ =
     any_all P (filter is_other (package_names s)) p
-    (any_passing p is_other (package_names s) (ap not (not_equal p common_lisp differ)) (sym (contains_key-keys s p) ∙ there))
+    (any_passing p is_other (package_names s) (ap not (not_equal p common_lisp differ)) ∙ sym (contains_key-keys s p) ∙ there)
     all

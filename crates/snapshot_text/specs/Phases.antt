@@ -1,11 +1,11 @@
 -- What is there, phase by phase, while the packages of a world are made from those of a snapshot: first all packages with the
 -- symbols at home in them, then what they import, what is external and what they use.
-use Rattle.std.specs.Prelude.{◌≡◌, true, map, MatchResult, Result}
+use Rattle.std.specs.Prelude.{◌≡◌, ◌<◌, ℕ, true, not, List, [], map, filter, length, bytes_eq, slice_index_or, MatchResult, Result}
 use Rattle.std.specs.List.{list_all}
 use Rattle.lisp_object.specs.Object.{text}
 use Rattle.lisp_object.specs.Datum.{object_of, is_proper}
-use Rattle.package_table.specs.Table.{Name, Table, IsPackage, IsPresent, IsExternal, Uses, IsSound}
-use Rattle.package_table.specs.Readers.{used_names, imports}
+use Rattle.package_table.specs.Table.{Name, Table, common_lisp, IsPackage, IsPresent, IsExternal, Uses, IsSound}
+use Rattle.package_table.specs.Readers.{package_names, used_names, imports}
 use Rattle.snapshot_text.specs.declared.error.BuildError.{BuildError}
 use Rattle.snapshot_text.specs.declared.error.BuildError.TheVariants.{OutOfMemory}
 use Rattle.snapshot_text.specs.declared.package_parts.PackageParts.{PackageParts}
@@ -47,6 +47,23 @@ pub record IsRowOf (s : Table) (p : Name) (row : PackageParts) : Type 0 where
   pub proper_own : list_all is_proper row.own.now ≡ true
   pub proper_shown : list_all is_proper row.shown.now ≡ true
   pub proper_imported : list_all is_proper row.imported.now ≡ true
+
+-- the packages of s but COMMON-LISP, in the order of their names
+abbrev pub other_packages : Table → List Name
+other_packages s = filter (λ p. not (bytes_eq p common_lisp)) (package_names s)
+
+-- the rows of the first of them
+pub record AreFirstRows (s : Table) (count : ℕ) (rows : List PackageParts) : Type 0 where
+  pub long : length rows ≡ count
+  pub each : (i : ℕ) (row : PackageParts) → i < length rows → IsRowOf s (slice_index_or (other_packages s) i []) (slice_index_or rows i row)
+
+-- a row for each of them
+abbrev pub AreRowsOf : Table → List PackageParts → Type 0
+AreRowsOf s rows = AreFirstRows s (length (other_packages s)) rows
+
+-- of each package of s
+abbrev pub Everywhere : Table → (Name → Type 0) → Type 0
+Everywhere s P = (p : Name) → IsPackage s p → P p
 
 -- it is so, or memory ran out
 abbrev pub OrNoMemory : {A : Type 0} → Type 0 → Result A BuildError → Type 0

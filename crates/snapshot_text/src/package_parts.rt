@@ -1,15 +1,13 @@
 //! The packages of a world, made from the first object of a snapshot.
-ghost use Rattle.std.specs.Prelude.{◌≡◌, ◌≢◌, true, map, MatchResult};
-ghost use Rattle.std.specs.List.{list_all};
+ghost use Rattle.std.specs.Prelude.{◌≡◌, ◌≢◌, true, [], ◌∷◌, ◌++◌, IfOk, MatchResult};
 ghost use Rattle.lisp_object.specs.Object.{text};
 ghost use Rattle.lisp_object.specs.Datum.{object_of, is_proper};
-ghost use Rattle.package_table.specs.Table.{Name, Table, common_lisp, keyword, IsPackage, IsPresent, IsExternal, Uses};
+ghost use Rattle.package_table.specs.Table.{Name, Table, common_lisp, keyword, IsPresent, IsExternal, IsSound, Uses};
 ghost use Rattle.package_table.specs.Growth.{Grows};
-ghost use Rattle.package_table.specs.Readers.{used_names, imports};
 ghost use Rattle.plist_state.specs.Changes.{with_packages};
 ghost use Rattle.snapshot_text.specs.Part.{IsPartOf};
-ghost use Rattle.snapshot_text.specs.Phases.{HasSymbols, HasExternals, HasUses, IsBegun, IsRowOf, OrNoMemory};
-ghost use Rattle.snapshot_text.specs.Snapshot.{imported_name, shown_names, package_object};
+ghost use Rattle.snapshot_text.specs.Phases.{HasSymbols, HasExternals, HasUses, IsBegun, IsRowOf, AreRowsOf, Everywhere, OrNoMemory};
+ghost use Rattle.snapshot_text.specs.Snapshot.{imported_name, package_object, packages_object};
 
 use crate::error::BuildError;
 use crate::own_parts::make_own;
@@ -28,7 +26,11 @@ struct PackageParts<'a> {
     imported: &'a [Datum],
 }
 
-fn package_parts(row: &Datum) -> Result<PackageParts<'_>, BuildError> {
+// The parts of a row.
+fn package_parts(row: &Datum) -> Result<PackageParts<'_>, BuildError>
+    ensures { (s : Table) (p : Name) → is_proper row.now ≡ true → object_of row.now ≡ package_object s p
+        → MatchResult result (λ parts. IsRowOf s p parts) (λ _. ⊥) }
+{
     let [name, used, own, shown, imported] = items_in(row)? else {
         return Err(BuildError::Damaged);
     };
@@ -44,9 +46,23 @@ fn package_parts(row: &Datum) -> Result<PackageParts<'_>, BuildError> {
 fn push_parts<'a>(
     rows: &mut Vec<PackageParts<'a>>,
     parts: PackageParts<'a>,
-) -> Result<(), AllocError> {
+) -> Result<(), AllocError>
+    ensures { IfOk result (λ _. rows.new.items ≡ rows.old.items ++ parts.entry ∷ []) }
+{
     rows.push(parts)?;
     Ok(())
+}
+
+// The rows of all packages.
+fn rows_in(alloc: Global, packages: &Datum) -> Result<Vec<PackageParts<'_>>, BuildError>
+    ensures { (s : Table) → is_proper packages.now ≡ true → object_of packages.now ≡ packages_object s
+        → MatchResult result (λ rows. AreRowsOf s rows.items) (λ e. e ≡ BuildError.OutOfMemory) }
+{
+    let mut rows = Vec::new(alloc);
+    for row in items_in(packages)? {
+        push_parts(&mut rows, package_parts(row)?)?;
+    }
+    Ok(rows)
 }
 
 // The name and the home of an import.
@@ -149,28 +165,74 @@ fn use_each(world: &mut World, row: &PackageParts<'_>) -> Result<(), BuildError>
     Ok(())
 }
 
+// Makes the packages with their own symbols.
+fn make_all(world: &mut World, rows: &[PackageParts<'_>]) -> Result<(), BuildError>
+    ensures made { (s : Table) → IsSound s → IsPartOf world.old.0.packages s → AreRowsOf s rows.now
+        → OrNoMemory (IsBegun world.new.0.packages s) result }
+    ensures grows { Grows world.old.0.packages world.new.0.packages }
+    ensures rest { world.new ≡ (with_packages world.old.0 world.new.0.packages, world.old.1) }
+{
+    for row in rows {
+        make_own(world, row.name, row.own)?;
+    }
+    world.soundness();
+    Ok(())
+}
+
+fn import_all(world: &mut World, rows: &[PackageParts<'_>]) -> Result<(), BuildError>
+    ensures made { (s : Table) → IsBegun world.old.0.packages s → AreRowsOf s rows.now
+        → OrNoMemory (IsBegun world.new.0.packages s × Everywhere s (HasSymbols world.new.0.packages s)) result }
+    ensures grows { Grows world.old.0.packages world.new.0.packages }
+    ensures rest { world.new ≡ (with_packages world.old.0 world.new.0.packages, world.old.1) }
+{
+    for row in rows {
+        import_each(world, row)?;
+    }
+    world.soundness();
+    Ok(())
+}
+
+fn export_all(world: &mut World, rows: &[PackageParts<'_>]) -> Result<(), BuildError>
+    ensures made { (s : Table) → IsBegun world.old.0.packages s → Everywhere s (HasSymbols world.old.0.packages s) → AreRowsOf s rows.now
+        → OrNoMemory (IsBegun world.new.0.packages s × Everywhere s (HasExternals world.new.0.packages s)) result }
+    ensures grows { Grows world.old.0.packages world.new.0.packages }
+    ensures rest { world.new ≡ (with_packages world.old.0 world.new.0.packages, world.old.1) }
+{
+    for row in rows {
+        export_each(world, row)?;
+    }
+    world.soundness();
+    Ok(())
+}
+
+fn use_all(world: &mut World, rows: &[PackageParts<'_>]) -> Result<(), BuildError>
+    ensures made { (s : Table) → IsBegun world.old.0.packages s → AreRowsOf s rows.now
+        → OrNoMemory (IsBegun world.new.0.packages s × Everywhere s (HasUses world.new.0.packages s)) result }
+    ensures grows { Grows world.old.0.packages world.new.0.packages }
+    ensures rest { world.new ≡ (with_packages world.old.0 world.new.0.packages, world.old.1) }
+{
+    for row in rows {
+        use_each(world, row)?;
+    }
+    world.soundness();
+    Ok(())
+}
+
 /// Makes the packages of a new world those of the first object of a snapshot. All symbols are made before one is imported,
 /// and all external ones before a package is used.
 pub(crate) fn make_packages(
     alloc: Global,
     world: &mut World,
     packages: &Datum,
-) -> Result<(), BuildError> {
-    let mut rows = Vec::new(alloc);
-    for row in items_in(packages)? {
-        push_parts(&mut rows, package_parts(row)?)?;
-    }
-    for row in &rows {
-        make_own(world, row.name, row.own)?;
-    }
-    for row in &rows {
-        import_each(world, row)?;
-    }
-    for row in &rows {
-        export_each(world, row)?;
-    }
-    for row in &rows {
-        use_each(world, row)?;
-    }
-    Ok(())
+) -> Result<(), BuildError>
+    ensures made { (s : Table) → IsSound s → IsPartOf world.old.0.packages s → is_proper packages.now ≡ true
+        → object_of packages.now ≡ packages_object s → OrNoMemory (world.new.0.packages ≡ s) result }
+    ensures rest { world.new ≡ (with_packages world.old.0 world.new.0.packages, world.old.1) }
+{
+    let rows = rows_in(alloc, packages)?;
+    let rows = rows.as_slice();
+    make_all(world, rows)?;
+    import_all(world, rows)?;
+    export_all(world, rows)?;
+    use_all(world, rows)
 }
