@@ -1,6 +1,6 @@
 -- Each change keeps packages a part of others, where the others are so changed already.
 --     part_with_new, part_with_entry, part_with_used      after each change
-use Rattle.std.proofs.Common.{◌≡◌, None, Some, is_some, refl, sym, ap, subst, ◌∙◌, inl, inr}
+use Rattle.std.proofs.Common.{◌≡◌, None, Some, is_some, sym, ap, subst, ◌∙◌, inl, inr}
 use Rattle.std.specs.FinMap as finite
 use Rattle.package_table.specs.Table.{Name, Entry, Table, entry_at, IsPackage, Uses, with_entry, with_used, with_new_package, empty_package}
 use Rattle.package_table.proofs.Names.{same_some}
