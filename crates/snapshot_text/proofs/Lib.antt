@@ -27,3 +27,9 @@ pub mod LinesRead
 pub mod ReadParts
 pub mod KeysSoFar
 pub mod PropertyParts
+pub mod TableParts
+pub mod Filling
+pub mod MacroParts
+pub mod EntryParts
+pub mod ReadtableParts
+pub mod NamedTables
