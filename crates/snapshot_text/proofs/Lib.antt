@@ -40,3 +40,9 @@ pub mod PartMakes
 pub mod OwnNames
 pub mod KeysSoFar
 pub mod PropertyParts
+pub mod TableParts
+pub mod Filling
+pub mod MacroParts
+pub mod EntryParts
+pub mod ReadtableParts
+pub mod NamedTables
