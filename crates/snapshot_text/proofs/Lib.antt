@@ -40,3 +40,5 @@ pub mod PartMakes
 pub mod OwnNames
 pub mod KeysSoFar
 pub mod PropertyParts
+pub mod NextLine
+pub mod LaterLines
