@@ -42,3 +42,9 @@ pub mod KeysSoFar
 pub mod PropertyParts
 pub mod NextLine
 pub mod LaterLines
+pub mod TableParts
+pub mod Filling
+pub mod MacroParts
+pub mod EntryParts
+pub mod ReadtableParts
+pub mod NamedTables

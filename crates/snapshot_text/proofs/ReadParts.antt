@@ -2,6 +2,7 @@
 use Rattle.std.proofs.Common.{◌≡◌, ℕ, zero, suc, ◌-◌, ◌<◌, Bool, List, [], ◌∷◌, length, map, take, drop, get_or, Option, Some, None, true, refl, sym, ap, subst, ◌∙◌, arith}
 use Rattle.std.specs.List.{list_all}
 use Rattle.std.proofs.Math.Seq.{take-length}
+use Rattle.std.proofs.lemmas.List.{get_or-map, length-map}
 use Rattle.std.proofs.lemmas.Bool.{and_parts, false≢true}
 use Rattle.lisp_object.specs.declared.datum.Datum
 use Rattle.lisp_object.specs.declared.datum.Datum.{Datum}
@@ -72,3 +73,46 @@ pub list_all-at : {A : Type 0} (p : A → Bool) (xs : List A) (n : ℕ) (d : A) 
 list_all-at p [] n d all few = absurd (omega arith)
 list_all-at p (x ∷ xs) zero d all few = (and_parts (p x) (list_all p xs) all).0
 list_all-at p (x ∷ xs) (suc n) d all few = list_all-at p xs n d (and_parts (p x) (list_all p xs) all).1 (omega arith)
+
+-- an item at a place
+pub item_at : (items : List Datum) (n : ℕ) (a : Datum) (ys : List Object) → map object_of items ≡ ys → list_all is_proper items ≡ true
+    → n < length items → a ≡ get_or items n a → (is_proper a ≡ true) × (object_of a ≡ get_or ys n (object_of a))
+item_at items n a ys e proper few is = (
+  ap is_proper is ∙ list_all-at is_proper items n a proper few,
+  ap object_of is ∙ sym (get_or-map object_of items n a (object_of a) few) ∙ ap (λ zs. get_or zs n (object_of a)) e,
+)
+
+pub item_count : (items : List Datum) (ys : List Object) → map object_of items ≡ ys → length items ≡ length ys
+item_count items ys e = sym (length-map items object_of) ∙ ap length e
+
+-- a list of two, and of three
+pub record AreTwo (x y : Object) (a b : Datum) : Type 0 where
+  pub first_proper : is_proper a ≡ true
+  pub first : object_of a ≡ x
+  pub second_proper : is_proper b ≡ true
+  pub second : object_of b ≡ y
+
+pub two_items : (items : List Datum) (a b : Datum) (x y : Object) → map object_of items ≡ x ∷ y ∷ [] → list_all is_proper items ≡ true
+    → a ≡ get_or items 0 a → b ≡ get_or items 1 b → AreTwo x y a b
+two_items items a b x y e proper is_a is_b =
+    let count : length items ≡ 2 = item_count items (x ∷ y ∷ []) e in
+    let first = item_at items 0 a (x ∷ y ∷ []) e proper (omega arith) is_a in
+    let second = item_at items 1 b (x ∷ y ∷ []) e proper (omega arith) is_b in
+    record { first_proper = first.0; first = first.1; second_proper = second.0; second = second.1 }
+
+pub record AreThree (x y z : Object) (a b c : Datum) : Type 0 where
+  pub first_proper : is_proper a ≡ true
+  pub first : object_of a ≡ x
+  pub second_proper : is_proper b ≡ true
+  pub second : object_of b ≡ y
+  pub third_proper : is_proper c ≡ true
+  pub third : object_of c ≡ z
+
+pub three_items : (items : List Datum) (a b c : Datum) (x y z : Object) → map object_of items ≡ x ∷ y ∷ z ∷ [] → list_all is_proper items ≡ true
+    → a ≡ get_or items 0 a → b ≡ get_or items 1 b → c ≡ get_or items 2 c → AreThree x y z a b c
+three_items items a b c x y z e proper is_a is_b is_c =
+    let count : length items ≡ 3 = item_count items (x ∷ y ∷ z ∷ []) e in
+    let first = item_at items 0 a (x ∷ y ∷ z ∷ []) e proper (omega arith) is_a in
+    let second = item_at items 1 b (x ∷ y ∷ z ∷ []) e proper (omega arith) is_b in
+    let third = item_at items 2 c (x ∷ y ∷ z ∷ []) e proper (omega arith) is_c in
+    record { first_proper = first.0; first = first.1; second_proper = second.0; second = second.1; third_proper = third.0; third = third.1 }
