@@ -1,6 +1,6 @@
 -- What a call on packages answers where its definition refuses nothing: what the definition gives, or that memory ran out.
 use Rattle.std.proofs.Common.{◌≡◌, refl, sym, ◌∙◌}
-use Rattle.std.specs.Prelude.{Result, Ok, Err}
+use Rattle.std.specs.Prelude.{Result, Ok, Err, MatchResult}
 use Rattle.std.specs.Result.{IsErrAnd}
 use Rattle.package_table.specs.declared.error.PackageError.{PackageError}
 use Rattle.package_table.specs.declared.error.PackageError.TheVariants.{OutOfMemory}
@@ -30,3 +30,7 @@ passed_on P view e said y is gives (Err b) err = err ∙ no_room view e said y i
 pub passed_same : {C : Type 0} (P : Type 0) (e : BuildError) → e ≡ NoMemory → (r : Result C BuildError) → IsErrAnd r (λ b. b ≡ e) → OrNoMemory P r
 passed_same P e is (Ok x) err = absurd err
 passed_same P e is (Err b) err = err ∙ is
+
+pub refused_same : {A : Type 0} (P : A → Type 0) (e : BuildError) → e ≡ NoMemory → (r : Result A BuildError) → IsErrAnd r (λ b. b ≡ e) → MatchResult r P (λ b. b ≡ NoMemory)
+refused_same P e is (Ok x) err = absurd err
+refused_same P e is (Err b) err = err ∙ is

@@ -40,6 +40,8 @@ pub mod PartMakes
 pub mod OwnNames
 pub mod KeysSoFar
 pub mod PropertyParts
+pub mod NextLine
+pub mod LaterLines
 pub mod TableParts
 pub mod Filling
 pub mod MacroParts

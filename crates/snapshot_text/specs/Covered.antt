@@ -21,9 +21,3 @@ IsRefused registered bytes Damaged = (s : State) → IsSound s → length bytes 
 IsRefused registered bytes MissingFunction =
     (s : State) × IsSound s × (snapshot s ≡ bytes) × (length bytes ≤ 4294967295) × (are_covered registered s ≡ false)
 IsRefused registered bytes OutOfMemory = Unit {0}
-
--- Where a function is said to be missing, the bytes are the text of a sound state that names one.
-abbrev pub IsMissing : List (List ℕ) → List ℕ → SnapshotError → Type 0
-IsMissing registered bytes MissingFunction =
-    (s : State) × IsSound s × (snapshot s ≡ bytes) × (length bytes ≤ 4294967295) × (are_covered registered s ≡ false)
-IsMissing registered bytes _ = Unit {0}
