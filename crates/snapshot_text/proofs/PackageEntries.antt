@@ -91,7 +91,7 @@ same_entry p (Some e) (Some f) own shown other =
 
 -- ---- what is there at first
 
-initial_at : (p : Name) → finite.get initial p ≡ find name_cmp p ((common_lisp, common_lisp_package) ∷ (common_lisp_user, user_package) ∷ (keyword, keyword_package) ∷ [])
+pub initial_at : (p : Name) → finite.get initial p ≡ find name_cmp p ((common_lisp, common_lisp_package) ∷ (common_lisp_user, user_package) ∷ (keyword, keyword_package) ∷ [])
 unfolding initial
 initial_at p = get-from_entries name_total ((common_lisp, common_lisp_package) ∷ (common_lisp_user, user_package) ∷ (keyword, keyword_package) ∷ []) p
 

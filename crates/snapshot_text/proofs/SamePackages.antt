@@ -43,7 +43,7 @@ same_imports (x ∷ xs) (y ∷ ys) e =
     let later : map imported_name xs ≡ map imported_name ys = cc in
     λ i. (name i, home i) ∷ same_imports xs ys later i
 
-any_passing : (n : Name) (g : Name → Bool) (xs : List Name) → g n ≡ true → list_any (eq n) (filter g xs) ≡ list_any (eq n) xs
+pub any_passing : (n : Name) (g : Name → Bool) (xs : List Name) → g n ≡ true → list_any (eq n) (filter g xs) ≡ list_any (eq n) xs
 any_passing n g [] good = refl
 any_passing n g (x ∷ xs) good =
     let later = any_passing n g xs good in

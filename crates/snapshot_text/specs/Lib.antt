@@ -1,5 +1,9 @@
+pub mod Built
 pub mod Covered
 pub mod Lines
+pub mod Own
+pub mod Part
+pub mod Phases
 pub mod Refused
 pub mod Snapshot
 pub mod Tokens

@@ -1,5 +1,5 @@
 -- The lines of a snapshot, as they are read.
-use Rattle.std.specs.Prelude.{◌≡◌, ℕ, true, List, ◌++◌, length, Result, Ok, Err}
+use Rattle.std.specs.Prelude.{◌≡◌, ℕ, true, List, ◌++◌, length, drop, Result, Ok, Err}
 use Rattle.lisp_object.specs.declared.datum.Datum.{Datum}
 use Rattle.lisp_object.specs.Datum.{object_of, is_proper}
 use Rattle.lisp_object.specs.Object.{Object}
@@ -27,3 +27,8 @@ abbrev pub IsFirst : Table → Object → Result (Datum × ℕ) BuildError → T
 IsFirst packages x (Ok read) =
     (object_of read.0 ≡ x) × (is_proper read.0 ≡ true) × (read.1 ≡ length (printed packages common_lisp_user x))
 IsFirst packages x (Err e) = e ≡ OutOfMemory
+
+-- The same of a line within a text, and of what follows its newline.
+abbrev pub IsNext : Object → List ℕ → List ℕ → Result (Datum × ℕ) BuildError → Type 0
+IsNext x bytes rest (Ok read) = (object_of read.0 ≡ x) × (is_proper read.0 ≡ true) × (drop read.1 bytes ≡ rest)
+IsNext x bytes rest (Err e) = e ≡ OutOfMemory

@@ -1,5 +1,5 @@
 //! Which data may be stored.
-ghost use Rattle.std.specs.Prelude.{◌≡◌, true, All, IsTrue, unwrap_or, option_map};
+ghost use Rattle.std.specs.Prelude.{◌≡◌, ◌↔◌, true, All, IsTrue, unwrap_or, option_map};
 ghost use Rattle.lisp_object.specs.Object.{nil, AllAtoms};
 ghost use Rattle.lisp_object.specs.Datum.{object_of, is_proper};
 ghost use Rattle.package_table.specs.Table.{IsSound};
@@ -18,7 +18,7 @@ const LONGEST_NAME: usize = 4096;
 
 // Whether a symbol is there.
 pub(crate) fn is_there(packages: &Packages, symbol: &Symbol) -> bool
-    ensures { IsTrue result → IsSymbol packages.now.0 (symbol_of symbol.now) }
+    ensures { IsTrue result ↔ IsSymbol packages.now.0 (symbol_of symbol.now) }
 {
     packages.is_symbol(symbol.home(), symbol.name())
 }
@@ -27,6 +27,7 @@ pub(crate) fn is_there(packages: &Packages, symbol: &Symbol) -> bool
 pub(crate) fn is_value(packages: &Packages, datum: &Datum) -> bool
     ensures proper { IsTrue result → is_proper datum.now ≡ true }
     ensures value { IsTrue result → IsValue packages.now.0 (object_of datum.now) }
+    ensures all { is_proper datum.now ≡ true → IsValue packages.now.0 (object_of datum.now) → IsTrue result }
 {
     packages.soundness();
     datum.is_proper() && datum.depth() <= DEEPEST && are_known(packages, datum)
@@ -36,7 +37,7 @@ pub(crate) fn is_value(packages: &Packages, datum: &Datum) -> bool
 #[cycle(known)]
 fn are_known(packages: &Packages, datum: &Datum) -> bool
     requires { IsSound packages.now.0 }
-    ensures { IsTrue result → AllAtoms (IsKnown packages.now.0) (object_of datum.now) }
+    ensures { IsTrue result ↔ AllAtoms (IsKnown packages.now.0) (object_of datum.now) }
 {
     match datum {
         Datum::Symbol { package, name } => packages.is_symbol(package.as_slice(), name.as_slice()),
@@ -55,7 +56,7 @@ fn are_known(packages: &Packages, datum: &Datum) -> bool
 #[cycle(known)]
 fn each_known(packages: &Packages, items: &Items<Datum>) -> bool
     requires { IsSound packages.now.0 }
-    ensures { IsTrue result → All (λ d. AllAtoms (IsKnown packages.now.0) (object_of d)) items.now }
+    ensures { IsTrue result ↔ All (λ d. AllAtoms (IsKnown packages.now.0) (object_of d)) items.now }
 {
     let items = items.as_slice();
     for item in items {
@@ -69,7 +70,7 @@ fn each_known(packages: &Packages, items: &Items<Datum>) -> bool
 #[cycle(known)]
 fn end_known(packages: &Packages, tail: &Option<Boxed<Datum>>) -> bool
     requires { IsSound packages.now.0 }
-    ensures { IsTrue result → AllAtoms (IsKnown packages.now.0) (unwrap_or (option_map object_of tail.now) nil) }
+    ensures { IsTrue result ↔ AllAtoms (IsKnown packages.now.0) (unwrap_or (option_map object_of tail.now) nil) }
 {
     match tail {
         None => true,

@@ -1,14 +1,17 @@
 //! The parts of the objects of a snapshot: texts, lists and numbers.
-ghost use Rattle.std.specs.Prelude.{◌≡◌, ◌<◌, All, map, pos, IfOk};
-ghost use Rattle.lisp_object.specs.Object.{list_of};
-ghost use Rattle.lisp_object.specs.Datum.{object_of};
+ghost use Rattle.std.specs.Prelude.{◌≡◌, ◌<◌, ℕ, List, true, All, map, pos, IfOk, MatchResult};
+ghost use Rattle.std.specs.List.{list_all};
+ghost use Rattle.lisp_object.specs.Object.{Object, text, list_of};
+ghost use Rattle.lisp_object.specs.Datum.{object_of, is_proper};
+ghost use Rattle.snapshot_text.specs.Snapshot.{number};
 
 use crate::error::BuildError;
 use lisp_object::{Bytes, Datum};
 
 // The bytes of a text.
 pub(crate) fn text_in(datum: &Datum) -> Result<&Bytes, BuildError>
-    ensures { IfOk result (λ bytes. datum.now ≡ Datum.Text bytes.now) }
+    ensures same { IfOk result (λ bytes. datum.now ≡ Datum.Text bytes.now) }
+    ensures read { is_proper datum.now ≡ true → (bytes : List ℕ) → object_of datum.now ≡ text bytes → MatchResult result (λ read. read.now ≡ bytes) (λ _. ⊥) }
 {
     match datum {
         Datum::Text(bytes) => Ok(bytes),
@@ -20,6 +23,7 @@ pub(crate) fn text_in(datum: &Datum) -> Result<&Bytes, BuildError>
 pub(crate) fn name_in(datum: &Datum) -> Result<&[u8], BuildError>
     ensures text { IfOk result (λ name. datum.now ≡ Datum.Text name.now) }
     ensures below { IfOk result (λ name. All (λ b. b < 128) name.now) }
+    ensures read { is_proper datum.now ≡ true → (bytes : List ℕ) → object_of datum.now ≡ text bytes → MatchResult result (λ name. name.now ≡ bytes) (λ _. ⊥) }
 {
     let bytes = text_in(datum)?;
     if !bytes.is_ascii() {
@@ -30,7 +34,9 @@ pub(crate) fn name_in(datum: &Datum) -> Result<&[u8], BuildError>
 
 // The items of a list that ends in NIL.
 pub(crate) fn items_in(datum: &Datum) -> Result<&[Datum], BuildError>
-    ensures { IfOk result (λ items. object_of datum.now ≡ list_of (map object_of items.now)) }
+    ensures same { IfOk result (λ items. object_of datum.now ≡ list_of (map object_of items.now)) }
+    ensures read { is_proper datum.now ≡ true → (xs : List Object) → object_of datum.now ≡ list_of xs
+        → MatchResult result (λ items. (map object_of items.now ≡ xs) × (list_all is_proper items.now ≡ true)) (λ _. ⊥) }
 {
     if datum.is_nil() {
         return Ok(&[]);
@@ -48,6 +54,7 @@ pub(crate) fn items_in(datum: &Datum) -> Result<&[Datum], BuildError>
 pub(crate) fn character_in(datum: &Datum) -> Result<u8, BuildError>
     ensures number { IfOk result (λ n. datum.now ≡ Datum.Integer (pos n)) }
     ensures below { IfOk result (λ n. n < 128) }
+    ensures read { is_proper datum.now ≡ true → (n : ℕ) → object_of datum.now ≡ number n → n < 128 → MatchResult result (λ read. read ≡ n) (λ _. ⊥) }
 {
     match datum {
         Datum::Integer(n) => match u8::try_from(*n) {

@@ -1,4 +1,16 @@
 //! The property lists of a world, made from the second object of a snapshot.
+ghost use Rattle.std.specs.Prelude.{◌≡◌, ◌∷◌, [], true, map, MatchResult};
+ghost use Rattle.std.specs.List.{list_all, flat_map};
+ghost use Rattle.lisp_object.specs.Datum.{object_of, is_proper};
+ghost use Rattle.plist_state.specs.Properties as properties;
+ghost use Rattle.plist_state.specs.Properties.{Plist, with_list};
+ghost use Rattle.plist_state.specs.State.{State};
+ghost use Rattle.plist_state.specs.Changes.{plist, with_property};
+ghost use Rattle.plist_state.specs.Shown.{symbol_of};
+ghost use Rattle.plist_state.specs.Sound.{IsSymbol, IsValue, IsPlist, IsSound as IsSoundState};
+ghost use Rattle.snapshot_text.specs.Snapshot.{symbol_object, plist_object, properties_object};
+ghost use Rattle.snapshot_text.specs.Built.{with_properties, with_each, with_packages_of, with_properties_of};
+
 use crate::error::BuildError;
 use crate::known::{is_there, is_value};
 use crate::parts::items_in;
@@ -7,7 +19,10 @@ use plist_state::{Symbol, World};
 use std::alloc::Global;
 
 // An interned symbol.
-fn symbol_in(alloc: Global, datum: &Datum) -> Result<Symbol, BuildError> {
+fn symbol_in(alloc: Global, datum: &Datum) -> Result<Symbol, BuildError>
+    ensures { is_proper datum.now ≡ true → (x : properties.Symbol) → object_of datum.now ≡ symbol_object x
+        → MatchResult result (λ symbol. symbol_of symbol ≡ x) (λ e. e ≡ BuildError.OutOfMemory) }
+{
     match datum {
         Datum::Symbol { package, name } => {
             Ok(Symbol::from_bytes(alloc, package.as_slice(), name.as_slice())?)
@@ -23,7 +38,12 @@ fn put_one(
     symbol: &Symbol,
     indicator: &Datum,
     value: &Datum,
-) -> Result<(), BuildError> {
+) -> Result<(), BuildError>
+    ensures { is_proper indicator.now ≡ true → is_proper value.now ≡ true
+        → (i : properties.Symbol) → object_of indicator.now ≡ symbol_object i
+        → IsSymbol world.old.0.packages (symbol_of symbol.now) → IsSymbol world.old.0.packages i → IsValue world.old.0.packages (object_of value.now)
+        → MatchResult result (λ _. world.new.0 ≡ with_property world.old.0 (symbol_of symbol.now) i (object_of value.now)) (λ e. e ≡ BuildError.OutOfMemory) }
+{
     let indicator = symbol_in(alloc, indicator)?;
     let value = value.copy(alloc)?;
     let packages = world.packages();
@@ -37,19 +57,39 @@ fn put_one(
     Ok(())
 }
 
-// Sets the properties of a symbol: its indicators and values in turn.
-fn put_row(alloc: Global, world: &mut World, row: &Datum) -> Result<(), BuildError> {
+// Sets properties of a symbol: its indicators and values in turn.
+fn put_each(
+    alloc: Global,
+    world: &mut World,
+    symbol: &Symbol,
+    properties: &[Datum],
+) -> Result<(), BuildError>
+    ensures { list_all is_proper properties.now ≡ true → (ps : Plist) → map object_of properties.now ≡ flat_map (λ p. symbol_object p.0 ∷ p.1 ∷ []) ps
+        → IsSymbol world.old.0.packages (symbol_of symbol.now) → IsPlist world.old.0.packages ps
+        → MatchResult result (λ _. world.new.0 ≡ with_each world.old.0 (symbol_of symbol.now) ps) (λ e. e ≡ BuildError.OutOfMemory) }
+{
+    let mut rest = properties;
+    while let [indicator, value, later @ ..] = rest {
+        put_one(alloc, world, symbol, indicator, value)?;
+        rest = later;
+    }
+    if !rest.is_empty() {
+        return Err(BuildError::Damaged);
+    }
+    Ok(())
+}
+
+// Sets the properties of a symbol that has none.
+fn put_row(alloc: Global, world: &mut World, row: &Datum) -> Result<(), BuildError>
+    ensures { is_proper row.now ≡ true → (x : properties.Symbol) (ps : Plist) → object_of row.now ≡ plist_object x ps
+        → IsSymbol world.old.0.packages x → IsPlist world.old.0.packages ps → plist world.old.0 x ≡ []
+        → MatchResult result (λ _. world.new.0 ≡ with_properties world.old.0 (with_list world.old.0.properties x ps)) (λ e. e ≡ BuildError.OutOfMemory) }
+{
     let [symbol, properties @ ..] = items_in(row)? else {
         return Err(BuildError::Damaged);
     };
     let symbol = symbol_in(alloc, symbol)?;
-    for property in properties.chunks(2) {
-        let [indicator, value] = property else {
-            return Err(BuildError::Damaged);
-        };
-        put_one(alloc, world, &symbol, indicator, value)?;
-    }
-    Ok(())
+    put_each(alloc, world, &symbol, properties)
 }
 
 /// Sets the properties of the second object of a snapshot, in a world that has its packages.
@@ -57,7 +97,11 @@ pub(crate) fn put_properties(
     alloc: Global,
     world: &mut World,
     properties: &Datum,
-) -> Result<(), BuildError> {
+) -> Result<(), BuildError>
+    ensures { (s : State) → IsSoundState s → is_proper properties.now ≡ true → object_of properties.now ≡ properties_object s
+        → world.old.0 ≡ with_packages_of s
+        → MatchResult result (λ _. world.new.0 ≡ with_properties_of s) (λ e. e ≡ BuildError.OutOfMemory) }
+{
     for row in items_in(properties)? {
         put_row(alloc, world, row)?;
     }

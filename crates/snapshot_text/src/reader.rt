@@ -1,14 +1,15 @@
 //! The world of a text.
-ghost use Rattle.std.specs.Prelude.{◌≡◌, ◌≤◌, ℕ, List, [], ◌++◌, true, length, IfOk, IfErr};
+ghost use Rattle.std.specs.Prelude.{◌≡◌, ◌≤◌, ℕ, List, [], ◌++◌, true, length, drop, IfOk, IfErr, MatchResult};
 ghost use Rattle.lisp_object.specs.Object.{Object};
 ghost use Rattle.readtable_core.specs.Tables.{standard};
 ghost use Rattle.package_table.specs.Table.{Table, common_lisp_user};
 ghost use Rattle.form_reader.specs.Setting.{setting_of};
-ghost use Rattle.snapshot_text.specs.Lines.{snapshot_limits, IsLineRead, IsFirst};
-ghost use Rattle.plist_state.specs.State.{State};
+ghost use Rattle.snapshot_text.specs.Lines.{snapshot_limits, IsLineRead, IsFirst, IsNext};
+ghost use Rattle.plist_state.specs.State.{State, initial};
+ghost use Rattle.snapshot_text.specs.Built.{with_packages_of, with_properties_of};
 ghost use Rattle.plist_state.specs.Sound.{IsSound as IsSoundState};
-ghost use Rattle.snapshot_text.specs.Covered.{are_covered, IsMissing};
-ghost use Rattle.snapshot_text.specs.Snapshot.{line, snapshot};
+ghost use Rattle.snapshot_text.specs.Covered.{are_covered, IsRefused};
+ghost use Rattle.snapshot_text.specs.Snapshot.{packages_object, properties_object, tables_object, line, snapshot};
 
 use crate::error::BuildError;
 use crate::package_parts::make_packages;
@@ -67,6 +68,9 @@ fn next_object<R: MacroFunctions>(
     at: usize,
 ) -> Result<(Datum, usize), BuildError>
     requires { R.answers macros.now }
+    ensures { (packages : Table) (x : Object) (rest : List ℕ) → length bytes.now ≤ 4294967295 → drop at bytes.now ≡ line packages x ++ rest
+        → IsLineRead (setting_of snapshot_limits standard world.now.0.packages common_lisp_user (R.registered macros.now) R.Meaning.way R.Meaning.answer) packages x rest
+        → IsNext x bytes.now rest result }
 {
     let Some(rest) = bytes.get(at..) else {
         return Err(BuildError::Damaged);
@@ -75,17 +79,71 @@ fn next_object<R: MacroFunctions>(
     Ok((datum, at.saturating_add(end).saturating_add(1)))
 }
 
-// A world made from the three objects of a text.
+// Makes the packages of the line that begins at `at`, in a new world. Gives where the next line begins.
+fn read_packages<R: MacroFunctions>(
+    alloc: Global,
+    world: &mut World,
+    macros: &R,
+    bytes: &[u8],
+    at: usize,
+) -> Result<usize, BuildError>
+    requires { R.answers macros.now }
+    ensures { (s : State) (rest : List ℕ) → IsSoundState s → length bytes.now ≤ 4294967295
+        → drop at bytes.now ≡ line s.packages (packages_object s.packages) ++ rest → world.old.0 ≡ initial
+        → MatchResult result (λ next. (world.new.0 ≡ with_packages_of s) × (drop next bytes.now ≡ rest)) (λ e. e ≡ BuildError.OutOfMemory) }
+{
+    world.soundness();
+    let (packages, next) = next_object(alloc, world, macros, bytes, at)?;
+    make_packages(alloc, world, &packages)?;
+    Ok(next)
+}
+
+// Sets the properties of the line that begins at `at`, in a world that has the packages. Gives where the next line begins.
+fn read_properties<R: MacroFunctions>(
+    alloc: Global,
+    world: &mut World,
+    macros: &R,
+    bytes: &[u8],
+    at: usize,
+) -> Result<usize, BuildError>
+    requires { R.answers macros.now }
+    ensures { (s : State) (rest : List ℕ) → IsSoundState s → length bytes.now ≤ 4294967295
+        → drop at bytes.now ≡ line s.packages (properties_object s) ++ rest → world.old.0 ≡ with_packages_of s
+        → MatchResult result (λ next. (world.new.0 ≡ with_properties_of s) × (drop next bytes.now ≡ rest)) (λ e. e ≡ BuildError.OutOfMemory) }
+{
+    let (properties, next) = next_object(alloc, world, macros, bytes, at)?;
+    put_properties(alloc, world, &properties)?;
+    Ok(next)
+}
+
+// Makes the readtables of the line that begins at `at`, in a world that has the packages and the properties.
+fn read_tables<R: MacroFunctions>(
+    alloc: Global,
+    world: &mut World,
+    macros: &R,
+    bytes: &[u8],
+    at: usize,
+) -> Result<(), BuildError>
+    requires { R.answers macros.now }
+    ensures { (s : State) (rest : List ℕ) → IsSoundState s → length bytes.now ≤ 4294967295
+        → drop at bytes.now ≡ line s.packages (tables_object s) ++ rest → world.old.0 ≡ with_properties_of s
+        → MatchResult result (λ _. world.new.0 ≡ s) (λ e. e ≡ BuildError.OutOfMemory) }
+{
+    let (tables, _) = next_object(alloc, world, macros, bytes, at)?;
+    put_tables(world, &tables)?;
+    Ok(())
+}
+
+// A world made from the three lines of a text. From the text of a sound state the state is made.
 fn built<R: MacroFunctions>(alloc: Global, bytes: &[u8], macros: &R) -> Result<World, BuildError>
     requires { R.answers macros.now }
+    ensures { (s : State) → IsSoundState s → length bytes.now ≤ 4294967295 → snapshot s ≡ bytes.now
+        → MatchResult result (λ world. world.0 ≡ s) (λ e. e ≡ BuildError.OutOfMemory) }
 {
     let mut world = World::new(alloc)?;
-    let (packages, at) = next_object(alloc, &world, macros, bytes, 0)?;
-    make_packages(alloc, &mut world, &packages)?;
-    let (properties, at) = next_object(alloc, &world, macros, bytes, at)?;
-    put_properties(alloc, &mut world, &properties)?;
-    let (tables, _) = next_object(alloc, &world, macros, bytes, at)?;
-    put_tables(&mut world, &tables)?;
+    let at = read_packages(alloc, &mut world, macros, bytes, 0)?;
+    let at = read_properties(alloc, &mut world, macros, bytes, at)?;
+    read_tables(alloc, &mut world, macros, bytes, at)?;
     Ok(world)
 }
 
@@ -124,7 +182,7 @@ pub fn read<R: MacroFunctions>(
     ensures size { IfOk result (λ world. length bytes.now ≤ 4294967295) }
     ensures covered { IfOk result (λ world. are_covered (R.registered macros.now) world.0 ≡ true) }
     ensures unmarked { IfOk result (λ world. world.1 ≡ []) }
-    ensures missing { IfErr result (IsMissing (R.registered macros.now) bytes.now) }
+    ensures refused { IfErr result (IsRefused (R.registered macros.now) bytes.now) }
 {
     if bytes.len() > MOST_BYTES {
         return Err(SnapshotError::Damaged);

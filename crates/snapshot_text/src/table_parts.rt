@@ -1,8 +1,19 @@
 //! The readtables of a world, made from the third object of a snapshot.
-ghost use Rattle.std.specs.Prelude.{◌<◌, IsTrue, IsFalse};
-ghost use Rattle.readtable_core.specs.Names.{is_dispatch_name};
-ghost use Rattle.package_table.specs.Table.{keyword};
-ghost use Rattle.plist_state.specs.Sound.{IsSymbol};
+ghost use Rattle.std.specs.Prelude.{◌≡◌, ◌<◌, ℕ, List, [], ◌∷◌, true, unwrap_or, IsTrue, IsFalse, MatchResult};
+ghost use Rattle.lisp_object.specs.Object.{text, list_of};
+ghost use Rattle.lisp_object.specs.Datum.{object_of, is_proper};
+ghost use Rattle.readtable_core.specs.declared.table.Case.{Case};
+ghost use Rattle.readtable_core.specs.Cases.{case_name};
+ghost use Rattle.readtable_core.specs.Names.{is_function_name, is_dispatch_name};
+ghost use Rattle.readtable_core.specs.Tables as readtable;
+ghost use Rattle.readtable_core.specs.Tables.{Entry, entry_at};
+ghost use Rattle.readtable_core.specs.Sound.{is_dispatching};
+ghost use Rattle.readtable_core.specs.Changes.{macro_syntax, with_entry, with_function};
+ghost use Rattle.package_table.specs.Table.{Name, keyword};
+ghost use Rattle.plist_state.specs.State.{State};
+ghost use Rattle.plist_state.specs.Sound.{IsSymbol, IsNamed, IsSound as IsSoundState};
+ghost use Rattle.snapshot_text.specs.Snapshot.{number, dispatch_objects, entry_object, entry_objects, readtable_object, readtables_object, tables_object};
+ghost use Rattle.snapshot_text.specs.Built.{with_table, with_properties_of, with_readtables_of, CanBeMade, IsWritable, IsSubFunction, IsNamedEntry};
 
 use crate::error::BuildError;
 use crate::parts::{character_in, items_in, text_in};
@@ -15,17 +26,25 @@ use readtable_core::{Case, FnName, Syntax};
 fn may_be_set(world: &World, function: FnName) -> bool
     ensures other { IsTrue result → IsFalse (is_dispatch_name function) }
     ensures keyword { IsTrue result → IsSymbol world.now.0.packages (keyword, function) }
+    ensures all { IsFalse (is_dispatch_name function) → IsSymbol world.now.0.packages (keyword, function) → IsTrue result }
 {
     !function.is_dispatch() && world.packages().is_symbol(KEYWORD, function.as_bytes())
 }
 
-fn function_in(datum: &Datum) -> Result<FnName, BuildError> {
+// The name of a function.
+fn function_in(datum: &Datum) -> Result<FnName, BuildError>
+    ensures { is_proper datum.now ≡ true → (f : List ℕ) → object_of datum.now ≡ text f → IsTrue (is_function_name f)
+        → MatchResult result (λ function. function ≡ f) (λ _. ⊥) }
+{
     FnName::new(text_in(datum)?.as_slice()).ok_or(BuildError::Damaged)
 }
 
 // Sets the function of a sub-character, which are given as a pair.
 fn put_sub_character(world: &mut World, table: &[u8], c: u8, pair: &Datum) -> Result<(), BuildError>
     requires { c < 128 }
+    ensures { is_proper pair.now ≡ true → (t : readtable.Table) (sub : ℕ) (f : List ℕ) → object_of pair.now ≡ list_of (number sub ∷ text f ∷ [])
+        → IsSubFunction world.old.0.packages sub f → IsWritable world.old.0.readtables table.now t → is_dispatching (entry_at t c) ≡ true
+        → MatchResult result (λ _. world.new.0 ≡ with_table world.old.0 table.now (with_entry t c (with_function (entry_at t c) sub f))) (λ e. e ≡ BuildError.OutOfMemory) }
 {
     let [sub, function] = items_in(pair)? else {
         return Err(BuildError::Damaged);
@@ -49,6 +68,10 @@ fn put_macro(
     dispatch: &Datum,
 ) -> Result<(), BuildError>
     requires { c < 128 }
+    ensures { is_proper function.now ≡ true → is_proper dispatch.now ≡ true → (t : readtable.Table) (e : Entry)
+        → object_of function.now ≡ text (unwrap_or e.function []) → object_of dispatch.now ≡ list_of (dispatch_objects e)
+        → e.syntax ≡ macro_syntax non_terminating → IsNamedEntry world.old.0.packages e → IsWritable world.old.0.readtables table.now t
+        → MatchResult result (λ _. world.new.0 ≡ with_table world.old.0 table.now (with_entry t c e)) (λ e. e ≡ BuildError.OutOfMemory) }
 {
     let function = function_in(function)?;
     if !function.is_dispatch() {
@@ -69,20 +92,28 @@ fn put_macro(
 fn put_standard(world: &mut World, table: &[u8], c: u8, from: u8) -> Result<(), BuildError>
     requires c { c < 128 }
     requires from { from < 128 }
+    ensures { (t : readtable.Table) → IsWritable world.old.0.readtables table.now t
+        → MatchResult result (λ _. world.new.0 ≡ with_table world.old.0 table.now (with_entry t c (entry_at readtable.standard from))) (λ e. e ≡ BuildError.OutOfMemory) }
 {
     world.set_syntax_from_char(table, c, STANDARD, from)?;
     Ok(())
 }
 
-// Sets the entry of a character: its code, its syntax type, its function and its dispatch table.
-fn put_entry(world: &mut World, table: &[u8], entry: &Datum) -> Result<(), BuildError> {
-    let [c, syntax, function, dispatch] = items_in(entry)? else {
-        return Err(BuildError::Damaged);
-    };
-    let c = character_in(c)?;
-    let Some(syntax) = Syntax::from_number(character_in(syntax)?) else {
-        return Err(BuildError::Damaged);
-    };
+// Sets the entry of a character: its syntax type and, at a macro character, its function and its dispatch table.
+fn put_typed(
+    world: &mut World,
+    table: &[u8],
+    c: u8,
+    syntax: Syntax,
+    function: &Datum,
+    dispatch: &Datum,
+) -> Result<(), BuildError>
+    requires { c < 128 }
+    ensures { is_proper function.now ≡ true → is_proper dispatch.now ≡ true → (t : readtable.Table) (e : Entry)
+        → object_of function.now ≡ text (unwrap_or e.function []) → object_of dispatch.now ≡ list_of (dispatch_objects e)
+        → e.syntax ≡ syntax → IsNamedEntry world.old.0.packages e → IsWritable world.old.0.readtables table.now t
+        → MatchResult result (λ _. world.new.0 ≡ with_table world.old.0 table.now (with_entry t c e)) (λ e. e ≡ BuildError.OutOfMemory) }
+{
     match syntax {
         Syntax::Whitespace => put_standard(world, table, c, b' '),
         Syntax::Constituent => put_standard(world, table, c, b'A'),
@@ -94,34 +125,87 @@ fn put_entry(world: &mut World, table: &[u8], entry: &Datum) -> Result<(), Build
     }
 }
 
-// Makes a readtable: its name, its case, and the entries that are not as in the standard one.
-fn put_readtable(world: &mut World, row: &Datum) -> Result<(), BuildError> {
-    let [name, letters, entries] = items_in(row)? else {
+// Sets the entry of a character: its code, its syntax type, its function and its dispatch table.
+fn put_entry(world: &mut World, table: &[u8], entry: &Datum) -> Result<(), BuildError>
+    ensures { is_proper entry.now ≡ true → (t : readtable.Table) (c : ℕ) (e : Entry) → object_of entry.now ≡ entry_object c e → c < 128
+        → IsNamedEntry world.old.0.packages e → IsWritable world.old.0.readtables table.now t
+        → MatchResult result (λ _. world.new.0 ≡ with_table world.old.0 table.now (with_entry t c e)) (λ e. e ≡ BuildError.OutOfMemory) }
+{
+    let [c, syntax, function, dispatch] = items_in(entry)? else {
         return Err(BuildError::Damaged);
     };
-    let name = text_in(name)?.as_slice();
+    let c = character_in(c)?;
+    let Some(syntax) = Syntax::from_number(character_in(syntax)?) else {
+        return Err(BuildError::Damaged);
+    };
+    put_typed(world, table, c, syntax, function, dispatch)
+}
+
+// Makes a readtable of this case, with the entries of the standard one.
+fn make_readtable(world: &mut World, name: &[u8], letters: &Datum) -> Result<(), BuildError>
+    ensures { is_proper letters.now ≡ true → (k : Case) → object_of letters.now ≡ text (case_name k)
+        → IsSymbol world.old.0.packages (keyword, name.now) → CanBeMade world.old.0.readtables name.now
+        → MatchResult result (λ _. world.new.0 ≡ with_table world.old.0 name.now (record readtable.standard { letters = k })) (λ e. e ≡ BuildError.OutOfMemory) }
+{
+    let Some(letters) = Case::from_name(text_in(letters)?.as_slice()) else {
+        return Err(BuildError::Damaged);
+    };
     if !world.packages().is_symbol(KEYWORD, name) {
         return Err(BuildError::Damaged);
     }
     world.copy_readtable(STANDARD, name)?;
-    let Some(letters) = Case::from_name(text_in(letters)?.as_slice()) else {
-        return Err(BuildError::Damaged);
-    };
     world.set_case(name, letters)?;
+    Ok(())
+}
+
+// Sets the entries that are not as in the standard readtable.
+fn put_entries(world: &mut World, name: &[u8], entries: &Datum) -> Result<(), BuildError>
+    ensures { is_proper entries.now ≡ true → (t : readtable.Table) → object_of entries.now ≡ list_of (entry_objects t)
+        → IsNamed world.old.0.packages t → IsWritable world.old.0.readtables name.now (record readtable.standard { letters = t.letters })
+        → MatchResult result (λ _. world.new.0 ≡ with_table world.old.0 name.now t) (λ e. e ≡ BuildError.OutOfMemory) }
+{
     for entry in items_in(entries)? {
         put_entry(world, name, entry)?;
     }
     Ok(())
 }
 
-/// Makes the readtables of the third object of a snapshot, and what is current, in a world that has its packages.
-pub(crate) fn put_tables(world: &mut World, tables: &Datum) -> Result<(), BuildError> {
-    let [package, readtable, readtables] = items_in(tables)? else {
+// Makes a readtable: its name, its case, and the entries that are not as in the standard one.
+fn put_readtable(world: &mut World, row: &Datum) -> Result<(), BuildError>
+    ensures { is_proper row.now ≡ true → (name : Name) (t : readtable.Table) → object_of row.now ≡ readtable_object name t
+        → IsNamed world.old.0.packages t → IsSymbol world.old.0.packages (keyword, name) → CanBeMade world.old.0.readtables name
+        → MatchResult result (λ _. world.new.0 ≡ with_table world.old.0 name t) (λ e. e ≡ BuildError.OutOfMemory) }
+{
+    let [name, letters, entries] = items_in(row)? else {
         return Err(BuildError::Damaged);
     };
+    let name = text_in(name)?.as_slice();
+    make_readtable(world, name, letters)?;
+    put_entries(world, name, entries)
+}
+
+// Makes the readtables of the third object of a snapshot.
+fn put_readtables(world: &mut World, readtables: &Datum) -> Result<(), BuildError>
+    ensures { (s : State) → IsSoundState s → is_proper readtables.now ≡ true → object_of readtables.now ≡ readtables_object s
+        → world.old.0 ≡ with_properties_of s
+        → MatchResult result (λ _. world.new.0 ≡ with_readtables_of s) (λ e. e ≡ BuildError.OutOfMemory) }
+{
     for row in items_in(readtables)? {
         put_readtable(world, row)?;
     }
+    Ok(())
+}
+
+/// Makes the readtables of the third object of a snapshot, and what is current, in a world that has its packages.
+pub(crate) fn put_tables(world: &mut World, tables: &Datum) -> Result<(), BuildError>
+    ensures { (s : State) → IsSoundState s → is_proper tables.now ≡ true → object_of tables.now ≡ tables_object s
+        → world.old.0 ≡ with_properties_of s
+        → MatchResult result (λ _. world.new.0 ≡ s) (λ e. e ≡ BuildError.OutOfMemory) }
+{
+    let [package, readtable, readtables] = items_in(tables)? else {
+        return Err(BuildError::Damaged);
+    };
+    put_readtables(world, readtables)?;
     world.set_current_package(text_in(package)?.as_slice())?;
     world.set_current_readtable(text_in(readtable)?.as_slice())?;
     Ok(())

@@ -1,13 +1,25 @@
-use Rattle.std.proofs.Common.{◌≡◌, rules, arith, sym, ◌∙◌}
+use Rattle.std.proofs.Common.{◌≡◌, ℕ, List, true, not, bytes_eq, rules, arith, sym, ap, ◌∙◌}
+use Rattle.std.proofs.lemmas.Bool.{false≢true}
+use Rattle.package_table.proofs.Frames.{equal_itself}
+use Rattle.plist_state.specs.State.{Worlds}
 use Rattle.snapshot_text.specs.Snapshot.{snapshot}
 use Rattle.snapshot_text.proofs.SameText.{one_state}
 use Rattle.snapshot_text.proofs.reader.read.Goals as goal
 
-pub returns-then-not-branch-clause-missing : goal.returns-then-not-branch-clause-missing
-returns-then-not-branch-clause-missing g c =
+pub returns-then-not-branch-clause-refused : goal.returns-then-not-branch-clause-refused
+returns-then-not-branch-clause-refused g c =
     (_, c.soundness.ensures.present, search rules, omega arith, sym c.in_ok-is_covered.ensures ∙ c.if-not-branch.true)
 
 pub returns-clause-only : goal.returns-clause-only
 returns-clause-only g c = λ s sound e.
     let text : snapshot c.settle.new.self.0 ≡ c.args.bytes.now = search rules in
     one_state s c.settle.new.self.0 sound c.soundness.ensures.present (e ∙ sym text)
+
+-- the text of a sound state is that of the world that is made from it
+pub returns-then-ne-clause-refused : goal.returns-then-ne-clause-refused
+returns-then-ne-clause-refused g c = λ s sound fits is.
+    let same : c.in_ok-world.world.0 ≡ s = c.in_ok-world.ensures s sound fits is in
+    let written : c.as_slice.result.now ≡ c.args.bytes.now =
+    c.as_slice.ensures.value ∙ c.in_ok-write.ensures ∙ ap (λ (w : Worlds). snapshot w.0) c.settle.ensures ∙ ap snapshot same ∙ is in
+    let alike : bytes_eq c.as_slice.result.now c.args.bytes.now ≡ true = ap (λ (x : List ℕ). bytes_eq x c.args.bytes.now) written ∙ equal_itself c.args.bytes.now in
+    false≢true (sym (c.if-ne.ensures ∙ ap not alike))

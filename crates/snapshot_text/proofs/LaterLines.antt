@@ -1,0 +1,27 @@
+-- The second and the third line of a text, as they are read in a world that has what the lines before them say.
+use Rattle.std.proofs.Common.{◌≡◌, ℕ, ◌≤◌, List, length, Option, sym, subst}
+use Rattle.readtable_core.specs.Tables.{standard}
+use Rattle.user_macros.specs.declared.call.Gather.{Gather}
+use Rattle.user_macros.specs.Calls.{MacroCall, MacroAnswer}
+use Rattle.package_table.specs.Table.{common_lisp_user}
+use Rattle.canon_printer.specs.Printed.{printed}
+use Rattle.form_reader.specs.Setting.{setting_of}
+use Rattle.plist_state.specs.State.{State}
+use Rattle.plist_state.specs.Sound.{IsSound}
+use Rattle.snapshot_text.specs.Built.{with_packages_of, with_properties_of}
+use Rattle.snapshot_text.specs.Lines.{snapshot_limits, IsLineRead}
+use Rattle.snapshot_text.specs.Snapshot.{properties_object, tables_object}
+use Rattle.snapshot_text.proofs.LinesRead.{second_read, third_read}
+
+module _ (registered : List (List ℕ)) (way : List ℕ → Option Gather) (answer : List ℕ → MacroCall → MacroAnswer) (s : State) (sound : IsSound s) (w : State) where
+  pub second_line : w ≡ with_packages_of s → length (printed s.packages common_lisp_user (properties_object s)) ≤ 4294967295 → (rest : List ℕ)
+      → IsLineRead (setting_of snapshot_limits standard w.packages common_lisp_user registered way answer) s.packages (properties_object s) rest
+  second_line old fits rest =
+      subst (λ (v : State). IsLineRead (setting_of snapshot_limits standard v.packages common_lisp_user registered way answer) s.packages (properties_object s) rest) (sym old)
+      (second_read registered way answer s sound fits rest)
+
+  pub third_line : w ≡ with_properties_of s → length (printed s.packages common_lisp_user (tables_object s)) ≤ 4294967295 → (rest : List ℕ)
+      → IsLineRead (setting_of snapshot_limits standard w.packages common_lisp_user registered way answer) s.packages (tables_object s) rest
+  third_line old fits rest =
+      subst (λ (v : State). IsLineRead (setting_of snapshot_limits standard v.packages common_lisp_user registered way answer) s.packages (tables_object s) rest) (sym old)
+      (third_read registered way answer s sound fits rest)
