@@ -1,7 +1,8 @@
-use Rattle.std.proofs.Common.{◌≡◌, ℕ, List, true, not, bytes_eq, rules, arith, sym, ap, ◌∙◌}
+use Rattle.std.proofs.Common.{◌≡◌, not, List, rules, arith, sym, ap, ◌∙◌}
+use Rattle.std.specs.Str.{bytes_eq}
 use Rattle.std.proofs.lemmas.Bool.{false≢true}
 use Rattle.package_table.proofs.Frames.{equal_itself}
-use Rattle.plist_state.specs.State.{Worlds}
+use Rattle.plist_state.specs.State.{State}
 use Rattle.snapshot_text.specs.Snapshot.{snapshot}
 use Rattle.snapshot_text.proofs.SameText.{one_state}
 use Rattle.snapshot_text.proofs.reader.read.Goals as goal
@@ -15,11 +16,8 @@ returns-clause-only g c = λ s sound e.
     let text : snapshot c.settle.new.self.0 ≡ c.args.bytes.now = search rules in
     one_state s c.settle.new.self.0 sound c.soundness.ensures.present (e ∙ sym text)
 
--- the text of a sound state is that of the world that is made from it
 pub returns-then-ne-clause-refused : goal.returns-then-ne-clause-refused
-returns-then-ne-clause-refused g c = λ s sound fits is.
-    let same : c.in_ok-world.world.0 ≡ s = c.in_ok-world.ensures s sound fits is in
-    let written : c.as_slice.result.now ≡ c.args.bytes.now =
-    c.as_slice.ensures.value ∙ c.in_ok-write.ensures ∙ ap (λ (w : Worlds). snapshot w.0) c.settle.ensures ∙ ap snapshot same ∙ is in
-    let alike : bytes_eq c.as_slice.result.now c.args.bytes.now ≡ true = ap (λ (x : List ℕ). bytes_eq x c.args.bytes.now) written ∙ equal_itself c.args.bytes.now in
-    false≢true (sym (c.if-ne.ensures ∙ ap not alike))
+returns-then-ne-clause-refused g c = λ s sound fits e.
+    let state : c.settle.new.self.0 ≡ s = ap (λ (w : State × List State). w.0) c.settle.ensures ∙ c.in_ok-world.ensures s sound fits e in
+    let same : c.as_slice.result.now ≡ c.args.bytes.now = c.as_slice.ensures.value ∙ c.in_ok-write.ensures ∙ ap snapshot state ∙ e in
+    false≢true (sym (c.if-ne.ensures ∙ ap not (ap (λ x. bytes_eq x c.args.bytes.now) same ∙ equal_itself c.args.bytes.now)))
