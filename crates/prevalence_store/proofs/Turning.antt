@@ -142,7 +142,7 @@ module _ (functions : Functions) where
     pub accepted : (w : World) → old.world ≡ Some w → IfOk answer (λ e. (given : World) × (accept functions.names w x ≡ Ok (done_of e given)) × Stores state old new e.wrote mode own given)
     pub cause : (w : World) → old.world ≡ Some w → IfErr answer (IsCause (accept functions.names w x) old.size old.limit (length own))
     pub unchanged : IfErr answer (λ e. is_device e ≡ false → new ≡ old)
-    pub fault : IfErr answer (λ e. is_device e ≡ true → DeviceFails state old new)
+    pub fault : IfErr answer (λ e. is_device e ≡ true → DeviceFails state old new (opposite_of old.half))
     pub survives : (w : World) → SurvivesAs functions state old new w (taken_in mode own answer) (acknowledged_in mode own answer)
 
   stores_left : {D R : Type 0} (state : D → State) (old new : Session D R) (wrote : Bool) (mode : Mode) (own : List ℕ) (given : World) → Stores state old new wrote mode own given → new.world ≡ Some given

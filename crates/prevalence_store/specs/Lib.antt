@@ -9,6 +9,7 @@ pub mod Session
 pub mod Causes
 pub mod LeftAlone
 pub mod Execution
+pub mod Snapshots
 pub mod Opening
 pub mod Output
 pub mod Streams
