@@ -7,6 +7,7 @@ pub mod LeftAlone
 pub mod Loading
 pub mod Pendings
 pub mod Progressing
+pub mod Renewing
 pub mod Replaying
 pub mod StreamLemmas
 pub mod Surviving

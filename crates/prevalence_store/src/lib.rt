@@ -38,6 +38,7 @@ mod open_fault;
 mod outcome;
 mod output;
 mod replay;
+mod schedule;
 mod setting;
 mod store;
 mod turn;
