@@ -9,6 +9,7 @@ pub mod Pendings
 pub mod Progressing
 pub mod Renewing
 pub mod Replaying
+pub mod Running
 pub mod StreamLemmas
 pub mod Surviving
 pub mod Turning
