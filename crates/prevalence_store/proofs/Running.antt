@@ -15,7 +15,7 @@ use Rattle.prevalence_store.specs.declared.outcome.Outcome.TheVariants.{Accepted
 use Rattle.prevalence_store.specs.declared.step.Step.{Step}
 use Rattle.prevalence_store.specs.declared.step.Step.TheVariants.{Form, Snapshot}
 use Rattle.prevalence_store.specs.Acceptance.{Acceptance, accepts, logged, records_of}
-use Rattle.prevalence_store.specs.Execution.{Executes, IsAccepted, Stores, SurvivesAs}
+use Rattle.prevalence_store.specs.Execution.{Executes, Stores, SurvivesAs}
 use Rattle.prevalence_store.specs.Functions.{Functions}
 use Rattle.prevalence_store.specs.Runs.{TakesStep, TakesSteps, acknowledged_in_steps, acknowledged_of, taken_in_steps, taken_of, world_of}
 use Rattle.prevalence_store.specs.Session.{Session}

@@ -1,9 +1,9 @@
 // Steps one after the other.
 ghost use Rattle.std.specs.Prelude.{◌≡◌, true, IfOk, OnErr};
-ghost use Rattle.std.specs.List.{list_all};
+ghost use Rattle.std.specs.List.{All, list_all};
 ghost use Rattle.readtable_core.specs.Names.{is_among};
 ghost use Rattle.plist_state.specs.State.{State as LispWorld};
-ghost use Rattle.prevalence_store.specs.Execution.{SurvivesAs};
+ghost use Rattle.prevalence_store.specs.Execution.{IsProperOutcome, SurvivesAs};
 ghost use Rattle.prevalence_store.specs.Functions.{functions_of};
 ghost use Rattle.prevalence_store.specs.Runs.{TakesStep, TakesSteps, acknowledged_in_steps, taken_in_steps};
 
@@ -33,6 +33,7 @@ impl<D: Disk, R: MacroFunctions> Store<D, R> {
             SurvivesAs (functions_of R.Meaning.names R.Meaning.way R.Meaning.answer) D.state self.old self.new world
             (taken_in_steps (functions_of R.Meaning.names R.Meaning.way R.Meaning.answer) world steps.now outcomes.items)
             (acknowledged_in_steps (functions_of R.Meaning.names R.Meaning.way R.Meaning.answer) world steps.now outcomes.items)) }
+        ensures proper { IfOk result (λ outcomes. All IsProperOutcome outcomes.items) }
         ensures unchanged { OnErr result (self.new ≡ self.old) }
         ensures honest { (D.state self.new.disk).honest ≡ (D.state self.old.disk).honest }
         ensures macros { self.new.macros ≡ self.old.macros }
@@ -51,6 +52,7 @@ impl<D: Disk, R: MacroFunctions> Store<D, R> {
         requires whole { list_all (is_among (R.registered self.old.macros)) R.Meaning.names ≡ true }
         ensures takes { TakesStep (functions_of R.Meaning.names R.Meaning.way R.Meaning.answer) D.state self.old self.new
             self.old.world step.now result }
+        ensures proper { IsProperOutcome result }
         ensures honest { (D.state self.new.disk).honest ≡ (D.state self.old.disk).honest }
         ensures macros { self.new.macros ≡ self.old.macros }
     {

@@ -1,5 +1,8 @@
 use Rattle.std.proofs.Common.{List, ◌+◌, [], ◌∷◌, ◌++◌, length, take, sym, subst, ◌∙◌, arith}
+use Rattle.std.specs.List.{All}
 use Rattle.std.proofs.lemmas.List.{take_all, take_more}
+use Rattle.std.proofs.lemmas.List.Elements.{All-append, All-cons, All-nil}
+use Rattle.prevalence_store.specs.Execution.{IsProperOutcome}
 use Rattle.prevalence_store.specs.declared.outcome.Outcome.{Outcome}
 use Rattle.prevalence_store.specs.declared.step.Step.{Step}
 use Rattle.prevalence_store.specs.declared.mode.Mode.TheVariants.{Current}
@@ -22,6 +25,10 @@ steps-preserved g c =
           (sym (take_more c.args.steps.now k (Form Current (record { ref_ptr = (0, 0); now = [] })) c.steps-test.true))
           (steps_more functions g.D.Disk.state c.args.self.now c.steps.self c.step-outcome.new.self (take k c.args.steps.now) c.steps.outcomes.items _ c.step-outcome.result
           so_far.takes c.step-outcome.ensures.takes));
+      proper =
+          subst (λ (outcomes : List Outcome). All IsProperOutcome outcomes) (sym c.push_reserved.ensures.items)
+          (All-append IsProperOutcome c.steps.outcomes.items (c.step-outcome.result ∷ []) so_far.proper
+          (All-cons IsProperOutcome c.step-outcome.result [] c.step-outcome.ensures.proper (All-nil IsProperOutcome)));
       room = c.push_reserved.ensures.capacity ∙ so_far.room;
       many = let more = c.push_reserved.ensures.len in let many = so_far.many in omega arith;
       honest = c.step-outcome.ensures.honest ∙ so_far.honest;
