@@ -1,5 +1,6 @@
 pub mod Answering
 pub mod Committing
+pub mod Covering
 pub mod Executing
 pub mod Inputs
 pub mod Joining
@@ -8,6 +9,7 @@ pub mod Loading
 pub mod Pendings
 pub mod Progressing
 pub mod Replaying
+pub mod Snapshotting
 pub mod StreamLemmas
 pub mod Surviving
 pub mod Turning
