@@ -15,10 +15,11 @@
 //!   the world after some of all the forms, from the first on, and after all that were acknowledged.
 //!
 //! Of every disk: each call returns; 60 comes exactly where the device's count of failures rose, and after it each call but
-//! `close`, `world`, `half`, `generation` and `record_count` answers 61; a refusal of 1 to 46, 64 or 90 changes nothing.
+//! `close`, `world`, `half`, `generation` and `record_count` answers 61; a refusal of 1 to 46, 64, 65 or 90 changes nothing.
 //!
 //! - `Store::execute` answers what acceptance gives for a text in the world (`Executes`), each answer with its cause.
-//! - `Store::snapshot` puts the text of the world into the half that is not in use (`Snapshots`), and uses it.
+//! - `Store::snapshot` starts the half that is not in use with the text of the world (`snapshot_text`), and changes neither
+//!   the world nor what the files mean (`Snapshots`).
 //! - `Store::run` gives per step what these two answer in the state that the steps before it left (`TakesSteps`).
 //! - `Store::serve` is told by one relation (`Serves`): how many forms were taken and answered, in which mode, what of the
 //!   lines was written, what the log holds then (`IsAfter`), and a case for each ending with its cause.
