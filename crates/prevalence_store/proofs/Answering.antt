@@ -170,21 +170,8 @@ module _ (functions : Functions) (w : World) (mode : Mode) (text : List ℕ) (x 
       }
 
 module _ (functions : Functions) {D R : Type 0} (state : D → State) where
-  after_longer : (old new : Session D R) (far : Progress) (more : List ℕ) → IsAfter state old new far → IsAfter state old new (longer far more)
-  after_longer old new far more a = record {
-    left = a.left;
-    half = a.half;
-    generation = a.generation;
-    record_count = a.record_count;
-    size = a.size;
-    fits = a.fits;
-    limit = a.limit;
-    macros = a.macros;
-    described = a.described;
-    other = a.other;
-    failures = a.failures;
-    untouched = a.untouched;
-  }
+  after_longer : (old new : Session D R) (w : World) (far : Progress) (more : List ℕ) → IsAfter functions state old new w far → IsAfter functions state old new w (longer far more)
+  after_longer old new w far more a = record { left = a.left; records = a.records; limit = a.limit; macros = a.macros; failures = a.failures; log = a.log }
 
   -- the same forms, of a text that goes on
   pub extended : (old new : Session D R) (w : World) (mode : Mode) (text : List ℕ) (a b : Option (List ℕ)) (pending : Pending) (left more : List ℕ)
@@ -195,7 +182,7 @@ module _ (functions : Functions) {D R : Type 0} (state : D → State) where
     advances = record {
       far_is = goes.stays more;
       lines = goes.advances.lines;
-      after = after_longer old new goes.far more goes.advances.after;
+      after = after_longer old new w goes.far more goes.advances.after;
       survives = goes.advances.survives;
     };
     stays = λ others. ap (after_forms functions goes.forms w mode) (append_assoc text more others) ∙ goes.stays (more ++ others)
@@ -362,13 +349,13 @@ module _ (functions : Functions) {D R : Type 0} (state : D → State) where
         part = [];
         output = subst (Writes a b) (sym (append-nil far.lines)) goes.advances.lines;
         survives = goes.advances.survives;
-        ends = inr (inr (inl (record {
+        ends = inr (inr (inr (inr (inl (record {
           input = refl;
           all = refl;
           no_part = refl;
           more = subst (λ t. MayGoOn t (read_in functions far.world mode t)) (sym (goes.rest ∙ append-nil goes.bytes)) goes.is_pending.more;
           after = goes.advances.after;
-        })));
+        })))));
       }
 
   -- what is pending where a byte was left

@@ -3,6 +3,7 @@ use Rattle.std.proofs.Common.{◌≡◌, ℕ, ◌+◌, ◌-◌, ◌<◌, ◌≤�
 use Rattle.std.proofs.lemmas.List.{length-take-le}
 use Rattle.std.proofs.lemmas.Bool.{eq-eqb, ne_eqb}
 use Rattle.disk_trait.specs.Disk.{State}
+use Rattle.disk_trait.specs.Half.{opposite_of}
 use Rattle.gate_log.specs.Place.{HalvesValue}
 use Rattle.lisp_object.specs.Object.{Object, IsSound}
 use Rattle.lisp_object.specs.declared.datum.Datum.{Datum}
@@ -115,7 +116,7 @@ module _ (functions : Functions) where
 
       -- it was not, and this is why
       pub failed : (failure : Failure) → IsCause (accept functions.names w x) old.size old.limit (length own) failure
-          → (is_device failure ≡ false → new ≡ old) → (is_device failure ≡ true → DeviceFails state old new)
+          → (is_device failure ≡ false → new ≡ old) → (is_device failure ≡ true → DeviceFails state old new (opposite_of old.half))
           → SurvivesAs functions state old new w (taken_in mode own (Err failure)) 0
           → Executes functions state old new w mode text (outcome.Refused (failure_number failure))
       failed (Refused number) cause same fault survives = turned_down number (by ∙ ap (acceptance_of own) cause) (same refl) survives

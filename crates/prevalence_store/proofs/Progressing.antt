@@ -1,5 +1,5 @@
 -- How the turns of a session join.
-use Rattle.std.proofs.Common.{◌≡◌, ℕ, zero, suc, ◌+◌, ◌≤◌, List, [], ◌∷◌, ◌++◌, length, Option, None, Some, IsTrue, refl, sym, ap, ap₂, subst, ◌∙◌, inl, inr, append_assoc, append-nil, arith, length-append}
+use Rattle.std.proofs.Common.{◌≡◌, ℕ, zero, suc, ◌+◌, ◌≤◌, ◌⊎◌, List, [], ◌∷◌, ◌++◌, length, Option, None, Some, IsTrue, refl, sym, ap, ap₂, subst, ◌∙◌, inl, inr, append_assoc, append-nil, arith, length-append}
 use Rattle.std.specs.Option.{option_map, option_and_then}
 use Rattle.std.proofs.lemmas.List.Sums.{sum_by-append}
 use Rattle.disk_trait.specs.Disk.{State, IsHonest, IsSound}
@@ -9,17 +9,17 @@ use Rattle.gate_log.specs.Layout.{Contents, Entry}
 use Rattle.prevalence_store.specs.declared.mode.Mode.{Mode}
 use Rattle.prevalence_store.specs.declared.outcome.Ending.{Ending}
 use Rattle.prevalence_store.specs.declared.outcome.Ending.TheVariants.{End, Reader, Store}
-use Rattle.prevalence_store.specs.Acceptance.{read_in}
+use Rattle.prevalence_store.specs.Acceptance.{after, read_in}
 use Rattle.prevalence_store.specs.Execution.{SurvivesAs}
 use Rattle.prevalence_store.specs.LeftAlone.{LeavesAlone}
 use Rattle.prevalence_store.specs.Output.{Progress, after_forms, begun, last_line, one_form, one_form_more, onward}
-use Rattle.prevalence_store.specs.Serving.{Advances, Ends, IsAfter, Serves, room_of, with_entries}
+use Rattle.prevalence_store.specs.Serving.{Advances, Ends, IsAfter, IsExtended, IsRenewed, Serves, renewed, turned, with_entries}
 use Rattle.prevalence_store.specs.Session.{Session, Describes}
 use Rattle.prevalence_store.specs.Streams.{Writes}
 use Rattle.plist_state.specs.State.{State as World}
 use Rattle.prevalence_store.specs.Theorem.{Survives}
 use Rattle.prevalence_store.proofs.LeftAlone.{alone_both}
-use Rattle.prevalence_store.proofs.Surviving.{both_survive}
+use Rattle.prevalence_store.proofs.Surviving.{after-append, both_survive}
 use Rattle.prevalence_store.specs.Functions.{Functions}
 
 onward_onward : (p q r : Progress) → onward (onward p q) r ≡ onward p (onward q r)
@@ -27,7 +27,7 @@ onward_onward p q r =
     ap₂ (λ taken lines. record { world = r.world; rest = r.rest; taken = taken; lines = lines })
     (append_assoc p.taken q.taken r.taken) (append_assoc p.lines q.lines r.lines)
 
-onward_begun : (p : Progress) → onward p (begun p.world p.rest) ≡ p
+pub onward_begun : (p : Progress) → onward p (begun p.world p.rest) ≡ p
 onward_begun p =
     ap₂ (λ taken lines. record { world = p.world; rest = p.rest; taken = taken; lines = lines }) (append-nil p.taken) (append-nil p.lines)
 
@@ -47,46 +47,105 @@ none_of_both : (xs ys : List Entry) → xs ++ ys ≡ [] → (xs ≡ []) × (ys �
 none_of_both [] ys is = (refl, is)
 none_of_both (x ∷ xs) ys is = absurd (cc)
 
-module _ {D R : Type 0} (state : D → State) (sound : (d : D) → IsHonest (state d) → IsSound (state d)) (old mid new : Session D R) (p : Progress) (first : IsAfter state old mid p)
-    (honest : (state mid.disk).honest ≡ (state old.disk).honest) where
-  described_both : (q : List Entry)
-      → ((k : Contents) → IsHonest (state mid.disk) → Describes mid k (state mid.disk).reads → Describes new (with_entries k q) (state new.disk).reads)
-      → (k : Contents) → IsHonest (state old.disk) → Describes old k (state old.disk).reads → Describes new (with_entries k (p.taken ++ q)) (state new.disk).reads
-  described_both q second k claims held =
-      subst (λ entries. Describes new (record k { entries = entries }) (state new.disk).reads) (append_assoc k.entries p.taken q)
-      (second (with_entries k p.taken) (subst IsTrue (sym honest) claims) (first.described k claims held))
+-- ---- the log after some records, and some more
 
-  other_both : (IsHonest (state mid.disk) → LeavesAlone (opposite_of mid.half) (state mid.disk) (state new.disk))
-      → IsHonest (state old.disk) → LeavesAlone (opposite_of old.half) (state old.disk) (state new.disk)
-  other_both second claims =
-      let still = subst IsTrue (sym honest) claims in
-      alone_both (opposite_of old.half) (state old.disk) (state mid.disk) (state new.disk) (sound mid.disk still) (first.other claims)
-      (subst (λ (h : Half). LeavesAlone (opposite_of h) (state mid.disk) (state new.disk)) first.half (second still))
+turned_both : (n m k : ℕ) (half : Half) → k ≡ n + m → turned k half ≡ turned n (turned m half)
+turned_both zero m k half is = let same : k ≡ m = omega arith in ap (λ j. turned j half) same
+turned_both (suc n) m zero half is = absurd (omega arith)
+turned_both (suc n) m (suc k) half is = let less : k ≡ n + m = omega arith in ap opposite_of (turned_both n m k half less)
 
-  size_both : (q : List Entry) (size : ℕ) → size ≡ mid.size + room_of q → size ≡ old.size + room_of (p.taken ++ q)
-  size_both q size is = let sum = sum_by-append (λ (entry : Entry). 6 + length entry.text) p.taken q in let before = first.size in omega arith
+module _ (functions : Functions) {D R : Type 0} (state : D → State) (sound : (d : D) → IsHonest (state d) → IsSound (state d)) (old mid new : Session D R) (w v : World) (xs ys : List Entry)
+    (here : after functions w xs ≡ Some v) (limit : mid.limit ≡ old.limit) (honest : (state mid.disk).honest ≡ (state old.disk).honest) where
+  both_extended : IsExtended state old mid xs → IsExtended state mid new ys → IsExtended state old new (xs ++ ys)
+  both_extended one two = record {
+    half = two.half ∙ one.half;
+    generation = two.generation ∙ one.generation;
+    record_count = let sum = length-append xs ys in let a = one.record_count in let b = two.record_count in omega arith;
+    size = let sum = sum_by-append (λ (entry : Entry). 6 + length entry.text) xs ys in let a = one.size in let b = two.size in omega arith;
+    fits = let a = one.fits in let b = two.fits in omega arith;
+    described = λ k claims held.
+        subst (λ entries. Describes new (record k { entries = entries }) (state new.disk).reads) (append_assoc k.entries xs ys)
+        (two.described (with_entries k xs) (subst IsTrue (sym honest) claims) (one.described k claims held));
+    other = λ claims.
+        let still = subst IsTrue (sym honest) claims in
+        alone_both (opposite_of old.half) (state old.disk) (state mid.disk) (state new.disk) (sound mid.disk still) (one.other claims)
+        (subst (λ (h : Half). LeavesAlone (opposite_of h) (state mid.disk) (state new.disk)) one.half (two.other still));
+    untouched = λ is. let none = none_of_both xs ys is in two.untouched none.1 ∙ one.untouched none.0;
+  }
 
-  count_both : (q : List Entry) (count : ℕ) → count ≡ mid.record_count + length q → count ≡ old.record_count + length (p.taken ++ q)
-  count_both q count is = let sum = length-append p.taken q in let before = first.record_count in omega arith
+  -- snapshots are taken later
+  extended_renewed : IsExtended state old mid xs → IsRenewed state mid new functions v ys → IsRenewed state old new functions w (xs ++ ys)
+  extended_renewed one two = record {
+    snapshots = two.snapshots;
+    some = two.some;
+    earlier = xs ++ two.earlier;
+    later = two.later;
+    parts = ap (λ l. xs ++ l) two.parts ∙ sym (append_assoc xs two.earlier two.later);
+    first = two.first;
+    first_is = after-append functions w v xs two.earlier here ∙ two.first_is;
+    half = two.half ∙ ap (turned two.snapshots) one.half;
+    generation = let a = one.generation in let b = two.generation in omega arith;
+    record_count = two.record_count;
+    size = two.size;
+    fits = let fits = two.fits in omega arith;
+    described = λ k claims held. two.described (with_entries k xs) (subst IsTrue (sym honest) claims) (one.described k claims held);
+  }
 
-  fits_both : (q : List Entry) → mid.size + room_of q ≤ mid.limit → old.size + room_of (p.taken ++ q) ≤ old.limit
-  fits_both q fits =
-      let sum = sum_by-append (λ (entry : Entry). 6 + length entry.text) p.taken q in let before = first.size in let limit = first.limit in omega arith
+  -- they were taken earlier
+  renewed_extended : IsRenewed state old mid functions w xs → IsExtended state mid new ys → IsRenewed state old new functions w (xs ++ ys)
+  renewed_extended one two = record {
+    snapshots = one.snapshots;
+    some = one.some;
+    earlier = one.earlier;
+    later = one.later ++ ys;
+    parts = ap (λ l. l ++ ys) one.parts ∙ append_assoc one.earlier one.later ys;
+    first = one.first;
+    first_is = one.first_is;
+    half = two.half ∙ one.half;
+    generation = two.generation ∙ one.generation;
+    record_count = let sum = length-append one.later ys in let a = one.record_count in let b = two.record_count in omega arith;
+    size = let sum = sum_by-append (λ (entry : Entry). 6 + length entry.text) one.later ys in let a = one.size in let b = two.size in omega arith;
+    fits = let a = one.fits in let b = two.fits in omega arith;
+    described = λ k claims held. two.described (renewed k one.snapshots one.first one.later) (subst IsTrue (sym honest) claims) (one.described k claims held);
+  }
 
-  pub after_both : (q : Progress) → IsAfter state mid new q → IsAfter state old new (onward p q)
+  both_renewed : IsRenewed state old mid functions w xs → IsRenewed state mid new functions v ys → IsRenewed state old new functions w (xs ++ ys)
+  both_renewed one two = record {
+    snapshots = two.snapshots + one.snapshots;
+    some = let some = one.some in omega arith;
+    earlier = xs ++ two.earlier;
+    later = two.later;
+    parts = ap (λ l. xs ++ l) two.parts ∙ sym (append_assoc xs two.earlier two.later);
+    first = two.first;
+    first_is = after-append functions w v xs two.earlier here ∙ two.first_is;
+    half = two.half ∙ ap (turned two.snapshots) one.half ∙ sym (turned_both two.snapshots one.snapshots (two.snapshots + one.snapshots) old.half refl);
+    generation = let a = one.generation in let b = two.generation in omega arith;
+    record_count = two.record_count;
+    size = two.size;
+    fits = let fits = two.fits in omega arith;
+    described = λ k claims held.
+        let later : (k.generation + one.snapshots) + two.snapshots ≡ k.generation + (two.snapshots + one.snapshots) = omega arith in
+        subst (λ g. Describes new (record (renewed k one.snapshots two.first two.later) { generation = g }) (state new.disk).reads) later
+        (two.described (renewed k one.snapshots one.first one.later) (subst IsTrue (sym honest) claims) (one.described k claims held));
+  }
+
+  log_both : IsExtended state old mid xs ⊎ IsRenewed state old mid functions w xs → IsExtended state mid new ys ⊎ IsRenewed state mid new functions v ys
+      → IsExtended state old new (xs ++ ys) ⊎ IsRenewed state old new functions w (xs ++ ys)
+  log_both (inl one) (inl two) = inl (both_extended one two)
+  log_both (inl one) (inr two) = inr (extended_renewed one two)
+  log_both (inr one) (inl two) = inr (renewed_extended one two)
+  log_both (inr one) (inr two) = inr (both_renewed one two)
+
+module _ (functions : Functions) {D R : Type 0} (state : D → State) (sound : (d : D) → IsHonest (state d) → IsSound (state d)) (old mid new : Session D R) (w : World) (p : Progress)
+    (first : IsAfter functions state old mid w p) (honest : (state mid.disk).honest ≡ (state old.disk).honest) where
+  pub after_both : (q : Progress) → IsAfter functions state mid new p.world q → IsAfter functions state old new w (onward p q)
   after_both q second = record {
     left = second.left;
-    half = second.half ∙ first.half;
-    generation = second.generation ∙ first.generation;
-    record_count = count_both q.taken new.record_count second.record_count;
-    size = size_both q.taken new.size second.size;
-    fits = let first_fits = first.fits in let second_fits = second.fits in let limit = first.limit in omega arith;
+    records = after-append functions w p.world p.taken q.taken first.records ∙ second.records;
     limit = second.limit ∙ first.limit;
     macros = second.macros ∙ first.macros;
-    described = described_both q.taken second.described;
-    other = other_both second.other;
     failures = second.failures ∙ first.failures;
-    untouched = λ is. let none = none_of_both p.taken q.taken is in second.untouched none.1 ∙ first.untouched none.0;
+    log = log_both functions state sound old mid new w p.world p.taken q.taken first.records first.limit honest first.log second.log;
   }
 
 module _ (functions : Functions) where
@@ -132,7 +191,7 @@ module _ (functions : Functions) where
     advance_both n k q is second = record {
       far_is = forms_onward n m k w mode text p q is first.far_is second.far_is;
       lines = writes_both a b c p.lines q.lines first.lines second.lines;
-      after = after_both state sound old mid new p first.after honest q second.after;
+      after = after_both functions state sound old mid new w p first.after honest q second.after;
       survives = survive_with q.taken (length q.taken) (length (p.taken ++ q.taken)) (length-append p.taken q.taken) second.survives;
     }
 
@@ -143,51 +202,60 @@ module _ (functions : Functions) where
       all = let all = ends.all in omega arith;
       no_part = ends.no_part;
       nothing_left = ends.nothing_left;
-      after = after_both state sound old mid new p first.after honest far ends.after;
+      after = after_both functions state sound old mid new w p first.after honest far ends.after;
     }
     ends_both forms far lines answered part (Reader number) ends = record {
       all = let all = ends.all in omega arith;
       place = ends.place;
       reads = ends.reads;
       line = ends.line;
-      after = after_both state sound old mid new p first.after honest far ends.after;
+      after = after_both functions state sound old mid new w p first.after honest far ends.after;
     }
     ends_both forms far lines answered part (Store number) (inl stopped) = inl (record {
       device = stopped.device;
       one_open = let one = stopped.one_open in omega arith;
-      was_accepted =
-          let one = stopped.was_accepted in let all = length-append p.taken far.taken in let known = length-append p.taken answered.taken in omega arith;
       no_part = stopped.no_part;
-      unknown = stopped.unknown;
-      half = stopped.half ∙ first.after.half;
-      generation = stopped.generation ∙ first.after.generation;
-      record_count = count_both state sound old mid new p first.after honest answered.taken new.record_count stopped.record_count;
-      size = size_both state sound old mid new p first.after honest answered.taken new.size stopped.size;
-      fits = fits_both state sound old mid new p first.after honest far.taken stopped.fits;
-      limit = stopped.limit ∙ first.after.limit;
-      macros = stopped.macros ∙ first.after.macros;
-      other = other_both state sound old mid new p first.after honest stopped.other;
-      failures = stopped.failures ∙ ap (λ n. n + 1) first.after.failures;
+      mid = stopped.mid;
+      before = after_both functions state sound old mid stopped.mid w p first.after honest answered stopped.before;
+      record_ = stopped.record_;
+      was_accepted = ap (λ l. p.taken ++ l) stopped.was_accepted ∙ sym (append_assoc p.taken answered.taken (stopped.record_ ∷ []));
+      fits = stopped.fits;
+      failed = stopped.failed;
     })
-    ends_both forms far lines answered part (Store number) (inr (inl full)) = inr (inl (record {
+    ends_both forms far lines answered part (Store number) (inr (inl stopped)) = inr (inl (record {
+      device = stopped.device;
+      all = let all = stopped.all in omega arith;
+      no_part = stopped.no_part;
+      mid = stopped.mid;
+      before = after_both functions state sound old mid stopped.mid w p first.after honest far stopped.before;
+      fits = stopped.fits;
+      failed = stopped.failed;
+    }))
+    ends_both forms far lines answered part (Store number) (inr (inr (inl full))) = inr (inr (inl (record {
       full = full.full;
       all = let all = full.all in omega arith;
       no_part = full.no_part;
       next = full.next;
-      next_is = full.next_is;
-      record_ = full.record_;
-      is_taken = full.is_taken;
-      over = full.over;
-      after = after_both state sound old mid new p first.after honest far full.after;
-    }))
-    ends_both forms far lines answered part (Store number) (inr (inr (inl unread))) = inr (inr (inl (record {
+      alone = full.alone;
+      only_text = full.only_text;
+      after = after_both functions state sound old mid new w p first.after honest far full.after;
+    })))
+    ends_both forms far lines answered part (Store number) (inr (inr (inr (inl large)))) = inr (inr (inr (inl (record {
+      large = large.large;
+      all = let all = large.all in omega arith;
+      no_part = large.no_part;
+      next = large.next;
+      why = large.why;
+      after = after_both functions state sound old mid new w p first.after honest far large.after;
+    }))))
+    ends_both forms far lines answered part (Store number) (inr (inr (inr (inr (inl unread))))) = inr (inr (inr (inr (inl (record {
       input = unread.input;
       all = let all = unread.all in omega arith;
       no_part = unread.no_part;
       more = unread.more;
-      after = after_both state sound old mid new p first.after honest far unread.after;
-    })))
-    ends_both forms far lines answered part (Store number) (inr (inr (inr (inl unwritten)))) = inr (inr (inr (inl (record {
+      after = after_both functions state sound old mid new w p first.after honest far unread.after;
+    })))))
+    ends_both forms far lines answered part (Store number) (inr (inr (inr (inr (inr (inl unwritten)))))) = inr (inr (inr (inr (inr (inl (record {
       output = unwritten.output;
       unwritten = unwritten.unwritten;
       some_left = unwritten.some_left;
@@ -197,13 +265,13 @@ module _ (functions : Functions) where
           ∙ ap (λ t. p.lines ++ t) (append_assoc answered.lines part unwritten.unwritten)
           ∙ sym (append_assoc p.lines answered.lines (part ++ unwritten.unwritten))
           ∙ sym (append_assoc (p.lines ++ answered.lines) part unwritten.unwritten);
-      after = after_both state sound old mid new p first.after honest far unwritten.after;
-    }))))
-    ends_both forms far lines answered part (Store number) (inr (inr (inr (inr out)))) = inr (inr (inr (inr (record {
+      after = after_both functions state sound old mid new w p first.after honest far unwritten.after;
+    }))))))
+    ends_both forms far lines answered part (Store number) (inr (inr (inr (inr (inr (inr out)))))) = inr (inr (inr (inr (inr (inr (record {
       memory = out.memory;
       no_part = out.no_part;
-      after = after_both state sound old mid new p first.after honest far out.after;
-    }))))
+      after = after_both functions state sound old mid new w p first.after honest far out.after;
+    }))))))
 
     -- some forms, and how the session ended after them
     unfoldable pub serve_both : (ending : Ending) → Serves functions state mid new p.world mode p.rest b c ending → Serves functions state old new w mode text a c ending

@@ -6,7 +6,7 @@ use Rattle.disk_trait.specs.Half.{opposite_of}
 use Rattle.gate_log.specs.Layout.{Entry}
 use Rattle.lisp_object.specs.Object.{Object}
 use Rattle.lisp_object.specs.Datum.{object_of, is_proper}
-use Rattle.lisp_object.specs.declared.refusal.TheConstants.{INPUT, OUTPUT, NO_MEMORY}
+use Rattle.lisp_object.specs.declared.refusal.TheConstants.{DEVICE, INPUT, LOG_FULL, OUTPUT, NO_MEMORY}
 use Rattle.form_eval.specs.Acceptance.{accept}
 use Rattle.form_eval.specs.Outcomes.{Done, Outcome as Evaluation}
 use Rattle.form_eval.specs.Evaluated.{IsArgument, done as done_of}
@@ -20,16 +20,18 @@ use Rattle.prevalence_store.specs.declared.failure.Failure.TheVariants.{Refused,
 use Rattle.prevalence_store.specs.declared.mode.Mode.{Mode}
 use Rattle.prevalence_store.specs.declared.outcome.Ending.{Ending}
 use Rattle.prevalence_store.specs.declared.outcome.Ending.TheVariants.{End, Reader, Store}
-use Rattle.prevalence_store.specs.Acceptance.{between, logged, read_in, records_of}
+use Rattle.prevalence_store.specs.Acceptance.{after, between, logged, read_in, records_of}
 use Rattle.prevalence_store.specs.Causes.{is_device, IsCause}
 use Rattle.prevalence_store.specs.Execution.{DeviceFails, Stores, SurvivesAs, acknowledged_in, taken_in}
 use Rattle.prevalence_store.specs.Output.{Progress, after_forms, begun, evaluated, last_line, one_form, onward, refusal_line, value_line}
-use Rattle.prevalence_store.specs.Serving.{Advances, Ends, IsAfter, Serves, room_of}
+use Rattle.prevalence_store.specs.Serving.{Advances, Ends, IsAfter, IsOver, Serves}
 use Rattle.gate_log.specs.Place.{HalvesValue}
 use Rattle.prevalence_store.specs.Session.{Session, Describes, session_of}
-use Rattle.prevalence_store.proofs.Executing.{world_inside}
+use Rattle.prevalence_store.proofs.Committing.{accepts-logged}
+use Rattle.prevalence_store.proofs.Executing.{own_whole, world_inside}
+use Rattle.prevalence_store.proofs.Replaying.{stepped}
 use Rattle.prevalence_store.specs.Streams.{Writes, WritesPart}
-use Rattle.prevalence_store.specs.Turns.{AnswersFault, AnswersForm, IsLine, IsLineOf, IsStop}
+use Rattle.prevalence_store.specs.Turns.{AnswersFault, AnswersForm, IsLine, IsLineOf, IsStop, TriesForm}
 use Rattle.prevalence_store.proofs.LeftAlone.{alone_still}
 use Rattle.prevalence_store.proofs.Surviving.{fewer_survive, unchanged_survives}
 use Rattle.prevalence_store.specs.Functions.{Functions}
@@ -75,21 +77,24 @@ module _ (functions : Functions) where
   module _ {D R : Type 0} (state : D → State) (sound : (d : D) → IsHonest (state d) → IsSound (state d)) (old new : Session D R) (w : World) (mode : Mode) (text : List ℕ) (held written : Option (List ℕ))
       (known : old.world ≡ Some w) where
     -- nothing was taken
-    pub after_none : (rest lines : List ℕ) → new ≡ old → IsAfter state old new (record { world = w; rest = rest; taken = []; lines = lines })
+    pub after_none : (rest lines : List ℕ) → new ≡ old → IsAfter functions state old new w (record { world = w; rest = rest; taken = []; lines = lines })
     after_none rest lines same =
-        subst (λ (s : Session D R). IsAfter state old s (record { world = w; rest = rest; taken = []; lines = lines })) (sym same) (record {
+        subst (λ (s : Session D R). IsAfter functions state old s w (record { world = w; rest = rest; taken = []; lines = lines })) (sym same) (record {
           left = known;
-          half = refl;
-          generation = refl;
-          record_count = omega arith;
-          size = omega arith;
-          fits = omega arith;
+          records = refl;
           limit = refl;
           macros = refl;
-          described = λ k claims told. subst (λ entries. Describes old (record k { entries = entries }) (state old.disk).reads) (sym (append-nil k.entries)) told;
-          other = λ honest. alone_still (opposite_of old.half) (state old.disk) (sound old.disk honest);
           failures = refl;
-          untouched = λ is. refl;
+          log = inl (record {
+            half = refl;
+            generation = refl;
+            record_count = omega arith;
+            size = omega arith;
+            fits = omega arith;
+            described = λ k claims told. subst (λ entries. Describes old (record k { entries = entries }) (state old.disk).reads) (sym (append-nil k.entries)) told;
+            other = λ honest. alone_still (opposite_of old.half) (state old.disk) (sound old.disk honest);
+            untouched = λ is. refl;
+          });
         })
 
     unfoldable pub nothing : (ending : Ending) (part : List ℕ) → new ≡ old → Writes held written part
@@ -111,7 +116,7 @@ module _ (functions : Functions) where
 
     pub no_memory : new ≡ old → written ≡ held → Serves functions state old new w mode text held written (Store NO_MEMORY)
     no_memory same quiet = nothing (Store NO_MEMORY) [] same (writes_nothing held written quiet)
-        (inr (inr (inr (inr (record { memory = refl; no_part = refl; after = after_none text [] same })))))
+        (inr (inr (inr (inr (inr (inr (record { memory = refl; no_part = refl; after = after_none text [] same })))))))
 
     pub done : new ≡ old → written ≡ held → empty ≡ read_in functions w mode text → Serves functions state old new w mode text held written End
     done same quiet is = nothing End [] same (writes_nothing held written quiet)
@@ -119,7 +124,7 @@ module _ (functions : Functions) where
 
     pub unread : (number : ℕ) → number ≡ INPUT → MayGoOn text (read_in functions w mode text) → new ≡ old → written ≡ held → Serves functions state old new w mode text held written (Store number)
     unread number is more same quiet = nothing (Store number) [] same (writes_nothing held written quiet)
-        (inr (inr (inl (record { input = is; all = refl; no_part = refl; more = more; after = after_none text [] same }))))
+        (inr (inr (inr (inr (inl (record { input = is; all = refl; no_part = refl; more = more; after = after_none text [] same }))))))
 
     -- the reader refused what the text begins with
     unfoldable pub fault_answered : (number place : ℕ) → read_in functions w mode text ≡ refused number place → new ≡ old → (ending : Ending) → AnswersFault number held written ending
@@ -131,10 +136,10 @@ module _ (functions : Functions) where
     fault_answered number place is same (Store code) (inl full) =
         let part = part_of held written (refusal_line number) (λ none. absurd (cc)) full.1 in
         nothing (Store code) part.0 same part.4
-        (inr (inr (inr (inl (record { output = full.0; unwritten = part.1; some_left = part.3; front = ap last_line is ∙ part.2; after = after_none text [] same })))))
+        (inr (inr (inr (inr (inr (inl (record { output = full.0; unwritten = part.1; some_left = part.3; front = ap last_line is ∙ part.2; after = after_none text [] same })))))))
     fault_answered number place is same (Store code) (inr memory) =
         nothing (Store code) [] same (writes_nothing held written memory.1)
-        (inr (inr (inr (inr (record { memory = memory.0; no_part = refl; after = after_none text [] same })))))
+        (inr (inr (inr (inr (inr (inr (record { memory = memory.0; no_part = refl; after = after_none text [] same })))))))
 
   -- ---- what `take_form` says
 
@@ -142,7 +147,7 @@ module _ (functions : Functions) where
     pub accepted : (w : World) → old.world ≡ Some w → IfOk answer (λ e. (given : World) × (accept functions.names w x ≡ Ok (done_of e given)) × Stores state old new e.wrote mode own given)
     pub cause : (w : World) → old.world ≡ Some w → IfErr answer (IsCause (accept functions.names w x) old.size old.limit (length own))
     pub unchanged : IfErr answer (λ e. is_device e ≡ false → new ≡ old)
-    pub fault : IfErr answer (λ e. is_device e ≡ true → DeviceFails state old new)
+    pub fault : IfErr answer (λ e. is_device e ≡ true → DeviceFails state old new (opposite_of old.half))
     pub survives : (w : World) → SurvivesAs functions state old new w (taken_in mode own answer) (acknowledged_in mode own answer)
 
   stores_left : {D R : Type 0} (state : D → State) (old new : Session D R) (wrote : Bool) (mode : Mode) (own : List ℕ) (given : World) → Stores state old new wrote mode own given → new.world ≡ Some given
@@ -162,26 +167,40 @@ module _ (functions : Functions) where
     one_is : (given : Evaluation Object) → accept functions.names w x ≡ given → after_forms functions 1 w mode text ≡ Some (evaluated w mode own (drop next text) given)
     one_is given valued = after_one_form w mode text _ (one_read given valued)
 
-    after_stores : (e : Evaluated) (given : World) → Stores state old new e.wrote mode own given → IsAfter state old new (evaluated w mode own (drop next text) (Ok (done_of e given)))
-    after_stores e given stores = by_wrote e.wrote stores where
+    -- its record makes the world that it left
+    record_makes : (d : Done Object) → accept functions.names w x ≡ Ok d → after functions w (logged mode own ∷ []) ≡ Some d.state
+    record_makes d valued =
+        let whole : read_in functions w mode own ≡ form x 0 (length own) (length own) =
+        subst (λ t. read_in functions w mode t ≡ form x 0 (length t) (length t)) (sym own_is) (own_whole functions w mode text x start stop next is) in
+        ap (stepped functions []) (accepts-logged functions w mode own x d whole valued)
+
+    after_stores : (e : Evaluated) (given : World) → accept functions.names w x ≡ Ok (done_of e given) → Stores state old new e.wrote mode own given
+        → IsAfter functions state old new w (evaluated w mode own (drop next text) (Ok (done_of e given)))
+    after_stores e given valued stores = by_wrote e.wrote stores where
       by_wrote : (wrote : Bool) → Stores state old new wrote mode own given
-          → IsAfter state old new (record { world = given; rest = drop next text; taken = records_of wrote mode own; lines = value_line given (object_of e.value) })
+          → IsAfter functions state old new w (record { world = given; rest = drop next text; taken = records_of wrote mode own; lines = value_line given (object_of e.value) })
       by_wrote true logs = record {
         left = logs.left;
-        half = logs.half;
-        generation = logs.generation;
-        record_count = logs.record_count;
-        size = let size = logs.size in omega arith;
-        fits = let fits = logs.fits in omega arith;
+        records = record_makes (done_of e given) valued;
         limit = logs.limit;
         macros = logs.macros;
-        described = logs.described;
-        other = logs.other;
         failures = logs.failures;
-        untouched = λ none. absurd (cc);
+        log = inl (record {
+          half = logs.half;
+          generation = logs.generation;
+          record_count = logs.record_count;
+          size = let size = logs.size in omega arith;
+          fits = let fits = logs.fits in omega arith;
+          described = logs.described;
+          other = logs.other;
+          untouched = λ none. absurd (cc);
+        });
       }
       by_wrote false same =
-          after_none state sound old new given mode text held written (ap (λ (s : Session D R). s.world) (sym same.0) ∙ same.1) (drop next text) (value_line given (object_of e.value)) same.0
+          let left : Some w ≡ Some given = sym known ∙ sym (ap (λ (s : Session D R). s.world) same.0) ∙ same.1 in
+          let here : w ≡ given = cc in
+          subst (λ v. IsAfter functions state old new w (record { world = v; rest = drop next text; taken = []; lines = value_line given (object_of e.value) })) here
+          (after_none state sound old new w mode text held written known (drop next text) (value_line given (object_of e.value)) same.0)
 
     -- the form is answered, and the session goes on
     pub form_answered : (answer : Result Evaluated Failure) (line : List ℕ) → IsAnswerOf state old new mode own x answer → IsLine new answer line
@@ -192,7 +211,7 @@ module _ (functions : Functions) where
           record {
             far_is = one_is (Ok (done_of e given.0)) given.1;
             lines = subst (λ l. Writes held written l) (value_lines new e line given.0 (stores_left state old new e.wrote mode own given.0 given.2) is_line) writes;
-            after = after_stores e given.0 given.2;
+            after = after_stores e given.0 given.1 given.2;
             survives = of.survives w;
           },
         )
@@ -233,71 +252,57 @@ module _ (functions : Functions) where
     unwritten_front : (lines line : List ℕ) (front rest more : List ℕ) → line ≡ lines → line ≡ front ++ rest → lines ++ more ≡ front ++ (rest ++ more)
     unwritten_front lines line front rest more same parts = ap (λ t. t ++ more) (sym same ∙ parts) ∙ append_assoc front rest more
 
-    pub form_unwritten : (answer : Result Evaluated Failure) (line : List ℕ) → IsAnswerOf state old new mode own x answer → IsLine new answer line
+    line_unwritten : (answer : Result Evaluated Failure) (line : List ℕ) → IsAnswerOf state old new mode own x answer → IsLine new answer line
         → WritesPart held written line → Serves functions state old new w mode text held written (Store OUTPUT)
-    form_unwritten (Ok e) line of is_line writes =
+    line_unwritten (Ok e) line of is_line writes =
         let given = of.accepted w known in
         let same_line = value_lines new e line given.0 (stores_left state old new e.wrote mode own given.0 given.2) is_line in
         let part = part_of held written line (some_line (value_line given.0 (object_of e.value)) line same_line (some_last (printed given.0.packages given.0.current_package (object_of e.value)) 10)) writes in
         let far : Progress = evaluated w mode own (drop next text) (Ok (done_of e given.0)) in
         taken_only far part.0 (Store OUTPUT) (length (records_of e.wrote mode own)) (one_is (Ok (done_of e given.0)) given.1) part.4 (of.survives w)
-        (inr (inr (inr (inl (record {
+        (inr (inr (inr (inr (inr (inl (record {
           output = refl;
           unwritten = part.1 ++ last_line (read_in functions far.world mode far.rest);
           some_left = some_first part.1 (last_line (read_in functions far.world mode far.rest)) part.3;
           front = unwritten_front far.lines line part.0 part.1 (last_line (read_in functions far.world mode far.rest)) same_line part.2;
-          after = after_stores e given.0 given.2;
-        })))))
-    form_unwritten (Err (Refused number)) line of is_line writes =
+          after = after_stores e given.0 given.1 given.2;
+        })))))))
+    line_unwritten (Err (Refused number)) line of is_line writes =
         let same = of.unchanged refl in
         let part = part_of held written line (some_line (refusal_line number) line is_line.line_of (λ none. absurd (cc))) writes in
         let far : Progress = evaluated w mode own (drop next text) (Err number) in
         taken_only far part.0 (Store OUTPUT) 0 (one_is (Err number) (of.cause w known)) part.4 (unchanged_survives functions state sound old new w same)
-        (inr (inr (inr (inl (record {
+        (inr (inr (inr (inr (inr (inl (record {
           output = refl;
           unwritten = part.1 ++ last_line (read_in functions far.world mode far.rest);
           some_left = some_first part.1 (last_line (read_in functions far.world mode far.rest)) part.3;
           front = unwritten_front far.lines line part.0 part.1 (last_line (read_in functions far.world mode far.rest)) is_line.line_of part.2;
           after = after_none state sound old new w mode text held written known (drop next text) (refusal_line number) same;
-        })))))
-    form_unwritten (Err Full) line of is_line writes = absurd is_line.line_of
-    form_unwritten (Err DeviceFault) line of is_line writes = absurd is_line.line_of
-    form_unwritten (Err OutOfMemory) line of is_line writes = absurd is_line.line_of
+        })))))))
+    line_unwritten (Err Full) line of is_line writes = absurd is_line.line_of
+    line_unwritten (Err DeviceFault) line of is_line writes = absurd is_line.line_of
+    line_unwritten (Err OutOfMemory) line of is_line writes = absurd is_line.line_of
 
     -- there is no line
     out_of_memory : (number : ℕ) → number ≡ NO_MEMORY → new ≡ old → written ≡ held → Serves functions state old new w mode text held written (Store number)
     out_of_memory number memory same quiet =
         nothing state sound old new w mode text held written known (Store number) [] same (writes_nothing held written quiet)
-        (inr (inr (inr (inr (record { memory = memory; no_part = refl; after = after_none state sound old new w mode text held written known text [] same })))))
+        (inr (inr (inr (inr (inr (inr (record { memory = memory; no_part = refl; after = after_none state sound old new w mode text held written known text [] same })))))))
 
     records_written : (wrote : Bool) → wrote ≡ true → records_of wrote mode own ≡ logged mode own ∷ []
     records_written wrote wrote_is = ap (λ b. records_of b mode own) wrote_is
 
-    pub form_stops : (answer : Result Evaluated Failure) (number : ℕ) → IsAnswerOf state old new mode own x answer → IsStop answer number → written ≡ held
+    stops_in : (answer : Result Evaluated Failure) (number : ℕ) → IsAnswerOf state old new mode own x answer → IsStop answer number → number ≢ LOG_FULL → written ≡ held
         → Serves functions state old new w mode text held written (Store number)
-    form_stops (Ok e) number of stop quiet =
+    stops_in (Ok e) number of stop other quiet =
         let given = of.accepted w known in
         taken_only (evaluated w mode own (drop next text) (Ok (done_of e given.0))) [] (Store number) (length (records_of e.wrote mode own)) (one_is (Ok (done_of e given.0)) given.1)
         (writes_nothing held written quiet) (of.survives w)
-        (inr (inr (inr (inr (record { memory = stop; no_part = refl; after = after_stores e given.0 given.2 })))))
-    form_stops (Err (Refused code)) number of stop quiet = out_of_memory number stop (of.unchanged refl) quiet
-    form_stops (Err OutOfMemory) number of stop quiet = out_of_memory number stop (of.unchanged refl) quiet
-    form_stops (Err Full) number of stop quiet =
-        let why = of.cause w known in
-        let same = of.unchanged refl in
-        nothing state sound old new w mode text held written known (Store number) [] same (writes_nothing held written quiet)
-        (inr (inl (record {
-          full = stop;
-          all = refl;
-          no_part = refl;
-          next = evaluated w mode own (drop next text) (Ok why.0.0);
-          next_is = one_read (Ok why.0.0) why.0.1;
-          record_ = logged mode own;
-          is_taken = records_written why.0.0.wrote why.0.2;
-          over = subst (λ (s : Session D R). s.limit < s.size + (6 + length own)) (sym same) why.1;
-          after = after_none state sound old new w mode text held written known text [] same;
-        })))
-    form_stops (Err DeviceFault) number of stop quiet =
+        (inr (inr (inr (inr (inr (inr (record { memory = stop; no_part = refl; after = after_stores e given.0 given.1 given.2 })))))))
+    stops_in (Err (Refused code)) number of stop other quiet = out_of_memory number stop (of.unchanged refl) quiet
+    stops_in (Err OutOfMemory) number of stop other quiet = out_of_memory number stop (of.unchanged refl) quiet
+    stops_in (Err Full) number of stop other quiet = absurd (other stop)
+    stops_in (Err DeviceFault) number of stop other quiet =
         let why = of.cause w known in
         let failed = of.fault refl in
         let taken = records_written why.0.0.wrote why.0.2 in
@@ -306,19 +311,48 @@ module _ (functions : Functions) where
         (inl (record {
           device = stop;
           one_open = refl;
-          was_accepted = ap length taken;
           no_part = refl;
-          unknown = failed.unknown;
-          half = failed.half;
-          generation = failed.generation;
-          record_count = let count = failed.record_count in omega arith;
-          size = let size = failed.size in omega arith;
-          fits = subst (λ (es : List Entry). old.size + room_of es ≤ old.limit) (sym taken) (let fits = why.1 in omega arith);
-          limit = failed.limit;
-          macros = failed.macros;
-          other = failed.other;
-          failures = failed.failures;
+          mid = old;
+          before = after_none state sound old old w mode text held held known text [] refl;
+          record_ = logged mode own;
+          was_accepted = taken;
+          fits = why.1;
+          failed = failed;
         }))
+
+    over_in : (answer : Result Evaluated Failure) (number : ℕ) → IsAnswerOf state old new mode own x answer → IsStop answer number → number ≡ LOG_FULL → IsOver functions old w mode text
+    over_in (Ok e) number of stop full = absurd (omega arith)
+    over_in (Err (Refused code)) number of stop full = absurd (omega arith)
+    over_in (Err OutOfMemory) number of stop full = absurd (omega arith)
+    over_in (Err DeviceFault) number of stop full = absurd (omega arith)
+    over_in (Err Full) number of stop full =
+        let why = of.cause w known in
+        record {
+          next = evaluated w mode own (drop next text) (Ok why.0.0);
+          next_is = one_read (Ok why.0.0) why.0.1;
+          record_ = logged mode own;
+          is_taken = records_written why.0.0.wrote why.0.2;
+          over = why.1;
+        }
+
+    -- there is no line: the form has no room, or it has ended the session
+    pub form_stops : (answer : Result Evaluated Failure) (number : ℕ) → IsAnswerOf state old new mode own x answer → IsStop answer number → written ≡ held
+        → TriesForm functions state old new w mode text held written (Err number)
+    form_stops answer number of stop quiet = (over_in answer number of stop, λ other. stops_in answer number of stop other quiet)
+
+    -- the writer failed
+    pub form_unwritten : (answer : Result Evaluated Failure) (line : List ℕ) → IsAnswerOf state old new mode own x answer → IsLine new answer line
+        → WritesPart held written line → TriesForm functions state old new w mode text held written (Err OUTPUT)
+    form_unwritten answer line of is_line writes = (λ full. absurd (omega arith), λ other. line_unwritten answer line of is_line writes)
+
+  -- with the number 64 nothing was done
+  pub full_unchanged : {D R : Type 0} (old new : Session D R) (answer : Result Evaluated Failure) (number : ℕ) → IfErr answer (λ e. is_device e ≡ false → new ≡ old) → IsStop answer number
+      → number ≡ LOG_FULL → new ≡ old
+  full_unchanged old new (Ok e) number same stop full = absurd (omega arith)
+  full_unchanged old new (Err (Refused code)) number same stop full = same refl
+  full_unchanged old new (Err OutOfMemory) number same stop full = same refl
+  full_unchanged old new (Err DeviceFault) number same stop full = absurd (omega arith)
+  full_unchanged old new (Err Full) number same stop full = same refl
 
   -- what is answered is proper
   pub answer_proper : {D R : Type 0} (state : D → State) (old new : Session D R) (w : World) (mode : Mode) (own : List ℕ) (x : Object) (answer : Result Evaluated Failure)

@@ -2,6 +2,7 @@
 use Rattle.std.specs.Prelude.{Bool, true, false, ◌≡◌, ◌⊎◌, ℕ, ◌+◌, ◌<◌, ◌≤◌, List, [], ◌∷◌, length, None, Some, Result, Ok, Err}
 use Rattle.disk_trait.specs.Disk.{Image, State, IsHonest}
 use Rattle.disk_trait.specs.Half.{opposite_of}
+use Rattle.disk_trait.specs.declared.half.Half.{Half}
 use Rattle.gate_log.specs.Layout.{Contents, Entry, with_entry}
 use Rattle.gate_log.specs.Log as gated
 use Rattle.lisp_object.specs.Object.{Object}
@@ -14,7 +15,7 @@ use Rattle.prevalence_store.specs.declared.failure.Failure.{Failure}
 use Rattle.prevalence_store.specs.declared.failure.Failure.TheVariants as failure
 use Rattle.prevalence_store.specs.declared.mode.Mode.{Mode}
 use Rattle.prevalence_store.specs.declared.outcome.Outcome.{Outcome}
-use Rattle.prevalence_store.specs.declared.outcome.Outcome.TheVariants.{Accepted, Refused}
+use Rattle.prevalence_store.specs.declared.outcome.Outcome.TheVariants.{Accepted, Snapshotted, Refused}
 use Rattle.prevalence_store.specs.Acceptance.{Acceptance, accepts, logged, records_of}
 use Rattle.prevalence_store.specs.LeftAlone.{LeavesAlone}
 use Rattle.prevalence_store.specs.Session.{Session, Describes}
@@ -65,7 +66,7 @@ module _ {D R : Type 0} (state : D → State) (old new : Session D R) where
   Stores false mode text world = (new ≡ old) × (new.world ≡ Some world)
 
   -- The device failed in the call. Nothing is known of the world until the store is opened again.
-  pub record DeviceFails : Type 0 where
+  pub record DeviceFails (alone : Half) : Type 0 where
     pub unknown : new.world ≡ None
     pub half : new.half ≡ old.half
     pub generation : new.generation ≡ old.generation
@@ -73,7 +74,8 @@ module _ {D R : Type 0} (state : D → State) (old new : Session D R) where
     pub size : new.size ≡ old.size
     pub limit : new.limit ≡ old.limit
     pub macros : new.macros ≡ old.macros
-    pub other : IsHonest (state old.disk) → LeavesAlone (opposite_of old.half) (state old.disk) (state new.disk)
+    -- this half was left alone
+    pub other : IsHonest (state old.disk) → LeavesAlone alone (state old.disk) (state new.disk)
     pub failures : (state new.disk).failures ≡ (state old.disk).failures + 1
 
 -- ---- what became of a text, in the world that the store had
@@ -117,7 +119,7 @@ module _ (functions : Functions) {D R : Type 0} (state : D → State) (old new :
       pub accepted : accepts functions world mode text ≡ Ok given
       pub wrote : given.wrote ≡ true
       pub fits : old.size + (6 + length given.text) ≤ old.limit
-      pub failed : DeviceFails state old new
+      pub failed : DeviceFails state old new (opposite_of old.half)
       pub survives : SurvivesAs world (logged mode given.text ∷ []) 0
 
     -- a growth was refused
@@ -128,14 +130,17 @@ module _ (functions : Functions) {D R : Type 0} (state : D → State) (old new :
 
     abbrev pub Executes : Outcome → Type 0
     Executes (Accepted value) = IsAccepted (object_of value)
+    Executes Snapshotted = ⊥
     Executes (Refused number) = IsTurnedDown number ⊎ (HasNoRoom number ⊎ (IsFault number ⊎ HasNoMemory number))
 
 -- A value that is answered is proper: its numbers are in range, its ratios in lowest terms, its bytes below 128.
 abbrev pub IsProperOutcome : Outcome → Type 0
 IsProperOutcome (Accepted value) = is_proper value ≡ true
+IsProperOutcome Snapshotted = Unit {0}
 IsProperOutcome (Refused number) = Unit {0}
 
 -- And it may be stored in the world that the form left: its symbols are there. So it can be printed there, and read back.
 abbrev pub IsValueIn : World → Outcome → Type 0
 IsValueIn world (Accepted value) = IsArgument world.packages value
+IsValueIn world Snapshotted = Unit {0}
 IsValueIn world (Refused number) = Unit {0}

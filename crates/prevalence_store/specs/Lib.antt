@@ -9,10 +9,12 @@ pub mod Session
 pub mod Causes
 pub mod LeftAlone
 pub mod Execution
+pub mod Snapshots
 pub mod Opening
 pub mod Output
 pub mod Streams
 pub mod Serving
+pub mod Runs
 -- how the code answers it
 pub mod Pending
 pub mod Turns

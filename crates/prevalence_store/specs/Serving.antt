@@ -1,22 +1,25 @@
 -- How a session goes, and how it ends: one relation, with a case for each ending.
-use Rattle.std.specs.Prelude.{◌≡◌, ◌≢◌, ◌⊎◌, ℕ, ◌+◌, ◌<◌, ◌≤◌, max, List, [], ◌∷◌, ◌++◌, length, Option, None, Some}
+use Rattle.std.specs.Prelude.{◌≡◌, ◌≢◌, ◌⊎◌, ℕ, zero, suc, ◌+◌, ◌<◌, ◌≤◌, max, List, [], ◌∷◌, ◌++◌, length, Option, None, Some}
 use Rattle.std.specs.List.{sum_by}
 use Rattle.disk_trait.specs.Disk.{State, IsHonest}
 use Rattle.disk_trait.specs.Half.{opposite_of}
+use Rattle.disk_trait.specs.declared.half.Half.{Half}
 use Rattle.gate_log.specs.Layout.{Contents, Entry}
-use Rattle.lisp_object.specs.declared.refusal.TheConstants.{DEVICE, LOG_FULL, INPUT, OUTPUT, NO_MEMORY}
+use Rattle.lisp_object.specs.declared.refusal.TheConstants.{DEVICE, LOG_FULL, SNAPSHOT_TOO_LARGE, INPUT, OUTPUT, NO_MEMORY}
 use Rattle.prevalence_store.specs.declared.mode.Mode.{Mode}
 use Rattle.prevalence_store.specs.declared.outcome.Ending.{Ending}
 use Rattle.prevalence_store.specs.declared.outcome.Ending.TheVariants.{End, Reader, Store}
-use Rattle.prevalence_store.specs.Acceptance.{read_in}
-use Rattle.prevalence_store.specs.Execution.{SurvivesAs}
+use Rattle.prevalence_store.specs.Acceptance.{after, read_in}
+use Rattle.prevalence_store.specs.Execution.{DeviceFails, SurvivesAs}
 use Rattle.prevalence_store.specs.LeftAlone.{LeavesAlone}
 use Rattle.prevalence_store.specs.Output.{Progress, after_forms, last_line, one_form, refusal_line}
 use Rattle.form_reader.specs.Reader.{MayGoOn}
 use Rattle.form_reader.specs.Reading.{empty, refused}
 use Rattle.prevalence_store.specs.Session.{Session, Describes}
+use Rattle.prevalence_store.specs.Snapshots.{IsTooLarge}
 use Rattle.prevalence_store.specs.Streams.{Writes}
 use Rattle.plist_state.specs.State.{State as World}
+use Rattle.snapshot_text.specs.Snapshot.{snapshot}
 use Rattle.prevalence_store.specs.Functions.{Functions}
 
 -- the contents with these records more
@@ -27,25 +30,68 @@ with_entries k entries = record k { entries = k.entries ++ entries }
 abbrev pub room_of : List Entry → ℕ
 room_of = sum_by (λ entry. 6 + length entry.text)
 
+-- the half in use after so many snapshots
+abbrev pub turned : ℕ → Half → Half
+turned zero half = half
+turned (suc snapshots) half = opposite_of (turned snapshots half)
+
+-- what a half holds that was begun with the text of a world, so many generations after these contents, and these records after it
+abbrev pub renewed : Contents → ℕ → World → List Entry → Contents
+renewed k snapshots first entries = record { version = 1; generation = k.generation + snapshots; snapshot = snapshot first; entries = entries }
+
 module _ {D R : Type 0} (state : D → State) (old new : Session D R) where
-  -- The device has not failed: the world, the records and the size are those after these forms, on an honest disk in the files too.
-  pub record IsAfter (far : Progress) : Type 0 where
-    pub left : new.world ≡ Some far.world
+  -- No snapshot was taken: the half that was in use has these records more.
+  pub record IsExtended (taken : List Entry) : Type 0 where
     pub half : new.half ≡ old.half
     pub generation : new.generation ≡ old.generation
-    pub record_count : new.record_count ≡ old.record_count + length far.taken
-    pub size : new.size ≡ old.size + room_of far.taken
+    pub record_count : new.record_count ≡ old.record_count + length taken
+    pub size : new.size ≡ old.size + room_of taken
     -- each record had room
     pub fits : new.size ≤ max old.size old.limit
-    pub limit : new.limit ≡ old.limit
-    pub macros : new.macros ≡ old.macros
     pub described : (k : Contents) → IsHonest (state old.disk) → Describes old k (state old.disk).reads
-        → Describes new (with_entries k far.taken) (state new.disk).reads
+        → Describes new (with_entries k taken) (state new.disk).reads
     -- the half that is not in use is left alone
     pub other : IsHonest (state old.disk) → LeavesAlone (opposite_of old.half) (state old.disk) (state new.disk)
-    pub failures : (state new.disk).failures ≡ (state old.disk).failures
     -- forms that leave no record leave all as it was, the disk too
-    pub untouched : far.taken ≡ [] → new ≡ old
+    pub untouched : taken ≡ [] → new ≡ old
+
+  -- Snapshots were taken, the last of them after the earlier of these records: the half in use is the text of the world that
+  -- they left, and the later records.
+  pub record IsRenewed (functions : Functions) (world : World) (taken : List Entry) : Type 0 where
+    pub snapshots : ℕ
+    pub some : 1 ≤ snapshots
+    pub earlier : List Entry
+    pub later : List Entry
+    pub parts : taken ≡ earlier ++ later
+    pub first : World
+    pub first_is : after functions world earlier ≡ Some first
+    pub half : new.half ≡ turned snapshots old.half
+    pub generation : new.generation ≡ old.generation + snapshots
+    pub record_count : new.record_count ≡ length later
+    pub size : new.size ≡ 16 + length (snapshot first) + room_of later
+    -- the text and each record had room
+    pub fits : new.size ≤ old.limit
+    pub described : (k : Contents) → IsHonest (state old.disk) → Describes old k (state old.disk).reads
+        → Describes new (renewed k snapshots first later) (state new.disk).reads
+
+module _ (functions : Functions) {D R : Type 0} (state : D → State) (old new : Session D R) (world : World) where
+  -- The device has not failed: the world and the log are those after these forms, on an honest disk in the files too.
+  pub record IsAfter (far : Progress) : Type 0 where
+    pub left : new.world ≡ Some far.world
+    -- the records make this world
+    pub records : after functions world far.taken ≡ Some far.world
+    pub limit : new.limit ≡ old.limit
+    pub macros : new.macros ≡ old.macros
+    pub failures : (state new.disk).failures ≡ (state old.disk).failures
+    pub log : IsExtended state old new far.taken ⊎ IsRenewed state old new functions world far.taken
+
+-- The form that this text begins with is accepted in this world, and the half would pass its limit by its record.
+pub record IsOver (functions : Functions) {D R : Type 0} (session : Session D R) (world : World) (mode : Mode) (text : List ℕ) : Type 0 where
+  pub next : Progress
+  pub next_is : one_form functions world mode text (read_in functions world mode text) ≡ Some next
+  pub record_ : Entry
+  pub is_taken : next.taken ≡ record_ ∷ []
+  pub over : session.limit < session.size + (6 + length record_.text)
 
 module _ (functions : Functions) {D R : Type 0} (state : D → State) (old new : Session D R) where
   module _ (world : World) (mode : Mode) (text : List ℕ) (held written : Option (List ℕ)) where
@@ -53,7 +99,7 @@ module _ (functions : Functions) {D R : Type 0} (state : D → State) (old new :
     pub record Advances (forms : ℕ) (far : Progress) : Type 0 where
       pub far_is : after_forms functions forms world mode text ≡ Some far
       pub lines : Writes held written far.lines
-      pub after : IsAfter state old new far
+      pub after : IsAfter functions state old new world far
       pub survives : SurvivesAs functions state old new world far.taken (length far.taken)
 
     -- ---- how a session ends: the forms that were taken, those whose lines were written whole, and the part of the next line
@@ -64,7 +110,7 @@ module _ (functions : Functions) {D R : Type 0} (state : D → State) (old new :
         pub all : lines ≡ forms
         pub no_part : part ≡ []
         pub nothing_left : read_in functions far.world mode far.rest ≡ empty
-        pub after : IsAfter state old new far
+        pub after : IsAfter functions state old new world far
 
       -- the reader refused what is left, and that was answered
       pub record IsRefused (number : ℕ) : Type 0 where
@@ -72,37 +118,52 @@ module _ (functions : Functions) {D R : Type 0} (state : D → State) (old new :
         pub place : ℕ
         pub reads : read_in functions far.world mode far.rest ≡ refused number place
         pub line : part ≡ refusal_line number
-        pub after : IsAfter state old new far
+        pub after : IsAfter functions state old new world far
 
-      -- the device failed in the last form, which was accepted; it was not answered, and nothing is known of the world
+      -- The device failed in the last form, which was accepted and had room for its record; it was not answered, and nothing is
+      -- known of the world.
       pub record IsStopped (number : ℕ) : Type 0 where
         pub device : number ≡ DEVICE
         pub one_open : forms ≡ lines + 1
-        pub was_accepted : length far.taken ≡ length answered.taken + 1
         pub no_part : part ≡ []
-        pub unknown : new.world ≡ None
-        pub half : new.half ≡ old.half
-        pub generation : new.generation ≡ old.generation
-        pub record_count : new.record_count ≡ old.record_count + length answered.taken
-        pub size : new.size ≡ old.size + room_of answered.taken
-        -- its record had room
-        pub fits : old.size + room_of far.taken ≤ old.limit
-        pub limit : new.limit ≡ old.limit
-        pub macros : new.macros ≡ old.macros
-        pub other : IsHonest (state old.disk) → LeavesAlone (opposite_of old.half) (state old.disk) (state new.disk)
-        pub failures : (state new.disk).failures ≡ (state old.disk).failures + 1
+        -- the store as that form was taken
+        pub mid : Session D R
+        pub before : IsAfter functions state old mid world answered
+        pub record_ : Entry
+        pub was_accepted : far.taken ≡ answered.taken ++ record_ ∷ []
+        pub fits : mid.size + (6 + length record_.text) ≤ mid.limit
+        pub failed : DeviceFails state mid new (opposite_of mid.half)
 
-      -- the next form is accepted in that world, and has no room
+      -- The device failed in a snapshot, for which there was a half; all forms were answered, and nothing is known of the world.
+      pub record IsStoppedInSnapshot (number : ℕ) : Type 0 where
+        pub device : number ≡ DEVICE
+        pub all : lines ≡ forms
+        pub no_part : part ≡ []
+        -- the store as the snapshot was begun
+        pub mid : Session D R
+        pub before : IsAfter functions state old mid world far
+        pub fits : IsTooLarge mid far.world → ⊥
+        pub failed : DeviceFails state mid new mid.half
+
+      -- The next form is accepted in that world, and has no room; nor has it in a half that holds nothing but the text of it,
+      -- as this one does.
       pub record IsFull (number : ℕ) : Type 0 where
         pub full : number ≡ LOG_FULL
         pub all : lines ≡ forms
         pub no_part : part ≡ []
-        pub next : Progress
-        pub next_is : one_form functions far.world mode far.rest (read_in functions far.world mode far.rest) ≡ Some next
-        pub record_ : Entry
-        pub is_taken : next.taken ≡ record_ ∷ []
-        pub over : new.limit < new.size + (6 + length record_.text)
-        pub after : IsAfter state old new far
+        pub next : IsOver functions new far.world mode far.rest
+        pub alone : new.record_count ≡ 0
+        pub only_text : new.size ≡ 16 + length (snapshot far.world)
+        pub after : IsAfter functions state old new world far
+
+      -- the next form is accepted in that world, and has no room, and there is no half for a snapshot of it
+      pub record IsTooLargeToRenew (number : ℕ) : Type 0 where
+        pub large : number ≡ SNAPSHOT_TOO_LARGE
+        pub all : lines ≡ forms
+        pub no_part : part ≡ []
+        pub next : IsOver functions new far.world mode far.rest
+        pub why : IsTooLarge new far.world
+        pub after : IsAfter functions state old new world far
 
       -- a read failed
       pub record IsUnread (number : ℕ) : Type 0 where
@@ -111,7 +172,7 @@ module _ (functions : Functions) {D R : Type 0} (state : D → State) (old new :
         pub no_part : part ≡ []
         -- more was needed: no form of what was read is left unanswered
         pub more : MayGoOn far.rest (read_in functions far.world mode far.rest)
-        pub after : IsAfter state old new far
+        pub after : IsAfter functions state old new world far
 
       -- a write failed, or took nothing: the lines so far are the first part of what was to be written
       pub record IsUnwritten (number : ℕ) : Type 0 where
@@ -119,19 +180,20 @@ module _ (functions : Functions) {D R : Type 0} (state : D → State) (old new :
         pub unwritten : List ℕ
         pub some_left : unwritten ≢ []
         pub front : far.lines ++ last_line (read_in functions far.world mode far.rest) ≡ answered.lines ++ part ++ unwritten
-        pub after : IsAfter state old new far
+        pub after : IsAfter functions state old new world far
 
       -- a growth was refused
       pub record IsOutOfMemory (number : ℕ) : Type 0 where
         pub memory : number ≡ NO_MEMORY
         pub no_part : part ≡ []
-        pub after : IsAfter state old new far
+        pub after : IsAfter functions state old new world far
 
       abbrev pub Ends : Ending → Type 0
       Ends End = IsDone
       Ends (Reader number) = IsRefused number
       Ends (Store number) =
-          IsStopped number ⊎ (IsFull number ⊎ (IsUnread number ⊎ (IsUnwritten number ⊎ IsOutOfMemory number)))
+          IsStopped number ⊎ (IsStoppedInSnapshot number ⊎ (IsFull number ⊎ (IsTooLargeToRenew number
+          ⊎ (IsUnread number ⊎ (IsUnwritten number ⊎ IsOutOfMemory number)))))
 
     -- A session over this text: its first forms were taken, each read in the world that the ones before it left, in this mode,
     -- and logged by its own text where it was accepted. Each was answered before the next was taken.

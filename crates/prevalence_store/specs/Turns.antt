@@ -1,5 +1,5 @@
 -- One turn of a session: what one byte more comes to.
-use Rattle.std.specs.Prelude.{◌≡◌, ◌⊎◌, ℕ, ◌<◌, List, [], ◌∷◌, ◌++◌, length, Option, None, Some, Ok, Err, Result}
+use Rattle.std.specs.Prelude.{◌≡◌, ◌≢◌, ◌⊎◌, ℕ, ◌<◌, Bool, List, [], ◌∷◌, ◌++◌, length, Option, None, Some, Ok, Err, Result}
 use Rattle.disk_trait.specs.Disk.{State}
 use Rattle.lisp_object.specs.Object.{Object}
 use Rattle.lisp_object.specs.Datum.{object_of}
@@ -17,8 +17,9 @@ use Rattle.prevalence_store.specs.declared.outcome.Ending.TheVariants.{End, Read
 use Rattle.prevalence_store.specs.Acceptance.{between, read_in}
 use Rattle.prevalence_store.specs.Output.{Progress, after_forms, refusal_line, value_line}
 use Rattle.prevalence_store.specs.Pending.{IsPending}
-use Rattle.prevalence_store.specs.Serving.{Advances, Serves, StaysRefused}
+use Rattle.prevalence_store.specs.Serving.{Advances, IsOver, Serves, StaysRefused}
 use Rattle.prevalence_store.specs.Session.{Session}
+use Rattle.prevalence_store.specs.Snapshots.{HasNoHalf, HasNoSnapshotMemory, IsSnapshotFault, IsSnapshotted}
 use Rattle.prevalence_store.specs.Streams.{Writes, WritesPart}
 use Rattle.plist_state.specs.State.{State as World}
 use Rattle.prevalence_store.specs.Functions.{Functions}
@@ -37,6 +38,31 @@ module _ (functions : Functions) {D R : Type 0} (state : D → State) (old new :
   abbrev pub AnswersForm : List ℕ → Option (List ℕ) → Option (List ℕ) → Option ℕ → Type 0
   AnswersForm text held written None = (far : Progress) × Advances functions state old new world mode text held written 1 far
   AnswersForm text held written (Some number) = Serves functions state old new world mode text held written (Store number)
+
+  -- The form that the text begins with was answered; or it has no room, and nothing was done; or the session has ended in it,
+  -- with this number.
+  abbrev pub TriesForm : List ℕ → Option (List ℕ) → Option (List ℕ) → Result Bool ℕ → Type 0
+  TriesForm text held written (Ok wrote) = (far : Progress) × Advances functions state old new world mode text held written 1 far
+  TriesForm text held written (Err number) =
+      (number ≡ LOG_FULL → IsOver functions old world mode text)
+      × (number ≢ LOG_FULL → Serves functions state old new world mode text held written (Store number))
+
+-- ---- a snapshot in a session
+
+module _ (functions : Functions) {D R : Type 0} (state : D → State) (old new : Session D R) (world : World) where
+  -- it was taken, or it was refused with this number
+  abbrev pub Renewing : Result Unit ℕ → Type 0
+  Renewing (Ok done) = IsSnapshotted functions state old new world
+  Renewing (Err number) =
+      HasNoHalf functions state old new world number
+      ⊎ (IsSnapshotFault functions state old new world number ⊎ HasNoSnapshotMemory functions state old new world number)
+
+  -- After a form that was answered: it was taken, or it was not, and nothing was done; or it has ended the session, with this
+  -- number.
+  abbrev pub RenewsInTurn : Option ℕ → Type 0
+  RenewsInTurn None = IsSnapshotted functions state old new world ⊎ (new ≡ old)
+  RenewsInTurn (Some number) =
+      IsSnapshotFault functions state old new world number ⊎ HasNoSnapshotMemory functions state old new world number
 
 -- A reader refusal ends the session: its line was written, or the writer failed in it, or there was no memory for it.
 abbrev pub AnswersFault : ℕ → Option (List ℕ) → Option (List ℕ) → Ending → Type 0

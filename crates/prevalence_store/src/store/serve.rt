@@ -3,27 +3,28 @@ ghost use Rattle.std.specs.Prelude.{◌≡◌, ◌≤◌, ◌<◌, ◌+◌, ◌^
 ghost use Rattle.std.specs.List.{list_all};
 ghost use Rattle.lisp_object.specs.Object.{IsSound};
 ghost use Rattle.lisp_object.specs.Datum.{object_of, is_proper};
-ghost use Rattle.lisp_object.specs.declared.refusal.TheConstants.{REOPEN};
+ghost use Rattle.lisp_object.specs.declared.refusal.TheConstants.{LOG_FULL, REOPEN};
 ghost use Rattle.readtable_core.specs.Names.{is_among};
 ghost use Rattle.plist_state.specs.State.{State as LispWorld};
 ghost use Rattle.form_reader.specs.Reader.{fed};
 ghost use Rattle.prevalence_store.specs.Functions.{functions_of};
 ghost use Rattle.prevalence_store.specs.Pending.{IsPending, IsSoundFed, Feeds, Finishes};
-ghost use Rattle.prevalence_store.specs.Serving.{Serves, ServesInput};
+ghost use Rattle.prevalence_store.specs.Serving.{IsOver, Serves, ServesInput};
 ghost use Rattle.prevalence_store.specs.Streams.{Writes, WritesPart};
-ghost use Rattle.prevalence_store.specs.Turns.{Answers, AnswersFault, AnswersForm, BeginsWith, IsLine, IsStop, TurnsInto};
+ghost use Rattle.prevalence_store.specs.Turns.{Answers, AnswersFault, AnswersForm, BeginsWith, IsLine, IsStop, Renewing, RenewsInTurn, TriesForm, TurnsInto};
 
 use crate::failure::Failure;
 use crate::input::{Fed, Pending};
 use crate::mode::Mode;
-use crate::outcome::Ending;
+use crate::outcome::{Ending, Outcome};
 use crate::output::{OutputFault, line_of_answer, line_of_refusal, write_text};
+use crate::schedule::Schedule;
 use crate::store::Store;
 use crate::turn::Turn;
 use disk_trait::Disk;
 use form_eval::Evaluated;
 use lisp_object::Datum;
-use lisp_object::refusal::{INPUT, NO_MEMORY, OUTPUT, REOPEN};
+use lisp_object::refusal::{INPUT, LOG_FULL, NO_MEMORY, OUTPUT, REOPEN, SNAPSHOT_TOO_LARGE};
 use std::alloc::AllocError;
 use std::io::{Read, Write};
 use user_macros::MacroFunctions;
@@ -39,10 +40,22 @@ impl<D: Disk, R: MacroFunctions> Store<D, R> {
     /// it, before the next read; what is kept of the input is what the form that is open needs. The writer is flushed after
     /// each line; where only that fails, the session goes on, since the line was taken.
     ///
-    /// Ends with `Store` and, in this order: 61 at once after an earlier device fault; 64 where the half has no room for a
-    /// record; 60 where the device failed; 67 where a read failed, or after 2^40 reads; 68 where a write failed or took
-    /// nothing; 90 where a growth was refused. Of these nothing is written.
-    pub fn serve<I: Read, W: Write>(&mut self, reader: &mut I, writer: &mut W, mode: Mode) -> Ending
+    /// Where the half has no room for the record of a form, it takes one snapshot and tries the form once more. After every
+    /// `snapshot_every` forms that were logged since it began, their answers written, it takes a snapshot; never where that is
+    /// 0. One of these for which there is no half is passed over. The contract says what is left by snapshots that were taken,
+    /// and that none would have made room where it ends with 64; when others are taken is shown by tests alone.
+    ///
+    /// Ends with `Store` and, in this order: 61 at once after an earlier device fault; 64 where a half that holds nothing but
+    /// the text of the world has no room for a record; 65 where a record has no room, and there is no half for a snapshot; 60
+    /// where the device failed; 67 where a read failed, or after 2^40 reads; 68 where a write failed or took nothing; 90 where
+    /// a growth was refused. Of these nothing is written.
+    pub fn serve<I: Read, W: Write>(
+        &mut self,
+        reader: &mut I,
+        writer: &mut W,
+        mode: Mode,
+        snapshot_every: u64,
+    ) -> Ending
         requires answers { R.answers self.old.macros }
         requires whole { list_all (is_among (R.registered self.old.macros)) R.Meaning.names ≡ true }
         ensures reopen { self.old.world ≡ None → (result ≡ Ending.Store REOPEN) × (self.new ≡ self.old)
@@ -57,6 +70,7 @@ impl<D: Disk, R: MacroFunctions> Store<D, R> {
             return Ending::Store(REOPEN);
         }
         let mut pending = Pending::new(self.alloc);
+        let mut schedule = Schedule::new(snapshot_every);
         let mut buffer = [0u8; 4096];
         let mut reads = 0;
         'reads: while reads < MOST_READS {
@@ -66,10 +80,10 @@ impl<D: Disk, R: MacroFunctions> Store<D, R> {
                 Err(_) => return Ending::Store(INPUT),
             };
             if count == 0 {
-                return self.answer_end(pending, writer, mode);
+                return self.answer_end(pending, writer, mode, &mut schedule);
             }
             let piece = &buffer[..count];
-            match self.answer_piece(&mut pending, writer, mode, piece) {
+            match self.answer_piece(&mut pending, writer, mode, &mut schedule, piece) {
                 Some(ending) => return ending,
                 None => {}
             }
@@ -83,6 +97,7 @@ impl<D: Disk, R: MacroFunctions> Store<D, R> {
         pending: &mut Pending,
         writer: &mut W,
         mode: Mode,
+        schedule: &mut Schedule,
         piece: &[u8],
     ) -> Option<Ending>
         requires answers { R.answers self.old.macros }
@@ -100,7 +115,7 @@ impl<D: Disk, R: MacroFunctions> Store<D, R> {
         ensures macros { self.new.macros ≡ self.old.macros }
     {
         'bytes: for byte in piece {
-            match self.answer_byte(pending, writer, mode, *byte) {
+            match self.answer_byte(pending, writer, mode, schedule, *byte) {
                 Some(ending) => return Some(ending),
                 None => {}
             }
@@ -114,6 +129,7 @@ impl<D: Disk, R: MacroFunctions> Store<D, R> {
         pending: &mut Pending,
         writer: &mut W,
         mode: Mode,
+        schedule: &mut Schedule,
         byte: u8,
     ) -> Option<Ending>
         requires answers { R.answers self.old.macros }
@@ -130,10 +146,10 @@ impl<D: Disk, R: MacroFunctions> Store<D, R> {
         ensures honest { (D.state self.new.disk).honest ≡ (D.state self.old.disk).honest }
         ensures macros { self.new.macros ≡ self.old.macros }
     {
-        match self.turn(pending, writer, mode, byte) {
+        match self.turn(pending, writer, mode, schedule, byte) {
             Turn::Taken => None,
             Turn::Ended(ending) => Some(ending),
-            Turn::Left => match self.turn(pending, writer, mode, byte) {
+            Turn::Left => match self.turn(pending, writer, mode, schedule, byte) {
                 Turn::Taken => None,
                 Turn::Ended(ending) => Some(ending),
                 Turn::Left => None,
@@ -147,6 +163,7 @@ impl<D: Disk, R: MacroFunctions> Store<D, R> {
         pending: &mut Pending,
         writer: &mut W,
         mode: Mode,
+        schedule: &mut Schedule,
         byte: u8,
     ) -> Turn
         requires answers { R.answers self.old.macros }
@@ -171,7 +188,7 @@ impl<D: Disk, R: MacroFunctions> Store<D, R> {
             Fed::Nothing => Turn::Taken,
             Fed::Refused(code) => Turn::Ended(self.answer_fault(writer, code)),
             Fed::Form { datum, own, left } => {
-                match self.answer_form(writer, mode, &datum, own.as_slice()) {
+                match self.answer_form(writer, mode, schedule, &datum, own.as_slice()) {
                     Some(number) => Turn::Ended(Ending::Store(number)),
                     None => { if left { Turn::Left } else { Turn::Taken } }
                 }
@@ -197,7 +214,13 @@ impl<D: Disk, R: MacroFunctions> Store<D, R> {
     }
 
     // Answers what is pending at the end of the input.
-    fn answer_end<W: Write>(&mut self, pending: Pending, writer: &mut W, mode: Mode) -> Ending
+    fn answer_end<W: Write>(
+        &mut self,
+        pending: Pending,
+        writer: &mut W,
+        mode: Mode,
+        schedule: &mut Schedule,
+    ) -> Ending
         requires answers { R.answers self.old.macros }
         requires whole { list_all (is_among (R.registered self.old.macros)) R.Meaning.names ≡ true }
         requires known { IsSome self.old.world }
@@ -219,7 +242,7 @@ impl<D: Disk, R: MacroFunctions> Store<D, R> {
             Fed::Nothing => Ending::End,
             Fed::Refused(code) => self.answer_fault(writer, code),
             Fed::Form { datum, own, .. } => {
-                match self.answer_form(writer, mode, &datum, own.as_slice()) {
+                match self.answer_form(writer, mode, schedule, &datum, own.as_slice()) {
                     Some(number) => Ending::Store(number),
                     None => Ending::End,
                 }
@@ -257,12 +280,13 @@ impl<D: Disk, R: MacroFunctions> Store<D, R> {
         }
     }
 
-    // Evaluates a form that was read, logs it where it writes, and answers it. Gives the number of the fault that ends the
-    // session in it.
+    // Answers a form that was read, and takes a snapshot where one is due after it. Where the half has no room for the form, it
+    // takes a snapshot, and tries once more. Gives the number of the fault that ends the session in it.
     fn answer_form<W: Write>(
         &mut self,
         writer: &mut W,
         mode: Mode,
+        schedule: &mut Schedule,
         datum: &Datum,
         own: &[u8],
     ) -> Option<u16>
@@ -275,19 +299,118 @@ impl<D: Disk, R: MacroFunctions> Store<D, R> {
             → BeginsWith (functions_of R.Meaning.names R.Meaning.way R.Meaning.answer) w mode text (object_of datum.now) own.now next
             → AnswersForm (functions_of R.Meaning.names R.Meaning.way R.Meaning.answer) D.state self.old self.new w mode
             text (W.contents writer.old) (W.contents writer.new) result }
-        ensures known { IsNone result → IsSome self.new.world }
+        ensures honest { (D.state self.new.disk).honest ≡ (D.state self.old.disk).honest }
+        ensures macros { self.new.macros ≡ self.old.macros }
+    {
+        match self.try_form(writer, mode, datum, own) {
+            Ok(wrote) => self.renew_in_turn(schedule, wrote),
+            Err(number) => {
+                if number != LOG_FULL {
+                    return Some(number);
+                }
+                self.answer_again(writer, mode, schedule, datum, own)
+            }
+        }
+    }
+
+    // Takes a snapshot, as the half has no room for the form, and tries once more.
+    fn answer_again<W: Write>(
+        &mut self,
+        writer: &mut W,
+        mode: Mode,
+        schedule: &mut Schedule,
+        datum: &Datum,
+        own: &[u8],
+    ) -> Option<u16>
+        requires known { IsSome self.old.world }
+        requires read { (w : LispWorld) → self.old.world ≡ Some w → (text : List ℕ) × ((next : ℕ)
+            × BeginsWith (functions_of R.Meaning.names R.Meaning.way R.Meaning.answer) w mode text (object_of datum.now) own.now next) }
+        requires proper { is_proper datum.now ≡ true }
+        requires sound { IsSound (object_of datum.now) }
+        ensures answers { (w : LispWorld) → self.old.world ≡ Some w → (text : List ℕ) (next : ℕ)
+            → BeginsWith (functions_of R.Meaning.names R.Meaning.way R.Meaning.answer) w mode text (object_of datum.now) own.now next
+            → IsOver (functions_of R.Meaning.names R.Meaning.way R.Meaning.answer) self.old w mode text
+            → AnswersForm (functions_of R.Meaning.names R.Meaning.way R.Meaning.answer) D.state self.old self.new w mode
+            text (W.contents writer.old) (W.contents writer.new) result }
+        ensures honest { (D.state self.new.disk).honest ≡ (D.state self.old.disk).honest }
+        ensures macros { self.new.macros ≡ self.old.macros }
+    {
+        if let Err(number) = self.renew() {
+            return Some(number);
+        }
+        match self.try_form(writer, mode, datum, own) {
+            Ok(wrote) => self.renew_in_turn(schedule, wrote),
+            Err(number) => Some(number),
+        }
+    }
+
+    // Evaluates a form that was read, logs it where it writes, and answers it. Gives whether it was logged, or the number of
+    // the fault that ends the session in it; with 64 nothing was done.
+    fn try_form<W: Write>(
+        &mut self,
+        writer: &mut W,
+        mode: Mode,
+        datum: &Datum,
+        own: &[u8],
+    ) -> Result<bool, u16>
+        requires known { IsSome self.old.world }
+        requires read { (w : LispWorld) → self.old.world ≡ Some w → (text : List ℕ) × ((next : ℕ)
+            × BeginsWith (functions_of R.Meaning.names R.Meaning.way R.Meaning.answer) w mode text (object_of datum.now) own.now next) }
+        requires proper { is_proper datum.now ≡ true }
+        requires sound { IsSound (object_of datum.now) }
+        ensures tries { (w : LispWorld) → self.old.world ≡ Some w → (text : List ℕ) (next : ℕ)
+            → BeginsWith (functions_of R.Meaning.names R.Meaning.way R.Meaning.answer) w mode text (object_of datum.now) own.now next
+            → TriesForm (functions_of R.Meaning.names R.Meaning.way R.Meaning.answer) D.state self.old self.new w mode
+            text (W.contents writer.old) (W.contents writer.new) result }
+        ensures unchanged { IfErr result (λ number. number ≡ LOG_FULL → self.new ≡ self.old) }
+        ensures quiet { IfErr result (λ number. number ≡ LOG_FULL → W.contents writer.new ≡ W.contents writer.old) }
+        ensures known { OnOk result (IsSome self.new.world) }
         ensures honest { (D.state self.new.disk).honest ≡ (D.state self.old.disk).honest }
         ensures macros { self.new.macros ≡ self.old.macros }
     {
         self.world.soundness();
+        let before = self.record_count();
         let answer = self.take_form(mode, datum, own);
         let line = match self.line(&answer) {
             Ok(line) => line,
-            Err(number) => return Some(number),
+            Err(number) => return Err(number),
         };
         match write_line(writer, line.as_slice()) {
+            Ok(()) => Ok(self.record_count() > before),
+            Err(_) => Err(OUTPUT),
+        }
+    }
+
+    // Takes a snapshot where one is due after a form that was answered. One for which there is no half is passed over. Gives
+    // the number of the fault that ends the session in it.
+    fn renew_in_turn(&mut self, schedule: &mut Schedule, wrote: bool) -> Option<u16>
+        requires known { IsSome self.old.world }
+        ensures renews { (w : LispWorld) → self.old.world ≡ Some w
+            → RenewsInTurn (functions_of R.Meaning.names R.Meaning.way R.Meaning.answer) D.state self.old self.new w result }
+        ensures honest { (D.state self.new.disk).honest ≡ (D.state self.old.disk).honest }
+        ensures macros { self.new.macros ≡ self.old.macros }
+    {
+        if !wrote || !schedule.count() {
+            return None;
+        }
+        match self.renew() {
             Ok(()) => None,
-            Err(_) => Some(OUTPUT),
+            Err(SNAPSHOT_TOO_LARGE) => None,
+            Err(number) => Some(number),
+        }
+    }
+
+    // Takes a snapshot, or gives the number of its refusal.
+    fn renew(&mut self) -> Result<(), u16>
+        requires known { IsSome self.old.world }
+        ensures renews { (w : LispWorld) → self.old.world ≡ Some w
+            → Renewing (functions_of R.Meaning.names R.Meaning.way R.Meaning.answer) D.state self.old self.new w result }
+        ensures honest { (D.state self.new.disk).honest ≡ (D.state self.old.disk).honest }
+        ensures macros { self.new.macros ≡ self.old.macros }
+    {
+        match self.snapshot() {
+            Outcome::Refused(number) => Err(number),
+            Outcome::Accepted(_) | Outcome::Snapshotted => Ok(()),
         }
     }
 }

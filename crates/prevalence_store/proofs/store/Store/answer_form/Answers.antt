@@ -1,75 +1,29 @@
-use Rattle.std.proofs.Common.{refl, subst}
-use Rattle.lisp_object.specs.Datum.{object_of}
-use Rattle.plist_state.specs.Sound.{IsSound}
-use Rattle.plist_state.specs.State.{State as World}
+use Rattle.std.proofs.Common.{Some, ap, subst, sym, ◌∙◌}
 use Rattle.prevalence_store.specs.Functions.{functions_of}
-use Rattle.prevalence_store.specs.Streams.{Writes, WritesPart}
-use Rattle.prevalence_store.proofs.Executing.{known_world, world_inside}
-use Rattle.prevalence_store.proofs.Pendings.{begins_fits, begins_whole, begins_within}
-use Rattle.prevalence_store.proofs.Turning.{answer_proper, form_answered, form_stops, form_unwritten, line_known}
+use Rattle.prevalence_store.specs.Serving.{IsOver}
+use Rattle.prevalence_store.specs.Session.{Session}
+use Rattle.prevalence_store.proofs.Renewing.{answers_from, turn_after}
 use Rattle.prevalence_store.proofs.store.Store.answer_form.Goals as goal
 
-pub take_form-answer-requires-clause-fits : goal.take_form-answer-requires-clause-fits
-take_form-answer-requires-clause-fits g c = λ w known.
+pub returns-in-Ok-clause-answers : goal.returns-in-Ok-clause-answers
+returns-in-Ok-clause-answers g c = λ w known text next begins.
     let functions = functions_of g.R.Meaning.Meaning.names g.R.Meaning.Meaning.way g.R.Meaning.Meaning.answer in
-    let b = c.requires.read w known in
-    let inside = c.self.inside in
-    let same = world_inside inside.failed inside.log inside.world.0 w inside.macros c.args.self.now c.self.view_is known in
-    begins_fits functions w c.args.mode b.0 (object_of c.args.datum.now) c.args.own.now b.1.0 b.1.1 (subst (λ (v : World). IsSound v) same c.soundness.ensures.present)
+    turn_after functions g.D.Disk.state g.met.D.Disk.sound c.args.self.now c.try_form.new.self c.renew_in_turn.new.self w c.args.mode text
+    (g.W.Write.contents c.args.writer.now) (g.W.Write.contents c.try_form.new.writer) c.try_form.ensures.honest
+    c.in-Ok.wrote (c.in-Ok.ensures.tries w known text next begins) c.renew_in_turn.result c.renew_in_turn.ensures.renews
 
-pub take_form-answer-requires-clause-within : goal.take_form-answer-requires-clause-within
-take_form-answer-requires-clause-within g c =
+pub returns-then-number-ne-LOG_FULL-clause-answers : goal.returns-then-number-ne-LOG_FULL-clause-answers
+returns-then-number-ne-LOG_FULL-clause-answers g c = λ w known text next begins.
+    (c.in-Err.ensures.tries w known text next begins).1 c.if-number-ne-LOG_FULL.true
+
+pub returns-else-number-ne-LOG_FULL-clause-answers : goal.returns-else-number-ne-LOG_FULL-clause-answers
+returns-else-number-ne-LOG_FULL-clause-answers g c = λ w known text next begins.
     let functions = functions_of g.R.Meaning.Meaning.names g.R.Meaning.Meaning.way g.R.Meaning.Meaning.answer in
-    let here = known_world c.args.self.now.world c.requires.known in
-    let b = c.requires.read here.0 here.1 in
-    begins_within functions here.0 c.args.mode b.0 (object_of c.args.datum.now) c.args.own.now b.1.0 b.1.1
-
-pub take_form-answer-requires-clause-whole : goal.take_form-answer-requires-clause-whole
-take_form-answer-requires-clause-whole g c = λ w known.
-    let functions = functions_of g.R.Meaning.Meaning.names g.R.Meaning.Meaning.way g.R.Meaning.Meaning.answer in
-    let b = c.requires.read w known in
-    begins_whole functions w c.args.mode b.0 (object_of c.args.datum.now) c.args.own.now b.1.0 b.1.1
-
-pub line-requires : goal.line-requires
-line-requires g c = record {
-  proper =
-      let functions = functions_of g.R.Meaning.Meaning.names g.R.Meaning.Meaning.way g.R.Meaning.Meaning.answer in
-      let here = known_world c.args.self.now.world c.requires.known in
-      let e = c.take_form-answer.ensures in
-      answer_proper functions g.D.Disk.state c.args.self.now c.take_form-answer.new.self here.0 c.args.mode c.args.own.now (object_of c.args.datum.now) c.take_form-answer.result
-      (record { accepted = e.accepted; cause = e.cause; unchanged = e.unchanged; fault = e.fault; survives = e.survives }) here.1 e.argument;
-}
-
-pub returns-in-Err-clause-answers : goal.returns-in-Err-clause-answers
-returns-in-Err-clause-answers g c = λ w known text next begins.
-    let functions = functions_of g.R.Meaning.Meaning.names g.R.Meaning.Meaning.way g.R.Meaning.Meaning.answer in
-    let e = c.take_form-answer.ensures in
-    form_stops functions g.D.Disk.state g.met.D.Disk.sound c.args.self.now c.take_form-answer.new.self w c.args.mode text (g.W.Write.contents c.args.writer.now) (g.W.Write.contents c.args.writer.now)
-    known begins.start begins.stop next (object_of c.args.datum.now) begins.reads c.args.own.now begins.is_own c.take_form-answer.result c.in-Err.number
-    (record { accepted = e.accepted; cause = e.cause; unchanged = e.unchanged; fault = e.fault; survives = e.survives }) c.in-Err.ensures.stop refl
-
-pub returns-in-Ok-write_line-clause-answers : goal.returns-in-Ok-write_line-clause-answers
-returns-in-Ok-write_line-clause-answers g c = λ w known text next begins.
-    let functions = functions_of g.R.Meaning.Meaning.names g.R.Meaning.Meaning.way g.R.Meaning.Meaning.answer in
-    let e = c.take_form-answer.ensures in
-    form_answered functions g.D.Disk.state g.met.D.Disk.sound c.args.self.now c.take_form-answer.new.self w c.args.mode text (g.W.Write.contents c.args.writer.now) (g.W.Write.contents c.write_line.new.writer)
-    known begins.start begins.stop next (object_of c.args.datum.now) begins.reads c.args.own.now begins.is_own c.take_form-answer.result c.in-Ok.line.items
-    (record { accepted = e.accepted; cause = e.cause; unchanged = e.unchanged; fault = e.fault; survives = e.survives }) c.in-Ok.ensures.line
-    (subst (Writes (g.W.Write.contents c.args.writer.now) (g.W.Write.contents c.write_line.new.writer)) c.as_slice.ensures.value c.in-Ok-write_line.ensures.whole)
-
-pub returns-in-Ok-write_line-clause-known : goal.returns-in-Ok-write_line-clause-known
-returns-in-Ok-write_line-clause-known g c = λ none.
-    let functions = functions_of g.R.Meaning.Meaning.names g.R.Meaning.Meaning.way g.R.Meaning.Meaning.answer in
-    let here = known_world c.args.self.now.world c.requires.known in
-    let e = c.take_form-answer.ensures in
-    line_known functions g.D.Disk.state c.args.self.now c.take_form-answer.new.self here.0 c.args.mode c.args.own.now (object_of c.args.datum.now) c.take_form-answer.result c.in-Ok.line.items
-    (record { accepted = e.accepted; cause = e.cause; unchanged = e.unchanged; fault = e.fault; survives = e.survives }) c.in-Ok.ensures.line here.1
-
-pub returns-clause-answers : goal.returns-clause-answers
-returns-clause-answers g c = λ w known text next begins.
-    let functions = functions_of g.R.Meaning.Meaning.names g.R.Meaning.Meaning.way g.R.Meaning.Meaning.answer in
-    let e = c.take_form-answer.ensures in
-    form_unwritten functions g.D.Disk.state g.met.D.Disk.sound c.args.self.now c.take_form-answer.new.self w c.args.mode text (g.W.Write.contents c.args.writer.now) (g.W.Write.contents c.write_line.new.writer)
-    known begins.start begins.stop next (object_of c.args.datum.now) begins.reads c.args.own.now begins.is_own c.take_form-answer.result c.in-Ok.line.items
-    (record { accepted = e.accepted; cause = e.cause; unchanged = e.unchanged; fault = e.fault; survives = e.survives }) c.in-Ok.ensures.line
-    (subst (WritesPart (g.W.Write.contents c.args.writer.now) (g.W.Write.contents c.write_line.new.writer)) c.as_slice.ensures.value c.in-Err-write_line.ensures.part)
+    let full = c.if-number-ne-LOG_FULL.false in
+    let same = c.in-Err.ensures.unchanged full in
+    let over = (c.in-Err.ensures.tries w known text next begins).0 full in
+    answers_from functions g.D.Disk.state c.args.self.now c.try_form.new.self c.answer_again.new.self w c.args.mode text
+    (g.W.Write.contents c.args.writer.now) (g.W.Write.contents c.try_form.new.writer) (g.W.Write.contents c.answer_again.new.writer) c.answer_again.result
+    same (c.in-Err.ensures.quiet full)
+    (c.answer_again.ensures.answers w (ap (λ (s : Session g.row.D.Denot g.row.R.Denot). s.world) same ∙ known) text next begins
+    (subst (λ (s : Session g.row.D.Denot g.row.R.Denot). IsOver functions s w c.args.mode text) (sym same) over))
