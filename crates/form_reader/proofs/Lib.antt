@@ -36,5 +36,7 @@ pub mod TokenFaults
 pub mod Faults
 pub mod TextEnds
 pub mod Deciding
+pub mod Waiting
+pub mod Registered
 pub mod Discardings
 pub mod Dependings
