@@ -8,7 +8,6 @@ use Rattle.token_meaning.specs.Results.{scan_refusal_number}
 use Rattle.lisp_object.specs.declared.refusal.TheConstants.{FORM_TOO_LONG}
 use Rattle.lisp_object.specs.Object.{Object}
 use Rattle.readtable_core.specs.Tables.{Table}
-use Rattle.form_reader.specs.declared.found.Found.TheVariants.{One as one}
 use Rattle.form_reader.specs.declared.limits.Limits.{Limits}
 use Rattle.form_reader.specs.Plans.{Plan, Read, Fault, gives, refuses, takes, scans, run, limited, scanned, stands_below, within}
 use Rattle.form_reader.specs.Setting.{Setting}

@@ -1,14 +1,13 @@
 -- A refusal before the end of a text is that of each longer text. Where a reader waits for more, the bytes before decide nothing:
 -- a byte that is no character would be refused where it is.
-use Rattle.std.proofs.Common.{◌≡◌, ℕ, zero, suc, ◌+◌, ◌-◌, ◌<◌, ◌≤◌, Bool, true, false, List, [], ◌∷◌, ◌++◌, length, Option, Some, None, unwrap_or, Ok, Err, refl, sym, ap, subst, ◌∙◌, length-append, arith}
-use Rattle.std.specs.Prelude.{nat_le, nat_lt, ◌==◌, ◌&&◌, if◌then◌else◌}
-use Rattle.std.proofs.lemmas.Bool.{le-ltb, lt-leb, ne_eqb, ltb-true, ltb-false}
+use Rattle.std.proofs.Common.{◌≡◌, ℕ, zero, suc, ◌+◌, ◌-◌, ◌<◌, ◌≤◌, Bool, true, false, List, [], ◌∷◌, ◌++◌, length, Option, Some, None, unwrap_or, Ok, Err, refl, sym, ap, subst, ◌∙◌, append-nil, length-append, arith}
+use Rattle.std.specs.Prelude.{nat_le, nat_lt, ◌==◌, ◌&&◌, if◌then◌else◌, IsTrue}
+use Rattle.std.proofs.lemmas.Bool.{false≢true, le-ltb, lt-leb, ne_eqb, ltb-true, ltb-false}
 use Rattle.std.proofs.lemmas.List.{get_or_past}
 use Rattle.lisp_object.specs.declared.refusal.TheConstants.{INVALID_CHARACTER, FORM_TOO_LONG}
 use Rattle.readtable_core.specs.Tables.{Table, Entry, no_entry, entry_at}
 use Rattle.readtable_core.specs.Characters.{is_digit}
 use Rattle.token_scan.specs.declared.mark.Mark.{Mark}
-use Rattle.token_scan.specs.declared.refusal.ScanRefusal.{ScanRefusal}
 use Rattle.token_scan.specs.declared.refusal.ScanRefusal.TheVariants.{InvalidCharacter}
 use Rattle.token_scan.specs.declared.stage.Stage.{Stage as ScanStage}
 use Rattle.token_scan.specs.declared.stage.Stage.TheVariants.{Outside, Inside, EscapedOutside, EscapedInside, Refused as ScanRefused}
@@ -25,11 +24,11 @@ use Rattle.form_reader.specs.declared.stage.Stage.TheVariants.{Object as AtObjec
 use Rattle.form_reader.specs.declared.way.Keep.{Keep}
 use Rattle.form_reader.specs.Plans.{Plan, gives, refuses, takes, then_plan, character, next_byte, loop, Read, fault, within, run}
 use Rattle.form_reader.specs.Setting.{Setting}
-use Rattle.form_reader.specs.Feeding.{token_read, refused_number}
+use Rattle.form_reader.specs.Feeding.{is_going, token_read, refused_number}
 use Rattle.form_reader.specs.Frames.{close_of, close_of_frames, place_in, call_in, given, between, token_goes_on}
 use Rattle.form_reader.specs.Gathering.{text_turn, kept, line_turn, block_turn}
 use Rattle.form_reader.specs.Reading.{Piece, Outcome, form, empty, refused, at_place, closed, or_closed, place_turn, place, stands_alone, alone, inner, attempt, outcome, reads_in, reads_at, reads, number_after, sub_there, dispatched}
-use Rattle.form_reader.specs.Resuming.{inner_at, stage_gives}
+use Rattle.form_reader.specs.Resuming.{IsStageAt, inner_at, stage_gives}
 use Rattle.form_reader.specs.Reader.{MayGoOn, DecideNothing}
 use Rattle.form_reader.specs.Turning.{outcome_of, rest_of}
 use Rattle.form_reader.proofs.FedTokens.{cut, refused_cut}
@@ -41,6 +40,7 @@ use Rattle.form_reader.proofs.Language.{AreKept, FoundAt, outermost_keeps}
 use Rattle.form_reader.proofs.Opened.{given_fault, gathering_ends, gathering_fails}
 use Rattle.form_reader.proofs.Places.{Parts, parts}
 use Rattle.form_reader.proofs.Steps.{and_then, run_then}
+use Rattle.form_reader.proofs.TextEnds.{blames_byte, stage_last, last_blames, last_refused}
 use Rattle.form_reader.proofs.Turns.{attempt_ends, loop_is, text_guarded, line_guarded, block_guarded, place_guarded}
 
 -- ---- refusals before the end
@@ -118,9 +118,9 @@ no_digit c beyond = and_false (nat_le 48 c) (nat_le c 57) (lt-leb c 57 (omega ar
     and_false true b e = e
     and_false false b e = refl
 
--- refused at this place
+-- refused at this place, as a byte that is no character, or as one too many
 abbrev Fails : {A : Type 0} → ℕ → Read A → Type 0
-Fails at r = (code : ℕ) × (r ≡ fault code at)
+Fails at r = (code : ℕ) × (r ≡ fault code at) × (blames_byte code ≡ true)
 
 -- a byte that no readtable has
 pub record IsAlien (setting : Setting) (close : Option ℕ) (c : ℕ) : Type 0 where
@@ -131,16 +131,16 @@ pub record IsAlien (setting : Setting) (close : Option ℕ) (c : ℕ) : Type 0 w
 alien_entry : (setting : Setting) (close : Option ℕ) (c : ℕ) → IsAlien setting close c → entry_at setting.table c ≡ no_entry
 alien_entry setting close c alien = get_or_past setting.table.entries c no_entry alien.none
 
-taken_fails : {A : Type 0} (table : Table) (limits : Limits) (other : Plan A) (test : ℕ → Bool) (on : ℕ → Plan A) (at c code : ℕ) → test c ≡ true → on c ≡ refuses code 1
+taken_fails : {A : Type 0} (table : Table) (limits : Limits) (other : Plan A) (test : ℕ → Bool) (on : ℕ → Plan A) (at c code : ℕ) → blames_byte code ≡ true → test c ≡ true → on c ≡ refuses code 1
     → Fails at (run table limits (takes other test on) at (c ∷ []))
 unfolding run
-taken_fails {A = A} table limits other test on at c code passes refuses_it =
+taken_fails {A = A} table limits other test on at c code blames passes refuses_it =
     let back : at + 1 - 1 ≡ at = omega arith in
     let read : Bool → Plan A → Read A = λ b p. elim b [ true ↦ within (nat_le limits.text at) at (run table limits p (at + 1) []) | false ↦ run table limits other at (c ∷ []) ] in
     let whole : run table limits (takes other test on) at (c ∷ []) ≡ within (nat_le limits.text at) at (fault code (at + 1 - 1)) = (λ i. read (passes i) (refuses_it i)) in
     elim (nat_le limits.text at) as (λ full. run table limits (takes other test on) at (c ∷ []) ≡ within full at (fault code (at + 1 - 1)) → Fails at (run table limits (takes other test on) at (c ∷ []))) [
-      | true ↦ λ e. (FORM_TOO_LONG, e)
-      | false ↦ λ e. (code, e ∙ ap (λ (n : ℕ). fault code n) back)
+      | true ↦ λ e. (FORM_TOO_LONG, e, refl)
+      | false ↦ λ e. (code, e ∙ ap (λ (n : ℕ). fault code n) back, blames)
     ] whole
 
 -- a byte that is not taken is left to the other plan
@@ -157,14 +157,14 @@ no_character {A = A} on c le =
     ap by (le-ltb c 128 le)
 
 next_fails : {A : Type 0} (table : Table) (limits : Limits) (on : ℕ → Plan A) (at c : ℕ) → 128 ≤ c → Fails at (run table limits (next_byte on) at (c ∷ []))
-next_fails table limits on at c le = taken_fails table limits (refuses 1 0) (λ d. true) (character on) at c INVALID_CHARACTER refl (no_character on c le)
+next_fails table limits on at c le = taken_fails table limits (refuses 1 0) (λ d. true) (character on) at c INVALID_CHARACTER refl refl (no_character on c le)
 
 module _ (setting : Setting) (frames : List Frame) (at c : ℕ) where
   abbrev reading : {A : Type 0} → Plan A → Read A
   reading plan = run setting.table setting.limits plan at (c ∷ [])
 
   gathering : {A : Type 0} (plan : Plan A) (on : A → Plan Found) → Fails at (reading plan) → Fails at (reading (given setting frames (then_plan plan on)))
-  gathering plan on h = (h.0, gathering_fails setting frames plan on (record { code = h.0; at = at }) at (c ∷ []) h.1)
+  gathering plan on h = (h.0, gathering_fails setting frames plan on (record { code = h.0; at = at }) at (c ∷ []) h.1, h.2)
 
   -- ---- in a text, a line, a block and a number
 
@@ -178,7 +178,7 @@ module _ (setting : Setting) (frames : List Frame) (at c : ℕ) where
     line_fails keep text =
         let on : ℕ → Plan (List ℕ) = λ d. elim (d == 10) [ true ↦ gives text | false ↦ loop setting.limits (line_turn keep) (kept keep text d) ] in
         subst (Fails at) (sym (loop_is setting.table setting.limits (line_turn keep) (line_guarded setting.table setting.limits keep) text at (c ∷ []) le))
-        (taken_fails setting.table setting.limits (gives text) (λ d. true) (character on) at c INVALID_CHARACTER refl (no_character on c beyond))
+        (taken_fails setting.table setting.limits (gives text) (λ d. true) (character on) at c INVALID_CHARACTER refl refl (no_character on c beyond))
 
     block_fails : (levels : ℕ × ℕ) → Fails at (reading (loop setting.limits block_turn levels))
     block_fails levels =
@@ -195,6 +195,7 @@ module _ (setting : Setting) (frames : List Frame) (at c : ℕ) where
           h.0,
           gathering_ends setting frames (number_after setting number) (sub_there setting (length frames) (inner_at setting (length frames)) character) number at at (c ∷ []) (c ∷ []) (number_stops number)
               ∙ given_fault setting frames sub at (c ∷ []) (record { code = h.0; at = at }) h.1,
+          h.2,
         )
 
     -- ---- where an object may begin
@@ -203,15 +204,15 @@ module _ (setting : Setting) (frames : List Frame) (at c : ℕ) where
       attempt_fails : (depth : ℕ) → Fails at (reading (attempt setting depth))
       attempt_fails depth =
           taken_fails setting.table setting.limits _ (λ d. stands_alone (entry_at setting.table d).syntax)
-          (λ d. alone setting (setting.limits.nesting - depth) (inner setting depth) d (entry_at setting.table d).syntax) at c INVALID_CHARACTER
+          (λ d. alone setting (setting.limits.nesting - depth) (inner setting depth) d (entry_at setting.table d).syntax) at c INVALID_CHARACTER refl
           (ap (λ (e : Entry). stands_alone e.syntax) alien) (ap (λ (e : Entry). alone setting (setting.limits.nesting - depth) (inner setting depth) c e.syntax) alien)
 
       then_fails : {A B : Type 0} (plan : Plan A) (on : A → Plan B) → Fails at (reading plan) → Fails at (reading (then_plan plan on))
-      then_fails plan on h = (h.0, run_then setting.table setting.limits plan on at (c ∷ []) ∙ ap (and_then setting.table setting.limits on) h.1)
+      then_fails plan on h = (h.0, run_then setting.table setting.limits plan on at (c ∷ []) ∙ ap (and_then setting.table setting.limits on) h.1, h.2)
 
       closed_fails : (close : Option ℕ) (plan : Plan Piece) → unwrap_or close 0 < c → Fails at (reading plan) → Fails at (reading (or_closed close plan))
       closed_fails None plan other h = h
-      closed_fails (Some k) plan other h = (h.0, passed setting.table setting.limits plan (λ d. d == k) (λ d. gives closed) at c (ne_eqb c k (λ e. omega (arith, e, other))) ∙ h.1)
+      closed_fails (Some k) plan other h = (h.0, passed setting.table setting.limits plan (λ d. d == k) (λ d. gives closed) at c (ne_eqb c k (λ e. omega (arith, e, other))) ∙ h.1, h.2)
 
       place_fails : (depth : ℕ) (close : Option ℕ) → unwrap_or close 0 < c → Fails at (reading (place setting close (attempt setting depth)))
       place_fails depth close other =
@@ -235,34 +236,35 @@ no_kind : (table : Table) (c : ℕ) → 128 ≤ c → kind (typed table c) ≡ I
 no_kind table c beyond = ap (λ b. if b then (typed table c).syntax else Invalid) (le-ltb c 128 beyond)
 
 -- a token refuses it
-scan_fails : (table : Table) (c left at : ℕ) (stage : ScanStage) → 128 ≤ c → (refusal : ScanRefusal) × (from_stage stage left at (typed table c ∷ []) ≡ scan_fault refusal at)
+scan_fails : (table : Table) (c left at : ℕ) (stage : ScanStage) → IsTrue (is_going stage) → 128 ≤ c → from_stage stage left at (typed table c ∷ []) ≡ scan_fault InvalidCharacter at
 unfolding outside
-scan_fails table c left at Outside beyond = (InvalidCharacter, outside_invalid (typed table c) [] left at (no_kind table c beyond))
-scan_fails table c left at Inside beyond = (InvalidCharacter, inside_invalid (typed table c) [] left at (no_kind table c beyond))
-scan_fails table c left at EscapedOutside beyond = (InvalidCharacter, ap (λ b. if b then one_more left at (λ left. quoted c (outside left (at + 1) [])) else scan_fault InvalidCharacter at) (le-ltb c 128 beyond))
-scan_fails table c left at EscapedInside beyond = (InvalidCharacter, ap (λ b. if b then one_more left at (λ left. quoted c (inside left (at + 1) [])) else scan_fault InvalidCharacter at) (le-ltb c 128 beyond))
-scan_fails table c left at (ScanRefused refusal) beyond = (refusal, refl)
+scan_fails table c left at Outside going beyond = (outside_invalid (typed table c) [] left at (no_kind table c beyond))
+scan_fails table c left at Inside going beyond = (inside_invalid (typed table c) [] left at (no_kind table c beyond))
+scan_fails table c left at EscapedOutside going beyond = (ap (λ b. if b then one_more left at (λ left. quoted c (outside left (at + 1) [])) else scan_fault InvalidCharacter at) (le-ltb c 128 beyond))
+scan_fails table c left at EscapedInside going beyond = (ap (λ b. if b then one_more left at (λ left. quoted c (inside left (at + 1) [])) else scan_fault InvalidCharacter at) (le-ltb c 128 beyond))
+scan_fails table c left at (ScanRefused refusal) going beyond = cc
 
-token_fails : (setting : Setting) (frames : List Frame) (on : List Mark → Plan Found) (scan : Scan) (at c : ℕ) → at ≤ setting.limits.text → 128 ≤ c
+token_fails : (setting : Setting) (frames : List Frame) (on : List Mark → Plan Found) (scan : Scan) (at c : ℕ) → IsTrue (is_going scan.stage) → at ≤ setting.limits.text → 128 ≤ c
     → Fails at (token_goes_on setting frames on (token_read setting.table setting.limits scan at (c ∷ [])))
-token_fails setting frames on scan at c le beyond =
-    let h = scan_fails setting.table c scan.left at scan.stage beyond in (
-      refused_number setting.limits.text h.0 at,
-      ap (token_goes_on setting frames on) (ap (λ (r : Scanned). cut setting.limits.text (with_front scan.marks r)) h.1 ∙ refused_cut setting.limits.text h.0 at le),
+token_fails setting frames on scan at c going le beyond =
+    let h = scan_fails setting.table c scan.left at scan.stage going beyond in (
+      refused_number setting.limits.text InvalidCharacter at,
+      ap (token_goes_on setting frames on) (ap (λ (r : Scanned). cut setting.limits.text (with_front scan.marks r)) h ∙ refused_cut setting.limits.text InvalidCharacter at le),
+      elim (nat_lt at setting.limits.text) as (λ b. blames_byte (if b then INVALID_CHARACTER else FORM_TOO_LONG) ≡ true) [ true ↦ refl | false ↦ refl ],
     )
 
 -- ---- at each stage
 
-stage_fails : (setting : Setting) (frames : List Frame) (stage : Stage) (at c : ℕ) → at ≤ setting.limits.text → IsAlien setting (close_of_frames frames) c
+stage_fails : (setting : Setting) (frames : List Frame) (stage : Stage) (at c : ℕ) → IsStageAt at stage → at ≤ setting.limits.text → IsAlien setting (close_of_frames frames) c
     → Fails at (stage_gives setting frames stage at (c ∷ []))
-stage_fails setting frames AtObject at c le alien = between_fails setting frames at c le alien
-stage_fails setting frames (AtToken scan) at c le alien = token_fails setting frames _ scan at c le alien.beyond
-stage_fails setting frames (AtCallToken call scan) at c le alien = token_fails setting frames _ scan at c le alien.beyond
-stage_fails setting frames (AtText call terminator text) at c le alien = gathering setting frames at c _ _ (text_fails setting frames at c le alien.beyond terminator text)
-stage_fails setting frames (AtEscaped call terminator text) at c le alien = gathering setting frames at c _ _ (next_fails setting.table setting.limits _ at c alien.beyond)
-stage_fails setting frames (AtLine call keep text) at c le alien = gathering setting frames at c _ _ (line_fails setting frames at c le alien.beyond keep text)
-stage_fails setting frames (AtBlock call levels) at c le alien = gathering setting frames at c _ _ (block_fails setting frames at c le alien.beyond levels)
-stage_fails setting frames (AtNumber character number) at c le alien = number_fails setting frames at c le alien.beyond character number
+stage_fails setting frames AtObject at c stands le alien = between_fails setting frames at c le alien
+stage_fails setting frames (AtToken scan) at c stands le alien = token_fails setting frames _ scan at c stands le alien.beyond
+stage_fails setting frames (AtCallToken call scan) at c stands le alien = token_fails setting frames _ scan at c stands le alien.beyond
+stage_fails setting frames (AtText call terminator text) at c stands le alien = gathering setting frames at c _ _ (text_fails setting frames at c le alien.beyond terminator text)
+stage_fails setting frames (AtEscaped call terminator text) at c stands le alien = gathering setting frames at c _ _ (next_fails setting.table setting.limits _ at c alien.beyond)
+stage_fails setting frames (AtLine call keep text) at c stands le alien = gathering setting frames at c _ _ (line_fails setting frames at c le alien.beyond keep text)
+stage_fails setting frames (AtBlock call levels) at c stands le alien = gathering setting frames at c _ _ (block_fails setting frames at c le alien.beyond levels)
+stage_fails setting frames (AtNumber character number) at c stands le alien = number_fails setting frames at c le alien.beyond character number
 
 -- ---- where a reader waits for more
 
@@ -290,17 +292,29 @@ undecided setting bytes c code (refused number place) e next =
         cc
     by false is = omega (arith, (refusal_stays setting bytes number place e).0, ltb-false place (length bytes) is)
 
-pub decide_nothing : (setting : Setting) (frames : List Frame) (stage : Stage) (start at : ℕ) (bytes : List ℕ) → at ≤ setting.limits.text → start + at ≡ length bytes
-    → ((cs : List ℕ) → reads setting (bytes ++ cs) ≡ rest_of setting frames stage start at cs) → DecideNothing setting bytes
-decide_nothing setting frames stage start at bytes le count rest =
+-- The byte that is no character is refused at its own place.
+next_refused : (setting : Setting) (frames : List Frame) (stage : Stage) (start at : ℕ) (bytes : List ℕ) → IsStageAt at stage → at ≤ setting.limits.text → start + at ≡ length bytes
+    → ((cs : List ℕ) → reads setting (bytes ++ cs) ≡ rest_of setting frames stage start at cs)
+    → (c : ℕ) × ((code : ℕ) × (reads setting (bytes ++ c ∷ []) ≡ refused code (length bytes)) × (blames_byte code ≡ true))
+next_refused setting frames stage start at bytes stands le count rest =
     let c = 128 + length setting.table.entries + unwrap_or (close_of_frames frames) 0 + 1 in
-    let h = stage_fails setting frames stage at c le (record { beyond = omega arith; none = omega arith; other = omega arith }) in
-    (c, (h.0, rest (c ∷ []) ∙ ap (outcome_of setting start) h.1 ∙ ap (λ (n : ℕ). refused h.0 n) count))
+    let h = stage_fails setting frames stage at c stands le (record { beyond = omega arith; none = omega arith; other = omega arith }) in
+    (c, (h.0, rest (c ∷ []) ∙ ap (outcome_of setting start) h.1 ∙ ap (λ (n : ℕ). refused h.0 n) count, h.2))
 
-pub may_go_on : (setting : Setting) (frames : List Frame) (stage : Stage) (start at : ℕ) (bytes : List ℕ) → at ≤ setting.limits.text → start + at ≡ length bytes
+pub decide_nothing : (setting : Setting) (frames : List Frame) (stage : Stage) (start at : ℕ) (bytes : List ℕ) → IsStageAt at stage → at ≤ setting.limits.text → start + at ≡ length bytes
+    → ((cs : List ℕ) → reads setting (bytes ++ cs) ≡ rest_of setting frames stage start at cs) → DecideNothing setting bytes
+decide_nothing setting frames stage start at bytes stands le count rest =
+    let next = next_refused setting frames stage start at bytes stands le count rest in
+    let last : reads setting bytes ≡ rest_of setting frames stage start at [] = sym (ap (reads setting) (append-nil bytes)) ∙ rest [] in
+    let unlike : reads setting bytes ≡ refused next.1.0 (length bytes) → ⊥ = λ e.
+    let blameless : blames_byte next.1.0 ≡ false =
+    last_refused (rest_of setting frames stage start at []) next.1.0 (length bytes) (sym last ∙ e)
+    (last_blames setting start (stage_gives setting frames stage at []) (stage_last setting frames at le stage stands)) in
+    false≢true (sym blameless ∙ next.1.2) in
+    (next.0, (next.1.0, next.1.1, unlike))
+
+pub may_go_on : (setting : Setting) (frames : List Frame) (stage : Stage) (start at : ℕ) (bytes : List ℕ) → IsStageAt at stage → at ≤ setting.limits.text → start + at ≡ length bytes
     → ((cs : List ℕ) → reads setting (bytes ++ cs) ≡ rest_of setting frames stage start at cs) → MayGoOn bytes (reads setting bytes)
-may_go_on setting frames stage start at bytes le count rest =
-    let c = 128 + length setting.table.entries + unwrap_or (close_of_frames frames) 0 + 1 in
-    let h = stage_fails setting frames stage at c le (record { beyond = omega arith; none = omega arith; other = omega arith }) in
-    undecided setting bytes c h.0 (reads setting bytes) refl
-    (rest (c ∷ []) ∙ ap (outcome_of setting start) h.1 ∙ ap (λ (n : ℕ). refused h.0 n) count)
+may_go_on setting frames stage start at bytes stands le count rest =
+    let next = next_refused setting frames stage start at bytes stands le count rest in
+    undecided setting bytes next.0 next.1.0 (reads setting bytes) refl next.1.1

@@ -10,6 +10,7 @@ pub mod Opened
 pub mod Gathered
 pub mod Fed
 pub mod FedTokens
+pub mod TakenTokens
 pub mod Beginnings
 pub mod Goings
 pub mod Deliveries
@@ -33,6 +34,9 @@ pub mod Fittings
 pub mod Numbers
 pub mod TokenFaults
 pub mod Faults
+pub mod TextEnds
 pub mod Deciding
+pub mod Waiting
+pub mod Registered
 pub mod Discardings
 pub mod Dependings

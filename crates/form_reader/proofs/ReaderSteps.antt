@@ -53,8 +53,8 @@ module _ (setting : Setting) (old mid new : FormReader) (stage : Stage) (bytes :
       subst (λ (s : Step). Steps setting new fed_now s) (sym takes.0) (
         subst (λ (s : State). IsAfterIn setting new s fed_now) (sym takes.4) (omega (arith, many, takes.1, takes.2, ready.1, a.0), rest),
         omega (arith, many, takes.1, takes.2, ready.1, a.0),
-        may_go_on setting after st start at fed_now ready.0.place (omega (arith, many, ready.1, a.0)) (λ cs. one_more a cs ∙ turns cs),
-        decide_nothing setting after st start at fed_now ready.0.place (omega (arith, many, ready.1, a.0)) (λ cs. one_more a cs ∙ turns cs),
+        may_go_on setting after st start at fed_now ready.0.levels ready.0.place (omega (arith, many, ready.1, a.0)) (λ cs. one_more a cs ∙ turns cs),
+        decide_nothing setting after st start at fed_now ready.0.levels ready.0.place (omega (arith, many, ready.1, a.0)) (λ cs. one_more a cs ∙ turns cs),
       )
   stepped (TurnForm x start «end» next) (StepForm datum s e n) a turns ready takes same =
       let many : length fed_now ≡ length bytes + 1 = length-append bytes (byte ∷ []) in

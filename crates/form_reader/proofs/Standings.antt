@@ -25,8 +25,8 @@ below a b = by (nat_le a b) refl
 
 stage_below : (at : ℕ) (stage : Stage) → IsTrue (is_stage_at at stage) → IsStageAt at stage
 stage_below at AtObject h = tt
-stage_below at (AtToken scan) h = tt
-stage_below at (AtCallToken call scan) h = tt
+stage_below at (AtToken scan) h = h
+stage_below at (AtCallToken call scan) h = h
 stage_below at (AtText call terminator text) h = tt
 stage_below at (AtEscaped call terminator text) h = tt
 stage_below at (AtLine call keep text) h = tt

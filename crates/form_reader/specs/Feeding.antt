@@ -1,5 +1,5 @@
 -- What one byte is to what a call gathers: what is given with these bytes after it.
-use Rattle.std.specs.Prelude.{ℕ, ◌≡◌, ◌+◌, List, [], ◌∷◌, ◌++◌, Option, Some, None, Ok, nat_lt, if◌then◌else◌}
+use Rattle.std.specs.Prelude.{ℕ, ◌≡◌, ◌+◌, Bool, true, false, List, [], ◌∷◌, ◌++◌, Option, Some, None, Ok, nat_lt, if◌then◌else◌}
 use Rattle.lisp_object.specs.declared.refusal.TheConstants.{END_OF_FILE, INVALID_CHARACTER, INVALID_TRAIT, TOKEN_TOO_LONG, FORM_TOO_LONG}
 use Rattle.readtable_core.specs.Tables.{Table}
 use Rattle.token_scan.specs.declared.mark.Mark.{Mark}
@@ -7,6 +7,8 @@ use Rattle.token_scan.specs.declared.refusal.ScanRefusal.{ScanRefusal}
 use Rattle.token_scan.specs.declared.refusal.ScanRefusal.TheVariants.{EndOfFile, InvalidCharacter, InvalidTrait, TokenTooLong}
 use Rattle.token_scan.specs.Tokens.{in_bytes, typed_text}
 use Rattle.token_scan.specs.Scans.{Scan, token_from}
+use Rattle.token_scan.specs.declared.stage.Stage.{Stage as ScanStage}
+use Rattle.token_scan.specs.declared.stage.Stage.TheVariants.{Refused as ScanRefused}
 use Rattle.form_reader.specs.declared.bytes.TextByte.{TextByte}
 use Rattle.form_reader.specs.declared.bytes.TextByte.TheVariants.{More as TextMore, Escape as TextEscape, Ended as TextEnded, Refused as TextRefused}
 use Rattle.form_reader.specs.declared.bytes.LineByte.{LineByte}
@@ -48,6 +50,11 @@ NumberFeeds table limits number at c cs LineEnded read = read ≡ Ok (number, at
 NumberFeeds table limits number at c cs (LineRefused code) read = read ≡ fault code at
 
 -- ---- in a token
+
+-- it is not refused
+abbrev pub is_going : ScanStage → Bool
+is_going (ScanRefused refusal) = false
+is_going _ = true
 
 -- what the token gives if these bytes follow, under the limit of the text
 abbrev pub token_read : Table → Limits → Scan → ℕ → List ℕ → Read (List Mark)

@@ -43,9 +43,11 @@ MayGoOn text empty = Unit {0}
 MayGoOn text (form x start «end» next) = next ≡ length text
 MayGoOn text (refused code place) = place ≡ length text
 
--- These bytes decide nothing alone: some byte after them is refused at its own place.
+-- These bytes decide nothing alone: some byte after them is refused at its own place, and at the end of the text they are not
+-- refused so. Then no outcome is that of every text that begins with them: what they decide was answered before.
 abbrev pub DecideNothing : Setting → List ℕ → Type 0
-DecideNothing setting bytes = (c : ℕ) × ((code : ℕ) × (reads setting (bytes ++ c ∷ []) ≡ refused code (length bytes)))
+DecideNothing setting bytes =
+    (c : ℕ) × ((code : ℕ) × (reads setting (bytes ++ c ∷ []) ≡ refused code (length bytes)) × (reads setting bytes ≡ refused code (length bytes) → ⊥))
 
 -- It was fed nothing.
 pub record IsNew (reader : FormReader) : Type 0 where

@@ -1,5 +1,5 @@
 -- Where a reader is in its innermost call, and what is given there on a text.
-use Rattle.std.specs.Prelude.{ℕ, ◌≡◌, ◌+◌, ◌-◌, ◌≤◌, false, true, List, [], ◌∷◌, ◌++◌, length, Option}
+use Rattle.std.specs.Prelude.{ℕ, ◌≡◌, ◌+◌, ◌-◌, ◌≤◌, false, true, List, [], ◌∷◌, ◌++◌, length, Option, IsTrue}
 use Rattle.std_macros.specs.Values.{letters, marked, nothing as no_material}
 use Rattle.form_reader.specs.declared.found.Found.{Found}
 use Rattle.form_reader.specs.declared.frame.Frame.{Frame}
@@ -16,7 +16,7 @@ use Rattle.form_reader.specs.declared.macros.Moved.TheVariants.{Taken as IsTaken
 use Rattle.form_reader.specs.Plans.{Plan, gives, then_plan, next_byte, Read, fault, run}
 use Rattle.form_reader.specs.Setting.{Setting}
 use Rattle.form_reader.specs.Reading.{text_to, line_after, block_after, dispatched, completed, gathered, called, token_found, attempt, inner}
-use Rattle.form_reader.specs.Feeding.{token_read}
+use Rattle.form_reader.specs.Feeding.{is_going, token_read}
 use Rattle.form_reader.specs.Frames.{given, between, token_goes_on}
 
 -- an attempt where so many calls are open
@@ -50,8 +50,10 @@ stage_gives setting frames (AtBlock call levels) at cs =
 stage_gives setting frames (AtNumber c number) at cs =
     run setting.table setting.limits (given setting frames (dispatched setting (length frames) (inner_at setting (length frames)) c number)) at cs
 
--- What holds of where it is, at this place: each block inside a block took a byte.
+-- What holds of where it is, at this place: a token is not refused, and each block inside a block took a byte.
 abbrev pub IsStageAt : ℕ → Stage → Type 0
+IsStageAt at (AtToken scan) = IsTrue (is_going scan.stage)
+IsStageAt at (AtCallToken call scan) = IsTrue (is_going scan.stage)
 IsStageAt at (AtBlock call levels) = levels.0 ≤ at
 IsStageAt at _ = Unit {0}
 

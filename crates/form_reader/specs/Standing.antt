@@ -5,10 +5,13 @@ use Rattle.form_reader.specs.declared.limits.Limits.{Limits}
 use Rattle.form_reader.specs.declared.reader.State.{State}
 use Rattle.form_reader.specs.declared.reader.State.TheVariants.{Open, Refused, OutOfMemory}
 use Rattle.form_reader.specs.declared.stage.Stage.{Stage}
-use Rattle.form_reader.specs.declared.stage.Stage.TheVariants.{Block as AtBlock}
+use Rattle.form_reader.specs.declared.stage.Stage.TheVariants.{Token as AtToken, CallToken as AtCallToken, Block as AtBlock}
+use Rattle.form_reader.specs.Feeding.{is_going}
 
--- each block inside a block took a byte
+-- a token is not refused, and each block inside a block took a byte
 abbrev pub is_stage_at : ℕ → Stage → Bool
+is_stage_at at (AtToken scan) = is_going scan.stage
+is_stage_at at (AtCallToken call scan) = is_going scan.stage
 is_stage_at at (AtBlock call levels) = nat_le levels.0 at
 is_stage_at at _ = true
 

@@ -1,13 +1,21 @@
 //! Laws of the definition of reading, as contracts of functions that do nothing.
-ghost use Rattle.std.specs.Prelude.{◌≡◌, ◌≤◌, ◌<◌, ◌++◌, ◌-◌, ℕ, List, Option, length, take, drop};
+ghost use Rattle.std.specs.Prelude.{◌≡◌, ◌≤◌, ◌<◌, ◌++◌, ◌-◌, ℕ, List, Option, IsTrue, length, take, drop};
 ghost use Rattle.lisp_object.specs.Object.{Object};
 ghost use Rattle.lisp_object.specs.declared.refusal.TheConstants.{END_OF_FILE, OUT_OF_PROFILE};
-ghost use Rattle.package_table.specs.Table.{Table as Packages, IsSound};
+ghost use Rattle.readtable_core.specs.Names.{is_among};
+ghost use Rattle.readtable_core.specs.Tables.{Table};
+ghost use Rattle.package_table.specs.Table.{Name, Table as Packages, IsSound};
+ghost use Rattle.user_macros.specs.declared.call.Gather.{Gather};
+ghost use Rattle.user_macros.specs.Calls.{MacroCall, MacroAnswer};
+ghost use Rattle.form_reader.specs.declared.limits.Limits.{Limits};
+ghost use Rattle.form_reader.specs.declared.reader.FormReader.{FormReader};
+ghost use Rattle.form_reader.specs.declared.reader.Step.TheVariants.{More};
+ghost use Rattle.form_reader.specs.Reader.{Steps};
 ghost use Rattle.form_reader.specs.declared.way.Keep.{Keep};
 ghost use Rattle.form_reader.specs.Plans.{Plan, loop, run};
-ghost use Rattle.form_reader.specs.Setting.{Setting};
+ghost use Rattle.form_reader.specs.Setting.{Setting, setting_of};
 ghost use Rattle.form_reader.specs.Gathering.{text_turn, line_turn, block_turn, number_turn};
-ghost use Rattle.form_reader.specs.Reading.{form, empty, refused, place_turn, place, items_turn, items_after, attempt, outcome, reads_at, reads, IsFramed};
+ghost use Rattle.form_reader.specs.Reading.{Outcome, form, empty, refused, place_turn, place, items_turn, items_after, attempt, outcome, reads_at, reads, IsFramed};
 ghost use Rattle.form_reader.specs.Depending.{FindsSame};
 ghost use Rattle.form_reader.specs.Discarding.{IsDiscarded};
 ghost use Rattle.form_reader.specs.Fitting.{IsFitting};
@@ -99,4 +107,21 @@ pub fn reading_goes_on()
 pub fn refusals_are_of_reading()
     ensures { (setting : Setting) (text : List ℕ) (code place : ℕ)
         → reads setting text ≡ refused code place → (END_OF_FILE ≤ code) × (code ≤ OUT_OF_PROFILE) }
+{}
+
+/// What is read depends on the registered functions only through their names: where two registries have the same names, the
+/// setting is the same. So where each function of a meaning is registered, a text is read under all its names.
+pub fn only_registered_names_matter()
+    ensures { (limits : Limits) (table : Table) (packages : Packages) (current : Name) (names others : List (List ℕ))
+        (way : List ℕ → Option Gather) (answer : List ℕ → MacroCall → MacroAnswer)
+        → ((name : List ℕ) → IsTrue (is_among names name) → IsTrue (is_among others name))
+        → ((name : List ℕ) → IsTrue (is_among others name) → IsTrue (is_among names name))
+        → setting_of limits table packages current others way answer ≡ setting_of limits table packages current names way answer }
+{}
+
+/// Where a step answers `More`, no outcome is that of every text that begins with the bytes it was fed: a form, and a
+/// refusal, was answered as soon as the bytes were there that decide it.
+pub fn what_is_decided_is_answered()
+    ensures { (setting : Setting) (reader : FormReader) (bytes : List ℕ) (o : Outcome) → Steps setting reader bytes More
+        → ((more : List ℕ) → reads setting (bytes ++ more) ≡ o) → ⊥ }
 {}

@@ -36,7 +36,8 @@
 //! - `attempt`, `macros`, `opening`: an attempt from its first byte on, and how a call begins
 //! - `deliver`, `close`: what open calls make of what is found, and how they end
 //! - `laws`: `forms_are_framed`, `spaced_forms_are_framed`, `forms_are_decided`, `refusals_are_decided`,
-//!   `empty_texts_are_discarded`, `forms_fit`, `only_what_is_found_matters`, `reading_goes_on`
+//!   `empty_texts_are_discarded`, `forms_fit`, `only_what_is_found_matters`, `only_registered_names_matter`,
+//!   `what_is_decided_is_answered`, `reading_goes_on`
 #![tactic(auto)]
 
 mod advance;
@@ -69,8 +70,9 @@ mod whole;
 pub use ending::ReadOutcome;
 pub use laws::{
     empty_texts_are_discarded, forms_are_decided, forms_are_framed, forms_are_within_the_limit,
-    forms_fit, only_what_is_found_matters, reading_goes_on, refusals_are_decided,
-    refusals_are_of_reading, spaced_forms_are_framed,
+    forms_fit, only_registered_names_matter, only_what_is_found_matters, reading_goes_on,
+    refusals_are_decided, refusals_are_of_reading, spaced_forms_are_framed,
+    what_is_decided_is_answered,
 };
 pub use limits::Limits;
 pub use reader::{FormReader, Step};

@@ -3,7 +3,7 @@ ghost use Rattle.std.specs.Prelude.{◌≡◌, ◌≤◌, ◌<◌, ℕ, List, []
 ghost use Rattle.token_scan.specs.Tokens.{kind, typed};
 ghost use Rattle.token_scan.specs.Spelling.{ends_tokens};
 ghost use Rattle.token_scan.specs.Scans.{Scan, begun, has_begun};
-ghost use Rattle.form_reader.specs.Feeding.{token_read};
+ghost use Rattle.form_reader.specs.Feeding.{is_going, token_read};
 ghost use Rattle.form_reader.specs.Begun.{BegunFeeds, FirstFeeds, IsBegunByte};
 ghost use Rattle.form_reader.specs.declared.stage.BegunByte.TheVariants.{More as BegunMore};
 ghost use Rattle.form_reader.specs.declared.stage.FirstByte.TheVariants.{More as FirstMore};
@@ -69,6 +69,7 @@ pub(crate) fn first_byte(
     requires begins { IsFalse (ends_tokens (kind (typed readtable.now c))) }
     ensures feeds { (cs : List ℕ) → IfOk result (λ fed.
         FirstFeeds readtable.now limits.now at cs fed (token_read readtable.now limits.now (begun limits.now.token) at (c ∷ cs))) }
+    ensures going { (scan : Scan) → result ≡ Ok (FirstMore scan) → IsTrue (is_going scan.stage) }
     ensures below { (scan : Scan) → result ≡ Ok (FirstMore scan) → at < limits.now.text }
 {
     let mut scan = TokenScan::begin(alloc, limits.token);
@@ -101,6 +102,7 @@ impl BegunScan {
         ensures feeds { (cs : List ℕ) → IfOk result (λ fed.
             BegunFeeds readtable.now limits.now at c cs fed (token_read readtable.now limits.now self at (c ∷ cs))) }
         ensures ended { IfOk result IsBegunByte }
+        ensures going { (scan : Scan) → result ≡ Ok (BegunMore scan) → IsTrue (is_going scan.stage) }
         ensures below { (scan : Scan) → result ≡ Ok (BegunMore scan) → at < limits.now.text }
     {
         let BegunScan { mut scan } = self;

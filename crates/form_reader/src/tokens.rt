@@ -6,7 +6,7 @@ ghost use Rattle.token_scan.specs.Tokens.{kind, typed};
 ghost use Rattle.token_scan.specs.Spelling.{ends_tokens};
 ghost use Rattle.token_scan.specs.Scans.{has_begun};
 ghost use Rattle.form_reader.specs.declared.bytes.LineByte.TheVariants.{Ended as LineEnded, More as LineMore};
-ghost use Rattle.form_reader.specs.Feeding.{TokenFeeds, token_read, refused_number};
+ghost use Rattle.form_reader.specs.Feeding.{TokenFeeds, is_going, token_read, refused_number};
 
 use crate::bytes::LineByte;
 use crate::limits::Limits;
@@ -32,6 +32,7 @@ pub(crate) fn token_byte(
     ensures ended { result ≡ Ok LineEnded → (scan.new ≡ scan.old) × (scan.new.stage ≡ Outside) }
     ensures ends { result ≡ Ok LineEnded → IsTrue (ends_tokens (kind (typed readtable.now c))) }
     ensures more { result ≡ Ok LineMore → IsTrue (has_begun scan.new) }
+    ensures going { result ≡ Ok LineMore → IsTrue (is_going scan.new.stage) }
     ensures below { result ≡ Ok LineMore → at < limits.now.text }
 {
     match scan.feed(readtable.syntax(c), c)? {

@@ -1,0 +1,402 @@
+-- The end of a text blames no byte: what is refused there has another number than a byte that is no character, and than one
+-- too many.
+use Rattle.std.proofs.Common.{◌≡◌, ℕ, suc, ◌+◌, ◌≤◌, Bool, true, false, ◌||◌, List, [], ◌∷◌, ◌++◌, length, Option, Some, None, Result, Ok, Err, refl, sym, ap, subst, ◌∙◌, arith}
+use Rattle.std.specs.Prelude.{nat_le, ◌==◌, ◌&&◌, bytes_eq, if◌then◌else◌, IsTrue}
+use Rattle.std.specs.Option.{option_map_or}
+use Rattle.std.specs.Result.{IfErr}
+use Rattle.std.proofs.lemmas.Bool.{le-leb}
+use Rattle.lisp_object.specs.Object.{Object, object_depth}
+use Rattle.lisp_object.specs.declared.refusal.TheConstants.{END_OF_FILE, INVALID_CHARACTER, DOT_CONTEXT, MACRO_REFUSED, MACRO_ANSWER, FORM_TOO_LONG}
+use Rattle.readtable_core.specs.Tables.{Table}
+use Rattle.package_table.specs.declared.error.PackageError.{PackageError}
+use Rattle.package_table.specs.declared.error.PackageError.TheVariants.{NoPackage, NotExternal, LockedPackage}
+use Rattle.package_table.specs.Errors.{number_of}
+use Rattle.package_table.specs.Lookup.{found, external_home}
+use Rattle.package_table.specs.Resolving.{Resolution, found_at, new_in, resolution, external_resolution, internal_resolution}
+use Rattle.package_table.specs.Table.{Name, Table as Packages, common_lisp, package_named}
+use Rattle.token_scan.specs.declared.mark.Mark.{Mark}
+use Rattle.token_scan.specs.declared.refusal.ScanRefusal.TheVariants.{EndOfFile}
+use Rattle.token_scan.specs.declared.stage.Stage.{Stage as ScanStage}
+use Rattle.token_scan.specs.declared.stage.Stage.TheVariants.{Outside, Inside, EscapedOutside, EscapedInside, Refused as ScanRefused}
+use Rattle.token_scan.specs.Tokens.{outside, with_front}
+use Rattle.token_scan.specs.Scans.{from_stage}
+use Rattle.token_meaning.specs.declared.refusal.MeaningRefusal.{MeaningRefusal}
+use Rattle.token_meaning.specs.declared.refusal.MeaningRefusal.TheVariants.{DotsOnly, FloatToken, NumberRange, ZeroDenominator, PackageMarkers}
+use Rattle.token_meaning.specs.declared.token.TokenName.{TokenName}
+use Rattle.token_meaning.specs.declared.token.TokenName.TheVariants.{Unqualified, Keyword, External, Internal}
+use Rattle.token_meaning.specs.Folding.{folded}
+use Rattle.token_meaning.specs.Meanings.{Meaning, number, dot as a_dot, name, meaning_of}
+use Rattle.token_meaning.specs.Results.{meaning_refusal_number}
+use Rattle.user_macros.specs.Calls.{MacroAnswer, value, no_value, improper, refused as answer_refused}
+use Rattle.std_macros.specs.declared.refusal.StdRefusal.{StdRefusal}
+use Rattle.std_macros.specs.declared.refusal.StdRefusal.TheVariants.{StrayClose, Rational, NumericArgument, CharacterName, RadixToken, VectorLength, UninternedToken, OutOfProfile}
+use Rattle.std_macros.specs.Results.{std_refusal_number}
+use Rattle.std_macros.specs.Values.{Value, value_of, Material, one as one_object, many, dotted, letters, marked}
+use Rattle.form_reader.specs.declared.found.Found.{Found}
+use Rattle.form_reader.specs.declared.found.Found.TheVariants.{Nothing as nothing, One as one, LoneDot as lone_dot, TheEnd as the_end}
+use Rattle.form_reader.specs.declared.frame.Frame.{Frame}
+use Rattle.form_reader.specs.declared.frame.Part.{Part}
+use Rattle.form_reader.specs.declared.frame.Part.TheVariants.{Next as InNext, List as InList, Until as InUntil, Dotted as InDotted, Tailed as InTailed}
+use Rattle.form_reader.specs.declared.limits.Limits.{Limits}
+use Rattle.form_reader.specs.declared.stage.Stage.{Stage}
+use Rattle.form_reader.specs.declared.stage.Stage.TheVariants.{Object as AtObject, Token as AtToken, CallToken as AtCallToken, Text as AtText, Escaped as AtEscaped, Line as AtLine, Block as AtBlock, Number as AtNumber}
+use Rattle.form_reader.specs.declared.told.Told.{Told}
+use Rattle.form_reader.specs.declared.told.Told.TheVariants.{Object as told_object, Dot as dot_alone}
+use Rattle.form_reader.specs.declared.way.Function.{Function}
+use Rattle.form_reader.specs.declared.way.Function.TheVariants.{Standard as AStandard, User}
+use Rattle.form_reader.specs.Plans.{Plan, gives, refuses, takes, scans, then_plan, next_byte, character, loop_in, loop, Read, scanned, limited, run}
+use Rattle.form_reader.specs.Calls.{InvokedCall}
+use Rattle.form_reader.specs.Setting.{Setting, macro_call}
+use Rattle.form_reader.specs.Gathering.{text_turn, line_turn, block_turn, number_turn}
+use Rattle.form_reader.specs.Naming.{symbol_in, symbol_at, named, told_of, told}
+use Rattle.form_reader.specs.Answering.{may_be_answered}
+use Rattle.form_reader.specs.Feeding.{is_going}
+use Rattle.form_reader.specs.Frames.{place_in, part_gives, call_in, given, between, token_goes_on}
+use Rattle.form_reader.specs.Reading.{Piece, item, dot, closed, is_whitespace, without_space, at_place, or_closed, place_turn, place, Items, items_step, items_turn, items_after, undotted, after_tail, after_dot, list_end, bytes_back, finished, answered, completed_by, completed, text_to, line_after, block_after, number_after, sub_there, dispatched, told_found, token_found, attempt, Outcome, form, empty, refused}
+use Rattle.form_reader.specs.Resuming.{IsStageAt, inner_at, stage_gives}
+use Rattle.form_reader.specs.Turning.{outcome_of}
+use Rattle.form_reader.proofs.FedTokens.{cut, refused_cut}
+use Rattle.form_reader.proofs.Forms.{reads_is, the_end_there}
+
+-- the numbers of a byte that is no character, and of one too many
+abbrev pub blames_byte : ℕ → Bool
+blames_byte code = code == INVALID_CHARACTER || code == FORM_TOO_LONG
+
+-- What a plan comes to at the end of a text: a value of this kind, or a refusal that blames no byte.
+unfoldable AtEnd : {A : Type 0} → (A → Type 0) → Plan A → Type 0
+AtEnd P (gives x) = P x
+AtEnd P (refuses code back) = blames_byte code ≡ false
+AtEnd P (takes other test on) = AtEnd P other
+AtEnd P (scans escaped limit on) = AtEnd P (on [])
+
+abbrev Whatever : {A : Type 0} → A → Type 0
+Whatever x = Unit {0}
+
+abbrev Never : {A : Type 0} → A → Type 0
+Never x = ⊥
+
+-- ---- what such a plan gives
+
+abbrev pub LastRead : {A : Type 0} → (A → Type 0) → Read A → Type 0
+LastRead P (Ok (x, to, cs)) = P x × (cs ≡ [])
+LastRead P (Err e) = blames_byte e.code ≡ false
+
+module _ {A : Type 0} (P : A → Type 0) (table : Table) (limits : Limits) (at : ℕ) (le : at ≤ limits.text) where
+  abbrev goes_on : (List Mark → Plan A) → Read (List Mark) → Read A
+  goes_on on q = elim q [ Ok p ↦ run table limits (on p.0) p.1 p.2 | Err e ↦ Err e ]
+
+  scan_at_end : (escaped : Bool) (limit : ℕ) (on : List Mark → Plan A) → LastRead P (run table limits (on []) at [])
+      → LastRead P (goes_on on (limited limits.text (scanned escaped table limit at []) (λ p. p.1)))
+  unfolding outside
+  scan_at_end false limit on h =
+      let by : Bool → Read A = λ b. goes_on on (elim b [ true ↦ Ok ([], at, []) | false ↦ Err (record { code = FORM_TOO_LONG; at = limits.text }) ]) in
+      subst (LastRead P) (sym (ap by (le-leb at limits.text le))) h
+  scan_at_end true limit on h = subst (LastRead P) (sym (ap (goes_on on) (refused_cut limits.text EndOfFile at le))) refl
+
+  run_at_end : (plan : Plan A) → AtEnd P plan → LastRead P (run table limits plan at [])
+  unfolding run AtEnd
+  run_at_end (gives x) h = (h, refl)
+  run_at_end (refuses code back) h = h
+  run_at_end (takes other test on) h = run_at_end other h
+  run_at_end (scans escaped limit on) h = scan_at_end escaped limit on (run_at_end (on []) h)
+
+-- ---- parts of plans
+
+gives_at_end : {A : Type 0} (P : A → Type 0) (x : A) → P x → AtEnd P (gives x)
+unfolding AtEnd
+gives_at_end P x h = h
+
+refuses_at_end : {A : Type 0} (P : A → Type 0) (code back : ℕ) → blames_byte code ≡ false → AtEnd P (refuses code back)
+unfolding AtEnd
+refuses_at_end P code back h = h
+
+takes_at_end : {A : Type 0} (P : A → Type 0) (other : Plan A) (test : ℕ → Bool) (on : ℕ → Plan A) → AtEnd P other → AtEnd P (takes other test on)
+unfolding AtEnd
+takes_at_end P other test on h = h
+
+then_at_end : {A B : Type 0} (P : A → Type 0) (Q : B → Type 0) (plan : Plan A) (next : A → Plan B) → AtEnd P plan → ((x : A) → P x → AtEnd Q (next x)) → AtEnd Q (then_plan plan next)
+unfolding then_plan AtEnd
+then_at_end P Q (gives x) next h all = all x h
+then_at_end P Q (refuses code back) next h all = h
+then_at_end P Q (takes other test on) next h all = then_at_end P Q other next h all
+then_at_end P Q (scans escaped limit on) next h all = then_at_end P Q (on []) next h all
+
+weaker : {A : Type 0} (plan : Plan A) → AtEnd Never plan → AtEnd Whatever plan
+unfolding AtEnd
+weaker (gives x) h = tt
+weaker (refuses code back) h = h
+weaker (takes other test on) h = weaker other h
+weaker (scans escaped limit on) h = weaker (on []) h
+
+never_then : {A B : Type 0} (Q : B → Type 0) (plan : Plan A) (next : A → Plan B) → AtEnd Never plan → AtEnd Q (then_plan plan next)
+never_then Q plan next h = then_at_end Never Q plan next h (λ x none. absurd none)
+
+loop_at_end : {S A : Type 0} (P : A → Type 0) (limits : Limits) (turn : (S → Plan A) → S → Plan A) (s : S) → ((more : S → Plan A) → AtEnd P (turn more s)) → AtEnd P (loop limits turn s)
+unfolding loop_in
+loop_at_end P limits turn s all =
+    let n : suc limits.text ≡ limits.text + 1 = omega arith in
+    subst (λ n. AtEnd P (loop_in turn n s)) n (all (λ t. loop_in turn limits.text t))
+
+next_byte_at_end : {A : Type 0} (P : A → Type 0) (on : ℕ → Plan A) → AtEnd P (next_byte on)
+next_byte_at_end P on = takes_at_end P (refuses END_OF_FILE 0) (λ c. true) (λ c. character on c) (refuses_at_end P END_OF_FILE 0 refl)
+
+-- ---- what a call gives
+
+meaning_blames : (refusal : MeaningRefusal) → blames_byte (meaning_refusal_number refusal) ≡ false
+meaning_blames DotsOnly = refl
+meaning_blames FloatToken = refl
+meaning_blames NumberRange = refl
+meaning_blames ZeroDenominator = refl
+meaning_blames PackageMarkers = refl
+
+standard_blames : (refusal : StdRefusal) → blames_byte (std_refusal_number refusal) ≡ false
+standard_blames StrayClose = refl
+standard_blames (Rational refusal) = meaning_blames refusal
+standard_blames NumericArgument = refl
+standard_blames CharacterName = refl
+standard_blames RadixToken = refl
+standard_blames VectorLength = refl
+standard_blames UninternedToken = refl
+standard_blames OutOfProfile = refl
+
+finished_at_end : (token : Bool) (v : Value) → AtEnd Whatever (finished token v)
+finished_at_end token (Ok (Some x)) = gives_at_end Whatever (one token x) tt
+finished_at_end token (Ok None) = gives_at_end Whatever (nothing false) tt
+finished_at_end token (Err refusal) = refuses_at_end Whatever (std_refusal_number refusal) (bytes_back refusal) (standard_blames refusal)
+
+answered_at_end : (packages : Packages) (nesting round : ℕ) (token spaced : Bool) (answer : MacroAnswer) → AtEnd Whatever (answered packages nesting round token spaced answer)
+answered_at_end packages nesting round token spaced (value x) =
+    elim (may_be_answered packages x && nat_le (object_depth x + round) nesting) as (λ b. AtEnd Whatever (elim b [ true ↦ gives (one token x) | false ↦ refuses MACRO_ANSWER 0 ])) [
+      | true ↦ gives_at_end Whatever (one token x) tt
+      | false ↦ refuses_at_end Whatever MACRO_ANSWER 0 refl
+    ]
+answered_at_end packages nesting round token spaced no_value = gives_at_end Whatever (nothing spaced) tt
+answered_at_end packages nesting round token spaced improper = refuses_at_end Whatever MACRO_ANSWER 0 refl
+answered_at_end packages nesting round token spaced (answer_refused code) = refuses_at_end Whatever MACRO_REFUSED 0 refl
+
+completed_by_at_end : (setting : Setting) (round : ℕ) (call : InvokedCall) (function : Function) (token spaced : Bool) (material : Material)
+    → AtEnd Whatever (completed_by setting round call function token spaced material)
+completed_by_at_end setting round call (AStandard kind) token spaced material =
+    finished_at_end token (value_of kind setting.table.letters call.number material)
+completed_by_at_end setting round call (User own) token spaced material =
+    answered_at_end setting.packages setting.limits.nesting round token spaced (setting.answer own (macro_call call material))
+
+completed_at_end : (setting : Setting) (round : ℕ) (call : InvokedCall) (token spaced : Bool) (material : Material)
+    → AtEnd Whatever (completed setting round call token spaced material)
+completed_at_end setting round call token spaced material = completed_by_at_end setting round call call.function token spaced material
+
+-- ---- tokens
+
+abbrev Resolved : {A : Type 0} → Result A PackageError → Type 0
+Resolved r = IfErr r (λ e. blames_byte (number_of e) ≡ false)
+
+resolved_by : (p : Name) (o : Option Name) → Resolved {A = Resolution} (option_map_or (λ h. Ok (found_at h)) o (if bytes_eq p common_lisp then Err LockedPackage else Ok (new_in p)))
+resolved_by p (Some h) = tt
+resolved_by p None = elim (bytes_eq p common_lisp) as (λ b. Resolved {A = Resolution} (if b then Err LockedPackage else Ok (new_in p))) [ true ↦ refl | false ↦ tt ]
+
+resolution_blames : (t : Packages) (p own : Name) → Resolved (resolution t p own)
+resolution_blames t p own = resolved_by p (found t p own)
+
+external_blames : (t : Packages) (prefix own : Name) → Resolved (external_resolution t prefix own)
+external_blames t prefix own =
+    elim (package_named t prefix) as (λ o. Resolved {A = Name} (option_map_or (λ p. option_map_or (λ h. Ok h) (external_home t p own) (Err NotExternal)) o (Err NoPackage))) [
+      | None ↦ refl
+      | Some p ↦ elim (external_home t p own) as (λ o. Resolved {A = Name} (option_map_or (λ h. Ok h) o (Err NotExternal))) [ None ↦ refl | Some h ↦ tt ]
+    ]
+
+internal_blames : (t : Packages) (prefix own : Name) → Resolved (internal_resolution t prefix own)
+internal_blames t prefix own =
+    elim (package_named t prefix) as (λ o. Resolved {A = Resolution} (option_map_or (λ p. resolution t p own) o (Err NoPackage))) [
+      | None ↦ refl
+      | Some p ↦ resolution_blames t p own
+    ]
+
+abbrev Blameless : {A : Type 0} → Result A ℕ → Type 0
+Blameless r = IfErr r (λ code. blames_byte code ≡ false)
+
+symbol_in_blames : (own : Name) (r : Result Resolution PackageError) → Resolved r → Blameless (symbol_in own r)
+symbol_in_blames own (Ok r) h = tt
+symbol_in_blames own (Err e) h = h
+
+symbol_at_blames : (own : Name) (r : Result Name PackageError) → Resolved r → Blameless (symbol_at own r)
+symbol_at_blames own (Ok home) h = tt
+symbol_at_blames own (Err e) h = h
+
+named_blames : (packages : Packages) (current : Name) (token : TokenName) → Blameless (named packages current token)
+named_blames packages current (Unqualified own) = symbol_in_blames own (resolution packages current own) (resolution_blames packages current own)
+named_blames packages current (Keyword own) = tt
+named_blames packages current (External prefix own) = symbol_at_blames own (external_resolution packages prefix own) (external_blames packages prefix own)
+named_blames packages current (Internal prefix own) = symbol_in_blames own (internal_resolution packages prefix own) (internal_blames packages prefix own)
+
+told_blames : (packages : Packages) (current : Name) (meaning : Result Meaning MeaningRefusal) → Blameless (told_of packages current meaning)
+told_blames packages current (Ok (number x)) = tt
+told_blames packages current (Ok a_dot) = tt
+told_blames packages current (Ok (name own)) = named_blames packages current own
+told_blames packages current (Err refusal) = meaning_blames refusal
+
+told_found_at_end : (r : Result Told ℕ) → Blameless r → AtEnd Whatever (told_found r)
+told_found_at_end (Ok (told_object x)) h = gives_at_end Whatever (one true x) tt
+told_found_at_end (Ok dot_alone) h = gives_at_end Whatever lone_dot tt
+told_found_at_end (Err code) h = refuses_at_end Whatever code 0 h
+
+token_at_end : (setting : Setting) (marks : List Mark) → AtEnd Whatever (token_found setting marks)
+token_at_end setting [] = gives_at_end Whatever the_end tt
+token_at_end setting (m ∷ ms) =
+    told_found_at_end (told setting (m ∷ ms)) (told_blames setting.packages setting.current (meaning_of setting.base (folded setting.table.letters (m ∷ ms))))
+
+-- ---- where an object may begin
+
+attempt_at_end : (setting : Setting) (depth : ℕ) → AtEnd (λ found. found ≡ the_end) (attempt setting depth)
+unfolding AtEnd
+attempt_at_end setting depth = refl
+
+space_at_end : {A : Type 0} (P : A → Type 0) (table : Table) (token : Bool) (on : Plan A) → AtEnd P on → AtEnd P (without_space table token on)
+space_at_end P table false on h = h
+space_at_end P table true on h = takes_at_end P on (is_whitespace table) (λ c. on) h
+
+or_closed_at_end : (close : Option ℕ) (plan : Plan Piece) → AtEnd Never plan → AtEnd Never (or_closed close plan)
+or_closed_at_end None plan h = h
+or_closed_at_end (Some close) plan h = takes_at_end Never plan (λ c. c == close) (λ c. gives closed) h
+
+place_at_end : (setting : Setting) (close : Option ℕ) (depth : ℕ) → AtEnd Never (place setting close (attempt setting depth))
+place_at_end setting close depth =
+    loop_at_end Never setting.limits (place_turn setting.table close (attempt setting depth)) tt
+    (λ more. or_closed_at_end close (then_plan (attempt setting depth) (λ found. at_place setting.table (more tt) found))
+    (then_at_end (λ found. found ≡ the_end) Never (attempt setting depth) (λ found. at_place setting.table (more tt) found) (attempt_at_end setting depth)
+    (λ found is. subst (λ (f : Found). AtEnd Never (at_place setting.table (more tt) f)) (sym is) (refuses_at_end Never END_OF_FILE 0 refl))))
+
+items_at_end : (setting : Setting) (close depth : ℕ) (xs : List Object) → AtEnd Never (items_after setting close (attempt setting depth) xs)
+items_at_end setting close depth xs =
+    loop_at_end Never setting.limits (items_turn setting close (attempt setting depth)) xs
+    (λ more. never_then Never (place setting (Some close) (attempt setting depth)) (λ p. items_step setting.table more xs p) (place_at_end setting (Some close) depth))
+
+-- ---- open calls
+
+module _ (setting : Setting) (round depth : ℕ) (call : InvokedCall) where
+  abbrev may : Plan Found
+  may = attempt setting depth
+
+  undotted_at_end : (items : Items) → AtEnd Whatever (undotted (λ m. completed setting round call false false m) items)
+  undotted_at_end (xs, true) = completed_at_end setting round call false false (many xs)
+  undotted_at_end (xs, false) = refuses_at_end Whatever DOT_CONTEXT 0 refl
+
+  list_at_end : (items : Items) → AtEnd Whatever (list_end setting may (λ m. completed setting round call false false m) items)
+  list_at_end (xs, true) = completed_at_end setting round call false false (many xs)
+  list_at_end ([], false) = refuses_at_end Whatever DOT_CONTEXT 0 refl
+  list_at_end (x ∷ xs, false) =
+      never_then Whatever (place setting (Some 41) may) (after_dot setting may (λ m. completed setting round call false false m) (x ∷ xs)) (place_at_end setting (Some 41) depth)
+
+  step_at_end : (close : ℕ) (xs : List Object) (p : Piece) → AtEnd Whatever (items_step setting.table (items_after setting close may) xs p)
+  step_at_end close xs closed = gives_at_end Whatever (xs, true) tt
+  step_at_end close xs dot = gives_at_end Whatever (xs, false) tt
+  step_at_end close xs (item token x) =
+      space_at_end Whatever setting.table token (items_after setting close may (xs ++ x ∷ []))
+      (weaker (items_after setting close may (xs ++ x ∷ [])) (items_at_end setting close depth (xs ++ x ∷ [])))
+
+  part_at_end : (part : Part) (p : Piece) → AtEnd Whatever (part_gives setting round may call part p)
+  part_at_end InNext (item token x) = completed_at_end setting round call token token (one_object x)
+  part_at_end InNext dot = refuses_at_end Whatever DOT_CONTEXT 0 refl
+  part_at_end InNext closed = refuses_at_end Whatever DOT_CONTEXT 0 refl
+  part_at_end (InList xs) p =
+      then_at_end Whatever Whatever (items_step setting.table (items_after setting 41 may) xs p) (list_end setting may (λ m. completed setting round call false false m))
+      (step_at_end 41 xs p) (λ items none. list_at_end items)
+  part_at_end (InUntil close xs) p =
+      then_at_end Whatever Whatever (items_step setting.table (items_after setting close may) xs p) (undotted (λ m. completed setting round call false false m))
+      (step_at_end close xs p) (λ items none. undotted_at_end items)
+  part_at_end (InDotted xs) closed = refuses_at_end Whatever DOT_CONTEXT 1 refl
+  part_at_end (InDotted xs) dot = refuses_at_end Whatever DOT_CONTEXT 0 refl
+  part_at_end (InDotted xs) (item token x) =
+      space_at_end Whatever setting.table token (then_plan (place setting (Some 41) may) (after_tail (λ m. completed setting round call false false m) xs x))
+      (never_then Whatever (place setting (Some 41) may) (after_tail (λ m. completed setting round call false false m) xs x) (place_at_end setting (Some 41) depth))
+  part_at_end (InTailed xs tail) closed = completed_at_end setting round call false false (dotted xs tail)
+  part_at_end (InTailed xs tail) dot = refuses_at_end Whatever DOT_CONTEXT 0 refl
+  part_at_end (InTailed xs tail) (item token x) = refuses_at_end Whatever DOT_CONTEXT 0 refl
+
+module _ (setting : Setting) where
+  found_at_end : (f : Frame) (fs : List Frame) (found : Found) → AtEnd Whatever (at_place setting.table (place_in setting f fs) found)
+  found_at_end f fs (nothing token) =
+      space_at_end Whatever setting.table token (place_in setting f fs) (weaker (place_in setting f fs) (place_at_end setting _ _))
+  found_at_end f fs (one token x) = gives_at_end Whatever (item token x) tt
+  found_at_end f fs lone_dot = gives_at_end Whatever dot tt
+  found_at_end f fs the_end = refuses_at_end Whatever END_OF_FILE 0 refl
+
+  given_at_end : (frames : List Frame) (plan : Plan Found) → AtEnd Whatever plan → AtEnd Whatever (given setting frames plan)
+  unfolding given
+  given_at_end [] plan h = h
+  given_at_end (f ∷ fs) plan h =
+      given_at_end fs (then_plan (then_plan plan (λ found. at_place setting.table (place_in setting f fs) found)) (λ p. call_in setting f fs p))
+      (then_at_end Whatever Whatever (then_plan plan (λ found. at_place setting.table (place_in setting f fs) found)) (λ p. call_in setting f fs p)
+      (then_at_end Whatever Whatever plan (λ found. at_place setting.table (place_in setting f fs) found) h (λ found none. found_at_end f fs found))
+      (λ p none. part_at_end setting (length fs) _ f.call f.part p))
+
+  between_at_end : (frames : List Frame) → AtEnd Whatever (between setting frames)
+  unfolding AtEnd
+  between_at_end [] = tt
+  between_at_end (f ∷ fs) =
+      given_at_end fs (then_plan (place_in setting f fs) (λ p. call_in setting f fs p))
+      (never_then Whatever (place_in setting f fs) (λ p. call_in setting f fs p) (place_at_end setting _ _))
+
+  -- ---- at each stage
+
+  module _ (frames : List Frame) (at : ℕ) (le : at ≤ setting.limits.text) where
+    last : (plan : Plan Found) → AtEnd Whatever plan → LastRead Whatever (run setting.table setting.limits (given setting frames plan) at [])
+    last plan h = run_at_end Whatever setting.table setting.limits at le (given setting frames plan) (given_at_end frames plan h)
+
+    never : {A : Type 0} (plan : Plan A) (on : A → Plan Found) → AtEnd Never plan → LastRead Whatever (run setting.table setting.limits (given setting frames (then_plan plan on)) at [])
+    never plan on h = last (then_plan plan on) (never_then Whatever plan on h)
+
+    token_last : (on : List Mark → Plan Found) (stage : ScanStage) (marks : List Mark) (left : ℕ) → ((marks : List Mark) → AtEnd Whatever (on marks)) → IsTrue (is_going stage)
+        → LastRead Whatever (token_goes_on setting frames on (cut setting.limits.text (with_front marks (from_stage stage left at []))))
+    unfolding outside
+    token_last on Outside marks left all going =
+        let by : Bool → Read Found = λ b. token_goes_on setting frames on (elim b [ true ↦ Ok (marks ++ [], at, []) | false ↦ Err (record { code = FORM_TOO_LONG; at = setting.limits.text }) ]) in
+        subst (LastRead Whatever) (sym (ap by (le-leb at setting.limits.text le))) (last (on (marks ++ [])) (all (marks ++ [])))
+    token_last on Inside marks left all going =
+        subst (LastRead Whatever) (sym (ap (token_goes_on setting frames on) (refused_cut setting.limits.text EndOfFile at le))) refl
+    token_last on EscapedOutside marks left all going =
+        subst (LastRead Whatever) (sym (ap (token_goes_on setting frames on) (refused_cut setting.limits.text EndOfFile at le))) refl
+    token_last on EscapedInside marks left all going =
+        subst (LastRead Whatever) (sym (ap (token_goes_on setting frames on) (refused_cut setting.limits.text EndOfFile at le))) refl
+    token_last on (ScanRefused refusal) marks left all going = cc
+
+    pub stage_last : (stage : Stage) → IsStageAt at stage → LastRead Whatever (stage_gives setting frames stage at [])
+    stage_last AtObject h = run_at_end Whatever setting.table setting.limits at le (between setting frames) (between_at_end frames)
+    stage_last (AtToken scan) h = token_last (token_found setting) scan.stage scan.marks scan.left (token_at_end setting) h
+    stage_last (AtCallToken call scan) h =
+        token_last (λ marks. completed setting (length frames) call true false (marked marks)) scan.stage scan.marks scan.left
+        (λ marks. completed_at_end setting (length frames) call true false (marked marks)) h
+    stage_last (AtText call terminator text) h =
+        never (text_to setting terminator text) _ (loop_at_end Never setting.limits (text_turn setting.table terminator) text (λ more. next_byte_at_end Never _))
+    stage_last (AtEscaped call terminator text) h = never (next_byte (λ d. text_to setting terminator (text ++ d ∷ []))) _ (next_byte_at_end Never _)
+    stage_last (AtLine call keep text) h =
+        last (then_plan (line_after setting keep text) (λ cs. completed setting (length frames) call false false (letters cs)))
+        (then_at_end Whatever Whatever (line_after setting keep text) (λ cs. completed setting (length frames) call false false (letters cs))
+        (loop_at_end Whatever setting.limits (line_turn keep) text (λ more. takes_at_end Whatever (gives text) (λ c. true) _ (gives_at_end Whatever text tt)))
+        (λ cs none. completed_at_end setting (length frames) call false false (letters cs)))
+    stage_last (AtBlock call levels) h =
+        never (block_after setting levels) _ (loop_at_end Never setting.limits block_turn levels (λ more. next_byte_at_end Never _))
+    stage_last (AtNumber c argument) h =
+        last (dispatched setting (length frames) (inner_at setting (length frames)) c argument)
+        (then_at_end Whatever Whatever (number_after setting argument) (sub_there setting (length frames) (inner_at setting (length frames)) c)
+        (loop_at_end Whatever setting.limits number_turn argument (λ more. takes_at_end Whatever (gives argument) _ _ (gives_at_end Whatever argument tt)))
+        (λ n none. next_byte_at_end Whatever _))
+
+-- ---- of the whole text
+
+abbrev Blames : Outcome → Type 0
+Blames (form x start «end» next) = Unit {0}
+Blames empty = Unit {0}
+Blames (refused code place) = blames_byte code ≡ false
+
+pub last_blames : (setting : Setting) (start : ℕ) (r : Read Found) → LastRead Whatever r → Blames (outcome_of setting start r)
+last_blames setting start (Ok (nothing token, at, cs)) h =
+    let none : outcome_of setting start (Ok (nothing token, at, cs)) ≡ empty =
+    ap (λ (ds : List ℕ). outcome_of setting start (Ok (nothing token, at, ds))) h.1 ∙ reads_is setting (start + at) [] ∙ ap (outcome_of setting (start + at)) (the_end_there setting) in
+    subst Blames (sym none) tt
+last_blames setting start (Ok (one token x, at, cs)) h = tt
+last_blames setting start (Ok (lone_dot, at, cs)) h = refl
+last_blames setting start (Ok (the_end, at, cs)) h = tt
+last_blames setting start (Err e) h = h
+
+pub last_refused : (o : Outcome) (code place : ℕ) → o ≡ refused code place → Blames o → blames_byte code ≡ false
+last_refused o code place e h = subst Blames e h
