@@ -1,25 +1,11 @@
--- The order of packages that are a part of others, and that each change keeps it where the others are so changed already.
---     part_itself, part_through      of itself, and through a third
+-- Each change keeps packages a part of others, where the others are so changed already.
 --     part_with_new, part_with_entry, part_with_used      after each change
-use Rattle.std.proofs.Common.{◌≡◌, None, Some, is_some, refl, sym, ap, subst, ◌∙◌, inl, inr}
+use Rattle.std.proofs.Common.{◌≡◌, None, Some, is_some, sym, ap, subst, ◌∙◌, inl, inr}
 use Rattle.std.specs.FinMap as finite
 use Rattle.package_table.specs.Table.{Name, Entry, Table, entry_at, IsPackage, Uses, with_entry, with_used, with_new_package, empty_package}
 use Rattle.package_table.proofs.Names.{same_some}
 use Rattle.package_table.proofs.Frames.{name_cases, place_cases, get_kept, entry_new, entry_other, uses_with_entry, package_with_entry, entry_with_used, uses_either, package_with_used, entry_with_new, uses_with_new}
 use Rattle.snapshot_text.specs.Part.{IsAsFar, IsPartOf}
-
-pub part_itself : (t : Table) → IsPartOf t t
-part_itself t = record { packages = λ p e. e; symbols = λ p n e is. (e, is, record { home = refl; external = λ b. b }); uses = λ p q e. e }
-
-pub part_through : (t u s : Table) → IsPartOf t u → IsPartOf u s → IsPartOf t s
-part_through t u s a b = record {
-  packages = λ p e. b.packages p (a.packages p e);
-  symbols = λ p n e is.
-      let f = a.symbols p n e is in
-      let g = b.symbols p n f.0 f.1 in
-      (g.0, g.1, record { home = f.2.home ∙ g.2.home; external = λ e. g.2.external (f.2.external e) });
-  uses = λ p q e. b.uses p q (a.uses p q e);
-}
 
 module _ (t s : Table) (part : IsPartOf t s) where
   pub part_with_new : (p : Name) → finite.get t p ≡ None → IsPackage s p → IsPartOf (with_new_package t p) s

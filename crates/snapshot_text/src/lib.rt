@@ -8,8 +8,8 @@
 //!
 //! - `writer`: `write`; `package_rows`, `property_rows`, `table_rows`: packages, property lists and readtables as data;
 //!   `texts`: lists of texts
-//! - `reader`: `read`; `package_parts` over `own_parts`, `property_parts`, `table_parts`: a world made from data, by its own calls; `parts`:
-//!   texts, lists and numbers in data; `known`: which data may be stored
+//! - `reader`: `read`; `package_parts` (over `own_parts`), `property_parts`, `table_parts`: a world made from data, by its own
+//!   calls; `parts`: texts, lists and numbers in data; `known`: which data may be stored
 //! - `error`: `SnapshotError`
 //! - `laws`: `printed_objects_read_back`, `one_text_one_state`, `snapshot_lines_are_read`
 #![tactic(auto)]

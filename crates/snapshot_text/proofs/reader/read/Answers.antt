@@ -16,6 +16,7 @@ returns-clause-only g c = λ s sound e.
     let text : snapshot c.settle.new.self.0 ≡ c.args.bytes.now = search rules in
     one_state s c.settle.new.self.0 sound c.soundness.ensures.present (e ∙ sym text)
 
+-- the text of a sound state is that of the world that is made from it
 pub returns-then-ne-clause-refused : goal.returns-then-ne-clause-refused
 returns-then-ne-clause-refused g c = λ s sound fits e.
     let state : c.settle.new.self.0 ≡ s = ap (λ (w : State × List State). w.0) c.settle.ensures ∙ c.in_ok-world.ensures s sound fits e in
