@@ -81,8 +81,7 @@ same_packages t s begun symbols externals uses = same_parts t s begun.part (reco
   symbols = λ p n e at.
       let here : IsPresent s p n e.home = ap (option_map (λ (e : Entry). e.home)) at in
       let owner = present_package s p n e.home here in
-      let f = present_entry t p n e.home ((symbols p owner).names n e.home here) in
-      (
+      let f = present_entry t p n e.home ((symbols p owner).names n e.home here) in (
         f.0,
         f.1,
         record {

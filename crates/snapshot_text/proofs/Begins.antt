@@ -1,9 +1,9 @@
 -- Packages that are begun, while they grow.
-use Rattle.std.proofs.Common.{◌≡◌, ◌≢◌, ℕ, ◌+◌, ◌<◌, take, length, List, refl, sym, ap, subst, ◌∙◌}
+use Rattle.std.proofs.Common.{ℕ, ◌+◌, ◌<◌, take, length, List}
 use Rattle.std.specs.Prelude.{All}
 use Rattle.std.specs.List.{slice_index_or}
 use Rattle.std.proofs.lemmas.List.Elements.{All-more, All-weaker}
-use Rattle.package_table.specs.Table.{Name, Table, IsPackage, IsPresent, IsExternal, Uses}
+use Rattle.package_table.specs.Table.{Name, Table}
 use Rattle.package_table.specs.Growth.{Grows}
 use Rattle.snapshot_text.specs.Part.{IsPartOf}
 use Rattle.snapshot_text.specs.Phases.{HasOwn, HasSymbols, HasExternals, HasUses, IsBegun}

@@ -1,8 +1,7 @@
 -- The symbol of an external name, which is present before it is made external.
-use Rattle.std.proofs.Common.{◌≡◌, ◌≢◌, true, not, Some, refl, sym, ap, subst, ◌∙◌}
+use Rattle.std.proofs.Common.{◌≡◌, ◌≢◌, not, sym, ap, subst, ◌∙◌}
 use Rattle.std.specs.Prelude.{Ok, Err, if◌then◌else◌, bytes_eq, option_map, ◌||◌, nat_lt, nat_le, length}
 use Rattle.std.specs.Option.{option_map_or}
-use Rattle.std.specs.FinMap as finite
 use Rattle.package_table.specs.declared.error.PackageError.TheVariants.{NoSuchPackage, PackageIsLocked, Limit}
 use Rattle.package_table.specs.Limits.{most_symbols, longest_symbol_name}
 use Rattle.package_table.specs.Table.{Name, Table, Entry, common_lisp, keyword, IsPackage, IsPresent, IsExternal, IsSound, symbol_count}

@@ -1,6 +1,6 @@
 -- Decimal numbers: what they spell and mean.
-use Rattle.std.proofs.Common.{◌≡◌, ℕ, suc, zero, ◌<◌, ◌^◌, ℤ, pos, negsuc, neg_ℤ, Bool, true, false, not, ◌&&◌, ◌||◌, List, [], ◌∷◌, ◌++◌, length, append_assoc, Some, Option, Result, refl, sym, ap, ◌∙◌, arith, rules, lit≤, Ok}
-use Rattle.std.specs.Prelude.{All, decimal, codes, FitsSigned, unsigned_abs, int_div, nat_lt, ◌==◌, if◌then◌else◌}
+use Rattle.std.proofs.Common.{◌≡◌, ℕ, suc, zero, ◌<◌, ◌^◌, ℤ, pos, negsuc, Bool, true, false, not, ◌&&◌, ◌||◌, List, [], ◌∷◌, ◌++◌, length, append_assoc, Some, Option, Result, refl, sym, ap, ◌∙◌, arith, rules, lit≤, Ok}
+use Rattle.std.specs.Prelude.{All, decimal, codes, FitsSigned, nat_lt, ◌==◌, if◌then◌else◌}
 use Rattle.std.specs.Option.{ok_or}
 use Rattle.token_meaning.specs.declared.refusal.MeaningRefusal.{MeaningRefusal}
 use Rattle.token_meaning.specs.declared.refusal.MeaningRefusal.TheVariants.{ZeroDenominator}
@@ -9,14 +9,13 @@ use Rattle.std.specs.Int.{w128}
 use Rattle.std.specs.List.{list_all}
 use Rattle.std.specs.Char.{digit_value}
 use Rattle.std.specs.Str.Parse.{AllDigits}
-use Rattle.std.proofs.lemmas.Bool.{and_parts, and_from, and_left, or_left, or_right, lt-ltb, le-leb, ne_eqb}
+use Rattle.std.proofs.lemmas.Bool.{and_parts, and_from, and_left, or_left, or_right, lt-ltb, le-leb}
 use Rattle.std.proofs.lemmas.List.Folds.{list_all-append}
 use Rattle.std.proofs.lemmas.Fmt.{decimal_is_IsNumeral_wide}
 use Rattle.std.proofs.lemmas.Str.Parse.{IsNumeralModel, WeighsDigits, numerals_by_weight, tells_digits}
-use Rattle.std.proofs.Math.Nat.{div-one}
 use Rattle.lisp_object.specs.Object.{Object, integer, rational}
 use Rattle.lisp_object.specs.Lowest.{IsLowest}
-use Rattle.lisp_object.specs.Quotient.{quotient, gcd}
+use Rattle.lisp_object.specs.Quotient.{quotient}
 use Rattle.lisp_object.proofs.Quotients.{lowest_stays}
 use Rattle.token_meaning.specs.Numerals.{is_digit, is_numeral, are_digits, is_empty, value, signed, is_in_range}
 use Rattle.token_meaning.specs.Numbers.{is_point, ratio_of, number_of}

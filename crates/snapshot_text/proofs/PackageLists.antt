@@ -3,20 +3,19 @@
 --     externals_are, external_among      its external names
 --     uses_are, use_among      the packages that it uses
 --     others_are, other_among      all packages but COMMON-LISP
-use Rattle.std.proofs.Common.{◌≡◌, ◌≢◌, ℕ, Bool, true, false, not, List, [], ◌∷◌, map, filter, Some, None, refl, sym, ap, subst, ◌∙◌}
+use Rattle.std.proofs.Common.{◌≡◌, ◌≢◌, Bool, true, false, not, List, [], ◌∷◌, filter, Some, None, refl, sym, ap, subst, ◌∙◌}
 use Rattle.std.specs.Prelude.{Option, All, cond, bytes_eq, option_map, option_and_then, ◌||◌, if◌then◌else◌}
 use Rattle.std.specs.List.{list_any}
 use Rattle.std.specs.Option.{option_map_or}
-use Rattle.std.specs.Ordering.{eq_by_cmp}
 use Rattle.std.specs.FinMap as finite
 use Rattle.std.specs.FinMap.{find, is_sorted, contains_key-keys, get-entries, entries_sorted}
 use Rattle.std.specs.FinMap.Entries.{below_all}
 use Rattle.std.proofs.lemmas.Bool.{and_parts, or_left, or_right, false≢true}
 use Rattle.std.proofs.lemmas.List.Elements.{All-nil, All-cons, All-head, All-tail, All-weaker, All-map, All-filter, filter_passes}
 use Rattle.package_table.specs.Table.{Name, name_cmp, Entry, Package, Table, entry_at, common_lisp, keyword, IsPackage, IsPresent, IsExternal, Uses}
-use Rattle.package_table.specs.Readers.{package_names, used_names, present, own_names, external_names, imports}
+use Rattle.package_table.specs.Readers.{package_names, used_names, present, external_names, imports}
 use Rattle.package_table.proofs.Names.{same_some, none_some, tied_same, same_tied}
-use Rattle.package_table.proofs.Frames.{equal_names, not_equal, unequal_names, equal_itself}
+use Rattle.package_table.proofs.Frames.{not_equal, unequal_names, equal_itself}
 use Rattle.snapshot_text.specs.Snapshot.{shown_names}
 use Rattle.snapshot_text.proofs.Ascii.{from_truth, below_none}
 use Rattle.snapshot_text.proofs.PackageEntries.{eq, names_passing, imported_at, other_home}
@@ -166,8 +165,7 @@ is_other p = not (bytes_eq p common_lisp)
 
 pub others_are : (s : Table) → All (λ p. IsPackage s p × (p ≢ common_lisp)) (filter is_other (package_names s))
 others_are s = λ k d lt.
-    let both : (All (λ p. IsPackage s p) (filter is_other (package_names s))) × (All (λ p. is_other p ≡ true) (filter is_other (package_names s))) =
-    (
+    let both : (All (λ p. IsPackage s p) (filter is_other (package_names s))) × (All (λ p. is_other p ≡ true) (filter is_other (package_names s))) = (
       All-filter is_other (λ p. IsPackage s p) (package_names s) (All-weaker (λ p. list_any (eq p) (package_names s) ≡ true) (λ p. IsPackage s p) (λ p any. contains_key-keys s p ∙ any) (package_names s) (all_any (package_names s))),
       filter_passes is_other (package_names s),
     ) in

@@ -3,7 +3,7 @@
 --     import_goes, import_part, import_there      an import
 --     export_goes, export_part, export_there      an export
 --     use_goes, use_part, use_there      a use
-use Rattle.std.proofs.Common.{◌≡◌, ◌≢◌, Bool, true, false, not, ◌||◌, None, Some, refl, sym, ap, subst, ◌∙◌, inl}
+use Rattle.std.proofs.Common.{◌≡◌, ◌≢◌, true, false, not, ◌||◌, None, Some, refl, sym, ap, subst, ◌∙◌, inl}
 use Rattle.std.specs.Prelude.{Result, Ok, Err, is_some, option_map, if◌then◌else◌, bytes_eq}
 use Rattle.std.specs.Option.{option_map_or}
 use Rattle.std.specs.FinMap as finite
@@ -12,12 +12,12 @@ use Rattle.package_table.specs.declared.error.PackageError.{PackageError}
 use Rattle.package_table.specs.declared.error.PackageError.TheVariants.{NoSuchPackage, PackageIsLocked, NameConflict, NotAccessible}
 use Rattle.package_table.specs.Table.{Name, Entry, Package, Table, entry_at, common_lisp, keyword, is_locked, IsPackage, IsPresent, IsExternal, Uses, IsSound, with_entry, with_used}
 use Rattle.package_table.specs.Lookup.{is_present, is_used}
-use Rattle.package_table.specs.Changes.{finds_this, finds_other, user_finds_other, finds_other_than_shown, with_present, with_external, after_import, after_export, after_use}
-use Rattle.package_table.proofs.Names.{same_some, none_some}
+use Rattle.package_table.specs.Changes.{finds_this, finds_other_than_shown, with_present, with_external, after_import, after_export, after_use}
+use Rattle.package_table.proofs.Names.{same_some}
 use Rattle.package_table.proofs.Frames.{equal_itself, not_equal, entry_new, uses_new}
 use Rattle.package_table.proofs.Found.{present_found}
 use Rattle.package_table.proofs.Keeping.{present_once, new_home}
-use Rattle.snapshot_text.specs.Part.{IsAsFar, IsPartOf}
+use Rattle.snapshot_text.specs.Part.{IsPartOf}
 use Rattle.snapshot_text.proofs.PartFinds.{present_entry, present_more, none_other, no_user_other, no_shown_other}
 use Rattle.snapshot_text.proofs.PartOrder.{part_with_entry, part_with_used}
 

@@ -1,11 +1,10 @@
-use Rattle.std.proofs.Common.{◌≡◌, ◌≢◌, ℕ, ◌+◌, ◌<◌, ◌≤◌, true, List, [], map, length, take, get_or, refl, sym, ap, subst, ◌∙◌, inl, inr, arith, rules}
+use Rattle.std.proofs.Common.{◌≡◌, ◌≢◌, ℕ, ◌<◌, true, List, [], length, take, get_or, sym, ap, subst, ◌∙◌, inl, inr, arith, rules}
 use Rattle.std.specs.Prelude.{All}
 use Rattle.std.proofs.lemmas.List.{take_all}
 use Rattle.lisp_object.specs.declared.datum.Datum.{Datum}
 use Rattle.lisp_object.specs.Object.{text}
 use Rattle.lisp_object.specs.Datum.{object_of, is_proper}
 use Rattle.package_table.specs.Table.{Name, Table, keyword, IsExternal, IsPresent, IsSound}
-use Rattle.package_table.specs.Growth.{Grows}
 use Rattle.package_table.proofs.Frames.{name_cases}
 use Rattle.snapshot_text.specs.declared.package_parts.PackageParts.{PackageParts}
 use Rattle.snapshot_text.specs.Phases.{HasSymbols, HasExternals, IsRowOf}
@@ -33,8 +32,7 @@ module _ (s : Table) (p : Name) (row : PackageParts) (is : IsRowOf s p row) wher
       let long = as_many in
       let within : i < length (shown_names s p) = omega arith in
       let key = no_keyword i within in
-      let each : All (IsExternal s p) (shown_names s p) = subst (λ (ns : List Name). All (IsExternal s p) ns) (sym (shown_are s p key)) (externals_are s p) in
-      (
+      let each : All (IsExternal s p) (shown_names s p) = subst (λ (ns : List Name). All (IsExternal s p) ns) (sym (shown_are s p key)) (externals_are s p) in (
         within,
         ap is_proper at ∙ passing_item is_proper row.shown.now is.proper_shown i item lt,
         ap object_of at ∙ same_item object_of (λ n. text n) row.shown.now (shown_names s p) is.shown i item [] lt,
@@ -44,14 +42,16 @@ module _ (s : Table) (p : Name) (row : PackageParts) (is : IsRowOf s p row) wher
 
 -- all of KEYWORD is external
 all_shown : (u s : Table) (p : Name) → IsSound u → HasSymbols u s p → All (λ n. IsExternal u p n) (shown_names s p) → HasExternals u s p
-all_shown u s p sound has all = record { names = λ n shown.
-    elim (name_cases p keyword) [
-      | inl same ↦
-          let e = external_entry s p n shown in
-          let here = has.names n e.0.home (entry_present s p n e.0 e.1) in
-          subst (λ (x : Name). IsExternal u x n) (sym same) (sound.first.shown n e.0.home (subst (λ (x : Name). IsPresent u x n e.0.home) same here))
-      | inr differ ↦ external_among s p (λ n. IsExternal u p n) (subst (λ (ns : List Name). All (λ n. IsExternal u p n) ns) (shown_are s p differ) all) n shown
-    ] }
+all_shown u s p sound has all = record {
+  names = λ n shown.
+      elim (name_cases p keyword) [
+        | inl same ↦
+            let e = external_entry s p n shown in
+            let here = has.names n e.0.home (entry_present s p n e.0 e.1) in
+            subst (λ (x : Name). IsExternal u x n) (sym same) (sound.first.shown n e.0.home (subst (λ (x : Name). IsPresent u x n e.0.home) same here))
+        | inr differ ↦ external_among s p (λ n. IsExternal u p n) (subst (λ (ns : List Name). All (λ n. IsExternal u p n) ns) (shown_are s p differ) all) n shown
+      ];
+}
 
 pub returns-in_err-export_one-clause-made : goal.returns-in_err-export_one-clause-made
 returns-in_err-export_one-clause-made c = λ s p begun has row lisp.
@@ -70,9 +70,11 @@ loop-name-preserved c = record {
       let before = c.loop-name.invariant.made s p begun has row lisp in
       let owner = c.as_slice-owner.ensures ∙ c.in_ok-text_in.ensures.read row.proper_name p row.name in
       let done = c.in_ok-export_one.ensures.made s p (get_or (shown_names s p) c.loop-name.name-index []) (begun_grown _ _ s begun c.loop-name.invariant.grows before.0) (symbols_grown _ _ s p has c.loop-name.invariant.grows)
-      owner lisp read.4 read.1 read.2 read.3 in
-      (done.0, one_more (λ n. IsExternal c.loop-name.world.0.packages p n) (λ n. IsExternal c.export_one.new.world.0.packages p n) (shown_names s p) c.loop-name.name-index [] read.0
-      (λ n. c.in_ok-export_one.ensures.grows.externals p n) before.1 done.1);
+      owner lisp read.4 read.1 read.2 read.3 in (
+        done.0,
+        one_more (λ n. IsExternal c.loop-name.world.0.packages p n) (λ n. IsExternal c.export_one.new.world.0.packages p n) (shown_names s p) c.loop-name.name-index [] read.0
+            (λ n. c.in_ok-export_one.ensures.grows.externals p n) before.1 done.1,
+      );
   grows = search rules;
   rest = search rules;
 }
@@ -81,6 +83,8 @@ pub returns-clause-made : goal.returns-clause-made
 returns-clause-made c = λ s p begun has row lisp.
     let after = c.loop-name.invariant.made s p begun has row lisp in
     let long = as_many s p c.args.row.now row in
-    let all : take c.loop-name.name-index (shown_names s p) ≡ shown_names s p = take_all c.loop-name.name-index (shown_names s p) (omega arith) in
-    (after.0, all_shown c.loop-name.world.0.packages s p c.soundness.ensures.present.packages (symbols_grown _ _ s p has c.loop-name.invariant.grows)
-    (subst (λ (ns : List Name). All (λ n. IsExternal c.loop-name.world.0.packages p n) ns) all after.1))
+    let all : take c.loop-name.name-index (shown_names s p) ≡ shown_names s p = take_all c.loop-name.name-index (shown_names s p) (omega arith) in (
+      after.0,
+      all_shown c.loop-name.world.0.packages s p c.soundness.ensures.present.packages (symbols_grown _ _ s p has c.loop-name.invariant.grows)
+          (subst (λ (ns : List Name). All (λ n. IsExternal c.loop-name.world.0.packages p n) ns) all after.1),
+    )

@@ -1,7 +1,6 @@
-use Rattle.std.proofs.Common.{◌≡◌, ◌≢◌, Bool, refl, sym, ap, subst, ◌∙◌}
-use Rattle.std.specs.Prelude.{Result, Ok}
+use Rattle.std.proofs.Common.{◌≡◌, Bool, sym, ◌∙◌}
+use Rattle.std.specs.Prelude.{Ok}
 use Rattle.package_table.specs.declared.intern.Interned.{Interned}
-use Rattle.package_table.specs.Table.{Name, Table}
 use Rattle.package_table.specs.Changes.{after_intern, after_export, with_external}
 use Rattle.package_table.proofs.Growing.{grows_both}
 use Rattle.snapshot_text.proofs.Gave.{passed_on}

@@ -1,7 +1,6 @@
-use Rattle.std.proofs.Common.{◌≡◌, ◌≢◌, Bool, Some, refl, sym, ap, subst, ◌∙◌}
-use Rattle.std.specs.Prelude.{Result, Ok}
-use Rattle.package_table.specs.declared.error.PackageError.{PackageError}
-use Rattle.package_table.specs.Table.{Name, Table, common_lisp, IsPresent, IsPackage, keyword, is_locked}
+use Rattle.std.proofs.Common.{◌≡◌, ◌≢◌, Bool, sym, subst, ◌∙◌}
+use Rattle.std.specs.Prelude.{Ok}
+use Rattle.package_table.specs.Table.{Name, Table, common_lisp, IsPresent}
 use Rattle.package_table.specs.Changes.{with_present, after_import}
 use Rattle.snapshot_text.specs.Part.{IsPartOf}
 use Rattle.snapshot_text.specs.Phases.{IsBegun}

@@ -1,4 +1,4 @@
-use Rattle.std.proofs.Common.{◌≡◌, ℕ, ◌≤◌, List, [], length, take, get_or, subst, arith, rules}
+use Rattle.std.proofs.Common.{◌≡◌, List, [], take, get_or, subst, arith, rules}
 use Rattle.std.specs.Prelude.{All}
 use Rattle.std.proofs.lemmas.List.{take_all}
 use Rattle.package_table.specs.Table.{Name}
@@ -21,9 +21,11 @@ loop-row-preserved c = record {
   made = λ s sound part rows.
       let at = row_at s c.args.rows.now c.loop-row.row-index c.row-item.result rows c.loop-row-test.true c.row-item.is in
       let before = c.loop-row.invariant.made s sound part rows in
-      let done = c.in_ok-make_own.ensures.own s (get_or (other_packages s) c.loop-row.row-index []) sound at.there at.other before.0 at.is.name at.is.proper_name at.is.own at.is.proper_own in
-      (done.0, one_more (HasOwn c.loop-row.world.0.packages s) (HasOwn c.make_own.new.world.0.packages s) (other_packages s) c.loop-row.row-index [] at.within
-      (λ p has. own_grown _ _ s p has c.in_ok-make_own.ensures.grows) before.1 done.1);
+      let done = c.in_ok-make_own.ensures.own s (get_or (other_packages s) c.loop-row.row-index []) sound at.there at.other before.0 at.is.name at.is.proper_name at.is.own at.is.proper_own in (
+        done.0,
+        one_more (HasOwn c.loop-row.world.0.packages s) (HasOwn c.make_own.new.world.0.packages s) (other_packages s) c.loop-row.row-index [] at.within
+            (λ p has. own_grown _ _ s p has c.in_ok-make_own.ensures.grows) before.1 done.1,
+      );
   grows = search rules;
   rest = search rules;
 }

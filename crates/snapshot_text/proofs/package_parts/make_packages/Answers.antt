@@ -1,4 +1,4 @@
-use Rattle.std.proofs.Common.{◌≡◌, List, sym, subst}
+use Rattle.std.proofs.Common.{List, sym, subst}
 use Rattle.std.proofs.lemmas.Result.{MatchResult-weaker}
 use Rattle.package_table.proofs.Growing.{grows_both}
 use Rattle.snapshot_text.specs.declared.package_parts.PackageParts.{PackageParts}

@@ -1,6 +1,4 @@
-use Rattle.std.proofs.Common.{◌≡◌, ℕ, ◌<◌, true, List, [], ◌∷◌, map, length, get_or, refl, sym, ap, ◌∙◌, arith}
-use Rattle.std.specs.List.{list_all}
-use Rattle.lisp_object.specs.declared.datum.Datum.{Datum}
+use Rattle.std.proofs.Common.{◌≡◌, List, [], ◌∷◌, map, length, ap, ◌∙◌, arith}
 use Rattle.lisp_object.specs.Object.{Object, text, list_of}
 use Rattle.lisp_object.specs.Datum.{object_of, is_proper}
 use Rattle.package_table.specs.Table.{Name, Table}

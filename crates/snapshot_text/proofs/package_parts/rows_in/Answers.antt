@@ -1,4 +1,4 @@
-use Rattle.std.proofs.Common.{◌≡◌, ◌+◌, true, List, [], map, get_or, sym, ap, subst, ◌∙◌}
+use Rattle.std.proofs.Common.{◌+◌, List, [], map, get_or, sym, ap, subst, ◌∙◌}
 use Rattle.lisp_object.specs.Datum.{object_of, is_proper}
 use Rattle.snapshot_text.specs.declared.package_parts.PackageParts.{PackageParts}
 use Rattle.snapshot_text.specs.Phases.{AreFirstRows, other_packages}

@@ -1,4 +1,4 @@
-use Rattle.std.proofs.Common.{◌≡◌, ◌≢◌, ℕ, ◌+◌, ◌<◌, ◌≤◌, true, List, [], map, length, take, get_or, refl, sym, ap, subst, ◌∙◌, arith, rules}
+use Rattle.std.proofs.Common.{◌≡◌, ℕ, ◌<◌, true, List, [], length, take, get_or, ap, subst, ◌∙◌, arith, rules}
 use Rattle.std.specs.Prelude.{All}
 use Rattle.std.proofs.lemmas.List.{take_all}
 use Rattle.lisp_object.specs.declared.datum.Datum.{Datum}
@@ -23,8 +23,7 @@ module _ (s : Table) (p : Name) (row : PackageParts) (is : IsRowOf s p row) wher
       → (i < length (used_names s p)) × (is_proper item ≡ true) × (object_of item ≡ text (get_or (used_names s p) i [])) × Uses s p (get_or (used_names s p) i [])
   read_at i item lt at =
       let long = as_many in
-      let within : i < length (used_names s p) = omega arith in
-      (
+      let within : i < length (used_names s p) = omega arith in (
         within,
         ap is_proper at ∙ passing_item is_proper row.used.now is.proper_used i item lt,
         ap object_of at ∙ same_item object_of (λ n. text n) row.used.now (used_names s p) is.used i item [] lt,
@@ -46,9 +45,11 @@ loop-used-preserved c = record {
       let read = read_at s p c.args.row.now row c.loop-used.used-index c.used-item.result c.loop-used-test.true c.used-item.is in
       let before = c.loop-used.invariant.made s p begun row lisp in
       let owner = c.as_slice-owner.ensures ∙ c.in_ok-text_in.ensures.read row.proper_name p row.name in
-      let done = c.in_ok-use_one.ensures.made s p (get_or (used_names s p) c.loop-used.used-index []) (begun_grown _ _ s begun c.loop-used.invariant.grows before.0) owner lisp read.1 read.2 read.3 in
-      (done.0, one_more (λ q. Uses c.loop-used.world.0.packages p q) (λ q. Uses c.use_one.new.world.0.packages p q) (used_names s p) c.loop-used.used-index [] read.0
-      (λ q. c.in_ok-use_one.ensures.grows.uses p q) before.1 done.1);
+      let done = c.in_ok-use_one.ensures.made s p (get_or (used_names s p) c.loop-used.used-index []) (begun_grown _ _ s begun c.loop-used.invariant.grows before.0) owner lisp read.1 read.2 read.3 in (
+        done.0,
+        one_more (λ q. Uses c.loop-used.world.0.packages p q) (λ q. Uses c.use_one.new.world.0.packages p q) (used_names s p) c.loop-used.used-index [] read.0
+            (λ q. c.in_ok-use_one.ensures.grows.uses p q) before.1 done.1,
+      );
   grows = search rules;
   rest = search rules;
 }

@@ -1,4 +1,4 @@
-use Rattle.std.proofs.Common.{◌≡◌, ℕ, ◌++◌, List, drop, ap, ◌∙◌}
+use Rattle.std.proofs.Common.{◌≡◌, ◌++◌, ◌∙◌}
 use Rattle.package_table.specs.Table.{common_lisp_user}
 use Rattle.canon_printer.specs.Printed.{printed}
 use Rattle.snapshot_text.specs.Snapshot.{line}
@@ -13,8 +13,7 @@ returns-in_err-datum g c = λ packages x rest fits at reads.
 pub returns : goal.returns
 returns g c = λ packages x rest fits at reads.
     let found : c.in-Some.rest.now ≡ line packages x ++ rest = c.in-Some.ensures.lookup.0.2 ∙ rest_is c.args.bytes.now c.args.at c.in-Some.ensures.lookup.0.0 ∙ at in
-    let first = c.in_ok-datum.ensures packages x rest found reads in
-    (
+    let first = c.in_ok-datum.ensures packages x rest found reads in (
       first.0,
       first.1,
       after_line c.args.bytes.now (printed packages common_lisp_user x) rest c.args.at c.saturating_add.result c.saturating_add-2.result fits at

@@ -1,8 +1,7 @@
-use Rattle.std.proofs.Common.{◌≡◌, ℕ, List, drop, sym, ap, subst, ◌∙◌}
-use Rattle.package_table.specs.Table as packages
-use Rattle.package_table.specs.Table.{Table, common_lisp_user}
+use Rattle.std.proofs.Common.{List, sym, ap, subst, ◌∙◌}
+use Rattle.package_table.specs.Table.{common_lisp_user}
 use Rattle.canon_printer.specs.Printed.{printed}
-use Rattle.plist_state.specs.State.{State, initial}
+use Rattle.plist_state.specs.State.{State}
 use Rattle.plist_state.specs.Changes.{with_packages}
 use Rattle.snapshot_text.specs.Part.{IsPartOf}
 use Rattle.snapshot_text.specs.Snapshot.{packages_object}
