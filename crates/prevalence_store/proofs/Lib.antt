@@ -14,6 +14,7 @@ pub mod Running
 pub mod Snapshotting
 pub mod StreamLemmas
 pub mod Surviving
+pub mod Telling
 pub mod Turning
 pub mod Fitting
 pub mod Numbered
