@@ -51,7 +51,7 @@ module _ (functions : Functions) {D R : Type 0} (state : D → State) (old new :
   unread_input number serves left keeps = record {
     text = text;
     serves = serves;
-    reads = λ all is. let first = left all is in (first.0, first.1.1, inr (kept before has first.0 first.1.0 keeps));
+    reads = λ all is. let first = left all is in (first.0, first.1.1, kept before has first.0 first.1.0 keeps);
   }
 
   -- the input is at its end
@@ -69,7 +69,7 @@ module _ (functions : Functions) {D R : Type 0} (state : D → State) (old new :
     all_read : (e : Ending) (served : Serves functions state old new w mode text held written e) → has ≡ Some [] → HasRead functions state old new w mode text held written e served [] has
     all_read End served is = (refl, is)
     all_read (Reader number) served is = (inl refl, is)
-    all_read (Store number) served is = inr is
+    all_read (Store number) served is = is
 
   -- the session ended before it
   pub decided_input : (ending : Ending) → HasEnded functions state old new w mode text held written ending → HasLeft had has text
@@ -83,4 +83,4 @@ module _ (functions : Functions) {D R : Type 0} (state : D → State) (old new :
         → HasRead functions state old new w mode text held written e is.serves rest has
     some_read End is rest left_is = absurd is.stays
     some_read (Reader number) is rest left_is = (inr is.stays, left_is)
-    some_read (Store number) is rest left_is = inr left_is
+    some_read (Store number) is rest left_is = left_is

@@ -159,15 +159,13 @@ StaysRefused functions state old new world mode text held written number served 
     × ((place : ℕ) × (read_in functions served.far.world mode (served.far.rest ++ more) ≡ refused number place))
 
 -- How much a session has read when it ends: at the end of the input all of it; at a refusal of the reader all of it, or so much
--- that what follows makes no difference; else what the reader has left is what was not read. Where a read failed or memory was
--- refused before the first form, it is not told how much was read.
+-- that what follows makes no difference; else what the reader has left is what was not read.
 abbrev pub HasRead : (functions : Functions) {D R : Type 0} (state : D → State) (old new : Session D R) (world : World) (mode : Mode) (text : List ℕ)
     (held written : Option (List ℕ)) (ending : Ending) → Serves functions state old new world mode text held written ending → List ℕ → Option (List ℕ) → Type 0
 HasRead functions state old new world mode text held written End served left reader = (left ≡ []) × (reader ≡ Some left)
 HasRead functions state old new world mode text held written (Reader number) served left reader =
     ((left ≡ []) ⊎ StaysRefused functions state old new world mode text held written number served) × (reader ≡ Some left)
-HasRead functions state old new world mode text held written (Store number) served left reader =
-    ((served.forms ≡ 0) × ((number ≡ INPUT) ⊎ (number ≡ NO_MEMORY))) ⊎ (reader ≡ Some left)
+HasRead functions state old new world mode text held written (Store number) served left reader = reader ≡ Some left
 
 -- A session over what a reader gives: what the reader had is what was read and what is left.
 pub record ServesInput (functions : Functions) {D R : Type 0} (state : D → State) (old new : Session D R) (world : World) (mode : Mode) (had has held written : Option (List ℕ)) (ending : Ending) : Type 0 where
