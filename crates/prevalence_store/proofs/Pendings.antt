@@ -55,13 +55,13 @@ reads_none setting = reads_is setting 0 [] ∙ ap (outcome setting.table 0 (λ n
 
 -- nothing is pending, where the reader is new
 pub none_pending : (functions : Functions) (w : World) (mode : Mode) (pending : Pending) → limits_of pending.reader ≡ form_limits → IsAfter (setting_in functions w mode) pending.reader []
-    → fed pending.reader ≡ 0 → pending.text.items ≡ [] → pending.dropped ≡ 0 → IsPending functions w mode pending []
-none_pending functions w mode pending limits after count none zero = record {
+    → fed pending.reader ≡ 0 → begun pending.reader ≡ 0 → pending.text.items ≡ [] → pending.dropped ≡ 0 → IsPending functions w mode pending []
+none_pending functions w mode pending limits after count begins none zero = record {
   limits = limits;
   after = after;
   count = count;
   kept = none ∙ ap (λ n. drop n []) (sym zero);
-  enough = omega arith;
+  only = zero ∙ sym begins;
   more = subst (MayGoOn []) (sym (reads_none (setting_in functions w mode))) tt;
 }
 
@@ -96,7 +96,7 @@ kept_more text bytes byte dropped within is = ap (λ t. t ++ byte ∷ []) is ∙
 module _ (functions : Functions) (w : World) (mode : Mode) (old : Pending) (bytes : List ℕ) (pending : IsPending functions w mode old bytes) where
   -- what was dropped, of the bytes
   pub dropped_within : old.dropped ≤ length bytes
-  dropped_within = let a = pending.enough in let b = pending.count in omega arith
+  dropped_within = let a = pending.only in let b = pending.count in omega arith
 
   pub kept_count : old.dropped + length old.text.items ≡ length bytes
   kept_count = let same : length old.text.items ≡ length bytes - old.dropped = ap length pending.kept ∙ length-drop old.dropped bytes in let within = dropped_within in omega arith
@@ -107,7 +107,7 @@ module _ (functions : Functions) (w : World) (mode : Mode) (old : Pending) (byte
   last_places x start stop next is =
       let from = form_begun (setting_in functions w mode) old.reader bytes x start stop next pending.after is in
       let places = form_places functions w mode bytes x start stop next is in
-      (let a = pending.enough in omega arith, let a = places.0 in omega arith, let a = places.1 in let b = places.2 in omega arith)
+      (let a = pending.only in omega arith, let a = places.0 in omega arith, let a = places.1 in let b = places.2 in omega arith)
 
   -- the form that it is
   pub last_form : (x : Object) (own : List ℕ) (start stop next : ℕ) → read_in functions w mode bytes ≡ form x start stop next → own ≡ between start stop bytes
@@ -138,7 +138,7 @@ module _ (functions : Functions) (w : World) (mode : Mode) (old : Pending) (byte
         let places = form_places functions w mode ((bytes ++ byte ∷ []) ++ []) (object_of datum) start stop next (form_told.0 []) in
         let many : length (bytes ++ byte ∷ []) ≡ length bytes + 1 = length-append bytes (byte ∷ []) in
         record {
-          from = let a = pending.enough in let b = from.0 in omega arith;
+          from = let a = pending.only in let b = from.0 in omega arith;
           order = places.0;
           after = places.1;
           within = let a = form_told.2 in omega arith;
@@ -165,7 +165,7 @@ module _ (functions : Functions) (w : World) (mode : Mode) (old : Pending) (byte
           next_is = by_left next count (nat_lt (next - old.dropped) count) refl places all ∙ sym many;
           none = λ later in_mode. none_pending functions later in_mode after (ap limits_of reader ∙ limits)
               (subst (λ (r : FormReader). IsAfter (setting_in functions later in_mode) r []) (sym reader) (form_told.5 (setting_in functions later in_mode)))
-              (ap fed reader ∙ fed_none) none zero;
+              (ap fed reader ∙ fed_none) (ap begun reader ∙ fresh.start) none zero;
         }
 
 -- ---- the form that a text begins with

@@ -1,5 +1,5 @@
 -- What a session has read and not answered yet: what is pending, and what one byte more, or the end of the input, is to it.
-use Rattle.std.specs.Prelude.{◌≡◌, ℕ, ◌+◌, ◌≤◌, Bool, true, cond, List, [], ◌++◌, length, drop}
+use Rattle.std.specs.Prelude.{◌≡◌, ℕ, ◌+◌, Bool, true, cond, List, [], ◌++◌, length, drop}
 use Rattle.lisp_object.specs.Object.{Object, IsSound}
 use Rattle.lisp_object.specs.Datum.{object_of, is_proper}
 use Rattle.plist_state.specs.State.{State as World}
@@ -13,13 +13,13 @@ use Rattle.prevalence_store.specs.Acceptance.{between, form_limits, read_in, set
 use Rattle.prevalence_store.specs.Functions.{Functions}
 
 -- These bytes are pending, as they are read in this world and mode: the reader was fed them, and they decide nothing alone. Of
--- them those are kept that come after what matters no more.
+-- them those are kept since what the reader has open began, and no more.
 pub record IsPending (functions : Functions) (world : World) (mode : Mode) (pending : Pending) (bytes : List ℕ) : Type 0 where
   pub limits : limits_of pending.reader ≡ form_limits
   pub after : IsAfter (setting_in functions world mode) pending.reader bytes
   pub count : fed pending.reader ≡ length bytes
   pub kept : pending.text.items ≡ drop pending.dropped bytes
-  pub enough : pending.dropped ≤ begun pending.reader
+  pub only : pending.dropped ≡ begun pending.reader
   pub more : MayGoOn bytes (read_in functions world mode bytes)
 
 -- The bytes begin with a form, whatever follows them, and this is its own text. What follows the form are the last byte, where

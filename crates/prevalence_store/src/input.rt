@@ -102,7 +102,7 @@ impl Pending {
             × (begun self.old.reader ≤ self.old.dropped + vec_len self.old.text) }
         ensures kept { OnOk result ((bytes : List ℕ) → self.old.text.items ≡ drop self.old.dropped bytes
             → self.new.text.items ≡ drop self.new.dropped bytes) }
-        ensures begun { OnOk result (self.new.dropped ≤ begun self.new.reader) }
+        ensures only { OnOk result (self.new.dropped ≡ begun self.new.reader) }
         ensures reader { self.new.reader ≡ self.old.reader }
     {
         let begun = self.reader.begun();
