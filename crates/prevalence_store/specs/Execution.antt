@@ -7,6 +7,7 @@ use Rattle.gate_log.specs.Log as gated
 use Rattle.lisp_object.specs.Object.{Object}
 use Rattle.lisp_object.specs.Datum.{object_of, is_proper}
 use Rattle.lisp_object.specs.declared.datum.Datum.{Datum}
+use Rattle.form_eval.specs.Evaluated.{IsArgument}
 use Rattle.form_eval.specs.declared.evaluated.Evaluated.{Evaluated}
 use Rattle.lisp_object.specs.declared.refusal.TheConstants.{DEVICE, LOG_FULL, NO_MEMORY}
 use Rattle.prevalence_store.specs.declared.failure.Failure.{Failure}
@@ -133,3 +134,8 @@ module _ (functions : Functions) {D R : Type 0} (state : D → State) (old new :
 abbrev pub IsProperOutcome : Outcome → Type 0
 IsProperOutcome (Accepted value) = is_proper value ≡ true
 IsProperOutcome (Refused number) = Unit {0}
+
+-- And it may be stored in the world that the form left: its symbols are there. So it can be printed there, and read back.
+abbrev pub IsValueIn : World → Outcome → Type 0
+IsValueIn world (Accepted value) = IsArgument world.packages value
+IsValueIn world (Refused number) = Unit {0}
