@@ -19,6 +19,7 @@
 //! - `Store::execute` answers what acceptance gives for a text in the world (`Executes`), each answer with its cause.
 //! - `Store::serve` is told by one relation (`Serves`): how many forms were taken and answered, in which mode, what of the
 //!   lines was written, and a case for each ending with its cause.
+//! - `refusal_name` gives the name of a refusal by its number, empty for a number that is none.
 //!
 //! # Modules
 //!
@@ -43,6 +44,7 @@ mod store;
 mod turn;
 
 pub use laws::{form_numbers, fresh_files, headline, one_world, refused_openings};
+pub use lisp_object::refusal::name_of as refusal_name;
 pub use mode::Mode;
 pub use open_fault::OpenFault;
 pub use outcome::{Ending, Outcome};
