@@ -10,6 +10,7 @@ pub mod Progressing
 pub mod Replaying
 pub mod StreamLemmas
 pub mod Surviving
+pub mod Telling
 pub mod Turning
 pub mod Fitting
 pub mod Numbered
