@@ -2,9 +2,10 @@
 //!
 //! The text of a world is three printed objects: its packages, its property lists and its readtables (`snapshot` of
 //! specs/Snapshot.antt). `write` gives exactly this text. `read` gives a world whose text the bytes are, with no function
-//! missing (specs/Covered.antt), or says why not (specs/Refused.antt); the law `one_text_one_state` says that no other sound
-//! state has that text. `printed_objects_read_back` is the law that the printed text of an object is read, under the standard
-//! readtable and in the same packages, as the same object. What it asks of the tokens in the text, specs/Tokens.antt says.
+//! missing, or says why not: what it refuses is the text of no sound state, or of one that names a missing function, but where
+//! memory runs out (specs/Covered.antt). The law `one_text_one_state` says that no other sound state has that text.
+//! `printed_objects_read_back` is the law that the printed text of an object is read, under the standard readtable and in the
+//! same packages, as the same object. What it asks of the tokens in the text, specs/Tokens.antt says.
 //!
 //! - `writer`: `write`; `package_rows`, `property_rows`, `table_rows`: packages, property lists and readtables as data;
 //!   `texts`: lists of texts

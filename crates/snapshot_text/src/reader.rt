@@ -170,7 +170,8 @@ fn is_covered<R: MacroFunctions>(
 ///
 /// # Errors
 /// `MissingFunction` where the bytes are the text of a world, and one of its readtables names a function that is neither
-/// standard nor registered; `OutOfMemory` where memory runs out; `Damaged` else.
+/// standard nor registered; `OutOfMemory` where memory runs out; `Damaged` where the bytes are the text of no world that is
+/// sound and within the size.
 pub fn read<R: MacroFunctions>(
     alloc: Global,
     bytes: &[u8],

@@ -5,14 +5,14 @@ use Rattle.package_table.specs.Table.{Name}
 use Rattle.snapshot_text.specs.Phases.{HasExternals, other_packages}
 use Rattle.snapshot_text.proofs.AllPackages.{row_at, externals_everywhere}
 use Rattle.snapshot_text.proofs.Begins.{begun_grown, symbols_grown, one_more, externals_grown}
-use Rattle.snapshot_text.proofs.Gave.{passed_same}
+use Rattle.snapshot_text.proofs.Gave.{refused_same}
 use Rattle.snapshot_text.proofs.package_parts.export_all.Goals as goal
 
 pub returns-in_err-export_each-clause-made : goal.returns-in_err-export_each-clause-made
 returns-in_err-export_each-clause-made c = λ s begun has rows.
     let at = row_at s c.args.rows.now c.loop-row.row-index c.row-item.result rows c.loop-row-test.true c.row-item.is in
     let before = c.loop-row.invariant.made s begun has rows in
-    passed_same _ c.in_err-export_each.field-0.0
+    refused_same _ c.in_err-export_each.field-0.0
     (c.in_err-export_each.ensures.made s (get_or (other_packages s) c.loop-row.row-index []) (begun_grown _ _ s begun c.loop-row.invariant.grows before.0) (symbols_grown _ _ s (get_or (other_packages s) c.loop-row.row-index []) (has (get_or (other_packages s) c.loop-row.row-index []) at.there) c.loop-row.invariant.grows) at.is at.other)
     c.from_residual.result c.from_residual.ensures.1
 

@@ -10,7 +10,7 @@ use Rattle.snapshot_text.specs.declared.package_parts.PackageParts.{PackageParts
 use Rattle.snapshot_text.specs.Phases.{HasSymbols, HasExternals, IsRowOf}
 use Rattle.snapshot_text.specs.Snapshot.{shown_names}
 use Rattle.snapshot_text.proofs.Begins.{begun_grown, symbols_grown, one_more}
-use Rattle.snapshot_text.proofs.Gave.{passed_same}
+use Rattle.snapshot_text.proofs.Gave.{refused_same}
 use Rattle.snapshot_text.proofs.PackageLists.{externals_are, external_among, shown_are, shown_none}
 use Rattle.snapshot_text.proofs.PartFinds.{external_entry}
 use Rattle.snapshot_text.proofs.PartSteps.{entry_present}
@@ -58,7 +58,7 @@ returns-in_err-export_one-clause-made c = λ s p begun has row lisp.
     let read = read_at s p c.args.row.now row c.loop-name.name-index c.name-item.result c.loop-name-test.true c.name-item.is in
     let before = c.loop-name.invariant.made s p begun has row lisp in
     let owner = c.as_slice-owner.ensures ∙ c.in_ok-text_in.ensures.read row.proper_name p row.name in
-    passed_same _ c.in_err-export_one.field-0.0
+    refused_same _ c.in_err-export_one.field-0.0
     (c.in_err-export_one.ensures.made s p (get_or (shown_names s p) c.loop-name.name-index []) (begun_grown _ _ s begun c.loop-name.invariant.grows before.0) (symbols_grown _ _ s p has c.loop-name.invariant.grows)
     owner lisp read.4 read.1 read.2 read.3)
     c.from_residual-in_err-export_one.result c.from_residual-in_err-export_one.ensures.1

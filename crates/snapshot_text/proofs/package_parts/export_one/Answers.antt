@@ -3,7 +3,7 @@ use Rattle.std.specs.Prelude.{Ok}
 use Rattle.package_table.specs.declared.intern.Interned.{Interned}
 use Rattle.package_table.specs.Changes.{after_intern, after_export, with_external}
 use Rattle.package_table.proofs.Growing.{grows_both}
-use Rattle.snapshot_text.proofs.Gave.{passed_on}
+use Rattle.snapshot_text.proofs.PartMakes.{refused_so}
 use Rattle.snapshot_text.proofs.Exports.{home, interns, interned, exports, exported}
 use Rattle.snapshot_text.proofs.package_parts.export_one.Goals as goal
 
@@ -12,7 +12,7 @@ returns-in_err-interned-clause-made c = λ s p n begun has own lisp key proper e
     let t = c.args.world.now.0.packages in
     let name = c.in_ok-name.ensures.read proper n e in
     let goes : after_intern t c.args.owner.now c.in_ok-name.name.now ≡ Ok (home t s p n begun has shown, t) = (λ i. after_intern t (own i) (name i)) ∙ interns t s p n begun has shown in
-    passed_on {A = Interned} _ (λ x. (x.home, c.intern.new.self.0.packages)) c.in_err-interned.field-0.0 _ _ goes c.in_err-interned.ensures.gives
+    refused_so {A = Interned} _ (λ x. (x.home, c.intern.new.self.0.packages)) c.in_err-interned.field-0.0 _ _ goes c.in_err-interned.ensures.gives
     c.from_residual-in_err-interned.result c.from_residual-in_err-interned.ensures.1
 
 pub returns-in_err-export-clause-made : goal.returns-in_err-export-clause-made
@@ -24,7 +24,7 @@ returns-in_err-export-clause-made c = λ s p n begun has own lisp key proper e s
     let home_is : c.as_slice.result.now ≡ home t s p n begun has shown = c.as_slice.ensures ∙ same.0 in
     let goes : after_export u c.args.owner.now c.as_slice.result.now c.in_ok-name.name.now ≡ Ok (with_external t p (home t s p n begun has shown) n) =
     (λ i. after_export (same.1 i) (own i) (home_is i) (name i)) ∙ exports t s p n begun has shown lisp key c.soundness.ensures.present.packages in
-    passed_on {A = Bool} _ (λ _. c.export.new.self.0.packages) c.in_err-export.field-0.0 _ _ goes c.in_err-export.ensures.gives
+    refused_so {A = Bool} _ (λ _. c.export.new.self.0.packages) c.in_err-export.field-0.0 _ _ goes c.in_err-export.ensures.gives
     c.from_residual-in_err-export.result c.from_residual-in_err-export.ensures.1
 
 pub returns-clause-made : goal.returns-clause-made

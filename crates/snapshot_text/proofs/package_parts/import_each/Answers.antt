@@ -11,7 +11,7 @@ use Rattle.snapshot_text.specs.declared.package_parts.PackageParts.{PackageParts
 use Rattle.snapshot_text.specs.Phases.{HasSymbols, IsBegun, IsRowOf}
 use Rattle.snapshot_text.specs.Snapshot.{imported_name}
 use Rattle.snapshot_text.proofs.Begins.{begun_grown, one_more}
-use Rattle.snapshot_text.proofs.Gave.{passed_same}
+use Rattle.snapshot_text.proofs.Gave.{refused_same}
 use Rattle.snapshot_text.proofs.PackageLists.{IsImport, imports_are, import_among}
 use Rattle.snapshot_text.proofs.PartFinds.{present_package}
 use Rattle.snapshot_text.proofs.ReadRows.{same_length, same_item, passing_item}
@@ -54,7 +54,7 @@ returns-in_err-import_one-clause-made c = λ s p begun row lisp.
     let r = get_or (imports s p) c.loop-import.import-index none in
     let before = c.loop-import.invariant.made s p begun row lisp in
     let owner = c.as_slice-owner.ensures ∙ c.in_ok-text_in.ensures.read row.proper_name p row.name in
-    passed_same _ c.in_err-import_one.field-0.0
+    refused_same _ c.in_err-import_one.field-0.0
     (c.in_err-import_one.ensures.made s p r.0 r.1 (begun_grown _ _ s begun c.loop-import.invariant.grows before.0) owner lisp read.1 read.2 read.3.0 read.3.1)
     c.from_residual-in_err-import_one.result c.from_residual-in_err-import_one.ensures.1
 

@@ -6,7 +6,8 @@ use Rattle.snapshot_text.specs.Part.{IsPartOf}
 use Rattle.snapshot_text.specs.Phases.{IsBegun}
 use Rattle.snapshot_text.proofs.PartFinds.{present_package}
 use Rattle.snapshot_text.proofs.PartSteps.{not_locked, import_goes, import_part, import_there}
-use Rattle.snapshot_text.proofs.Gave.{passed_on, same_ok}
+use Rattle.snapshot_text.proofs.Gave.{same_ok}
+use Rattle.snapshot_text.proofs.PartMakes.{refused_so}
 use Rattle.snapshot_text.proofs.package_parts.import_one.Goals as goal
 
 -- an import of s goes, where the packages are begun
@@ -26,7 +27,7 @@ returns-in_err-import-clause-made c = λ s p n h begun own lisp proper e got oth
     let parts = c.in_ok-name.ensures n h proper e in
     let goes_on : after_import c.args.world.now.0.packages c.args.owner.now c.in_ok-name.home.now c.in_ok-name.name.now ≡ Ok (with_present c.args.world.now.0.packages p h n) =
     (λ i. after_import c.args.world.now.0.packages (own i) (parts.1 i) (parts.0 i)) ∙ goes c.args.world.now.0.packages s p n h begun lisp got other in
-    passed_on {A = Bool} _ (λ _. c.import.new.self.0.packages) c.in_err-import.field-0.0 _ _ goes_on c.in_err-import.ensures.gives c.from_residual-in_err-import.result c.from_residual-in_err-import.ensures.1
+    refused_so {A = Bool} _ (λ _. c.import.new.self.0.packages) c.in_err-import.field-0.0 _ _ goes_on c.in_err-import.ensures.gives c.from_residual-in_err-import.result c.from_residual-in_err-import.ensures.1
 
 pub returns-clause-made : goal.returns-clause-made
 returns-clause-made c = λ s p n h begun own lisp proper e got other.

@@ -5,14 +5,14 @@ use Rattle.package_table.specs.Table.{Name}
 use Rattle.snapshot_text.specs.Phases.{HasOwn, other_packages}
 use Rattle.snapshot_text.proofs.AllPackages.{row_at, own_everywhere}
 use Rattle.snapshot_text.proofs.Begins.{one_more, own_grown}
-use Rattle.snapshot_text.proofs.Gave.{passed_same}
+use Rattle.snapshot_text.proofs.Gave.{refused_same}
 use Rattle.snapshot_text.proofs.package_parts.make_all.Goals as goal
 
 pub returns-in_err-make_own-clause-made : goal.returns-in_err-make_own-clause-made
 returns-in_err-make_own-clause-made c = λ s sound part rows.
     let at = row_at s c.args.rows.now c.loop-row.row-index c.row-item.result rows c.loop-row-test.true c.row-item.is in
     let before = c.loop-row.invariant.made s sound part rows in
-    passed_same _ c.in_err-make_own.field-0.0
+    refused_same _ c.in_err-make_own.field-0.0
     (c.in_err-make_own.ensures.own s (get_or (other_packages s) c.loop-row.row-index []) sound at.there at.other before.0 at.is.name at.is.proper_name at.is.own at.is.proper_own)
     c.from_residual.result c.from_residual.ensures.1
 

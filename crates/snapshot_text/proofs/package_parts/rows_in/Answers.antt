@@ -19,5 +19,5 @@ loop-row-preserved c = λ s proper e.
     let row = c.in_ok-package_parts.ensures s (get_or (other_packages s) c.loop-row.row-index [])
     (ap is_proper c.row-item.is ∙ passing_item is_proper c.in_ok-row-items.row-items.now read.1 c.loop-row.row-index c.row-item.result c.loop-row-test.true)
     (ap object_of c.row-item.is ∙ same_item object_of (package_object s) c.in_ok-row-items.row-items.now (other_packages s) read.0 c.loop-row.row-index c.row-item.result [] c.loop-row-test.true) in
-    subst (λ (rows : List PackageParts). AreFirstRows s (c.loop-row.row-index + 1) rows) (sym c.in_ok-push_parts.ensures)
+    subst (λ (rows : List PackageParts). AreFirstRows s (c.loop-row.row-index + 1) rows) (sym {A = List PackageParts} c.in_ok-push_parts.ensures)
     (more_rows s c.loop-row.rows.items c.in_ok-package_parts.field-0 c.loop-row.row-index (c.loop-row.invariant s proper e) row)

@@ -5,14 +5,14 @@ use Rattle.package_table.specs.Table.{Name}
 use Rattle.snapshot_text.specs.Phases.{HasUses, other_packages}
 use Rattle.snapshot_text.proofs.AllPackages.{row_at, uses_everywhere}
 use Rattle.snapshot_text.proofs.Begins.{begun_grown, one_more, uses_grown}
-use Rattle.snapshot_text.proofs.Gave.{passed_same}
+use Rattle.snapshot_text.proofs.Gave.{refused_same}
 use Rattle.snapshot_text.proofs.package_parts.use_all.Goals as goal
 
 pub returns-in_err-use_each-clause-made : goal.returns-in_err-use_each-clause-made
 returns-in_err-use_each-clause-made c = λ s begun rows.
     let at = row_at s c.args.rows.now c.loop-row.row-index c.row-item.result rows c.loop-row-test.true c.row-item.is in
     let before = c.loop-row.invariant.made s begun rows in
-    passed_same _ c.in_err-use_each.field-0.0
+    refused_same _ c.in_err-use_each.field-0.0
     (c.in_err-use_each.ensures.made s (get_or (other_packages s) c.loop-row.row-index []) (begun_grown _ _ s begun c.loop-row.invariant.grows before.0) at.is at.other)
     c.from_residual.result c.from_residual.ensures.1
 

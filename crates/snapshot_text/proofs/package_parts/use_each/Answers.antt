@@ -9,7 +9,7 @@ use Rattle.package_table.specs.Readers.{used_names}
 use Rattle.snapshot_text.specs.declared.package_parts.PackageParts.{PackageParts}
 use Rattle.snapshot_text.specs.Phases.{IsRowOf}
 use Rattle.snapshot_text.proofs.Begins.{begun_grown, one_more}
-use Rattle.snapshot_text.proofs.Gave.{passed_same}
+use Rattle.snapshot_text.proofs.Gave.{refused_same}
 use Rattle.snapshot_text.proofs.PackageLists.{uses_are, use_among}
 use Rattle.snapshot_text.proofs.ReadRows.{same_length, same_item, passing_item}
 use Rattle.snapshot_text.proofs.package_parts.use_each.Goals as goal
@@ -35,7 +35,7 @@ returns-in_err-use_one-clause-made c = λ s p begun row lisp.
     let read = read_at s p c.args.row.now row c.loop-used.used-index c.used-item.result c.loop-used-test.true c.used-item.is in
     let before = c.loop-used.invariant.made s p begun row lisp in
     let owner = c.as_slice-owner.ensures ∙ c.in_ok-text_in.ensures.read row.proper_name p row.name in
-    passed_same _ c.in_err-use_one.field-0.0
+    refused_same _ c.in_err-use_one.field-0.0
     (c.in_err-use_one.ensures.made s p (get_or (used_names s p) c.loop-used.used-index []) (begun_grown _ _ s begun c.loop-used.invariant.grows before.0) owner lisp read.1 read.2 read.3)
     c.from_residual-in_err-use_one.result c.from_residual-in_err-use_one.ensures.1
 

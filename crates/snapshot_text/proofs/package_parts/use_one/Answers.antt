@@ -5,7 +5,8 @@ use Rattle.package_table.specs.Changes.{after_use}
 use Rattle.package_table.proofs.KeptSound.{used_is_package}
 use Rattle.snapshot_text.specs.Part.{IsPartOf}
 use Rattle.snapshot_text.specs.Phases.{IsBegun}
-use Rattle.snapshot_text.proofs.Gave.{passed_on, same_ok}
+use Rattle.snapshot_text.proofs.Gave.{same_ok}
+use Rattle.snapshot_text.proofs.PartMakes.{refused_so}
 use Rattle.snapshot_text.proofs.PartSteps.{not_locked, after_used, use_goes, use_part, use_there}
 use Rattle.snapshot_text.proofs.package_parts.use_one.Goals as goal
 
@@ -30,7 +31,7 @@ returns-in_err-use_package-clause-made c = λ s p q begun own lisp proper e uses
     let name = c.as_slice-used.ensures ∙ c.in_ok-text_in.ensures.read proper q e in
     let sound = c.soundness.ensures.present.packages in
     let gone : after_use t c.args.owner.now c.as_slice-used.result.now ≡ Ok (after t s p q begun lisp uses sound) = (λ i. after_use t (own i) (name i)) ∙ goes t s p q begun lisp uses sound in
-    passed_on {A = Bool} _ (λ _. c.use_package.new.self.0.packages) c.in_err-use_package.field-0.0 _ _ gone c.in_err-use_package.ensures.gives
+    refused_so {A = Bool} _ (λ _. c.use_package.new.self.0.packages) c.in_err-use_package.field-0.0 _ _ gone c.in_err-use_package.ensures.gives
     c.from_residual-in_err-use_package.result c.from_residual-in_err-use_package.ensures.1
 
 pub returns-clause-made : goal.returns-clause-made
