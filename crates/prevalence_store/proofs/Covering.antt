@@ -9,7 +9,6 @@ use Rattle.std.specs.Ordering.{eq_by_cmp}
 use Rattle.std.specs.FinMap as finite
 use Rattle.std.specs.FinMap.{contains_key-keys, get-empty, get-insert}
 use Rattle.std.proofs.lemmas.Bool.{false≢true, or_cases, and_parts}
-use Rattle.disk_trait.specs.Disk.{Image}
 use Rattle.gate_log.specs.Layout.{Contents, Entry}
 use Rattle.lisp_object.specs.Object.{Object}
 use Rattle.readtable_core.specs.Named.{functions_of as named_by}
@@ -31,7 +30,7 @@ use Rattle.snapshot_text.specs.Snapshot.{table_named}
 use Rattle.snapshot_text.proofs.Ascii.{keys_pass}
 use Rattle.prevalence_store.specs.Acceptance.{Acceptance, acceptance_of, accepted_of, accepts, after, between, mode_of, read_in}
 use Rattle.prevalence_store.specs.Functions.{Functions}
-use Rattle.prevalence_store.specs.Meaning.{ContentsMean, IsWorldOf, MeansWorld}
+use Rattle.prevalence_store.specs.Meaning.{ContentsMean}
 use Rattle.lisp_object.specs.declared.refusal.TheConstants.{TEXT_LEFT_OVER}
 
 -- ---- a world, and each of its readtables
