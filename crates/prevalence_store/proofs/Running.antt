@@ -1,13 +1,9 @@
 -- What steps one after the other come to.
-use Rattle.std.proofs.Common.{◌≡◌, ℕ, ◌+◌, ◌==◌, Bool, true, false, List, [], ◌∷◌, ◌++◌, length, Option, None, Some, is_some, Result, Ok, Err, IsTrue, refl, sym, ap, ap₂, subst, ◌∙◌, inl, inr, append-nil, arith, Bor}
-use Rattle.std.specs.Prelude.{if◌then◌else◌}
+use Rattle.std.proofs.Common.{◌≡◌, ℕ, ◌+◌, ◌==◌, Bool, true, false, List, [], ◌∷◌, ◌++◌, length, Option, None, Some, Result, Ok, Err, IsTrue, refl, sym, ap, ap₂, subst, ◌∙◌, inl, inr, append-nil, arith, Bor}
 use Rattle.std.proofs.lemmas.Bool.{eq-eqb, ne_eqb}
 use Rattle.disk_trait.specs.Disk.{State, IsHonest, IsSound}
 use Rattle.gate_log.specs.Layout.{Entry}
-use Rattle.lisp_object.specs.Object.{Object}
-use Rattle.lisp_object.specs.declared.datum.Datum.{Datum}
-use Rattle.lisp_object.specs.Datum.{object_of}
-use Rattle.lisp_object.specs.declared.refusal.TheConstants.{DEVICE, LOG_FULL, NO_MEMORY, REOPEN}
+use Rattle.lisp_object.specs.declared.refusal.TheConstants.{DEVICE, REOPEN}
 use Rattle.plist_state.specs.State.{State as World}
 use Rattle.prevalence_store.specs.declared.mode.Mode.{Mode}
 use Rattle.prevalence_store.specs.declared.outcome.Outcome.{Outcome}
@@ -19,8 +15,8 @@ use Rattle.prevalence_store.specs.Execution.{Executes, Stores, SurvivesAs}
 use Rattle.prevalence_store.specs.Functions.{Functions}
 use Rattle.prevalence_store.specs.Runs.{TakesStep, TakesSteps, acknowledged_in_steps, acknowledged_of, taken_in_steps, taken_of, world_of}
 use Rattle.prevalence_store.specs.Session.{Session}
-use Rattle.prevalence_store.specs.Snapshots.{IsSnapshotted, Snapshots}
-use Rattle.prevalence_store.specs.Theorem.{Keeps, Survives}
+use Rattle.prevalence_store.specs.Snapshots.{Snapshots}
+use Rattle.prevalence_store.specs.Theorem.{Survives}
 use Rattle.prevalence_store.proofs.Surviving.{both_survive, unchanged_survives}
 
 -- ---- no record is taken of a form that was refused for another reason than the device

@@ -1,4 +1,4 @@
-use Rattle.std.proofs.Common.{List, ◌+◌, [], ◌∷◌, ◌++◌, length, take, sym, subst, ◌∙◌, arith}
+use Rattle.std.proofs.Common.{List, ◌+◌, [], ◌∷◌, ◌++◌, take, sym, subst, ◌∙◌, arith}
 use Rattle.std.specs.List.{All}
 use Rattle.std.proofs.lemmas.List.{take_all, take_more}
 use Rattle.std.proofs.lemmas.List.Elements.{All-append, All-cons, All-nil}
