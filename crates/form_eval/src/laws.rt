@@ -6,7 +6,7 @@ ghost use Rattle.plist_state.specs.State.{State};
 ghost use Rattle.plist_state.specs.Sound.{IsSound};
 ghost use Rattle.form_eval.specs.Outcomes.{Done};
 ghost use Rattle.form_eval.specs.Acceptance.{accept};
-ghost use Rattle.form_eval.specs.Laws.{AreFunctionNames, IsForm, IsSoundAfter};
+ghost use Rattle.form_eval.specs.Laws.{AreCovered, AreFunctionNames, IsForm, IsSoundAfter};
 
 /// A form that is accepted and does not write leaves the state of the world as it was. For proofs: it does nothing.
 pub fn silent_forms_change_nothing()
@@ -19,6 +19,13 @@ pub fn silent_forms_change_nothing()
 pub fn accepted_states_are_sound()
     ensures { (names : List Name) (s : State) (x : Object) (d : Done Object)
         → AreFunctionNames names → IsSound s → IsForm s.packages x → accept names s x ≡ Ok d → IsSoundAfter s d }
+{}
+
+/// Where the readtables of a state name no function but those of the standard readtable and these names of macro functions, a
+/// form that is accepted leaves such readtables. For proofs: it does nothing.
+pub fn accepted_readtables_are_covered()
+    ensures { (names : List Name) (s : State) (x : Object) (d : Done Object) → accept names s x ≡ Ok d
+        → AreCovered names s.readtables → AreCovered names d.state.readtables }
 {}
 
 /// A form is refused under a number of evaluation alone, 30 to 46. For proofs: it does nothing.

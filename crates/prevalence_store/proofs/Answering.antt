@@ -1,5 +1,5 @@
 -- How what was answered joins, and that it stays whatever follows the text.
-use Rattle.std.proofs.Common.{◌≡◌, ℕ, ◌+◌, ◌-◌, ◌<◌, ◌≤◌, Bool, true, false, cond, List, [], ◌∷◌, ◌++◌, length, take, drop, Option, None, Some, IsSome, Ok, Err, inl, inr, refl, sym, ap, subst, ◌∙◌, append_assoc, append-nil, length-append, length-drop, arith}
+use Rattle.std.proofs.Common.{◌≡◌, ℕ, ◌+◌, ◌-◌, ◌<◌, ◌≤◌, Bool, true, false, cond, List, [], ◌∷◌, ◌++◌, length, take, drop, Option, None, Some, Ok, Err, inl, inr, refl, sym, ap, subst, ◌∙◌, append_assoc, append-nil, length-append, length-drop, arith}
 use Rattle.std.proofs.lemmas.List.{take-append-drop, take-append-le, drop-append-le, drop_all}
 use Rattle.disk_trait.specs.Disk.{State, IsHonest, IsSound}
 use Rattle.form_eval.specs.Acceptance.{accept}
@@ -17,7 +17,7 @@ use Rattle.prevalence_store.specs.Acceptance.{between, read_in, setting_in}
 use Rattle.prevalence_store.specs.Functions.{Functions}
 use Rattle.prevalence_store.specs.Output.{Progress, after_forms, begun, evaluated, one_form, onward}
 use Rattle.prevalence_store.specs.Pending.{HasForm, IsLastForm, IsPending, HasRefusal}
-use Rattle.prevalence_store.specs.Serving.{Advances, IsAfter, Serves, StaysRefused}
+use Rattle.prevalence_store.specs.Serving.{Advances, IsAfter, Serves}
 use Rattle.prevalence_store.specs.Session.{Session}
 use Rattle.prevalence_store.specs.Turns.{Answers, AnswersFault, AnswersForm, BeginsWith, GoesOn, HasEnded, LeavesByte, StaysEnded}
 use Rattle.prevalence_store.proofs.Executing.{form_places}
@@ -25,7 +25,7 @@ use Rattle.prevalence_store.specs.Streams.{Writes}
 use Rattle.prevalence_store.proofs.Pendings.{reads_none}
 use Rattle.prevalence_store.proofs.Progressing.{advance_both, forms_onward, serve_both}
 use Rattle.prevalence_store.proofs.Surviving.{unchanged_survives}
-use Rattle.prevalence_store.proofs.Turning.{after_none, after_one_form, fault_answered, no_memory, nothing, writes_nothing}
+use Rattle.prevalence_store.proofs.Turning.{after_none, after_one_form, fault_answered, nothing, writes_nothing}
 
 -- with more text after what is left
 abbrev pub longer : Progress → List ℕ → Progress

@@ -1,5 +1,6 @@
 pub mod Answering
 pub mod Committing
+pub mod Covering
 pub mod Executing
 pub mod Inputs
 pub mod Joining
@@ -9,6 +10,8 @@ pub mod Pendings
 pub mod Progressing
 pub mod Renewing
 pub mod Replaying
+pub mod Running
+pub mod Snapshotting
 pub mod StreamLemmas
 pub mod Surviving
 pub mod Turning

@@ -1,12 +1,12 @@
 -- What the answer to a form, and to a refusal of the reader, is to a session.
-use Rattle.std.proofs.Common.{◌≡◌, ◌≢◌, ◌∷◌, ℕ, ◌+◌, ◌<◌, ◌≤◌, Bool, true, false, List, [], ◌++◌, length, drop, Option, None, Some, IsSome, is_some, Result, Ok, Err, IfOk, IfErr, refl, sym, ap, subst, ◌∙◌, inl, inr, append_assoc, append-nil, arith}
+use Rattle.std.proofs.Common.{◌≡◌, ◌≢◌, ◌∷◌, ℕ, Bool, true, false, List, [], ◌++◌, length, drop, Option, None, Some, IsSome, is_some, Result, Ok, Err, IfOk, IfErr, refl, sym, ap, subst, ◌∙◌, inl, inr, append_assoc, append-nil, arith}
 use Rattle.std.specs.Option.{option_map}
 use Rattle.disk_trait.specs.Disk.{State, IsHonest, IsSound}
 use Rattle.disk_trait.specs.Half.{opposite_of}
 use Rattle.gate_log.specs.Layout.{Entry}
 use Rattle.lisp_object.specs.Object.{Object}
 use Rattle.lisp_object.specs.Datum.{object_of, is_proper}
-use Rattle.lisp_object.specs.declared.refusal.TheConstants.{DEVICE, INPUT, LOG_FULL, OUTPUT, NO_MEMORY}
+use Rattle.lisp_object.specs.declared.refusal.TheConstants.{INPUT, LOG_FULL, OUTPUT, NO_MEMORY}
 use Rattle.form_eval.specs.Acceptance.{accept}
 use Rattle.form_eval.specs.Outcomes.{Done, Outcome as Evaluation}
 use Rattle.form_eval.specs.Evaluated.{IsArgument, done as done_of}
@@ -14,7 +14,7 @@ use Rattle.form_eval.specs.declared.evaluated.Evaluated.{Evaluated}
 use Rattle.canon_printer.specs.Printed.{printed}
 use Rattle.form_reader.specs.Reader.{MayGoOn}
 use Rattle.form_reader.specs.Reading.{form, empty, refused}
-use Rattle.plist_state.specs.State.{State as World, initial}
+use Rattle.plist_state.specs.State.{State as World}
 use Rattle.prevalence_store.specs.declared.failure.Failure.{Failure}
 use Rattle.prevalence_store.specs.declared.failure.Failure.TheVariants.{Refused, Full, DeviceFault, OutOfMemory}
 use Rattle.prevalence_store.specs.declared.mode.Mode.{Mode}
@@ -24,7 +24,7 @@ use Rattle.prevalence_store.specs.Acceptance.{after, between, logged, read_in, r
 use Rattle.prevalence_store.specs.Causes.{is_device, IsCause}
 use Rattle.prevalence_store.specs.Execution.{DeviceFails, Stores, SurvivesAs, acknowledged_in, taken_in}
 use Rattle.prevalence_store.specs.Output.{Progress, after_forms, begun, evaluated, last_line, one_form, onward, refusal_line, value_line}
-use Rattle.prevalence_store.specs.Serving.{Advances, Ends, IsAfter, IsOver, Serves}
+use Rattle.prevalence_store.specs.Serving.{Ends, IsAfter, IsOver, Serves}
 use Rattle.gate_log.specs.Place.{HalvesValue}
 use Rattle.prevalence_store.specs.Session.{Session, Describes, session_of}
 use Rattle.prevalence_store.proofs.Committing.{accepts-logged}

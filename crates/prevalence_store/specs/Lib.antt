@@ -14,6 +14,7 @@ pub mod Opening
 pub mod Output
 pub mod Streams
 pub mod Serving
+pub mod Runs
 -- how the code answers it
 pub mod Pending
 pub mod Turns

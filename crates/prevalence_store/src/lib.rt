@@ -7,24 +7,29 @@
 //! - *What a call survives* (`Survives`): a crash at any moment of the call, inside a device call too, leaves files that mean
 //!   the world after some of the forms that the call took, in order, from the first on; once it has ended, at least after
 //!   those that it acknowledged. `execute` takes its one form, and acknowledges it where it answers `Accepted`; `serve` takes
-//!   the forms that it reads and accepts, and has acknowledged all whose answers were written whole; `close` takes none.
+//!   the forms that it reads and accepts, and has acknowledged all whose answers were written whole; `run` those of its steps;
+//!   `snapshot` and `close` take none.
 //! - *What opening gives* (`Reopens`): where the files mean a world, `Store::open` gives that world, or a refusal that is no
 //!   word on the files. While it opens, a crash leaves what the files might have meant before. A refusal gives the disk back.
 //! - *The two together* (`headline`): after an opening and any calls in a row, a crash at any moment and an opening of what it leaves give
 //!   the world after some of all the forms, from the first on, and after all that were acknowledged.
 //!
 //! Of every disk: each call returns; 60 comes exactly where the device's count of failures rose, and after it each call but
-//! `close`, `world`, `half`, `generation` and `record_count` answers 61; a refusal of 1 to 46, 64 or 90 changes nothing.
+//! `close`, `world`, `half`, `generation` and `record_count` answers 61; a refusal of 1 to 46, 64, 65 or 90 changes nothing.
 //!
 //! - `Store::execute` answers what acceptance gives for a text in the world (`Executes`), each answer with its cause.
+//! - `Store::snapshot` starts the half that is not in use with the text of the world (`snapshot_text`), and changes neither
+//!   the world nor what the files mean (`Snapshots`).
+//! - `Store::run` gives per step what these two answer in the state that the steps before it left (`TakesSteps`).
 //! - `Store::serve` is told by one relation (`Serves`): how many forms were taken and answered, in which mode, what of the
-//!   lines was written, and a case for each ending with its cause.
+//!   lines was written, what the log holds then (`IsAfter`), and a case for each ending with its cause.
 //!
 //! # Modules
 //!
-//! - `store` with `open`, `execute` and `serve`: the store, on the log of `gate_log`. `commit` evaluates a form and logs it;
+//! - `store` with `open`, `execute`, `snapshot`, `run` and `serve`: the store, on the log of `gate_log`. `commit` evaluates a form and logs it;
 //!   `replay` makes the world again from the records of a log; `input` and `output` are the streams of a session.
-//! - `mode`, `outcome`, `open_fault`: the words of its calls. `failure`, `turn`: their inner reasons.
+//! - `mode`, `step`, `outcome`, `open_fault`: the words of its calls. `failure`, `turn`: their inner reasons. `schedule`: when a
+//!   session takes snapshots.
 //! - `laws`: the headline, that an image means one world, and which numbers refuse a form.
 //! - `setting`: under what a text is read, by the mode, and what it begins with (`form_reader`).
 #![tactic(auto)]
@@ -40,6 +45,7 @@ mod output;
 mod replay;
 mod schedule;
 mod setting;
+mod step;
 mod store;
 mod turn;
 
@@ -47,4 +53,5 @@ pub use laws::{form_numbers, fresh_files, headline, one_world, refused_openings}
 pub use mode::Mode;
 pub use open_fault::OpenFault;
 pub use outcome::{Ending, Outcome};
+pub use step::Step;
 pub use store::{Store, Unopened};

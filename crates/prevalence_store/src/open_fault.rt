@@ -6,6 +6,7 @@ use gate_log::{OpenRefusal, ReadError};
 use lisp_object::refusal::{
     DAMAGED, DEVICE, MISSING_MACRO, NO_MEMORY, SNAPSHOT_TOO_LARGE, VERSION,
 };
+use snapshot_text::SnapshotError;
 
 /// Why a store is not opened. No call gives one, but the clause of a refused opening names it as the cause of its number.
 #[derive(Clone, Copy, Debug, PartialEq, Eq)]
@@ -22,7 +23,7 @@ pub enum OpenFault {
     TooLarge,
     /// A macro function of the meaning is not registered.
     NotWhole,
-    /// A record asks for a macro function that the meaning has not.
+    /// The snapshot, or a record, asks for a macro function that the meaning has not.
     UnknownFunction,
 }
 
@@ -67,6 +68,20 @@ impl From<ReadError> for OpenFault {
             ReadError::OutOfMemory => OpenFault::OutOfMemory,
             ReadError::DeviceFault => OpenFault::DeviceFault,
             ReadError::Damaged => OpenFault::Damaged,
+        }
+    }
+}
+
+impl From<SnapshotError> for OpenFault {
+    ghost use Rattle.prevalence_store.specs.Opening.{fault_of_snapshot};
+
+    ghost from_gives = { λ error fault. fault ≡ fault_of_snapshot error };
+
+    fn from(error: SnapshotError) -> OpenFault {
+        match error {
+            SnapshotError::OutOfMemory => OpenFault::OutOfMemory,
+            SnapshotError::Damaged => OpenFault::Damaged,
+            SnapshotError::MissingFunction => OpenFault::UnknownFunction,
         }
     }
 }

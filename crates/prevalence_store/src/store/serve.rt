@@ -395,7 +395,8 @@ impl<D: Disk, R: MacroFunctions> Store<D, R> {
         }
         match self.renew() {
             Ok(()) => None,
-            Err(number) => { if number == SNAPSHOT_TOO_LARGE { None } else { Some(number) } }
+            Err(SNAPSHOT_TOO_LARGE) => None,
+            Err(number) => Some(number),
         }
     }
 

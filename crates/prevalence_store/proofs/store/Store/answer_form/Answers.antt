@@ -1,4 +1,4 @@
-use Rattle.std.proofs.Common.{Some, ap, subst, sym, ◌∙◌}
+use Rattle.std.proofs.Common.{ap, subst, sym, ◌∙◌}
 use Rattle.prevalence_store.specs.Functions.{functions_of}
 use Rattle.prevalence_store.specs.Serving.{IsOver}
 use Rattle.prevalence_store.specs.Session.{Session}

@@ -1,8 +1,7 @@
-use Rattle.std.proofs.Common.{rules, [], ◌++◌, append-nil, sym, ◌+◌, ◌*◌, ◌≤◌, ◌<◌, None, Some, is_some, length, take, refl, ap, subst, ◌∙◌, arith}
+use Rattle.std.proofs.Common.{rules, [], ◌++◌, None, Some, take, refl, subst, ◌∙◌, arith}
 use Rattle.std.specs.Io.KnownBytes.{Consumes}
 use Rattle.prevalence_store.specs.Functions.{functions_of}
 use Rattle.prevalence_store.proofs.Answering.{end_both, more_both, nothing_answered, unread_after}
-use Rattle.prevalence_store.proofs.Executing.{known_world}
 use Rattle.prevalence_store.proofs.Inputs.{decided_input, ended_input, consumes_none, keeps_same, left_both, unread_input}
 use Rattle.prevalence_store.proofs.store.Store.serve.Goals as goal
 

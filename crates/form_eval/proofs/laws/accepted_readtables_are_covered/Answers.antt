@@ -1,0 +1,5 @@
+use Rattle.form_eval.proofs.CoveringForms.{accepted_covers}
+use Rattle.form_eval.proofs.laws.accepted_readtables_are_covered.Goals as goal
+
+pub returns : goal.returns
+returns c = accepted_covers

@@ -1,0 +1,12 @@
+// The steps of a run.
+
+use crate::mode::Mode;
+
+/// A step of `Store::run`.
+#[derive(Clone, Copy, Debug, PartialEq, Eq)]
+pub enum Step<'a> {
+    /// `execute` of this text.
+    Form(Mode, &'a [u8]),
+    /// `snapshot`.
+    Snapshot,
+}
