@@ -1,69 +1,138 @@
--- What clap makes of `run`, a folder and perhaps `--rescue`.
-use Rattle.std.proofs.Common.{◌≡◌, ◌≢◌, ◌==◌, ◌∙◌, ℕ, List, [], ◌∷◌, Option, None, Some, option_map, option_and_then, codes, true, false, refl, rules, ap}
-use Rattle.clap.specs.Words.{Row, Text, takes, is_simple, first_of}
+-- What clap makes of the words of a command.
+use Rattle.std.proofs.Common.{◌≡◌, ◌≢◌, ◌==◌, ◌∙◌, ◌&&◌, ◌<◌, ◌≤◌, ◌++◌, ◌^◌, ◌-◌, ℕ, List, [], ◌∷◌, Option, Some, codes, true, false, refl, rules, ap, sym, subst, inl, inr, arith, length}
+use Rattle.std.proofs.lemmas.Str.Parse.{digit_from_value}
+use Rattle.std.specs.Str.Parse.{IsNumeral, digits_value, without_leading_plus}
+use Rattle.clap.specs.ValueTests.{is_unsigned_in}
+use Rattle.clap.specs.Values.{Accepts}
+use Rattle.clap.specs.declared.builder.value_parser.ValueParser.TheVariants.{Unsigned}
+use Rattle.clap.specs.Words.{Text, takes, is_simple}
 use Rattle.clap.proofs.OnLiterals.{clap_on_literals}
+use Rattle.clap.proofs.ValueTestLemmas.{Accepts-accepts}
 use Rattle.prevalence_store.specs.declared.mode.Mode.{Mode}
 use Rattle.prevalence_store.specs.declared.mode.Mode.TheVariants.{Current, Rescue}
-use Rattle.store_program.specs.CommandLine.{command_line, folder_in, flag_for, mode_in, value_found, AsksFor}
+use Rattle.store_program.specs.declared.words.Task.{Task}
+use Rattle.store_program.specs.declared.words.Task.TheVariants.{Run, Dump, Verify}
+use Rattle.store_program.specs.CommandLine.{AsksFor, IsLine, asked_in, command_line, every_of_number, flag_for}
 
 pub simple_line : is_simple command_line ≡ true
 unfolding clap_on_literals
 simple_line = refl
 
+-- words that are written out but for the program's name, the folder and the number
 module _ (program : Text) (x : ℕ) (xs : Text) (e : (x == 45) ≡ false) where
+  taken_dump : takes command_line (program ∷ codes "dump" ∷ (x ∷ xs) ∷ []) ≡ true
+  unfolding clap_on_literals
+  taken_dump = simp e
+
+  asked_dump : asked_in (program ∷ codes "dump" ∷ (x ∷ xs) ∷ []) ≡ Some (x ∷ xs, Dump)
+  unfolding clap_on_literals
+  asked_dump = simp e
+
+  taken_verify : takes command_line (program ∷ codes "verify" ∷ (x ∷ xs) ∷ []) ≡ true
+  unfolding clap_on_literals
+  taken_verify = simp e
+
+  asked_verify : asked_in (program ∷ codes "verify" ∷ (x ∷ xs) ∷ []) ≡ Some (x ∷ xs, Verify)
+  unfolding clap_on_literals
+  asked_verify = simp e
+
   taken_current : takes command_line (program ∷ codes "run" ∷ (x ∷ xs) ∷ []) ≡ true
   unfolding clap_on_literals
   taken_current = simp e
+
+  asked_current : asked_in (program ∷ codes "run" ∷ (x ∷ xs) ∷ []) ≡ Some (x ∷ xs, Run Current 0)
+  unfolding clap_on_literals
+  asked_current = simp e
 
   taken_rescue : takes command_line (program ∷ codes "run" ∷ (x ∷ xs) ∷ codes "--rescue" ∷ []) ≡ true
   unfolding clap_on_literals
   taken_rescue = simp e
 
-  folder_current : folder_in (program ∷ codes "run" ∷ (x ∷ xs) ∷ []) ≡ Some (x ∷ xs)
+  asked_rescue : asked_in (program ∷ codes "run" ∷ (x ∷ xs) ∷ codes "--rescue" ∷ []) ≡ Some (x ∷ xs, Run Rescue 0)
   unfolding clap_on_literals
-  folder_current = simp e
+  asked_rescue = simp e
 
-  folder_rescue : folder_in (program ∷ codes "run" ∷ (x ∷ xs) ∷ codes "--rescue" ∷ []) ≡ Some (x ∷ xs)
-  unfolding clap_on_literals
-  folder_rescue = simp e
+  module _ (y : ℕ) (ys : Text) (d : (y == 45) ≡ false) where
+    module _ (passes : is_unsigned_in 1 1000000 (y ∷ ys) ≡ true) where
+      -- what is left of each of the next two: the number passes
+      left : (((is_unsigned_in 1 1000000 (y ∷ ys) && true) && true) && true) ≡ true
+      left = rw passes refl
 
-  mode_current : mode_in (program ∷ codes "run" ∷ (x ∷ xs) ∷ []) ≡ Current
-  unfolding clap_on_literals
-  mode_current = simp e
+      taken_current_every : takes command_line (program ∷ codes "run" ∷ (x ∷ xs) ∷ codes "--snapshot-every" ∷ (y ∷ ys) ∷ []) ≡ true
+      unfolding clap_on_literals
+      taken_current_every = simp (e, d) left
 
-  mode_rescue : mode_in (program ∷ codes "run" ∷ (x ∷ xs) ∷ codes "--rescue" ∷ []) ≡ Rescue
-  unfolding clap_on_literals
-  mode_rescue = simp e
+      taken_rescue_every : takes command_line (program ∷ codes "run" ∷ (x ∷ xs) ∷ codes "--rescue" ∷ codes "--snapshot-every" ∷ (y ∷ ys) ∷ []) ≡ true
+      unfolding clap_on_literals
+      taken_rescue_every = simp e (rw d (simp d left))
 
-  taken_plain : (mode : Mode) → takes command_line (program ∷ codes "run" ∷ (x ∷ xs) ∷ flag_for mode) ≡ true
-  taken_plain Current = taken_current
-  taken_plain Rescue = taken_rescue
+    asked_current_every : asked_in (program ∷ codes "run" ∷ (x ∷ xs) ∷ codes "--snapshot-every" ∷ (y ∷ ys) ∷ []) ≡ Some (x ∷ xs, Run Current (every_of_number (Some (y ∷ ys))))
+    unfolding clap_on_literals
+    asked_current_every = simp (e, d)
 
-  folder_plain : (mode : Mode) → folder_in (program ∷ codes "run" ∷ (x ∷ xs) ∷ flag_for mode) ≡ Some (x ∷ xs)
-  folder_plain Current = folder_current
-  folder_plain Rescue = folder_rescue
+    asked_rescue_every : asked_in (program ∷ codes "run" ∷ (x ∷ xs) ∷ codes "--rescue" ∷ codes "--snapshot-every" ∷ (y ∷ ys) ∷ [])
+        ≡ Some (x ∷ xs, Run Rescue (every_of_number (Some (y ∷ ys))))
+    unfolding clap_on_literals
+    asked_rescue_every = simp e (rw (d, d) refl)
 
-  mode_plain : (mode : Mode) → mode_in (program ∷ codes "run" ∷ (x ∷ xs) ∷ flag_for mode) ≡ mode
-  mode_plain Current = mode_current
-  mode_plain Rescue = mode_rescue
+differs : (x y : ℕ) → x ≢ y → (x == y) ≡ false
+differs x y apart = search rules
 
-not_hyphen : (x : ℕ) → x ≢ 45 → (x == 45) ≡ false
-not_hyphen x differs = search rules
+-- a decimal number in the range is taken, and is the number that is meant
+module _ (y : ℕ) (ys : Text) (numeral : IsNumeral 10 (y ∷ ys)) where
+  no_plus : y ≢ 43
+  no_plus is = let digit = digit_from_value y numeral.1.0 in absurd (omega (arith, digit))
 
-pub taken_line : (words : List Text) (folder : Text) (mode : Mode) → AsksFor words folder mode → takes command_line words ≡ true
-taken_line words [] mode asks = absurd asks.1.1
-taken_line words (x ∷ xs) mode asks = rw asks.1.0 (taken_plain asks.0 x xs (not_hyphen x asks.1.1) mode)
+  no_hyphen : y ≢ 45
+  no_hyphen is = let digit = digit_from_value y numeral.1.0 in absurd (omega (arith, digit))
 
-pub folder_line : (words : List Text) (folder : Text) (mode : Mode) → AsksFor words folder mode → folder_in words ≡ Some folder
-folder_line words [] mode asks = absurd asks.1.1
-folder_line words (x ∷ xs) mode asks = rw asks.1.0 (folder_plain asks.0 x xs (not_hyphen x asks.1.1) mode)
+  bare : without_leading_plus (y ∷ ys) ≡ y ∷ ys
+  bare = rw (differs y 43 no_plus) refl
 
-pub mode_line : (words : List Text) (folder : Text) (mode : Mode) → AsksFor words folder mode → mode_in words ≡ mode
-mode_line words [] mode asks = absurd asks.1.1
-mode_line words (x ∷ xs) mode asks = rw asks.1.0 (mode_plain asks.0 x xs (not_hyphen x asks.1.1) mode)
+  in_range : (low high every : ℕ) → digits_value 10 (y ∷ ys) ≡ every → low ≤ every → every ≤ high → every < 2 ^ 64 → is_unsigned_in low high (y ∷ ys) ≡ true
+  in_range low high every is above below fits =
+      let within : (number : Text) → number ≡ y ∷ ys → IsNumeral 10 number × (digits_value 10 number < 2 ^ 64) × (low ≤ digits_value 10 number) × (digits_value 10 number ≤ high) =
+      λ number same. rw (same, is) (numeral, fits, above, below) in
+      Accepts-accepts false (Unsigned low high) (y ∷ ys) (within (without_leading_plus (y ∷ ys)) bare)
 
--- a value among what was found for the command
-pub value_rows : (id : Text) (found : Option (Text × List Row)) (rows : List Row) → Some rows ≡ option_map (λ p. p.1) found
-    → first_of id rows ≡ value_found id found
-value_rows id None rows same = ap (option_and_then (first_of id)) same
-value_rows id (Some p) rows same = ap (option_and_then (first_of id)) same
+  number_is : (every : ℕ) → digits_value 10 (y ∷ ys) ≡ every → 1 ≤ every → every ≤ 1000000 → every_of_number (Some (y ∷ ys)) ≡ every
+  number_is every is above below = rw (in_range 0 (2 ^ 64 - 1) every is (omega arith) (omega arith) (omega arith)) (ap (digits_value 10) bare ∙ is)
+
+module _ (program : Text) (x : ℕ) (xs : Text) (e : (x == 45) ≡ false) where
+  taken_number : (mode : Mode) (number : Text) (every : ℕ) → IsNumeral 10 number → digits_value 10 number ≡ every → 1 ≤ every → every ≤ 1000000
+      → takes command_line (program ∷ codes "run" ∷ (x ∷ xs) ∷ (flag_for mode ++ codes "--snapshot-every" ∷ number ∷ [])) ≡ true
+  taken_number mode [] every numeral is above below = let none : 0 < 0 = numeral.0 in absurd (omega arith)
+  taken_number Current (y ∷ ys) every numeral is above below =
+      taken_current_every program x xs e y ys (differs y 45 (no_hyphen y ys numeral)) (in_range y ys numeral 1 1000000 every is above below (omega arith))
+  taken_number Rescue (y ∷ ys) every numeral is above below =
+      taken_rescue_every program x xs e y ys (differs y 45 (no_hyphen y ys numeral)) (in_range y ys numeral 1 1000000 every is above below (omega arith))
+
+  taken_plain : (line : List Text) (task : Task) → IsLine line (x ∷ xs) task → takes command_line (program ∷ line) ≡ true
+  taken_plain line Dump is = rw is (taken_dump program x xs e)
+  taken_plain line Verify is = rw is (taken_verify program x xs e)
+  taken_plain line (Run Current every) (option, line_is, inl none) = rw (line_is, none.1) (taken_current program x xs e)
+  taken_plain line (Run Rescue every) (option, line_is, inl none) = rw (line_is, none.1) (taken_rescue program x xs e)
+  taken_plain line (Run mode every) (option, line_is, inr given) = rw (line_is, given.1) (taken_number mode given.0 every given.2 given.3 given.4 given.5)
+
+  asked_number : (mode : Mode) (number : Text) (every : ℕ) → IsNumeral 10 number → digits_value 10 number ≡ every → 1 ≤ every → every ≤ 1000000
+      → asked_in (program ∷ codes "run" ∷ (x ∷ xs) ∷ (flag_for mode ++ codes "--snapshot-every" ∷ number ∷ [])) ≡ Some (x ∷ xs, Run mode every)
+  asked_number mode [] every numeral is above below = let none : 0 < 0 = numeral.0 in absurd (omega arith)
+  asked_number Current (y ∷ ys) every numeral is above below =
+      asked_current_every program x xs e y ys (differs y 45 (no_hyphen y ys numeral)) ∙ ap (λ n. Some (x ∷ xs, Run Current n)) (number_is y ys numeral every is above below)
+  asked_number Rescue (y ∷ ys) every numeral is above below =
+      asked_rescue_every program x xs e y ys (differs y 45 (no_hyphen y ys numeral)) ∙ ap (λ n. Some (x ∷ xs, Run Rescue n)) (number_is y ys numeral every is above below)
+
+  asked_plain : (line : List Text) (task : Task) → IsLine line (x ∷ xs) task → asked_in (program ∷ line) ≡ Some (x ∷ xs, task)
+  asked_plain line Dump is = rw is (asked_dump program x xs e)
+  asked_plain line Verify is = rw is (asked_verify program x xs e)
+  asked_plain line (Run Current every) (option, line_is, inl none) = rw (line_is, none.0, none.1) (asked_current program x xs e)
+  asked_plain line (Run Rescue every) (option, line_is, inl none) = rw (line_is, none.0, none.1) (asked_rescue program x xs e)
+  asked_plain line (Run mode every) (option, line_is, inr given) = rw (line_is, given.1) (asked_number mode given.0 every given.2 given.3 given.4 given.5)
+
+pub taken_line : (words : List Text) (folder : Text) (task : Task) → AsksFor words folder task → takes command_line words ≡ true
+taken_line words [] task asks = absurd asks.4
+taken_line words (x ∷ xs) task asks = rw asks.2 (taken_plain asks.0 x xs (differs x 45 asks.4) asks.1 task asks.3)
+
+pub asked_line : (words : List Text) (folder : Text) (task : Task) → AsksFor words folder task → asked_in words ≡ Some (folder, task)
+asked_line words [] task asks = absurd asks.4
+asked_line words (x ∷ xs) task asks = rw asks.2 (asked_plain asks.0 x xs (differs x 45 asks.4) asks.1 task asks.3)

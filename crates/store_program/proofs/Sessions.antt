@@ -109,25 +109,31 @@ module _ (functions : Functions) (mode : Mode) where
         elim s.ends [
           | inl stopped ↦ quiet stopped.no_part
           | inr else ↦ elim else [
-            | inl full ↦ quiet full.no_part
+            | inl renewing ↦ quiet renewing.no_part
             | inr else ↦ elim else [
-              | inl unread ↦ quiet unread.no_part
+              | inl full ↦ quiet full.no_part
               | inr else ↦ elim else [
-                | inl cut ↦
-                    record {
-                      world = w;
-                      read = served.text;
-                      left = read.0;
-                      parts = read.1;
-                      forms = s.forms;
-                      far = s.far;
-                      far_is = s.far_is;
-                      front = s.answered.lines ++ s.part;
-                      unwritten = cut.unwritten;
-                      lines = cut.front;
-                      all = s.output held holds;
-                    }
-                | inr memory ↦ quiet memory.no_part
+                | inl large ↦ quiet large.no_part
+                | inr else ↦ elim else [
+                  | inl unread ↦ quiet unread.no_part
+                  | inr else ↦ elim else [
+                    | inl cut ↦
+                        record {
+                          world = w;
+                          read = served.text;
+                          left = read.0;
+                          parts = read.1;
+                          forms = s.forms;
+                          far = s.far;
+                          far_is = s.far_is;
+                          front = s.answered.lines ++ s.part;
+                          unwritten = cut.unwritten;
+                          lines = cut.front;
+                          all = s.output held holds;
+                        }
+                    | inr memory ↦ quiet memory.no_part
+                  ]
+                ]
               ]
             ]
           ]
@@ -152,12 +158,18 @@ module _ (functions : Functions) (mode : Mode) where
     fault_of_session (Store code) served = λ number is. let same : code ≡ number = cc in subst IsFaultNumber same (elim served.serves.ends [
       | inl stopped ↦ between_numbers code DEVICE stopped.device (omega arith, omega arith)
       | inr else ↦ elim else [
-        | inl full ↦ between_numbers code _ full.full (omega arith, omega arith)
+        | inl renewing ↦ between_numbers code DEVICE renewing.device (omega arith, omega arith)
         | inr else ↦ elim else [
-          | inl unread ↦ between_numbers code _ unread.input (omega arith, omega arith)
+          | inl full ↦ between_numbers code _ full.full (omega arith, omega arith)
           | inr else ↦ elim else [
-            | inl unwritten ↦ between_numbers code _ unwritten.output (omega arith, omega arith)
-            | inr memory ↦ inr memory.memory
+            | inl large ↦ between_numbers code _ large.large (omega arith, omega arith)
+            | inr else ↦ elim else [
+              | inl unread ↦ between_numbers code _ unread.input (omega arith, omega arith)
+              | inr else ↦ elim else [
+                | inl unwritten ↦ between_numbers code _ unwritten.output (omega arith, omega arith)
+                | inr memory ↦ inr memory.memory
+              ]
+            ]
           ]
         ]
       ]

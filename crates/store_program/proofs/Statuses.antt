@@ -6,7 +6,7 @@ use Rattle.prevalence_store.specs.declared.outcome.Ending.{Ending}
 use Rattle.prevalence_store.specs.declared.outcome.Ending.TheVariants.{End, Reader, Store}
 use Rattle.store_program.specs.declared.status.Status.{Status}
 use Rattle.store_program.specs.declared.status.Status.TheVariants.{Fault}
-use Rattle.store_program.specs.Status.{IsAfterWords, TakesWords, status_of_ending}
+use Rattle.store_program.specs.Status.{IsAfterWords, IsCarriedOut, TakesWords, status_of_ending}
 
 -- of a session
 of_session : (ending : Ending) → TakesWords (status_of_ending ending)
@@ -34,3 +34,8 @@ ending_is (Store code) number is = let same : code ≡ number = cc in ap (λ n. 
 
 pub ending_at : (status given : Status) (ending : Ending) (number : ℕ) → status ≡ given → given ≡ status_of_ending ending → status ≡ Fault number → ending ≡ Store number
 ending_at status given ending number same is fault = ending_is ending number (sym is ∙ sym same ∙ fault)
+
+-- after a fault nothing was carried out
+pub no_answer : (number : ℕ) → IsCarriedOut (Fault number) → ⊥
+no_answer number (inl is) = absurd (cc)
+no_answer number (inr is) = absurd (cc)

@@ -1,12 +1,17 @@
--- The command line `store_program run DIR [--rescue]`, as clap reads it.
-use Rattle.std.specs.Prelude.{◌≡◌, ◌≢◌, Bool, true, false, if◌then◌else◌, List, [], ◌∷◌, Option, Some, codes, option_and_then}
+-- The command line of the program, as clap reads it: `run DIR [--rescue] [--snapshot-every N]`, `dump DIR` and `verify DIR`.
+use Rattle.std.specs.Prelude.{◌≡◌, ◌≢◌, ◌≤◌, ◌^◌, ◌-◌, ◌⊎◌, ℕ, Bool, true, false, if◌then◌else◌, List, [], ◌∷◌, ◌++◌, Option, Some, None, codes, option_map, option_and_then}
 use Rattle.std.specs.Option.{option_map_or}
 use Rattle.std.specs.Str.{bytes_eq}
-use Rattle.clap.specs.Words.{App, Row, Rule, Text, first_of, new_app, new_rule, subcommand_of, with_rule, with_subcommand}
+use Rattle.std.specs.Str.Parse.{IsNumeral, digits_value, without_leading_plus}
+use Rattle.clap.specs.ValueTests.{is_unsigned_in}
+use Rattle.clap.specs.Words.{App, Row, Rule, Text, first_of, new_app, new_rule, one_of, subcommand_of, with_rule, with_subcommand}
 use Rattle.clap.specs.Simple.{on_top}
 use Rattle.clap.specs.declared.builder.action.ArgAction.TheVariants.{Set, SetTrue}
+use Rattle.clap.specs.declared.builder.value_parser.ValueParser.TheVariants.{Unsigned}
 use Rattle.prevalence_store.specs.declared.mode.Mode.{Mode}
 use Rattle.prevalence_store.specs.declared.mode.Mode.TheVariants.{Current, Rescue}
+use Rattle.store_program.specs.declared.words.Task.{Task}
+use Rattle.store_program.specs.declared.words.Task.TheVariants.{Run, Dump, Verify}
 
 -- DIR: one value, required
 abbrev pub directory_rule : Rule
@@ -22,38 +27,75 @@ rescue_rule = record (new_rule (codes "rescue")) {
   action = Some SetTrue;
 }
 
+-- --snapshot-every N: one value, a number from 1 to 1,000,000
+abbrev pub every_rule : Rule
+every_rule = record (new_rule (codes "snapshot-every")) {
+  long = Some (codes "snapshot-every");
+  action = Some Set;
+  value_names = 1;
+  parser = Some (Unsigned 1 1000000);
+}
+
+-- a command of this name, with its folder
+abbrev pub folder_line : Text → App
+folder_line name = with_rule (new_app name) directory_rule
+
 abbrev pub run_line : App
-run_line = with_rule (with_rule (new_app (codes "run")) directory_rule) rescue_rule
+run_line = with_rule (with_rule (folder_line (codes "run")) rescue_rule) every_rule
 
--- the program, with its one command
+-- the program, with its three commands
 abbrev pub command_line : App
-command_line = with_subcommand (on_top (λ s. record s { subcommand_required = true }) (new_app (codes "store_program"))) run_line.top
-
--- the value of an argument at the command that was found
-abbrev pub value_found : Text → Option (Text × List Row) → Option Text
-value_found id = option_and_then (λ found. first_of id found.1)
-
--- the folder that the words name
-abbrev pub folder_in : List Text → Option Text
-folder_in words = value_found (codes "DIR") (subcommand_of command_line words)
+command_line =
+    with_subcommand (with_subcommand (with_subcommand (on_top (λ s. record s { subcommand_required = true }) (new_app (codes "store_program")))
+    run_line.top) (folder_line (codes "dump")).top) (folder_line (codes "verify")).top
 
 -- the mode of a flag: a flag that is there has the value true
 abbrev pub mode_of_flag : Option Text → Mode
 mode_of_flag flag = if option_map_or (bytes_eq (codes "true")) flag false then Rescue else Current
 
--- the mode that the words ask for
-abbrev pub mode_in : List Text → Mode
-mode_in words = mode_of_flag (value_found (codes "rescue") (subcommand_of command_line words))
+-- after how many forms a snapshot is taken: 0, which is never, where no number is given
+abbrev pub every_of_number : Option Text → ℕ
+every_of_number None = 0
+every_of_number (Some text) = if is_unsigned_in 0 (2 ^ 64 - 1) text then digits_value 10 (without_leading_plus text) else 0
+
+-- what a command is to do
+abbrev pub task_of : Text × List Row → Option Task
+task_of found =
+    if bytes_eq found.0 (codes "run") then Some (Run (mode_of_flag (first_of (codes "rescue") found.1)) (every_of_number (one_of (codes "snapshot-every") found.1)))
+    else (if bytes_eq found.0 (codes "dump") then Some Dump
+    else (if bytes_eq found.0 (codes "verify") then Some Verify
+    else None))
+
+-- what was found asks for: a folder, and what is to be done with it
+abbrev pub asked_of : Text × List Row → Option (Text × Task)
+asked_of found = option_and_then (λ folder. option_map (λ task. (folder, task)) (task_of found)) (first_of (codes "DIR") found.1)
+
+-- what the words ask for
+abbrev pub asked_in : List Text → Option (Text × Task)
+asked_in words = option_and_then asked_of (subcommand_of command_line words)
 
 -- the word does not begin with a hyphen, and has a character
 abbrev pub IsNoOption : Text → Type 0
 IsNoOption [] = ⊥
 IsNoOption (x ∷ xs) = x ≢ 45
 
+-- the flag of a mode
 abbrev pub flag_for : Mode → List Text
 flag_for Current = []
 flag_for Rescue = codes "--rescue" ∷ []
 
--- the words are the program's name, `run`, this folder, and `--rescue` where the mode is that one
-abbrev pub AsksFor : List Text → Text → Mode → Type 0
-AsksFor words folder mode = (program : Text) × ((words ≡ program ∷ codes "run" ∷ folder ∷ flag_for mode) × IsNoOption folder)
+-- the words of the option on snapshots: none for 0, and a decimal number from 1 to 1,000,000 else
+abbrev pub IsEvery : ℕ → List Text → Type 0
+IsEvery every words =
+    ((every ≡ 0) × (words ≡ []))
+    ⊎ ((number : Text) × (words ≡ codes "--snapshot-every" ∷ number ∷ []) × IsNumeral 10 number × (digits_value 10 number ≡ every) × (1 ≤ every) × (every ≤ 1000000))
+
+-- the words of a command on this folder that asks for this
+abbrev pub IsLine : List Text → Text → Task → Type 0
+IsLine words folder (Run mode every) = (option : List Text) × (words ≡ codes "run" ∷ folder ∷ (flag_for mode ++ option)) × IsEvery every option
+IsLine words folder Dump = words ≡ codes "dump" ∷ folder ∷ []
+IsLine words folder Verify = words ≡ codes "verify" ∷ folder ∷ []
+
+-- the words are the program's name, and a command on this folder that asks for this
+abbrev pub AsksFor : List Text → Text → Task → Type 0
+AsksFor words folder task = (program : Text) × (line : List Text) × (words ≡ program ∷ line) × IsLine line folder task × IsNoOption folder

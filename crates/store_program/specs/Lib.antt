@@ -1,4 +1,5 @@
 pub mod CommandLine
+pub mod Commands
 pub mod MacroFunctions
 pub mod Session
 pub mod Status

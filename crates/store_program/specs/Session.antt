@@ -13,7 +13,7 @@ use Rattle.prevalence_store.specs.Serving.{ServesInput}
 use Rattle.prevalence_store.specs.Session.{Session}
 use Rattle.prevalence_store.specs.Streams.{Writes, WritesPart}
 use Rattle.store_program.specs.declared.status.Status.{Status}
-use Rattle.store_program.specs.declared.status.Status.TheVariants.{Served, Helped, ReaderRefused, WordsRefused, Fault}
+use Rattle.store_program.specs.declared.status.Status.TheVariants.{Done, Helped, ReaderRefused, WordsRefused, Fault}
 
 -- What a session does where the macro functions mean this, and each form is read in this mode.
 module _ (functions : Functions) (mode : Mode) where
@@ -49,7 +49,7 @@ module _ (functions : Functions) (mode : Mode) where
 
   -- The input was answered as the store of some world answers it: to its end, or to what the reader refused.
   abbrev pub AnswersInput : Status → List ℕ → List ℕ → Option (List ℕ) → Type 0
-  AnswersInput Served input held written =
+  AnswersInput Done input held written =
       (world : World) × (lines : IsWritten world input held written []) × (read_in functions lines.far.world mode lines.far.rest ≡ empty)
   AnswersInput ReaderRefused input held written =
       (world : World) × (number : ℕ) × (lines : IsWritten world input held written (refusal_line number))
@@ -61,14 +61,14 @@ module _ (functions : Functions) (mode : Mode) where
 -- After a fault its line was written; or, where that failed, a part of it from its front.
 abbrev pub TellsFault : Status → Option (List ℕ) → Option (List ℕ) → Type 0
 TellsFault (Fault number) held written = Writes held written (refusal_line number) ⊎ WritesPart held written (refusal_line number)
-TellsFault Served held written = Unit {0}
+TellsFault Done held written = Unit {0}
 TellsFault Helped held written = Unit {0}
 TellsFault ReaderRefused held written = Unit {0}
 TellsFault WordsRefused held written = Unit {0}
 
 -- at the end of the input nothing of it is left
 abbrev pub ReadsToEnd : Status → Option (List ℕ) → Type 0
-ReadsToEnd Served left = left ≡ Some []
+ReadsToEnd Done left = left ≡ Some []
 ReadsToEnd ReaderRefused left = Unit {0}
 ReadsToEnd Helped left = Unit {0}
 ReadsToEnd WordsRefused left = Unit {0}

@@ -6,11 +6,11 @@ use Rattle.lisp_object.specs.declared.refusal.TheConstants.{DEVICE, OUTPUT, NO_M
 use Rattle.prevalence_store.specs.declared.outcome.Ending.{Ending}
 use Rattle.prevalence_store.specs.declared.outcome.Ending.TheVariants.{End, Reader, Store}
 use Rattle.store_program.specs.declared.status.Status.{Status}
-use Rattle.store_program.specs.declared.status.Status.TheVariants.{Served, Helped, ReaderRefused, WordsRefused, Fault}
+use Rattle.store_program.specs.declared.status.Status.TheVariants.{Done, Helped, ReaderRefused, WordsRefused, Fault}
 
 -- the exit status
 abbrev pub code_of : Status → ℕ
-code_of Served = 0
+code_of Done = 0
 code_of Helped = 0
 code_of ReaderRefused = 1
 code_of WordsRefused = 2
@@ -18,7 +18,7 @@ code_of (Fault number) = 3
 
 -- after a session
 abbrev pub status_of_ending : Ending → Status
-status_of_ending End = Served
+status_of_ending End = Done
 status_of_ending (Reader number) = ReaderRefused
 status_of_ending (Store number) = Fault number
 
@@ -29,9 +29,9 @@ status_of_kind DisplayVersion = Helped
 status_of_kind OutOfMemory = Fault NO_MEMORY
 status_of_kind _ = WordsRefused
 
--- the input was served to its end, or to what the reader refused
-abbrev pub EndsAfterSession : Status → Type 0
-EndsAfterSession status = (status ≡ Served) ⊎ (status ≡ ReaderRefused)
+-- the command was carried out: to its end, or to what the reader refused
+abbrev pub IsCarriedOut : Status → Type 0
+IsCarriedOut status = (status ≡ Done) ⊎ (status ≡ ReaderRefused)
 
 -- the number is of the device, the files, their limit, the input or the output, or of memory
 abbrev pub IsFaultNumber : ℕ → Type 0
@@ -45,7 +45,7 @@ HasFaultNumber status = (number : ℕ) → status ≡ Fault number → IsFaultNu
 abbrev pub TakesWords : Status → Type 0
 TakesWords Helped = ⊥
 TakesWords WordsRefused = ⊥
-TakesWords Served = Unit {0}
+TakesWords Done = Unit {0}
 TakesWords ReaderRefused = Unit {0}
 TakesWords (Fault number) = Unit {0}
 

@@ -1,4 +1,4 @@
-// The line of a fault.
+// The line of a fault, and how a text is written.
 ghost use Rattle.std.specs.Prelude.{OnOk, OnErr};
 ghost use Rattle.prevalence_store.specs.Output.{refusal_line};
 ghost use Rattle.prevalence_store.specs.Streams.{Writes, WritesPart};
@@ -8,7 +8,7 @@ use lisp_object::refusal::name_of;
 use std::fmt::Write as WriteText;
 use std::io::Write;
 
-/// A line was not written whole.
+/// A text was not written whole.
 #[derive(Clone, Copy, Debug, PartialEq, Eq)]
 pub struct Unwritten;
 
@@ -23,17 +23,17 @@ pub fn write_fault<W: Write>(faults: &mut W, number: u16) -> Result<(), Unwritte
     let Ok(()) = writeln!(line, "! {number} {name}") else {
         return Err(Unwritten);
     };
-    write_line(faults, line.as_bytes())
+    write_text(faults, line.as_bytes())
 }
 
-// Writes a line whole, or a part of it from its front.
-fn write_line<W: Write>(faults: &mut W, line: &[u8]) -> Result<(), Unwritten>
-    ensures whole { OnOk result (Writes (W.contents faults.old) (W.contents faults.new) line.now) }
-    ensures part { OnErr result (WritesPart (W.contents faults.old) (W.contents faults.new) line.now) }
+/// Writes a text whole, or a part of it from its front.
+pub fn write_text<W: Write>(writer: &mut W, text: &[u8]) -> Result<(), Unwritten>
+    ensures whole { OnOk result (Writes (W.contents writer.old) (W.contents writer.new) text.now) }
+    ensures part { OnErr result (WritesPart (W.contents writer.old) (W.contents writer.new) text.now) }
 {
-    let mut rest = line;
+    let mut rest = text;
     'pieces: while !rest.is_empty() {
-        let Ok(count) = faults.write(rest) else {
+        let Ok(count) = writer.write(rest) else {
             return Err(Unwritten);
         };
         if count == 0 {

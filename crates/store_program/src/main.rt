@@ -1,8 +1,9 @@
-//! The program: it serves the forms of standard input to standard output, over a store whose files are in a folder.
+//! The program: over a store whose files are in a folder it serves the forms of standard input to standard output, writes the
+//! text of the world, or tells the half in use.
 //!
 //! - `program` (module `program`) does what the words of the command line ask for, and answers a `Status`.
-//! - `words` has the command line: `run DIR [--rescue]`.
-//! - `fault` writes the line of a fault.
+//! - `words` has the command line: `run DIR [--rescue] [--snapshot-every N]`, `dump DIR` and `verify DIR`.
+//! - `fault` writes the line of a fault, `half_line` that on the half in use.
 //! - `meaning` says what the program's macro functions mean, and `macro_functions` has those that compute an object.
 //! - `main` registers the macro functions, hands them to `program` with the words, the standard streams and the files of
 //!   the system, and ends with its status.
@@ -14,6 +15,7 @@ ghost use Rattle.readtable_core.specs.Names.{is_among};
 ghost use Rattle.user_macros.specs.Sound.{IsSoundCall};
 
 mod fault;
+mod half_line;
 mod macro_functions;
 mod meaning;
 mod program;

@@ -1,22 +1,25 @@
 // What the words of the command line ask for.
-ghost use Rattle.std.specs.Prelude.{◌≡◌, ◌⊎◌, ◌<◌, ◌-◌, ◌^◌, ℕ, List, Some, map, IfOk, IfErr};
+ghost use Rattle.std.specs.Prelude.{◌≡◌, ◌⊎◌, ◌<◌, ◌-◌, ◌^◌, ℕ, List, Some, IsSome, IfSome, map, IfOk, IfErr};
 ghost use Rattle.std.specs.List.{list_all};
 ghost use Rattle.readtable_core.specs.Names.{is_among};
+ghost use Rattle.plist_state.specs.State.{State as LispWorld};
 ghost use Rattle.prevalence_store.specs.Functions.{functions_of};
 ghost use Rattle.prevalence_store.specs.Opening.{IsUnopened};
-ghost use Rattle.prevalence_store.specs.declared.mode.Mode.{Mode};
 ghost use Rattle.clap.specs.Words.{kind_of};
 ghost use Rattle.clap.specs.declared.error.kind.ErrorKind.TheVariants.{OutOfMemory};
-ghost use Rattle.store_program.specs.CommandLine.{AsksFor, mode_in};
-ghost use Rattle.store_program.specs.Session.{AnswersInput, IsBrokenOff, IsSession, ReadsToEnd, TellsFault};
-ghost use Rattle.store_program.specs.Status.{EndsAfterSession, HasFaultNumber, IsAfterWords, TakesWords, status_of_ending};
+ghost use Rattle.store_program.specs.declared.words.Task.{Task};
+ghost use Rattle.store_program.specs.CommandLine.{AsksFor, asked_in as asked_by_words};
+ghost use Rattle.store_program.specs.Commands.{IsReport, TaskBreaksOff, TaskReads, TaskWrites, TellsText, WordsRead, WordsWrite, dumped, verified};
+ghost use Rattle.store_program.specs.Session.{IsSession, TellsFault};
+ghost use Rattle.store_program.specs.Status.{HasFaultNumber, IsAfterWords, IsCarriedOut, TakesWords};
 
-use crate::fault::write_fault;
+use crate::fault::{write_fault, write_text};
+use crate::half_line::write_half_line;
 use crate::status::Status;
-use crate::words::{Asked, asked_in};
+use crate::words::{Asked, Task, asked_in};
 use clap::Error;
 use disk_trait::{Disk, HostDisk};
-use lisp_object::refusal::{DEVICE, OUTPUT};
+use lisp_object::refusal::{DEVICE, NO_MEMORY, OUTPUT, REOPEN};
 use prevalence_store::{Ending, Mode, Store, Unopened};
 use std::alloc::Global;
 use std::convert::AsStr;
@@ -30,9 +33,12 @@ const HALF_LIMIT: u64 = 1_073_741_824;
 
 /// Does what the words ask for, with these macro functions; the first word is the program's name.
 ///
-/// `run DIR` serves `input` to `output` over the store in the folder DIR, in the mode Current; `run DIR --rescue` in the
-/// mode Rescue. Faults are found in this order: the words, DIR, the opening of the store, the session. A text on words
-/// that are refused, or the line of a fault, goes to `faults`; help that was asked for goes to `output`.
+/// Each command is over the store in the folder DIR. `run DIR` serves `input` to `output` in the mode Current; with `--rescue`
+/// in the mode Rescue, and with `--snapshot-every N` it takes a snapshot after each N forms that were logged. `dump DIR` writes
+/// the text of the world to `output`, and `verify DIR` the line on the half in use; they read nothing.
+///
+/// Faults are found in this order: the words, DIR, the opening of the store, the command. A text on words that are refused, or
+/// the line of a fault, goes to `faults`; help that was asked for goes to `output`.
 pub fn program<R, M, S, I, O, F>(
     rt: &R,
     macros: M,
@@ -49,23 +55,24 @@ where
     O: Write,
     F: Write,
     requires answers { M.answers macros }
-    ensures words { (folder : List ℕ) (mode : Mode) → AsksFor (map S.text words.now) folder mode
-        → TakesWords result × (mode_in (map S.text words.now) ≡ mode) }
-    ensures quiet { EndsAfterSession result → faults.new ≡ faults.old }
+    ensures words { (folder : List ℕ) (task : Task) → AsksFor (map S.text words.now) folder task
+        → TakesWords result × (asked_by_words (map S.text words.now) ≡ Some (folder , task)) }
+    ensures quiet { IsCarriedOut result → faults.new ≡ faults.old }
     ensures helped { result ≡ Status.Helped → (faults.new ≡ faults.old) × (input.new ≡ input.old) }
     ensures refused { result ≡ Status.WordsRefused → (output.new ≡ output.old) × (input.new ≡ input.old) }
-    ensures read { (text : List ℕ) → I.remaining input.old ≡ Some text → ReadsToEnd result (I.remaining input.new) }
-    ensures answered { (text held : List ℕ) → I.remaining input.old ≡ Some text → O.contents output.old ≡ Some held
-        → AnswersInput (functions_of M.Meaning.names M.Meaning.way M.Meaning.answer) (mode_in (map S.text words.now))
+    ensures read { (text : List ℕ) → I.remaining input.old ≡ Some text
+        → WordsRead (asked_by_words (map S.text words.now)) result text (I.remaining input.new) }
+    ensures written { (text held : List ℕ) → I.remaining input.old ≡ Some text → O.contents output.old ≡ Some held
+        → WordsWrite (functions_of M.Meaning.names M.Meaning.way M.Meaning.answer) (asked_by_words (map S.text words.now))
         result text held (O.contents output.new) }
     ensures fault { HasFaultNumber result }
     ensures told { TellsFault result (F.contents faults.old) (F.contents faults.new) }
-    ensures broken { (folder text held : List ℕ) (mode : Mode) (number : ℕ) → AsksFor (map S.text words.now) folder mode
+    ensures broken { (folder text held : List ℕ) (task : Task) (number : ℕ) → AsksFor (map S.text words.now) folder task
         → I.remaining input.old ≡ Some text → O.contents output.old ≡ Some held → result ≡ Status.Fault number
-        → IsBrokenOff (functions_of M.Meaning.names M.Meaning.way M.Meaning.answer) mode text held (O.contents output.new) }
+        → TaskBreaksOff (functions_of M.Meaning.names M.Meaning.way M.Meaning.answer) task text held (O.contents output.new) }
 {
     let status = match asked_in(rt.alloc(), words) {
-        Ok(asked) => Status::of_ending(run(rt, macros, asked, input, output)),
+        Ok(asked) => carry_out(rt, macros, asked, input, output),
         Err(error) => answer_words(&error, output, faults),
     };
     end_with(faults, status)
@@ -75,7 +82,7 @@ where
 pub fn end_with<F: Write>(faults: &mut F, status: Status) -> Status
     ensures status { result ≡ status }
     ensures told { TellsFault status (F.contents faults.old) (F.contents faults.new) }
-    ensures quiet { EndsAfterSession status ⊎ ((status ≡ Status.Helped) ⊎ (status ≡ Status.WordsRefused)) → faults.new ≡ faults.old }
+    ensures quiet { IsCarriedOut status ⊎ ((status ≡ Status.Helped) ⊎ (status ≡ Status.WordsRefused)) → faults.new ≡ faults.old }
 {
     if let Status::Fault(number) = status {
         let _ = write_fault(faults, number);
@@ -86,7 +93,7 @@ pub fn end_with<F: Write>(faults: &mut F, status: Status) -> Status
 // Words that gave no command: the text on them is written.
 fn answer_words<O: Write, F: Write>(error: &Error, output: &mut O, faults: &mut F) -> Status
     ensures status { IsAfterWords (kind_of error.now) result }
-    ensures no_session { EndsAfterSession result → ⊥ }
+    ensures no_session { IsCarriedOut result → ⊥ }
     ensures fault { HasFaultNumber result }
     ensures helped { result ≡ Status.Helped → faults.new ≡ faults.old }
     ensures untold { (number : ℕ) → result ≡ Status.Fault number → faults.new ≡ faults.old }
@@ -106,38 +113,86 @@ fn answer_words<O: Write, F: Write>(error: &Error, output: &mut O, faults: &mut 
     }
 }
 
-// A session over the store in a folder. The store is closed after it, and its files are let go.
-fn run<R, M, I, O>(rt: &R, macros: M, asked: Asked<'_>, input: &mut I, output: &mut O) -> Ending
+// Carries a task out over the store in a folder. The store is closed after it, and its files are let go.
+fn carry_out<R, M, I, O>(
+    rt: &R,
+    macros: M,
+    asked: Asked<'_>,
+    input: &mut I,
+    output: &mut O,
+) -> Status
 where
     R: Files<File = File> + AllocGlobal,
     M: MacroFunctions + Drop,
     I: Read,
     O: Write,
     requires answers { M.answers macros }
-    ensures read { (text : List ℕ) → I.remaining input.old ≡ Some text → ReadsToEnd (status_of_ending result) (I.remaining input.new) }
-    ensures answered { (text held : List ℕ) → I.remaining input.old ≡ Some text → O.contents output.old ≡ Some held
-        → AnswersInput (functions_of M.Meaning.names M.Meaning.way M.Meaning.answer) asked.entry.mode
-        (status_of_ending result) text held (O.contents output.new) }
-    ensures fault { HasFaultNumber (status_of_ending result) }
+    ensures taken { TakesWords result }
+    ensures read { (text : List ℕ) → I.remaining input.old ≡ Some text → TaskReads asked.entry.task result text (I.remaining input.new) }
+    ensures written { (text held : List ℕ) → I.remaining input.old ≡ Some text → O.contents output.old ≡ Some held
+        → TaskWrites (functions_of M.Meaning.names M.Meaning.way M.Meaning.answer) asked.entry.task result text held (O.contents output.new) }
+    ensures fault { HasFaultNumber result }
     ensures broken { (text held : List ℕ) (number : ℕ) → I.remaining input.old ≡ Some text → O.contents output.old ≡ Some held
-        → result ≡ Ending.Store number
-        → IsBrokenOff (functions_of M.Meaning.names M.Meaning.way M.Meaning.answer) asked.entry.mode text held (O.contents output.new) }
+        → result ≡ Status.Fault number
+        → TaskBreaksOff (functions_of M.Meaning.names M.Meaning.way M.Meaning.answer) asked.entry.task text held (O.contents output.new) }
 {
     // no folder has an empty name, and files under it would be those of the present folder
     if asked.folder.is_empty() {
-        return Ending::Store(DEVICE);
+        return Status::Fault(DEVICE);
     }
     let Ok(disk) = HostDisk::open(rt, asked.folder) else {
-        return Ending::Store(DEVICE);
+        return Status::Fault(DEVICE);
     };
-    match serve_on(rt.alloc(), disk, macros, asked.mode, input, output) {
-        Ok((ending, _disk, _macros)) => ending,
-        Err(unopened) => Ending::Store(unopened.number),
+    carry_out_on(rt.alloc(), disk, macros, asked.task, input, output)
+}
+
+// Carries a task out over the store that a disk holds.
+fn carry_out_on<D, M, I, O>(
+    alloc: Global,
+    disk: D,
+    macros: M,
+    task: Task,
+    input: &mut I,
+    output: &mut O,
+) -> Status
+where
+    D: Disk + Drop,
+    M: MacroFunctions + Drop,
+    I: Read,
+    O: Write,
+    requires room { (D.state disk).failures < 2 ^ 64 - 1 }
+    requires answers { M.answers macros }
+    ensures taken { TakesWords result }
+    ensures read { (text : List ℕ) → I.remaining input.old ≡ Some text → TaskReads task result text (I.remaining input.new) }
+    ensures written { (text held : List ℕ) → I.remaining input.old ≡ Some text → O.contents output.old ≡ Some held
+        → TaskWrites (functions_of M.Meaning.names M.Meaning.way M.Meaning.answer) task result text held (O.contents output.new) }
+    ensures fault { HasFaultNumber result }
+    ensures broken { (text held : List ℕ) (number : ℕ) → I.remaining input.old ≡ Some text → O.contents output.old ≡ Some held
+        → result ≡ Status.Fault number
+        → TaskBreaksOff (functions_of M.Meaning.names M.Meaning.way M.Meaning.answer) task text held (O.contents output.new) }
+{
+    match task {
+        Task::Run {
+            mode,
+            snapshot_every,
+        } => match serve_on(alloc, disk, macros, mode, snapshot_every, input, output) {
+            Ok((ending, _disk, _macros)) => Status::of_ending(ending),
+            Err(unopened) => Status::Fault(unopened.number),
+        },
+        Task::Dump => match dump_on(alloc, disk, macros, output) {
+            Ok((status, _disk, _macros)) => status,
+            Err(unopened) => Status::Fault(unopened.number),
+        },
+        Task::Verify => match verify_on(alloc, disk, macros, output) {
+            Ok((status, _disk, _macros)) => status,
+            Err(unopened) => Status::Fault(unopened.number),
+        },
     }
 }
 
-/// A session over the store that a disk holds, with these macro functions and in this mode. The disk is given back as the
-/// store left it, and the macro functions.
+/// A session over the store that a disk holds, with these macro functions and in this mode. After each `snapshot_every` forms
+/// that were logged it takes a snapshot, and never where that is 0. The disk is given back as the store left it, and the macro
+/// functions.
 ///
 /// # Errors
 ///
@@ -147,6 +202,7 @@ pub fn serve_on<D, M, I, O>(
     disk: D,
     macros: M,
     mode: Mode,
+    snapshot_every: u64,
     input: &mut I,
     output: &mut O,
 ) -> Result<(Ending, D, M), Unopened<D, M>>
@@ -167,7 +223,100 @@ where
     ensures given_back { IfErr result (λ e. e.macros ≡ macros) }
 {
     let mut store = Store::open(alloc, disk, macros, HALF_LIMIT)?;
-    let ending = store.serve(input, output, mode);
+    let ending = store.serve(input, output, mode, snapshot_every);
     let (disk, macros) = store.close();
     Ok((ending, disk, macros))
+}
+
+/// Writes the text of the world that a disk holds, and answers how that ended. The disk is given back as the opening left it,
+/// and the macro functions.
+///
+/// # Errors
+///
+/// Those of opening the store. Nothing is written then, and the disk and the macro functions are given back.
+pub fn dump_on<D, M, O>(
+    alloc: Global,
+    disk: D,
+    macros: M,
+    output: &mut O,
+) -> Result<(Status, D, M), Unopened<D, M>>
+where
+    D: Disk,
+    M: MacroFunctions,
+    O: Write,
+    requires room { (D.state disk).failures < 2 ^ 64 - 1 }
+    requires answers { M.answers macros }
+    ensures reports { IfOk result (λ p. IsReport (functions_of M.Meaning.names M.Meaning.way M.Meaning.answer) D.state dumped
+        disk macros 1073741824 (O.contents output.old) (O.contents output.new) p.0 p.1) }
+    ensures kept { IfOk result (λ p. p.2 ≡ macros) }
+    ensures refused { IfErr result (λ e. IsUnopened (functions_of M.Meaning.names M.Meaning.way M.Meaning.answer)
+        D.state disk (list_all (is_among (M.registered macros)) M.Meaning.names) 1073741824 e.number e.disk
+        × (output.new ≡ output.old)) }
+    ensures given_back { IfErr result (λ e. e.macros ≡ macros) }
+{
+    let store = Store::open(alloc, disk, macros, HALF_LIMIT)?;
+    let status = write_world(alloc, &store, output);
+    let (disk, macros) = store.close();
+    Ok((status, disk, macros))
+}
+
+// Writes the text of the world of an open store.
+fn write_world<D: Disk, M, O: Write>(
+    alloc: Global,
+    store: &Store<D, M>,
+    output: &mut O,
+) -> Status
+    requires known { IsSome store.now.world }
+    ensures { IfSome store.now.world (λ world. TellsText result (O.contents output.old) (O.contents output.new) (dumped store.now world)) }
+{
+    let Some(world) = store.world() else {
+        return Status::Fault(REOPEN);
+    };
+    let Ok(text) = snapshot_text::write(alloc, world) else {
+        return Status::Fault(NO_MEMORY);
+    };
+    match write_text(output, text.as_slice()) {
+        Ok(()) => Status::Done,
+        Err(_) => Status::Fault(OUTPUT),
+    }
+}
+
+/// Writes the line on the half in use of the store that a disk holds, and answers how that ended. The disk is given back as the
+/// opening left it, and the macro functions.
+///
+/// # Errors
+///
+/// Those of opening the store. Nothing is written then, and the disk and the macro functions are given back.
+pub fn verify_on<D, M, O>(
+    alloc: Global,
+    disk: D,
+    macros: M,
+    output: &mut O,
+) -> Result<(Status, D, M), Unopened<D, M>>
+where
+    D: Disk,
+    M: MacroFunctions,
+    O: Write,
+    requires room { (D.state disk).failures < 2 ^ 64 - 1 }
+    requires answers { M.answers macros }
+    ensures reports { IfOk result (λ p. IsReport (functions_of M.Meaning.names M.Meaning.way M.Meaning.answer) D.state verified
+        disk macros 1073741824 (O.contents output.old) (O.contents output.new) p.0 p.1) }
+    ensures kept { IfOk result (λ p. p.2 ≡ macros) }
+    ensures refused { IfErr result (λ e. IsUnopened (functions_of M.Meaning.names M.Meaning.way M.Meaning.answer)
+        D.state disk (list_all (is_among (M.registered macros)) M.Meaning.names) 1073741824 e.number e.disk
+        × (output.new ≡ output.old)) }
+    ensures given_back { IfErr result (λ e. e.macros ≡ macros) }
+{
+    let store = Store::open(alloc, disk, macros, HALF_LIMIT)?;
+    let written = write_half_line(
+        output,
+        store.half(),
+        store.generation(),
+        store.record_count(),
+    );
+    let (disk, macros) = store.close();
+    match written {
+        Ok(()) => Ok((Status::Done, disk, macros)),
+        Err(_) => Ok((Status::Fault(OUTPUT), disk, macros)),
+    }
 }

@@ -9,8 +9,8 @@ use prevalence_store::Ending;
 /// How the program ended.
 #[derive(Clone, Copy, Debug, PartialEq, Eq)]
 pub enum Status {
-    /// The input was served to its end.
-    Served,
+    /// The command was carried out: the input was served to its end, or the text that was asked for was written.
+    Done,
     /// The help that was asked for was written.
     Helped,
     /// The reader refused a form, which ended the session.
@@ -22,13 +22,13 @@ pub enum Status {
 }
 
 impl Status {
-    /// The exit status: 0 at the end of the input and after help, 1 after a refusal of the reader, 2 for words that
+    /// The exit status: 0 where the command was carried out and after help, 1 after a refusal of the reader, 2 for words that
     /// are refused, 3 after a fault.
     pub fn code(self) -> u8
         ensures { result ≡ code_of self }
     {
         match self {
-            Status::Served | Status::Helped => 0,
+            Status::Done | Status::Helped => 0,
             Status::ReaderRefused => 1,
             Status::WordsRefused => 2,
             Status::Fault(_) => 3,
@@ -40,7 +40,7 @@ impl Status {
         ensures { result ≡ status_of_ending ending }
     {
         match ending {
-            Ending::End => Status::Served,
+            Ending::End => Status::Done,
             Ending::Reader(_) => Status::ReaderRefused,
             Ending::Store(number) => Status::Fault(number),
         }

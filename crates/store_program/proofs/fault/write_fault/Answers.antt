@@ -8,7 +8,7 @@ use Rattle.store_program.proofs.fault.write_fault.Given as given
 use Rattle.store_program.proofs.fault.write_fault.Goals as goal
 
 -- the line in memory is that of the fault
-line_is : (g : given.Over) (c : goal.After-write_line g) → c.as_bytes.result.now ≡ refusal_line c.args.number
+line_is : (g : given.Over) (c : goal.After-write_text g) → c.as_bytes.result.now ≡ refusal_line c.args.number
 line_is g c =
     let with_name : List ℕ → List ℕ = λ name. codes "! " ++ (decimal c.args.number ++ (32 ∷ (name ++ 10 ∷ []))) in
     c.as_bytes.ensures.value
@@ -20,8 +20,8 @@ line_is g c =
 
 pub returns-clause-whole : goal.returns-clause-whole
 returns-clause-whole g c =
-    subst (λ l. OnOk c.write_line.result (Writes (g.W.Write.contents c.args.faults.now) (g.W.Write.contents c.write_line.new.faults) l)) (line_is g c) c.write_line.ensures.whole
+    subst (λ l. OnOk c.write_text.result (Writes (g.W.Write.contents c.args.faults.now) (g.W.Write.contents c.write_text.new.writer) l)) (line_is g c) c.write_text.ensures.whole
 
 pub returns-clause-part : goal.returns-clause-part
 returns-clause-part g c =
-    subst (λ l. OnErr c.write_line.result (WritesPart (g.W.Write.contents c.args.faults.now) (g.W.Write.contents c.write_line.new.faults) l)) (line_is g c) c.write_line.ensures.part
+    subst (λ l. OnErr c.write_text.result (WritesPart (g.W.Write.contents c.args.faults.now) (g.W.Write.contents c.write_text.new.writer) l)) (line_is g c) c.write_text.ensures.part

@@ -1,30 +1,54 @@
-use Rattle.std.proofs.Common.{ℕ, List, Option, ap, subst, sym, ◌∙◌}
+use Rattle.std.proofs.Common.{◌≡◌, ◌∙◌, ℕ, List, Option, Some, ap, inl, map, refl, subst, sym}
 use Rattle.clap.specs.Words.{kind_of}
 use Rattle.prevalence_store.specs.Functions.{functions_of}
-use Rattle.prevalence_store.specs.declared.mode.Mode.{Mode}
-use Rattle.store_program.specs.Session.{IsBrokenOff}
-use Rattle.store_program.proofs.CommandLineLaws.{mode_line}
-use Rattle.store_program.proofs.Sessions.{nothing_written}
-use Rattle.store_program.proofs.Statuses.{ending_at, taken_at_ending, taken_at_memory}
+use Rattle.store_program.specs.declared.status.Status.{Status}
+use Rattle.store_program.specs.declared.words.Task.{Task}
+use Rattle.store_program.specs.CommandLine.{asked_in}
+use Rattle.store_program.specs.Commands.{TaskBreaksOff}
+use Rattle.store_program.specs.Status.{IsCarriedOut, TakesWords}
+use Rattle.store_program.proofs.CommandLineLaws.{asked_line}
+use Rattle.store_program.proofs.FoundWords.{same_task}
+use Rattle.store_program.proofs.Reports.{moved_read, moved_write, nothing_of, words_unread, words_unwritten}
+use Rattle.store_program.proofs.Statuses.{taken_at_memory}
 use Rattle.store_program.proofs.program.program.Goals as goal
 use Rattle.store_program.proofs.program.program.Goals.{in-Ok, in-Err}
 
 pub returns-clause-words : goal.returns-clause-words
-returns-clause-words g c = λ folder mode asks. (
+returns-clause-words g c = λ folder task asks. (
   elim c.match-asked_in.branch [
-    | in-Ok w ↦ taken_at_ending c.end_with.result w.of_ending-status.result w.run.result (c.end_with.ensures.status ∙ w.status-is) w.of_ending-status.ensures
-    | in-Err w ↦ taken_at_memory c.end_with.result w.answer_words-status.result (kind_of w.in-Err.error) (c.end_with.ensures.status ∙ w.status-is) (w.in-Err.ensures.taken folder mode asks) w.answer_words-status.ensures.status
+    | in-Ok w ↦ subst TakesWords (sym (c.end_with.ensures.status ∙ w.status-is)) w.carry_out-status.ensures.taken
+    | in-Err w ↦ taken_at_memory c.end_with.result w.answer_words-status.result (kind_of w.in-Err.error) (c.end_with.ensures.status ∙ w.status-is) (w.in-Err.ensures.taken folder task asks) w.answer_words-status.ensures.status
   ],
-  mode_line _ folder mode asks,
+  asked_line _ folder task asks,
 )
 
+pub returns-clause-read : goal.returns-clause-read
+returns-clause-read g c = λ text left.
+    elim c.match-asked_in.branch [
+      | in-Ok w ↦ moved_read _ (Some (w.in-Ok.asked.folder.now, w.in-Ok.asked.task)) _ w.carry_out-status.result _ (g.I.Read.remaining w.carry_out-status.new.input) text
+          w.in-Ok.ensures.asked (c.end_with.ensures.status ∙ w.status-is) (ap g.I.Read.remaining w.input-is) (w.carry_out-status.ensures.read text left)
+      | in-Err w ↦ moved_read _ _ _ w.answer_words-status.result _ (g.I.Read.remaining c.args.input.now) text
+          refl (c.end_with.ensures.status ∙ w.status-is) (ap g.I.Read.remaining w.input-is)
+          (words_unread (functions_of g.M.Meaning.Meaning.names g.M.Meaning.Meaning.way g.M.Meaning.Meaning.answer) text text (Some text) (g.I.Read.remaining c.args.input.now) _ w.answer_words-status.result (λ is. w.answer_words-status.ensures.no_session (inl is)) left)
+    ]
+
+pub returns-clause-written : goal.returns-clause-written
+returns-clause-written g c = λ text held left holds.
+    elim c.match-asked_in.branch [
+      | in-Ok w ↦ moved_write (functions_of g.M.Meaning.Meaning.names g.M.Meaning.Meaning.way g.M.Meaning.Meaning.answer) _ (Some (w.in-Ok.asked.folder.now, w.in-Ok.asked.task)) _ w.carry_out-status.result _ (g.O.Write.contents w.carry_out-status.new.output) text held
+          w.in-Ok.ensures.asked (c.end_with.ensures.status ∙ w.status-is) (ap g.O.Write.contents w.output-is) (w.carry_out-status.ensures.written text held left holds)
+      | in-Err w ↦ moved_write (functions_of g.M.Meaning.Meaning.names g.M.Meaning.Meaning.way g.M.Meaning.Meaning.answer) _ _ _ w.answer_words-status.result _ (g.O.Write.contents w.answer_words-status.new.output) text held
+          refl (c.end_with.ensures.status ∙ w.status-is) (ap g.O.Write.contents w.output-is)
+          (words_unwritten (functions_of g.M.Meaning.Meaning.names g.M.Meaning.Meaning.way g.M.Meaning.Meaning.answer) text held (g.O.Write.contents w.answer_words-status.new.output) (Some text) _ w.answer_words-status.result w.answer_words-status.ensures.no_session)
+    ]
+
 pub returns-clause-broken : goal.returns-clause-broken
-returns-clause-broken g c = λ folder text held mode number asks left holds is.
-    let functions = functions_of g.M.Meaning.Meaning.names g.M.Meaning.Meaning.way g.M.Meaning.Meaning.answer in
+returns-clause-broken g c = λ folder text held task number asks left holds is.
     elim c.match-asked_in.branch [
       | in-Ok w ↦
-          subst (λ (o : Option (List ℕ)). IsBrokenOff functions mode text held o) (ap g.O.Write.contents (sym w.output-is))
-          (subst (λ (m : Mode). IsBrokenOff functions m text held (g.O.Write.contents w.run.new.output)) (sym w.in-Ok.ensures.mode ∙ mode_line _ folder mode asks)
-          (w.run.ensures.broken text held number left holds (ending_at c.end_with.result w.of_ending-status.result w.run.result number (c.end_with.ensures.status ∙ w.status-is) w.of_ending-status.ensures is)))
-      | in-Err w ↦ nothing_written functions mode text held _ (ap g.O.Write.contents (w.output-is ∙ w.answer_words-status.ensures.memory (w.in-Err.ensures.taken folder mode asks)) ∙ holds)
+          subst (λ (o : Option (List ℕ)). TaskBreaksOff (functions_of g.M.Meaning.Meaning.names g.M.Meaning.Meaning.way g.M.Meaning.Meaning.answer) task text held o) (ap g.O.Write.contents (sym w.output-is))
+          (subst (λ (t : Task). TaskBreaksOff (functions_of g.M.Meaning.Meaning.names g.M.Meaning.Meaning.way g.M.Meaning.Meaning.answer) t text held (g.O.Write.contents w.carry_out-status.new.output))
+          (same_task (asked_in (map g.S.AsStr.text c.args.words.now)) w.in-Ok.asked.folder.now folder w.in-Ok.asked.task task w.in-Ok.ensures.asked (asked_line _ folder task asks))
+          (w.carry_out-status.ensures.broken text held number left holds (sym (c.end_with.ensures.status ∙ w.status-is) ∙ is)))
+      | in-Err w ↦ nothing_of (functions_of g.M.Meaning.Meaning.names g.M.Meaning.Meaning.way g.M.Meaning.Meaning.answer) text held _ (Some text) task (ap g.O.Write.contents (w.output-is ∙ w.answer_words-status.ensures.memory (w.in-Err.ensures.taken folder task asks)) ∙ holds)
     ]

@@ -1,21 +1,24 @@
-use Rattle.std.proofs.Common.{rules, ◌≡◌, ◌∙◌, ap, sym, map, None, Some, codes}
+use Rattle.std.proofs.Common.{rules, ◌≡◌, ◌∙◌, ap, sym, map, None, Some, option_and_then}
 use Rattle.clap.specs.Words.{App, app_of, is_simple, subcommand_of, subcommand_rows_of, takes}
-use Rattle.store_program.specs.CommandLine.{command_line, value_found}
-use Rattle.store_program.proofs.CommandLineLaws.{folder_line, simple_line, taken_line}
+use Rattle.store_program.specs.CommandLine.{asked_of, command_line}
+use Rattle.store_program.proofs.CommandLineLaws.{asked_line, simple_line, taken_line}
 use Rattle.store_program.proofs.words.asked_in.Goals as goal
 
-pub returns-in-Ok-clause-taken : goal.returns-in-Ok-clause-taken
-returns-in-Ok-clause-taken g c = λ folder mode asks.
+pub returns-in-Some-clause-asked : goal.returns-in-Some-clause-asked
+returns-in-Some-clause-asked g c =
     let words = map g.S.AsStr.text c.args.words.now in
-    let line_is : app_of c.in_ok-command.command ≡ command_line = search rules in
-    let found_is : subcommand_rows_of c.in-Ok.matches ≡ subcommand_of command_line words = (c.in-Ok.ensures.ok.2 (ap is_simple line_is ∙ simple_line)).1
-    ∙ ap (λ (a : App). subcommand_of a words) line_is in
-    let none_is : value_found (codes "DIR") (subcommand_rows_of c.in-Ok.matches) ≡ None = search rules in
-    let bad : None ≡ Some folder = sym none_is ∙ ap (value_found (codes "DIR")) found_is ∙ folder_line words folder mode asks in
+    let found_is : subcommand_rows_of c.in-Ok.matches ≡ subcommand_of command_line words = (c.in-Ok.ensures.ok.2 (ap is_simple c.in_ok-command.ensures ∙ simple_line)).1
+    ∙ ap (λ (a : App). subcommand_of a words) c.in_ok-command.ensures in
+    ap (option_and_then asked_of) (sym found_is) ∙ sym c.in-Some.ensures
+
+pub returns-in-Ok-clause-taken : goal.returns-in-Ok-clause-taken
+returns-in-Ok-clause-taken g c = λ folder task asks.
+    let words = map g.S.AsStr.text c.args.words.now in
+    let found_is : subcommand_rows_of c.in-Ok.matches ≡ subcommand_of command_line words = (c.in-Ok.ensures.ok.2 (ap is_simple c.in_ok-command.ensures ∙ simple_line)).1
+    ∙ ap (λ (a : App). subcommand_of a words) c.in_ok-command.ensures in
+    let bad : None ≡ Some (folder, task) = c.in-None.ensures ∙ ap (option_and_then asked_of) found_is ∙ asked_line words folder task asks in
     absurd (search rules)
 
 pub returns-clause-taken : goal.returns-clause-taken
-returns-clause-taken g c = λ folder mode asks.
-    let words = map g.S.AsStr.text c.args.words.now in
-    let line_is : app_of c.in_ok-command.command ≡ command_line = search rules in
-    c.in-Err.ensures.passes (ap (λ (a : App). takes a words) line_is ∙ taken_line words folder mode asks)
+returns-clause-taken g c = λ folder task asks.
+    c.in-Err.ensures.passes (ap (λ (a : App). takes a (map g.S.AsStr.text c.args.words.now)) c.in_ok-command.ensures ∙ taken_line _ folder task asks)

@@ -1,0 +1,113 @@
+-- From what is written of an open store to what the commands promise.
+use Rattle.std.proofs.Common.{◌≡◌, ◌⊎◌, ℕ, ◌≤◌, List, [], ◌++◌, Option, None, Some, refl, sym, ap, subst, ◌∙◌, inl, inr, append-nil, arith}
+use Rattle.disk_trait.specs.Disk.{State}
+use Rattle.disk_trait.specs.declared.half.Half.{Half}
+use Rattle.disk_trait.specs.declared.half.Half.TheVariants.{A}
+use Rattle.lisp_object.specs.declared.refusal.TheConstants.{DEVICE, OUTPUT, NO_MEMORY}
+use Rattle.plist_state.specs.State.{State as World, initial}
+use Rattle.snapshot_text.specs.Snapshot.{snapshot}
+use Rattle.prevalence_store.specs.Functions.{Functions}
+use Rattle.prevalence_store.specs.Session.{Session}
+use Rattle.prevalence_store.specs.Streams.{Writes, WritesPart}
+use Rattle.store_program.specs.declared.status.Status.{Status}
+use Rattle.store_program.specs.declared.status.Status.TheVariants.{Done, Helped, ReaderRefused, WordsRefused, Fault}
+use Rattle.store_program.specs.declared.words.Task.{Task}
+use Rattle.store_program.specs.declared.words.Task.TheVariants.{Run, Dump, Verify}
+use Rattle.clap.specs.Words.{Text}
+use Rattle.store_program.specs.Commands.{DumpsWorld, IsFront, IsReport, TaskBreaksOff, TaskReads, TaskWrites, TellsHalf, TellsText, WordsRead, WordsWrite, dumped, half_line, verified}
+use Rattle.store_program.specs.Session.{AnswersInput, ReadsToEnd}
+use Rattle.store_program.specs.Status.{HasFaultNumber, IsCarriedOut, IsFaultNumber, TakesWords}
+use Rattle.store_program.proofs.Sessions.{nothing_written}
+
+-- what is said of one half is said of the same half
+pub same_half : (P : List ℕ → Type 0) (a b : Half) (g h m n : ℕ) → a ≡ b → g ≡ h → m ≡ n → P (half_line a g m) → P (half_line b h n)
+same_half P a b g h m n half generation records given = subst P (rw (half, generation, records) refl) given
+
+-- the status of a text that was to be written
+module _ (held written : Option (List ℕ)) (text : List ℕ) where
+  pub text_taken : (status : Status) → TellsText status held written text → TakesWords status
+  text_taken Done told = tt
+  text_taken (Fault number) told = tt
+  text_taken Helped told = absurd told
+  text_taken ReaderRefused told = absurd told
+  text_taken WordsRefused told = absurd told
+
+  number_of_text : (number : ℕ) → TellsText (Fault number) held written text → IsFaultNumber number
+  number_of_text number (inl cut) = subst IsFaultNumber (sym cut.0) (inl (omega arith, omega arith))
+  number_of_text number (inr none) = inr none.0
+
+  pub text_fault : (status : Status) → TellsText status held written text → HasFaultNumber status
+  text_fault Done told = λ number is. absurd (cc)
+  text_fault (Fault given) told = λ number is. let same : given ≡ number = cc in subst IsFaultNumber same (number_of_text given told)
+  text_fault Helped told = absurd told
+  text_fault ReaderRefused told = absurd told
+  text_fault WordsRefused told = absurd told
+
+  -- a fault left the first part of it
+  front_of_text : (number : ℕ) (had : List ℕ) → held ≡ Some had → TellsText (Fault number) held written text → (front : List ℕ) × (rest : List ℕ) × (text ≡ front ++ rest) × (written ≡ Some (had ++ front))
+  front_of_text number had holds (inl cut) = let part = cut.1 had holds in (part.front, part.rest, part.parts, part.written)
+  front_of_text number had holds (inr none) = ([], text, refl, none.1 ∙ holds ∙ ap (λ l. Some l) (sym (append-nil had)))
+
+  pub text_front : (status : Status) (number : ℕ) (had : List ℕ) → held ≡ Some had → status ≡ Fault number → TellsText status held written text
+      → (front : List ℕ) × (rest : List ℕ) × (text ≡ front ++ rest) × (written ≡ Some (had ++ front))
+  text_front status number had holds is told = front_of_text number had holds (subst (λ (s : Status). TellsText s held written text) is told)
+
+module _ (functions : Functions) {D R : Type 0} (state : D → State) (disk : D) (macros : R) (limit : ℕ) (held written : Option (List ℕ)) (back : D) (had : List ℕ) (holds : held ≡ Some had) where
+  pub dump_writes : (status : Status) → IsReport functions state dumped disk macros limit held written status back → DumpsWorld status had written
+  dump_writes Done report = (report.is_opened.world, report.tells had holds)
+  dump_writes (Fault number) report = tt
+  dump_writes Helped report = tt
+  dump_writes ReaderRefused report = absurd report.tells
+  dump_writes WordsRefused report = tt
+
+  pub verify_writes : (status : Status) → IsReport functions state verified disk macros limit held written status back → TellsHalf status had written
+  verify_writes Done report = (report.opened.half, report.opened.generation, report.opened.record_count, report.tells had holds)
+  verify_writes (Fault number) report = tt
+  verify_writes Helped report = tt
+  verify_writes ReaderRefused report = absurd report.tells
+  verify_writes WordsRefused report = tt
+
+-- before a store was opened nothing was read and nothing written
+module _ (functions : Functions) (input had : List ℕ) (written left : Option (List ℕ)) where
+  pub nothing_of : (task : Task) → written ≡ Some had → TaskBreaksOff functions task input had written
+  nothing_of (Run mode every) holds = nothing_written functions mode input had written holds
+  nothing_of Dump holds = (initial, ([], snapshot initial, refl, holds ∙ ap (λ l. Some l) (sym (append-nil had))))
+  nothing_of Verify holds = (A, 0, 0, ([], half_line A 0 0, refl, holds ∙ ap (λ l. Some l) (sym (append-nil had))))
+
+  pub unread_of : (task : Task) (status : Status) → (status ≡ Done → ⊥) → left ≡ Some input → TaskReads task status input left
+  unread_of Dump status other holds = holds
+  unread_of Verify status other holds = holds
+  unread_of (Run mode every) Done other holds = absurd (other refl)
+  unread_of (Run mode every) Helped other holds = tt
+  unread_of (Run mode every) ReaderRefused other holds = tt
+  unread_of (Run mode every) WordsRefused other holds = tt
+  unread_of (Run mode every) (Fault number) other holds = tt
+
+  pub unwritten_of : (task : Task) (status : Status) → (IsCarriedOut status → ⊥) → TaskWrites functions task status input had written
+  unwritten_of task Done other = absurd (other (inl refl))
+  unwritten_of task ReaderRefused other = absurd (other (inr refl))
+  unwritten_of (Run mode every) Helped other = tt
+  unwritten_of (Run mode every) WordsRefused other = tt
+  unwritten_of (Run mode every) (Fault number) other = tt
+  unwritten_of Dump Helped other = tt
+  unwritten_of Dump WordsRefused other = tt
+  unwritten_of Dump (Fault number) other = tt
+  unwritten_of Verify Helped other = tt
+  unwritten_of Verify WordsRefused other = tt
+  unwritten_of Verify (Fault number) other = tt
+
+  pub words_unread : (asked : Option (Text × Task)) (status : Status) → (status ≡ Done → ⊥) → left ≡ Some input → WordsRead asked status input left
+  words_unread None status other holds = holds
+  words_unread (Some at) status other holds = unread_of at.1 status other holds
+
+  pub words_unwritten : (asked : Option (Text × Task)) (status : Status) → (IsCarriedOut status → ⊥) → WordsWrite functions asked status input had written
+  words_unwritten None status other = other
+  words_unwritten (Some at) status other = unwritten_of at.1 status other
+
+-- the same of what is equal
+pub moved_read : (a b : Option (Text × Task)) (s t : Status) (v w : Option (List ℕ)) (input : List ℕ) → a ≡ b → s ≡ t → v ≡ w → WordsRead b t input w → WordsRead a s input v
+moved_read a b s t v w input same_words same_status same_left given = rw (same_words, same_status, same_left) given
+
+pub moved_write : (functions : Functions) (a b : Option (Text × Task)) (s t : Status) (v w : Option (List ℕ)) (input had : List ℕ) → a ≡ b → s ≡ t → v ≡ w
+    → WordsWrite functions b t input had w → WordsWrite functions a s input had v
+moved_write functions a b s t v w input had same_words same_status same_written given = rw (same_words, same_status, same_written) given

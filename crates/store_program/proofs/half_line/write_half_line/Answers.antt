@@ -1,0 +1,25 @@
+use Rattle.std.proofs.Common.{◌≡◌, ◌∙◌, ◌++◌, ◌∷◌, [], List, ℕ, OnOk, OnErr, ap, subst, codes}
+use Rattle.std.proofs.lemmas.Fmt.{contents_after_writes}
+use Rattle.std.specs.Prelude.{decimal}
+use Rattle.prevalence_store.specs.Streams.{Writes, WritesPart}
+use Rattle.store_program.specs.Commands.{half_line}
+use Rattle.store_program.proofs.half_line.write_half_line.Given as given
+use Rattle.store_program.proofs.half_line.write_half_line.Goals as goal
+
+-- the line in memory is that of the half
+line_is : (g : given.Over) (c : goal.After-write_text g) → c.as_bytes.result.now ≡ half_line c.args.half c.args.generation c.args.records
+line_is g c =
+    let with_letter : List ℕ → List ℕ = λ letter. codes "half " ++ (letter ++ (codes " generation " ++ (decimal c.args.generation ++ (codes " records " ++ (decimal c.args.records ++ 10 ∷ []))))) in
+    c.as_bytes.ensures.value
+    ∙ c.deref.ensures.0
+    ∙ contents_after_writes _ (λ s. s.bytes) (λ _ _ _ t. t) _ _ _ c.in-Ok.ensures.writes
+    ∙ ap (λ l. l ++ with_letter c.letter_of-letter.result.now) c.new-line.ensures
+    ∙ ap with_letter c.letter_of-letter.ensures
+
+pub returns-clause-whole : goal.returns-clause-whole
+returns-clause-whole g c =
+    subst (λ l. OnOk c.write_text.result (Writes (g.W.Write.contents c.args.output.now) (g.W.Write.contents c.write_text.new.writer) l)) (line_is g c) c.write_text.ensures.whole
+
+pub returns-clause-part : goal.returns-clause-part
+returns-clause-part g c =
+    subst (λ l. OnErr c.write_text.result (WritesPart (g.W.Write.contents c.args.output.now) (g.W.Write.contents c.write_text.new.writer) l)) (line_is g c) c.write_text.ensures.part

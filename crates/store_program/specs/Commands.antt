@@ -1,0 +1,104 @@
+-- What each command does with a store, what it writes, and what it reads.
+use Rattle.std.specs.Prelude.{◌≡◌, ◌⊎◌, ℕ, List, [], ◌∷◌, ◌++◌, Option, None, Some, codes, decimal}
+use Rattle.disk_trait.specs.Disk.{State}
+use Rattle.disk_trait.specs.declared.half.Half.{Half}
+use Rattle.disk_trait.specs.declared.half.Half.TheVariants.{A, B}
+use Rattle.lisp_object.specs.declared.refusal.TheConstants.{OUTPUT, NO_MEMORY}
+use Rattle.clap.specs.Words.{Text}
+use Rattle.plist_state.specs.State.{State as World}
+use Rattle.snapshot_text.specs.Snapshot.{snapshot}
+use Rattle.prevalence_store.specs.Functions.{Functions}
+use Rattle.prevalence_store.specs.Opening.{IsOpened}
+use Rattle.prevalence_store.specs.Session.{Session}
+use Rattle.prevalence_store.specs.Streams.{Writes, WritesPart}
+use Rattle.store_program.specs.Session.{AnswersInput, IsBrokenOff, ReadsToEnd}
+use Rattle.store_program.specs.Status.{IsCarriedOut}
+use Rattle.store_program.specs.declared.status.Status.{Status}
+use Rattle.store_program.specs.declared.status.Status.TheVariants.{Done, Helped, ReaderRefused, WordsRefused, Fault}
+use Rattle.store_program.specs.declared.words.Task.{Task}
+use Rattle.store_program.specs.declared.words.Task.TheVariants.{Run, Dump, Verify}
+
+-- ---- what is written
+
+-- the letter of a half
+abbrev pub letter_of : Half → List ℕ
+letter_of A = codes "A"
+letter_of B = codes "B"
+
+-- the line on the half in use: which it is, its generation, and how many records it holds
+abbrev pub half_line : Half → ℕ → ℕ → List ℕ
+half_line half generation records = codes "half " ++ (letter_of half ++ (codes " generation " ++ (decimal generation ++ (codes " records " ++ (decimal records ++ 10 ∷ [])))))
+
+-- what `dump` writes of an open store with this world, and what `verify` writes
+abbrev pub dumped : {D R : Type 0} → Session D R → World → List ℕ
+dumped session world = snapshot world
+
+abbrev pub verified : {D R : Type 0} → Session D R → World → List ℕ
+verified session world = half_line session.half session.generation session.record_count
+
+-- the text was written; or a part of it from its front, and the output failed; or nothing, as memory was refused
+abbrev pub TellsText : Status → Option (List ℕ) → Option (List ℕ) → List ℕ → Type 0
+TellsText Done held written text = Writes held written text
+TellsText (Fault number) held written text = ((number ≡ OUTPUT) × WritesPart held written text) ⊎ ((number ≡ NO_MEMORY) × (written ≡ held))
+TellsText Helped held written text = ⊥
+TellsText ReaderRefused held written text = ⊥
+TellsText WordsRefused held written text = ⊥
+
+-- The store that a disk holds was opened with these macro functions, a text on it was written, and it was closed: this is its
+-- disk.
+pub record IsReport (functions : Functions) {D R : Type 0} (state : D → State) (text : Session D R → World → List ℕ) (disk : D) (macros : R) (limit : ℕ)
+    (held written : Option (List ℕ)) (status : Status) (back : D) : Type 0 where
+  pub opened : Session D R
+  pub is_opened : IsOpened functions state disk macros limit opened
+  pub tells : TellsText status held written (text opened is_opened.world)
+  pub disk_is : back ≡ opened.disk
+
+-- ---- over the files of a folder, of which no clause can say what they hold
+
+-- so far as it ends well, the output has the text of some world more
+abbrev pub DumpsWorld : Status → List ℕ → Option (List ℕ) → Type 0
+DumpsWorld Done held written = (world : World) × (written ≡ Some (held ++ snapshot world))
+DumpsWorld ReaderRefused held written = ⊥
+DumpsWorld Helped held written = Unit {0}
+DumpsWorld WordsRefused held written = Unit {0}
+DumpsWorld (Fault number) held written = Unit {0}
+
+-- and the line on some half
+abbrev pub TellsHalf : Status → List ℕ → Option (List ℕ) → Type 0
+TellsHalf Done held written = (half : Half) × (generation : ℕ) × (records : ℕ) × (written ≡ Some (held ++ half_line half generation records))
+TellsHalf ReaderRefused held written = ⊥
+TellsHalf Helped held written = Unit {0}
+TellsHalf WordsRefused held written = Unit {0}
+TellsHalf (Fault number) held written = Unit {0}
+
+module _ (functions : Functions) where
+  -- what a command writes where it ends well
+  abbrev pub TaskWrites : Task → Status → List ℕ → List ℕ → Option (List ℕ) → Type 0
+  TaskWrites (Run mode every) status input held written = AnswersInput functions mode status input held written
+  TaskWrites Dump status input held written = DumpsWorld status held written
+  TaskWrites Verify status input held written = TellsHalf status held written
+
+  -- words that ask for nothing do not end well
+  abbrev pub WordsWrite : Option (Text × Task) → Status → List ℕ → List ℕ → Option (List ℕ) → Type 0
+  WordsWrite None status input held written = IsCarriedOut status → ⊥
+  WordsWrite (Some asked) status input held written = TaskWrites asked.1 status input held written
+
+  -- what was written is the first part of this text
+  abbrev pub IsFront : List ℕ → Option (List ℕ) → List ℕ → Type 0
+  IsFront held written text = (front : List ℕ) × (rest : List ℕ) × (text ≡ front ++ rest) × (written ≡ Some (held ++ front))
+
+  -- what a command wrote that met a fault is the first part of what it would have written, over the store of some world
+  abbrev pub TaskBreaksOff : Task → List ℕ → List ℕ → Option (List ℕ) → Type 0
+  TaskBreaksOff (Run mode every) input held written = IsBrokenOff functions mode input held written
+  TaskBreaksOff Dump input held written = (world : World) × IsFront held written (snapshot world)
+  TaskBreaksOff Verify input held written = (half : Half) × (generation : ℕ) × (records : ℕ) × IsFront held written (half_line half generation records)
+
+-- `run` that ends well reads to the end; the other commands read nothing
+abbrev pub TaskReads : Task → Status → List ℕ → Option (List ℕ) → Type 0
+TaskReads (Run mode every) status input left = ReadsToEnd status left
+TaskReads Dump status input left = left ≡ Some input
+TaskReads Verify status input left = left ≡ Some input
+
+abbrev pub WordsRead : Option (Text × Task) → Status → List ℕ → Option (List ℕ) → Type 0
+WordsRead None status input left = left ≡ Some input
+WordsRead (Some asked) status input left = TaskReads asked.1 status input left
