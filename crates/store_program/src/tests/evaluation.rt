@@ -426,11 +426,11 @@ const ROWS: &[Row] = &[
 fn answered(alloc: Global, before: &[u8], last: &[u8]) -> Result<(Vec<u8>, bool), Trouble> {
     let mut store = opened(alloc, MemoryDisk::new(alloc), AMPLE)?;
     let mut reader = before;
-    let _ending = store.serve(&mut reader, &mut Vec::new(alloc), Mode::Current);
+    let _ending = store.serve(&mut reader, &mut Vec::new(alloc), Mode::Current, 0);
     let count = store.record_count();
     let mut reader = last;
     let mut answer = Vec::new(alloc);
-    let _ending = store.serve(&mut reader, &mut answer, Mode::Current);
+    let _ending = store.serve(&mut reader, &mut answer, Mode::Current, 0);
     let is_logged = store.record_count() > count;
     let _closed = store.close();
     Ok((answer, is_logged))
