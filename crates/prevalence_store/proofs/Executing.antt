@@ -102,6 +102,11 @@ module _ (functions : Functions) where
       abbrev of : Evaluated → World → Acceptance
       of e given = record { value = object_of e.value; world = given; wrote = e.wrote; text = own }
 
+      -- the device has not failed, whether it wrote or not
+      stored_calm : (wrote : Bool) (given : World) → Stores state old new wrote mode own given → (state new.disk).failures ≡ (state old.disk).failures
+      stored_calm true given stored = stored.failures
+      stored_calm false given stored = ap (λ (s : Session D R). (state s.disk).failures) stored.0
+
       -- it was evaluated, and logged where it wrote
       pub accepted : (e : Evaluated) → (given : World) × (accept functions.names w x ≡ Ok (done e given)) × Stores state old new e.wrote mode own given
           → SurvivesAs functions state old new w (records_of e.wrote mode own) (length (records_of e.wrote mode own))
@@ -111,6 +116,7 @@ module _ (functions : Functions) where
         accepted = by ∙ ap (acceptance_of own) given.1;
         answered = refl;
         stored = given.2;
+        calm = stored_calm e.wrote given.0 given.2;
         survives = survives;
       }
 

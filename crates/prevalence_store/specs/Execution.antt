@@ -94,6 +94,8 @@ module _ (functions : Functions) {D R : Type 0} (state : D → State) (old new :
       pub accepted : accepts functions world mode text ≡ Ok given
       pub answered : value ≡ given.value
       pub stored : Stores state old new given.wrote mode given.text given.world
+      -- the device has not failed, so the disk may be opened again
+      pub calm : (state new.disk).failures ≡ (state old.disk).failures
       pub survives : SurvivesAs world (records_of given.wrote mode given.text) (length (records_of given.wrote mode given.text))
 
     -- the world does not accept the text, and this is why
