@@ -72,8 +72,11 @@ pub asked_found : (m : ArgMatches) (name : Text) (f : Found) (folder : Option Te
     → Some (rows_of f) ≡ option_map (λ (p : Text × List Row). p.1) (subcommand_rows_of m) → folder ≡ first_value f (codes "DIR") → task ≡ task_of (name, rows_of f)
     → option_and_then (λ at. option_map (λ (t : Task). (at, t)) task) folder ≡ option_and_then asked_of (subcommand_rows_of m)
 asked_found m name f folder task named listed folder_is task_is =
-    rw (← named_found (λ b. (out-SubCommand (box_value b)).name.now) (λ b. rows_of (found_of (out-SubCommand (box_value b)).matches)) (out-ArgMatches m).subcommand name (rows_of f) named listed,
-        folder_is ∙ first_value-rows f (codes "DIR"), task_is) refl
+    rw (
+      ← named_found (λ b. (out-SubCommand (box_value b)).name.now) (λ b. rows_of (found_of (out-SubCommand (box_value b)).matches)) (out-ArgMatches m).subcommand name (rows_of f) named listed,
+      folder_is ∙ first_value-rows f (codes "DIR"),
+      task_is,
+    ) refl
 
 -- the words ask for one thing
 pub same_task : (asked : Option (Text × Task)) (a b : Text) (t u : Task) → asked ≡ Some (a, t) → asked ≡ Some (b, u) → t ≡ u

@@ -22,7 +22,10 @@ pub fn write_half_line<W: Write>(
 {
     let letter = letter_of(half);
     let mut line = ArrayString::<80>::new();
-    let Ok(()) = writeln!(line, "half {letter} generation {generation} records {records}") else {
+    let Ok(()) = writeln!(
+        line,
+        "half {letter} generation {generation} records {records}"
+    ) else {
         return Err(Unwritten);
     };
     write_text(output, line.as_bytes())

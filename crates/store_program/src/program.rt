@@ -56,7 +56,7 @@ where
     F: Write,
     requires answers { M.answers macros }
     ensures words { (folder : List ℕ) (task : Task) → AsksFor (map S.text words.now) folder task
-        → TakesWords result × (asked_by_words (map S.text words.now) ≡ Some (folder , task)) }
+        → TakesWords result × (asked_by_words (map S.text words.now) ≡ Some (folder, task)) }
     ensures quiet { IsCarriedOut result → faults.new ≡ faults.old }
     ensures helped { result ≡ Status.Helped → (faults.new ≡ faults.old) × (input.new ≡ input.old) }
     ensures refused { result ≡ Status.WordsRefused → (output.new ≡ output.old) × (input.new ≡ input.old) }
@@ -261,11 +261,7 @@ where
 }
 
 // Writes the text of the world of an open store.
-fn write_world<D: Disk, M, O: Write>(
-    alloc: Global,
-    store: &Store<D, M>,
-    output: &mut O,
-) -> Status
+fn write_world<D: Disk, M, O: Write>(alloc: Global, store: &Store<D, M>, output: &mut O) -> Status
     requires known { IsSome store.now.world }
     ensures { IfSome store.now.world (λ world. TellsText result (O.contents output.old) (O.contents output.new) (dumped store.now world)) }
 {

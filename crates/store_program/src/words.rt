@@ -26,7 +26,8 @@ const RESCUE: &str = "rescue";
 const EVERY: &str = "snapshot-every";
 
 /// How the program is called.
-const USAGE: &str = "./pazturrok run DIR [--rescue] [--snapshot-every N]\n       ./pazturrok dump DIR\n       ./pazturrok verify DIR";
+const USAGE: &str =
+    "./pazturrok run DIR [--rescue] [--snapshot-every N]\n       ./pazturrok dump DIR\n       ./pazturrok verify DIR";
 
 /// How each command is called.
 const RUN_USAGE: &str = "./pazturrok run DIR [--rescue] [--snapshot-every N]";
@@ -37,7 +38,7 @@ const VERIFY_USAGE: &str = "./pazturrok verify DIR";
 
 /// What a person has to know to work with it, at the end of the help.
 const MANUAL: &str =
-    "DIR holds the two files of the store, half-a and half-b, of at most 1,073,741,824 bytes each.\nOne process at a time serves a folder.\n\nA form is answered once its record has been synced. Stopped at any moment, a store on an honest\ndisk opens again with the world that some first part of the accepted forms gives, and that\npart holds each form that was answered. README.md has the premises, and what is proved.\n\nWith --rescue each form is read under the standard readtable in COMMON-LISP-USER, whatever readtable\nand package the store has. It is the way out of a readtable that can no longer be used:\n(COPY-READTABLE NIL :USER) makes :USER the standard one again.\n\nMacro functions, for SET-MACRO-CHARACTER and SET-DISPATCH-MACRO-CHARACTER:\n  :SQUARE  a vector of the objects up to the next ]\n  :CLOSE   refuses each call, as 20; for a ] that stands alone\n  :NOTE    discards what follows, up to the end of the line\n  :SKIP    discards the object that follows\n  :UNIT    a text of the characters up to the next }\n  :SCALE   the integer that follows, times the numeric argument\n\nExit status:\n  0  the input was served to its end, or help was asked for\n  1  a text was refused by the reader, which ends the session; its line is the last answer\n  2  the words of the command line were refused\n  3  a fault of the folder, the files, the input, the output or the memory, with the line\n     ! <number> <NAME> on standard error; docs/operating.md says what to do";
+    "DIR holds the two files of the store, half-a and half-b, of at most 1,073,741,824 bytes each.\nOne process at a time serves a folder.\n\nA form is answered once its record has been synced. Stopped at any moment, a store on an honest\ndisk opens again with the world that some first part of the accepted forms gives, and that\npart holds each form that was answered. README.md has the premises, and what is proved.\n\nWith --snapshot-every N a snapshot is taken after each N forms that wrote: the text of the world goes into\nthe file that is not in use, which is used from then on. One is also taken where a file is full.\ndump DIR writes the text of the world; verify DIR opens the store and tells which file is in use.\n\nWith --rescue each form is read under the standard readtable in COMMON-LISP-USER, whatever readtable\nand package the store has. It is the way out of a readtable that can no longer be used:\n(COPY-READTABLE NIL :USER) makes :USER the standard one again.\n\nMacro functions, for SET-MACRO-CHARACTER and SET-DISPATCH-MACRO-CHARACTER:\n  :SQUARE  a vector of the objects up to the next ]\n  :CLOSE   refuses each call, as 20; for a ] that stands alone\n  :NOTE    discards what follows, up to the end of the line\n  :SKIP    discards the object that follows\n  :UNIT    a text of the characters up to the next }\n  :SCALE   the integer that follows, times the numeric argument\n\nExit status:\n  0  the input was served to its end, or help was asked for\n  1  a text was refused by the reader, which ends the session; its line is the last answer\n  2  the words of the command line were refused\n  3  a fault of the folder, the files, the input, the output or the memory, with the line\n     ! <number> <NAME> on standard error; docs/operating.md says what to do";
 
 /// What is to be done with a store.
 #[derive(Clone, Copy, Debug, PartialEq, Eq)]
@@ -151,7 +152,7 @@ fn every_in(found: &ArgMatches<'_>) -> u64
 
 // What the command of this name is to do.
 fn task_for(name: &str, found: &ArgMatches<'_>) -> Option<Task>
-    ensures { result ≡ task_of (name.now , rows_of (found_of found.now)) }
+    ensures { result ≡ task_of (name.now, rows_of (found_of found.now)) }
 {
     match name {
         RUN => Some(Task::Run {
@@ -166,7 +167,7 @@ fn task_for(name: &str, found: &ArgMatches<'_>) -> Option<Task>
 
 // What was found, if it is a command with its folder.
 fn asked_by<'a>(matches: &ArgMatches<'a>) -> Option<Asked<'a>>
-    ensures { option_map (λ asked. (asked.folder.now , asked.task)) result ≡ option_and_then asked_of (subcommand_rows_of matches.now) }
+    ensures { option_map (λ asked. (asked.folder.now, asked.task)) result ≡ option_and_then asked_of (subcommand_rows_of matches.now) }
 {
     let (name, found) = matches.subcommand()?;
     Some(Asked {
@@ -189,7 +190,7 @@ fn nothing_asked(command: &mut Command<'_>) -> Error {
 ///
 /// Those of `clap`: help that was asked for, words that are refused, out of memory.
 pub fn asked_in<'a, S: AsStr>(alloc: Global, words: &'a [S]) -> Result<Asked<'a>, Error>
-    ensures asked { IfOk result (λ asked. asked_in (map S.text words.entry.now) ≡ Some (asked.folder.now , asked.task)) }
+    ensures asked { IfOk result (λ asked. asked_in (map S.text words.entry.now) ≡ Some (asked.folder.now, asked.task)) }
     ensures taken { (folder : List ℕ) (task : Task) → AsksFor (map S.text words.entry.now) folder task
         → IfErr result (λ e. kind_of e ≡ OutOfMemory) }
 {

@@ -135,7 +135,7 @@ fn one_session<D: Disk + Drop, M: MacroFunctions + Drop, R: Read, W: Write>(
     let Ok(mut store) = Store::open(alloc, disk, macros, AMPLE) else {
         return None;
     };
-    let ending = store.serve(reader, writer, Mode::Current);
+    let ending = store.serve(reader, writer, Mode::Current, 0);
     let (closed, macros) = store.close();
     Some((ending, closed, Store::open(alloc, crashed, macros, AMPLE)))
 }

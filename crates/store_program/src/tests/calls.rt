@@ -11,7 +11,7 @@ use std::test::Fail;
 /// The number of the refusal of a form, if it is refused.
 pub(super) fn refused<D: Disk>(store: &mut Store<D, ByName>, text: &[u8]) -> Option<u16> {
     match store.execute(Mode::Current, text) {
-        Outcome::Accepted(_) => None,
+        Outcome::Accepted(_) | Outcome::Snapshotted => None,
         Outcome::Refused(number) => Some(number),
     }
 }
@@ -52,7 +52,7 @@ fn mode_bytes(alloc: Global, mode: Mode) -> Result<[Option<u8>; 2], Trouble> {
     let mut store = opened(alloc, MemoryDisk::new(alloc), AMPLE)?;
     let _outcome = store.execute(mode, b"(SETF (GET 'A 'B) 7)");
     let mut reader: &[u8] = b"(SETF (GET 'A 'B) 8)";
-    let _ending = store.serve(&mut reader, &mut Vec::new(alloc), mode);
+    let _ending = store.serve(&mut reader, &mut Vec::new(alloc), mode, 0);
     let (mut disk, _macros) = store.close();
     let bytes = bytes_of(alloc, &mut disk, Half::A)?;
     Ok([bytes.get(151).copied(), bytes.get(177).copied()])
@@ -106,7 +106,7 @@ fn run_fused(alloc: Global, calls: u64) -> Result<Fused, Trouble> {
             let second = refused(&mut store, b"(GET 'A 'B)").unwrap_or(0);
             let mut reader: &[u8] = b"(GET 'A 'B)";
             let mut answers = Vec::new(alloc);
-            let ending = store.serve(&mut reader, &mut answers, Mode::Current);
+            let ending = store.serve(&mut reader, &mut answers, Mode::Current, 0);
             Fused::Refused {
                 first,
                 second,

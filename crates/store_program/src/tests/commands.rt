@@ -43,11 +43,15 @@ fn place(rt: &HostRuntime, name: &str) -> std::io::Result<String> {
 /// The help.
 const HELP: &str = "A store for Lisp forms that keeps what it has answered
 
-Usage: ./pazturrok run DIR [--rescue]
+Usage: ./pazturrok run DIR [--rescue] [--snapshot-every N]
+       ./pazturrok dump DIR
+       ./pazturrok verify DIR
 
 Commands:
-  run   Serves the forms of standard input to standard output
-  help  Print this message or the help of the given subcommand(s)
+  run     Serves the forms of standard input to standard output
+  dump    Writes the text of the world
+  verify  Tells the half in use, its generation and how many records it has
+  help    Print this message or the help of the given subcommand(s)
 
 Options:
   -h, --help  Print help
@@ -58,6 +62,10 @@ One process at a time serves a folder.
 A form is answered once its record has been synced. Stopped at any moment, a store on an honest
 disk opens again with the world that some first part of the accepted forms gives, and that
 part holds each form that was answered. README.md has the premises, and what is proved.
+
+With --snapshot-every N a snapshot is taken after each N forms that wrote: the text of the world goes into
+the file that is not in use, which is used from then on. One is also taken where a file is full.
+dump DIR writes the text of the world; verify DIR opens the store and tells which file is in use.
 
 With --rescue each form is read under the standard readtable in COMMON-LISP-USER, whatever readtable
 and package the store has. It is the way out of a readtable that can no longer be used:
@@ -82,20 +90,21 @@ Exit status:
 /// The help of `run`, up to what both have.
 const RUN_HELP: &str = "Serves the forms of standard input to standard output
 
-Usage: ./pazturrok run DIR [--rescue]
+Usage: ./pazturrok run DIR [--rescue] [--snapshot-every N]
 
 Arguments:
   <DIR>  The folder of the store, made where it is missing
 
 Options:
-      --rescue  Read each form under the standard readtable in COMMON-LISP-USER
-  -h, --help    Print help
+      --rescue              Read each form under the standard readtable in COMMON-LISP-USER
+      --snapshot-every <N>  Take a snapshot after each N forms that write, N from 1 to 1,000,000
+  -h, --help                Print help
 
 DIR holds";
 
 #[test]
 fn words_are_judged_first(rt: HostRuntime) {
-    let cases: [(&[&str], u8, bool, bool); 11] = [
+    let cases: [(&[&str], u8, bool, bool); 25] = [
         (&[], 2, false, true),
         (&["store_program"], 2, false, true),
         (&["store_program", "walk", "/dev/null"], 2, false, true),
@@ -112,6 +121,83 @@ fn words_are_judged_first(rt: HostRuntime) {
         (
             &["store_program", "run", "/dev/null", "more"],
             2,
+            false,
+            true,
+        ),
+        (&["store_program", "dump"], 2, false, true),
+        (&["store_program", "verify"], 2, false, true),
+        (
+            &["store_program", "dump", "/dev/null", "more"],
+            2,
+            false,
+            true,
+        ),
+        (
+            &["store_program", "verify", "/dev/null", "more"],
+            2,
+            false,
+            true,
+        ),
+        (
+            &["store_program", "verify", "/dev/null", "--rescue"],
+            2,
+            false,
+            true,
+        ),
+        (&["store_program", "dump", ""], 3, false, true),
+        (&["store_program", "verify", "/dev/null"], 3, false, true),
+        (&["store_program", "dump", "--help"], 0, true, false),
+        (
+            &["store_program", "run", "/dev/null", "--snapshot-every"],
+            2,
+            false,
+            true,
+        ),
+        (
+            &["store_program", "run", "/dev/null", "--snapshot-every", "0"],
+            2,
+            false,
+            true,
+        ),
+        (
+            &[
+                "store_program",
+                "run",
+                "/dev/null",
+                "--snapshot-every",
+                "1000001",
+            ],
+            2,
+            false,
+            true,
+        ),
+        (
+            &["store_program", "run", "/dev/null", "--snapshot-every", "x"],
+            2,
+            false,
+            true,
+        ),
+        (
+            &[
+                "store_program",
+                "run",
+                "/dev/null",
+                "--snapshot-every",
+                "-1",
+            ],
+            2,
+            false,
+            true,
+        ),
+        (
+            &[
+                "store_program",
+                "run",
+                "/dev/null",
+                "--snapshot-every",
+                "1000000",
+            ],
+            3,
             false,
             true,
         ),
@@ -212,6 +298,67 @@ fn a_store_is_rescued(rt: HostRuntime) -> Result<(), Fail> {
         assert_eq!(rt; found.status, status);
         assert_eq!(rt; found.output.as_slice(), output);
         assert_eq!(rt; found.faults.len(), 0);
+    }
+    fs::remove_dir_all(&rt, place.as_str())?;
+    Ok(())
+}
+
+/// The text of the initial world.
+const INITIAL: &[u8] =
+    b"((\"COMMON-LISP-USER\" (\"COMMON-LISP\") NIL NIL NIL) (\"KEYWORD\" NIL NIL NIL NIL))\nNIL\n(\"COMMON-LISP-USER\" \"USER\" ((\"USER\" \"UPCASE\" NIL)))\n";
+
+/// The text of the world with the symbols A and B, and with the property B of A.
+const WITH_PROPERTY: &[u8] =
+    b"((\"COMMON-LISP-USER\" (\"COMMON-LISP\") (\"A\" \"B\") NIL NIL) (\"KEYWORD\" NIL NIL NIL NIL))\n((A B 3))\n(\"COMMON-LISP-USER\" \"USER\" ((\"USER\" \"UPCASE\" NIL)))\n";
+
+#[test]
+fn a_store_is_dumped_and_verified(rt: HostRuntime) -> Result<(), Fail> {
+    let place = place(&rt, "dump")?;
+    let dump: [&str; 3] = ["store_program", "dump", place.as_str()];
+    let verify: [&str; 3] = ["store_program", "verify", place.as_str()];
+    let serve: [&str; 5] = [
+        "store_program",
+        "run",
+        place.as_str(),
+        "--snapshot-every",
+        "2",
+    ];
+    let cases: [(&[&str], &[u8], &[u8]); 8] = [
+        (&verify, b"", b"half A generation 1 records 0\n"),
+        (&dump, b"7", INITIAL),
+        (&serve, b"(FROB NEWSYM)\n", b"! 31 UNKNOWN-OPERATOR\n"),
+        (&dump, b"", INITIAL),
+        (
+            &serve,
+            b"(SETF (GET 'A 'B) 1)\n(SETF (GET 'A 'B) 2)\n(SETF (GET 'A 'B) 3)\n",
+            b"1\n2\n3\n",
+        ),
+        (&verify, b"7", b"half B generation 2 records 1\n"),
+        (&dump, b"", WITH_PROPERTY),
+        (&verify, b"", b"half B generation 2 records 1\n"),
+    ];
+    for (words, input, output) in cases {
+        let found = run(&rt, words, input);
+        assert_eq!(rt; found.status, 0);
+        assert_eq!(rt; found.output.as_slice(), output);
+        assert_eq!(rt; found.faults.len(), 0);
+    }
+    // an output that takes nothing
+    let commands: [&[&str]; 2] = [&dump, &verify];
+    for words in commands {
+        let mut reader: &[u8] = b"7";
+        let mut faults = Vec::new(rt.alloc());
+        let macros = ByName::new(rt.alloc(), SixFunctions::new());
+        let status = program(
+            &rt,
+            macros,
+            words,
+            &mut reader,
+            &mut FullWriter,
+            &mut faults,
+        );
+        assert_eq!(rt; status.code(), 3);
+        assert_eq!(rt; faults.as_slice(), b"! 68 OUTPUT\n".as_slice());
     }
     fs::remove_dir_all(&rt, place.as_str())?;
     Ok(())

@@ -81,9 +81,10 @@ fn broken_endings(alloc: Global) -> Result<(Ending, Ending), Trouble> {
         &mut BrokenReader { has_begun: false },
         &mut answers,
         Mode::Current,
+        0,
     );
     let mut reader: &[u8] = b"7";
-    let unwritten = store.serve(&mut reader, &mut FullWriter, Mode::Current);
+    let unwritten = store.serve(&mut reader, &mut FullWriter, Mode::Current, 0);
     let _disk = store.close();
     Ok((unread, unwritten))
 }

@@ -25,7 +25,7 @@ fn with_limit(
     let mut store = opened(alloc, MemoryDisk::new(alloc), limit)?;
     let mut reader = input;
     let mut answers = Vec::new(alloc);
-    let ending = store.serve(&mut reader, &mut answers, Mode::Current);
+    let ending = store.serve(&mut reader, &mut answers, Mode::Current, 0);
     let records = store.record_count();
     let more = [refused(&mut store, more[0]), refused(&mut store, more[1])];
     let _closed = store.close();
@@ -43,11 +43,11 @@ fn a_form_is_logged_where_it_writes(rt: HostRuntime) -> Result<(), Fail> {
     let full = with_limit(
         alloc,
         177,
-        b"(SETF (GET 'A 'B) 7)(GET 'A 'B)(REMPROP 'A 'A)'C ",
+        b"(SETF (GET 'A 'B) 7)(GET 'A 'B)(REMPROP 'A 'A)",
         [b"'C", b"(SETF (GET 'A 'B) 7)"],
     )?;
     assert_eq!(rt; full.answers.as_slice(), b"7\n7\nNIL\n".as_slice());
-    assert_eq!(rt; (full.ending, full.records), (Ending::Store(64), 1));
+    assert_eq!(rt; (full.ending, full.records), (Ending::End, 1));
     assert_eq!(rt; full.more, [Some(64), Some(64)]);
     let roomy = with_limit(alloc, 1_000, b"'C 'C ", [b"'C", b"(LIST 1)"])?;
     assert_eq!(rt; roomy.answers.as_slice(), b"C\nC\n".as_slice());
@@ -62,7 +62,7 @@ fn without_device(alloc: Global, input: &[u8]) -> Result<(Vec<u8>, Ending), Trou
         if let Ok(mut store) = opened(alloc, FuseDisk::new(MemoryDisk::new(alloc), calls), AMPLE) {
             let mut reader = input;
             let mut answers = Vec::new(alloc);
-            let ending = store.serve(&mut reader, &mut answers, Mode::Current);
+            let ending = store.serve(&mut reader, &mut answers, Mode::Current, 0);
             let _closed = store.close();
             return Ok((answers, ending));
         }

@@ -105,7 +105,7 @@ fn served(alloc: Global, calls: u64, kind: Crash) -> Result<(usize, Vec<u8>), Tr
     let mut store = opened(alloc, disk, AMPLE)?;
     let mut reader: &[u8] = b"(SETF (GET 'A 'B) 1)(SETF (GET 'A 'B) 2)(SETF (GET 'A 'B) 3)";
     let mut answers = Vec::new(alloc);
-    let _ending = store.serve(&mut reader, &mut answers, Mode::Current);
+    let _ending = store.serve(&mut reader, &mut answers, Mode::Current, 0);
     let (disk, _macros) = store.close();
     let left = get_after(alloc, disk.into_inner(), kind)?;
     Ok((answers.len() / 2, left))

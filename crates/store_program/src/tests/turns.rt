@@ -73,7 +73,7 @@ fn reads_before_the_first_answer(alloc: Global, input: &[u8]) -> Result<Option<u
         reads: &reads,
         first: None,
     };
-    let _ending = store.serve(&mut reader, &mut writer, Mode::Current);
+    let _ending = store.serve(&mut reader, &mut writer, Mode::Current, 0);
     let _closed = store.close();
     Ok(writer.first)
 }

@@ -11,6 +11,6 @@ returns-clause-reports g c =
       opened = c.in_ok-store.store;
       is_opened = opened;
       tells = subst (λ (o : Option World). IfSome o (λ world. TellsText c.write_world-status.result (g.O.Write.contents c.args.output.now) (g.O.Write.contents c.write_world-status.new.output)
-      (dumped c.in_ok-store.store world))) opened.known c.write_world-status.ensures;
+          (dumped c.in_ok-store.store world))) opened.known c.write_world-status.ensures;
       disk_is = c.close-disk.ensures.disk;
     }

@@ -10,8 +10,8 @@ returns-in-Ok-clause-reports g c =
       opened = c.in_ok-store.store;
       is_opened = opened;
       tells = same_half (Writes (g.O.Write.contents c.args.output.now) (g.O.Write.contents c.write_half_line-written.new.output)) c.half.result c.in_ok-store.store.half
-      c.generation.result c.in_ok-store.store.generation c.record_count.result c.in_ok-store.store.record_count c.half.ensures c.generation.ensures c.record_count.ensures
-      c.in-Ok.ensures.whole;
+          c.generation.result c.in_ok-store.store.generation c.record_count.result c.in_ok-store.store.record_count c.half.ensures c.generation.ensures c.record_count.ensures
+          c.in-Ok.ensures.whole;
       disk_is = c.close-disk.ensures.disk;
     }
 
@@ -21,8 +21,11 @@ returns-in-Err-clause-reports g c =
     record {
       opened = c.in_ok-store.store;
       is_opened = opened;
-      tells = inl (refl, same_half (WritesPart (g.O.Write.contents c.args.output.now) (g.O.Write.contents c.write_half_line-written.new.output)) c.half.result c.in_ok-store.store.half
-      c.generation.result c.in_ok-store.store.generation c.record_count.result c.in_ok-store.store.record_count c.half.ensures c.generation.ensures c.record_count.ensures
-      c.in-Err.ensures.part);
+      tells = inl (
+        refl,
+        same_half (WritesPart (g.O.Write.contents c.args.output.now) (g.O.Write.contents c.write_half_line-written.new.output)) c.half.result c.in_ok-store.store.half
+            c.generation.result c.in_ok-store.store.generation c.record_count.result c.in_ok-store.store.record_count c.half.ensures c.generation.ensures c.record_count.ensures
+            c.in-Err.ensures.part,
+      );
       disk_is = c.close-disk.ensures.disk;
     }
