@@ -66,41 +66,6 @@ fn two_forms<D: Disk + Drop, M: MacroFunctions + Drop>(
     Some((closed, Store::open(alloc, crashed, macros, AMPLE)))
 }
 
-/// Opens a disk, executes two forms, closes it, and opens the same disk again. `None` where it is not opened or a form is
-/// refused.
-///
-/// Both forms were accepted. Opened again, an honest disk gives the world after both, or a refusal that is no word on it.
-fn same_disk<D: Disk + Drop, M: MacroFunctions + Drop>(
-    alloc: Global,
-    disk: D,
-    macros: M,
-    first: &[u8],
-    second: &[u8],
-) -> Option<Result<Store<D, M>, Unopened<D, M>>>
-    requires room { (D.state disk).failures < 2 ^ 64 - 1 }
-    requires answers { M.answers macros }
-    ensures found { IfSome result (λ again. (w : LispWorld)
-        → IsHonest (D.state disk) → Keeps (functions_of M.Meaning.names M.Meaning.way M.Meaning.answer) (D.state disk) w
-        → (one : Acceptance) × (both : Acceptance)
-        × (accepts (functions_of M.Meaning.names M.Meaning.way M.Meaning.answer) w Mode.Current first.now ≡ Ok one)
-        × (accepts (functions_of M.Meaning.names M.Meaning.way M.Meaning.answer) one.world Mode.Current second.now ≡ Ok both)
-        × IfOk again (λ store. store.world ≡ Some both.world)) }
-{
-    let Ok(mut store) = Store::open(alloc, disk, macros, AMPLE) else {
-        return None;
-    };
-    let Outcome::Accepted(_) = store.execute(Mode::Current, first) else {
-        let _closed = store.close();
-        return None;
-    };
-    let Outcome::Accepted(_) = store.execute(Mode::Current, second) else {
-        let _closed = store.close();
-        return None;
-    };
-    let (closed, macros) = store.close();
-    Some(Store::open(alloc, closed, macros, AMPLE))
-}
-
 /// How a session ended, the disk that was closed after it, and what the opening of another one gave.
 type Served<D, M> = (Ending, D, Result<Store<D, M>, Unopened<D, M>>);
 

@@ -33,6 +33,17 @@ fn run(rt: &HostRuntime, words: &[&str], input: &[u8]) -> Ran {
     }
 }
 
+/// The status and the faults of the program where its output takes nothing.
+fn unwritten(rt: &HostRuntime, words: &[&str]) -> (u8, Vec<u8>) {
+    let mut reader: &[u8] = b"7";
+    let mut faults = Vec::new(rt.alloc());
+    // the borrow checker has to be told of the type of a name, which the macro functions hold
+    let _name = FnName::new(b"SQUARE");
+    let macros = ByName::new(rt.alloc(), SixFunctions::new());
+    let status = program(rt, macros, words, &mut reader, &mut FullWriter, &mut faults).code();
+    (status, faults)
+}
+
 /// A place for files of a test.
 fn place(rt: &HostRuntime, name: &str) -> std::io::Result<String> {
     let folder = env::temp_dir(rt)?;
@@ -346,18 +357,8 @@ fn a_store_is_dumped_and_verified(rt: HostRuntime) -> Result<(), Fail> {
     // an output that takes nothing
     let commands: [&[&str]; 2] = [&dump, &verify];
     for words in commands {
-        let mut reader: &[u8] = b"7";
-        let mut faults = Vec::new(rt.alloc());
-        let macros = ByName::new(rt.alloc(), SixFunctions::new());
-        let status = program(
-            &rt,
-            macros,
-            words,
-            &mut reader,
-            &mut FullWriter,
-            &mut faults,
-        );
-        assert_eq!(rt; status.code(), 3);
+        let (status, faults) = unwritten(&rt, words);
+        assert_eq!(rt; status, 3);
         assert_eq!(rt; faults.as_slice(), b"! 68 OUTPUT\n".as_slice());
     }
     fs::remove_dir_all(&rt, place.as_str())?;
