@@ -1,6 +1,7 @@
-use Rattle.std.proofs.Common.{rules, ◌≡◌, ◌∙◌, ap, sym, map, None, Some, option_and_then}
-use Rattle.clap.specs.Words.{App, app_of, is_simple, subcommand_of, subcommand_rows_of, takes}
+use Rattle.std.proofs.Common.{rules, ◌≡◌, ◌∙◌, ap, sym, map, Option, None, Some, option_and_then}
+use Rattle.clap.specs.Words.{App, Text, app_of, is_simple, subcommand_of, subcommand_rows_of, takes}
 use Rattle.store_program.specs.CommandLine.{asked_of, command_line}
+use Rattle.store_program.specs.declared.words.Task.{Task}
 use Rattle.store_program.proofs.CommandLineLaws.{asked_line, simple_line, taken_line}
 use Rattle.store_program.proofs.words.asked_in.Goals as goal
 
@@ -16,7 +17,7 @@ returns-in-Ok-clause-taken g c = λ folder task asks.
     let words = map g.S.AsStr.text c.args.words.now in
     let found_is : subcommand_rows_of c.in-Ok.matches ≡ subcommand_of command_line words = (c.in-Ok.ensures.ok.2 (ap is_simple c.in_ok-command.ensures ∙ simple_line)).1
     ∙ ap (λ (a : App). subcommand_of a words) c.in_ok-command.ensures in
-    let bad : None ≡ Some (folder, task) = c.in-None.ensures ∙ ap (option_and_then asked_of) found_is ∙ asked_line words folder task asks in
+    let bad : ◌≡◌ {A = Option (Text × Task)} None (Some (folder, task)) = c.in-None.ensures ∙ ap (option_and_then asked_of) found_is ∙ asked_line words folder task asks in
     absurd (search rules)
 
 pub returns-clause-taken : goal.returns-clause-taken
