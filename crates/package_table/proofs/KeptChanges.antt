@@ -3,8 +3,9 @@
 --     kept_make, kept_intern, kept_export, kept_import, kept_use      where it is not refused
 --     stays_after, stays_but, told_after, found_after      what an answer says
 --     exported_again      where a symbol is external already
+--     exported_home, imported_there      where a symbol is that is exported or imported
 --     counted_new      the count after a new symbol
-use Rattle.std.proofs.Common.{◌≡◌, ◌≢◌, ◌==◌, ◌<◌, ◌≤◌, ◌+◌, ◌&&◌, ◌||◌, not, ℕ, Bool, true, false, cond, List, [], ◌∷◌, length, Option, None, Some, Result, Ok, Err, IfErr, IfOk, is_some, is_none, bytes_eq, nat_le, nat_lt, All, refl, sym, ap, subst, ◌∙◌, arith, leb-false, ltb-false}
+use Rattle.std.proofs.Common.{◌≡◌, ◌≢◌, ◌==◌, ◌<◌, ◌≤◌, ◌+◌, ◌&&◌, ◌||◌, not, ℕ, Bool, true, false, cond, List, [], ◌∷◌, length, Option, None, Some, Result, Ok, Err, IfErr, IfOk, is_some, is_none, inl, bytes_eq, nat_le, nat_lt, All, refl, sym, ap, subst, ◌∙◌, arith, leb-false, ltb-false}
 use Rattle.std.proofs.lemmas.Bool.{false≢true}
 use Rattle.std.specs.Option.{option_map, option_map_or, option_and_then}
 use Rattle.std.specs.List.{list_any}
@@ -22,6 +23,7 @@ use Rattle.package_table.specs.Changes.{after_make, after_intern, after_export, 
 use Rattle.package_table.proofs.Names.{tied_same, same_some, none_some}
 use Rattle.package_table.proofs.Frames.{equal_names, unequal_names}
 use Rattle.package_table.specs.Growth.{Grows, IsSameBut, Tells}
+use Rattle.package_table.proofs.Keeping.{present_at_home}
 use Rattle.package_table.proofs.Found.{found_finds, found_is, found_none, present_found, external_entry}
 use Rattle.package_table.proofs.Growing.{Kept, grows_same, grows_with_entry, grows_with_used, grows_with_new, differs_entry, differs_external, differs_used, differs_new, entry_again}
 use Rattle.package_table.proofs.Alone.{Interned, interned_found, interned_new}
@@ -283,6 +285,19 @@ kept_use t p q sound u is =
             symbols_with_used t p q is_package,
           )
     ] refl open_to.1
+
+-- the symbol that EXPORT makes external is at home where it says, and p has no other by that name
+pub exported_home : (t : Table) (p h n : Name) (u : Table) → IsSound t → after_export t p h n ≡ Ok u → IsPackage t p × IsPresent t h n h × ((g : Name) → IsPresent t p n g → g ≡ h)
+exported_home t p h n u sound is =
+    let there = passes (not (finite.contains_key t p)) NoSuchPackage _ u is in
+    let open_to = passes (is_locked p) PackageIsLocked _ u there.1 in
+    let this = passes (not (finds_this t p h n)) NotAccessible _ u open_to.1 in
+    let finds : Finds t p n h = this_found t p h n (holds _ this.0) in
+    (holds _ there.0, present_at_home t p n h sound.joined finds, λ g found. sound.joined.one p n g h (inl found) finds)
+
+-- IMPORT is refused where there is no package
+pub imported_there : (t : Table) (p h n : Name) (u : Table) → after_import t p h n ≡ Ok u → IsPackage t p
+imported_there t p h n u is = holds _ (passes (not (finite.contains_key t p)) NoSuchPackage _ u is).0
 
 -- What each call leaves, whether it is refused or not: sound packages with as many symbols, in which nothing is lost.
 pub record Stays (t u : Table) : Type 0 where

@@ -4,11 +4,13 @@ pub mod CallRows
 pub mod Conflicts
 pub mod Counting
 pub mod First
+pub mod FirstNumbers
 pub mod Found
 pub mod Frames
 pub mod Growing
 pub mod Keeping
 pub mod KeptChanges
+pub mod KeptNumbers
 pub mod KeptSound
 pub mod Names
 pub mod Places

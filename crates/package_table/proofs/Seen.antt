@@ -69,6 +69,19 @@ module _ {X V : Type 0} (g : X → V) where
       → (done : List (Vec ℕ × X)) × (done ++ rest ≡ all) × (as_map g (insert_entry by_name copied k v) ≡ as_map g done)
   copied_next = tree_entries.copied_next name_of name_cmp name_total name_exact g
 
+-- Entries are copied from a tree, and those that are left are these.
+abbrev pub Copied : {X V : Type 0} → (X → V) → List (Vec ℕ × X) → List (Vec ℕ × X) → List (Vec ℕ × X) → Type 0
+Copied {X} g copied rest all = (done : List (Vec ℕ × X)) × (done ++ rest ≡ all) × (as_map g copied ≡ as_map g done)
+
+-- the next entry, copied, of which two values are seen
+pub copied_next_both : {X V W : Type 0} (g : X → V) (h : X → W) (copied later : List (Vec ℕ × X)) (k : Vec ℕ) (v : X) (e : Vec ℕ × X) (rest before all : List (Vec ℕ × X))
+    → before ≡ e ∷ rest → later ≡ insert_entry by_name copied k v → IsStrictlySortedBy by_name (keys_of all) → k.items ≡ e.0.items → g v ≡ g e.1 → h v ≡ h e.1
+    → Copied g copied before all → Copied h copied before all → Copied g later rest all × Copied h later rest all
+copied_next_both g h copied later k v e rest before all next is sorted same seen seen_too one other = (
+  subst (λ es. Copied g es rest all) (sym is) (copied_next g copied k v e rest all sorted same seen (subst (λ es. Copied g copied es all) next one)),
+  subst (λ es. Copied h es rest all) (sym is) (copied_next h copied k v e rest all sorted same seen_too (subst (λ es. Copied h copied es all) next other)),
+)
+
 abbrev pub read_keys : List (Vec ℕ) → List (Name × Unit {0})
 read_keys ks = map (λ k. (k.items, tt {0})) ks
 

@@ -10,7 +10,7 @@ use Rattle.std.specs.List.{slice_get}
 use Rattle.std.proofs.lemmas.List.{length-map}
 use Rattle.std.specs.Vec.{vec_len, vec_capacity}
 use Rattle.package_table.specs.declared.journal.Mark.{Mark}
-use Rattle.package_table.specs.Table.{Table}
+use Rattle.package_table.specs.Numbers.{Numbered}
 use Rattle.package_table.specs.Undo.{Change, Marked, undone, all_undone, undone_since, tables_at}
 use Rattle.package_table.specs.Shown.{change_of, marked_of, marks_of, marked_tables, has_room}
 
@@ -49,19 +49,19 @@ pub no_more : {A : Type 0} (xs : List A) → length xs ≡ 0 → xs ≡ []
 no_more [] e = refl
 no_more (x ∷ xs) e = absurd (omega arith)
 
-pub undone_push : (cs : List Change) (c : Change) (t : Table) → all_undone (cs ++ c ∷ []) t ≡ all_undone cs (undone c t)
+pub undone_push : (cs : List Change) (c : Change) (t : Numbered) → all_undone (cs ++ c ∷ []) t ≡ all_undone cs (undone c t)
 undone_push [] c t = refl
 undone_push (d ∷ cs) c t = ap (undone d) (undone_push cs c t)
 
-since_push : (ms : List Marked) (m : Marked) (t : Table) → undone_since (ms ++ m ∷ []) t ≡ undone_since ms (all_undone m.0 t)
+since_push : (ms : List Marked) (m : Marked) (t : Numbered) → undone_since (ms ++ m ∷ []) t ≡ undone_since ms (all_undone m.0 t)
 since_push [] m t = refl
 since_push (n ∷ ms) m t = ap (all_undone n.0) (since_push ms m t)
 
-pub tables_push : (ms : List Marked) (m : Marked) (t : Table) → tables_at (ms ++ m ∷ []) t ≡ tables_at ms (all_undone m.0 t) ++ (all_undone m.0 t, m.1) ∷ []
+pub tables_push : (ms : List Marked) (m : Marked) (t : Numbered) → tables_at (ms ++ m ∷ []) t ≡ tables_at ms (all_undone m.0 t) ++ (all_undone m.0 t, m.1) ∷ []
 tables_push [] m t = refl
 tables_push (n ∷ ms) m t = λ i. (all_undone n.0 (since_push ms m t i), n.1) ∷ tables_push ms m t i
 
-pub length-tables : (ms : List Marked) (t : Table) → length (tables_at ms t) ≡ length ms
+pub length-tables : (ms : List Marked) (t : Numbered) → length (tables_at ms t) ≡ length ms
 length-tables [] t = refl
 length-tables (m ∷ ms) t = ap (λ k. suc k) (length-tables ms t)
 
@@ -90,7 +90,7 @@ module _ (ms : List Mark) (n : ℕ) (m w : Mark) (is_length : length ms ≡ n) (
   pub had_room : has_room ms → vec_len m.notes < vec_capacity m.notes
   had_room room = room_of_end last.0 m (subst has_room last.1 room)
 
-  pub noted : (c : Change) → marked_of w ≡ (map change_of m.notes.items ++ c ∷ [], m.count) → (u t : Table) → undone c u ≡ t
+  pub noted : (c : Change) → marked_of w ≡ (map change_of m.notes.items ++ c ∷ [], m.count) → (u t : Numbered) → undone c u ≡ t
       → tables_at (marks_of (slice_set ms (n - 1) w)) u ≡ tables_at (marks_of ms) t
   noted c is u t undoes =
       let cs = map change_of m.notes.items in
@@ -117,7 +117,7 @@ get_seam [] y ys = refl
 get_seam (x ∷ xs) y ys = get_seam xs y ys
 
 -- the newest mark taken away, and its changes undone
-module _ (before : List Mark) (m : Mark) (t u : Table) (undoes : u ≡ all_undone (map change_of m.notes.items) t) (all rest : List (Table × ℕ)) where
+module _ (before : List Mark) (m : Mark) (t u : Numbered) (undoes : u ≡ all_undone (map change_of m.notes.items) t) (all rest : List (Numbered × ℕ)) where
   pub popped : (ms : List Mark) → ms ≡ before ++ m ∷ [] → all ≡ marked_tables ms t ++ rest → all ≡ marked_tables before u ++ (u, m.count) ∷ rest
   popped ms split is =
       is ∙ ap (λ xs. xs ++ rest) (
@@ -126,7 +126,7 @@ module _ (before : List Mark) (m : Mark) (t u : Table) (undoes : u ≡ all_undon
       )
       ∙ append_assoc (marked_tables before u) ((u, m.count) ∷ []) rest
 
-module _ (before : List Mark) (u : Table) (count : ℕ) (all rest : List (Table × ℕ)) (mark : ℕ) (is : all ≡ marked_tables before u ++ (u, count) ∷ rest) (here : length before ≡ mark) where
+module _ (before : List Mark) (u : Numbered) (count : ℕ) (all rest : List (Numbered × ℕ)) (mark : ℕ) (is : all ≡ marked_tables before u ++ (u, count) ∷ rest) (here : length before ≡ mark) where
   place : length (marked_tables before u) ≡ mark
   place = length-tables (marks_of before) u ∙ length-map before marked_of ∙ here
 
@@ -137,9 +137,9 @@ module _ (before : List Mark) (u : Table) (count : ℕ) (all rest : List (Table 
   at_mark = ap (slice_get all) (sym place) ∙ ap (λ xs. slice_get xs (length (marked_tables before u))) is ∙ get_seam (marked_tables before u) (u, count) rest
 
 -- a new mark
-pub mark_tables : (ms : List Mark) (m : Mark) (t : Table) → m.notes.items ≡ [] → marked_tables (ms ++ m ∷ []) t ≡ marked_tables ms t ++ (t, m.count) ∷ []
+pub mark_tables : (ms : List Mark) (m : Mark) (t : Numbered) → m.notes.items ≡ [] → marked_tables (ms ++ m ∷ []) t ≡ marked_tables ms t ++ (t, m.count) ∷ []
 mark_tables ms m t empty =
     ap (λ xs. tables_at xs t) (map-push marked_of ms m ∙ ap (λ cs. marks_of ms ++ (map change_of cs, m.count) ∷ []) empty) ∙ tables_push (marks_of ms) ([], m.count) t
 
-pub length_marked : (ms : List Mark) (t : Table) → length (map (λ m. m.0) (marked_tables ms t)) ≡ length ms
-length_marked ms t = length-map (marked_tables ms t) (λ m. m.0) ∙ length-tables (marks_of ms) t ∙ length-map ms marked_of
+pub length_marked : (ms : List Mark) (t : Numbered) → length (map (λ m. m.0.0) (marked_tables ms t)) ≡ length ms
+length_marked ms t = length-map (marked_tables ms t) (λ m. m.0.0) ∙ length-tables (marks_of ms) t ∙ length-map ms marked_of

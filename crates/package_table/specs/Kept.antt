@@ -6,6 +6,7 @@ use Rattle.std.specs.FinMap as finite
 use Rattle.std.specs.FinSet as set
 use Rattle.package_table.specs.declared.table.contents.Contents.{Contents}
 use Rattle.package_table.specs.Table.{name_cmp, Package, Table}
+use Rattle.package_table.specs.Numbers.{Numbers, Numbered}
 use Rattle.package_table.specs.Entries.{entry_of}
 
 abbrev pub as_map : {X V : Type 0} → (X → V) → List (Vec ℕ × X) → finite.FinMap name_cmp V
@@ -19,3 +20,9 @@ package_of c = record { symbols = as_map entry_of c.symbols.entries; uses = as_s
 
 abbrev pub table_of : BTreeMap (Vec ℕ) Contents → Table
 table_of packages = as_map package_of packages.entries
+
+abbrev pub numbers_in : Contents → finite.FinMap name_cmp ℕ
+numbers_in c = as_map (λ s. s.number) c.symbols.entries
+
+abbrev pub numbered_of : BTreeMap (Vec ℕ) Contents → Numbered
+numbered_of packages = (table_of packages, as_map numbers_in packages.entries)

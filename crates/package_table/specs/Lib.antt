@@ -2,6 +2,8 @@ pub mod Limits
 pub mod Errors
 pub mod Table
 pub mod Lookup
+pub mod Numbers
+pub mod Numbering
 pub mod Resolving
 pub mod Readers
 pub mod Changes

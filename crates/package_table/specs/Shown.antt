@@ -5,15 +5,17 @@ use Rattle.package_table.specs.declared.journal.Note.{Note}
 use Rattle.package_table.specs.declared.journal.Note.TheVariants.{Made, Put, Used}
 use Rattle.package_table.specs.declared.journal.Mark.{Mark}
 use Rattle.package_table.specs.declared.packages.Packages.TheInside.{Inside}
-use Rattle.package_table.specs.Table.{Table, Tables, IsSound, symbol_count}
-use Rattle.package_table.specs.Entries.{entry_of}
+use Rattle.package_table.specs.Table.{Tables, IsSound, symbol_count}
+use Rattle.package_table.specs.Numbers.{Numbered}
+use Rattle.package_table.specs.Numbering.{IsNumbered}
+use Rattle.package_table.specs.Entries.{numbered_entry}
 pub use Rattle.package_table.specs.Kept.{as_map}
 use Rattle.package_table.specs.Undo.{Change, made, put, used, Marked, tables_at}
 
 -- what a note says
 abbrev pub change_of : Note → Change
 change_of (Made name) = made name.items
-change_of (Put owner name before) = put owner.items name.items (option_map entry_of before)
+change_of (Put owner name before) = put owner.items name.items (option_map numbered_entry before)
 change_of (Used owner other) = used owner.items other.items
 
 abbrev pub marked_of : Mark → Marked
@@ -22,9 +24,9 @@ marked_of m = (map change_of m.notes.items, m.count)
 abbrev pub marks_of : List Mark → List Marked
 marks_of ms = map marked_of ms
 
--- the tables at these marks, to which the table t goes back, each with the number of its symbols
-abbrev pub marked_tables : List Mark → Table → List (Table × ℕ)
-marked_tables ms t = tables_at (marks_of ms) t
+-- the tables at these marks, to which the table goes back, each with the number of its symbols
+abbrev pub marked_tables : List Mark → Numbered → List (Numbered × ℕ)
+marked_tables ms s = tables_at (marks_of ms) s
 
 -- the newest mark, if there is one, has room for a note more
 abbrev pub has_room : List Mark → Type 0
@@ -33,14 +35,15 @@ has_room (m ∷ []) = vec_len m.notes < vec_capacity m.notes
 has_room (m ∷ n ∷ ms) = has_room (n ∷ ms)
 
 abbrev pub tables_of : Inside → Tables
-tables_of a = (a.table, map (λ m. m.0) (marked_tables a.marks.items a.table))
+tables_of a = (a.table.0, map (λ m. m.0.0) (marked_tables a.marks.items a.table))
 
--- sound packages, and the number of their symbols
-abbrev pub IsCounted : Table × ℕ → Type 0
-IsCounted m = IsSound m.0 × (m.1 ≡ symbol_count m.0)
+-- sound packages, the number of their symbols, and the symbols numbered
+abbrev pub IsCounted : Numbered × ℕ → Type 0
+IsCounted m = IsSound m.0.0 × (m.1 ≡ symbol_count m.0.0) × IsNumbered m.0 m.1
 
--- the packages are sound, now and at each mark, and their symbols are counted
+-- the packages are sound, now and at each mark, and their symbols are counted and numbered
 pub record IsKept (a : Inside) : Type 0 where
-  pub sound : IsSound a.table
-  pub counted : a.count ≡ symbol_count a.table
+  pub sound : IsSound a.table.0
+  pub counted : a.count ≡ symbol_count a.table.0
+  pub numbered : IsNumbered a.table a.count
   pub marked : All IsCounted (marked_tables a.marks.items a.table)

@@ -1,8 +1,9 @@
 //! `export`: a symbol becomes external.
-ghost use Rattle.std.specs.Prelude.{◌≡◌, IfErr, IfOk};
+ghost use Rattle.std.specs.Prelude.{◌≡◌, ℕ, IfErr, IfOk};
 ghost use Rattle.package_table.specs.Table.{IsSound};
 ghost use Rattle.package_table.specs.Changes.{after_export, export_changes, with_external, Gives, RunsOutOnlyIf};
 ghost use Rattle.package_table.specs.Growth.{Grows, Tells};
+ghost use Rattle.package_table.specs.Numbering.{KeepsNumbers};
 ghost use Rattle.package_table.specs.Shown.{marked_tables};
 
 use crate::find::is_locked;
@@ -19,11 +20,11 @@ fn export_refusal(
     home: &[u8],
     name: &[u8],
 ) -> Result<(), PackageError>
-    requires { IsSound table.now }
-    ensures gives { let t = table.now in
+    requires { IsSound table.now.0 }
+    ensures gives { let t = table.now.0 in
         Gives (λ _. with_external t owner.now home.now name.now) result
         (after_export t owner.now home.now name.now) }
-    ensures memory { IfErr result (RunsOutOnlyIf (export_changes table.now owner.now name.now)) }
+    ensures memory { IfErr result (RunsOutOnlyIf (export_changes table.now.0 owner.now name.now)) }
 {
     if !table.has_package(owner) {
         return Err(PackageError::NoSuchPackage);
@@ -48,19 +49,21 @@ fn export_symbol(
     home: &[u8],
     name: &[u8],
 ) -> Result<bool, PackageError>
-    requires { IsSound table.old }
-    ensures gives { Gives (λ _. table.new) result
-        (after_export table.old owner.now home.now name.now) }
-    ensures changed { IfOk result (λ changed. changed ≡ export_changes table.old owner.now name.now) }
-    ensures memory { IfErr result (RunsOutOnlyIf (export_changes table.old owner.now name.now)) }
+    requires { IsSound table.old.0 }
+    ensures gives { Gives (λ _. table.new.0) result
+        (after_export table.old.0 owner.now home.now name.now) }
+    ensures changed { IfOk result (λ changed. changed ≡ export_changes table.old.0 owner.now name.now) }
+    ensures memory { IfErr result (RunsOutOnlyIf (export_changes table.old.0 owner.now name.now)) }
     ensures unchanged { IfErr result (λ _. table.new ≡ table.old) }
+    ensures numbers { IfOk result (λ _. (count : ℕ) → KeepsNumbers table.old count table.new count) }
     ensures marked { marked_tables marks.new.items table.new ≡ marked_tables marks.old.items table.old }
 {
     export_refusal(table, owner, home, name)?;
     if table.external_home(owner, name).is_some() {
         return Ok(false);
     }
-    put_symbol(alloc, table, marks, owner, home, name, true)?;
+    let number = table.number_or_none(home, name);
+    put_symbol(alloc, table, marks, owner, home, name, true, number)?;
     Ok(true)
 }
 

@@ -20,7 +20,7 @@ pub(crate) fn full_name(name: &[u8]) -> &[u8]
 
 /// The name of the package that a name or a nickname stands for.
 pub(crate) fn package_name<'a>(table: &'a PackageTable, name: &[u8]) -> Option<&'a [u8]>
-    ensures { option_map (λ p. p.now) result ≡ package_named table.now name.now }
+    ensures { option_map (λ p. p.now) result ≡ package_named table.now.0 name.now }
 {
     table.stored_name(full_name(name))
 }

@@ -1,8 +1,9 @@
 //! `import`: a symbol becomes present.
-ghost use Rattle.std.specs.Prelude.{◌≡◌, IfErr, IfOk};
+ghost use Rattle.std.specs.Prelude.{◌≡◌, ℕ, IfErr, IfOk};
 ghost use Rattle.package_table.specs.Table.{IsPresent};
 ghost use Rattle.package_table.specs.Changes.{after_import, import_changes, with_present, Gives, RunsOutOnlyIf};
 ghost use Rattle.package_table.specs.Growth.{Grows, Tells};
+ghost use Rattle.package_table.specs.Numbering.{KeepsNumbers};
 ghost use Rattle.package_table.specs.Shown.{marked_tables};
 
 use crate::find::is_locked;
@@ -19,10 +20,10 @@ fn import_refusal(
     home: &[u8],
     name: &[u8],
 ) -> Result<(), PackageError>
-    ensures gives { let t = table.now in
+    ensures gives { let t = table.now.0 in
         Gives (λ _. with_present t owner.now home.now name.now) result
         (after_import t owner.now home.now name.now) }
-    ensures memory { IfErr result (RunsOutOnlyIf (import_changes table.now owner.now name.now)) }
+    ensures memory { IfErr result (RunsOutOnlyIf (import_changes table.now.0 owner.now name.now)) }
 {
     if !table.has_package(owner) {
         return Err(PackageError::NoSuchPackage);
@@ -44,18 +45,21 @@ fn import_symbol(
     home: &[u8],
     name: &[u8],
 ) -> Result<bool, PackageError>
-    ensures gives { Gives (λ _. table.new) result
-        (after_import table.old owner.now home.now name.now) }
-    ensures changed { IfOk result (λ changed. changed ≡ import_changes table.old owner.now name.now) }
-    ensures memory { IfErr result (RunsOutOnlyIf (import_changes table.old owner.now name.now)) }
+    requires { IsPresent table.old.0 home.now name.now home.now }
+    ensures gives { Gives (λ _. table.new.0) result
+        (after_import table.old.0 owner.now home.now name.now) }
+    ensures changed { IfOk result (λ changed. changed ≡ import_changes table.old.0 owner.now name.now) }
+    ensures memory { IfErr result (RunsOutOnlyIf (import_changes table.old.0 owner.now name.now)) }
     ensures unchanged { IfErr result (λ _. table.new ≡ table.old) }
+    ensures numbers { IfOk result (λ _. (count : ℕ) → KeepsNumbers table.old count table.new count) }
     ensures marked { marked_tables marks.new.items table.new ≡ marked_tables marks.old.items table.old }
 {
     import_refusal(table, owner, home, name)?;
     if table.is_present(owner, name) {
         return Ok(false);
     }
-    put_symbol(alloc, table, marks, owner, home, name, false)?;
+    let number = table.number_or_none(home, name);
+    put_symbol(alloc, table, marks, owner, home, name, false, number)?;
     Ok(true)
 }
 

@@ -1,9 +1,12 @@
 //! `intern`: the symbol of a name in a package, new where there is none.
-ghost use Rattle.std.specs.Prelude.{◌≡◌, ◌<◌, All, Some, IfErr, IfOk, OnOk};
-ghost use Rattle.package_table.specs.Table.{IsPackage, symbol_count};
+ghost use Rattle.std.specs.Prelude.{◌≡◌, ◌<◌, All, Some, IfErr, IfOk, OnOk, bytes_eq};
+ghost use Rattle.std.specs.FinMap as finite;
+ghost use Rattle.package_table.specs.Table.{IsPackage, keyword, symbol_count};
 ghost use Rattle.package_table.specs.Lookup.{found};
-ghost use Rattle.package_table.specs.Changes.{after_intern, intern_changes, with_new_symbol, Gives};
+ghost use Rattle.package_table.specs.Changes.{after_intern, intern_changes, Gives};
 ghost use Rattle.package_table.specs.Growth.{Grows, IsSameBut, Tells};
+ghost use Rattle.package_table.specs.Numbers.{with_numbered};
+ghost use Rattle.package_table.specs.Numbering.{KeepsNumbers};
 ghost use Rattle.package_table.specs.Shown.{marked_tables};
 
 use crate::journal::Mark;
@@ -22,22 +25,24 @@ pub struct Interned {
     pub is_new: bool,
 }
 
-// Makes a new symbol of the package `owner`, which exists, present there.
+// Makes a new symbol of the package `owner`, which exists, present there, with this number.
 fn put_new(
     alloc: Global,
     table: &mut PackageTable,
     marks: &mut Vec<Mark>,
     owner: &[u8],
     name: &[u8],
+    number: u32,
 ) -> Result<(), AllocError>
-    requires { IsPackage table.old owner.now }
-    ensures ok { OnOk result
-        (table.new ≡ with_new_symbol table.old owner.now name.now) }
+    requires { IsPackage table.old.0 owner.now }
+    ensures ok { OnOk result (table.new ≡ with_numbered table.old owner.now name.now
+        (record { home = owner.now; external = bytes_eq owner.now keyword }) number) }
     ensures err { IfErr result (λ _. table.new ≡ table.old) }
+    ensures packages { IfOk result (λ _. finite.contains_key table.old.1 owner.now ≡ finite.contains_key table.old.0 owner.now) }
     ensures marked { marked_tables marks.new.items table.new ≡ marked_tables marks.old.items table.old }
 {
     let external = owner == KEYWORD;
-    put_symbol(alloc, table, marks, owner, owner, name, external)?;
+    put_symbol(alloc, table, marks, owner, owner, name, external, number)?;
     Ok(())
 }
 
@@ -49,12 +54,14 @@ fn intern_symbol(
     owner: &[u8],
     name: &[u8],
 ) -> Result<Interned, PackageError>
-    requires { count.old ≡ symbol_count table.old }
-    ensures gives { Gives (λ interned. (interned.home, table.new)) result
-        (after_intern table.old owner.now name.now) }
-    ensures is_new { IfOk result (λ interned. interned.is_new ≡ intern_changes table.old owner.now name.now) }
+    requires { count.old ≡ symbol_count table.old.0 }
+    ensures gives { Gives (λ interned. (interned.home, table.new.0)) result
+        (after_intern table.old.0 owner.now name.now) }
+    ensures is_new { IfOk result (λ interned. interned.is_new ≡ intern_changes table.old.0 owner.now name.now) }
     ensures unchanged { IfErr result (λ _. table.new ≡ table.old) }
-    ensures counted { count.new ≡ symbol_count table.new }
+    ensures counted { count.new ≡ symbol_count table.new.0 }
+    ensures numbers { IfOk result (λ _. KeepsNumbers table.old count.old table.new count.new) }
+    ensures uncounted { IfErr result (λ _. count.new ≡ count.old) }
     ensures marked { marked_tables marks.new.items table.new ≡ marked_tables marks.old.items table.old }
 {
     if !table.has_package(owner) {
@@ -74,7 +81,7 @@ fn intern_symbol(
         return Err(PackageError::Limit);
     }
     let home = Bytes::from_slice(alloc, owner)?;
-    put_new(alloc, table, marks, owner, name)?;
+    put_new(alloc, table, marks, owner, name, *count as u32)?;
     *count += 1;
     Ok(Interned { home, is_new: true })
 }

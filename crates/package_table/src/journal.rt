@@ -1,6 +1,6 @@
 //! The journal: what was changed since each mark, so that it can be undone.
 ghost use Rattle.std.specs.Prelude.{◌≡◌, OnOk};
-ghost use Rattle.package_table.specs.Table.{Table};
+ghost use Rattle.package_table.specs.Numbers.{Numbered};
 ghost use Rattle.package_table.specs.Undo.{tables_at, undone};
 ghost use Rattle.package_table.specs.Shown.{change_of, has_room, marks_of};
 
@@ -46,7 +46,7 @@ pub(crate) fn reserve_note(marks: &mut Vec<Mark>) -> Result<(), AllocError>
 /// Notes a change under the newest mark, if there is one.
 pub(crate) fn push_note(marks: &mut Vec<Mark>, note: Note)
     requires { has_room marks.old.items }
-    ensures { (u t : Table) → undone (change_of note) u ≡ t
+    ensures { (u t : Numbered) → undone (change_of note) u ≡ t
         → tables_at (marks_of marks.new.items) u ≡ tables_at (marks_of marks.old.items) t }
 {
     if let Some(newest) = marks.last_mut() {

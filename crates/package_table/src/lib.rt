@@ -55,6 +55,7 @@ pub use intern::Interned;
 pub use laws::look_up_laws;
 pub use packages::Packages;
 pub use resolve::Resolved;
+pub use table::PackageTable;
 
 #[cfg(test)]
 mod tests;

@@ -1,8 +1,9 @@
 //! `make`: a new package.
-ghost use Rattle.std.specs.Prelude.{◌≡◌, ◌<◌, All, IfErr};
+ghost use Rattle.std.specs.Prelude.{◌≡◌, ◌<◌, ℕ, All, IfErr, IfOk};
 ghost use Rattle.package_table.specs.Table.{IsSound, with_new_package};
 ghost use Rattle.package_table.specs.Changes.{after_make, Gives};
 ghost use Rattle.package_table.specs.Growth.{Grows};
+ghost use Rattle.package_table.specs.Numbering.{KeepsNumbers};
 ghost use Rattle.package_table.specs.Shown.{marked_tables};
 
 use crate::find::package_name;
@@ -15,7 +16,7 @@ use std::alloc::Global;
 
 // The first reason to refuse a new package of this name.
 fn make_refusal(table: &PackageTable, name: &[u8]) -> Result<(), PackageError>
-    ensures { let t = table.now in
+    ensures { let t = table.now.0 in
         Gives (λ _. with_new_package t name.now) result (after_make t name.now) }
 {
     if name.is_empty() {
@@ -36,10 +37,11 @@ fn make_package(
     marks: &mut Vec<Mark>,
     name: &[u8],
 ) -> Result<(), PackageError>
-    requires { IsSound table.old }
-    ensures gives { Gives (λ _. table.new) result
-        (after_make table.old name.now) }
+    requires { IsSound table.old.0 }
+    ensures gives { Gives (λ _. table.new.0) result
+        (after_make table.old.0 name.now) }
     ensures unchanged { IfErr result (λ _. table.new ≡ table.old) }
+    ensures numbers { IfOk result (λ _. (count : ℕ) → KeepsNumbers table.old count table.new count) }
     ensures marked { marked_tables marks.new.items table.new ≡ marked_tables marks.old.items table.old }
 {
     make_refusal(table, name)?;

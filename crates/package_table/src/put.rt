@@ -1,7 +1,8 @@
 //! Single changes, noted where there is a mark.
-ghost use Rattle.std.specs.Prelude.{◌≡◌, false, None, OnOk, OnErr};
+ghost use Rattle.std.specs.Prelude.{◌≡◌, false, None, IfOk, OnOk, OnErr};
 ghost use Rattle.std.specs.FinMap as finite;
-ghost use Rattle.package_table.specs.Table.{IsPackage, with_entry, with_used, with_new_package};
+ghost use Rattle.package_table.specs.Table.{IsPackage};
+ghost use Rattle.package_table.specs.Numbers.{with_numbered, with_package_made, with_use};
 ghost use Rattle.package_table.specs.Lookup.{is_used};
 ghost use Rattle.package_table.specs.Entries.{entry_of};
 ghost use Rattle.package_table.specs.Shown.{marked_tables};
@@ -18,8 +19,8 @@ pub(crate) fn put_package(
     marks: &mut Vec<Mark>,
     name: Vec<u8>,
 ) -> Result<(), AllocError>
-    requires { finite.get table.old name.items ≡ None }
-    ensures ok { OnOk result (table.new ≡ with_new_package table.old name.items) }
+    requires { finite.get table.old.0 name.items ≡ None }
+    ensures ok { OnOk result (table.new ≡ with_package_made table.old name.items) }
     ensures err { OnErr result (table.new ≡ table.old) }
     ensures marked { marked_tables marks.new.items table.new ≡ marked_tables marks.old.items table.old }
 {
@@ -42,10 +43,11 @@ fn put_entry(
     name: Vec<u8>,
     symbol: Symbol,
 ) -> Result<(), AllocError>
-    requires { IsPackage table.old owner.now }
+    requires { IsPackage table.old.0 owner.now }
     ensures ok { OnOk result (table.new
-        ≡ with_entry table.old owner.now name.items (entry_of symbol)) }
+        ≡ with_numbered table.old owner.now name.items (entry_of symbol) symbol.number) }
     ensures err { OnErr result (table.new ≡ table.old) }
+    ensures packages { IfOk result (λ _. finite.contains_key table.old.1 owner.now ≡ finite.contains_key table.old.0 owner.now) }
     ensures marked { marked_tables marks.new.items table.new ≡ marked_tables marks.old.items table.old }
 {
     if marks.is_empty() {
@@ -67,7 +69,7 @@ fn put_entry(
     Ok(())
 }
 
-/// Makes the symbol of this home and name present in `owner`, which exists, external there or not.
+/// Makes the symbol of this home, name and number present in `owner`, which exists, external there or not.
 pub(crate) fn put_symbol(
     alloc: Global,
     table: &mut PackageTable,
@@ -76,16 +78,19 @@ pub(crate) fn put_symbol(
     home: &[u8],
     name: &[u8],
     external: bool,
+    number: u32,
 ) -> Result<(), AllocError>
-    requires { IsPackage table.old owner.now }
+    requires { IsPackage table.old.0 owner.now }
     ensures ok { OnOk result (table.new
-        ≡ with_entry table.old owner.now name.now (record { home = home.now; external = external })) }
+        ≡ with_numbered table.old owner.now name.now (record { home = home.now; external = external }) number) }
     ensures err { OnErr result (table.new ≡ table.old) }
+    ensures packages { IfOk result (λ _. finite.contains_key table.old.1 owner.now ≡ finite.contains_key table.old.0 owner.now) }
     ensures marked { marked_tables marks.new.items table.new ≡ marked_tables marks.old.items table.old }
 {
     let symbol = Symbol {
         home: table.shared_name(alloc, home)?,
         external,
+        number,
     };
     let name = Vec::from_slice(alloc, name)?;
     put_entry(alloc, table, marks, owner, name, symbol)
@@ -99,9 +104,9 @@ pub(crate) fn put_use(
     owner: &[u8],
     used: Vec<u8>,
 ) -> Result<(), AllocError>
-    requires package { IsPackage table.old owner.now }
-    requires unused { is_used table.old owner.now used.items ≡ false }
-    ensures ok { OnOk result (table.new ≡ with_used table.old owner.now used.items) }
+    requires package { IsPackage table.old.0 owner.now }
+    requires unused { is_used table.old.0 owner.now used.items ≡ false }
+    ensures ok { OnOk result (table.new ≡ with_use table.old owner.now used.items) }
     ensures err { OnErr result (table.new ≡ table.old) }
     ensures marked { marked_tables marks.new.items table.new ≡ marked_tables marks.old.items table.old }
 {

@@ -1,10 +1,11 @@
 //! What callers ask of the packages. Package names are full here: a nickname names none. No question takes memory.
 ghost use Rattle.std.specs.Prelude.{◌≡◌, ◌↔◌, IsTrue};
 ghost use Rattle.std.specs.FinMap as finite;
-ghost use Rattle.package_table.specs.Table.{IsExternal, IsPresent, Uses};
+ghost use Rattle.package_table.specs.Table.{IsExternal, IsPresent, Uses, symbol_count};
+ghost use Rattle.package_table.specs.Numbering.{IsNumbered};
 ghost use Rattle.package_table.specs.Lookup.{is_external, is_present, is_symbol, is_used};
 
-use crate::Packages;
+use crate::{PackageTable, Packages};
 
 impl Packages {
     /// Whether a package has the name `owner`.
@@ -20,6 +21,15 @@ impl Packages {
         ensures present { IsTrue result ↔ IsPresent self.now.0 home.now name.now home.now }
     {
         self.table.is_symbol(home, name)
+    }
+
+    /// The table with the numbers of its symbols. Each symbol has one number, which is below how many there are, and two
+    /// symbols have two.
+    pub fn numbers(&self) -> &PackageTable
+        ensures table { result.now.0 ≡ self.now.0 }
+        ensures numbered { IsNumbered result.now (symbol_count self.now.0) }
+    {
+        &self.table
     }
 
     /// Whether a symbol is present in `owner` by `name` (standard 11.1.1.2.1). One that is inherited is not.

@@ -23,8 +23,8 @@ pub(crate) fn resolve_in<'a>(
     owner: &[u8],
     name: &[u8],
 ) -> Result<Resolved<'a>, PackageError>
-    requires { IsPackage table.now owner.now }
-    ensures { MatchResult result (λ r. resolution table.now owner.now name.now ≡ Ok (resolution_of r)) (λ e. resolution table.now owner.now name.now ≡ Err e) }
+    requires { IsPackage table.now.0 owner.now }
+    ensures { MatchResult result (λ r. resolution table.now.0 owner.now name.now ≡ Ok (resolution_of r)) (λ e. resolution table.now.0 owner.now name.now ≡ Err e) }
 {
     if let Some(home) = table.home_of(owner, name) {
         return Ok(Resolved::Found(home));
@@ -44,7 +44,7 @@ pub(crate) fn resolve_external<'a>(
     prefix: &[u8],
     name: &[u8],
 ) -> Result<&'a [u8], PackageError>
-    ensures { MatchResult result (λ h. external_resolution table.now prefix.now name.now ≡ Ok h.now) (λ e. external_resolution table.now prefix.now name.now ≡ Err e) }
+    ensures { MatchResult result (λ h. external_resolution table.now.0 prefix.now name.now ≡ Ok h.now) (λ e. external_resolution table.now.0 prefix.now name.now ≡ Err e) }
 {
     let Some(owner) = package_name(table, prefix) else {
         return Err(PackageError::NoPackage);
@@ -61,7 +61,7 @@ pub(crate) fn resolve_internal<'a>(
     prefix: &[u8],
     name: &[u8],
 ) -> Result<Resolved<'a>, PackageError>
-    ensures { MatchResult result (λ r. internal_resolution table.now prefix.now name.now ≡ Ok (resolution_of r)) (λ e. internal_resolution table.now prefix.now name.now ≡ Err e) }
+    ensures { MatchResult result (λ r. internal_resolution table.now.0 prefix.now name.now ≡ Ok (resolution_of r)) (λ e. internal_resolution table.now.0 prefix.now name.now ≡ Err e) }
 {
     match package_name(table, prefix) {
         Some(owner) => resolve_in(table, owner, name),

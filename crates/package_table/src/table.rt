@@ -1,4 +1,5 @@
-//! The packages by their names: what callers see as a `Table`. How it is kept, this module and its parts alone know.
+//! The packages by their names: what callers see as a `Table`, and the numbers of its symbols. How it is kept, this module
+//! and its parts alone know.
 //!
 //! - `contents`: what a package holds
 //! - `look_ups`: what is at a name, which take no memory
@@ -24,28 +25,28 @@ use contents::Contents;
 use std::collections::BTreeMap;
 use std::marker::Model;
 
-/// The packages by their names. Contracts see a `Table`.
+/// The packages by their names. Contracts see a `Table`, and the numbers of its symbols.
 #[derive(Drop)]
-pub(crate) struct PackageTable {
+pub struct PackageTable {
     packages: BTreeMap<Vec<u8>, Contents>,
 }
 
 impl Model for PackageTable {
-    ghost use Rattle.package_table.specs.Table.{Table, table_code};
+    ghost use Rattle.package_table.specs.Numbers.{Numbered, numbered_code};
 
-    ghost Value = { Table };
+    ghost Value = { Numbered };
 
-    ghost coded = { table_code };
+    ghost coded = { numbered_code };
 
-    ghost use Rattle.package_table.specs.Kept.{table_of};
+    ghost use Rattle.package_table.specs.Kept.{numbered_of};
 
-    ghost view = { λ a. table_of a.packages };
+    ghost view = { λ a. numbered_of a.packages };
 }
 
 impl PackageTable {
     /// The number of packages.
     pub(crate) fn package_count(&self) -> usize
-        ensures { result ≡ finite.len self.now }
+        ensures { result ≡ finite.len self.now.0 }
     {
         self.packages.len()
     }

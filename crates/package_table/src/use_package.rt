@@ -1,8 +1,9 @@
 //! `use_package`: a package uses another.
-ghost use Rattle.std.specs.Prelude.{◌≡◌, if◌then◌else◌, IfErr, IfOk};
+ghost use Rattle.std.specs.Prelude.{◌≡◌, ℕ, if◌then◌else◌, IfErr, IfOk};
 ghost use Rattle.package_table.specs.Table.{with_used};
 ghost use Rattle.package_table.specs.Changes.{after_use, use_changes, Gives, RunsOutOnlyIf};
 ghost use Rattle.package_table.specs.Growth.{Grows, Tells};
+ghost use Rattle.package_table.specs.Numbering.{KeepsNumbers};
 ghost use Rattle.package_table.specs.Shown.{marked_tables};
 
 use crate::find::is_locked;
@@ -15,11 +16,11 @@ use std::alloc::Global;
 
 // The first reason to refuse that `owner` uses `used`, and else whether it does not use it yet.
 fn use_refusal(table: &PackageTable, owner: &[u8], used: &[u8]) -> Result<bool, PackageError>
-    ensures gives { let t = table.now in
+    ensures gives { let t = table.now.0 in
         Gives (λ changes. if changes then with_used t owner.now used.now else t) result
         (after_use t owner.now used.now) }
-    ensures changes { IfOk result (λ changes. changes ≡ use_changes table.now owner.now used.now) }
-    ensures memory { IfErr result (RunsOutOnlyIf (use_changes table.now owner.now used.now)) }
+    ensures changes { IfOk result (λ changes. changes ≡ use_changes table.now.0 owner.now used.now) }
+    ensures memory { IfErr result (RunsOutOnlyIf (use_changes table.now.0 owner.now used.now)) }
 {
     if !table.has_package(owner) || !table.has_package(used) {
         return Err(PackageError::NoSuchPackage);
@@ -43,11 +44,12 @@ fn use_other(
     owner: &[u8],
     used: &[u8],
 ) -> Result<bool, PackageError>
-    ensures gives { Gives (λ _. table.new) result
-        (after_use table.old owner.now used.now) }
-    ensures changed { IfOk result (λ changed. changed ≡ use_changes table.old owner.now used.now) }
-    ensures memory { IfErr result (RunsOutOnlyIf (use_changes table.old owner.now used.now)) }
+    ensures gives { Gives (λ _. table.new.0) result
+        (after_use table.old.0 owner.now used.now) }
+    ensures changed { IfOk result (λ changed. changed ≡ use_changes table.old.0 owner.now used.now) }
+    ensures memory { IfErr result (RunsOutOnlyIf (use_changes table.old.0 owner.now used.now)) }
     ensures unchanged { IfErr result (λ _. table.new ≡ table.old) }
+    ensures numbers { IfOk result (λ _. (count : ℕ) → KeepsNumbers table.old count table.new count) }
     ensures marked { marked_tables marks.new.items table.new ≡ marked_tables marks.old.items table.old }
 {
     if !use_refusal(table, owner, used)? {

@@ -1,6 +1,8 @@
 //! Single changes of the table: each grows it once, or leaves it as it was.
 ghost use Rattle.std.specs.Prelude.{◌≡◌, IfOk, OnErr, OnOk, option_map};
-ghost use Rattle.package_table.specs.Table.{IsPackage, entry_at, with_entry, with_new_package, with_used};
+ghost use Rattle.std.specs.FinMap as finite;
+ghost use Rattle.package_table.specs.Table.{Name, IsPackage, entry_at};
+ghost use Rattle.package_table.specs.Numbers.{number_at, with_numbered, with_package_made, with_use};
 ghost use Rattle.package_table.specs.Entries.{entry_of};
 
 use super::PackageTable;
@@ -13,7 +15,8 @@ use std::collections::{BTreeMap, BTreeSet};
 impl PackageTable {
     /// Adds a package of this name, which has no symbols and uses nothing.
     pub(crate) fn insert_package(&mut self, alloc: Global, name: Vec<u8>) -> Result<(), AllocError>
-        ensures ok { OnOk result (self.new ≡ with_new_package self.old name.items) }
+        ensures ok { OnOk result (self.new ≡ with_package_made self.old name.items) }
+        ensures packages { OnOk result ((p : Name) → finite.contains_key self.old.1 p ≡ finite.contains_key self.old.0 p) }
         ensures err { OnErr result (self.new ≡ self.old) }
     {
         let contents = Contents {
@@ -34,9 +37,12 @@ impl PackageTable {
         name: Vec<u8>,
         symbol: Symbol,
     ) -> Result<Option<Symbol>, AllocError>
-        requires { IsPackage self.old owner.now }
-        ensures ok { OnOk result (self.new ≡ with_entry self.old owner.now name.items (entry_of symbol)) }
-        ensures before { IfOk result (λ before. option_map entry_of before ≡ entry_at self.old owner.now name.items) }
+        requires { IsPackage self.old.0 owner.now }
+        ensures ok { OnOk result
+            (self.new ≡ with_numbered self.old owner.now name.items (entry_of symbol) symbol.number) }
+        ensures before { IfOk result (λ before. option_map entry_of before ≡ entry_at self.old.0 owner.now name.items) }
+        ensures number { IfOk result (λ before. option_map (λ s. s.number) before ≡ number_at self.old.1 owner.now name.items) }
+        ensures packages { (p : Name) → finite.contains_key self.old.1 p ≡ finite.contains_key self.old.0 p }
         ensures err { OnErr result (self.new ≡ self.old) }
     {
         let Some(contents) = self.packages.get_mut(owner) else {
@@ -50,8 +56,8 @@ impl PackageTable {
 
     /// Makes the package `owner`, which exists, use another.
     pub(crate) fn insert_use(&mut self, owner: &[u8], used: Vec<u8>) -> Result<(), AllocError>
-        requires { IsPackage self.old owner.now }
-        ensures ok { OnOk result (self.new ≡ with_used self.old owner.now used.items) }
+        requires { IsPackage self.old.0 owner.now }
+        ensures ok { OnOk result (self.new ≡ with_use self.old owner.now used.items) }
         ensures err { OnErr result (self.new ≡ self.old) }
     {
         let Some(contents) = self.packages.get_mut(owner) else {

@@ -13,7 +13,7 @@ use super::contents::{Contents, symbol_at, uses};
 impl PackageTable {
     /// Whether `owner` finds the symbol of this home and name.
     pub(crate) fn finds_this(&self, owner: &[u8], home: &[u8], name: &[u8]) -> bool
-        ensures { result ≡ finds_this self.now owner.now home.now name.now }
+        ensures { result ≡ finds_this self.now.0 owner.now home.now name.now }
     {
         match self.home_of(owner, name) {
             Some(other) => other == home,
@@ -23,7 +23,7 @@ impl PackageTable {
 
     /// Whether `owner` finds another symbol than that of this home by its name.
     pub(crate) fn finds_other(&self, owner: &[u8], home: &[u8], name: &[u8]) -> bool
-        ensures { result ≡ finds_other self.now owner.now home.now name.now }
+        ensures { result ≡ finds_other self.now.0 owner.now home.now name.now }
     {
         match self.home_of(owner, name) {
             Some(other) => other != home,
@@ -33,7 +33,7 @@ impl PackageTable {
 
     // Whether a package uses both.
     fn share_user(&self, owner: &[u8], other: &[u8]) -> bool
-        ensures { result ≡ share_user self.now owner.now other.now }
+        ensures { result ≡ share_user self.now.0 owner.now other.now }
     {
         for (_, contents) in &self.packages {
             if uses(contents, owner) && uses(contents, other) {
@@ -52,7 +52,7 @@ impl PackageTable {
         holder: &[u8],
         contents: &Contents,
     ) -> bool
-        ensures { result ≡ reaches self.now owner.now home.now name.now (holder.now, package_of contents.now) }
+        ensures { result ≡ reaches self.now.0 owner.now home.now name.now (holder.now, package_of contents.now) }
     {
         let Some(symbol) = symbol_at(contents, name) else {
             return false;
@@ -69,8 +69,8 @@ impl PackageTable {
     /// Whether a package that uses `owner` finds another symbol than that of this home by its name. The look-up of the
     /// name goes once over the packages, and on only from those that have another symbol there.
     pub(crate) fn user_finds_other(&self, owner: &[u8], home: &[u8], name: &[u8]) -> bool
-        requires { IsSound self.now }
-        ensures { result ≡ user_finds_other self.now owner.now home.now name.now }
+        requires { IsSound self.now.0 }
+        ensures { result ≡ user_finds_other self.now.0 owner.now home.now name.now }
     {
         for (holder, contents) in &self.packages {
             if self.reaches(owner, home, name, holder.as_slice(), contents) {
@@ -83,7 +83,7 @@ impl PackageTable {
     // Whether `owner` finds another symbol by the name of one that is external in the package of these contents.
     fn finds_other_than_in(&self, owner: &[u8], contents: &Contents) -> bool
         ensures { result ≡ list_any
-            (λ s. s.1.external && finds_other self.now owner.now s.1.home s.0)
+            (λ s. s.1.external && finds_other self.now.0 owner.now s.1.home s.0)
             (finite.entries (package_of contents.now).symbols) }
     {
         for (name, symbol) in &contents.symbols {
@@ -96,7 +96,7 @@ impl PackageTable {
 
     /// Whether `owner` finds another symbol by the name of one that is external in `used`.
     pub(crate) fn finds_other_than_shown(&self, owner: &[u8], used: &[u8]) -> bool
-        ensures { result ≡ finds_other_than_shown self.now owner.now used.now }
+        ensures { result ≡ finds_other_than_shown self.now.0 owner.now used.now }
     {
         match self.contents_of(used) {
             Some(contents) => self.finds_other_than_in(owner, contents),

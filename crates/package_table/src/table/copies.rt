@@ -1,7 +1,7 @@
 //! Copies of the table.
 ghost use Rattle.std.specs.Prelude.{◌≡◌, IfOk};
 ghost use Rattle.package_table.specs.Entries.{entry_of};
-ghost use Rattle.package_table.specs.Kept.{package_of, table_of};
+ghost use Rattle.package_table.specs.Kept.{as_map, numbers_in, package_of, table_of};
 
 use super::PackageTable;
 use super::contents::Contents;
@@ -13,16 +13,19 @@ use std::rc::Rc;
 
 // The home's name is shared with `owner` where that is the same.
 fn copy_symbol(alloc: Global, owner: &Rc<Vec<u8>>, symbol: &Symbol) -> Result<Symbol, AllocError>
-    ensures { IfOk result (λ s. entry_of s ≡ entry_of symbol.now) }
+    ensures entry { IfOk result (λ s. entry_of s ≡ entry_of symbol.now) }
+    ensures number { IfOk result (λ s. s.number ≡ symbol.now.number) }
 {
     Ok(Symbol {
         home: share(alloc, owner, symbol.home.as_slice())?,
         external: symbol.external,
+        number: symbol.number,
     })
 }
 
 fn copy_contents(alloc: Global, contents: &Contents) -> Result<Contents, AllocError>
-    ensures { IfOk result (λ c. package_of c ≡ package_of contents.now) }
+    ensures package { IfOk result (λ c. package_of c ≡ package_of contents.now) }
+    ensures numbers { IfOk result (λ c. numbers_in c ≡ numbers_in contents.now) }
 {
     let owner = new_name(alloc, contents.name.as_slice())?;
     let mut symbols = BTreeMap::new(alloc);
@@ -45,7 +48,8 @@ fn copy_packages(
     alloc: Global,
     packages: &BTreeMap<Vec<u8>, Contents>,
 ) -> Result<BTreeMap<Vec<u8>, Contents>, AllocError>
-    ensures { IfOk result (λ t. table_of t ≡ table_of packages.now) }
+    ensures table { IfOk result (λ t. table_of t ≡ table_of packages.now) }
+    ensures numbers { IfOk result (λ t. as_map numbers_in t.entries ≡ as_map numbers_in packages.now.entries) }
 {
     let mut copied = BTreeMap::new(alloc);
     for (name, contents) in packages {

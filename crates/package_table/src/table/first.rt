@@ -1,7 +1,8 @@
 //! The first packages.
-ghost use Rattle.std.specs.Prelude.{◌≡◌, IfOk, map};
+ghost use Rattle.std.specs.Prelude.{◌≡◌, ◌<◌, ◌+◌, IfOk, length, map};
 ghost use Rattle.package_table.specs.Table.{initial, package_of_names, common_lisp_package, keyword_package, user_package};
-ghost use Rattle.package_table.specs.Kept.{package_of};
+ghost use Rattle.package_table.specs.Numbering.{IsNumbered, IsRun};
+ghost use Rattle.package_table.specs.Kept.{numbers_in, package_of};
 
 use super::PackageTable;
 use super::contents::Contents;
@@ -70,17 +71,28 @@ const KEYWORD_NAMES: [&[u8]; 22] = [
     b"USER",
 ];
 
-// A package of these symbols, all at home in it and external.
-fn package_of_names(alloc: Global, owner: &[u8], names: &[&[u8]]) -> Result<Contents, AllocError>
-    ensures { IfOk result (λ c. package_of c ≡ package_of_names owner.now (map (λ n. n.now) names.now)) }
+// A package of these symbols, all at home in it and external, with the numbers from `first` on.
+fn package_of_names(
+    alloc: Global,
+    owner: &[u8],
+    names: &[&[u8]],
+    first: u32,
+) -> Result<Contents, AllocError>
+    requires { first + length names.now < 1000 }
+    ensures package { IfOk result (λ c. package_of c ≡ package_of_names owner.now (map (λ n. n.now) names.now)) }
+    ensures numbers { IfOk result (λ c. IsRun (numbers_in c) first (first + length names.now)) }
 {
     let shared = new_name(alloc, owner)?;
     let mut symbols = BTreeMap::new(alloc);
+    let mut number = first;
     for name in names {
-        let home = shared.clone()?;
-        let name = Vec::from_slice(alloc, name)?;
-        let external = true;
-        symbols.insert(name, Symbol { home, external })?;
+        let symbol = Symbol {
+            home: shared.clone()?,
+            external: true,
+            number,
+        };
+        symbols.insert(Vec::from_slice(alloc, name)?, symbol)?;
+        number += 1;
     }
     Ok(Contents {
         name: shared,
@@ -91,21 +103,24 @@ fn package_of_names(alloc: Global, owner: &[u8], names: &[&[u8]]) -> Result<Cont
 
 // COMMON-LISP.
 fn lisp_package(alloc: Global) -> Result<Contents, AllocError>
-    ensures { IfOk result (λ c. package_of c ≡ common_lisp_package) }
+    ensures package { IfOk result (λ c. package_of c ≡ common_lisp_package) }
+    ensures numbers { IfOk result (λ c. IsRun (numbers_in c) 0 31) }
 {
-    package_of_names(alloc, COMMON_LISP, &COMMON_LISP_NAMES)
+    package_of_names(alloc, COMMON_LISP, &COMMON_LISP_NAMES, 0)
 }
 
 // KEYWORD.
 fn keyword_package(alloc: Global) -> Result<Contents, AllocError>
-    ensures { IfOk result (λ c. package_of c ≡ keyword_package) }
+    ensures package { IfOk result (λ c. package_of c ≡ keyword_package) }
+    ensures numbers { IfOk result (λ c. IsRun (numbers_in c) 31 53) }
 {
-    package_of_names(alloc, KEYWORD, &KEYWORD_NAMES)
+    package_of_names(alloc, KEYWORD, &KEYWORD_NAMES, 31)
 }
 
 // COMMON-LISP-USER.
 fn user_package(alloc: Global) -> Result<Contents, AllocError>
-    ensures { IfOk result (λ c. package_of c ≡ user_package) }
+    ensures package { IfOk result (λ c. package_of c ≡ user_package) }
+    ensures numbers { IfOk result (λ c. IsRun (numbers_in c) 53 53) }
 {
     let mut uses = BTreeSet::new(alloc);
     let lisp = Vec::from_slice(alloc, COMMON_LISP)?;
@@ -120,7 +135,8 @@ fn user_package(alloc: Global) -> Result<Contents, AllocError>
 impl PackageTable {
     /// The first packages.
     pub(crate) fn initial(alloc: Global) -> Result<PackageTable, AllocError>
-        ensures { IfOk result (λ t. t ≡ initial) }
+        ensures packages { IfOk result (λ t. t.0 ≡ initial) }
+        ensures numbers { IfOk result (λ t. IsNumbered t 53) }
     {
         let mut packages = BTreeMap::new(alloc);
         let name = Vec::from_slice(alloc, KEYWORD)?;

@@ -14,7 +14,7 @@ use std::alloc::{AllocError, Global};
 impl PackageTable {
     /// The names of the packages.
     pub(crate) fn names(&self, alloc: Global) -> Result<Items<Bytes>, AllocError>
-        ensures { IfOk result (λ names. names ≡ package_names self.now) }
+        ensures { IfOk result (λ names. names ≡ package_names self.now.0) }
     {
         let mut names = Items::new(alloc);
         for owner in self.packages.keys() {
@@ -25,7 +25,7 @@ impl PackageTable {
 
     // What the package of this name holds, of which a list is given.
     fn listed(&self, owner: &[u8]) -> Result<&Contents, PackageError>
-        ensures { MatchResult result (λ c. Some (package_of c.now) ≡ finite.get self.now owner.now) (ListRefused self.now owner.now) }
+        ensures { MatchResult result (λ c. Some (package_of c.now) ≡ finite.get self.now.0 owner.now) (ListRefused self.now.0 owner.now) }
     {
         match self.contents_of(owner) {
             Some(contents) => Ok(contents),
@@ -35,9 +35,9 @@ impl PackageTable {
 
     /// The names of the packages that `owner` uses.
     pub(crate) fn uses(&self, alloc: Global, owner: &[u8]) -> Result<Items<Bytes>, PackageError>
-        ensures list { IfOk result (λ names. names ≡ used_names self.now owner.now) }
-        ensures there { IfOk result (λ _. IsPackage self.now owner.now) }
-        ensures refused { IfErr result (ListRefused self.now owner.now) }
+        ensures list { IfOk result (λ names. names ≡ used_names self.now.0 owner.now) }
+        ensures there { IfOk result (λ _. IsPackage self.now.0 owner.now) }
+        ensures refused { IfErr result (ListRefused self.now.0 owner.now) }
     {
         let contents = self.listed(owner)?;
         let mut names = Items::new(alloc);
@@ -49,9 +49,9 @@ impl PackageTable {
 
     /// The names at home in `owner`.
     pub(crate) fn own(&self, alloc: Global, owner: &[u8]) -> Result<Items<Bytes>, PackageError>
-        ensures list { IfOk result (λ names. names ≡ own_names self.now owner.now) }
-        ensures there { IfOk result (λ _. IsPackage self.now owner.now) }
-        ensures refused { IfErr result (ListRefused self.now owner.now) }
+        ensures list { IfOk result (λ names. names ≡ own_names self.now.0 owner.now) }
+        ensures there { IfOk result (λ _. IsPackage self.now.0 owner.now) }
+        ensures refused { IfErr result (ListRefused self.now.0 owner.now) }
     {
         let contents = self.listed(owner)?;
         let mut names = Items::new(alloc);
@@ -69,9 +69,9 @@ impl PackageTable {
         alloc: Global,
         owner: &[u8],
     ) -> Result<Items<Bytes>, PackageError>
-        ensures list { IfOk result (λ names. names ≡ external_names self.now owner.now) }
-        ensures there { IfOk result (λ _. IsPackage self.now owner.now) }
-        ensures refused { IfErr result (ListRefused self.now owner.now) }
+        ensures list { IfOk result (λ names. names ≡ external_names self.now.0 owner.now) }
+        ensures there { IfOk result (λ _. IsPackage self.now.0 owner.now) }
+        ensures refused { IfErr result (ListRefused self.now.0 owner.now) }
     {
         let contents = self.listed(owner)?;
         let mut names = Items::new(alloc);
@@ -89,9 +89,9 @@ impl PackageTable {
         alloc: Global,
         owner: &[u8],
     ) -> Result<Items<(Bytes, Bytes)>, PackageError>
-        ensures list { IfOk result (λ names. names ≡ imports self.now owner.now) }
-        ensures there { IfOk result (λ _. IsPackage self.now owner.now) }
-        ensures refused { IfErr result (ListRefused self.now owner.now) }
+        ensures list { IfOk result (λ names. names ≡ imports self.now.0 owner.now) }
+        ensures there { IfOk result (λ _. IsPackage self.now.0 owner.now) }
+        ensures refused { IfErr result (ListRefused self.now.0 owner.now) }
     {
         let contents = self.listed(owner)?;
         let mut names = Items::new(alloc);

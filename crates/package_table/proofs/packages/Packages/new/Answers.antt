@@ -7,7 +7,8 @@ use Rattle.package_table.proofs.packages.Packages.new.Goals as goal
 
 pub invariant_of-result : goal.invariant_of-result
 invariant_of-result c = record {
-  sound = subst IsSound (sym c.in_ok-initial.ensures) sound;
-  counted = sym (ap symbol_count c.in_ok-initial.ensures ∙ first_count);
+  sound = subst IsSound (sym c.in_ok-initial.ensures.packages) sound;
+  counted = sym (ap symbol_count c.in_ok-initial.ensures.packages ∙ first_count);
+  numbered = c.in_ok-initial.ensures.numbers;
   marked = subst (λ (ms : List Mark). All IsCounted (marked_tables ms c.in_ok-initial.field-0)) (sym c.new.ensures.items) (λ k d less. absurd (omega (arith, less)));
 }

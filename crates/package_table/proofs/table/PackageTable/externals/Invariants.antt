@@ -6,4 +6,4 @@ use Rattle.package_table.proofs.table.PackageTable.externals.Given as goal
 
 -- the names so far, and those to come
 abbrev pub invariant-loop-name : goal.invariant-loop-name
-invariant-loop-name l = l.names ++ external_among (read entry_of l.name-iterator) ≡ external_names l.self l.owner
+invariant-loop-name l = l.names ++ external_among (read entry_of l.name-iterator) ≡ external_names l.self.0 l.owner

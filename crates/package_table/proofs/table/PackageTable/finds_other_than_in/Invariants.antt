@@ -8,5 +8,5 @@ use Rattle.package_table.proofs.table.PackageTable.finds_other_than_in.Given as 
 -- no symbol passed is external and another than the one found
 abbrev pub invariant-loop-name : goal.invariant-loop-name
 invariant-loop-name l =
-    list_any (λ s. s.1.external && finds_other l.self l.owner s.1.home s.0) (read entry_of l.name-iterator)
-    ≡ list_any (λ s. s.1.external && finds_other l.self l.owner s.1.home s.0) (read entry_of l.contents.symbols.entries)
+    list_any (λ s. s.1.external && finds_other l.self.0 l.owner s.1.home s.0) (read entry_of l.name-iterator)
+    ≡ list_any (λ s. s.1.external && finds_other l.self.0 l.owner s.1.home s.0) (read entry_of l.contents.symbols.entries)

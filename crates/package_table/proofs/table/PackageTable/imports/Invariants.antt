@@ -6,4 +6,4 @@ use Rattle.package_table.proofs.table.PackageTable.imports.Given as goal
 
 -- the names so far, and those to come
 abbrev pub invariant-loop-name : goal.invariant-loop-name
-invariant-loop-name l = l.names ++ imported_among l.owner (read entry_of l.name-iterator) ≡ imports l.self l.owner
+invariant-loop-name l = l.names ++ imported_among l.owner (read entry_of l.name-iterator) ≡ imports l.self.0 l.owner

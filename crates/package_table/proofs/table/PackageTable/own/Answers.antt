@@ -8,4 +8,4 @@ pub loop-name-init : goal.loop-name-init
 loop-name-init c =
     let all = c.into_iter-name-iterator.ensures.into_iter_gives in
     (λ i. c.new-names.ensures i ++ own_among c.args.owner.now (read entry_of (all.0 i)))
-    ∙ ap (own_among c.args.owner.now) (present-read c.args.self.now c.args.owner.now c.in_ok-contents.contents.now c.in_ok-contents.ensures all.5)
+    ∙ ap (own_among c.args.owner.now) (present-read c.args.self.now.0 c.args.owner.now c.in_ok-contents.contents.now c.in_ok-contents.ensures all.5)

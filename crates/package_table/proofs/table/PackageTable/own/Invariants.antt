@@ -6,4 +6,4 @@ use Rattle.package_table.proofs.table.PackageTable.own.Given as goal
 
 -- the names so far, and those to come
 abbrev pub invariant-loop-name : goal.invariant-loop-name
-invariant-loop-name l = l.names ++ own_among l.owner (read entry_of l.name-iterator) ≡ own_names l.self l.owner
+invariant-loop-name l = l.names ++ own_among l.owner (read entry_of l.name-iterator) ≡ own_names l.self.0 l.owner

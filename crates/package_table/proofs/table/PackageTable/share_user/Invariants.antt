@@ -10,4 +10,4 @@ use Rattle.package_table.proofs.table.PackageTable.share_user.Given as goal
 abbrev pub invariant-loop-contents : goal.invariant-loop-contents
 invariant-loop-contents l =
     list_any (λ q. finite.contains_key q.1.uses l.owner && finite.contains_key q.1.uses l.other) (read package_of l.contents-iterator)
-    ≡ share_user l.self l.owner l.other
+    ≡ share_user l.self.0 l.owner l.other

@@ -9,4 +9,4 @@ use Rattle.package_table.proofs.table.PackageTable.user_finds_other.Given as goa
 -- from none of the packages passed a user finds another symbol
 abbrev pub invariant-loop-holder : goal.invariant-loop-holder
 invariant-loop-holder l =
-    list_any (reaches l.self l.owner l.home l.name) (read package_of l.holder-iterator) ≡ list_any (reaches l.self l.owner l.home l.name) (finite.entries l.self)
+    list_any (reaches l.self.0 l.owner l.home l.name) (read package_of l.holder-iterator) ≡ list_any (reaches l.self.0 l.owner l.home l.name) (finite.entries l.self.0)

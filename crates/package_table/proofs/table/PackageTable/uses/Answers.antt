@@ -6,4 +6,4 @@ pub loop-used-init : goal.loop-used-init
 loop-used-init c =
     let all = c.into_iter-used-iterator.ensures.into_iter_gives in
     (λ i. c.new-names.ensures i ++ map (λ k. k.items) (all.0 i))
-    ∙ used-read c.args.self.now c.args.owner.now c.in_ok-contents.contents.now c.in_ok-contents.ensures all.4
+    ∙ used-read c.args.self.now.0 c.args.owner.now c.in_ok-contents.contents.now c.in_ok-contents.ensures all.4

@@ -1,11 +1,15 @@
-use Rattle.std.proofs.Common.{◌≡◌, ◌++◌, List}
+use Rattle.std.proofs.Common.{List}
 use Rattle.std.specs.Prelude.{ℕ}
 use Rattle.std.specs.Global.{Vec}
 use Rattle.package_table.specs.declared.table.contents.Contents.{Contents}
-use Rattle.package_table.specs.Kept.{as_map, package_of}
+use Rattle.package_table.specs.Kept.{numbers_in, package_of}
+use Rattle.package_table.proofs.Seen.{Copied}
 use Rattle.package_table.proofs.table.copies.copy_packages.Given as goal
 
 -- the packages so far are copied
+pub record PackagesCopied (copied rest all : List (Vec ℕ × Contents)) : Type 0 where
+  pub packages : Copied package_of copied rest all
+  pub numbers : Copied numbers_in copied rest all
+
 abbrev pub invariant-loop-name : goal.invariant-loop-name
-invariant-loop-name l =
-    (done : List (Vec ℕ × Contents)) × (done ++ l.name-iterator ≡ l.packages.entries) × (as_map package_of l.copied.entries ≡ as_map package_of done)
+invariant-loop-name l = PackagesCopied l.copied.entries l.name-iterator l.packages.entries

@@ -1,0 +1,47 @@
+-- The numbers of symbols. They are beside the table and no part of it: packages with the same symbols are equal, whatever
+-- their numbers.
+use Rattle.std.specs.Prelude.{ℕ, Option, None, option_and_then, if◌then◌else◌}
+use Rattle.std.specs.Option.{option_map_or}
+use Rattle.std.specs.Coded.{Coded, coded×, coded_ℕ}
+use Rattle.std.specs.FinMap as finite
+use Rattle.package_table.specs.Table.{Name, name_cmp, name_code, Entry, Table, table_code, with_entry, with_used, with_new_package}
+use Rattle.package_table.specs.Lookup.{is_symbol}
+
+-- for each package, the number of the symbol that is present by each name
+abbrev pub Numbers : Type 0
+Numbers = finite.FinMap name_cmp (finite.FinMap name_cmp ℕ)
+
+-- a table, and the numbers of its symbols
+abbrev pub Numbered : Type 0
+Numbered = Table × Numbers
+
+abbrev pub numbered_code : Coded Numbered
+numbered_code = coded× table_code (finite.code name_code (finite.code name_code coded_ℕ))
+
+-- the number of the symbol that is present in p by the name n
+abbrev pub number_at : Numbers → Name → Name → Option ℕ
+number_at ns p n = option_and_then (λ m. finite.get m n) (finite.get ns p)
+
+-- the numbers after a change of those of the package p, where there is one
+abbrev pub with_numbers : Numbers → Name → (finite.FinMap name_cmp ℕ → finite.FinMap name_cmp ℕ) → Numbers
+with_numbers ns p change = option_map_or (λ m. finite.insert ns p (change m)) (finite.get ns p) ns
+
+-- the table where the entry e, of the symbol with the number i, is at the name n in p
+abbrev pub with_numbered : Numbered → Name → Name → Entry → ℕ → Numbered
+with_numbered s p n e i = (with_entry s.0 p n e, with_numbers s.1 p (λ m. finite.insert m n i))
+
+-- the table where p uses q
+abbrev pub with_use : Numbered → Name → Name → Numbered
+with_use s p q = (with_used s.0 p q, s.1)
+
+-- the table with a new package, which has no symbols and uses nothing
+abbrev pub with_package_made : Numbered → Name → Numbered
+with_package_made s p = (with_new_package s.0 p, finite.insert s.1 p finite.empty)
+
+-- the number of the symbol of this home and name, where there is one
+abbrev pub number_of : Numbered → Name → Name → Option ℕ
+number_of s h n = if is_symbol s.0 h n then number_at s.1 h n else None
+
+-- its number, and 0 where there is no such symbol
+abbrev pub number_or_none : Numbered → Name → Name → ℕ
+number_or_none s h n = option_map_or (λ i. i) (number_of s h n) 0
