@@ -2,7 +2,7 @@
 --     length_marked, marked_push, marked_take, marked_get      as many, one more, the first ones, one of them
 --     world_same, refused_same      a world that was left as it was
 --     kept_none, kept_continued, kept_push, kept_back      what is kept of the marks
---     state_at, sound_at      the state that is gone back to
+--     state_at, sound_at, gone_back      the state that is gone back to, and the whole world
 use Rattle.std.proofs.Common.{◌≡◌, ℕ, zero, suc, Some, List, [], ◌∷◌, ◌++◌, length, take, Result, Ok, Err, refl, sym, ap, subst, ◌∙◌, arith}
 use Rattle.std.specs.Prelude.{All, IfErr}
 use Rattle.std.specs.List.{slice_get}
@@ -17,6 +17,7 @@ use Rattle.plist_state.specs.Undoing.{rests_at}
 use Rattle.plist_state.specs.Journal.{Fits, IsJournal, Continues}
 use Rattle.plist_state.specs.Marked.{marked_states, AreKept}
 use Rattle.plist_state.specs.Sound.{IsSound}
+use Rattle.package_table.proofs.Names.{same_some}
 use Rattle.plist_state.proofs.Notes.{rests_push, length-rests, journal_put, journal_wider}
 
 pub length_marked : (ts : List packages.Table) (rs : List Rest) → length ts ≡ length rs → length (marked_states ts rs) ≡ length ts
@@ -125,3 +126,19 @@ module _ (ts : List packages.Table) (ms : List (List Note)) (r : Rest) (rows : R
         let all : List State = marked_states ts (rests_at ms r) in
         let s : State = state_with t u in
         subst IsSound (get_or_from_slice_get all n s s state_at) (kept.sound n s (slice_get_within all n s state_at))
+
+-- the world that was marked
+module _ {X : Type 0} where
+  first_marks : (past : List X) (x : X) (later : List X) → take (length past) (past ++ x ∷ later) ≡ past
+  first_marks [] x later = refl
+  first_marks (y ∷ past) x later = ap (λ xs. y ∷ xs) (first_marks past x later)
+
+  this_mark : (past : List X) (x : X) (later : List X) → slice_get (past ++ x ∷ later) (length past) ≡ Some x
+  this_mark [] x later = refl
+  this_mark (y ∷ past) x later = this_mark past x later
+
+pub gone_back : (w new : Worlds) (later old : List State) (mark : ℕ) → new.1 ≡ take mark old → slice_get old mark ≡ Some new.0 → old ≡ w.1 ++ w.0 ∷ later → length w.1 ≡ mark → new ≡ w
+gone_back w new later old mark past now is count =
+    let states : new.1 ≡ w.1 = past ∙ (λ i. take (sym count i) (is i)) ∙ first_marks w.1 w.0 later in
+    let state : Some new.0 ≡ Some w.0 = sym now ∙ (λ i. slice_get (is i) (sym count i)) ∙ this_mark w.1 w.0 later in
+    (λ i. (same_some new.0 w.0 state i, states i))

@@ -60,7 +60,7 @@ plist_grown t u grows ps is = record {
   values = All-weaker (λ (p : Symbol × Object). IsValue t p.1) (λ p. IsValue u p.1) (λ p v. value_grown t u grows p.1 v) ps is.values;
 }
 
-symbol_is : (t : packages.Table) (h n : Name) → is_symbol t h n ≡ true → IsPresent t h n h
+pub symbol_is : (t : packages.Table) (h n : Name) → is_symbol t h n ≡ true → IsPresent t h n h
 symbol_is t h n e =
     elim (packages.entry_at t h n) as (λ o. option_map_or (λ (k : packages.Entry). bytes_eq k.home h) o false ≡ true → option_map (λ (k : packages.Entry). k.home) o ≡ Some h) [
       | None ↦ λ e. absurd (false≢true e)

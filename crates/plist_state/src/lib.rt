@@ -23,7 +23,8 @@
 //! - `stored`: what a world keeps besides its packages, over `rows` (property lists) and `tables` (readtables by name)
 //!
 //! Proofs of crates above may cite these lemmas; they keep their names. On soundness (proofs/Soundness.antt):
-//! `sound_packages`, `sound_put`, `sound_removed`, `sound_in_package`, `sound_in_readtable`, `sound_table`, `symbol_from`. On
+//! `sound_packages`, `sound_put`, `sound_removed`, `sound_in_package`, `sound_in_readtable`, `sound_table`, `symbol_from`,
+//! `symbol_is`. On
 //! property lists by symbols (proofs/Lists.antt): `get-with_list`, `list-with_list`, `with_list_twice`, `with_list_same`. On
 //! the orders of symbols and names (proofs/Orders.antt): `symbol_total`, `symbol_exact`, `one_symbol`, `name_total`,
 //! `name_exact`, `one_name`. On the first world (proofs/FirstWorld.antt): `first_sound`. On marked states (proofs/Marking.antt):

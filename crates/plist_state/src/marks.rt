@@ -1,6 +1,7 @@
 //! Going back to a state as it was: `mark`, `back_to`, `settle`.
-ghost use Rattle.std.specs.Prelude.{◌≡◌, ◌<◌, ◌++◌, [], ◌∷◌, length, take, Some, IfOk, IfErr};
+ghost use Rattle.std.specs.Prelude.{◌≡◌, ◌<◌, ◌++◌, [], ◌∷◌, List, length, take, Some, IfOk, IfErr};
 ghost use Rattle.std.specs.List.{slice_get};
+ghost use Rattle.plist_state.specs.State.{State, Worlds};
 
 use crate::World;
 use crate::undo::undo_to;
@@ -30,11 +31,13 @@ impl World {
         self.marks.len()
     }
 
-    /// Goes back to the state as it was at this mark, and takes it and all later marks away. Takes no memory.
+    /// Goes back to the state as it was at this mark, and takes it and all later marks away: the world is the one that was
+    /// marked, with the marks that it had. Takes no memory.
     pub fn back_to(&mut self, mark: usize)
         requires { mark < length self.old.1 }
         ensures past { self.new.1 ≡ take mark self.old.1 }
         ensures now { slice_get self.old.1 mark ≡ Some self.new.0 }
+        ensures whole { (w : Worlds) (later : List State) → self.old.1 ≡ w.1 ++ w.0 ∷ later → length w.1 ≡ mark → self.new ≡ w }
     {
         self.packages.back_to(mark);
         undo_to(&mut self.stored, &mut self.marks, mark);

@@ -9,7 +9,7 @@ use Rattle.plist_state.specs.Undoing.{rests_at}
 use Rattle.plist_state.specs.Journal.{marks_of}
 use Rattle.plist_state.specs.Marked.{AreKept, marked_states}
 use Rattle.plist_state.proofs.Notes.{notes_of}
-use Rattle.plist_state.proofs.Marking.{states_many, states_take, kept_back, state_at, sound_at}
+use Rattle.plist_state.proofs.Marking.{states_many, states_take, kept_back, state_at, sound_at, gone_back}
 use Rattle.plist_state.proofs.world.World.back_to.Goals as goal
 
 pub back_to-requires : goal.back_to-requires
@@ -57,3 +57,6 @@ returns-clause-now c =
     let a = c.self.inside in
     ap (λ (w : Worlds). slice_get w.1 c.args.mark) (sym c.self.view_is)
     ∙ state_at a.packages.1 (marks_of a.marks.items) (rest_of a.stored) a.stored.properties.entries c.self.invariant.marked c.args.mark c.back_to.new.self.0 (rest_of c.undo_to.new.stored) c.back_to.ensures.now c.undo_to.ensures.now
+
+pub returns-clause-whole : goal.returns-clause-whole
+returns-clause-whole c = λ w later is count. gone_back w _ later c.args.self.now.1 c.args.mark (returns-clause-past c) (returns-clause-now c) is count
