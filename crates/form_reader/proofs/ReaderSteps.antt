@@ -21,8 +21,11 @@ use Rattle.form_reader.specs.Plans.{Read}
 use Rattle.form_reader.specs.Resuming.{stage_gives}
 use Rattle.form_reader.specs.Setting.{Setting}
 use Rattle.form_reader.specs.Reading.{form, refused, reads}
-use Rattle.form_reader.specs.Turning.{outcome_of, rest_of, TurnsTo, IsReadyTurn, BeginsFrom}
-use Rattle.form_reader.specs.Reader.{fed, begun, IsNew, IsAfter, IsAfterIn, Steps, BeginsLater, IsSoundStep, Takes}
+use Rattle.form_reader.specs.declared.in_place.InPlace.{InPlace}
+use Rattle.form_reader.specs.declared.in_place.InPlace.TheVariants.{Taken as InPlaceTaken, Left as InPlaceLeft, Refused as InPlaceRefused}
+use Rattle.form_reader.specs.InPlace.{FeedsInPlace, IsReadyInPlace}
+use Rattle.form_reader.specs.Turning.{outcome_of, rest_of, TurnsTo, IsStanding, IsReadyTurn, BeginsFrom}
+use Rattle.form_reader.specs.Reader.{fed, begun, MayGoOn, DecideNothing, IsNew, IsAfter, IsAfterIn, Steps, BeginsLater, IsSoundStep, Takes}
 use Rattle.form_reader.proofs.Deciding.{may_go_on, decide_nothing}
 use Rattle.form_reader.proofs.Forms.{reads_is, stood}
 
@@ -42,6 +45,28 @@ module _ (setting : Setting) (old mid new : FormReader) (stage : Stage) (bytes :
 
   one_more : IsAfterIn setting old (Open stage) bytes → (cs : List ℕ) → reads setting (fed_now ++ cs) ≡ rest_of setting old.frames stage old.start old.at (byte ∷ cs)
   one_more a cs = ap (reads setting) (append_assoc bytes (byte ∷ []) cs) ∙ a.1 (byte ∷ cs)
+
+  -- it is taken where the reader is
+  pub went_on : (next : Stage) → IsAfterIn setting old (Open stage) bytes
+      → ((cs : List ℕ) → rest_of setting old.frames stage old.start old.at (byte ∷ cs) ≡ rest_of setting old.frames next old.start (old.at + 1) cs)
+      → IsStanding setting.limits old.frames next (old.at + 1)
+      → ((old.start + (old.at + 1) ≡ length fed_now) × ((cs : List ℕ) → reads setting (fed_now ++ cs) ≡ rest_of setting old.frames next old.start (old.at + 1) cs))
+      × (old.start + (old.at + 1) ≡ length fed_now) × MayGoOn fed_now (reads setting fed_now) × DecideNothing setting fed_now
+  went_on next a same ready =
+      let many : length fed_now ≡ length bytes + 1 = length-append bytes (byte ∷ []) in
+      let count : old.start + (old.at + 1) ≡ length fed_now = omega (arith, many, a.0) in
+      let rest : (cs : List ℕ) → reads setting (fed_now ++ cs) ≡ rest_of setting old.frames next old.start (old.at + 1) cs = λ cs. one_more a cs ∙ same cs in (
+        (count, rest),
+        count,
+        may_go_on setting old.frames next old.start (old.at + 1) fed_now ready.levels ready.place count rest,
+        decide_nothing setting old.frames next old.start (old.at + 1) fed_now ready.levels ready.place count rest,
+      )
+
+  -- it is refused where the reader is
+  pub gave_up : (code place : ℕ) → IsAfterIn setting old (Open stage) bytes
+      → ((cs : List ℕ) → rest_of setting old.frames stage old.start old.at (byte ∷ cs) ≡ refused code place)
+      → (cs : List ℕ) → reads setting (fed_now ++ cs) ≡ refused code place
+  gave_up code place a same cs = one_more a cs ∙ same cs
 
   pub stepped : (turn : Turn) (step : Step) → IsAfterIn setting old (Open stage) bytes
       → ((cs : List ℕ) → TurnsTo setting after cs turn (rest_of setting old.frames stage old.start old.at (byte ∷ cs)))
@@ -70,6 +95,24 @@ module _ (setting : Setting) (old mid new : FormReader) (stage : Stage) (bytes :
   stepped (TurnForm x start «end» next) (StepRefused code place) a turns ready takes same = absurd takes
   stepped (TurnRefused code place) step a turns ready takes same =
       subst (λ (s : Step). Steps setting new fed_now s) (sym takes.0) (λ cs. one_more a cs ∙ turns cs, takes.1)
+
+-- a byte that is taken in its place, one that is left, and one that is refused there
+module _ (setting : Setting) (frames : List Frame) (start at c : ℕ) (old new : Stage) (fed : InPlace) where
+  pub taken_there : (cs : List ℕ) → fed ≡ InPlaceTaken → FeedsInPlace setting frames at c cs old new fed
+      → rest_of setting frames old start at (c ∷ cs) ≡ rest_of setting frames new start (at + 1) cs
+  taken_there cs is feeds = ap (outcome_of setting start) (subst (λ (f : InPlace). FeedsInPlace setting frames at c cs old new f) is feeds)
+
+  pub left_there : (cs : List ℕ) → fed ≡ InPlaceLeft → FeedsInPlace setting frames at c cs old new fed → new ≡ old
+  left_there cs is feeds = subst (λ (f : InPlace). FeedsInPlace setting frames at c cs old new f) is feeds
+
+  pub refused_there : (code : ℕ) (cs : List ℕ) → fed ≡ InPlaceRefused code → FeedsInPlace setting frames at c cs old new fed
+      → rest_of setting frames old start at (c ∷ cs) ≡ refused code (start + at)
+  refused_there code cs is feeds = ap (outcome_of setting start) (subst (λ (f : InPlace). FeedsInPlace setting frames at c cs old new f) is feeds)
+
+  pub ready_there : (limits : Limits) → fed ≡ InPlaceTaken → IsReadyInPlace limits at new fed → IsStanding limits frames old at → IsStanding limits frames new (at + 1)
+  ready_there limits is ready standing =
+      let r = subst (λ (f : InPlace). IsReadyInPlace limits at new f) is ready in
+      record { place = omega (arith, r.0); nesting = standing.nesting; levels = r.1 }
 
 -- at most one byte more was fed
 pub fed_taking : (mid new : FormReader) (after : List Frame) (limits : Limits) (count : ℕ) (turn : Turn) (step : Step) → Takes turn mid new step → IsReadyTurn limits after count turn

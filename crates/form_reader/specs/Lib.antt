@@ -16,6 +16,7 @@ pub mod Resuming
 pub mod Delivering
 pub mod Ready
 pub mod Opening
+pub mod InPlace
 pub mod Turning
 pub mod Ending
 pub mod Standing

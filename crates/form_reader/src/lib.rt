@@ -31,6 +31,7 @@
 //! - `held`, `frame`, `stage`, `found`: what is held while calls are open
 //! - `told`: what a token means; `known`: which data may be answered; `complete`: what a call gives
 //! - `advance`: one byte, wherever a reader is in its innermost call
+//! - `in_place`: one byte that goes on what is gathered, where it is gathered
 //! - `bytes`, `tokens`: one byte of a text, a line, a block, a number or a token; `gathering`: what it brings
 //! - `objects`: a byte where an object may begin, after a token there, and in a token; what a token comes to
 //! - `attempt`, `macros`, `opening`: an attempt from its first byte on, and how a call begins
@@ -52,6 +53,7 @@ mod found;
 mod frame;
 mod gathering;
 mod held;
+mod in_place;
 mod known;
 mod laws;
 mod limits;

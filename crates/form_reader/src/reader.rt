@@ -5,6 +5,7 @@ ghost use Rattle.form_reader.specs.Standing.{is_standing};
 use crate::Limits;
 use crate::ending::{ReadOutcome, last_outcome};
 use crate::frame::Frames;
+use crate::in_place::{InPlace, in_place};
 use crate::stage::Stage;
 use crate::surroundings::Surroundings;
 use crate::turn::{Turn, take_byte};
@@ -126,21 +127,45 @@ impl FormReader {
         ensures memory { OnErr result (HasNoMemory self.new) }
         ensures spent { HasNoMemory self.old → IsErr result }
     {
-        match mem::replace(&mut self.state, State::OutOfMemory) {
-            State::Open(stage) => {
-                let with = Surroundings {
-                    alloc: self.alloc,
-                    limits: self.limits,
-                    readtable,
-                    packages,
-                    current,
-                    macros,
-                };
-                let next = take_byte(&with, &mut self.frames, stage, self.start, self.at, byte)?;
-                Ok(self.take(next))
-            }
+        let with = Surroundings {
+            alloc: self.alloc,
+            limits: self.limits,
+            readtable,
+            packages,
+            current,
+            macros,
+        };
+        match &mut self.state {
+            State::Open(stage) => match in_place(&with, stage, self.at, byte) {
+                Ok(InPlace::Taken) => {
+                    self.at += 1;
+                    Ok(Step::More)
+                }
+                Ok(InPlace::Left) => {
+                    let stage = mem::replace(stage, Stage::Object);
+                    self.state = State::OutOfMemory;
+                    let next = take_byte(
+                        &with,
+                        &mut self.frames,
+                        stage,
+                        self.start,
+                        self.at,
+                        byte,
+                    )?;
+                    Ok(self.take(next))
+                }
+                Ok(InPlace::Refused(code)) => {
+                    let place = self.start + self.at;
+                    self.state = State::Refused(code, place);
+                    Ok(Step::Refused { code, at: place })
+                }
+                Err(error) => {
+                    self.state = State::OutOfMemory;
+                    Err(error)
+                }
+            },
             State::Refused(code, at) => {
-                self.state = State::Refused(code, at);
+                let (code, at) = (*code, *at);
                 Ok(Step::Refused { code, at })
             }
             State::OutOfMemory => Err(AllocError),

@@ -3,7 +3,8 @@ ghost use Rattle.std.specs.Prelude.{◌≡◌, ◌≤◌, ◌<◌, ℕ, List, []
 ghost use Rattle.token_scan.specs.Tokens.{kind, typed};
 ghost use Rattle.token_scan.specs.Spelling.{ends_tokens};
 ghost use Rattle.token_scan.specs.Scans.{Scan, begun, has_begun};
-ghost use Rattle.form_reader.specs.Feeding.{is_going, token_read};
+ghost use Rattle.form_reader.specs.Feeding.{TokenFeeds, is_going, token_read};
+ghost use Rattle.form_reader.specs.declared.bytes.LineByte.TheVariants.{Ended as LineEnded, More as LineMore};
 ghost use Rattle.form_reader.specs.Begun.{BegunFeeds, FirstFeeds, IsBegunByte};
 ghost use Rattle.form_reader.specs.declared.stage.BegunByte.TheVariants.{More as BegunMore};
 ghost use Rattle.form_reader.specs.declared.stage.FirstByte.TheVariants.{More as FirstMore};
@@ -87,6 +88,24 @@ impl BegunScan {
         ensures begun { IsTrue (has_begun result) }
     {
         self.scan
+    }
+
+    /// The byte `c` at `at`, taken in place.
+    pub(crate) fn feed(
+        &mut self,
+        readtable: &Readtable,
+        limits: &Limits,
+        at: usize,
+        c: u8,
+    ) -> Result<LineByte, AllocError>
+        requires { at ≤ limits.now.text }
+        ensures feeds { (cs : List ℕ) → IfOk result (λ fed.
+            TokenFeeds readtable.now limits.now self.new at c cs fed (token_read readtable.now limits.now self.old at (c ∷ cs))) }
+        ensures ended { result ≡ Ok LineEnded → self.new ≡ self.old }
+        ensures going { result ≡ Ok LineMore → IsTrue (is_going self.new.stage) }
+        ensures below { result ≡ Ok LineMore → at < limits.now.text }
+    {
+        token_byte(readtable, limits, &mut self.scan, at, c)
     }
 
     /// The byte `c` at `at`.

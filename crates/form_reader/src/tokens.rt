@@ -34,6 +34,7 @@ pub(crate) fn token_byte(
     ensures more { result ≡ Ok LineMore → IsTrue (has_begun scan.new) }
     ensures going { result ≡ Ok LineMore → IsTrue (is_going scan.new.stage) }
     ensures below { result ≡ Ok LineMore → at < limits.now.text }
+    ensures begun { IsTrue (has_begun scan.old) → IsTrue (has_begun scan.new) }
 {
     match scan.feed(readtable.syntax(c), c)? {
         Fed::Ended => Ok(LineByte::Ended),
