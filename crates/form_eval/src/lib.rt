@@ -19,6 +19,7 @@
 #![tactic(auto)]
 
 mod arguments;
+mod at_once;
 mod calls;
 mod changes;
 mod control;
