@@ -59,7 +59,7 @@ operator_named_among names name r is =
     ∙ all_among names name
 
 -- an interned symbol at the head
-symbol_of_some : (x : Object) (p : Name × Name) → a_symbol x ≡ Some p → x ≡ symbol p.0 p.1
+pub symbol_of_some : (x : Object) (p : Name × Name) → a_symbol x ≡ Some p → x ≡ symbol p.0 p.1
 symbol_of_some (symbol h n) p e = ap (λ q. symbol q.0 q.1) (same_some (h, n) p e)
 symbol_of_some (integer n) p e = absurd (none_some p e)
 symbol_of_some (rational n d) p e = absurd (none_some p e)

@@ -12,3 +12,4 @@ pub mod Laws
 pub mod Operations
 pub mod Gathered
 pub mod Members
+pub mod AtOnce

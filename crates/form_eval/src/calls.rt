@@ -156,7 +156,7 @@ pub(crate) fn make(
     values: &[Datum],
 ) -> Result<Evaluated, EvaluationError>
     requires { All (IsArgument world.old.0.packages) values.now }
-    ensures gives { Answers done result world.new.0 (make (map object_of values.now) world.old.0) }
+    ensures gives { Gives done result world.new.0 (make (map object_of values.now) world.old.0) }
     ensures proper { IfOk result (λ e. is_proper e.value ≡ true) }
     ensures marked { world.new.1 ≡ world.old.1 }
 {
@@ -244,7 +244,7 @@ pub(crate) fn readtable_case(
     values: &[Datum],
 ) -> Result<Evaluated, EvaluationError>
     requires { All (IsArgument world.now.0.packages) values.now }
-    ensures gives { Answers done result world.now.0 (readtable_case (map object_of values.now) world.now.0) }
+    ensures gives { Gives done result world.now.0 (readtable_case (map object_of values.now) world.now.0) }
     ensures proper { IfOk result (λ e. is_proper e.value ≡ true) }
 {
     let Some((readtable, rest)) = split(values) else {
@@ -263,7 +263,7 @@ pub(crate) fn set_case(
     values: &[Datum],
 ) -> Result<Evaluated, EvaluationError>
     requires { All (IsArgument world.old.0.packages) values.now }
-    ensures gives { Answers done result world.new.0 (set_case (map object_of values.now) world.old.0) }
+    ensures gives { Gives done result world.new.0 (set_case (map object_of values.now) world.old.0) }
     ensures proper { IfOk result (λ e. is_proper e.value ≡ true) }
     ensures marked { world.new.1 ≡ world.old.1 }
 {
@@ -286,7 +286,7 @@ pub(crate) fn copy_readtable(
     values: &[Datum],
 ) -> Result<Evaluated, EvaluationError>
     requires { All (IsArgument world.old.0.packages) values.now }
-    ensures gives { Answers done result world.new.0 (copy_readtable (map object_of values.now) world.old.0) }
+    ensures gives { Gives done result world.new.0 (copy_readtable (map object_of values.now) world.old.0) }
     ensures proper { IfOk result (λ e. is_proper e.value ≡ true) }
     ensures marked { world.new.1 ≡ world.old.1 }
 {
@@ -309,7 +309,7 @@ pub(crate) fn enter_readtable(
     values: &[Datum],
 ) -> Result<Evaluated, EvaluationError>
     requires { All (IsArgument world.old.0.packages) values.now }
-    ensures gives { Answers done result world.new.0 (enter_readtable (map object_of values.now) world.old.0) }
+    ensures gives { Gives done result world.new.0 (enter_readtable (map object_of values.now) world.old.0) }
     ensures proper { IfOk result (λ e. is_proper e.value ≡ true) }
     ensures marked { world.new.1 ≡ world.old.1 }
 {
@@ -371,7 +371,7 @@ pub(crate) fn get_macro(
     values: &[Datum],
 ) -> Result<Evaluated, EvaluationError>
     requires { All (IsArgument world.now.0.packages) values.now }
-    ensures gives { Answers done result world.now.0 (get_macro (map object_of values.now) world.now.0) }
+    ensures gives { Gives done result world.now.0 (get_macro (map object_of values.now) world.now.0) }
     ensures proper { IfOk result (λ e. is_proper e.value ≡ true) }
 {
     let Some((character, rest)) = split(values) else {
@@ -429,7 +429,7 @@ pub(crate) fn get_dispatch(
     values: &[Datum],
 ) -> Result<Evaluated, EvaluationError>
     requires { All (IsArgument world.now.0.packages) values.now }
-    ensures gives { Answers done result world.now.0 (get_dispatch (map object_of values.now) world.now.0) }
+    ensures gives { Gives done result world.now.0 (get_dispatch (map object_of values.now) world.now.0) }
     ensures proper { IfOk result (λ e. is_proper e.value ≡ true) }
 {
     let Some((character, after_character)) = split(values) else {

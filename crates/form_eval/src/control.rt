@@ -84,8 +84,8 @@ pub(crate) fn last(alloc: Global, mut values: Vec<Datum>) -> Result<Evaluated, E
     }
 }
 
-// Whether it is the symbol of COMMON-LISP with this name.
-fn is_standard(home: &[u8], own: &[u8], name: &[u8]) -> bool
+/// Whether it is the symbol of COMMON-LISP with this name.
+pub(crate) fn is_standard(home: &[u8], own: &[u8], name: &[u8]) -> bool
     ensures { result ≡ (bytes_eq home.now common_lisp && bytes_eq own.now name.now) }
 {
     home == COMMON_LISP && own == name

@@ -5,7 +5,8 @@
 //! every form. The function `accept` does with a `World` exactly what the definition says, and leaves the world as it was where
 //! a form is refused.
 //!
-//! - `transaction`: `accept`; `symbols`: the symbols of a datum
+//! - `transaction`: `accept`; `symbols`: the symbols of a datum; `at_once`: what a form is refused with before anything takes
+//!   memory
 //! - `error`, `evaluated`: what a form gives, `EvaluationError` and `Evaluated`
 //! - `evaluation`: the value of a form, by recursion on it; `operators`: what is at its head; `place`: the places of SETF,
 //!   INCF and PUSH; `perform`: what an operator makes of the values of its arguments
@@ -19,6 +20,7 @@
 #![tactic(auto)]
 
 mod arguments;
+mod at_once;
 mod calls;
 mod changes;
 mod control;

@@ -4,7 +4,7 @@ ghost use Rattle.lisp_object.specs.Datum.{object_of, is_proper};
 ghost use Rattle.package_table.specs.Table.{Name};
 ghost use Rattle.form_eval.specs.Kinds.{a_name, given_or};
 ghost use Rattle.form_eval.specs.Packages.{make, enter, intern};
-ghost use Rattle.form_eval.specs.Evaluated.{IsArgument, Answers, done};
+ghost use Rattle.form_eval.specs.Evaluated.{IsArgument, Answers, Gives, done};
 
 use crate::EvaluationError::Refused;
 use crate::arguments::{given, or_other};
@@ -35,7 +35,7 @@ pub(crate) fn make(
     name: &Datum,
 ) -> Result<Evaluated, EvaluationError>
     requires { IsArgument world.old.0.packages name.now }
-    ensures gives { Answers done result world.new.0 (make (object_of name.now ∷ []) world.old.0) }
+    ensures gives { Gives done result world.new.0 (make (object_of name.now ∷ []) world.old.0) }
     ensures proper { IfOk result (λ e. is_proper e.value ≡ true) }
     ensures marked { world.new.1 ≡ world.old.1 }
 {
@@ -58,7 +58,7 @@ pub(crate) fn enter(
     name: &Datum,
 ) -> Result<Evaluated, EvaluationError>
     requires { IsArgument world.old.0.packages name.now }
-    ensures gives { Answers done result world.new.0 (enter (object_of name.now) world.old.0) }
+    ensures gives { Gives done result world.new.0 (enter (object_of name.now) world.old.0) }
     ensures proper { IfOk result (λ e. is_proper e.value ≡ true) }
     ensures marked { world.new.1 ≡ world.old.1 }
 {

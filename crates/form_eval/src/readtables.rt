@@ -11,7 +11,7 @@ ghost use Rattle.form_eval.specs.Kinds.{a_keyword, a_source, given_or, given_or_
 ghost use Rattle.form_eval.specs.Properties.{t};
 ghost use Rattle.form_eval.specs.Readtables.{after, name_or_nil, after_first, is_function, readtable_case, set_case, copy_readtable, enter_readtable, set_syntax, set_macro, get_macro, make_dispatch, set_dispatch, get_dispatch};
 ghost use Rattle.form_eval.specs.Laws.{AreFunctionNames};
-ghost use Rattle.form_eval.specs.Evaluated.{IsArgument, Answers, done};
+ghost use Rattle.form_eval.specs.Evaluated.{IsArgument, Answers, Gives, done};
 
 use crate::EvaluationError::Refused;
 use crate::arguments::{given, or_other};
@@ -32,7 +32,7 @@ fn changed(
     value: &Datum,
 ) -> Result<Evaluated, EvaluationError>
     requires { is_proper value.now ≡ true }
-    ensures gives { (old : State) (said : Result State Cause) → Makes (λ _. world.now.0) made said → Answers done result world.now.0 (after old (object_of value.now) said) }
+    ensures gives { (old : State) (said : Result State Cause) → Makes (λ _. world.now.0) made said → Gives done result world.now.0 (after old (object_of value.now) said) }
     ensures proper { IfOk result (λ e. is_proper e.value ≡ true) }
 {
     match made {
@@ -168,7 +168,7 @@ pub(crate) fn readtable_case(
     readtable: &Datum,
 ) -> Result<Evaluated, EvaluationError>
     requires { IsArgument world.now.0.packages readtable.now }
-    ensures gives { Answers done result world.now.0 (readtable_case (object_of readtable.now ∷ []) world.now.0) }
+    ensures gives { Gives done result world.now.0 (readtable_case (object_of readtable.now ∷ []) world.now.0) }
     ensures proper { IfOk result (λ e. is_proper e.value ≡ true) }
 {
     let Some(name) = kinds::keyword(readtable) else {
@@ -192,7 +192,7 @@ pub(crate) fn set_case(
 ) -> Result<Evaluated, EvaluationError>
     requires readtable { IsArgument world.old.0.packages readtable.now }
     requires letters { IsArgument world.old.0.packages letters.now }
-    ensures gives { Answers done result world.new.0 (set_case (object_of readtable.now ∷ object_of letters.now ∷ []) world.old.0) }
+    ensures gives { Gives done result world.new.0 (set_case (object_of readtable.now ∷ object_of letters.now ∷ []) world.old.0) }
     ensures proper { IfOk result (λ e. is_proper e.value ≡ true) }
     ensures marked { world.new.1 ≡ world.old.1 }
 {
@@ -215,7 +215,7 @@ pub(crate) fn copy_readtable(
 ) -> Result<Evaluated, EvaluationError>
     requires source { IsArgument world.old.0.packages source.now }
     requires copy { IsArgument world.old.0.packages copy.now }
-    ensures gives { Answers done result world.new.0 (copy_readtable (object_of source.now ∷ object_of copy.now ∷ []) world.old.0) }
+    ensures gives { Gives done result world.new.0 (copy_readtable (object_of source.now ∷ object_of copy.now ∷ []) world.old.0) }
     ensures proper { IfOk result (λ e. is_proper e.value ≡ true) }
     ensures marked { world.new.1 ≡ world.old.1 }
 {
@@ -236,7 +236,7 @@ pub(crate) fn enter_readtable(
     readtable: &Datum,
 ) -> Result<Evaluated, EvaluationError>
     requires { IsArgument world.old.0.packages readtable.now }
-    ensures gives { Answers done result world.new.0 (enter_readtable (object_of readtable.now ∷ []) world.old.0) }
+    ensures gives { Gives done result world.new.0 (enter_readtable (object_of readtable.now ∷ []) world.old.0) }
     ensures proper { IfOk result (λ e. is_proper e.value ≡ true) }
     ensures marked { world.new.1 ≡ world.old.1 }
 {
@@ -341,7 +341,7 @@ pub(crate) fn get_macro(
 ) -> Result<Evaluated, EvaluationError>
     requires character { IsArgument world.now.0.packages character.now }
     requires rest { All (IsArgument world.now.0.packages) rest.now }
-    ensures gives { Answers done result world.now.0 (get_macro (object_of character.now ∷ map object_of rest.now) world.now.0) }
+    ensures gives { Gives done result world.now.0 (get_macro (object_of character.now ∷ map object_of rest.now) world.now.0) }
     ensures proper { IfOk result (λ e. is_proper e.value ≡ true) }
 {
     let Some(c) = kinds::character(character) else {
@@ -441,7 +441,7 @@ pub(crate) fn get_dispatch(
     requires character { IsArgument world.now.0.packages character.now }
     requires sub { IsArgument world.now.0.packages sub.now }
     requires rest { All (IsArgument world.now.0.packages) rest.now }
-    ensures gives { Answers done result world.now.0 (get_dispatch (object_of character.now ∷ object_of sub.now ∷ map object_of rest.now) world.now.0) }
+    ensures gives { Gives done result world.now.0 (get_dispatch (object_of character.now ∷ object_of sub.now ∷ map object_of rest.now) world.now.0) }
     ensures proper { IfOk result (λ e. is_proper e.value ≡ true) }
 {
     let Some(c) = kinds::character(character) else {

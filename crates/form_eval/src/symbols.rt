@@ -1,12 +1,14 @@
 //! The interned symbols of a datum.
-ghost use Rattle.std.specs.Prelude.{◌≡◌, ◌++◌, ◌∷◌, [], map, OnOk, IfOk};
+ghost use Rattle.std.specs.Prelude.{◌≡◌, ◌&&◌, ◌++◌, ◌∷◌, [], map, OnOk, IfOk};
 ghost use Rattle.std.specs.List.{flat_map};
 ghost use Rattle.std.specs.Option.{option_map_or};
 ghost use Rattle.lisp_object.specs.Object.{nil};
 ghost use Rattle.lisp_object.specs.Datum.{object_of};
 ghost use Rattle.form_eval.specs.Acceptance.{symbols};
+ghost use Rattle.form_eval.specs.AtOnce.{are_there};
 
 use lisp_object::{Boxed, Datum, Items};
+use package_table::Packages;
 use package_table::standardized::COMMON_LISP;
 use std::alloc::{AllocError, Global};
 
@@ -87,4 +89,61 @@ fn add_nil<'a>(found: &mut Vec<(&'a [u8], &'a [u8])>) -> Result<(), AllocError>
 {
     found.push((COMMON_LISP, b"NIL"))?;
     Ok(())
+}
+
+/// Whether each interned symbol of a datum is there. Takes no memory.
+#[cycle(knowing)]
+#[tactic(auto, using(crate::proofs::Known::there_list, crate::proofs::Known::there_vector, crate::proofs::Known::there_symbol))]
+pub(crate) fn knows(packages: &Packages, datum: &Datum) -> bool
+    ensures { result ≡ are_there packages.now.0 (symbols (object_of datum.now)) }
+{
+    match datum {
+        Datum::Symbol { package, name } => packages.is_symbol(package.as_slice(), name.as_slice()),
+        Datum::List { items, tail } => both(knows_each(packages, items), knows_end(packages, tail)),
+        Datum::Vector(items) => both(knows_each(packages, items), knows_nil(packages)),
+        Datum::Integer(_) => true,
+        Datum::Rational(_) => true,
+        Datum::Char(_) => true,
+        Datum::Text(_) => true,
+        Datum::Uninterned(_) => true,
+    }
+}
+
+// The same of some data.
+#[cycle(knowing)]
+#[tactic(auto, using(crate::proofs::Known::there_append))]
+fn knows_each(packages: &Packages, items: &Items<Datum>) -> bool
+    ensures { result ≡ are_there packages.now.0 (flat_map (λ d. symbols (object_of d)) items.now) }
+{
+    let items = items.as_slice();
+    let mut known = true;
+    for item in items {
+        known = both(known, knows(packages, item));
+    }
+    known
+}
+
+// The same of what ends a list.
+#[cycle(knowing)]
+fn knows_end(packages: &Packages, tail: &Option<Boxed<Datum>>) -> bool
+    ensures { result ≡ are_there packages.now.0 (symbols (option_map_or object_of tail.now nil)) }
+{
+    match tail {
+        None => knows_nil(packages),
+        Some(tail) => knows(packages, tail.get()),
+    }
+}
+
+// Whether both hold.
+fn both(a: bool, b: bool) -> bool
+    ensures { result ≡ (a && b) }
+{
+    a && b
+}
+
+// The same of NIL.
+fn knows_nil(packages: &Packages) -> bool
+    ensures { result ≡ are_there packages.now.0 (symbols nil) }
+{
+    packages.is_symbol(COMMON_LISP, b"NIL")
 }

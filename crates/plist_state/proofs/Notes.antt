@@ -5,7 +5,7 @@
 --     same_marks, room_last, had_room, noted      what a write to the newest mark leaves
 --     continues_same, continues_noted      nothing was changed, and a change was noted
 --     popped, past_marks, at_mark      the newest mark taken away
-use Rattle.std.proofs.Common.{◌≡◌, ◌++◌, ◌+◌, ◌-◌, ◌<◌, ◌≤◌, ℕ, suc, None, Some, List, [], ◌∷◌, length, slice_index_or, slice_set, take, Result, Ok, Err, OnOk, refl, sym, ap, ◌∙◌, arith, subst, add-one}
+use Rattle.std.proofs.Common.{◌≡◌, ◌++◌, ◌-◌, ◌<◌, ◌≤◌, ℕ, suc, None, Some, List, [], ◌∷◌, length, slice_index_or, slice_set, take, refl, sym, ap, ◌∙◌, arith, subst}
 use Rattle.std.specs.List.{slice_get}
 use Rattle.std.specs.Option.{option_map_or}
 use Rattle.std.specs.Global.{Vec}

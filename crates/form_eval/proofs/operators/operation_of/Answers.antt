@@ -2,6 +2,7 @@ use Rattle.std.proofs.Common.{cond, None, sym, ap, ◌∙◌}
 use Rattle.lisp_object.specs.Datum.{object_of}
 use Rattle.form_eval.specs.Operators.{operator_named}
 use Rattle.form_eval.proofs.Heads.{head_other, head_unknown, head_count, head_acts}
+use Rattle.form_eval.proofs.AtOnceHeads.{first_other, first_unknown, first_count, first_acts}
 use Rattle.form_eval.proofs.operators.operation_of.Goals as goal
 
 pub returns-in_default-clause-head : goal.returns-in_default-clause-head
@@ -25,4 +26,27 @@ returns-then-not-counts-clause-head c = λ names s arguments proper counted.
 pub returns-clause-head : goal.returns-clause-head
 returns-clause-head c = λ names s arguments proper counted.
     head_acts names s (object_of c.args.head.now) arguments c.in-Some.home.now c.in-Some.name.now c.in-Some-named.operation c.args.number c.in-Some.ensures proper
+    (sym c.is_name.ensures ∙ c.if-not-is_name.false) (c.in-Some-named.ensures names) counted (sym (c.counts.ensures.value names) ∙ c.if-not-counts.false)
+
+pub returns-in_default-clause-at_once : goal.returns-in_default-clause-at_once
+returns-in_default-clause-at_once c = λ names s arguments proper counted. first_other names s (object_of c.args.head.now) arguments c.in_default.ensures
+
+pub returns-then-not-is_name-clause-at_once : goal.returns-then-not-is_name-clause-at_once
+returns-then-not-is_name-clause-at_once c = λ names s arguments proper counted.
+    first_unknown names s (object_of c.args.head.now) arguments c.in-Some.home.now c.in-Some.name.now c.in-Some.ensures proper
+    (ap (λ b. cond b (operator_named names c.in-Some.name.now) None) (sym c.is_name.ensures ∙ c.if-not-is_name.true))
+
+pub returns-in_default-named-clause-at_once : goal.returns-in_default-named-clause-at_once
+returns-in_default-named-clause-at_once c = λ names s arguments proper counted.
+    first_unknown names s (object_of c.args.head.now) arguments c.in-Some.home.now c.in-Some.name.now c.in-Some.ensures proper
+    (ap (λ b. cond b (operator_named names c.in-Some.name.now) None) (sym c.is_name.ensures ∙ c.if-not-is_name.false) ∙ sym (c.in_default-named.ensures names))
+
+pub returns-then-not-counts-clause-at_once : goal.returns-then-not-counts-clause-at_once
+returns-then-not-counts-clause-at_once c = λ names s arguments proper counted.
+    first_count names s (object_of c.args.head.now) arguments c.in-Some.home.now c.in-Some.name.now c.in-Some-named.operation c.args.number c.in-Some.ensures proper
+    (sym c.is_name.ensures ∙ c.if-not-is_name.false) (c.in-Some-named.ensures names) counted (sym (c.counts.ensures.value names) ∙ c.if-not-counts.true)
+
+pub returns-clause-at_once : goal.returns-clause-at_once
+returns-clause-at_once c = λ names s arguments proper counted.
+    first_acts names s (object_of c.args.head.now) arguments c.in-Some.home.now c.in-Some.name.now c.in-Some-named.operation c.args.number c.in-Some.ensures proper
     (sym c.is_name.ensures ∙ c.if-not-is_name.false) (c.in-Some-named.ensures names) counted (sym (c.counts.ensures.value names) ∙ c.if-not-counts.false)

@@ -10,7 +10,7 @@ use Rattle.form_eval.specs.declared.error.EvaluationError.TheVariants.{Refused}
 use Rattle.form_eval.specs.Kinds.{a_symbol, a_name, one_or_each, given_or}
 use Rattle.form_eval.specs.Outcomes.{of_kind}
 use Rattle.form_eval.specs.Packages.{in_package, unlocked, changed, one_by_one}
-use Rattle.form_eval.specs.Evaluated.{Makes}
+use Rattle.form_eval.specs.Evaluated.{Makes, Answers, done}
 use Rattle.form_eval.proofs.KindSteps.{kind_is, option_is, not_refused, goes_on}
 use Rattle.form_eval.proofs.package_lists.export.Goals as goal
 
@@ -28,11 +28,11 @@ returns-then-not-finds_all-clause-gives c =
     let q = unwrap_or (option_map (λ (n : Bor (List ℕ)). n.now) c.in-Some-given_name.owner) s.current_package in
     let given = rw c.in-Some.is at c.in_ok-symbols.ensures in
     let found = rw c.in-Some-2.is at c.in_ok-package.ensures.value in
-    kind_is r u (one_or_each a_symbol (object_of c.args.symbols.now)) ys (λ xs. of_kind (given_or a_name s.current_package rest) (λ k. in_package s k (λ o. unlocked o (cond (not (list_all (λ y. finds_this s.packages o y.0 y.1) xs)) (Err NOT_ACCESSIBLE) (changed s (one_by_one (λ k y. after_export k o y.0 y.1) (λ k y. export_changes k o y.1) s.packages false xs)))))) given
-    (kind_is r u (given_or a_name s.current_package rest) q (λ k. in_package s k (λ o. unlocked o (cond (not (list_all (λ y. finds_this s.packages o y.0 y.1) ys)) (Err NOT_ACCESSIBLE) (changed s (one_by_one (λ k y. after_export k o y.0 y.1) (λ k y. export_changes k o y.1) s.packages false ys))))) (sym (c.in-Some-given_name.ensures s.current_package))
-    (option_is r u (package_named s.packages q) p (λ o. unlocked o (cond (not (list_all (λ y. finds_this s.packages o y.0 y.1) ys)) (Err NOT_ACCESSIBLE) (changed s (one_by_one (λ k y. after_export k o y.0 y.1) (λ k y. export_changes k o y.1) s.packages false ys)))) (Err NO_SUCH_PACKAGE) (ap Some c.as_slice-package.ensures.value ∙ found)
-    (not_refused r u (is_locked p) (Err PACKAGE_IS_LOCKED) _ (sym c.is_locked.ensures ∙ c.if-is_locked.false)
-    (goes_on r u (not (list_all (λ y. finds_this s.packages p y.0 y.1) ys)) (Err NOT_ACCESSIBLE) _ (ap not (all ∙ c.if-not-finds_all.true)) refl))))
+    kind_is (Answers done r u) (one_or_each a_symbol (object_of c.args.symbols.now)) ys (λ xs. of_kind (given_or a_name s.current_package rest) (λ k. in_package s k (λ o. unlocked o (cond (not (list_all (λ y. finds_this s.packages o y.0 y.1) xs)) (Err NOT_ACCESSIBLE) (changed s (one_by_one (λ k y. after_export k o y.0 y.1) (λ k y. export_changes k o y.1) s.packages false xs)))))) given
+    (kind_is (Answers done r u) (given_or a_name s.current_package rest) q (λ k. in_package s k (λ o. unlocked o (cond (not (list_all (λ y. finds_this s.packages o y.0 y.1) ys)) (Err NOT_ACCESSIBLE) (changed s (one_by_one (λ k y. after_export k o y.0 y.1) (λ k y. export_changes k o y.1) s.packages false ys))))) (sym (c.in-Some-given_name.ensures s.current_package))
+    (option_is (Answers done r u) (package_named s.packages q) p (λ o. unlocked o (cond (not (list_all (λ y. finds_this s.packages o y.0 y.1) ys)) (Err NOT_ACCESSIBLE) (changed s (one_by_one (λ k y. after_export k o y.0 y.1) (λ k y. export_changes k o y.1) s.packages false ys)))) (Err NO_SUCH_PACKAGE) (ap Some c.as_slice-package.ensures.value ∙ found)
+    (not_refused (Answers done r u) (is_locked p) (Err PACKAGE_IS_LOCKED) _ (sym c.is_locked.ensures ∙ c.if-is_locked.false)
+    (goes_on (Answers done r u) (not (list_all (λ y. finds_this s.packages p y.0 y.1) ys)) (Err NOT_ACCESSIBLE) _ (ap not (all ∙ c.if-not-finds_all.true)) refl))))
 
 pub returns-clause-gives : goal.returns-clause-gives
 returns-clause-gives c =
@@ -48,11 +48,11 @@ returns-clause-gives c =
     let q = unwrap_or (option_map (λ (n : Bor (List ℕ)). n.now) c.in-Some-given_name.owner) s.current_package in
     let given = rw c.in-Some.is at c.in_ok-symbols.ensures in
     let found = rw c.in-Some-2.is at c.in_ok-package.ensures.value in
-    kind_is r u (one_or_each a_symbol (object_of c.args.symbols.now)) ys (λ xs. of_kind (given_or a_name s.current_package rest) (λ k. in_package s k (λ o. unlocked o (cond (not (list_all (λ y. finds_this s.packages o y.0 y.1) xs)) (Err NOT_ACCESSIBLE) (changed s (one_by_one (λ k y. after_export k o y.0 y.1) (λ k y. export_changes k o y.1) s.packages false xs)))))) given
-    (kind_is r u (given_or a_name s.current_package rest) q (λ k. in_package s k (λ o. unlocked o (cond (not (list_all (λ y. finds_this s.packages o y.0 y.1) ys)) (Err NOT_ACCESSIBLE) (changed s (one_by_one (λ k y. after_export k o y.0 y.1) (λ k y. export_changes k o y.1) s.packages false ys))))) (sym (c.in-Some-given_name.ensures s.current_package))
-    (option_is r u (package_named s.packages q) p (λ o. unlocked o (cond (not (list_all (λ y. finds_this s.packages o y.0 y.1) ys)) (Err NOT_ACCESSIBLE) (changed s (one_by_one (λ k y. after_export k o y.0 y.1) (λ k y. export_changes k o y.1) s.packages false ys)))) (Err NO_SUCH_PACKAGE) (ap Some c.as_slice-package.ensures.value ∙ found)
-    (not_refused r u (is_locked p) (Err PACKAGE_IS_LOCKED) _ (sym c.is_locked.ensures ∙ c.if-is_locked.false)
-    (not_refused r u (not (list_all (λ y. finds_this s.packages p y.0 y.1) ys)) (Err NOT_ACCESSIBLE) _ (ap not (all ∙ c.if-not-finds_all.false))
+    kind_is (Answers done r u) (one_or_each a_symbol (object_of c.args.symbols.now)) ys (λ xs. of_kind (given_or a_name s.current_package rest) (λ k. in_package s k (λ o. unlocked o (cond (not (list_all (λ y. finds_this s.packages o y.0 y.1) xs)) (Err NOT_ACCESSIBLE) (changed s (one_by_one (λ k y. after_export k o y.0 y.1) (λ k y. export_changes k o y.1) s.packages false xs)))))) given
+    (kind_is (Answers done r u) (given_or a_name s.current_package rest) q (λ k. in_package s k (λ o. unlocked o (cond (not (list_all (λ y. finds_this s.packages o y.0 y.1) ys)) (Err NOT_ACCESSIBLE) (changed s (one_by_one (λ k y. after_export k o y.0 y.1) (λ k y. export_changes k o y.1) s.packages false ys))))) (sym (c.in-Some-given_name.ensures s.current_package))
+    (option_is (Answers done r u) (package_named s.packages q) p (λ o. unlocked o (cond (not (list_all (λ y. finds_this s.packages o y.0 y.1) ys)) (Err NOT_ACCESSIBLE) (changed s (one_by_one (λ k y. after_export k o y.0 y.1) (λ k y. export_changes k o y.1) s.packages false ys)))) (Err NO_SUCH_PACKAGE) (ap Some c.as_slice-package.ensures.value ∙ found)
+    (not_refused (Answers done r u) (is_locked p) (Err PACKAGE_IS_LOCKED) _ (sym c.is_locked.ensures ∙ c.if-is_locked.false)
+    (not_refused (Answers done r u) (not (list_all (λ y. finds_this s.packages p y.0 y.1) ys)) (Err NOT_ACCESSIBLE) _ (ap not (all ∙ c.if-not-finds_all.false))
     (c.changed.ensures.gives s (one_by_one (λ k y. after_export k p y.0 y.1) (λ k y. export_changes k p y.1) s.packages false ys)
     (subst (λ l. Makes c.export_all-made.result u.packages (one_by_one (λ k y. after_export k p y.0 y.1) (λ k y. export_changes k p y.1) s.packages false (map symbol_of l))) c.as_slice-2.ensures.value c.export_all-made.ensures.gives)
     (ap (λ (k : Worlds). k.0) c.export_all-made.ensures.rest))))))

@@ -9,7 +9,7 @@ use Rattle.plist_state.specs.Shown.{symbol_of}
 use Rattle.form_eval.specs.Kinds.{a_symbol, a_name, one_or_each, given_or}
 use Rattle.form_eval.specs.Outcomes.{of_kind}
 use Rattle.form_eval.specs.Packages.{in_package, unlocked, changed, one_by_one}
-use Rattle.form_eval.specs.Evaluated.{Makes}
+use Rattle.form_eval.specs.Evaluated.{Makes, Answers, done}
 use Rattle.form_eval.proofs.KindSteps.{kind_is, option_is, not_refused}
 use Rattle.form_eval.proofs.MemberLists.{all_of_map}
 use Rattle.form_eval.proofs.Storable.{symbols_kind}
@@ -33,10 +33,10 @@ returns-clause-gives c =
     let q = unwrap_or (option_map (λ (n : Bor (List ℕ)). n.now) c.in-Some-given_name.owner) s.current_package in
     let given = rw c.in-Some.is at c.in_ok-symbols.ensures in
     let found = rw c.in-Some-2.is at c.in_ok-package.ensures.value in
-    kind_is r u (one_or_each a_symbol (object_of c.args.symbols.now)) ys (λ xs. of_kind (given_or a_name s.current_package rest) (λ k. in_package s k (λ o. unlocked o (changed s (one_by_one (λ k y. after_import k o y.0 y.1) (λ k y. import_changes k o y.1) s.packages false xs))))) given
-    (kind_is r u (given_or a_name s.current_package rest) q (λ k. in_package s k (λ o. unlocked o (changed s (one_by_one (λ k y. after_import k o y.0 y.1) (λ k y. import_changes k o y.1) s.packages false ys)))) (sym (c.in-Some-given_name.ensures s.current_package))
-    (option_is r u (package_named s.packages q) p (λ o. unlocked o (changed s (one_by_one (λ k y. after_import k o y.0 y.1) (λ k y. import_changes k o y.1) s.packages false ys))) (Err NO_SUCH_PACKAGE) (ap Some c.as_slice-package.ensures.value ∙ found)
-    (not_refused r u (is_locked p) (Err PACKAGE_IS_LOCKED) _ (sym c.is_locked.ensures ∙ c.if-is_locked.false)
+    kind_is (Answers done r u) (one_or_each a_symbol (object_of c.args.symbols.now)) ys (λ xs. of_kind (given_or a_name s.current_package rest) (λ k. in_package s k (λ o. unlocked o (changed s (one_by_one (λ k y. after_import k o y.0 y.1) (λ k y. import_changes k o y.1) s.packages false xs))))) given
+    (kind_is (Answers done r u) (given_or a_name s.current_package rest) q (λ k. in_package s k (λ o. unlocked o (changed s (one_by_one (λ k y. after_import k o y.0 y.1) (λ k y. import_changes k o y.1) s.packages false ys)))) (sym (c.in-Some-given_name.ensures s.current_package))
+    (option_is (Answers done r u) (package_named s.packages q) p (λ o. unlocked o (changed s (one_by_one (λ k y. after_import k o y.0 y.1) (λ k y. import_changes k o y.1) s.packages false ys))) (Err NO_SUCH_PACKAGE) (ap Some c.as_slice-package.ensures.value ∙ found)
+    (not_refused (Answers done r u) (is_locked p) (Err PACKAGE_IS_LOCKED) _ (sym c.is_locked.ensures ∙ c.if-is_locked.false)
     (c.changed.ensures.gives s (one_by_one (λ k y. after_import k p y.0 y.1) (λ k y. import_changes k p y.1) s.packages false ys)
     (subst (λ l. Makes c.import_all-made.result u.packages (one_by_one (λ k y. after_import k p y.0 y.1) (λ k y. import_changes k p y.1) s.packages false (map symbol_of l))) c.as_slice.ensures.value c.import_all-made.ensures.gives)
     (ap (λ (k : Worlds). k.0) c.import_all-made.ensures.rest)))))

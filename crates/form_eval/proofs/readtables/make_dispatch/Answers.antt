@@ -5,6 +5,7 @@ use Rattle.form_eval.specs.Kinds.{a_character, a_keyword, given_or, given_or_nil
 use Rattle.form_eval.specs.Outcomes.{of_kind}
 use Rattle.form_eval.specs.Properties.{t}
 use Rattle.form_eval.specs.Readtables.{with_readtables, after_first}
+use Rattle.form_eval.specs.Evaluated.{Answers, done}
 use Rattle.form_eval.proofs.KindSteps.{kind_is}
 use Rattle.form_eval.proofs.readtables.make_dispatch.Goals as goal
 
@@ -16,8 +17,8 @@ returns-clause-gives c =
     let rest = map object_of c.args.rest.now in
     let n = c.as_slice-name.result.now in
     let b = is_true (given_or_nil rest) in
-    kind_is r u (a_character (object_of c.args.character.now)) c.in-Some.c (λ at. of_kind (given_or a_keyword s.current_readtable (after_first rest)) (λ n'. with_readtables s t (with_dispatching s.readtables n' at b))) c.in-Some.ensures
-    (kind_is r u (given_or a_keyword s.current_readtable (after_first rest)) n (λ n'. with_readtables s t (with_dispatching s.readtables n' c.in-Some.c b))
+    kind_is (Answers done r u) (a_character (object_of c.args.character.now)) c.in-Some.c (λ at. of_kind (given_or a_keyword s.current_readtable (after_first rest)) (λ n'. with_readtables s t (with_dispatching s.readtables n' at b))) c.in-Some.ensures
+    (kind_is (Answers done r u) (given_or a_keyword s.current_readtable (after_first rest)) n (λ n'. with_readtables s t (with_dispatching s.readtables n' c.in-Some.c b))
     (subst (λ k. Some n ≡ given_or a_keyword k (after_first rest)) c.current_readtable.ensures (subst (λ l. Some n ≡ given_or a_keyword c.current_readtable.result.now l) c.after_first.ensures.value (ap Some (c.as_slice-name.ensures.value ∙ c.in_ok-copy.ensures) ∙ sym (c.in-Some-given_keyword.ensures c.current_readtable.result.now))))
     (c.with_truth.ensures.gives s (in_state s (with_dispatching s.readtables n c.in-Some.c b))
     (subst (λ k. Gives (λ _. u) c.make_dispatch-made.result (in_state s (with_dispatching s.readtables n c.in-Some.c k))) c.is_given.ensures c.make_dispatch-made.ensures.gives)))

@@ -9,6 +9,7 @@ use Rattle.form_eval.specs.Kinds.{a_character, a_keyword, given_or}
 use Rattle.form_eval.specs.Outcomes.{of_kind}
 use Rattle.form_eval.specs.Properties.{t}
 use Rattle.form_eval.specs.Readtables.{with_readtables, changeable, a_function, is_function}
+use Rattle.form_eval.specs.Evaluated.{Answers, done}
 use Rattle.form_eval.proofs.KindSteps.{kind_is, goes_on, changeable_is}
 use Rattle.form_eval.proofs.Storable.{character_kind, keyword_kind}
 use Rattle.form_eval.proofs.SoundReadtables.{function_named}
@@ -42,14 +43,14 @@ returns-clause-gives c =
     let sub = c.in-Some-character.d in
     let function = c.in-Some-keyword.function.now in
     let f = c.in-Some-function_named.ensures in
-    kind_is r u (a_character (object_of c.args.character.now)) at
+    kind_is (Answers done r u) (a_character (object_of c.args.character.now)) at
     (λ at'. of_kind (a_character (object_of c.args.sub.now)) (λ sub'. of_kind (a_keyword (object_of c.args.function.now)) (λ f'. of_kind (given_or a_keyword s.current_readtable rest) (λ n'. changeable s n' (a_function names f' (with_readtables s t (with_dispatch s.readtables n' at' sub' f'))))))) c.in-Some.ensures
-    (kind_is r u (a_character (object_of c.args.sub.now)) sub
+    (kind_is (Answers done r u) (a_character (object_of c.args.sub.now)) sub
     (λ sub'. of_kind (a_keyword (object_of c.args.function.now)) (λ f'. of_kind (given_or a_keyword s.current_readtable rest) (λ n'. changeable s n' (a_function names f' (with_readtables s t (with_dispatch s.readtables n' at sub' f')))))) c.in-Some-character.ensures
-    (kind_is r u (a_keyword (object_of c.args.function.now)) function (λ f'. of_kind (given_or a_keyword s.current_readtable rest) (λ n'. changeable s n' (a_function names f' (with_readtables s t (with_dispatch s.readtables n' at sub f'))))) c.in-Some-keyword.ensures
-    (kind_is r u (given_or a_keyword s.current_readtable rest) n (λ n'. changeable s n' (a_function names function (with_readtables s t (with_dispatch s.readtables n' at sub function))))
+    (kind_is (Answers done r u) (a_keyword (object_of c.args.function.now)) function (λ f'. of_kind (given_or a_keyword s.current_readtable rest) (λ n'. changeable s n' (a_function names f' (with_readtables s t (with_dispatch s.readtables n' at sub f'))))) c.in-Some-keyword.ensures
+    (kind_is (Answers done r u) (given_or a_keyword s.current_readtable rest) n (λ n'. changeable s n' (a_function names function (with_readtables s t (with_dispatch s.readtables n' at sub function))))
     (subst (λ k. Some n ≡ given_or a_keyword k rest) c.current_readtable.ensures (ap Some (c.as_slice-name.ensures.value ∙ c.in_ok-copy.ensures) ∙ sym (c.in-Some-given_keyword.ensures c.current_readtable.result.now)))
-    (changeable_is r u s n (a_function names function (with_readtables s t (with_dispatch s.readtables n at sub function))) c.in-Some-readtable.field-0.now c.in-Some-readtable.ensures (sym c.is_standard.ensures ∙ c.if-is_standard.false)
-    (goes_on r u (is_function names function) (with_readtables s t (with_dispatch s.readtables n at sub function)) (Err NO_MACRO) f.1
+    (changeable_is (Answers done r u) s n (a_function names function (with_readtables s t (with_dispatch s.readtables n at sub function))) c.in-Some-readtable.field-0.now c.in-Some-readtable.ensures (sym c.is_standard.ensures ∙ c.if-is_standard.false)
+    (goes_on (Answers done r u) (is_function names function) (with_readtables s t (with_dispatch s.readtables n at sub function)) (Err NO_MACRO) f.1
     (c.with_truth.ensures.gives s (in_state s (with_dispatch s.readtables n at sub function))
     (subst (λ k. Gives (λ _. u) c.set_dispatch-made.result (in_state s (with_dispatch s.readtables n at sub k))) f.0 c.set_dispatch-made.ensures.gives)))))))
