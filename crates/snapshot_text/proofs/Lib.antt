@@ -12,6 +12,7 @@ pub mod Lists
 pub mod Whole
 pub mod Ranges
 pub mod Worlds
+pub mod RowsWritten
 pub mod ThreeLines
 pub mod RowsByKey
 pub mod SameProperties
@@ -42,6 +43,7 @@ pub mod KeysSoFar
 pub mod PropertyParts
 pub mod NextLine
 pub mod LaterLines
+pub mod PropertyLines
 pub mod TableParts
 pub mod Filling
 pub mod MacroParts

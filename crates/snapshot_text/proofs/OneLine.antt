@@ -155,7 +155,7 @@ module _ (t : Table) (sound : packages.IsSound t) where
       (pair_good p.1 (list_of (flat_map (λ p. symbol_object p.0 ∷ p.1 ∷ []) ps)) (value_good p.1 (vs 0 p (omega arith))) later)
 
 module _ (s : State) (sound : state.IsSound s) where
-  row_good : (x : Symbol) → IsTrue (finite.contains_key s.properties x) → IsGood s.packages (plist_object x (plist s x))
+  pub row_good : (x : Symbol) → IsTrue (finite.contains_key s.properties x) → IsGood s.packages (plist_object x (plist s x))
   row_good x there =
       pair_good s.packages sound.packages (symbol_object x) (list_of (flat_map (λ p. symbol_object p.0 ∷ p.1 ∷ []) (plist s x))) (symbol_good s.packages sound.packages x (sound.symbols x there))
       (elim (finite.get s.properties x) as (λ ps. finite.get s.properties x ≡ ps → IsGood s.packages (list_of (flat_map (λ p. symbol_object p.0 ∷ p.1 ∷ []) (unwrap_or ps [])))) [

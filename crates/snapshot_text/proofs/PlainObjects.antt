@@ -91,7 +91,7 @@ nil_accessible t sound =
     found_is t (codes "NIL") sound.joined common_lisp_user common_lisp (inr (common_lisp, sound.first.user, nil_external t sound, nil_present t sound)) in
     ap (λ h. has_home h common_lisp) there
 
-no_prefix : (t : Table) → packages.IsSound t → printed_prefix t common_lisp_user common_lisp (codes "NIL") ≡ []
+pub no_prefix : (t : Table) → packages.IsSound t → printed_prefix t common_lisp_user common_lisp (codes "NIL") ≡ []
 no_prefix t sound = rw (nil_accessible t sound) refl
 
 pub plain_printed : (t u : Table) → packages.IsSound t → packages.IsSound u → (x : Object) → IsPlain x → printed t common_lisp_user x ≡ printed u common_lisp_user x

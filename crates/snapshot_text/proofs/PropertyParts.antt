@@ -1,6 +1,4 @@
 -- The rows of property lists, as they are put one after the other.
--- The rows of property lists, as they are put one after the other.
--- The rows of property lists, as they are put one after the other.
 use Rattle.std.proofs.Common.{◌≡◌, ◌≢◌, ℕ, suc, ◌+◌, ◌-◌, ◌≤◌, ◌<◌, Bool, true, false, cond, List, [], ◌∷◌, ◌++◌, length, map, take, drop, get_or, Option, Some, None, IsTrue, refl, sym, ap, subst, ◌∙◌, arith, append_assoc}
 use Rattle.std.specs.Prelude.{All, is_some, unwrap_or, ◌||◌}
 use Rattle.std.specs.List.{list_all, list_any, flat_map}
@@ -26,8 +24,8 @@ use Rattle.plist_state.proofs.Orders.{symbol_total, symbol_exact, one_symbol}
 use Rattle.plist_state.proofs.Lists.{kept, get-with_list, list-with_list, with_list_twice}
 use Rattle.snapshot_text.specs.Snapshot.{symbol_object, plist_object}
 use Rattle.snapshot_text.specs.Built.{with_properties, with_each, with_packages_of, with_properties_of}
+use Rattle.snapshot_text.specs.Rows.{symbol_at, IsUpTo}
 use Rattle.snapshot_text.proofs.KeysSoFar.{keys_apart, next_is_new, at_place}
-use Rattle.snapshot_text.proofs.ReadParts.{list_all-at}
 
 -- ---- the properties of one symbol
 abbrev pub flat : Plist → List Object
@@ -185,37 +183,18 @@ tied = eq_by_cmp symbol_cmp
 abbrev none : Symbol
 none = ([], [])
 
--- the symbol of the row at a place
-abbrev pub symbol_at : State → ℕ → Symbol
-symbol_at s n = get_or (symbols_with_properties s) n none
-
--- The world has the packages of s and, of its property lists, those in the rows so far.
-pub record IsUpTo (s : State) (rows : List Datum) (n : ℕ) (now : State) : Type 0 where
-  pub proper : list_all is_proper rows ≡ true
-  pub objects : map object_of rows ≡ map (λ x. plist_object x (plist s x)) (symbols_with_properties s)
-  pub rest : now ≡ with_properties (with_packages_of s) now.properties
-  pub lists : (q : Symbol) → finite.get now.properties q ≡ cond (list_any (tied q) (take n (symbols_with_properties s))) (finite.get s.properties q) None
-
-pub at_first : (s : State) (rows : List Datum) (now : State) → list_all is_proper rows ≡ true
-    → map object_of rows ≡ map (λ x. plist_object x (plist s x)) (symbols_with_properties s) → now ≡ with_packages_of s → IsUpTo s rows 0 now
-at_first s rows now proper e is = record {
-  proper = proper;
-  objects = e;
+pub at_first : (s now : State) → now ≡ with_packages_of s → IsUpTo s 0 now
+at_first s now is = record {
   rest = is ∙ ap (with_properties (with_packages_of s)) (sym (ap (λ (w : State). w.properties) is));
   lists = λ q. ap (λ (w : State). finite.get w.properties q) is ∙ get-empty symbol_cmp q;
 }
 
 -- the row at a place may be put
-pub record IsRow (s now : State) (row : Datum) (n : ℕ) : Type 0 where
-  pub proper : is_proper row ≡ true
-  pub object : object_of row ≡ plist_object (symbol_at s n) (plist s (symbol_at s n))
+pub record IsRow (s now : State) (n : ℕ) : Type 0 where
+  pub key : IsTrue (finite.contains_key s.properties (symbol_at s n))
   pub there : IsSymbol now.packages (symbol_at s n)
   pub may_be : IsPlist now.packages (plist s (symbol_at s n))
   pub absent : plist now (symbol_at s n) ≡ []
-
-few_rows : (s : State) (rows : List Datum) (n : ℕ) (now : State) → IsUpTo s rows n now → length rows ≡ length (symbols_with_properties s)
-few_rows s rows n now so_far =
-    sym (length-map rows object_of) ∙ ap length so_far.objects ∙ length-map (symbols_with_properties s) (λ x. plist_object x (plist s x))
 
 has_list : (s : State) (x : Symbol) → IsTrue (finite.contains_key s.properties x) → finite.get s.properties x ≡ Some (plist s x)
 has_list s x there =
@@ -224,23 +203,23 @@ has_list s x there =
       | Some ps ↦ λ e. refl
     ] there
 
-pub row_at : (s : State) → IsSound s → (rows : List Datum) (n : ℕ) (now : State) (row : Datum) → IsUpTo s rows n now → n < length rows → row ≡ get_or rows n row → IsRow s now row n
-row_at s sound rows n now row so_far few is =
+-- the symbol of the row at a place has properties
+pub key_at : (s : State) (n : ℕ) → n < length (symbols_with_properties s) → IsTrue (finite.contains_key s.properties (symbol_at s n))
+key_at s n few =
+    contains_key-keys s.properties (symbol_at s n) ∙ at_place symbol_cmp symbol_total (symbols_with_properties s) n none few
+
+pub row_at : (s : State) → IsSound s → (n : ℕ) (now : State) → IsUpTo s n now → n < length (symbols_with_properties s) → IsRow s now n
+row_at s sound n now so_far few =
     let xs = symbols_with_properties s in
     let x = symbol_at s n in
-    let many : length rows ≡ length xs = few_rows s rows n now so_far in
-    let among : n < length xs = omega arith in
-    let there : IsTrue (finite.contains_key s.properties x) = contains_key-keys s.properties x ∙ at_place symbol_cmp symbol_total xs n none among in
+    let there : IsTrue (finite.contains_key s.properties x) = key_at s n few in
     let same : s.packages ≡ now.packages = sym (ap (λ (w : State). w.packages) so_far.rest) in
     record {
-      proper = ap is_proper is ∙ list_all-at is_proper rows n row so_far.proper few;
-      object = ap object_of is ∙ sym (get_or-map object_of rows n row (object_of row) few)
-          ∙ ap (λ ys. get_or ys n (object_of row)) so_far.objects
-          ∙ get_or-map (λ y. plist_object y (plist s y)) xs n none (object_of row) among;
+      key = there;
       there = subst (λ t. IsSymbol t x) same (sound.symbols x there);
       may_be = subst (λ t. IsPlist t (plist s x)) same (sound.properties x (plist s x) (has_list s x there));
       absent = ap (λ o. unwrap_or o []) (so_far.lists x
-          ∙ ap (λ b. cond b (finite.get s.properties x) None) (next_is_new symbol_cmp symbol_total xs n none (keys_apart symbol_cmp s.properties) among));
+          ∙ ap (λ b. cond b (finite.get s.properties x) None) (next_is_new symbol_cmp symbol_total xs n none (keys_apart symbol_cmp s.properties) few));
     }
 
 -- one key more
@@ -250,36 +229,31 @@ one_more true false o p same = refl
 one_more false true o p same = sym (same refl)
 one_more false false o p same = refl
 
-pub next_up_to : (s : State) → IsSound s → (rows : List Datum) (n : ℕ) (now then : State) → IsUpTo s rows n now → n < length rows
-    → then ≡ with_properties now (with_list now.properties (symbol_at s n) (plist s (symbol_at s n))) → IsUpTo s rows (n + 1) then
-next_up_to s sound rows n now then so_far few is =
+pub next_up_to : (s : State) → IsSound s → (n : ℕ) (now then : State) → IsUpTo s n now → n < length (symbols_with_properties s)
+    → then ≡ with_properties now (with_list now.properties (symbol_at s n) (plist s (symbol_at s n))) → IsUpTo s (n + 1) then
+next_up_to s sound n now then so_far few is =
     let xs = symbols_with_properties s in
     let x = symbol_at s n in
-    let many : length rows ≡ length xs = few_rows s rows n now so_far in
-    let among : n < length xs = omega arith in
-    let there : IsTrue (finite.contains_key s.properties x) = contains_key-keys s.properties x ∙ at_place symbol_cmp symbol_total xs n none among in
+    let there : IsTrue (finite.contains_key s.properties x) = key_at s n few in
     let listed : finite.get s.properties x ≡ kept (plist s x) = has_list s x there ∙ some_kept (plist s x) (sound.properties x (plist s x) (has_list s x there)).some in
     record {
-      proper = so_far.proper;
-      objects = so_far.objects;
       rest = is ∙ ap (λ (w : State). with_properties w (with_list now.properties x (plist s x))) so_far.rest
           ∙ ap (with_properties (with_packages_of s)) (sym (ap (λ (w : State). w.properties) is));
       lists = λ q. ap (λ (w : State). finite.get w.properties q) is ∙ get-with_list now.properties x (plist s x) q
           ∙ ap (cond (tied q x) (kept (plist s x))) (so_far.lists q)
           ∙ one_more (list_any (tied q) (take n xs)) (tied q x) (finite.get s.properties q) (kept (plist s x)) (λ t. ap (finite.get s.properties) (one_symbol q x t) ∙ listed)
-          ∙ ap (λ b. cond b (finite.get s.properties q) None) (sym (list_any_more (tied q) xs n none among));
+          ∙ ap (λ b. cond b (finite.get s.properties q) None) (sym (list_any_more (tied q) xs n none few));
     }
   where
     some_kept : (ps : Plist) → ps ≢ [] → Some ps ≡ kept ps
     some_kept [] some = absurd (some refl)
     some_kept (p ∷ ps) some = refl
 
-pub at_last : (s : State) (rows : List Datum) (n : ℕ) (now : State) → IsUpTo s rows n now → n ≡ length rows → now ≡ with_properties_of s
-at_last s rows n now so_far all =
+pub at_last : (s : State) (n : ℕ) (now : State) → IsUpTo s n now → n ≡ length (symbols_with_properties s) → now ≡ with_properties_of s
+at_last s n now so_far all =
     let xs = symbols_with_properties s in
-    let many : length rows ≡ length xs = few_rows s rows n now so_far in
     let same : now.properties ≡ s.properties = same_map symbol_total symbol_exact now.properties s.properties (λ q.
-    so_far.lists q ∙ ap (λ ys. cond (list_any (tied q) ys) (finite.get s.properties q) None) (ap (λ k. take k xs) (all ∙ many) ∙ take-length xs)
+    so_far.lists q ∙ ap (λ ys. cond (list_any (tied q) ys) (finite.get s.properties q) None) (ap (λ k. take k xs) all ∙ take-length xs)
     ∙ ap (λ b. cond b (finite.get s.properties q) None) (sym (contains_key-keys s.properties q)) ∙ itself (finite.get s.properties q)) in
     so_far.rest ∙ ap (with_properties (with_packages_of s)) same
   where

@@ -131,7 +131,7 @@ module _ (s : State) (sound : state.IsSound s) where
         | Some ps ↦ λ got. flat_values s.packages ps (sound.properties x ps got).values
       ] refl
 
-  plist_depth : (x : Symbol) → object_depth (plist_object x (plist s x)) ≤ 101
+  pub plist_depth : (x : Symbol) → object_depth (plist_object x (plist s x)) ≤ 101
   plist_depth x = list_depth 100 (symbol_object x ∷ flat_map (λ p. symbol_object p.0 ∷ p.1 ∷ []) (plist s x)) (omega arith, plist_values x)
 
   pub properties_depth : object_depth (properties_object s) ≤ 104

@@ -5,5 +5,6 @@ pub mod Own
 pub mod Part
 pub mod Phases
 pub mod Refused
+pub mod Rows
 pub mod Snapshot
 pub mod Tokens

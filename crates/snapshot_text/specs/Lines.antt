@@ -22,13 +22,12 @@ abbrev pub IsLineRead : Setting → Table → Object → List ℕ → Type 0
 IsLineRead setting packages x rest =
     (next : ℕ) × (reads setting (line packages x ++ rest) ≡ form x 0 (length (printed packages common_lisp_user x)) next)
 
--- What was read is the object of the line, with its end; or memory ran out.
-abbrev pub IsFirst : Table → Object → Result (Datum × ℕ) BuildError → Type 0
-IsFirst packages x (Ok read) =
-    (object_of read.0 ≡ x) × (is_proper read.0 ≡ true) × (read.1 ≡ length (printed packages common_lisp_user x))
-IsFirst packages x (Err e) = e ≡ OutOfMemory
+-- What was read is this object, which ends at this place; or memory ran out.
+abbrev pub IsFirst : Object → ℕ → Result (Datum × ℕ) BuildError → Type 0
+IsFirst x end (Ok read) = (object_of read.0 ≡ x) × (is_proper read.0 ≡ true) × (read.1 ≡ end)
+IsFirst x end (Err e) = e ≡ OutOfMemory
 
--- The same of a line within a text, and of what follows its newline.
+-- The same of an object within a text, and of what follows it.
 abbrev pub IsNext : Object → List ℕ → List ℕ → Result (Datum × ℕ) BuildError → Type 0
 IsNext x bytes rest (Ok read) = (object_of read.0 ≡ x) × (is_proper read.0 ≡ true) × (drop read.1 bytes ≡ rest)
 IsNext x bytes rest (Err e) = e ≡ OutOfMemory

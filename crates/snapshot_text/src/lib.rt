@@ -18,10 +18,13 @@
 mod error;
 mod known;
 mod laws;
+mod lines;
 mod own_parts;
 mod package_parts;
 mod package_rows;
 mod parts;
+mod printing;
+mod property_lines;
 mod property_parts;
 mod property_rows;
 mod reader;

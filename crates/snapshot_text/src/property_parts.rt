@@ -1,15 +1,14 @@
-//! The property lists of a world, made from the second object of a snapshot.
+//! The property lists of a world, made from the rows of the second object of a snapshot.
 ghost use Rattle.std.specs.Prelude.{◌≡◌, ◌∷◌, [], true, map, MatchResult};
 ghost use Rattle.std.specs.List.{list_all, flat_map};
 ghost use Rattle.lisp_object.specs.Datum.{object_of, is_proper};
 ghost use Rattle.plist_state.specs.Properties as properties;
 ghost use Rattle.plist_state.specs.Properties.{Plist, with_list};
-ghost use Rattle.plist_state.specs.State.{State};
 ghost use Rattle.plist_state.specs.Changes.{plist, with_property};
 ghost use Rattle.plist_state.specs.Shown.{symbol_of};
-ghost use Rattle.plist_state.specs.Sound.{IsSymbol, IsValue, IsPlist, IsSound as IsSoundState};
-ghost use Rattle.snapshot_text.specs.Snapshot.{symbol_object, plist_object, properties_object};
-ghost use Rattle.snapshot_text.specs.Built.{with_properties, with_each, with_packages_of, with_properties_of};
+ghost use Rattle.plist_state.specs.Sound.{IsSymbol, IsValue, IsPlist};
+ghost use Rattle.snapshot_text.specs.Snapshot.{symbol_object, plist_object};
+ghost use Rattle.snapshot_text.specs.Built.{with_properties, with_each};
 
 use crate::error::BuildError;
 use crate::known::{is_there, is_value};
@@ -79,8 +78,8 @@ fn put_each(
     Ok(())
 }
 
-// Sets the properties of a symbol that has none.
-fn put_row(alloc: Global, world: &mut World, row: &Datum) -> Result<(), BuildError>
+/// Sets the properties of a symbol that has none: its row is the symbol, and its indicators and values in turn.
+pub(crate) fn put_row(alloc: Global, world: &mut World, row: &Datum) -> Result<(), BuildError>
     ensures { is_proper row.now ≡ true → (x : properties.Symbol) (ps : Plist) → object_of row.now ≡ plist_object x ps
         → IsSymbol world.old.0.packages x → IsPlist world.old.0.packages ps → plist world.old.0 x ≡ []
         → MatchResult result (λ _. world.new.0 ≡ with_properties world.old.0 (with_list world.old.0.properties x ps)) (λ e. e ≡ BuildError.OutOfMemory) }
@@ -90,20 +89,4 @@ fn put_row(alloc: Global, world: &mut World, row: &Datum) -> Result<(), BuildErr
     };
     let symbol = symbol_in(alloc, symbol)?;
     put_each(alloc, world, &symbol, properties)
-}
-
-/// Sets the properties of the second object of a snapshot, in a world that has its packages.
-pub(crate) fn put_properties(
-    alloc: Global,
-    world: &mut World,
-    properties: &Datum,
-) -> Result<(), BuildError>
-    ensures { (s : State) → IsSoundState s → is_proper properties.now ≡ true → object_of properties.now ≡ properties_object s
-        → world.old.0 ≡ with_packages_of s
-        → MatchResult result (λ _. world.new.0 ≡ with_properties_of s) (λ e. e ≡ BuildError.OutOfMemory) }
-{
-    for row in items_in(properties)? {
-        put_row(alloc, world, row)?;
-    }
-    Ok(())
 }

@@ -1,13 +1,15 @@
-//! The property lists of a snapshot, as data.
-ghost use Rattle.std.specs.Prelude.{◌≡◌, ◌∷◌, [], ◌&&◌, true, map, All, IfOk};
+//! The property lists of a snapshot: each as data, and all as text.
+ghost use Rattle.std.specs.Prelude.{◌≡◌, ◌∷◌, [], ◌++◌, ◌&&◌, true, map, codes, All, IfOk, OnOk};
 ghost use Rattle.std.specs.List.{list_all, flat_map};
-ghost use Rattle.lisp_object.specs.Object.{list_of};
 ghost use Rattle.lisp_object.specs.Datum.{object_of, is_proper};
 ghost use Rattle.lisp_object.specs.Ascii.{is_ascii};
+ghost use Rattle.package_table.specs.Table.{common_lisp_user};
+ghost use Rattle.canon_printer.specs.Printed.{printed};
 ghost use Rattle.plist_state.specs.Changes.{plist};
 ghost use Rattle.plist_state.specs.Shown.{symbol_of, property_of};
 ghost use Rattle.snapshot_text.specs.Snapshot.{symbol_object, plist_object, properties_object};
 
+use crate::printing::push_printed;
 use lisp_object::{Bytes, Datum};
 use plist_state::{Property, Symbol, World};
 use std::alloc::{AllocError, Global};
@@ -49,30 +51,56 @@ fn row_of(alloc: Global, world: &World, home: &[u8], name: &[u8]) -> Result<Datu
     plist_of(alloc, &symbol, world.plist(&symbol))
 }
 
-// The property lists of these symbols, each given by its home and its name.
-fn rows_of(
+// Adds the printed row of the symbol of this home and name.
+fn push_row(
     alloc: Global,
+    text: &mut Vec<u8>,
     world: &World,
-    symbols: &[(Bytes, Bytes)],
-) -> Result<Vec<Datum>, AllocError>
-    ensures objects { IfOk result (λ rows. map object_of rows.items ≡ map (λ x. plist_object x (plist world.now.0 x)) symbols.now) }
-    ensures proper { list_all (λ x. list_all is_ascii x.0 && list_all is_ascii x.1) symbols.now ≡ true
-        → IfOk result (λ rows. list_all is_proper rows.items ≡ true) }
+    home: &[u8],
+    name: &[u8],
+) -> Result<(), AllocError>
+    requires { list_all is_ascii home.now && list_all is_ascii name.now ≡ true }
+    ensures { OnOk result (text.new.items
+        ≡ text.old.items ++ printed world.now.0.packages common_lisp_user (plist_object (home.now, name.now) (plist world.now.0 (home.now, name.now)))) }
 {
-    let mut rows = Vec::new(alloc);
-    for (home, name) in symbols {
-        rows.push(row_of(alloc, world, home.as_slice(), name.as_slice())?)?;
-    }
-    Ok(rows)
+    let row = row_of(alloc, world, home, name)?;
+    push_printed(alloc, text, row, world.packages())
 }
 
-// The property lists of all symbols that have one.
-pub(crate) fn properties_of(alloc: Global, world: &World) -> Result<Datum, AllocError>
-    ensures object { IfOk result (λ d. object_of d ≡ properties_object world.now.0) }
-    ensures proper { IfOk result (λ d. is_proper d ≡ true) }
+// Adds the printed rows of these symbols, each after a space.
+fn push_others(
+    alloc: Global,
+    text: &mut Vec<u8>,
+    world: &World,
+    symbols: &[(Bytes, Bytes)],
+) -> Result<(), AllocError>
+    requires { list_all (λ x. list_all is_ascii x.0 && list_all is_ascii x.1) symbols.now ≡ true }
+    ensures { OnOk result (text.new.items ≡ text.old.items
+        ++ flat_map (λ x. codes " " ++ printed world.now.0.packages common_lisp_user (plist_object x (plist world.now.0 x))) symbols.now) }
+{
+    for (home, name) in symbols {
+        text.push(b' ')?;
+        push_row(alloc, text, world, home.as_slice(), name.as_slice())?;
+    }
+    Ok(())
+}
+
+/// Adds the printed list of the rows of all symbols that have properties. One row is in memory at a time.
+pub(crate) fn push_properties(
+    alloc: Global,
+    text: &mut Vec<u8>,
+    world: &World,
+) -> Result<(), AllocError>
+    ensures { OnOk result (text.new.items ≡ text.old.items ++ printed world.now.0.packages common_lisp_user (properties_object world.now.0)) }
 {
     world.soundness();
     let symbols = world.with_properties(alloc)?;
-    let rows = rows_of(alloc, world, symbols.as_slice())?;
-    Datum::list(alloc, rows, None)
+    let [first, others @ ..] = symbols.as_slice() else {
+        return push_printed(alloc, text, Datum::nil(alloc)?, world.packages());
+    };
+    text.push(b'(')?;
+    push_row(alloc, text, world, first.0.as_slice(), first.1.as_slice())?;
+    push_others(alloc, text, world, others)?;
+    text.push(b')')?;
+    Ok(())
 }

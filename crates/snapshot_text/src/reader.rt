@@ -1,25 +1,19 @@
 //! The world of a text.
 ghost use Rattle.std.specs.Prelude.{◌≡◌, ◌≤◌, ℕ, List, [], ◌++◌, true, length, drop, IfOk, IfErr, MatchResult};
-ghost use Rattle.lisp_object.specs.Object.{Object};
 ghost use Rattle.readtable_core.specs.Tables.{standard};
-ghost use Rattle.package_table.specs.Table.{Table, common_lisp_user};
-ghost use Rattle.form_reader.specs.Setting.{setting_of};
-ghost use Rattle.snapshot_text.specs.Lines.{snapshot_limits, IsLineRead, IsFirst, IsNext};
 ghost use Rattle.plist_state.specs.State.{State, initial};
 ghost use Rattle.snapshot_text.specs.Built.{with_packages_of, with_properties_of};
 ghost use Rattle.plist_state.specs.Sound.{IsSound as IsSoundState};
 ghost use Rattle.snapshot_text.specs.Covered.{are_covered, IsRefused};
-ghost use Rattle.snapshot_text.specs.Snapshot.{packages_object, properties_object, tables_object, line, snapshot};
+ghost use Rattle.snapshot_text.specs.Snapshot.{packages_object, tables_object, line, snapshot};
 
 use crate::error::BuildError;
+use crate::lines::next_object;
 use crate::package_parts::make_packages;
-use crate::property_parts::put_properties;
+use crate::property_lines::read_properties;
 use crate::table_parts::put_tables;
 use crate::table_rows::table_named;
 use crate::{SnapshotError, write};
-use form_reader::{Limits, ReadOutcome, read_one};
-use lisp_object::Datum;
-use package_table::standardized::COMMON_LISP_USER;
 use plist_state::World;
 use readtable_core::Readtable;
 use std::alloc::{AllocError, Global};
@@ -28,91 +22,24 @@ use user_macros::MacroFunctions;
 // The most bytes in the text of a snapshot.
 const MOST_BYTES: usize = 4_294_967_295;
 
-// The object with which a text begins, and its end. Where the text begins with the line of an object, it is this object.
-fn first_object<R: MacroFunctions>(
-    alloc: Global,
-    world: &World,
-    macros: &R,
-    bytes: &[u8],
-) -> Result<(Datum, usize), BuildError>
-    requires { R.answers macros.now }
-    ensures { (packages : Table) (x : Object) (rest : List ℕ) → bytes.now ≡ line packages x ++ rest
-        → IsLineRead (setting_of snapshot_limits standard world.now.0.packages common_lisp_user (R.registered macros.now) R.Meaning.way R.Meaning.answer) packages x rest
-        → IsFirst packages x result }
-{
-    let standard = Readtable::standard(alloc)?;
-    let packages = world.packages();
-    packages.soundness();
-    let limits = Limits::snapshot();
-    match read_one(
-        alloc,
-        limits,
-        &standard,
-        packages,
-        COMMON_LISP_USER,
-        macros,
-        bytes,
-    )? {
-        ReadOutcome::Form { datum, end, .. } => Ok((datum, end)),
-        ReadOutcome::Empty => Err(BuildError::Damaged),
-        ReadOutcome::Refused { .. } => Err(BuildError::Damaged),
-    }
-}
-
-// The object of the line that begins at `at`, and where the next line begins.
-fn next_object<R: MacroFunctions>(
-    alloc: Global,
-    world: &World,
-    macros: &R,
-    bytes: &[u8],
-    at: usize,
-) -> Result<(Datum, usize), BuildError>
-    requires { R.answers macros.now }
-    ensures { (packages : Table) (x : Object) (rest : List ℕ) → length bytes.now ≤ 4294967295 → drop at bytes.now ≡ line packages x ++ rest
-        → IsLineRead (setting_of snapshot_limits standard world.now.0.packages common_lisp_user (R.registered macros.now) R.Meaning.way R.Meaning.answer) packages x rest
-        → IsNext x bytes.now rest result }
-{
-    let Some(rest) = bytes.get(at..) else {
-        return Err(BuildError::Damaged);
-    };
-    let (datum, end) = first_object(alloc, world, macros, rest)?;
-    Ok((datum, at.saturating_add(end).saturating_add(1)))
-}
-
 // Makes the packages of the line that begins at `at`, in a new world. Gives where the next line begins.
 fn read_packages<R: MacroFunctions>(
     alloc: Global,
     world: &mut World,
+    table: &Readtable,
     macros: &R,
     bytes: &[u8],
     at: usize,
 ) -> Result<usize, BuildError>
-    requires { R.answers macros.now }
+    requires answers { R.answers macros.now }
+    requires table { table.now ≡ standard }
     ensures { (s : State) (rest : List ℕ) → IsSoundState s → length bytes.now ≤ 4294967295
         → drop at bytes.now ≡ line s.packages (packages_object s.packages) ++ rest → world.old.0 ≡ initial
         → MatchResult result (λ next. (world.new.0 ≡ with_packages_of s) × (drop next bytes.now ≡ rest)) (λ e. e ≡ BuildError.OutOfMemory) }
 {
     world.soundness();
-    let (packages, next) = next_object(alloc, world, macros, bytes, at)?;
+    let (packages, next) = next_object(alloc, world, table, macros, bytes, at)?;
     make_packages(alloc, world, &packages)?;
-    Ok(next)
-}
-
-// Sets the properties of the line that begins at `at`, in a world that has the packages. Gives where the next line begins.
-fn read_properties<R: MacroFunctions>(
-    alloc: Global,
-    world: &mut World,
-    macros: &R,
-    bytes: &[u8],
-    at: usize,
-) -> Result<usize, BuildError>
-    requires { R.answers macros.now }
-    ensures { (s : State) (rest : List ℕ) → IsSoundState s → length bytes.now ≤ 4294967295
-        → drop at bytes.now ≡ line s.packages (properties_object s) ++ rest → world.old.0 ≡ with_packages_of s
-        → MatchResult result (λ next. (world.new.0 ≡ with_properties_of s) × (drop next bytes.now ≡ rest)) (λ e. e ≡ BuildError.OutOfMemory) }
-{
-    let (properties, next) = next_object(alloc, world, macros, bytes, at)?;
-    put_properties(alloc, world, &properties)?;
     Ok(next)
 }
 
@@ -120,16 +47,18 @@ fn read_properties<R: MacroFunctions>(
 fn read_tables<R: MacroFunctions>(
     alloc: Global,
     world: &mut World,
+    table: &Readtable,
     macros: &R,
     bytes: &[u8],
     at: usize,
 ) -> Result<(), BuildError>
-    requires { R.answers macros.now }
+    requires answers { R.answers macros.now }
+    requires table { table.now ≡ standard }
     ensures { (s : State) (rest : List ℕ) → IsSoundState s → length bytes.now ≤ 4294967295
         → drop at bytes.now ≡ line s.packages (tables_object s) ++ rest → world.old.0 ≡ with_properties_of s
         → MatchResult result (λ _. world.new.0 ≡ s) (λ e. e ≡ BuildError.OutOfMemory) }
 {
-    let (tables, _) = next_object(alloc, world, macros, bytes, at)?;
+    let (tables, _) = next_object(alloc, world, table, macros, bytes, at)?;
     put_tables(world, &tables)?;
     Ok(())
 }
@@ -140,10 +69,11 @@ fn built<R: MacroFunctions>(alloc: Global, bytes: &[u8], macros: &R) -> Result<W
     ensures { (s : State) → IsSoundState s → length bytes.now ≤ 4294967295 → snapshot s ≡ bytes.now
         → MatchResult result (λ world. world.0 ≡ s) (λ e. e ≡ BuildError.OutOfMemory) }
 {
+    let standard = Readtable::standard(alloc)?;
     let mut world = World::new(alloc)?;
-    let at = read_packages(alloc, &mut world, macros, bytes, 0)?;
-    let at = read_properties(alloc, &mut world, macros, bytes, at)?;
-    read_tables(alloc, &mut world, macros, bytes, at)?;
+    let at = read_packages(alloc, &mut world, &standard, macros, bytes, 0)?;
+    let at = read_properties(alloc, &mut world, &standard, macros, bytes, at)?;
+    read_tables(alloc, &mut world, &standard, macros, bytes, at)?;
     Ok(world)
 }
 

@@ -8,7 +8,7 @@ use package_table::PackageError;
 use package_table::standardized::{COMMON_LISP_USER, KEYWORD};
 use plist_state::{STANDARD, Symbol, USER, World};
 use readtable_core::{Case, FnName};
-use std::alloc::Global;
+use std::alloc::{AllocError, Global};
 use std::test::Fail;
 use user_macros::Macros;
 use user_macros::example::Notes;
@@ -177,40 +177,170 @@ fn worlds_are_read_back(rt: HostRuntime) -> Result<(), Fail> {
     Ok(())
 }
 
+// The text of three lines.
+fn text_of_lines(alloc: Global, lines: [&[u8]; 3]) -> Result<Vec<u8>, AllocError> {
+    let mut text = Vec::new(alloc);
+    for line in lines {
+        text.extend_from_slice(line)?;
+        text.push(b'\n')?;
+    }
+    Ok(text)
+}
+
+// The lines of the first world, and what they may not be.
+const FIRST: &[u8] =
+    b"((\"COMMON-LISP-USER\" (\"COMMON-LISP\") NIL NIL NIL) (\"KEYWORD\" NIL NIL NIL NIL))";
+
+const KEYWORDS: &[u8] =
+    b"((\"COMMON-LISP-USER\" (\"COMMON-LISP\") NIL NIL NIL) (\"KEYWORD\" NIL (\"SQUARE\" \"STD-FOO\") NIL NIL))";
+
+const NO_NAME: &[u8] =
+    b"((\"\" NIL NIL NIL NIL) (\"COMMON-LISP-USER\" (\"COMMON-LISP\") NIL NIL NIL) (\"KEYWORD\" NIL NIL NIL NIL))";
+
+const NICKNAME: &[u8] =
+    b"((\"CL\" NIL NIL NIL NIL) (\"COMMON-LISP-USER\" (\"COMMON-LISP\") NIL NIL NIL) (\"KEYWORD\" NIL NIL NIL NIL))";
+
+const USES_NOTHING: &[u8] =
+    b"((\"COMMON-LISP-USER\" NIL NIL NIL NIL) (\"KEYWORD\" NIL NIL NIL NIL))";
+
+const USES_ITSELF: &[u8] =
+    b"((\"COMMON-LISP-USER\" (\"COMMON-LISP\" \"COMMON-LISP-USER\") NIL NIL NIL) (\"KEYWORD\" NIL NIL NIL NIL))";
+
+const NOT_PRESENT: &[u8] =
+    b"((\"COMMON-LISP-USER\" (\"COMMON-LISP\") NIL (\"A\") NIL) (\"KEYWORD\" NIL NIL NIL NIL))";
+
+const TABLES: &[u8] = b"(\"COMMON-LISP-USER\" \"USER\" ((\"USER\" \"UPCASE\" NIL)))";
+
 #[test]
 fn other_texts_are_refused(rt: HostRuntime) -> Result<(), Fail> {
-    let rows: [(&[u8], u16); 4] = [
-        (b"", 62),
-        (b"NIL", 62),
+    let rows: [([&[u8]; 3], u16); 18] = [
+        ([b"", b"", b""], 62),
+        ([b"NIL", b"NIL", b"NIL"], 62),
         (
-            b"((\"COMMON-LISP-USER\" (\"COMMON-LISP\") NIL NIL NIL) (\"KEYWORD\" NIL NIL NIL NIL))\nNIL\n(\"COMMON-LISP-USER\" \"USER\" ((\"USER\" \"UPCASE\"  NIL)))\n",
+            [
+                FIRST,
+                b"NIL",
+                b"(\"COMMON-LISP-USER\" \"USER\" ((\"USER\" \"UPCASE\"  NIL)))",
+            ],
             62,
         ),
         (
-            b"((\"COMMON-LISP-USER\" (\"COMMON-LISP\") NIL NIL NIL) (\"KEYWORD\" NIL (\"SQUARE\") NIL NIL))\nNIL\n(\"COMMON-LISP-USER\" \"USER\" ((\"USER\" \"UPCASE\" ((91 2 \"SQUARE\" NIL)))))\n",
+            [
+                FIRST,
+                b"NIL",
+                b"(\"COMMON-LISP-USER\" \"USER\" ((\"USER\" \"UPCASE\" NIL)))\n",
+            ],
+            62,
+        ),
+        (
+            [
+                FIRST,
+                b"NIL",
+                b"(\"P\" \"USER\" ((\"USER\" \"UPCASE\" NIL)))",
+            ],
+            62,
+        ),
+        (
+            [FIRST, b"NIL", b"(\"COMMON-LISP-USER\" \"STANDARD\" NIL)"],
+            62,
+        ),
+        (
+            [
+                FIRST,
+                b"NIL",
+                b"(\"COMMON-LISP-USER\" \"USER\" ((\"USER\" \"UPCASE\" ((40 2 \"STD-LIST\" NIL)))))",
+            ],
+            62,
+        ),
+        (
+            [
+                FIRST,
+                b"NIL",
+                b"(\"COMMON-LISP-USER\" \"USER\" ((\"USER\" \"UPCASE\" ((91 2 \"SQUARE\" NIL)))))",
+            ],
+            62,
+        ),
+        (
+            [
+                FIRST,
+                b"NIL",
+                b"(\"COMMON-LISP-USER\" \"USER\" ((\"USER\" \"UPCASE\" ((33 3 \"STD-DISPATCH\" ((53 \"STD-LIST\")))))))",
+            ],
+            62,
+        ),
+        (
+            [
+                KEYWORDS,
+                b"NIL",
+                b"(\"COMMON-LISP-USER\" \"USER\" ((\"USER\" \"UPCASE\" ((91 2 \"SQUARE\" NIL)))))",
+            ],
             63,
         ),
+        (
+            [
+                KEYWORDS,
+                b"NIL",
+                b"(\"COMMON-LISP-USER\" \"USER\" ((\"USER\" \"UPCASE\" ((33 3 \"STD-DISPATCH\" ((91 \"STD-FOO\")))))))",
+            ],
+            63,
+        ),
+        (
+            [
+                KEYWORDS,
+                b"NIL",
+                b"(\"COMMON-LISP-USER\" \"USER\" ((\"USER\" \"UPCASE\" ((91 2 \"SQUARE\" NIL)))))\n",
+            ],
+            62,
+        ),
+        ([FIRST, b"((T T))", TABLES], 62),
+        ([NO_NAME, b"NIL", TABLES], 62),
+        ([NICKNAME, b"NIL", TABLES], 62),
+        ([USES_NOTHING, b"NIL", TABLES], 62),
+        ([USES_ITSELF, b"NIL", TABLES], 62),
+        ([NOT_PRESENT, b"NIL", TABLES], 62),
     ];
-    for (text, number) in rows {
-        assert!(rt; matches!(read_back(rt.alloc(), text)?, Err(n) if n == number));
+    for (lines, number) in rows {
+        let text = text_of_lines(rt.alloc(), lines)?;
+        assert!(rt; matches!(read_back(rt.alloc(), text.as_slice())?, Err(n) if n == number));
     }
     assert_eq!(rt; SnapshotError::OutOfMemory.number(), 90);
     Ok(())
 }
 
-// With each byte altered the text is refused, or is that of another world.
+// The number of texts that are read among those where one byte is altered in this way. Each is refused, or is the text of a
+// world.
+fn read_altered(alloc: Global, text: &[u8], bits: u8) -> Result<Option<usize>, Fail> {
+    let mut count = 0usize;
+    for place in 0..text.len() {
+        let mut altered = Vec::from_slice(alloc, text)?;
+        altered[place] ^= bits;
+        match read_back(alloc, altered.as_slice())? {
+            Ok(again) if again.as_slice() == altered.as_slice() => {
+                count = count.saturating_add(1);
+            }
+            Err(62) | Err(63) => {}
+            _ => return Ok(None),
+        }
+    }
+    Ok(Some(count))
+}
+
+// With each byte altered the text is refused, or is that of another world. Cut anywhere, it is refused.
 #[test]
 fn altered_texts(rt: HostRuntime) -> Result<(), Fail> {
     let alloc = rt.alloc();
-    let text = write(alloc, &World::new(alloc)?)?;
-    for place in 0..text.len() {
-        let mut altered = Vec::from_slice(alloc, text.as_slice())?;
-        altered[place] ^= 1;
-        let good = match read_back(alloc, altered.as_slice())? {
-            Ok(again) => again.as_slice() == altered.as_slice(),
-            Err(number) => number == 62 || number == 63,
-        };
-        assert!(rt; good);
+    let mut world = full_world(alloc)?;
+    world.set_current_package(b"P")?;
+    world.set_current_readtable(STANDARD)?;
+    let text = write(alloc, &world)?;
+    let text = text.as_slice();
+    assert!(rt; is_read(alloc, text)?);
+    for bits in [1, 2, 16, 128] {
+        let count = read_altered(alloc, text, bits)?;
+        assert!(rt; matches!(count, Some(n) if n > 0 || bits > 1));
+    }
+    for length in 0..text.len() {
+        assert!(rt; matches!(read_back(alloc, &text[..length])?, Err(62)));
     }
     Ok(())
 }

@@ -1,19 +1,26 @@
 //! The text of a world.
-ghost use Rattle.std.specs.Prelude.{◌≡◌, ◌++◌, true, IfOk, OnOk};
+ghost use Rattle.std.specs.Prelude.{◌≡◌, [], ◌∷◌, ◌++◌, true, IfOk, OnOk};
 ghost use Rattle.lisp_object.specs.Datum.{object_of, is_proper};
-ghost use Rattle.snapshot_text.specs.Snapshot.{line, snapshot};
+ghost use Rattle.snapshot_text.specs.Snapshot.{line, properties_object, snapshot};
 
 use crate::package_rows::packages_of;
-use crate::property_rows::properties_of;
+use crate::printing::push_printed;
+use crate::property_rows::push_properties;
 use crate::table_rows::tables_of;
-use canon_printer::print;
 use lisp_object::Datum;
 use package_table::Packages;
-use package_table::standardized::COMMON_LISP_USER;
 use plist_state::World;
 use std::alloc::{AllocError, Global};
 
-// Adds the printed text of an object, and a newline. The object is let go here, so that the next one finds its memory free.
+// Adds a newline.
+fn end_line(text: &mut Vec<u8>) -> Result<(), AllocError>
+    ensures { OnOk result (text.new.items ≡ text.old.items ++ 10 ∷ []) }
+{
+    text.push(b'\n')?;
+    Ok(())
+}
+
+// Adds the printed text of an object, and a newline.
 fn push_line(
     alloc: Global,
     text: &mut Vec<u8>,
@@ -23,11 +30,16 @@ fn push_line(
     requires { is_proper datum ≡ true }
     ensures { OnOk result (text.new.items ≡ text.old.items ++ line packages.now.0 (object_of datum)) }
 {
-    packages.soundness();
-    let printed = print(alloc, &datum, packages, COMMON_LISP_USER)?;
-    text.extend_from_slice(printed.as_slice())?;
-    text.push(b'\n')?;
-    Ok(())
+    push_printed(alloc, text, datum, packages)?;
+    end_line(text)
+}
+
+// Adds the line of the property lists.
+fn push_property_line(alloc: Global, text: &mut Vec<u8>, world: &World) -> Result<(), AllocError>
+    ensures { OnOk result (text.new.items ≡ text.old.items ++ line world.now.0.packages (properties_object world.now.0)) }
+{
+    push_properties(alloc, text, world)?;
+    end_line(text)
 }
 
 /// The text of a snapshot of the world as it is now: its packages, its property lists and its readtables, each an object
@@ -41,7 +53,7 @@ pub fn write(alloc: Global, world: &World) -> Result<Vec<u8>, AllocError>
     let packages = world.packages();
     let mut text = Vec::new(alloc);
     push_line(alloc, &mut text, packages_of(alloc, packages)?, packages)?;
-    push_line(alloc, &mut text, properties_of(alloc, world)?, packages)?;
+    push_property_line(alloc, &mut text, world)?;
     push_line(alloc, &mut text, tables_of(alloc, world)?, packages)?;
     Ok(text)
 }

@@ -1,0 +1,41 @@
+-- The list of the rows of property lists is written row by row.
+use Rattle.std.proofs.Common.{◌≡◌, ℕ, suc, ◌-◌, ◌≤◌, List, [], ◌∷◌, ◌++◌, length, map, take, drop, get_or, append_assoc, refl, sym, ap, ◌∙◌, arith}
+use Rattle.std.specs.Prelude.{codes}
+use Rattle.std.specs.List.{flat_map}
+use Rattle.std.proofs.Math.Seq.{take-length}
+use Rattle.lisp_object.specs.Object.{Object, list_of}
+use Rattle.package_table.specs.Table.{Name}
+use Rattle.canon_printer.specs.Written.{written, written_rest}
+
+module _ {A : Type 0} (prefix : Name → Name → List ℕ) (f : A → Object) where
+  -- the rows after one, each after a space, and the parenthesis
+  others_written : (xs : List A) → written_rest prefix (list_of (map f xs)) ≡ flat_map (λ x. codes " " ++ written prefix (f x)) xs ++ codes ")"
+  others_written [] = refl
+  others_written (x ∷ xs) =
+      ap (λ t. (codes " " ++ written prefix (f x)) ++ t) (others_written xs)
+      ∙ sym (append_assoc (codes " " ++ written prefix (f x)) (flat_map (λ x. codes " " ++ written prefix (f x)) xs) (codes ")"))
+
+  -- the whole list, after any text
+  rows_written : (text : List ℕ) (x : A) (xs : List A)
+      → (((text ++ codes "(") ++ written prefix (f x)) ++ flat_map (λ x. codes " " ++ written prefix (f x)) xs) ++ codes ")"
+      ≡ text ++ written prefix (list_of (map f (x ∷ xs)))
+  rows_written text x xs =
+      let start : List ℕ = codes "(" ++ written prefix (f x) in
+      let others : List ℕ = flat_map (λ x. codes " " ++ written prefix (f x)) xs in
+      ap (λ t. (t ++ others) ++ codes ")") (append_assoc text (codes "(") (written prefix (f x)))
+      ∙ append_assoc (text ++ start) others (codes ")") ∙ append_assoc text start (others ++ codes ")")
+      ∙ ap (λ t. text ++ (start ++ t)) (sym (others_written xs))
+
+  -- the same, part by part
+  pub parts_written : (t₀ t₁ t₂ t₃ t₄ : List ℕ) (x : A) (xs : List A) → t₁ ≡ t₀ ++ codes "(" → t₂ ≡ t₁ ++ written prefix (f x)
+      → t₃ ≡ t₂ ++ flat_map (λ x. codes " " ++ written prefix (f x)) xs → t₄ ≡ t₃ ++ codes ")" → t₄ ≡ t₀ ++ written prefix (list_of (map f (x ∷ xs)))
+  parts_written t₀ t₁ t₂ t₃ t₄ x xs one two three four =
+      let others : List ℕ = flat_map (λ x. codes " " ++ written prefix (f x)) xs in
+      four ∙ ap (λ t. t ++ codes ")") (three ∙ ap (λ t. t ++ others) (two ∙ ap (λ t. t ++ written prefix (f x)) one)) ∙ rows_written t₀ x xs
+
+-- a list by its first item and the later ones
+pub first_and_others : {A : Type 0} (xs : List A) (first : A) → 1 ≤ length xs → first ≡ get_or xs 0 first → xs ≡ first ∷ take (length xs - 1) (drop 1 xs)
+first_and_others [] first some is = absurd (omega arith)
+first_and_others (x ∷ xs) first some is =
+    let all : take (suc (length xs) - 1) xs ≡ xs = ap (λ n. take n xs) (let h : suc (length xs) - 1 ≡ length xs = omega arith in h) ∙ take-length xs in
+    λ i. sym is i ∷ sym all i
