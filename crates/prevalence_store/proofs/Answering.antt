@@ -17,9 +17,9 @@ use Rattle.prevalence_store.specs.Acceptance.{between, read_in, setting_in}
 use Rattle.prevalence_store.specs.Functions.{Functions}
 use Rattle.prevalence_store.specs.Output.{Progress, after_forms, begun, evaluated, one_form, onward}
 use Rattle.prevalence_store.specs.Pending.{HasForm, IsLastForm, IsPending, HasRefusal}
-use Rattle.prevalence_store.specs.Serving.{Advances, IsAfter, Serves}
+use Rattle.prevalence_store.specs.Serving.{Advances, IsAfter, Serves, StaysRefused}
 use Rattle.prevalence_store.specs.Session.{Session}
-use Rattle.prevalence_store.specs.Turns.{Answers, AnswersFault, AnswersForm, BeginsWith, GoesOn, HasEnded, LeavesByte, StaysEnded}
+use Rattle.prevalence_store.specs.Turns.{Answers, AnswersFault, AnswersForm, BeginsWith, GoesOn, HasEnded, LeavesByte, StaysEnded, StopsInForm}
 use Rattle.prevalence_store.proofs.Executing.{form_places}
 use Rattle.prevalence_store.specs.Streams.{Writes}
 use Rattle.prevalence_store.proofs.Pendings.{reads_none}
@@ -219,8 +219,8 @@ module _ (functions : Functions) {D R : Type 0} (state : D → State) where
 
   -- the session ended before any answer, whatever follows the text
   pub ends_at_once : (old new : Session D R) (w : World) (mode : Mode) (text : List ℕ) (a b : Option (List ℕ)) (number : ℕ)
-      → Serves functions state old new w mode text a b (Store number) → HasEnded functions state old new w mode text a b (Store number)
-  ends_at_once old new w mode text a b number serves = record { serves = serves; stays = tt }
+      → StopsInForm functions state old new w mode text a b number → HasEnded functions state old new w mode text a b (Store number)
+  ends_at_once old new w mode text a b number is = record { serves = is.serves; stays = λ output all. let one = is.in_form output in absurd (omega arith) }
 
   -- the reader refused the text, whatever follows it
   pub fault_ended : (sound : (d : D) → IsHonest (state d) → IsSound (state d)) (old new : Session D R) (w : World) (mode : Mode) (text : List ℕ) (a b : Option (List ℕ)) (pending : Pending)
@@ -231,13 +231,16 @@ module _ (functions : Functions) {D R : Type 0} (state : D → State) where
     serves = fault_answered functions state sound old new w mode (text ++ more) a b known number refuses.place (refuses.reads more) same ending answers;
     stays = by_ending ending answers;
   } where
+    still : (others : List ℕ) → read_in functions w mode ((text ++ more) ++ others) ≡ refused number refuses.place
+    still others = ap (read_in functions w mode) (append_assoc text more others) ∙ refuses.reads (more ++ others)
+
     by_ending : (e : Ending) (is : AnswersFault number a b e)
         → StaysEnded functions state old new w mode (text ++ more) a b e
         (fault_answered functions state sound old new w mode (text ++ more) a b known number refuses.place (refuses.reads more) same e is)
     by_ending End is = absurd is
-    by_ending (Reader code) is = λ others.
-        (refl, (refuses.place, ap (read_in functions w mode) (append_assoc text more others) ∙ refuses.reads (more ++ others) ∙ ap (λ n. refused n refuses.place) (sym is.0)))
-    by_ending (Store code) is = tt
+    by_ending (Reader code) is = λ others. (refl, (refuses.place, still others ∙ ap (λ n. refused n refuses.place) (sym is.0)))
+    by_ending (Store code) (inl full) = λ output all. (number, λ others. (refl, (refuses.place, still others)))
+    by_ending (Store code) (inr memory) = λ output all. (number, λ others. (refl, (refuses.place, still others)))
 
   -- ---- one after the other
 
@@ -270,16 +273,22 @@ module _ (functions : Functions) {D R : Type 0} (state : D → State) where
         serves = serve_both functions state sound old mid new w mode text a b c first.forms p first.advances honest ending second.serves;
         stays = by_ending ending second;
       } where
+        refused_both : (forms : ℕ) (far : Progress) (code : ℕ) → StaysRefused functions p.world mode p.rest forms far code
+            → StaysRefused functions w mode text (forms + first.forms) (onward p far) code
+        refused_both forms far code is = λ more. (
+          forms_onward functions forms first.forms (forms + first.forms) w mode (text ++ more) (longer p more) (longer far more) refl (first.stays more) (is more).0,
+          (is more).1,
+        )
+
         by_ending : (e : Ending) (is : HasEnded functions state mid new p.world mode p.rest b c e)
             → StaysEnded functions state old new w mode text a c e
             (serve_both functions state sound old mid new w mode text a b c first.forms p first.advances honest e is.serves)
         by_ending End is = absurd is.stays
-        by_ending (Reader code) is = λ more. (
-          forms_onward functions is.serves.forms first.forms (is.serves.forms + first.forms) w mode (text ++ more) (longer p more) (longer is.serves.far more) refl (first.stays more)
-              (is.stays more).0,
-          (is.stays more).1,
-        )
-        by_ending (Store code) is = tt
+        by_ending (Reader code) is = refused_both is.serves.forms is.serves.far code is.stays
+        by_ending (Store code) is = λ output all.
+            let same : is.serves.lines + first.forms ≡ is.serves.forms + first.forms = all in
+            let decided = is.stays output (omega arith) in
+            (decided.0, refused_both is.serves.forms is.serves.far decided.0 decided.1)
 
       pub ended_both : (ending : Ending) → HasEnded functions state mid new p.world mode rest b c ending → HasEnded functions state old new w mode text a c ending
       ended_both ending second = serves_both ending (subst (λ t. HasEnded functions state mid new p.world mode t b c ending) (sym first.rest) second)

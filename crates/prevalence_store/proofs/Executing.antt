@@ -1,5 +1,5 @@
 -- From what was read and evaluated to what `execute` answers.
-use Rattle.std.proofs.Common.{◌≡◌, ℕ, ◌+◌, ◌-◌, ◌<◌, ◌≤◌, Bool, false, true, cond, List, [], ◌∷◌, length, drop, Option, None, Some, IsSome, Ok, Err, refl, sym, ap, subst, ◌∙◌, inl, inr, arith, length-drop}
+use Rattle.std.proofs.Common.{◌≡◌, ℕ, ◌-◌, ◌<◌, ◌≤◌, Bool, false, true, cond, List, [], length, drop, Option, None, Some, IsSome, Ok, Err, refl, sym, ap, subst, ◌∙◌, inl, inr, arith, length-drop}
 use Rattle.std.proofs.lemmas.List.{length-take-le}
 use Rattle.std.proofs.lemmas.Bool.{eq-eqb, ne_eqb}
 use Rattle.disk_trait.specs.Disk.{State}
@@ -15,14 +15,14 @@ use Rattle.lisp_object.specs.declared.refusal.TheConstants.{NO_MEMORY, TEXT_LEFT
 use Rattle.form_eval.specs.Acceptance.{accept}
 use Rattle.form_eval.specs.Evaluated.{done}
 use Rattle.form_eval.specs.declared.evaluated.Evaluated.{Evaluated}
-use Rattle.form_reader.specs.Reading.{Outcome as Reading, form, reads}
+use Rattle.form_reader.specs.Reading.{Outcome as Reading, form}
 use Rattle.form_reader.proofs.Forms.{form_framed}
 use Rattle.plist_state.specs.State.{State as World}
 use Rattle.prevalence_store.specs.declared.failure.Failure.{Failure}
 use Rattle.prevalence_store.specs.declared.failure.Failure.TheVariants.{Refused, Full, DeviceFault, OutOfMemory}
 use Rattle.prevalence_store.specs.declared.mode.Mode.{Mode}
 use Rattle.prevalence_store.specs.declared.outcome.Outcome.TheVariants as outcome
-use Rattle.prevalence_store.specs.Acceptance.{Acceptance, accepts, accepted_of, acceptance_of, between, form_limits, read_in, records_of, setting_in}
+use Rattle.prevalence_store.specs.Acceptance.{Acceptance, accepts, accepted_of, acceptance_of, between, read_in, records_of, setting_in}
 use Rattle.prevalence_store.specs.Causes.{failure_number, is_device, IsCause}
 use Rattle.prevalence_store.specs.Execution.{Executes, DeviceFails, IsAccepted, Stores, SurvivesAs, taken_in}
 use Rattle.prevalence_store.specs.Session.{Session, session_of}

@@ -1,22 +1,17 @@
--- What was read may be evaluated, and reading is the same under all functions that are registered.
-use Rattle.std.proofs.Common.{◌≡◌, ℕ, Bool, true, false, List, [], ◌∷◌, IsTrue, arith, Option, None, refl, sym, subst, inl, inr}
-use Rattle.std.specs.Prelude.{if◌then◌else◌}
+-- What was read may be evaluated, and which functions are registered.
+use Rattle.std.proofs.Common.{◌≡◌, ℕ, true, List, [], ◌∷◌, IsTrue, arith, sym, subst, inl, inr}
 use Rattle.std.specs.Cmp.Lexicographic.{same_text}
 use Rattle.std.specs.List.{list_all}
 use Rattle.std.proofs.lemmas.Bool.{or_cases, and_parts}
 use Rattle.lisp_object.specs.Object.{Object, symbol, uninterned, IsSound}
 use Rattle.lisp_object.proofs.Atoms.{atoms_weaker}
 use Rattle.readtable_core.specs.Names.{is_among, same_name}
-use Rattle.readtable_core.specs.Tables.{Table}
-use Rattle.package_table.specs.Table.{Name, Table as Packages}
-use Rattle.user_macros.specs.declared.call.Gather.{Gather}
-use Rattle.user_macros.specs.Calls.{MacroCall, MacroAnswer, refused}
-use Rattle.form_reader.specs.declared.limits.Limits.{Limits}
+use Rattle.package_table.specs.Table.{Table as Packages}
 use Rattle.form_reader.specs.Fitting.{IsFitting}
 use Rattle.form_reader.specs.Fitting as reader
 use Rattle.form_reader.specs.Reading.{form}
-use Rattle.form_reader.specs.Setting.{Setting, setting_of}
 use Rattle.form_reader.proofs.Fittings.{form_fits}
+use Rattle.form_reader.proofs.Registered.{one_answer}
 use Rattle.form_eval.specs.Laws.{IsForm}
 use Rattle.form_eval.specs.Laws as evaluator
 use Rattle.plist_state.specs.State.{State as World}
@@ -53,28 +48,8 @@ registered_too (x ∷ xs) registered name whole is =
       | inr later ↦ registered_too xs registered name parts.1 later
     ]
 
-one_answer : (a b : Bool) → (a ≡ true → b ≡ true) → (b ≡ true → a ≡ true) → a ≡ b
-one_answer true true to from = refl
-one_answer false false to from = refl
-one_answer true false to from = sym (to refl)
-one_answer false true to from = from refl
-
 -- where each name is registered, and only names are
 pub among_same : (names registered : List (List ℕ)) → list_all (is_among registered) names ≡ true
     → ((name : List ℕ) → IsTrue (is_among registered name) → IsTrue (is_among names name)) → (name : List ℕ) → is_among registered name ≡ is_among names name
 among_same names registered whole known name =
     one_answer (is_among registered name) (is_among names name) (known name) (registered_too names registered name whole)
-
--- reading is the same under the registered functions and under all
-pub setting_same : (limits : Limits) (table : Table) (t : Packages) (current : Name) (names registered : List (List ℕ)) (way : List ℕ → Option Gather)
-    (answer : List ℕ → MacroCall → MacroAnswer) → ((name : List ℕ) → is_among registered name ≡ is_among names name)
-    → setting_of limits table t current registered way answer ≡ setting_of limits table t current names way answer
-setting_same limits table t current names registered way answer same = λ i. record {
-  limits = limits;
-  table = table;
-  base = 10;
-  packages = t;
-  current = current;
-  way = λ name. if same name i then way name else None;
-  answer = λ name call. if same name i then answer name call else refused 0;
-}

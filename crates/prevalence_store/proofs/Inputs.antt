@@ -1,7 +1,8 @@
 -- What a session has read of its input.
-use Rattle.std.proofs.Common.{◌≡◌, ℕ, List, [], ◌++◌, Option, None, Some, refl, sym, ap, ◌∙◌, inl, inr, append_assoc, append-nil}
+use Rattle.std.proofs.Common.{◌≡◌, ℕ, List, [], ◌++◌, Option, None, Some, refl, sym, ap, ◌∙◌, inl, inr, append_assoc, arith}
 use Rattle.std.specs.Io.KnownBytes.{Consumes, IsAtEnd, Keeps}
 use Rattle.disk_trait.specs.Disk.{State}
+use Rattle.lisp_object.specs.declared.refusal.TheConstants.{INPUT}
 use Rattle.plist_state.specs.State.{State as World}
 use Rattle.prevalence_store.specs.declared.mode.Mode.{Mode}
 use Rattle.prevalence_store.specs.declared.outcome.Ending.{Ending}
@@ -46,12 +47,12 @@ left_both had old new text piece before took all is =
 
 module _ (functions : Functions) {D R : Type 0} (state : D → State) (old new : Session D R) (w : World) (mode : Mode) (held written : Option (List ℕ)) (had before has : Option (List ℕ)) (text : List ℕ) where
   -- a read failed
-  pub unread_input : (number : ℕ) → Serves functions state old new w mode text held written (Store number) → HasLeft had before text → Keeps before has
-      → ServesInput functions state old new w mode had has held written (Store number)
-  unread_input number serves left keeps = record {
+  pub unread_input : Serves functions state old new w mode text held written (Store INPUT) → HasLeft had before text → Keeps before has
+      → ServesInput functions state old new w mode had has held written (Store INPUT)
+  unread_input serves left keeps = record {
     text = text;
     serves = serves;
-    reads = λ all is. let first = left all is in (first.0, first.1.1, kept before has first.0 first.1.0 keeps);
+    reads = λ all is. let first = left all is in (first.0, first.1.1, (λ output. absurd (omega arith), kept before has first.0 first.1.0 keeps));
   }
 
   -- the input is at its end
@@ -69,7 +70,7 @@ module _ (functions : Functions) {D R : Type 0} (state : D → State) (old new :
     all_read : (e : Ending) (served : Serves functions state old new w mode text held written e) → has ≡ Some [] → HasRead functions state old new w mode text held written e served [] has
     all_read End served is = (refl, is)
     all_read (Reader number) served is = (inl refl, is)
-    all_read (Store number) served is = is
+    all_read (Store number) served is = (λ output all. inl refl, is)
 
   -- the session ended before it
   pub decided_input : (ending : Ending) → HasEnded functions state old new w mode text held written ending → HasLeft had has text
@@ -83,4 +84,4 @@ module _ (functions : Functions) {D R : Type 0} (state : D → State) (old new :
         → HasRead functions state old new w mode text held written e is.serves rest has
     some_read End is rest left_is = absurd is.stays
     some_read (Reader number) is rest left_is = (inr is.stays, left_is)
-    some_read (Store number) is rest left_is = left_is
+    some_read (Store number) is rest left_is = (λ output all. inr (is.stays output all), left_is)

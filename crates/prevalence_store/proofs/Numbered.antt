@@ -1,11 +1,11 @@
 -- The numbers under which a text is not accepted.
-use Rattle.std.proofs.Common.{◌≡◌, ℕ, ◌==◌, Bool, true, false, List, length, Result, Ok, Err, refl, sym, subst, arith}
+use Rattle.std.proofs.Common.{◌≡◌, ℕ, ◌==◌, Bool, true, false, List, length, Result, Ok, Err, refl, subst, arith}
 use Rattle.std.specs.Prelude.{if◌then◌else◌}
 use Rattle.lisp_object.specs.declared.refusal.TheConstants.{END_OF_FILE, TEXT_LEFT_OVER}
 use Rattle.form_eval.specs.Acceptance.{accept}
 use Rattle.form_eval.specs.Outcomes.{Outcome as Evaluation}
 use Rattle.form_eval.proofs.NumberedForms.{accepted_numbered}
-use Rattle.form_reader.specs.Reading.{Outcome as Reading, form, empty, refused, reads}
+use Rattle.form_reader.specs.Reading.{Outcome as Reading, form, empty, refused}
 use Rattle.form_reader.proofs.Numbers.{refusal_numbered}
 use Rattle.lisp_object.specs.Object.{Object}
 use Rattle.plist_state.specs.State.{State as World}

@@ -1,5 +1,5 @@
 -- What is pending of a session.
-use Rattle.std.proofs.Common.{◌≡◌, ℕ, suc, ◌+◌, ◌-◌, ◌<◌, ◌≤◌, true, false, Bool, cond, List, [], ◌∷◌, ◌++◌, length, take, drop, Option, Some, IsTrue, Result, Ok, Err, nat_lt, refl, sym, ap, subst, ◌∙◌, arith, append_assoc, append-nil, length-append, length-drop}
+use Rattle.std.proofs.Common.{◌≡◌, ℕ, ◌+◌, ◌-◌, ◌<◌, ◌≤◌, true, false, Bool, cond, List, [], ◌∷◌, ◌++◌, length, drop, Option, IsTrue, Ok, Err, nat_lt, refl, sym, ap, subst, ◌∙◌, arith, append-nil, length-append, length-drop}
 use Rattle.std.specs.List.{list_all}
 use Rattle.std.proofs.lemmas.Bool.{ltb-true, ltb-false}
 use Rattle.std.proofs.lemmas.List.{drop-append-le}
@@ -18,7 +18,7 @@ use Rattle.form_reader.specs.declared.reader.FormReader.{FormReader}
 use Rattle.form_reader.specs.declared.reader.State.{State as ReaderState}
 use Rattle.form_reader.specs.declared.reader.State.TheVariants.{Open, Refused, OutOfMemory}
 use Rattle.form_reader.specs.declared.reader.Step.{Step}
-use Rattle.form_reader.specs.declared.reader.Step.TheVariants.{More as StepMore, Form as StepForm, Refused as StepRefused}
+use Rattle.form_reader.specs.declared.reader.Step.TheVariants.{Form as StepForm}
 use Rattle.form_reader.specs.Plans.{Read}
 use Rattle.form_reader.specs.Reader.{begun, fed, limits_of, BeginsLater, IsAfter, IsAfterIn, MayGoOn, Steps}
 use Rattle.form_reader.specs.Reading.{form, empty, outcome, reads, reads_at}
@@ -26,6 +26,7 @@ use Rattle.form_reader.specs.Setting.{Setting, setting_of}
 use Rattle.form_reader.specs.Fitting.{IsFitting}
 use Rattle.form_reader.proofs.Bounded.{form_below}
 use Rattle.form_reader.proofs.Forms.{reads_is, stood, the_end_there}
+use Rattle.form_reader.proofs.Registered.{setting_same}
 use Rattle.plist_state.specs.Sound.{IsSound}
 use Rattle.plist_state.specs.State.{State as World}
 use Rattle.prevalence_store.specs.declared.input.Pending.{Pending}
@@ -35,7 +36,7 @@ use Rattle.prevalence_store.specs.Functions.{Functions, functions_of}
 use Rattle.prevalence_store.specs.Pending.{HasForm, IsLastForm, IsPending}
 use Rattle.prevalence_store.specs.Turns.{BeginsWith}
 use Rattle.prevalence_store.proofs.Executing.{form_places, length-between, own_whole}
-use Rattle.prevalence_store.proofs.Fitting.{among_same, fits_in, setting_same}
+use Rattle.prevalence_store.proofs.Fitting.{among_same, fits_in}
 
 -- the setting of a call, with the functions that are registered, is that of the world
 pub called_setting : (w : World) (mode : Mode) (names registered : List (List ℕ)) (way : List ℕ → Option Gather) (answer : List ℕ → MacroCall → MacroAnswer)

@@ -74,7 +74,7 @@ module _ (functions : Functions) {D R : Type 0} (state : D → State) (sound : (
   }
 
   -- snapshots are taken later
-  extended_renewed : IsExtended state old mid xs → IsRenewed state mid new functions v ys → IsRenewed state old new functions w (xs ++ ys)
+  unfoldable extended_renewed : IsExtended state old mid xs → IsRenewed state mid new functions v ys → IsRenewed state old new functions w (xs ++ ys)
   extended_renewed one two = record {
     snapshots = two.snapshots;
     some = two.some;
@@ -109,7 +109,7 @@ module _ (functions : Functions) {D R : Type 0} (state : D → State) (sound : (
     described = λ k claims held. two.described (renewed k one.snapshots one.first one.later) (subst IsTrue (sym honest) claims) (one.described k claims held);
   }
 
-  both_renewed : IsRenewed state old mid functions w xs → IsRenewed state mid new functions v ys → IsRenewed state old new functions w (xs ++ ys)
+  unfoldable both_renewed : IsRenewed state old mid functions w xs → IsRenewed state mid new functions v ys → IsRenewed state old new functions w (xs ++ ys)
   both_renewed one two = record {
     snapshots = two.snapshots + one.snapshots;
     some = let some = one.some in omega arith;
@@ -128,6 +128,13 @@ module _ (functions : Functions) {D R : Type 0} (state : D → State) (sound : (
         subst (λ g. Describes new (record (renewed k one.snapshots two.first two.later) { generation = g }) (state new.disk).reads) later
         (two.described (renewed k one.snapshots one.first one.later) (subst IsTrue (sym honest) claims) (one.described k claims held));
   }
+
+  -- snapshots are taken in the second part, and this is left of it
+  pub renewed_later : IsExtended state old mid xs ⊎ IsRenewed state old mid functions w xs → (two : IsRenewed state mid new functions v ys)
+      → (both : IsRenewed state old new functions w (xs ++ ys)) × (both.later ≡ two.later)
+  unfolding extended_renewed both_renewed
+  renewed_later (inl one) two = (extended_renewed one two, refl)
+  renewed_later (inr one) two = (both_renewed one two, refl)
 
   log_both : IsExtended state old mid xs ⊎ IsRenewed state old mid functions w xs → IsExtended state mid new ys ⊎ IsRenewed state mid new functions v ys
       → IsExtended state old new (xs ++ ys) ⊎ IsRenewed state old new functions w (xs ++ ys)
@@ -231,15 +238,18 @@ module _ (functions : Functions) where
       fits = stopped.fits;
       failed = stopped.failed;
     }))
-    ends_both forms far lines answered part (Store number) (inr (inr (inl full))) = inr (inr (inl (record {
-      full = full.full;
-      all = let all = full.all in omega arith;
-      no_part = full.no_part;
-      next = full.next;
-      alone = full.alone;
-      only_text = full.only_text;
-      after = after_both functions state sound old mid new w p first.after honest far full.after;
-    })))
+    ends_both forms far lines answered part (Store number) (inr (inr (inl full))) =
+        let renewed = renewed_later functions state sound old mid new w p.world p.taken far.taken first.after.records first.after.limit honest first.after.log full.renewed in
+        inr (inr (inl (record {
+          full = full.full;
+          all = let all = full.all in omega arith;
+          no_part = full.no_part;
+          next = full.next;
+          renewed = renewed.0;
+          none_since = renewed.1 ∙ full.none_since;
+          only_text = full.only_text;
+          after = after_both functions state sound old mid new w p first.after honest far full.after;
+        })))
     ends_both forms far lines answered part (Store number) (inr (inr (inr (inl large)))) = inr (inr (inr (inl (record {
       large = large.large;
       all = let all = large.all in omega arith;
@@ -265,6 +275,13 @@ module _ (functions : Functions) where
           ∙ ap (λ t. p.lines ++ t) (append_assoc answered.lines part unwritten.unwritten)
           ∙ sym (append_assoc p.lines answered.lines (part ++ unwritten.unwritten))
           ∙ sym (append_assoc (p.lines ++ answered.lines) part unwritten.unwritten);
+      in_form = λ one.
+          let is = unwritten.in_form (omega arith) in (
+            is.0,
+            is.1,
+            ap (λ t. p.lines ++ t) (is.2 ∙ append_assoc answered.lines part is.0) ∙ sym (append_assoc p.lines answered.lines (part ++ is.0))
+                ∙ sym (append_assoc (p.lines ++ answered.lines) part is.0),
+          );
       after = after_both functions state sound old mid new w p first.after honest far unwritten.after;
     }))))))
     ends_both forms far lines answered part (Store number) (inr (inr (inr (inr (inr (inr out)))))) = inr (inr (inr (inr (inr (inr (record {

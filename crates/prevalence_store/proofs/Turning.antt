@@ -31,7 +31,7 @@ use Rattle.prevalence_store.proofs.Committing.{accepts-logged}
 use Rattle.prevalence_store.proofs.Executing.{own_whole, world_inside}
 use Rattle.prevalence_store.proofs.Replaying.{stepped}
 use Rattle.prevalence_store.specs.Streams.{Writes, WritesPart}
-use Rattle.prevalence_store.specs.Turns.{AnswersFault, AnswersForm, IsLine, IsLineOf, IsStop, TriesForm}
+use Rattle.prevalence_store.specs.Turns.{AnswersFault, AnswersForm, IsLine, IsLineOf, IsStop, StopsInForm, TriesForm}
 use Rattle.prevalence_store.proofs.LeftAlone.{alone_still}
 use Rattle.prevalence_store.proofs.Surviving.{fewer_survive, unchanged_survives}
 use Rattle.prevalence_store.specs.Functions.{Functions}
@@ -136,7 +136,7 @@ module _ (functions : Functions) where
     fault_answered number place is same (Store code) (inl full) =
         let part = part_of held written (refusal_line number) (λ none. absurd (cc)) full.1 in
         nothing (Store code) part.0 same part.4
-        (inr (inr (inr (inr (inr (inl (record { output = full.0; unwritten = part.1; some_left = part.3; front = ap last_line is ∙ part.2; after = after_none text [] same })))))))
+        (inr (inr (inr (inr (inr (inl (record { output = full.0; unwritten = part.1; some_left = part.3; front = ap last_line is ∙ part.2; in_form = λ one. absurd (omega arith); after = after_none text [] same })))))))
     fault_answered number place is same (Store code) (inr memory) =
         nothing (Store code) [] same (writes_nothing held written memory.1)
         (inr (inr (inr (inr (inr (inr (record { memory = memory.0; no_part = refl; after = after_none text [] same })))))))
@@ -230,22 +230,25 @@ module _ (functions : Functions) where
     form_answered (Err OutOfMemory) line of is_line writes = absurd is_line.line_of
 
     -- one form was taken, and not answered whole
-    taken_only : (far : Progress) (part : List ℕ) (ending : Ending) (n : ℕ) → after_forms functions 1 w mode text ≡ Some far → Writes held written part
-        → SurvivesAs functions state old new w far.taken n → Ends functions state old new w mode text held written 1 far 0 (begun w text) part ending
-        → Serves functions state old new w mode text held written ending
-    taken_only far part ending n one writes survives ends = record {
-      forms = 1;
-      far = far;
-      far_is = one;
-      lines = 0;
-      answered = begun w text;
-      answered_is = refl;
-      at_most = omega arith;
-      in_turn = omega arith;
-      part = part;
-      output = writes;
-      survives = λ here claims keeps. fewer_survive functions (state old.disk) (state new.disk) w far.taken n 0 new.world (survives here claims keeps) (omega arith);
-      ends = ends;
+    taken_only : (far : Progress) (part : List ℕ) (number : ℕ) (n : ℕ) → after_forms functions 1 w mode text ≡ Some far → Writes held written part
+        → SurvivesAs functions state old new w far.taken n → Ends functions state old new w mode text held written 1 far 0 (begun w text) part (Store number)
+        → StopsInForm functions state old new w mode text held written number
+    taken_only far part number n one writes survives ends = record {
+      serves = record {
+        forms = 1;
+        far = far;
+        far_is = one;
+        lines = 0;
+        answered = begun w text;
+        answered_is = refl;
+        at_most = omega arith;
+        in_turn = omega arith;
+        part = part;
+        output = writes;
+        survives = λ here claims keeps. fewer_survive functions (state old.disk) (state new.disk) w far.taken n 0 new.world (survives here claims keeps) (omega arith);
+        ends = ends;
+      };
+      in_form = λ output. refl;
     }
 
     -- the writer failed in its line
@@ -253,30 +256,32 @@ module _ (functions : Functions) where
     unwritten_front lines line front rest more same parts = ap (λ t. t ++ more) (sym same ∙ parts) ∙ append_assoc front rest more
 
     line_unwritten : (answer : Result Evaluated Failure) (line : List ℕ) → IsAnswerOf state old new mode own x answer → IsLine new answer line
-        → WritesPart held written line → Serves functions state old new w mode text held written (Store OUTPUT)
+        → WritesPart held written line → StopsInForm functions state old new w mode text held written OUTPUT
     line_unwritten (Ok e) line of is_line writes =
         let given = of.accepted w known in
         let same_line = value_lines new e line given.0 (stores_left state old new e.wrote mode own given.0 given.2) is_line in
         let part = part_of held written line (some_line (value_line given.0 (object_of e.value)) line same_line (some_last (printed given.0.packages given.0.current_package (object_of e.value)) 10)) writes in
         let far : Progress = evaluated w mode own (drop next text) (Ok (done_of e given.0)) in
-        taken_only far part.0 (Store OUTPUT) (length (records_of e.wrote mode own)) (one_is (Ok (done_of e given.0)) given.1) part.4 (of.survives w)
+        taken_only far part.0 OUTPUT (length (records_of e.wrote mode own)) (one_is (Ok (done_of e given.0)) given.1) part.4 (of.survives w)
         (inr (inr (inr (inr (inr (inl (record {
           output = refl;
           unwritten = part.1 ++ last_line (read_in functions far.world mode far.rest);
           some_left = some_first part.1 (last_line (read_in functions far.world mode far.rest)) part.3;
           front = unwritten_front far.lines line part.0 part.1 (last_line (read_in functions far.world mode far.rest)) same_line part.2;
+          in_form = λ one. (part.1, part.3, sym same_line ∙ part.2);
           after = after_stores e given.0 given.1 given.2;
         })))))))
     line_unwritten (Err (Refused number)) line of is_line writes =
         let same = of.unchanged refl in
         let part = part_of held written line (some_line (refusal_line number) line is_line.line_of (λ none. absurd (cc))) writes in
         let far : Progress = evaluated w mode own (drop next text) (Err number) in
-        taken_only far part.0 (Store OUTPUT) 0 (one_is (Err number) (of.cause w known)) part.4 (unchanged_survives functions state sound old new w same)
+        taken_only far part.0 OUTPUT 0 (one_is (Err number) (of.cause w known)) part.4 (unchanged_survives functions state sound old new w same)
         (inr (inr (inr (inr (inr (inl (record {
           output = refl;
           unwritten = part.1 ++ last_line (read_in functions far.world mode far.rest);
           some_left = some_first part.1 (last_line (read_in functions far.world mode far.rest)) part.3;
           front = unwritten_front far.lines line part.0 part.1 (last_line (read_in functions far.world mode far.rest)) is_line.line_of part.2;
+          in_form = λ one. (part.1, part.3, sym is_line.line_of ∙ part.2);
           after = after_none state sound old new w mode text held written known (drop next text) (refusal_line number) same;
         })))))))
     line_unwritten (Err Full) line of is_line writes = absurd is_line.line_of
@@ -284,19 +289,21 @@ module _ (functions : Functions) where
     line_unwritten (Err OutOfMemory) line of is_line writes = absurd is_line.line_of
 
     -- there is no line
-    out_of_memory : (number : ℕ) → number ≡ NO_MEMORY → new ≡ old → written ≡ held → Serves functions state old new w mode text held written (Store number)
-    out_of_memory number memory same quiet =
-        nothing state sound old new w mode text held written known (Store number) [] same (writes_nothing held written quiet)
-        (inr (inr (inr (inr (inr (inr (record { memory = memory; no_part = refl; after = after_none state sound old new w mode text held written known text [] same })))))))
+    out_of_memory : (number : ℕ) → number ≡ NO_MEMORY → new ≡ old → written ≡ held → StopsInForm functions state old new w mode text held written number
+    out_of_memory number memory same quiet = record {
+      serves = nothing state sound old new w mode text held written known (Store number) [] same (writes_nothing held written quiet)
+          (inr (inr (inr (inr (inr (inr (record { memory = memory; no_part = refl; after = after_none state sound old new w mode text held written known text [] same })))))));
+      in_form = λ output. absurd (omega arith);
+    }
 
     records_written : (wrote : Bool) → wrote ≡ true → records_of wrote mode own ≡ logged mode own ∷ []
     records_written wrote wrote_is = ap (λ b. records_of b mode own) wrote_is
 
     stops_in : (answer : Result Evaluated Failure) (number : ℕ) → IsAnswerOf state old new mode own x answer → IsStop answer number → number ≢ LOG_FULL → written ≡ held
-        → Serves functions state old new w mode text held written (Store number)
+        → StopsInForm functions state old new w mode text held written number
     stops_in (Ok e) number of stop other quiet =
         let given = of.accepted w known in
-        taken_only (evaluated w mode own (drop next text) (Ok (done_of e given.0))) [] (Store number) (length (records_of e.wrote mode own)) (one_is (Ok (done_of e given.0)) given.1)
+        taken_only (evaluated w mode own (drop next text) (Ok (done_of e given.0))) [] number (length (records_of e.wrote mode own)) (one_is (Ok (done_of e given.0)) given.1)
         (writes_nothing held written quiet) (of.survives w)
         (inr (inr (inr (inr (inr (inr (record { memory = stop; no_part = refl; after = after_stores e given.0 given.1 given.2 })))))))
     stops_in (Err (Refused code)) number of stop other quiet = out_of_memory number stop (of.unchanged refl) quiet
@@ -306,7 +313,7 @@ module _ (functions : Functions) where
         let why = of.cause w known in
         let failed = of.fault refl in
         let taken = records_written why.0.0.wrote why.0.2 in
-        taken_only (evaluated w mode own (drop next text) (Ok why.0.0)) [] (Store number) 0 (one_is (Ok why.0.0) why.0.1) (writes_nothing held written quiet)
+        taken_only (evaluated w mode own (drop next text) (Ok why.0.0)) [] number 0 (one_is (Ok why.0.0) why.0.1) (writes_nothing held written quiet)
         (subst (λ (es : List Entry). SurvivesAs functions state old new w es 0) (sym taken) (of.survives w))
         (inl (record {
           device = stop;

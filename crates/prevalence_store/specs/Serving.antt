@@ -146,13 +146,14 @@ module _ (functions : Functions) {D R : Type 0} (state : D → State) (old new :
         pub failed : DeviceFails state mid new mid.half
 
       -- The next form is accepted in that world, and has no room; nor has it in a half that holds nothing but the text of it,
-      -- as this one does.
+      -- as this one does: a snapshot was taken, and no form logged since.
       pub record IsFull (number : ℕ) : Type 0 where
         pub full : number ≡ LOG_FULL
         pub all : lines ≡ forms
         pub no_part : part ≡ []
         pub next : IsOver functions new far.world mode far.rest
-        pub alone : new.record_count ≡ 0
+        pub renewed : IsRenewed state old new functions world far.taken
+        pub none_since : renewed.later ≡ []
         pub only_text : new.size ≡ 16 + length (snapshot far.world)
         pub after : IsAfter functions state old new world far
 
@@ -174,12 +175,14 @@ module _ (functions : Functions) {D R : Type 0} (state : D → State) (old new :
         pub more : MayGoOn far.rest (read_in functions far.world mode far.rest)
         pub after : IsAfter functions state old new world far
 
-      -- a write failed, or took nothing: the lines so far are the first part of what was to be written
+      -- A write failed, or took nothing: the lines so far are the first part of what was to be written. The line that was begun is
+      -- that of the last form, where it was not answered, and else that of a refusal of the reader.
       pub record IsUnwritten (number : ℕ) : Type 0 where
         pub output : number ≡ OUTPUT
         pub unwritten : List ℕ
         pub some_left : unwritten ≢ []
         pub front : far.lines ++ last_line (read_in functions far.world mode far.rest) ≡ answered.lines ++ part ++ unwritten
+        pub in_form : forms ≡ lines + 1 → (rest : List ℕ) × (rest ≢ []) × (far.lines ≡ answered.lines ++ part ++ rest)
         pub after : IsAfter functions state old new world far
 
       -- a growth was refused
@@ -213,21 +216,24 @@ module _ (functions : Functions) {D R : Type 0} (state : D → State) (old new :
       pub survives : SurvivesAs functions state old new world far.taken (length answered.taken)
       pub ends : Ends forms far lines answered part ending
 
--- where the reader refused the text, it refuses it with more after it too, and the forms before are the same
-abbrev pub StaysRefused : (functions : Functions) {D R : Type 0} (state : D → State) (old new : Session D R) (world : World) (mode : Mode) (text : List ℕ)
-    (held written : Option (List ℕ)) (number : ℕ) → Serves functions state old new world mode text held written (Reader number) → Type 0
-StaysRefused functions state old new world mode text held written number served = (more : List ℕ)
-    → (after_forms functions served.forms world mode (text ++ more) ≡ Some (record served.far { rest = served.far.rest ++ more }))
-    × ((place : ℕ) × (read_in functions served.far.world mode (served.far.rest ++ more) ≡ refused number place))
+-- After these forms the reader refuses what is left of the text with this number, and with more after it too; and the forms are
+-- the same then.
+abbrev pub StaysRefused : Functions → World → Mode → (text : List ℕ) (forms : ℕ) (far : Progress) (number : ℕ) → Type 0
+StaysRefused functions world mode text forms far number = (more : List ℕ)
+    → (after_forms functions forms world mode (text ++ more) ≡ Some (record far { rest = far.rest ++ more }))
+    × ((place : ℕ) × (read_in functions far.world mode (far.rest ++ more) ≡ refused number place))
 
--- How much a session has read when it ends: at the end of the input all of it; at a refusal of the reader all of it, or so much
--- that what follows makes no difference; else what the reader has left is what was not read.
+-- How much a session has read when it ends: at the end of the input all of it; at a refusal of the reader, also where the output
+-- failed in the line of it, all of it, or so much that what follows makes no difference; else what the reader has left is what
+-- was not read.
 abbrev pub HasRead : (functions : Functions) {D R : Type 0} (state : D → State) (old new : Session D R) (world : World) (mode : Mode) (text : List ℕ)
     (held written : Option (List ℕ)) (ending : Ending) → Serves functions state old new world mode text held written ending → List ℕ → Option (List ℕ) → Type 0
 HasRead functions state old new world mode text held written End served left reader = (left ≡ []) × (reader ≡ Some left)
 HasRead functions state old new world mode text held written (Reader number) served left reader =
-    ((left ≡ []) ⊎ StaysRefused functions state old new world mode text held written number served) × (reader ≡ Some left)
-HasRead functions state old new world mode text held written (Store number) served left reader = reader ≡ Some left
+    ((left ≡ []) ⊎ StaysRefused functions world mode text served.forms served.far number) × (reader ≡ Some left)
+HasRead functions state old new world mode text held written (Store number) served left reader =
+    (number ≡ OUTPUT → served.lines ≡ served.forms → (left ≡ []) ⊎ ((code : ℕ) × StaysRefused functions world mode text served.forms served.far code))
+    × (reader ≡ Some left)
 
 -- A session over what a reader gives: what the reader had is what was read and what is left.
 pub record ServesInput (functions : Functions) {D R : Type 0} (state : D → State) (old new : Session D R) (world : World) (mode : Mode) (had has held written : Option (List ℕ)) (ending : Ending) : Type 0 where

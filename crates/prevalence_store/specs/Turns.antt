@@ -1,5 +1,5 @@
 -- One turn of a session: what one byte more comes to.
-use Rattle.std.specs.Prelude.{◌≡◌, ◌≢◌, ◌⊎◌, ℕ, ◌<◌, Bool, List, [], ◌∷◌, ◌++◌, length, Option, None, Some, Ok, Err, Result}
+use Rattle.std.specs.Prelude.{◌≡◌, ◌≢◌, ◌⊎◌, ℕ, ◌+◌, ◌<◌, Bool, List, [], ◌∷◌, ◌++◌, length, Option, None, Some, Ok, Err, Result}
 use Rattle.disk_trait.specs.Disk.{State}
 use Rattle.lisp_object.specs.Object.{Object}
 use Rattle.lisp_object.specs.Datum.{object_of}
@@ -34,10 +34,15 @@ pub record BeginsWith (functions : Functions) (world : World) (mode : Mode) (tex
   pub is_own : own ≡ between start stop text
 
 module _ (functions : Functions) {D R : Type 0} (state : D → State) (old new : Session D R) (world : World) (mode : Mode) where
+  -- The session has ended in a form, with this number: where the output failed, in the line of that form.
+  pub record StopsInForm (text : List ℕ) (held written : Option (List ℕ)) (number : ℕ) : Type 0 where
+    pub serves : Serves functions state old new world mode text held written (Store number)
+    pub in_form : number ≡ OUTPUT → serves.forms ≡ serves.lines + 1
+
   -- the form that the text begins with was answered; or the session has ended in it, with this number
   abbrev pub AnswersForm : List ℕ → Option (List ℕ) → Option (List ℕ) → Option ℕ → Type 0
   AnswersForm text held written None = (far : Progress) × Advances functions state old new world mode text held written 1 far
-  AnswersForm text held written (Some number) = Serves functions state old new world mode text held written (Store number)
+  AnswersForm text held written (Some number) = StopsInForm text held written number
 
   -- The form that the text begins with was answered; or it has no room, and nothing was done; or the session has ended in it,
   -- with this number.
@@ -45,7 +50,7 @@ module _ (functions : Functions) {D R : Type 0} (state : D → State) (old new :
   TriesForm text held written (Ok wrote) = (far : Progress) × Advances functions state old new world mode text held written 1 far
   TriesForm text held written (Err number) =
       (number ≡ LOG_FULL → IsOver functions old world mode text)
-      × (number ≢ LOG_FULL → Serves functions state old new world mode text held written (Store number))
+      × (number ≢ LOG_FULL → StopsInForm text held written number)
 
 -- ---- a snapshot in a session
 
@@ -107,11 +112,13 @@ module _ (functions : Functions) {D R : Type 0} (state : D → State) (old new :
     pub rest : far.rest ≡ bytes ++ left
     pub is_pending : IsPending functions far.world mode pending bytes
 
-  -- a refusal of the reader stays one, whatever follows the text; the end of the input is not told by a text that may go on
+  -- a refusal of the reader stays one, whatever follows the text, also where the output failed in the line of it; the end of the
+  -- input is not told by a text that may go on
   abbrev pub StaysEnded : (ending : Ending) → Serves functions state old new world mode text held written ending → Type 0
   StaysEnded End served = ⊥
-  StaysEnded (Reader number) served = StaysRefused functions state old new world mode text held written number served
-  StaysEnded (Store number) served = Unit {0}
+  StaysEnded (Reader number) served = StaysRefused functions world mode text served.forms served.far number
+  StaysEnded (Store number) served =
+      number ≡ OUTPUT → served.lines ≡ served.forms → (code : ℕ) × StaysRefused functions world mode text served.forms served.far code
 
   -- the session has ended
   pub record HasEnded (ending : Ending) : Type 0 where

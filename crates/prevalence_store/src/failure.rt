@@ -5,7 +5,7 @@ ghost use Rattle.prevalence_store.specs.Causes.{is_device, failure_number};
 use lisp_object::refusal::{DEVICE, LOG_FULL, NO_MEMORY};
 
 /// Why a form that was read was not accepted.
-#[derive(Clone, Copy, Debug, PartialEq, Eq)]
+#[derive(Clone, Copy)]
 pub(crate) enum Failure {
     /// Evaluation refused it, with this number.
     Refused(u16),

@@ -3,7 +3,7 @@
 use crate::outcome::Ending;
 
 /// What a byte of the input comes to in a session.
-#[derive(Clone, Copy, Debug, PartialEq, Eq)]
+#[derive(Clone, Copy)]
 pub(crate) enum Turn {
     /// The byte is part of what is open, or of the form that was answered.
     Taken,

@@ -43,7 +43,7 @@ impl<D: Disk, R: MacroFunctions> Store<D, R> {
     /// Where the half has no room for the record of a form, it takes one snapshot and tries the form once more. After every
     /// `snapshot_every` forms that were logged since it began, their answers written, it takes a snapshot; never where that is
     /// 0. One of these for which there is no half is passed over. The contract says what is left by snapshots that were taken,
-    /// and that none would have made room where it ends with 64; when others are taken is shown by tests alone.
+    /// and that one was taken in vain where it ends with 64; when others are taken is shown by tests alone.
     ///
     /// Ends with `Store` and, in this order: 61 at once after an earlier device fault; 64 where a half that holds nothing but
     /// the text of the world has no room for a record; 65 where a record has no room, and there is no half for a snapshot; 60

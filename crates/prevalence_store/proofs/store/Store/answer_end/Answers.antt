@@ -41,8 +41,9 @@ returns-in-Some-clause-serves g c = λ w known bytes p.
     let functions = functions_of g.R.Meaning.Meaning.names g.R.Meaning.Meaning.way g.R.Meaning.Meaning.answer in
     let f = c.in-Form in
     let last = subst (λ (fed : Fed). Finishes functions w c.args.mode bytes fed) f.is (c.in-Ok.ensures.finishes w known bytes p) in
-    c.in-Some.ensures.answers w known bytes _
-    (last_begins functions w c.args.mode bytes (object_of f.datum) f.own.items last c.as_slice.result.now c.as_slice.ensures.value)
+    let stops = c.in-Some.ensures.answers w known bytes _
+    (last_begins functions w c.args.mode bytes (object_of f.datum) f.own.items last c.as_slice.result.now c.as_slice.ensures.value) in
+    stops.serves
 
 pub returns-clause-serves : goal.returns-clause-serves
 returns-clause-serves g c = λ w known bytes p.

@@ -28,7 +28,7 @@ returns-in-Err-clause-serves g c = λ w known.
     let functions = functions_of g.R.Meaning.Meaning.names g.R.Meaning.Meaning.way g.R.Meaning.Meaning.answer in
     let far = c.reads.invariant.far w known in
     unread_input functions g.D.Disk.state c.args.self.now c.reads.self w c.args.mode (g.W.Write.contents c.args.writer.now) (g.W.Write.contents c.reads.writer)
-    (g.I.Read.remaining c.args.reader.now) (g.I.Read.remaining c.reads.reader) (g.I.Read.remaining c.read.new.self) far.0 _
+    (g.I.Read.remaining c.args.reader.now) (g.I.Read.remaining c.reads.reader) (g.I.Read.remaining c.read.new.self) far.0
     (unread_after functions g.D.Disk.state c.args.self.now c.reads.self w c.args.mode far.0 _ _ c.reads.pending far.1.0) far.1.1 c.in-Err.ensures.bytes
 
 pub returns-clause-serves : goal.returns-clause-serves
@@ -36,7 +36,7 @@ returns-clause-serves g c = λ w known.
     let functions = functions_of g.R.Meaning.Meaning.names g.R.Meaning.Meaning.way g.R.Meaning.Meaning.answer in
     let far = c.reads.invariant.far w known in
     unread_input functions g.D.Disk.state c.args.self.now c.reads.self w c.args.mode (g.W.Write.contents c.args.writer.now) (g.W.Write.contents c.reads.writer)
-    (g.I.Read.remaining c.args.reader.now) (g.I.Read.remaining c.reads.reader) (g.I.Read.remaining c.reads.reader) far.0 _
+    (g.I.Read.remaining c.args.reader.now) (g.I.Read.remaining c.reads.reader) (g.I.Read.remaining c.reads.reader) far.0
     (unread_after functions g.D.Disk.state c.args.self.now c.reads.self w c.args.mode far.0 _ _ c.reads.pending far.1.0) far.1.1 (keeps_same (g.I.Read.remaining c.reads.reader))
 
 pub returns-then-count-eq0-clause-serves : goal.returns-then-count-eq0-clause-serves

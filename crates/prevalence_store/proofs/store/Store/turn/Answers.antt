@@ -1,5 +1,6 @@
-use Rattle.std.proofs.Common.{[], ◌∷◌, ◌++◌, refl, subst}
+use Rattle.std.proofs.Common.{[], ◌∷◌, ◌++◌, refl, subst, arith}
 use Rattle.lisp_object.specs.Datum.{object_of}
+use Rattle.lisp_object.specs.declared.refusal.TheConstants.{NO_MEMORY}
 use Rattle.prevalence_store.specs.Functions.{functions_of}
 use Rattle.prevalence_store.specs.Pending.{Feeds}
 use Rattle.prevalence_store.specs.declared.input.Fed.{Fed}
@@ -11,8 +12,10 @@ pub returns-in-Err-clause-turns : goal.returns-in-Err-clause-turns
 returns-in-Err-clause-turns g c = λ w known bytes p more.
     let functions = functions_of g.R.Meaning.Meaning.names g.R.Meaning.Meaning.way g.R.Meaning.Meaning.answer in
     let held = g.W.Write.contents c.args.writer.now in
-    ends_at_once functions g.D.Disk.state c.args.self.now c.args.self.now w c.args.mode ((bytes ++ c.args.byte ∷ []) ++ more) held held _
-    (no_memory functions g.D.Disk.state g.met.D.Disk.sound c.args.self.now c.args.self.now w c.args.mode ((bytes ++ c.args.byte ∷ []) ++ more) held held known refl refl)
+    ends_at_once functions g.D.Disk.state c.args.self.now c.args.self.now w c.args.mode ((bytes ++ c.args.byte ∷ []) ++ more) held held NO_MEMORY (record {
+      serves = no_memory functions g.D.Disk.state g.met.D.Disk.sound c.args.self.now c.args.self.now w c.args.mode ((bytes ++ c.args.byte ∷ []) ++ more) held held known refl refl;
+      in_form = λ output. absurd (omega arith);
+    })
 
 pub returns-in-Nothing-clause-turns : goal.returns-in-Nothing-clause-turns
 returns-in-Nothing-clause-turns g c = λ w known bytes p.
