@@ -8,7 +8,7 @@
 //!
 //! - `packages`: `Packages`, and its calls
 //! - `queries`: what callers ask of them
-//! - `table`: `PackageTable`, the packages by their names: how they are kept, it alone knows
+//! - `table`: `PackageTable`, the packages by their names, and the numbers of their symbols: how they are kept, it alone knows
 //! - `entry`: what a package has at the name of a symbol
 //! - `standardized`, `limits`: the names of the first packages, and how much there may be
 //! - `find`, `resolve`: names of packages, and what the name in a token stands for; they take no memory
@@ -18,6 +18,9 @@
 //!   a mark undone). The value of `Packages` has the marked tables after the table of now: calls that write leave them alone.
 //! - `laws`: `look_up_laws`
 //! - `error`: `PackageError`
+//!
+//! Each symbol has a number (`specs/Numbers.antt`, `specs/Numbering.antt`), which `numbers` and `PackageTable::number_of` give.
+//! The numbers are beside the table: packages with the same symbols are equal whatever their numbers.
 //!
 //! Proofs of crates above may cite these lemmas; they keep their names. On look-ups (proofs/Found.antt): `found_is`,
 //! `found_finds`, `found_none`, `finds_none`, `present_found`, `external_shows`, `shows_external`, `used_shows`. On symbols at
