@@ -1,5 +1,6 @@
 -- From what is written of an open store to what the commands promise.
-use Rattle.std.proofs.Common.{◌≡◌, ◌⊎◌, ℕ, ◌≤◌, List, [], ◌++◌, Option, None, Some, refl, sym, ap, subst, ◌∙◌, inl, inr, append-nil, arith}
+use Rattle.std.proofs.Common.{◌≡◌, ◌⊎◌, ℕ, ◌≤◌, Bool, true, List, [], ◌++◌, Option, None, Some, refl, sym, ap, subst, ◌∙◌, inl, inr, append-nil, arith}
+use Rattle.std.specs.Option.{IfSome}
 use Rattle.disk_trait.specs.Disk.{State}
 use Rattle.disk_trait.specs.declared.half.Half.{Half}
 use Rattle.disk_trait.specs.declared.half.Half.TheVariants.{A}
@@ -7,6 +8,8 @@ use Rattle.lisp_object.specs.declared.refusal.TheConstants.{DEVICE, OUTPUT, NO_M
 use Rattle.plist_state.specs.State.{State as World, initial}
 use Rattle.snapshot_text.specs.Snapshot.{snapshot}
 use Rattle.prevalence_store.specs.Functions.{Functions}
+use Rattle.prevalence_store.specs.declared.mode.Mode.{Mode}
+use Rattle.prevalence_store.specs.declared.outcome.Ending.{Ending}
 use Rattle.prevalence_store.specs.Session.{Session}
 use Rattle.prevalence_store.specs.Streams.{Writes, WritesPart}
 use Rattle.store_program.specs.declared.status.Status.{Status}
@@ -14,14 +17,21 @@ use Rattle.store_program.specs.declared.status.Status.TheVariants.{Done, Helped,
 use Rattle.store_program.specs.declared.words.Task.{Task}
 use Rattle.store_program.specs.declared.words.Task.TheVariants.{Run, Dump, Verify}
 use Rattle.clap.specs.Words.{Text}
-use Rattle.store_program.specs.Commands.{DumpsWorld, IsFront, IsReport, TaskBreaksOff, TaskReads, TaskWrites, TellsHalf, TellsText, WordsRead, WordsWrite, dumped, half_line, verified}
-use Rattle.store_program.specs.Session.{AnswersInput, ReadsToEnd}
-use Rattle.store_program.specs.Status.{HasFaultNumber, IsCarriedOut, IsFaultNumber, TakesWords}
+use Rattle.store_program.specs.Commands.{Does, DoesOn, DumpsWorld, IsFront, IsReport, TaskBreaksOff, TaskReads, TaskWrites, TellsHalf, TellsText, WordsRead, WordsWrite, dumped, half_line, is_of_opening, verified}
+use Rattle.store_program.specs.Session.{AnswersInput, IsSession, ReadsToEnd}
+use Rattle.store_program.specs.Status.{HasFaultNumber, IsCarriedOut, IsFaultNumber, TakesWords, status_of_ending}
 use Rattle.store_program.proofs.Sessions.{nothing_written}
+use Rattle.store_program.proofs.Statuses.{other_number}
 
 -- what is said of one half is said of the same half
 pub same_half : (P : List ℕ → Type 0) (a b : Half) (g h m n : ℕ) → a ≡ b → g ≡ h → m ≡ n → P (half_line a g m) → P (half_line b h n)
 same_half P a b g h m n half generation records given = subst P (rw (half, generation, records) refl) given
+
+-- what was written is the text of this world
+pub tells_world : (status : Status) (known : Option World) (world : World) (held written : Option (List ℕ)) (bytes : List ℕ) → known ≡ Some world → bytes ≡ snapshot world
+    → TellsText status held written bytes → IfSome known (λ w. TellsText status held written (snapshot w))
+tells_world status known world held written bytes is are told =
+    subst (λ (o : Option World). IfSome o (λ w. TellsText status held written (snapshot w))) (sym is) (subst (TellsText status held written) are told)
 
 -- the status of a text that was to be written
 module _ (held written : Option (List ℕ)) (text : List ℕ) where
@@ -31,6 +41,14 @@ module _ (held written : Option (List ℕ)) (text : List ℕ) where
   text_taken Helped told = absurd told
   text_taken ReaderRefused told = absurd told
   text_taken WordsRefused told = absurd told
+
+  -- no text ends with a number of an opening
+  numbers_of_text : (given : ℕ) → TellsText (Fault given) held written text → is_of_opening given ≡ true → ⊥
+  numbers_of_text given (inl cut) of = other_number given OUTPUT cut.0 refl of
+  numbers_of_text given (inr none) of = other_number given NO_MEMORY none.0 refl of
+
+  pub text_of_no_opening : (status : Status) (number : ℕ) → status ≡ Fault number → TellsText status held written text → is_of_opening number ≡ true → ⊥
+  text_of_no_opening status number is told of = numbers_of_text number (subst (λ (s : Status). TellsText s held written text) is told) of
 
   number_of_text : (number : ℕ) → TellsText (Fault number) held written text → IsFaultNumber number
   number_of_text number (inl cut) = subst IsFaultNumber (sym cut.0) (inl (omega arith, omega arith))
@@ -45,7 +63,7 @@ module _ (held written : Option (List ℕ)) (text : List ℕ) where
 
   -- a fault left the first part of it
   front_of_text : (number : ℕ) (had : List ℕ) → held ≡ Some had → TellsText (Fault number) held written text → (front : List ℕ) × (rest : List ℕ) × (text ≡ front ++ rest) × (written ≡ Some (had ++ front))
-  front_of_text number had holds (inl cut) = let part = cut.1 had holds in (part.front, part.rest, part.parts, part.written)
+  front_of_text number had holds (inl cut) = cut.1 had holds
   front_of_text number had holds (inr none) = ([], text, refl, none.1 ∙ holds ∙ ap (λ l. Some l) (sym (append-nil had)))
 
   pub text_front : (status : Status) (number : ℕ) (had : List ℕ) → held ≡ Some had → status ≡ Fault number → TellsText status held written text
@@ -111,3 +129,28 @@ moved_read a b s t v w input same_words same_status same_left given = rw (same_w
 pub moved_write : (functions : Functions) (a b : Option (Text × Task)) (s t : Status) (v w : Option (List ℕ)) (input had : List ℕ) → a ≡ b → s ≡ t → v ≡ w
     → WordsWrite functions b t input had w → WordsWrite functions a s input had v
 moved_write functions a b s t v w input had same_words same_status same_written given = rw (same_words, same_status, same_written) given
+
+-- ---- what a command does over a disk
+
+module _ (functions : Functions) {D R I O : Type 0} (state : D → State) (disk : D) (macros : R) (whole : Bool) (remaining : I → Option (List ℕ)) (contents : O → Option (List ℕ))
+    (input left : I) (held written : O) (task : Task) (status : Status) where
+  pub does_run : (mode : Mode) (every : ℕ) (ending : Ending) (back : D) → task ≡ Run mode every → status ≡ status_of_ending ending
+      → IsSession functions mode state disk macros 1073741824 (remaining input) (remaining left) (contents held) (contents written) ending back
+      → DoesOn functions state disk macros whole remaining contents input left held written task status
+  does_run mode every ending back is ends session =
+      subst (λ (t : Task). DoesOn functions state disk macros whole remaining contents input left held written t status) (sym is) (inl (ending, back, ends, session))
+
+  pub does_dump : (back : D) → task ≡ Dump → IsReport functions state dumped disk macros 1073741824 (contents held) (contents written) status back
+      → DoesOn functions state disk macros whole remaining contents input left held written task status
+  does_dump back is report = subst (λ (t : Task). DoesOn functions state disk macros whole remaining contents input left held written t status) (sym is) (inl (back, report))
+
+  pub does_verify : (back : D) → task ≡ Verify → IsReport functions state verified disk macros 1073741824 (contents held) (contents written) status back
+      → DoesOn functions state disk macros whole remaining contents input left held written task status
+  does_verify back is report = subst (λ (t : Task). DoesOn functions state disk macros whole remaining contents input left held written t status) (sym is) (inl (back, report))
+
+-- the same of what is equal
+pub moved_does : (functions : Functions) {D R I O : Type 0} (state : D → State) (macros : R) (whole : Bool) (remaining : I → Option (List ℕ)) (contents : O → Option (List ℕ))
+    (input v w : I) (held x y : O) (t u : Task) (s r : Status) → t ≡ u → s ≡ r → v ≡ w → x ≡ y
+    → Does functions state macros whole remaining contents input w held y u r → Does functions state macros whole remaining contents input v held x t s
+moved_does functions state macros whole remaining contents input v w held x y t u s r same_task same_status same_left same_written given =
+    rw (same_task, same_status, same_left, same_written) given

@@ -1,7 +1,7 @@
 -- From what the store promises of a session to what the program does.
-use Rattle.std.proofs.Common.{◌≡◌, ◌⊎◌, ℕ, ◌+◌, ◌≤◌, List, [], ◌++◌, Option, Some, refl, sym, ap, subst, ◌∙◌, inl, inr, append-nil, arith}
+use Rattle.std.proofs.Common.{◌≡◌, ◌⊎◌, ℕ, ◌+◌, ◌≤◌, true, List, [], ◌++◌, Option, Some, refl, sym, ap, subst, ◌∙◌, inl, inr, append-nil, arith}
 use Rattle.disk_trait.specs.Disk.{State}
-use Rattle.lisp_object.specs.declared.refusal.TheConstants.{DEVICE, OUTPUT, NO_MEMORY}
+use Rattle.lisp_object.specs.declared.refusal.TheConstants.{DEVICE, LOG_FULL, SNAPSHOT_TOO_LARGE, INPUT, OUTPUT, NO_MEMORY}
 use Rattle.plist_state.specs.State.{State as World, initial}
 use Rattle.prevalence_store.specs.declared.mode.Mode.{Mode}
 use Rattle.prevalence_store.specs.declared.open_fault.OpenFault.{OpenFault}
@@ -14,8 +14,10 @@ use Rattle.prevalence_store.specs.Output.{Progress, after_forms, begun, last_lin
 use Rattle.prevalence_store.specs.Serving.{HasRead, Serves, ServesInput}
 use Rattle.prevalence_store.specs.Session.{Session}
 use Rattle.prevalence_store.specs.Acceptance.{read_in}
+use Rattle.store_program.specs.Commands.{is_of_opening}
 use Rattle.store_program.specs.Session.{AnswersInput, IsBrokenOff, ReadsToEnd}
 use Rattle.store_program.specs.Status.{HasFaultNumber, IsFaultNumber, status_of_ending}
+use Rattle.store_program.proofs.Statuses.{other_number}
 
 module _ (functions : Functions) (mode : Mode) where
   same_progress : (n m : ℕ) (w : World) (text : List ℕ) (p q : Progress) → n ≡ m → after_forms functions n w mode text ≡ Some p → after_forms functions m w mode text ≡ Some q → p ≡ q
@@ -174,6 +176,32 @@ module _ (functions : Functions) (mode : Mode) where
         ]
       ]
     ])
+
+    -- no session ends with a number of an opening
+    pub none_of_opening : (number : ℕ) → ServesInput functions state old new w mode had has held_now written (Store number) → is_of_opening number ≡ true → ⊥
+    none_of_opening number served of =
+        elim served.serves.ends [
+          | inl stopped ↦ other_number number DEVICE stopped.device refl of
+          | inr else ↦ elim else [
+            | inl renewing ↦ other_number number DEVICE renewing.device refl of
+            | inr else ↦ elim else [
+              | inl full ↦ other_number number LOG_FULL full.full refl of
+              | inr else ↦ elim else [
+                | inl large ↦ other_number number SNAPSHOT_TOO_LARGE large.large refl of
+                | inr else ↦ elim else [
+                  | inl unread ↦ other_number number INPUT unread.input refl of
+                  | inr else ↦ elim else [
+                    | inl cut ↦ other_number number OUTPUT cut.output refl of
+                    | inr memory ↦ other_number number NO_MEMORY memory.memory refl of
+                  ]
+                ]
+              ]
+            ]
+          ]
+        ]
+
+    pub no_opening_at : (ending : Ending) (number : ℕ) → ending ≡ Store number → ServesInput functions state old new w mode had has held_now written ending → is_of_opening number ≡ true → ⊥
+    no_opening_at ending number is served = none_of_opening number (subst (λ (e : Ending). ServesInput functions state old new w mode had has held_now written e) is served)
 
 fault_is : (fault : OpenFault) → IsFaultNumber (fault_number fault)
 fault_is opening.OutOfMemory = inr refl

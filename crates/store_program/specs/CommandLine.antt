@@ -4,10 +4,12 @@ use Rattle.std.specs.Option.{option_map_or}
 use Rattle.std.specs.Str.{bytes_eq}
 use Rattle.std.specs.Str.Parse.{IsNumeral, digits_value, without_leading_plus}
 use Rattle.clap.specs.ValueTests.{is_unsigned_in}
-use Rattle.clap.specs.Words.{App, Row, Rule, Text, first_of, new_app, new_rule, one_of, subcommand_of, with_rule, with_subcommand}
+use Rattle.clap.specs.Kinds.{Kinds, or_else}
+use Rattle.clap.specs.Words.{App, Row, Rule, Text, fault_of, first_of, new_app, new_rule, one_of, subcommand_of, with_rule, with_subcommand}
 use Rattle.clap.specs.Simple.{on_top}
 use Rattle.clap.specs.declared.builder.action.ArgAction.TheVariants.{Set, SetTrue}
 use Rattle.clap.specs.declared.builder.value_parser.ValueParser.TheVariants.{Unsigned}
+use Rattle.clap.specs.declared.error.kind.ErrorKind.TheVariants.{MissingRequiredArgument}
 use Rattle.prevalence_store.specs.declared.mode.Mode.{Mode}
 use Rattle.prevalence_store.specs.declared.mode.Mode.TheVariants.{Current, Rescue}
 use Rattle.store_program.specs.declared.words.Task.{Task}
@@ -73,6 +75,20 @@ asked_of found = option_and_then (λ folder. option_map (λ task. (folder, task)
 -- what the words ask for
 abbrev pub asked_in : List Text → Option (Text × Task)
 asked_in words = option_and_then asked_of (subcommand_of command_line words)
+
+-- no command with its folder was found
+abbrev pub missing_command : Option (Text × Task) → Kinds
+missing_command None = MissingRequiredArgument ∷ []
+missing_command (Some asked) = []
+
+-- The mistakes that the words are refused for, or the help that they ask for: by the statement of clap, and then that no command
+-- with its folder is there. None where the command line has the words.
+abbrev pub faults_of : List Text → Kinds
+faults_of words = or_else (fault_of command_line words) (missing_command (asked_in words))
+
+-- the command line has the words, and they ask for this
+abbrev pub IsTaken : List Text → Text → Task → Type 0
+IsTaken words folder task = (faults_of words ≡ []) × (asked_in words ≡ Some (folder, task))
 
 -- the word does not begin with a hyphen, and has a character
 abbrev pub IsNoOption : Text → Type 0

@@ -1,18 +1,19 @@
 -- What each command does with a store, what it writes, and what it reads.
-use Rattle.std.specs.Prelude.{◌≡◌, ◌⊎◌, ℕ, List, [], ◌∷◌, ◌++◌, Option, None, Some, codes, decimal}
+use Rattle.std.specs.Prelude.{◌≡◌, ◌==◌, ◌||◌, ◌⊎◌, ℕ, Bool, true, false, List, [], ◌∷◌, ◌++◌, Option, None, Some, codes, decimal}
 use Rattle.disk_trait.specs.Disk.{State}
 use Rattle.disk_trait.specs.declared.half.Half.{Half}
 use Rattle.disk_trait.specs.declared.half.Half.TheVariants.{A, B}
-use Rattle.lisp_object.specs.declared.refusal.TheConstants.{OUTPUT, NO_MEMORY}
+use Rattle.lisp_object.specs.declared.refusal.TheConstants.{DEVICE, DAMAGED, MISSING_MACRO, VERSION, OUTPUT, NO_MEMORY}
 use Rattle.clap.specs.Words.{Text}
 use Rattle.plist_state.specs.State.{State as World}
 use Rattle.snapshot_text.specs.Snapshot.{snapshot}
 use Rattle.prevalence_store.specs.Functions.{Functions}
-use Rattle.prevalence_store.specs.Opening.{IsOpened}
+use Rattle.prevalence_store.specs.Opening.{IsOpened, IsUnopened}
+use Rattle.prevalence_store.specs.declared.outcome.Ending.{Ending}
 use Rattle.prevalence_store.specs.Session.{Session}
-use Rattle.prevalence_store.specs.Streams.{Writes, WritesPart}
-use Rattle.store_program.specs.Session.{AnswersInput, IsBrokenOff, ReadsToEnd}
-use Rattle.store_program.specs.Status.{IsCarriedOut}
+use Rattle.prevalence_store.specs.Streams.{Writes}
+use Rattle.store_program.specs.Session.{AnswersInput, IsBrokenOff, IsSession, ReadsToEnd}
+use Rattle.store_program.specs.Status.{IsCarriedOut, status_of_ending}
 use Rattle.store_program.specs.declared.status.Status.{Status}
 use Rattle.store_program.specs.declared.status.Status.TheVariants.{Done, Helped, ReaderRefused, WordsRefused, Fault}
 use Rattle.store_program.specs.declared.words.Task.{Task}
@@ -36,10 +37,18 @@ dumped session world = snapshot world
 abbrev pub verified : {D R : Type 0} → Session D R → World → List ℕ
 verified session world = half_line session.half session.generation session.record_count
 
--- the text was written; or a part of it from its front, and the output failed; or nothing, as memory was refused
+-- what was written is the first part of this text, perhaps all of it
+abbrev pub IsFront : List ℕ → Option (List ℕ) → List ℕ → Type 0
+IsFront held written text = (front : List ℕ) × (rest : List ℕ) × (text ≡ front ++ rest) × (written ≡ Some (held ++ front))
+
+abbrev pub WritesFront : Option (List ℕ) → Option (List ℕ) → List ℕ → Type 0
+WritesFront old new text = (held : List ℕ) → old ≡ Some held → IsFront held new text
+
+-- The text was written and flushed; or a part of it from its front, and the output failed, perhaps at the flush after all of it;
+-- or nothing, as memory was refused.
 abbrev pub TellsText : Status → Option (List ℕ) → Option (List ℕ) → List ℕ → Type 0
 TellsText Done held written text = Writes held written text
-TellsText (Fault number) held written text = ((number ≡ OUTPUT) × WritesPart held written text) ⊎ ((number ≡ NO_MEMORY) × (written ≡ held))
+TellsText (Fault number) held written text = ((number ≡ OUTPUT) × WritesFront held written text) ⊎ ((number ≡ NO_MEMORY) × (written ≡ held))
 TellsText Helped held written text = ⊥
 TellsText ReaderRefused held written text = ⊥
 TellsText WordsRefused held written text = ⊥
@@ -52,6 +61,44 @@ pub record IsReport (functions : Functions) {D R : Type 0} (state : D → State)
   pub is_opened : IsOpened functions state disk macros limit opened
   pub tells : TellsText status held written (text opened is_opened.world)
   pub disk_is : back ≡ opened.disk
+
+-- The command was carried out over the store that a disk holds: a session went so, and the status is that of its ending; or a
+-- text on the store was written.
+module _ (functions : Functions) {D R : Type 0} (state : D → State) (disk : D) (macros : R) (had has held written : Option (List ℕ)) where
+  abbrev pub CarriesOut : Task → Status → Type 0
+  CarriesOut (Run mode every) status =
+      (ending : Ending) × (back : D) × (status ≡ status_of_ending ending) × IsSession functions mode state disk macros 1073741824 had has held written ending back
+  CarriesOut Dump status = (back : D) × IsReport functions state dumped disk macros 1073741824 held written status back
+  CarriesOut Verify status = (back : D) × IsReport functions state verified disk macros 1073741824 held written status back
+
+-- the store that a disk holds was not opened, and the status tells why
+abbrev pub TellsUnopened : Functions → {D : Type 0} → (D → State) → D → Bool → Status → Type 0
+TellsUnopened functions {D} state disk whole status =
+    (number : ℕ) × (back : D) × (status ≡ Fault number) × IsUnopened functions state disk whole 1073741824 number back
+
+-- What a command does over the store that a disk holds: it is carried out; or the store is not opened, and nothing is read or
+-- written. What a reader has left, and what a writer holds, is told by these functions.
+abbrev pub DoesOn : Functions → {D R : Type 0} → (D → State) → D → R → Bool → {I O : Type 0} → (I → Option (List ℕ)) → (O → Option (List ℕ)) → I → I → O → O → Task → Status → Type 0
+DoesOn functions state disk macros whole remaining contents input left held written task status =
+    CarriesOut functions state disk macros (remaining input) (remaining left) (contents held) (contents written) task status
+    ⊎ (TellsUnopened functions state disk whole status × (left ≡ input) × (written ≡ held))
+
+-- What the program does for words that the command line has: there is no memory, or the folder is not opened, and nothing is read
+-- or written; or it does this over the disk that the folder's files are.
+abbrev pub Does : Functions → {D R : Type 0} → (D → State) → R → Bool → {I O : Type 0} → (I → Option (List ℕ)) → (O → Option (List ℕ)) → I → I → O → O → Task → Status → Type 0
+Does functions {D} state macros whole remaining contents input left held written task status =
+    (((status ≡ Fault NO_MEMORY) ⊎ (status ≡ Fault DEVICE)) × (left ≡ input) × (written ≡ held))
+    ⊎ ((disk : D) × DoesOn functions state disk macros whole remaining contents input left held written task status)
+
+-- numbers that nothing but the opening of a store answers
+abbrev pub is_of_opening : ℕ → Bool
+is_of_opening number = number == DAMAGED || (number == MISSING_MACRO || number == VERSION)
+
+-- `dump` and `verify` read nothing
+abbrev pub reads_input : Task → Bool
+reads_input (Run mode every) = true
+reads_input Dump = false
+reads_input Verify = false
 
 -- ---- over the files of a folder, of which no clause can say what they hold
 
@@ -82,10 +129,6 @@ module _ (functions : Functions) where
   abbrev pub WordsWrite : Option (Text × Task) → Status → List ℕ → List ℕ → Option (List ℕ) → Type 0
   WordsWrite None status input held written = IsCarriedOut status → ⊥
   WordsWrite (Some asked) status input held written = TaskWrites asked.1 status input held written
-
-  -- what was written is the first part of this text
-  abbrev pub IsFront : List ℕ → Option (List ℕ) → List ℕ → Type 0
-  IsFront held written text = (front : List ℕ) × (rest : List ℕ) × (text ≡ front ++ rest) × (written ≡ Some (held ++ front))
 
   -- what a command wrote that met a fault is the first part of what it would have written, over the store of some world
   abbrev pub TaskBreaksOff : Task → List ℕ → List ℕ → Option (List ℕ) → Type 0

@@ -1,5 +1,6 @@
 -- Exit statuses, and when each comes.
-use Rattle.std.specs.Prelude.{◌≡◌, ◌≤◌, ◌⊎◌, ℕ}
+use Rattle.std.specs.Prelude.{◌≡◌, ◌≤◌, ◌⊎◌, ℕ, [], ◌∷◌}
+use Rattle.clap.specs.Words.{Kinds}
 use Rattle.clap.specs.declared.error.kind.ErrorKind.{ErrorKind}
 use Rattle.clap.specs.declared.error.kind.ErrorKind.TheVariants.{DisplayHelp, DisplayVersion, OutOfMemory}
 use Rattle.lisp_object.specs.declared.refusal.TheConstants.{DEVICE, OUTPUT, NO_MEMORY}
@@ -52,3 +53,14 @@ TakesWords (Fault number) = Unit {0}
 -- after words that gave no command: that of their kind of error, or a fault of the output where help was not written
 abbrev pub IsAfterWords : ErrorKind → Status → Type 0
 IsAfterWords kind status = (status ≡ status_of_kind kind) ⊎ ((status_of_kind kind ≡ Helped) × (status ≡ Fault OUTPUT))
+
+-- after words that have these mistakes, one of which is told
+abbrev pub IsAfterOneOf : Kinds → Status → Type 0
+IsAfterOneOf [] status = ⊥
+IsAfterOneOf (kind ∷ kinds) status = IsAfterWords kind status ⊎ IsAfterOneOf kinds status
+
+-- How the program ends after words that have these mistakes. Where there is none the words are taken. Else one of them is told, or
+-- memory ran out.
+abbrev pub EndsAfter : Kinds → Status → Type 0
+EndsAfter [] status = TakesWords status
+EndsAfter (kind ∷ kinds) status = (status ≡ Fault NO_MEMORY) ⊎ IsAfterOneOf (kind ∷ kinds) status

@@ -2,6 +2,7 @@
 ghost use Rattle.std.specs.Prelude.{OnOk, OnErr};
 ghost use Rattle.prevalence_store.specs.Output.{refusal_line};
 ghost use Rattle.prevalence_store.specs.Streams.{Writes, WritesPart};
+ghost use Rattle.store_program.specs.Commands.{WritesFront};
 
 use arrayvec::ArrayString;
 use lisp_object::refusal::name_of;
@@ -42,4 +43,18 @@ pub fn write_text<W: Write>(writer: &mut W, text: &[u8]) -> Result<(), Unwritten
         rest = &rest[count..];
     }
     Ok(())
+}
+
+/// Writes a text whole and flushes it. Else a part of it was written, from its front, or all of it and the flush failed.
+pub fn write_out<W: Write>(writer: &mut W, text: &[u8]) -> Result<(), Unwritten>
+    ensures whole { OnOk result (Writes (W.contents writer.old) (W.contents writer.new) text.now) }
+    ensures part { OnErr result (WritesFront (W.contents writer.old) (W.contents writer.new) text.now) }
+{
+    if write_text(writer, text).is_err() {
+        return Err(Unwritten);
+    }
+    match writer.flush() {
+        Ok(()) => Ok(()),
+        Err(_) => Err(Unwritten),
+    }
 }

@@ -1,16 +1,16 @@
 // The line on the half in use.
 ghost use Rattle.std.specs.Prelude.{◌≡◌, OnOk, OnErr};
-ghost use Rattle.prevalence_store.specs.Streams.{Writes, WritesPart};
-ghost use Rattle.store_program.specs.Commands.{half_line, letter_of};
+ghost use Rattle.prevalence_store.specs.Streams.{Writes};
+ghost use Rattle.store_program.specs.Commands.{WritesFront, half_line, letter_of};
 
-use crate::fault::{Unwritten, write_text};
+use crate::fault::{Unwritten, write_out};
 use arrayvec::ArrayString;
 use disk_trait::Half;
 use std::fmt::Write as WriteText;
 use std::io::Write;
 
-/// Writes the line on a half: which it is, its generation, and how many records it holds. It takes no memory; where a write fails
-/// or takes nothing, a part of the line was written, from its front.
+/// Writes the line on a half, and flushes it: which it is, its generation, and how many records it holds. It takes no memory.
+/// Where a write fails or takes nothing, a part of the line was written, from its front; and all of it where the flush failed.
 pub fn write_half_line<W: Write>(
     output: &mut W,
     half: Half,
@@ -18,7 +18,7 @@ pub fn write_half_line<W: Write>(
     records: u64,
 ) -> Result<(), Unwritten>
     ensures whole { OnOk result (Writes (W.contents output.old) (W.contents output.new) (half_line half generation records)) }
-    ensures part { OnErr result (WritesPart (W.contents output.old) (W.contents output.new) (half_line half generation records)) }
+    ensures part { OnErr result (WritesFront (W.contents output.old) (W.contents output.new) (half_line half generation records)) }
 {
     let letter = letter_of(half);
     let mut line = ArrayString::<80>::new();
@@ -28,7 +28,7 @@ pub fn write_half_line<W: Write>(
     ) else {
         return Err(Unwritten);
     };
-    write_text(output, line.as_bytes())
+    write_out(output, line.as_bytes())
 }
 
 // The letter of a half.

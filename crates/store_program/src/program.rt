@@ -1,5 +1,5 @@
 // What the words of the command line ask for.
-ghost use Rattle.std.specs.Prelude.{◌≡◌, ◌⊎◌, ◌<◌, ◌-◌, ◌^◌, ℕ, List, Some, IsSome, IfSome, map, IfOk, IfErr};
+ghost use Rattle.std.specs.Prelude.{◌≡◌, ◌⊎◌, ◌<◌, ◌-◌, ◌^◌, ℕ, List, Some, IsSome, IfSome, true, false, map, IfOk, IfErr};
 ghost use Rattle.std.specs.List.{list_all};
 ghost use Rattle.readtable_core.specs.Names.{is_among};
 ghost use Rattle.plist_state.specs.State.{State as LispWorld};
@@ -8,12 +8,12 @@ ghost use Rattle.prevalence_store.specs.Opening.{IsUnopened};
 ghost use Rattle.clap.specs.Words.{kind_of};
 ghost use Rattle.clap.specs.declared.error.kind.ErrorKind.TheVariants.{OutOfMemory};
 ghost use Rattle.store_program.specs.declared.words.Task.{Task};
-ghost use Rattle.store_program.specs.CommandLine.{AsksFor, asked_in as asked_by_words};
-ghost use Rattle.store_program.specs.Commands.{IsReport, TaskBreaksOff, TaskReads, TaskWrites, TellsText, WordsRead, WordsWrite, dumped, verified};
+ghost use Rattle.store_program.specs.CommandLine.{AsksFor, IsTaken, asked_in as asked_by_words, faults_of};
+ghost use Rattle.store_program.specs.Commands.{Does, DoesOn, IsReport, TaskBreaksOff, TaskReads, TaskWrites, TellsText, WordsRead, WordsWrite, dumped, is_of_opening, reads_input, verified};
 ghost use Rattle.store_program.specs.Session.{IsSession, TellsFault};
-ghost use Rattle.store_program.specs.Status.{HasFaultNumber, IsAfterWords, IsCarriedOut, TakesWords};
+ghost use Rattle.store_program.specs.Status.{EndsAfter, HasFaultNumber, IsAfterWords, IsCarriedOut, TakesWords};
 
-use crate::fault::{write_fault, write_text};
+use crate::fault::{write_fault, write_out};
 use crate::half_line::write_half_line;
 use crate::status::Status;
 use crate::words::{Asked, Task, asked_in};
@@ -38,7 +38,7 @@ const HALF_LIMIT: u64 = 1_073_741_824;
 /// the text of the world to `output`, and `verify DIR` the line on the half in use; they read nothing.
 ///
 /// Faults are found in this order: the words, DIR, the opening of the store, the command. A text on words that are refused, or
-/// the line of a fault, goes to `faults`; help that was asked for goes to `output`.
+/// the line of a fault, goes to `faults`; help that was asked for goes to `output`. What is written to `output` is flushed.
 pub fn program<R, M, S, I, O, F>(
     rt: &R,
     macros: M,
@@ -56,7 +56,16 @@ where
     F: Write,
     requires answers { M.answers macros }
     ensures words { (folder : List ℕ) (task : Task) → AsksFor (map S.text words.now) folder task
-        → TakesWords result × (asked_by_words (map S.text words.now) ≡ Some (folder, task)) }
+        → TakesWords result × IsTaken (map S.text words.now) folder task }
+    ensures ends { EndsAfter (faults_of (map S.text words.now)) result }
+    ensures carried { (folder : List ℕ) (task : Task) → IsTaken (map S.text words.now) folder task
+        → Does (functions_of M.Meaning.names M.Meaning.way M.Meaning.answer) ⟦<HostDisk as Disk>⟧.state macros
+        (list_all (is_among (M.registered macros)) M.Meaning.names) I.remaining O.contents
+        input.old input.new output.old output.new task result }
+    ensures unread { (folder : List ℕ) (task : Task) → IsTaken (map S.text words.now) folder task → reads_input task ≡ false
+        → input.new ≡ input.old }
+    ensures unopened { (number : ℕ) → result ≡ Status.Fault number → is_of_opening number ≡ true
+        → (input.new ≡ input.old) × (output.new ≡ output.old) }
     ensures quiet { IsCarriedOut result → faults.new ≡ faults.old }
     ensures helped { result ≡ Status.Helped → (faults.new ≡ faults.old) × (input.new ≡ input.old) }
     ensures refused { result ≡ Status.WordsRefused → (output.new ≡ output.old) × (input.new ≡ input.old) }
@@ -67,7 +76,7 @@ where
         result text held (O.contents output.new) }
     ensures fault { HasFaultNumber result }
     ensures told { TellsFault result (F.contents faults.old) (F.contents faults.new) }
-    ensures broken { (folder text held : List ℕ) (task : Task) (number : ℕ) → AsksFor (map S.text words.now) folder task
+    ensures broken { (folder text held : List ℕ) (task : Task) (number : ℕ) → IsTaken (map S.text words.now) folder task
         → I.remaining input.old ≡ Some text → O.contents output.old ≡ Some held → result ≡ Status.Fault number
         → TaskBreaksOff (functions_of M.Meaning.names M.Meaning.way M.Meaning.answer) task text held (O.contents output.new) }
 {
@@ -99,17 +108,28 @@ fn answer_words<O: Write, F: Write>(error: &Error, output: &mut O, faults: &mut 
     ensures untold { (number : ℕ) → result ≡ Status.Fault number → faults.new ≡ faults.old }
     ensures refused { result ≡ Status.WordsRefused → output.new ≡ output.old }
     ensures memory { kind_of error.now ≡ OutOfMemory → output.new ≡ output.old }
+    ensures no_opening { (number : ℕ) → result ≡ Status.Fault number → is_of_opening number ≡ true → ⊥ }
 {
     match Status::of_kind(error.kind()) {
-        Status::Helped => match write!(output, "{error}") {
-            Ok(()) => Status::Helped,
-            Err(_) => Status::Fault(OUTPUT),
-        },
+        Status::Helped => write_help(error, output),
         Status::WordsRefused => {
             let _ = write!(faults, "{error}");
             Status::WordsRefused
         }
         status => status,
+    }
+}
+
+// Writes help that was asked for, and flushes it.
+fn write_help<O: Write>(help: &Error, output: &mut O) -> Status
+    ensures { (result ≡ Status.Helped) ⊎ (result ≡ Status.Fault OUTPUT) }
+{
+    if write!(output, "{help}").is_err() {
+        return Status::Fault(OUTPUT);
+    }
+    match output.flush() {
+        Ok(()) => Status::Helped,
+        Err(_) => Status::Fault(OUTPUT),
     }
 }
 
@@ -128,6 +148,12 @@ where
     O: Write,
     requires answers { M.answers macros }
     ensures taken { TakesWords result }
+    ensures carried { Does (functions_of M.Meaning.names M.Meaning.way M.Meaning.answer) ⟦<HostDisk as Disk>⟧.state macros
+        (list_all (is_among (M.registered macros)) M.Meaning.names) I.remaining O.contents
+        input.old input.new output.old output.new asked.entry.task result }
+    ensures unread { reads_input asked.entry.task ≡ false → input.new ≡ input.old }
+    ensures unopened { (number : ℕ) → result ≡ Status.Fault number → is_of_opening number ≡ true
+        → (input.new ≡ input.old) × (output.new ≡ output.old) }
     ensures read { (text : List ℕ) → I.remaining input.old ≡ Some text → TaskReads asked.entry.task result text (I.remaining input.new) }
     ensures written { (text held : List ℕ) → I.remaining input.old ≡ Some text → O.contents output.old ≡ Some held
         → TaskWrites (functions_of M.Meaning.names M.Meaning.way M.Meaning.answer) asked.entry.task result text held (O.contents output.new) }
@@ -163,6 +189,12 @@ where
     requires room { (D.state disk).failures < 2 ^ 64 - 1 }
     requires answers { M.answers macros }
     ensures taken { TakesWords result }
+    ensures carried { DoesOn (functions_of M.Meaning.names M.Meaning.way M.Meaning.answer) D.state disk macros
+        (list_all (is_among (M.registered macros)) M.Meaning.names) I.remaining O.contents
+        input.old input.new output.old output.new task result }
+    ensures unread { reads_input task ≡ false → input.new ≡ input.old }
+    ensures unopened { (number : ℕ) → result ≡ Status.Fault number → is_of_opening number ≡ true
+        → (input.new ≡ input.old) × (output.new ≡ output.old) }
     ensures read { (text : List ℕ) → I.remaining input.old ≡ Some text → TaskReads task result text (I.remaining input.new) }
     ensures written { (text held : List ℕ) → I.remaining input.old ≡ Some text → O.contents output.old ≡ Some held
         → TaskWrites (functions_of M.Meaning.names M.Meaning.way M.Meaning.answer) task result text held (O.contents output.new) }
@@ -271,7 +303,14 @@ fn write_world<D: Disk, M, O: Write>(alloc: Global, store: &Store<D, M>, output:
     let Ok(text) = snapshot_text::write(alloc, world) else {
         return Status::Fault(NO_MEMORY);
     };
-    match write_text(output, text.as_slice()) {
+    write_report(output, text.as_slice())
+}
+
+// Writes a text, and tells how that went.
+fn write_report<O: Write>(output: &mut O, text: &[u8]) -> Status
+    ensures { TellsText result (O.contents output.old) (O.contents output.new) text.now }
+{
+    match write_out(output, text) {
         Ok(()) => Status::Done,
         Err(_) => Status::Fault(OUTPUT),
     }

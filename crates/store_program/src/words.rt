@@ -1,10 +1,10 @@
 // The command line.
-ghost use Rattle.std.specs.Prelude.{◌≡◌, Some, false, ℕ, List, codes, map, option_and_then, option_map, IfOk, IfErr};
-ghost use Rattle.clap.specs.Words.{app_of, found_of, kind_of, one_of, rows_of, rule_of, subcommand_rows_of};
+ghost use Rattle.std.specs.Prelude.{◌≡◌, ◌⊎◌, Some, false, ℕ, List, codes, map, option_and_then, option_map, IfOk, IfErr};
+ghost use Rattle.clap.specs.Words.{FailsBy, app_of, found_of, kind_of, one_of, rows_of, rule_of, subcommand_rows_of};
 ghost use Rattle.clap.specs.declared.builder.command.Command.TheViews.{out-Command as fields_of};
-ghost use Rattle.clap.specs.declared.error.kind.ErrorKind.TheVariants.{OutOfMemory};
+ghost use Rattle.clap.specs.declared.error.kind.ErrorKind.TheVariants.{MissingRequiredArgument, OutOfMemory};
 ghost use Rattle.store_program.specs.declared.words.Task.{Task};
-ghost use Rattle.store_program.specs.CommandLine.{asked_in, asked_of, command_line, every_of_number, every_rule, folder_line, mode_of_flag, rescue_rule, run_line, task_of, AsksFor};
+ghost use Rattle.store_program.specs.CommandLine.{asked_in, asked_of, command_line, every_of_number, every_rule, faults_of, folder_line, mode_of_flag, rescue_rule, run_line, task_of, AsksFor};
 
 use clap::builder::ValueParser;
 use clap::error::ErrorKind;
@@ -177,7 +177,9 @@ fn asked_by<'a>(matches: &ArgMatches<'a>) -> Option<Asked<'a>>
 }
 
 // The words passed, and yet no command with its folder was found.
-fn nothing_asked(command: &mut Command<'_>) -> Error {
+fn nothing_asked(command: &mut Command<'_>) -> Error
+    ensures { (kind_of result ≡ OutOfMemory) ⊎ (kind_of result ≡ MissingRequiredArgument) }
+{
     match command.error(ErrorKind::MissingRequiredArgument, "no folder was given") {
         Ok(error) => error,
         Err(memory) => Error::from(memory),
@@ -193,6 +195,7 @@ pub fn asked_in<'a, S: AsStr>(alloc: Global, words: &'a [S]) -> Result<Asked<'a>
     ensures asked { IfOk result (λ asked. asked_in (map S.text words.entry.now) ≡ Some (asked.folder.now, asked.task)) }
     ensures taken { (folder : List ℕ) (task : Task) → AsksFor (map S.text words.entry.now) folder task
         → IfErr result (λ e. kind_of e ≡ OutOfMemory) }
+    ensures faults { FailsBy (faults_of (map S.text words.entry.now)) result }
 {
     let mut command = whole_command(alloc)?;
     match command.try_get_matches_from_mut(words) {

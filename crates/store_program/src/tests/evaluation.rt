@@ -69,6 +69,10 @@ X
 = NIL
 (LIST 1)
 = (1)
+(PROGN (LIST '#999998(1)) 1)
+= 1
+(PROGN (LIST '#999999(1)) 1)
+! 46 LIMIT
 (GET 'A 'B)
 + NIL
 (GET 'LIST 'T 5)

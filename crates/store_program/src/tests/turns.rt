@@ -1,6 +1,9 @@
 //! How a session takes its input.
 
-use super::{AMPLE, Trouble, bytes_of, opened, session_of};
+use super::by_name::ByName;
+use super::{bytes_of, session_of};
+use crate::meaning::SixFunctions;
+use crate::program::{dump_on, serve_on, verify_on};
 use disk_trait::{Half, MemoryDisk};
 use prevalence_store::{Ending, Mode};
 use std::alloc::Global;
@@ -24,16 +27,37 @@ impl Read for Pieces<'_> {
     }
 }
 
+/// What a reader and a writer know of one another.
+#[derive(Drop)]
+struct Seen {
+    reads: Cell<u64>,
+    // what was written is not flushed yet
+    waits: Cell<bool>,
+    // a read came before what was written was flushed
+    is_late: Cell<bool>,
+}
+
+fn nothing_seen() -> Seen {
+    Seen {
+        reads: Cell::new(0),
+        waits: Cell::new(false),
+        is_late: Cell::new(false),
+    }
+}
+
 /// Gives one byte a read, and counts the reads.
 #[derive(Drop)]
 struct Counted<'a> {
     rest: &'a [u8],
-    reads: &'a Cell<u64>,
+    seen: &'a Seen,
 }
 
 impl Read for Counted<'_> {
     fn read(&mut self, buf: &mut [u8]) -> IoResult<usize> {
-        self.reads.set(self.reads.get().saturating_add(1));
+        self.seen.reads.set(self.seen.reads.get().saturating_add(1));
+        if self.seen.waits.get() {
+            self.seen.is_late.set(true);
+        }
         let count = buf.len().min(1).min(self.rest.len());
         buf[..count].copy_from_slice(&self.rest[..count]);
         self.rest = &self.rest[count..];
@@ -44,45 +68,77 @@ impl Read for Counted<'_> {
 /// Notes how many reads there were before the first write.
 #[derive(Drop)]
 struct Noted<'a> {
-    reads: &'a Cell<u64>,
+    seen: &'a Seen,
     first: Option<u64>,
 }
 
 impl Write for Noted<'_> {
     fn write(&mut self, buf: &[u8]) -> IoResult<usize> {
         if self.first.is_none() {
-            self.first = Some(self.reads.get());
+            self.first = Some(self.seen.reads.get());
         }
+        self.seen.waits.set(true);
         Ok(buf.len())
     }
 
     fn flush(&mut self) -> IoResult<()> {
+        self.seen.waits.set(false);
         Ok(())
     }
 }
 
-/// How many reads there were before the first answer of a session that gets one byte a read.
-fn reads_before_the_first_answer(alloc: Global, input: &[u8]) -> Result<Option<u64>, Trouble> {
-    let reads = Cell::new(0);
-    let mut store = opened(alloc, MemoryDisk::new(alloc), AMPLE)?;
+/// How many reads there were before the first answer of a session that gets one byte a read; whether a read came before an answer
+/// was flushed, and whether the last one was not.
+fn watched(alloc: Global, input: &[u8]) -> (Option<u64>, bool, bool) {
+    let seen = nothing_seen();
     let mut reader = Counted {
         rest: input,
-        reads: &reads,
+        seen: &seen,
     };
     let mut writer = Noted {
-        reads: &reads,
+        seen: &seen,
         first: None,
     };
-    let _ending = store.serve(&mut reader, &mut writer, Mode::Current, 0);
-    let _closed = store.close();
-    Ok(writer.first)
+    let macros = ByName::new(alloc, SixFunctions::new());
+    let disk = MemoryDisk::new(alloc);
+    let _served = serve_on(
+        alloc,
+        disk,
+        macros,
+        Mode::Current,
+        0,
+        &mut reader,
+        &mut writer,
+    );
+    (writer.first, seen.is_late.get(), seen.waits.get())
+}
+
+/// Whether the text of the world, or the line on the half, is written to the output and not flushed.
+fn unflushed(alloc: Global, is_dump: bool) -> (bool, bool) {
+    let seen = nothing_seen();
+    let mut writer = Noted {
+        seen: &seen,
+        first: None,
+    };
+    let macros = ByName::new(alloc, SixFunctions::new());
+    let disk = MemoryDisk::new(alloc);
+    if is_dump {
+        let _report = dump_on(alloc, disk, macros, &mut writer);
+    } else {
+        let _report = verify_on(alloc, disk, macros, &mut writer);
+    }
+    (writer.first.is_some(), seen.waits.get())
 }
 
 #[test]
 fn a_form_is_answered_before_the_next_read(rt: HostRuntime) -> Result<(), Fail> {
-    let input = b"(SETF (GET 'A 'B) 7)\n(GET 'A 'B)\n";
-    let reads = reads_before_the_first_answer(rt.alloc(), input)?;
+    let input = b"(SETF (GET 'A 'B) 7)\n(FROB)\n(GET 'A 'B)\n";
+    let (reads, is_late, waits) = watched(rt.alloc(), input);
     assert!(rt; reads.is_some_and(|reads| reads < 21), "{reads:?}");
+    assert_eq!(rt; (is_late, waits), (false, false));
+    for is_dump in [true, false] {
+        assert_eq!(rt; unflushed(rt.alloc(), is_dump), (true, false));
+    }
     Ok(())
 }
 

@@ -1,13 +1,13 @@
 use Rattle.std.proofs.Common.{◌≡◌, ◌∙◌, ◌++◌, ◌∷◌, [], List, ℕ, OnOk, OnErr, ap, subst, codes}
 use Rattle.std.proofs.lemmas.Fmt.{contents_after_writes}
 use Rattle.std.specs.Prelude.{decimal}
-use Rattle.prevalence_store.specs.Streams.{Writes, WritesPart}
-use Rattle.store_program.specs.Commands.{half_line}
+use Rattle.prevalence_store.specs.Streams.{Writes}
+use Rattle.store_program.specs.Commands.{WritesFront, half_line}
 use Rattle.store_program.proofs.half_line.write_half_line.Given as given
 use Rattle.store_program.proofs.half_line.write_half_line.Goals as goal
 
 -- the line in memory is that of the half
-line_is : (g : given.Over) (c : goal.After-write_text g) → c.as_bytes.result.now ≡ half_line c.args.half c.args.generation c.args.records
+line_is : (g : given.Over) (c : goal.After-write_out g) → c.as_bytes.result.now ≡ half_line c.args.half c.args.generation c.args.records
 line_is g c =
     let with_letter : List ℕ → List ℕ = λ letter. codes "half " ++ (letter ++ (codes " generation " ++ (decimal c.args.generation ++ (codes " records " ++ (decimal c.args.records ++ 10 ∷ []))))) in
     c.as_bytes.ensures.value
@@ -18,8 +18,8 @@ line_is g c =
 
 pub returns-clause-whole : goal.returns-clause-whole
 returns-clause-whole g c =
-    subst (λ l. OnOk c.write_text.result (Writes (g.W.Write.contents c.args.output.now) (g.W.Write.contents c.write_text.new.writer) l)) (line_is g c) c.write_text.ensures.whole
+    subst (λ l. OnOk c.write_out.result (Writes (g.W.Write.contents c.args.output.now) (g.W.Write.contents c.write_out.new.writer) l)) (line_is g c) c.write_out.ensures.whole
 
 pub returns-clause-part : goal.returns-clause-part
 returns-clause-part g c =
-    subst (λ l. OnErr c.write_text.result (WritesPart (g.W.Write.contents c.args.output.now) (g.W.Write.contents c.write_text.new.writer) l)) (line_is g c) c.write_text.ensures.part
+    subst (λ l. OnErr c.write_out.result (WritesFront (g.W.Write.contents c.args.output.now) (g.W.Write.contents c.write_out.new.writer) l)) (line_is g c) c.write_out.ensures.part

@@ -4,8 +4,8 @@ use Rattle.store_program.specs.declared.status.Status.{Status}
 use Rattle.store_program.specs.declared.words.Task.{Task}
 use Rattle.store_program.specs.Commands.{TaskBreaksOff, TaskWrites}
 use Rattle.store_program.specs.Session.{AnswersInput}
-use Rattle.store_program.proofs.Reports.{dump_writes, nothing_of, text_front, verify_writes}
-use Rattle.store_program.proofs.Sessions.{answers_input, broken_at}
+use Rattle.store_program.proofs.Reports.{does_dump, does_run, does_verify, dump_writes, nothing_of, text_front, text_of_no_opening, verify_writes}
+use Rattle.store_program.proofs.Sessions.{answers_input, broken_at, no_opening_at}
 use Rattle.store_program.proofs.Statuses.{ending_at}
 use Rattle.store_program.proofs.program.carry_out_on.Goals as goal
 
@@ -57,3 +57,27 @@ returns-in-Ok-verify_on-clause-broken g c = λ text held number left holds is.
 pub returns-in-Err-verify_on-clause-broken : goal.returns-in-Err-verify_on-clause-broken
 returns-in-Err-verify_on-clause-broken g c = λ text held number left holds is.
     nothing_of _ text held (g.O.Write.contents c.verify_on.new.output) None c.args.task (ap g.O.Write.contents c.in-Err-verify_on.ensures.refused.1 ∙ holds)
+
+pub returns-in-Ok-clause-carried : goal.returns-in-Ok-clause-carried
+returns-in-Ok-clause-carried g c =
+    does_run _ _ _ _ _ g.I.Read.remaining g.O.Write.contents _ _ _ _ c.args.task c.of_ending.result c.in-Run.mode c.in-Run.snapshot_every c.in-Ok.ending _ c.in-Run.is c.of_ending.ensures c.in-Ok.ensures.served
+
+pub returns-in-Ok-clause-unopened : goal.returns-in-Ok-clause-unopened
+returns-in-Ok-clause-unopened g c = λ number is of.
+    let served = c.in-Ok.ensures.served in
+    absurd (no_opening_at _ _ _ served.opened served.closed served.is_opened.world _ _ _ _ c.in-Ok.ending number
+    (ending_at c.of_ending.result c.of_ending.result c.in-Ok.ending number refl c.of_ending.ensures is) served.serves of)
+
+pub returns-in-Ok-dump_on-clause-carried : goal.returns-in-Ok-dump_on-clause-carried
+returns-in-Ok-dump_on-clause-carried g c = does_dump _ _ _ _ _ g.I.Read.remaining g.O.Write.contents _ _ _ _ c.args.task c.in-Ok-dump_on.status _ c.in-Dump.is c.in-Ok-dump_on.ensures.reports
+
+pub returns-in-Ok-dump_on-clause-unopened : goal.returns-in-Ok-dump_on-clause-unopened
+returns-in-Ok-dump_on-clause-unopened g c = λ number is of.
+    absurd (text_of_no_opening _ _ _ c.in-Ok-dump_on.status number is c.in-Ok-dump_on.ensures.reports.tells of)
+
+pub returns-in-Ok-verify_on-clause-carried : goal.returns-in-Ok-verify_on-clause-carried
+returns-in-Ok-verify_on-clause-carried g c = does_verify _ _ _ _ _ g.I.Read.remaining g.O.Write.contents _ _ _ _ c.args.task c.in-Ok-verify_on.status _ c.in-Verify.is c.in-Ok-verify_on.ensures.reports
+
+pub returns-in-Ok-verify_on-clause-unopened : goal.returns-in-Ok-verify_on-clause-unopened
+returns-in-Ok-verify_on-clause-unopened g c = λ number is of.
+    absurd (text_of_no_opening _ _ _ c.in-Ok-verify_on.status number is c.in-Ok-verify_on.ensures.reports.tells of)

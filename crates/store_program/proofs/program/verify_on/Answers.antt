@@ -1,5 +1,6 @@
 use Rattle.std.proofs.Common.{inl, refl}
-use Rattle.prevalence_store.specs.Streams.{Writes, WritesPart}
+use Rattle.prevalence_store.specs.Streams.{Writes}
+use Rattle.store_program.specs.Commands.{WritesFront}
 use Rattle.store_program.proofs.Reports.{same_half}
 use Rattle.store_program.proofs.program.verify_on.Goals as goal
 
@@ -23,7 +24,7 @@ returns-in-Err-clause-reports g c =
       is_opened = opened;
       tells = inl (
         refl,
-        same_half (WritesPart (g.O.Write.contents c.args.output.now) (g.O.Write.contents c.write_half_line-written.new.output)) c.half.result c.in_ok-store.store.half
+        same_half (WritesFront (g.O.Write.contents c.args.output.now) (g.O.Write.contents c.write_half_line-written.new.output)) c.half.result c.in_ok-store.store.half
             c.generation.result c.in_ok-store.store.generation c.record_count.result c.in_ok-store.store.record_count c.half.ensures c.generation.ensures c.record_count.ensures
             c.in-Err.ensures.part,
       );
