@@ -147,6 +147,23 @@ fn shows(packages: &Packages, owner: &[u8], names: &[&[u8]]) -> bool {
     true
 }
 
+// Whether each of the first symbols has a number of its own, below how many there are.
+fn are_numbered(packages: &Packages) -> bool {
+    let mut seen = [false; 53];
+    for (owner, names) in FIRST_SYMBOLS {
+        for name in names {
+            let Some(number) = packages.numbers().number_of(owner, name) else {
+                return false;
+            };
+            if number >= 53 || seen[number] {
+                return false;
+            }
+            seen[number] = true;
+        }
+    }
+    true
+}
+
 // Whether a name names this package, and is the name of a locked one.
 fn names(packages: &Packages, name: &[u8], package: Option<&[u8]>, locked: bool) -> bool {
     packages.find(name) == package
@@ -188,7 +205,7 @@ fn first_packages(rt: HostRuntime) -> Result<(), Fail> {
     let packages = Packages::new(alloc)?.copy(alloc)?;
     let all: [&[u8]; 3] = [COMMON_LISP, COMMON_LISP_USER, KEYWORD];
     assert!(rt; lists(Ok(packages.names(alloc)?), &all));
-    assert!(rt; is_user_first(alloc, &packages));
+    assert!(rt; is_user_first(alloc, &packages) && are_numbered(&packages));
     assert!(rt; uses_nothing(alloc, &packages, COMMON_LISP) && !uses_nothing(alloc, &packages, CL));
     assert_eq!(rt; packages.externals(alloc, COMMON_LISP)?.len(), 31);
     assert_eq!(rt; packages.own(alloc, KEYWORD)?.len(), 22);
