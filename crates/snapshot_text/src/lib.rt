@@ -8,9 +8,11 @@
 //! same packages, as the same object. What it asks of the tokens in the text, specs/Tokens.antt says.
 //!
 //! - `writer`: `write`; `package_rows`, `property_rows`, `table_rows`: packages, property lists and readtables as data;
-//!   `texts`: lists of texts
-//! - `reader`: `read`; `package_parts` (over `own_parts`), `property_parts`, `table_parts`: a world made from data, by its own
-//!   calls; `parts`: texts, lists and numbers in data; `known`: which data may be stored
+//!   `texts`: lists of texts; `printing`: data printed at the end of a text
+//! - `reader`: `read`; `lines`: the objects of a text, one at a time; `property_lines`: the line of property lists, of which
+//!   one row is in memory at a time
+//! - `package_parts` (over `own_parts`), `property_parts`, `table_parts`: a world made from data, by its own calls; `parts`:
+//!   texts, lists and numbers in data; `known`: which data may be stored
 //! - `error`: `SnapshotError`
 //! - `laws`: `printed_objects_read_back`, `one_text_one_state`, `snapshot_lines_are_read`
 #![tactic(auto)]

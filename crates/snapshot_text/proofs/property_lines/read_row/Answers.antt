@@ -1,4 +1,4 @@
-use Rattle.std.proofs.Common.{◌≡◌, ◌+◌, ◌++◌}
+use Rattle.std.proofs.Common.{◌+◌, ◌++◌}
 use Rattle.plist_state.specs.Changes.{plist}
 use Rattle.snapshot_text.specs.Rows.{symbol_at, row_of, row_text, text_after}
 use Rattle.snapshot_text.proofs.Gave.{refused_same}
