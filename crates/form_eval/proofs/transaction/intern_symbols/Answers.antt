@@ -1,0 +1,21 @@
+use Rattle.std.proofs.Common.{◌≡◌, ◌<◌, ℕ, List, All, map, Bor, sym, subst, ap, ◌∙◌}
+use Rattle.lisp_object.specs.Datum.{object_of}
+use Rattle.plist_state.specs.Properties.{Symbol}
+use Rattle.form_eval.specs.Acceptance.{symbols}
+use Rattle.form_eval.proofs.Known.{known_symbols}
+use Rattle.form_eval.proofs.SoundSymbols.{symbols_can, ascii_of, all_of_mapped}
+use Rattle.form_eval.proofs.transaction.intern_symbols.Goals as goal
+
+abbrev seen : Bor (List ℕ) × Bor (List ℕ) → Symbol
+seen p = (p.0.now, p.1.now)
+
+pub intern_all-requires : goal.intern_all-requires
+intern_all-requires c =
+    let u = c.args.world.now.0.packages in
+    let x = object_of c.args.form.now in
+    let same : map seen c.as_slice.result.now ≡ symbols x = ap (map seen) c.as_slice.ensures.value ∙ c.in_ok-symbols.ensures in
+    all_of_mapped (λ (y : Symbol). All (λ b. b < 128) y.1) seen c.as_slice.result.now
+    (subst (All (λ (y : Symbol). All (λ b. b < 128) y.1)) (sym same) (ascii_of u (symbols x) (symbols_can u x c.requires.form.object c.requires.form.symbols)))
+
+pub returns-then-known-clause-gives : goal.returns-then-known-clause-gives
+returns-then-known-clause-gives c = known_symbols c.args.world.now.0.packages (symbols (object_of c.args.form.now)) (sym c.requires.known ∙ c.if-known.true)
