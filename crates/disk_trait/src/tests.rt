@@ -1,3 +1,5 @@
+ghost use Rattle.std.specs.Prelude.{◌≡◌, ◌<◌, ◌-◌, ◌^◌, OnOk};
+
 use super::*;
 use std::os::unix::fs as unix;
 use std::test::Fail;
@@ -43,23 +45,41 @@ fn a_crash_leaves_what_was_synced(rt: HostRuntime) -> Result<(), Fail> {
     Ok(())
 }
 
-/// Of three calls the second and the third fail, or the second alone.
+/// Four calls, of which none is a sync. Half A holds "abc" then.
+fn passes_unsynced<D: Disk>(disk: &mut D) -> Result<(), DeviceFault>
+    requires { (D.state disk.old).failures < 2 ^ 64 - 1 }
+    ensures { OnOk result ((D.state disk.new).failures ≡ (D.state disk.old).failures) }
+{
+    disk.write_at(Half::A, 0, b"abc")?;
+    let end = disk.len(Half::A)?;
+    disk.cut(Half::A, end)?;
+    let mut buffer = [0; 8];
+    disk.read(Half::A, 0, &mut buffer)?;
+    Ok(())
+}
+
+/// Four calls pass and sync nothing; the next two fail, or the next alone.
 #[test]
 fn calls_fail_where_they_are_told_to(rt: HostRuntime) -> Result<(), Fail> {
-    let mut fuse = FuseDisk::new(MemoryDisk::new(rt.alloc()), 1);
-    fuse.write_at(Half::A, 0, b"abc")?;
+    let mut fuse = FuseDisk::new(MemoryDisk::new(rt.alloc()), 4);
+    passes_unsynced(&mut fuse)?;
     assert!(rt; fuse.sync(Half::A).is_err() && fuse.sync(Half::A).is_err());
     assert_eq!(rt; fuse.failures(), 2);
     let mut disk = fuse.into_inner();
     disk.crash(Crash::Lost)?;
     assert_eq!(rt; disk.len(Half::A)?, 0);
-    let mut once = OnceDisk::new(MemoryDisk::new(rt.alloc()), 1);
-    once.write_at(Half::A, 0, b"abc")?;
-    assert!(rt; once.sync(Half::A).is_err() && once.sync(Half::A).is_ok());
-    assert_eq!(rt; once.failures(), 1);
-    let mut disk = once.into_inner();
-    disk.crash(Crash::Lost)?;
-    assert_eq!(rt; disk.len(Half::A)?, 3);
+    for (synced, left) in [(false, 0), (true, 3)] {
+        let mut once = OnceDisk::new(MemoryDisk::new(rt.alloc()), 4);
+        passes_unsynced(&mut once)?;
+        assert!(rt; once.sync(Half::A).is_err());
+        if synced {
+            once.sync(Half::A)?;
+        }
+        assert_eq!(rt; once.failures(), 1);
+        let mut disk = once.into_inner();
+        disk.crash(Crash::Lost)?;
+        assert_eq!(rt; disk.len(Half::A)?, left);
+    }
     Ok(())
 }
 
@@ -107,6 +127,8 @@ fn a_sync_that_failed_is_never_forgotten(rt: HostRuntime) -> Result<(), Fail> {
         disk.write_at(good, 0, b"abc")?;
         disk.cut(good, 1)?;
         assert_eq!(rt; disk.len(good)?, 1);
+        let mut buffer = [0; 8];
+        assert_eq!(rt; disk.read(good, 0, &mut buffer)?, 1);
         assert!(rt; disk.sync(good).is_err() && disk.sync(good).is_err());
         assert_eq!(rt; disk.failures(), 3);
         drop(disk);
