@@ -16,7 +16,7 @@ pub record FuseValue (D : Type 0) : Type 0 where
 abbrev pub fused : {D : Type 0} → (D → State) → FuseValue D → State
 fused state fuse = record (state fuse.disk) { failures = (state fuse.disk).failures + fuse.failed }
 
--- One call: where none is left it fails, and the disk inside is as it was; else it is that disk's own.
+-- One call: where none is left it fails, and the disk inside is as it was.
 pub record Burns {D T : Type 0} (old new : FuseValue D) (result : Result T DeviceFault) : Type 0 where
   pub left : new.calls_left ≡ old.calls_left - 1
   pub fails : old.calls_left ≡ 0 → IsErr result × (new.disk ≡ old.disk)

@@ -22,7 +22,7 @@ before_next None = None
 before_next (Some zero) = None
 before_next (Some (suc calls)) = Some calls
 
--- One call: where it is the one that fails it fails, and the disk inside is as it was; else it is that disk's own.
+-- One call: where it is the one that fails it fails, and the disk inside is as it was.
 pub record FailsOnce {D T : Type 0} (old new : OnceValue D) (result : Result T DeviceFault) : Type 0 where
   pub before : new.calls_before ≡ before_next old.calls_before
   pub fails : old.calls_before ≡ Some 0 → IsErr result × (new.disk ≡ old.disk)

@@ -1,4 +1,4 @@
-//! The names of the functions of the standard readtable. Code, contracts, definitions and the crates above cite them here.
+//! The names of the functions of the standard readtable. Code, contracts and the crates above cite them here.
 
 /// Reads a list (standard 2.4.1).
 pub const STD_LIST: &[u8] = b"STD-LIST";
