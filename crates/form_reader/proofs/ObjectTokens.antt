@@ -1,6 +1,7 @@
 -- Tokens that are objects: where they begin, and what they come to where they end.
 use Rattle.std.proofs.Common.{◌≡◌, ℕ, ◌+◌, ◌-◌, ◌<◌, ◌≤◌, Bool, true, false, List, [], ◌∷◌, length, Some, Result, Err, if◌then◌else◌, refl, sym, ap, subst, ◌∙◌, arith}
-use Rattle.std.specs.Prelude.{nat_lt, ◌==◌, IsFalse, IfOk}
+use Rattle.std.specs.Prelude.{nat_lt, ◌==◌, IsFalse, IfOk, IfSome, Option}
+use Rattle.form_reader.specs.declared.stage.Stage.TheVariants.{Object as AtObject, Token as AtToken}
 use Rattle.std.proofs.lemmas.Bool.{eq-eqb}
 use Rattle.std.specs.declared.alloc.AllocError.{AllocError}
 use Rattle.lisp_object.specs.declared.refusal.TheConstants.{FORM_TOO_LONG}
@@ -10,7 +11,8 @@ use Rattle.readtable_core.specs.Tables.{Table, entry_at}
 use Rattle.token_scan.specs.declared.mark.Mark.{Mark}
 use Rattle.token_scan.specs.Tokens.{kind, typed}
 use Rattle.token_scan.specs.Spelling.{ends_tokens}
-use Rattle.token_scan.specs.Scans.{begun}
+use Rattle.token_scan.specs.Scans.{Scan, begun}
+use Rattle.form_reader.specs.InPlace.{Begins}
 use Rattle.form_reader.specs.declared.found.Found.{Found}
 use Rattle.form_reader.specs.declared.frame.Frame.{Frame}
 use Rattle.form_reader.specs.declared.macros.Moved.{Moved}
@@ -133,6 +135,22 @@ module _ (setting : Setting) (at c : ℕ) (cs : List ℕ) where
       ap (λ (fs : List Frame). run setting.table setting.limits (given setting fs (attempt_at setting (length fs))) at (c ∷ cs)) same
       ∙ sym (attempts setting at c cs frames h other) in
       subst (λ (r : Read Found). IfOk result (λ event. Brings setting after (at + 1) cs event r)) whole brings
+
+-- a token begins
+pub object_begins : (setting : Setting) (at c : ℕ) (cs : List ℕ) (frames : List Frame) (scan : Scan) → at ≤ setting.limits.text → length frames ≤ setting.limits.nesting
+    → ((close : ℕ) → close_of_frames frames ≡ Some close → (c == close) ≡ false) → stands_alone (entry_at setting.table c).syntax ≡ false
+    → token_read setting.table setting.limits (begun setting.limits.token) at (c ∷ cs) ≡ token_read setting.table setting.limits scan (at + 1) cs
+    → Begins setting frames at c cs scan
+object_begins setting at c cs frames scan h le other alone same =
+    attempts setting at c cs frames h other ∙ token_goes setting at c cs frames (token_read setting.table setting.limits scan (at + 1) cs) le alone same
+
+-- the same where it is known where the reader is, and that a token begins
+pub begun_there : (setting : Setting) (frames : List Frame) (at c : ℕ) (cs : List ℕ) (stage : Stage) (scan : Scan) (found : Option Scan) → stage ≡ AtObject
+    → found ≡ Some scan → IfSome found (λ s. Begins setting frames at c cs s)
+    → stage_gives setting frames stage at (c ∷ cs) ≡ stage_gives setting frames (AtToken scan) (at + 1) cs
+begun_there setting frames at c cs stage scan found is some begins =
+    ap (λ (s : Stage). stage_gives setting frames s at (c ∷ cs)) is
+    ∙ subst (λ (o : Option Scan). IfSome o (λ s. Begins setting frames at c cs s)) some begins
 
 -- the same where it is known where the reader is
 pub stage_moves : (setting : Setting) (frames : List Frame) (at c : ℕ) (cs : List ℕ) (stage known : Stage) (result : Result Moved AllocError) → stage ≡ known

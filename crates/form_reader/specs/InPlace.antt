@@ -5,6 +5,8 @@ use Rattle.form_reader.specs.declared.in_place.InPlace.{InPlace}
 use Rattle.form_reader.specs.declared.in_place.InPlace.TheVariants.{Taken, Left, Refused}
 use Rattle.form_reader.specs.declared.limits.Limits.{Limits}
 use Rattle.form_reader.specs.declared.stage.Stage.{Stage}
+use Rattle.form_reader.specs.declared.stage.Stage.TheVariants.{Object as AtObject, Token as AtToken}
+use Rattle.token_scan.specs.Scans.{Scan}
 use Rattle.form_reader.specs.Plans.{fault}
 use Rattle.form_reader.specs.Setting.{Setting}
 use Rattle.form_reader.specs.Resuming.{IsStageAt, stage_gives}
@@ -15,6 +17,10 @@ abbrev pub FeedsInPlace : Setting → List Frame → ℕ → ℕ → List ℕ �
 FeedsInPlace setting frames at c cs old new Taken = stage_gives setting frames old at (c ∷ cs) ≡ stage_gives setting frames new (at + 1) cs
 FeedsInPlace setting frames at c cs old new Left = new ≡ old
 FeedsInPlace setting frames at c cs old new (Refused code) = stage_gives setting frames old at (c ∷ cs) ≡ fault code at
+
+-- a token begins at the byte at this place, where an object may begin
+abbrev pub Begins : Setting → List Frame → ℕ → ℕ → List ℕ → Scan → Type 0
+Begins setting frames at c cs scan = stage_gives setting frames AtObject at (c ∷ cs) ≡ stage_gives setting frames (AtToken scan) (at + 1) cs
 
 -- where the reader may be after it
 abbrev pub IsReadyInPlace : Limits → ℕ → Stage → InPlace → Type 0

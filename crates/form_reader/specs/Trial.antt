@@ -1,17 +1,18 @@
 -- What the functions of the tests mean.
-use Rattle.std.specs.Prelude.{ℕ, ◌≡◌, pos, true, false, ◌||◌, is_some, if◌then◌else◌, List, [], ◌∷◌, length, map, Option, Some, None, unwrap_or, codes, refl}
+use Rattle.std.specs.Prelude.{ℕ, ◌≡◌, pos, Bool, true, false, ◌||◌, is_some, if◌then◌else◌, List, [], ◌∷◌, length, map, Option, Some, None, unwrap_or, codes, refl}
 use Rattle.readtable_core.specs.Names.{same_name, is_among}
-use Rattle.lisp_object.specs.Object.{integer, symbol}
+use Rattle.lisp_object.specs.Object.{integer, symbol, pair, nil}
 use Rattle.user_macros.specs.declared.call.Gather.{Gather}
 use Rattle.user_macros.specs.declared.call.Gather.TheVariants.{Nothing, Next, Until, Text, TextSame, Line, Token}
-use Rattle.user_macros.specs.Calls.{Material, nothing, one, many, text, MacroCall, MacroAnswer, value, no_value, refused}
+use Rattle.user_macros.specs.Calls.{Material, nothing, one, many, text, MacroCall, MacroAnswer, value, no_value, improper, refused}
 
 -- the ways of seven that count what they gather, and of others
 abbrev pub rows : List (List ℕ × Gather)
 rows =
     (codes "NONE", Nothing) ∷ (codes "NEXT", Next) ∷ (codes "UNTIL", Until 93) ∷ (codes "TEXT", Text 125) ∷ (codes "SAME", TextSame)
     ∷ (codes "LINE", Line) ∷ (codes "TOKEN", Token) ∷ (codes "MUTE", Token) ∷ (codes "LOW", Nothing) ∷ (codes "ALIEN", Nothing)
-    ∷ (codes "NICKNAME", Nothing) ∷ (codes "FRESH", Nothing) ∷ []
+    ∷ (codes "NICKNAME", Nothing) ∷ (codes "FRESH", Nothing) ∷ (codes "HIGH", Nothing) ∷ (codes "OWN", Nothing)
+    ∷ (codes "OTHER", Nothing) ∷ (codes "IMPROPER", Nothing) ∷ (codes "WRAP", Next) ∷ (codes "NAME", Text 125) ∷ []
 
 abbrev pub way_among : List (List ℕ × Gather) → List ℕ → Option Gather
 way_among [] name = None
@@ -45,7 +46,26 @@ other_answer name =
     else (if same_name (codes "ALIEN") name then Some (value (symbol (codes "NOWHERE") (codes "X")))
     else (if same_name (codes "NICKNAME") name then Some (value (symbol (codes "CL-USER") (codes "X")))
     else (if same_name (codes "FRESH") name then Some (value (symbol (codes "COMMON-LISP-USER") (codes "X")))
-    else None))))
+    else (if same_name (codes "HIGH") name then Some (refused 65535)
+    else (if same_name (codes "OWN") name then Some (value (symbol (codes "COMMON-LISP") (codes "X")))
+    else (if same_name (codes "OTHER") name then Some (value (symbol (codes "COMMON-LISP-USER") (codes "GET")))
+    else (if same_name (codes "IMPROPER") name then Some improper
+    else None))))))))
+
+-- two answer by what they gather: the object in two lists, or the symbol of this name
+abbrev pub makes : List ℕ → Bool
+makes name = same_name (codes "WRAP") name || same_name (codes "NAME") name
+
+abbrev pub wrapped : Material → MacroAnswer
+wrapped (one x) = value (pair (pair x nil) nil)
+wrapped _ = no_value
+
+abbrev pub named : Material → MacroAnswer
+named (text cs) = value (symbol (codes "COMMON-LISP-USER") cs)
+named _ = no_value
+
+abbrev pub made : List ℕ → Material → MacroAnswer
+made name material = if same_name (codes "WRAP") name then wrapped material else named material
 
 abbrev pub trial_answer : List ℕ → MacroCall → MacroAnswer
-trial_answer name call = unwrap_or (other_answer name) (value (integer (pos (count call.gathered))))
+trial_answer name call = if makes name then made name call.gathered else unwrap_or (other_answer name) (value (integer (pos (count call.gathered))))

@@ -90,6 +90,13 @@ impl Frames {
         }
     }
 
+    /// Whether `c` is the closing character that the innermost call looks for.
+    pub(crate) fn is_closed_by(&self, c: u8) -> bool
+        ensures { result ≡ false → (close : ℕ) → close_of_frames self.now ≡ Some close → (c == close) ≡ false }
+    {
+        self.close() == Some(c)
+    }
+
     /// Takes the innermost call where `c` is the closing character that it looks for.
     pub(crate) fn pop_closed_by(&mut self, c: u8) -> Option<Frame>
         ensures { MatchOption result ((self.new ≡ self.old) × ((close : ℕ) → close_of_frames self.old ≡ Some close → (c == close) ≡ false))

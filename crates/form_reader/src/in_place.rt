@@ -1,11 +1,13 @@
-//! One byte that only goes on what is gathered, taken where it is gathered.
-ghost use Rattle.std.specs.Prelude.{◌≡◌, ◌≤◌, ◌<◌, ◌+◌, ℕ, List, ◌∷◌, IfOk};
-ghost use Rattle.form_reader.specs.declared.frame.Frame.{Frame as OpenCall};
+//! One byte that begins a token or goes on one, taken where the reader is.
+ghost use Rattle.std.specs.Prelude.{◌≡◌, ◌≤◌, ◌<◌, ◌+◌, ℕ, List, ◌∷◌, length, IfOk, IfSome, IsTrue};
+ghost use Rattle.form_reader.specs.Feeding.{is_going};
 ghost use Rattle.form_reader.specs.Setting.{setting_of};
-ghost use Rattle.form_reader.specs.InPlace.{FeedsInPlace, IsReadyInPlace};
+ghost use Rattle.form_reader.specs.InPlace.{Begins, FeedsInPlace, IsReadyInPlace};
 
+use crate::attempt::stands_alone;
 use crate::bytes::LineByte;
-use crate::stage::Stage;
+use crate::frame::Frames;
+use crate::stage::{BegunScan, FirstByte, Stage, first_byte};
 use crate::surroundings::Surroundings;
 use std::alloc::AllocError;
 use user_macros::MacroFunctions;
@@ -21,26 +23,63 @@ pub enum InPlace {
     Refused(u16),
 }
 
-/// The byte `c` at `at`, where the reader is at `stage`: it is taken there if it goes on a token.
+/// The byte `c` at `at`, where the reader is at `stage`: it is taken there if it begins a token or goes on one.
 pub(crate) fn in_place<R: MacroFunctions>(
     with: &Surroundings<'_, R>,
+    frames: &Frames,
     stage: &mut Stage,
     at: usize,
     c: u8,
 ) -> Result<InPlace, AllocError>
-    requires { at ≤ with.now.limits.text }
-    ensures feeds { (frames : List OpenCall) (cs : List ℕ) → IfOk result (FeedsInPlace
+    requires place { at ≤ with.now.limits.text }
+    requires nesting { length frames.now ≤ with.now.limits.nesting }
+    ensures feeds { (cs : List ℕ) → IfOk result (FeedsInPlace
         (setting_of with.now.limits with.now.readtable.now with.now.packages.now.0 with.now.current.now
         (R.registered with.now.macros.now) R.Meaning.way R.Meaning.answer)
-        frames at c cs stage.old stage.new) }
+        frames.now at c cs stage.old stage.new) }
     ensures ready { IfOk result (IsReadyInPlace with.now.limits at stage.new) }
 {
     match stage {
+        Stage::Object => match begun_at(with, frames, at, c)? {
+            Some(scan) => {
+                *stage = Stage::Token(scan);
+                Ok(InPlace::Taken)
+            }
+            None => Ok(InPlace::Left),
+        },
         Stage::Token(scan) => match scan.feed(with.readtable, &with.limits, at, c)? {
             LineByte::More => Ok(InPlace::Taken),
             LineByte::Ended => Ok(InPlace::Left),
             LineByte::Refused(code) => Ok(InPlace::Refused(code)),
         },
         _ => Ok(InPlace::Left),
+    }
+}
+
+/// The token that the byte `c` at `at` begins, where an object may begin; None where it begins none, or is refused.
+#[tactic(auto, using(crate::proofs::ObjectTokens::begins_token))]
+fn begun_at<R: MacroFunctions>(
+    with: &Surroundings<'_, R>,
+    frames: &Frames,
+    at: usize,
+    c: u8,
+) -> Result<Option<BegunScan>, AllocError>
+    requires place { at ≤ with.now.limits.text }
+    requires nesting { length frames.now ≤ with.now.limits.nesting }
+    ensures begins { (cs : List ℕ) → IfOk result (λ begun. IfSome begun (λ scan. Begins
+        (setting_of with.now.limits with.now.readtable.now with.now.packages.now.0 with.now.current.now
+        (R.registered with.now.macros.now) R.Meaning.way R.Meaning.answer)
+        frames.now at c cs scan)) }
+    ensures ready { IfOk result (λ begun. IfSome begun (λ scan. (at < with.now.limits.text) × IsTrue (is_going scan.stage))) }
+{
+    if frames.is_closed_by(c) {
+        return Ok(None);
+    }
+    if stands_alone(with.readtable.syntax(c)) {
+        return Ok(None);
+    }
+    match first_byte(with.alloc, with.readtable, &with.limits, at, c)? {
+        FirstByte::More(scan) => Ok(Some(scan)),
+        FirstByte::Refused(_) => Ok(None),
     }
 }

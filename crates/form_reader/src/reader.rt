@@ -136,7 +136,7 @@ impl FormReader {
             macros,
         };
         match &mut self.state {
-            State::Open(stage) => match in_place(&with, stage, self.at, byte) {
+            State::Open(stage) => match in_place(&with, &self.frames, stage, self.at, byte) {
                 Ok(InPlace::Taken) => {
                     self.at += 1;
                     Ok(Step::More)

@@ -3,7 +3,7 @@ use super::{form, refused};
 use std::test::Fail;
 
 // The text `front`, so many times the byte, and `back`.
-fn repeated(
+pub(super) fn repeated(
     rt: &HostRuntime,
     front: &[u8],
     byte: u8,

@@ -2,18 +2,20 @@
 ghost use Rattle.std.specs.Prelude.{◌≡◌, pos, true, IfOk};
 ghost use Rattle.std.specs.List.{list_all};
 ghost use Rattle.lisp_object.specs.Ascii.{is_ascii};
-ghost use Rattle.lisp_object.specs.Object.{integer, symbol};
-ghost use Rattle.user_macros.specs.Calls.{answer_of, call_of, value};
-ghost use Rattle.form_reader.specs.Trial.{trial_names, trial_way, trial_answer, count};
+ghost use Rattle.lisp_object.specs.Datum.{is_proper, object_of};
+ghost use Rattle.lisp_object.specs.Object.{integer, nil, pair, symbol};
+ghost use Rattle.user_macros.specs.Calls.{answer_of, call_of, improper, value};
+ghost use Rattle.user_macros.specs.Sound.{IsSoundCall};
+ghost use Rattle.form_reader.specs.Trial.{trial_names, trial_way, trial_answer, count, named, wrapped};
 
-use lisp_object::{Bytes, Datum};
+use lisp_object::{Bytes, Datum, Items};
 use readtable_core::FnName;
 use std::alloc::{AllocError, Global};
 use user_macros::{Answer, Call, Gather, Gathered, Meaning};
 
 #[derive(Drop)]
 pub struct Trial {
-    names: [FnName; 12],
+    names: [FnName; 18],
     ghost are: { names ≡ trial_names },
 }
 
@@ -33,6 +35,12 @@ impl Trial {
                 FnName::new(b"ALIEN").unwrap(),
                 FnName::new(b"NICKNAME").unwrap(),
                 FnName::new(b"FRESH").unwrap(),
+                FnName::new(b"HIGH").unwrap(),
+                FnName::new(b"OWN").unwrap(),
+                FnName::new(b"OTHER").unwrap(),
+                FnName::new(b"IMPROPER").unwrap(),
+                FnName::new(b"WRAP").unwrap(),
+                FnName::new(b"NAME").unwrap(),
             ],
         }
     }
@@ -90,6 +98,24 @@ impl Meaning for Trial {
         if b"FRESH".as_slice() == name.as_bytes() {
             return Some(Gather::Nothing);
         }
+        if b"HIGH".as_slice() == name.as_bytes() {
+            return Some(Gather::Nothing);
+        }
+        if b"OWN".as_slice() == name.as_bytes() {
+            return Some(Gather::Nothing);
+        }
+        if b"OTHER".as_slice() == name.as_bytes() {
+            return Some(Gather::Nothing);
+        }
+        if b"IMPROPER".as_slice() == name.as_bytes() {
+            return Some(Gather::Nothing);
+        }
+        if b"WRAP".as_slice() == name.as_bytes() {
+            return Some(Gather::Next);
+        }
+        if b"NAME".as_slice() == name.as_bytes() {
+            return Some(Gather::Text(b'}'));
+        }
         None
     }
 }
@@ -118,4 +144,52 @@ pub fn symbol(alloc: Global, home: &[u8], name: &[u8]) -> Result<Answer, AllocEr
         package: Bytes::from_slice(alloc, home)?,
         name: Bytes::from_slice(alloc, name)?,
     }))
+}
+
+/// What was gathered, in two lists.
+pub fn wrapped(alloc: Global, call: &Call) -> Result<Answer, AllocError>
+    requires { IsSoundCall call.now }
+    ensures { IfOk result (λ a. answer_of a ≡ wrapped (call_of call.now).gathered) }
+{
+    match &call.gathered {
+        Gathered::One(datum) => {
+            let inner = listed(alloc, datum.copy(alloc)?)?;
+            Ok(Answer::One(listed(alloc, inner)?))
+        }
+        _ => Ok(Answer::Nothing),
+    }
+}
+
+#[tactic(auto, using(lisp_object::proofs::Objects::object_laws, lisp_object::proofs::Properness::proper_laws))]
+fn listed(alloc: Global, datum: Datum) -> Result<Datum, AllocError>
+    requires { is_proper datum ≡ true }
+    ensures object { IfOk result (λ d. object_of d ≡ pair (object_of datum) nil) }
+    ensures proper { IfOk result (λ d. is_proper d ≡ true) }
+{
+    let mut items = Items::new(alloc);
+    items.push(datum)?;
+    Ok(Datum::List { items, tail: None })
+}
+
+/// The symbol whose name was gathered.
+#[tactic(auto, using(lisp_object::proofs::Sound::all_ascii))]
+pub fn named(alloc: Global, call: &Call) -> Result<Answer, AllocError>
+    requires { IsSoundCall call.now }
+    ensures { IfOk result (λ a. answer_of a ≡ named (call_of call.now).gathered) }
+{
+    match &call.gathered {
+        Gathered::Text(name) => symbol(alloc, b"COMMON-LISP-USER", name.as_slice()),
+        _ => Ok(Answer::Nothing),
+    }
+}
+
+/// A list without an item, which is not proper.
+#[tactic(auto, using(lisp_object::proofs::Properness::proper_laws))]
+pub fn empty_list(alloc: Global) -> Answer
+    ensures { answer_of result ≡ improper }
+{
+    Answer::One(Datum::List {
+        items: Items::new(alloc),
+        tail: None,
+    })
 }

@@ -13,7 +13,7 @@ returns-in-Ok-Taken-clause-steps g c = λ bytes after.
     (g.R.MacroFunctions.registered c.args.macros.now) g.R.Meaning.Meaning.way g.R.Meaning.Meaning.answer in
     went_on setting c.args.self.now c.args.self.now c.args.self.now c.in-Open.stage bytes c.args.byte c.args.self.now.frames c.in_place.new.stage
     (subst (λ (s : State). IsAfterIn setting c.args.self.now s bytes) c.in-Open.is after)
-    (λ cs. taken_there setting c.args.self.now.frames c.args.self.now.start c.args.self.now.at c.args.byte c.in-Open.stage c.in_place.new.stage c.in-Ok-Taken.field-0 cs c.in-Ok-Taken.field-0-is (c.in-Ok-Taken.ensures.feeds c.args.self.now.frames cs))
+    (λ cs. taken_there setting c.args.self.now.frames c.args.self.now.start c.args.self.now.at c.args.byte c.in-Open.stage c.in_place.new.stage c.in-Ok-Taken.field-0 cs c.in-Ok-Taken.field-0-is (c.in-Ok-Taken.ensures.feeds cs))
     (ready_there setting c.args.self.now.frames c.args.self.now.start c.args.self.now.at c.args.byte c.in-Open.stage c.in_place.new.stage c.in-Ok-Taken.field-0 c.args.self.now.limits c.in-Ok-Taken.field-0-is c.in-Ok-Taken.ensures.ready
     (standing_of c.args.self.now.limits c.args.self.now.frames c.args.self.now.at c.args.self.now.state c.in-Open.stage c.in-Open.is c.args.self.now.standing))
 
@@ -23,7 +23,7 @@ returns-in-Ok-Refused-clause-steps g c = λ bytes after.
     (g.R.MacroFunctions.registered c.args.macros.now) g.R.Meaning.Meaning.way g.R.Meaning.Meaning.answer in (
       gave_up setting c.args.self.now c.args.self.now c.args.self.now c.in-Open.stage bytes c.args.byte c.args.self.now.frames c.in-Ok-Refused.code (c.args.self.now.start + c.args.self.now.at)
           (subst (λ (s : State). IsAfterIn setting c.args.self.now s bytes) c.in-Open.is after)
-          (λ cs. refused_there setting c.args.self.now.frames c.args.self.now.start c.args.self.now.at c.args.byte c.in-Open.stage c.in_place.new.stage c.in-Ok-Refused.field-0 c.in-Ok-Refused.code cs c.in-Ok-Refused.field-0-is (c.in-Ok-Refused.ensures.feeds c.args.self.now.frames cs)),
+          (λ cs. refused_there setting c.args.self.now.frames c.args.self.now.start c.args.self.now.at c.args.byte c.in-Open.stage c.in_place.new.stage c.in-Ok-Refused.field-0 c.in-Ok-Refused.code cs c.in-Ok-Refused.field-0-is (c.in-Ok-Refused.ensures.feeds cs)),
       refl,
     )
 
@@ -32,7 +32,7 @@ take_byte-requires-clause-standing g c =
     let setting = setting_of c.args.self.now.limits c.args.readtable.now c.args.packages.now.0 c.args.current.now
     (g.R.MacroFunctions.registered c.args.macros.now) g.R.Meaning.Meaning.way g.R.Meaning.Meaning.answer in
     standing_of c.args.self.now.limits c.args.self.now.frames c.args.self.now.at c.args.self.now.state c.replace-stage.result
-    (c.in-Open.is ∙ ap Open (sym (c.replace-stage.ensures.value ∙ left_there setting c.args.self.now.frames c.args.self.now.start c.args.self.now.at c.args.byte c.in-Open.stage c.in_place.new.stage c.in-Ok-Left.field-0 [] c.in-Ok-Left.field-0-is (c.in-Ok-Left.ensures.feeds c.args.self.now.frames []))))
+    (c.in-Open.is ∙ ap Open (sym (c.replace-stage.ensures.value ∙ left_there setting c.args.self.now.frames c.args.self.now.start c.args.self.now.at c.args.byte c.in-Open.stage c.in_place.new.stage c.in-Ok-Left.field-0 [] c.in-Ok-Left.field-0-is (c.in-Ok-Left.ensures.feeds []))))
     c.args.self.now.standing
 
 pub returns-in_ok-next-in-Ok-Left-clause-steps : goal.returns-in_ok-next-in-Ok-Left-clause-steps
@@ -41,5 +41,5 @@ returns-in_ok-next-in-Ok-Left-clause-steps g c = λ bytes after.
     (g.R.MacroFunctions.registered c.args.macros.now) g.R.Meaning.Meaning.way g.R.Meaning.Meaning.answer in
     stepped setting c.args.self.now _ c.take.new.self c.replace-stage.result bytes c.args.byte c.take_byte.new.frames c.in_ok-next-in-Ok-Left.next c.take.result
     (subst (λ (s : State). IsAfterIn setting c.args.self.now s bytes)
-    (c.in-Open.is ∙ ap Open (sym (c.replace-stage.ensures.value ∙ left_there setting c.args.self.now.frames c.args.self.now.start c.args.self.now.at c.args.byte c.in-Open.stage c.in_place.new.stage c.in-Ok-Left.field-0 [] c.in-Ok-Left.field-0-is (c.in-Ok-Left.ensures.feeds c.args.self.now.frames [])))) after)
+    (c.in-Open.is ∙ ap Open (sym (c.replace-stage.ensures.value ∙ left_there setting c.args.self.now.frames c.args.self.now.start c.args.self.now.at c.args.byte c.in-Open.stage c.in_place.new.stage c.in-Ok-Left.field-0 [] c.in-Ok-Left.field-0-is (c.in-Ok-Left.ensures.feeds [])))) after)
     c.in_ok-next-in-Ok-Left.ensures.turns c.in_ok-next-in-Ok-Left.ensures.ready c.take.ensures.takes refl
