@@ -78,7 +78,14 @@ asked_found m name f folder task named listed folder_is task_is =
       task_is,
     ) refl
 
--- the words ask for one thing
+-- the words ask for one thing, of one folder
+pub same_folder : (asked : Option (Text × Task)) (a b : Text) (t u : Task) → asked ≡ Some (a, t) → asked ≡ Some (b, u) → a ≡ b
+same_folder None a b t u one other = absurd (cc)
+same_folder (Some at) a b t u one other =
+    let first : at.0 ≡ a = ap (λ (o : Option (Text × Task)). elim o [ None ↦ at.0 | Some p ↦ p.0 ]) one in
+    let second : at.0 ≡ b = ap (λ (o : Option (Text × Task)). elim o [ None ↦ at.0 | Some p ↦ p.0 ]) other in
+    sym first ∙ second
+
 pub same_task : (asked : Option (Text × Task)) (a b : Text) (t u : Task) → asked ≡ Some (a, t) → asked ≡ Some (b, u) → t ≡ u
 same_task None a b t u one other = absurd (cc)
 same_task (Some at) a b t u one other =

@@ -51,8 +51,8 @@ module _ (held written : Option (List ℕ)) (text : List ℕ) where
   text_of_no_opening status number is told of = numbers_of_text number (subst (λ (s : Status). TellsText s held written text) is told) of
 
   number_of_text : (number : ℕ) → TellsText (Fault number) held written text → IsFaultNumber number
-  number_of_text number (inl cut) = subst IsFaultNumber (sym cut.0) (inl (omega arith, omega arith))
-  number_of_text number (inr none) = inr none.0
+  number_of_text number (inl cut) = subst IsFaultNumber (sym cut.0) (inr (inl (omega arith, omega arith)))
+  number_of_text number (inr none) = inr (inr none.0)
 
   pub text_fault : (status : Status) → TellsText status held written text → HasFaultNumber status
   text_fault Done told = λ number is. absurd (cc)

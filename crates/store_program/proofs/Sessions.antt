@@ -1,7 +1,7 @@
 -- From what the store promises of a session to what the program does.
 use Rattle.std.proofs.Common.{◌≡◌, ◌⊎◌, ℕ, ◌+◌, ◌≤◌, true, List, [], ◌++◌, Option, Some, refl, sym, ap, subst, ◌∙◌, inl, inr, append-nil, arith}
 use Rattle.disk_trait.specs.Disk.{State}
-use Rattle.lisp_object.specs.declared.refusal.TheConstants.{DEVICE, LOG_FULL, SNAPSHOT_TOO_LARGE, INPUT, OUTPUT, NO_MEMORY}
+use Rattle.lisp_object.specs.declared.refusal.TheConstants.{DEVICE, DAMAGED, LOG_FULL, SNAPSHOT_TOO_LARGE, INPUT, OUTPUT, NO_MEMORY}
 use Rattle.plist_state.specs.State.{State as World, initial}
 use Rattle.prevalence_store.specs.declared.mode.Mode.{Mode}
 use Rattle.prevalence_store.specs.declared.open_fault.OpenFault.{OpenFault}
@@ -151,16 +151,16 @@ module _ (functions : Functions) (mode : Mode) where
     reads_input (Reader number) served input left = tt
     reads_input (Store number) served input left = tt
 
-    between_numbers : (number given : ℕ) → number ≡ given → (DEVICE ≤ given) × (given ≤ OUTPUT) → IsFaultNumber number
-    between_numbers number given is within = subst IsFaultNumber (sym is) (inl within)
+    between_numbers : (number given : ℕ) → number ≡ given → (DAMAGED ≤ given) × (given ≤ OUTPUT) → IsFaultNumber number
+    between_numbers number given is within = subst IsFaultNumber (sym is) (inr (inl within))
 
     pub fault_of_session : (ending : Ending) → ServesInput functions state old new w mode had has held_now written ending → HasFaultNumber (status_of_ending ending)
     fault_of_session End served = λ number is. absurd (cc)
     fault_of_session (Reader code) served = λ number is. absurd (cc)
     fault_of_session (Store code) served = λ number is. let same : code ≡ number = cc in subst IsFaultNumber same (elim served.serves.ends [
-      | inl stopped ↦ between_numbers code DEVICE stopped.device (omega arith, omega arith)
+      | inl stopped ↦ inl stopped.device
       | inr else ↦ elim else [
-        | inl renewing ↦ between_numbers code DEVICE renewing.device (omega arith, omega arith)
+        | inl renewing ↦ inl renewing.device
         | inr else ↦ elim else [
           | inl full ↦ between_numbers code _ full.full (omega arith, omega arith)
           | inr else ↦ elim else [
@@ -169,7 +169,7 @@ module _ (functions : Functions) (mode : Mode) where
               | inl unread ↦ between_numbers code _ unread.input (omega arith, omega arith)
               | inr else ↦ elim else [
                 | inl unwritten ↦ between_numbers code _ unwritten.output (omega arith, omega arith)
-                | inr memory ↦ inr memory.memory
+                | inr memory ↦ inr (inr memory.memory)
               ]
             ]
           ]
@@ -204,13 +204,13 @@ module _ (functions : Functions) (mode : Mode) where
     no_opening_at ending number is served = none_of_opening number (subst (λ (e : Ending). ServesInput functions state old new w mode had has held_now written e) is served)
 
 fault_is : (fault : OpenFault) → IsFaultNumber (fault_number fault)
-fault_is opening.OutOfMemory = inr refl
-fault_is opening.DeviceFault = inl (omega arith, omega arith)
-fault_is opening.Damaged = inl (omega arith, omega arith)
-fault_is opening.UnknownVersion = inl (omega arith, omega arith)
-fault_is opening.TooLarge = inl (omega arith, omega arith)
-fault_is opening.NotWhole = inl (omega arith, omega arith)
-fault_is opening.UnknownFunction = inl (omega arith, omega arith)
+fault_is opening.OutOfMemory = inr (inr refl)
+fault_is opening.DeviceFault = inl refl
+fault_is opening.Damaged = inr (inl (omega arith, omega arith))
+fault_is opening.UnknownVersion = inr (inl (omega arith, omega arith))
+fault_is opening.TooLarge = inr (inl (omega arith, omega arith))
+fault_is opening.NotWhole = inr (inl (omega arith, omega arith))
+fault_is opening.UnknownFunction = inr (inl (omega arith, omega arith))
 
 pub fault_of_opening : (number : ℕ) (fault : OpenFault) → number ≡ fault_number fault → HasFaultNumber (status_of_ending (Store number))
 fault_of_opening number fault is = λ other same. let here : number ≡ other = cc in subst IsFaultNumber here (subst IsFaultNumber (sym is) (fault_is fault))

@@ -84,7 +84,7 @@ DoesOn functions state disk macros whole remaining contents input left held writ
     ⊎ (TellsUnopened functions state disk whole status × (left ≡ input) × (written ≡ held))
 
 -- What the program does for words that the command line has: there is no memory, or the folder is not opened, and nothing is read
--- or written; or it does this over the disk that the folder's files are.
+-- or written; or it does this over some disk of this type. That its files are those of the folder is not said here.
 abbrev pub Does : Functions → {D R : Type 0} → (D → State) → R → Bool → {I O : Type 0} → (I → Option (List ℕ)) → (O → Option (List ℕ)) → I → I → O → O → Task → Status → Type 0
 Does functions {D} state macros whole remaining contents input left held written task status =
     (((status ≡ Fault NO_MEMORY) ⊎ (status ≡ Fault DEVICE)) × (left ≡ input) × (written ≡ held))

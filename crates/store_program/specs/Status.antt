@@ -3,7 +3,7 @@ use Rattle.std.specs.Prelude.{◌≡◌, ◌≤◌, ◌⊎◌, ℕ, [], ◌∷�
 use Rattle.clap.specs.Words.{Kinds}
 use Rattle.clap.specs.declared.error.kind.ErrorKind.{ErrorKind}
 use Rattle.clap.specs.declared.error.kind.ErrorKind.TheVariants.{DisplayHelp, DisplayVersion, OutOfMemory}
-use Rattle.lisp_object.specs.declared.refusal.TheConstants.{DEVICE, OUTPUT, NO_MEMORY}
+use Rattle.lisp_object.specs.declared.refusal.TheConstants.{DEVICE, DAMAGED, OUTPUT, NO_MEMORY}
 use Rattle.prevalence_store.specs.declared.outcome.Ending.{Ending}
 use Rattle.prevalence_store.specs.declared.outcome.Ending.TheVariants.{End, Reader, Store}
 use Rattle.store_program.specs.declared.status.Status.{Status}
@@ -34,9 +34,9 @@ status_of_kind _ = WordsRefused
 abbrev pub IsCarriedOut : Status → Type 0
 IsCarriedOut status = (status ≡ Done) ⊎ (status ≡ ReaderRefused)
 
--- the number is of the device, the files, their limit, the input or the output, or of memory
+-- the number is of the device, of the files, their limit, the input or the output, or of memory: 60, 62 to 68, or 90
 abbrev pub IsFaultNumber : ℕ → Type 0
-IsFaultNumber number = ((DEVICE ≤ number) × (number ≤ OUTPUT)) ⊎ (number ≡ NO_MEMORY)
+IsFaultNumber number = (number ≡ DEVICE) ⊎ (((DAMAGED ≤ number) × (number ≤ OUTPUT)) ⊎ (number ≡ NO_MEMORY))
 
 -- where the status is that of a fault, it has the number of one
 abbrev pub HasFaultNumber : Status → Type 0

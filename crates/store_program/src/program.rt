@@ -1,5 +1,5 @@
 // What the words of the command line ask for.
-ghost use Rattle.std.specs.Prelude.{◌≡◌, ◌⊎◌, ◌<◌, ◌-◌, ◌^◌, ℕ, List, Some, IsSome, IfSome, true, false, map, IfOk, IfErr};
+ghost use Rattle.std.specs.Prelude.{◌≡◌, ◌⊎◌, ◌<◌, ◌-◌, ◌^◌, ℕ, List, [], Some, IsSome, IfSome, true, false, map, IfOk, IfErr};
 ghost use Rattle.std.specs.List.{list_all};
 ghost use Rattle.readtable_core.specs.Names.{is_among};
 ghost use Rattle.plist_state.specs.State.{State as LispWorld};
@@ -62,6 +62,8 @@ where
         → Does (functions_of M.Meaning.names M.Meaning.way M.Meaning.answer) ⟦<HostDisk as Disk>⟧.state macros
         (list_all (is_among (M.registered macros)) M.Meaning.names) I.remaining O.contents
         input.old input.new output.old output.new task result }
+    ensures nameless { (task : Task) → IsTaken (map S.text words.now) [] task
+        → ((result ≡ Status.Fault DEVICE) ⊎ (result ≡ Status.Fault NO_MEMORY)) × (input.new ≡ input.old) × (output.new ≡ output.old) }
     ensures unread { (folder : List ℕ) (task : Task) → IsTaken (map S.text words.now) folder task → reads_input task ≡ false
         → input.new ≡ input.old }
     ensures unopened { (number : ℕ) → result ≡ Status.Fault number → is_of_opening number ≡ true
@@ -151,6 +153,7 @@ where
     ensures carried { Does (functions_of M.Meaning.names M.Meaning.way M.Meaning.answer) ⟦<HostDisk as Disk>⟧.state macros
         (list_all (is_among (M.registered macros)) M.Meaning.names) I.remaining O.contents
         input.old input.new output.old output.new asked.entry.task result }
+    ensures nameless { asked.entry.folder.now ≡ [] → (result ≡ Status.Fault DEVICE) × (input.new ≡ input.old) × (output.new ≡ output.old) }
     ensures unread { reads_input asked.entry.task ≡ false → input.new ≡ input.old }
     ensures unopened { (number : ℕ) → result ≡ Status.Fault number → is_of_opening number ≡ true
         → (input.new ≡ input.old) × (output.new ≡ output.old) }

@@ -1,11 +1,12 @@
 //! Files that were altered while no store was open.
 
 use super::by_name::ByName;
+use super::calls::refused;
 use super::long::LongDisk;
 use super::{AMPLE, Trouble, bytes_of, disk_of, fresh_session, opened, session_over};
 use crate::meaning::SixFunctions;
 use disk_trait::{Disk, Half};
-use prevalence_store::{Store, Unopened};
+use prevalence_store::{Outcome, Store, Unopened};
 use std::alloc::Global;
 use std::test::Fail;
 
@@ -92,6 +93,18 @@ fn the_greater_generation_is_in_use(rt: HostRuntime) -> Result<(), Fail> {
     let seen = (store.half(), store.generation(), store.record_count());
     let _disk = store.close();
     assert_eq!(rt; seen, (Half::B, 2, 1));
+    // none is greater than the last one
+    let mut last = Vec::new(alloc);
+    last.extend_from_slice(&a[..3])?;
+    last.extend_from_slice(&[0xff; 8])?;
+    last.extend_from_slice(&a[11..])?;
+    let mut store = opened(alloc, disk_of(alloc, last.as_slice(), b"")?, AMPLE)?;
+    let is_too_large = matches!(store.snapshot(), Outcome::Refused(65));
+    let number = refused(&mut store, b"(SETF (GET 'A 'B) 8)");
+    let seen = (store.half(), store.generation(), store.record_count());
+    let _disk = store.close();
+    assert!(rt; is_too_large);
+    assert_eq!(rt; (number, seen), (None, (Half::A, u64::MAX, 2)));
     Ok(())
 }
 

@@ -196,18 +196,25 @@ fn words_are_judged_first(rt: HostRuntime) -> Result<(), Fail> {
 fn files_stay_between_runs(rt: HostRuntime) -> Result<(), Fail> {
     let place = place(&rt, "files")?;
     let words = ["store_program", "run", place.as_str()];
-    let cases: [(&[u8], u8, &[u8]); 3] = [
-        (b"(SETF (GET 'A 'B) 7)\n", 0, b"7\n"),
-        (b"(GET 'A 'B)\n", 0, b"7\n"),
-        (b"(GET 'A 'B)\n)\n(GET 'A 'B)\n", 1, b"7\n! 4 STRAY-CLOSE\n"),
+    let file = format!(in rt.alloc(); "{place}/half-a")?;
+    let cases: [(&[u8], u8, &[u8], usize); 4] = [
+        (b"", 0, b"", 151),
+        (b"(SETF (GET 'A 'B) 7)\n", 0, b"7\n", 177),
+        (b"(GET 'A 'B)\n", 0, b"7\n", 177),
+        (
+            b"(GET 'A 'B)\n)\n(GET 'A 'B)\n",
+            1,
+            b"7\n! 4 STRAY-CLOSE\n",
+            177,
+        ),
     ];
-    for (input, status, output) in cases {
+    for (input, status, output, length) in cases {
         let found = run(&rt, words.as_slice(), input);
         assert_eq!(rt; found.status, status);
         assert_eq!(rt; found.output.as_slice(), output);
         assert_eq!(rt; found.faults.len(), 0);
+        assert_eq!(rt; fs::read(&rt, file.as_str())?.len(), length);
     }
-    let file = format!(in rt.alloc(); "{place}/half-a")?;
     let whole = fs::read(&rt, file.as_str())?;
     let mut cut = whole.clone()?;
     cut.truncate(100);

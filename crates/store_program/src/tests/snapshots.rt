@@ -61,6 +61,15 @@ const CASES: &[Case] = &[
         ending: Ending::End,
         state: (Half::B, 2, 1),
     },
+    // which is none of those that are taken in turn, and changes nothing in their count
+    Case {
+        limit: 202,
+        snapshot_every: 2,
+        input: b"(SETF (GET 'A 'B) 7)(SETF (GET 'A 'B) 8)",
+        answers: b"7\n8\n",
+        ending: Ending::End,
+        state: (Half::A, 3, 0),
+    },
     // and where that is not enough the session ends
     Case {
         limit: 202,

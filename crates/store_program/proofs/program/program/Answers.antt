@@ -1,4 +1,4 @@
-use Rattle.std.proofs.Common.{◌≡◌, ◌∙◌, ℕ, List, Option, Some, ap, inl, map, refl, subst, sym}
+use Rattle.std.proofs.Common.{◌≡◌, ◌∙◌, ℕ, List, [], Option, Some, ap, inl, inr, map, refl, subst, sym}
 use Rattle.clap.specs.Words.{Kinds, kind_of}
 use Rattle.prevalence_store.specs.Functions.{functions_of}
 use Rattle.store_program.specs.declared.status.Status.{Status}
@@ -7,7 +7,7 @@ use Rattle.store_program.specs.CommandLine.{asked_in, faults_of}
 use Rattle.store_program.specs.Commands.{TaskBreaksOff, reads_input}
 use Rattle.store_program.specs.Status.{EndsAfter, IsAfterWords, IsCarriedOut, TakesWords}
 use Rattle.store_program.proofs.CommandLineLaws.{line_is_taken}
-use Rattle.store_program.proofs.FoundWords.{same_task}
+use Rattle.store_program.proofs.FoundWords.{same_folder, same_task}
 use Rattle.store_program.proofs.Reports.{moved_does, moved_read, moved_write, nothing_of, words_unread, words_unwritten}
 use Rattle.store_program.proofs.Statuses.{ends_after, memory_at, only_memory, taken_at_memory}
 use Rattle.store_program.proofs.program.program.Goals as goal
@@ -42,6 +42,21 @@ returns-clause-carried g c = λ folder task taken.
           let memory = only_memory (faults_of (map g.S.AsStr.text c.args.words.now)) (kind_of w.in-Err.error) taken.0 w.in-Err.ensures.faults in
           inl (
             inl (memory_at c.end_with.result w.answer_words-status.result (kind_of w.in-Err.error) (c.end_with.ensures.status ∙ w.status-is) memory w.answer_words-status.ensures.status),
+            w.input-is,
+            w.output-is ∙ w.answer_words-status.ensures.memory memory,
+          )
+    ]
+
+pub returns-clause-nameless : goal.returns-clause-nameless
+returns-clause-nameless g c = λ task taken.
+    elim c.match-asked_in.branch [
+      | in-Ok w ↦
+          let done = w.carry_out-status.ensures.nameless
+          (same_folder (asked_in (map g.S.AsStr.text c.args.words.now)) w.in-Ok.asked.folder.now [] w.in-Ok.asked.task task w.in-Ok.ensures.asked taken.1) in
+          (inl (c.end_with.ensures.status ∙ w.status-is ∙ done.0), w.input-is ∙ done.1, w.output-is ∙ done.2)
+      | in-Err w ↦
+          let memory = only_memory (faults_of (map g.S.AsStr.text c.args.words.now)) (kind_of w.in-Err.error) taken.0 w.in-Err.ensures.faults in (
+            inr (memory_at c.end_with.result w.answer_words-status.result (kind_of w.in-Err.error) (c.end_with.ensures.status ∙ w.status-is) memory w.answer_words-status.ensures.status),
             w.input-is,
             w.output-is ∙ w.answer_words-status.ensures.memory memory,
           )
