@@ -122,7 +122,7 @@ fn made(alloc: Global, kind: &str) -> Result<Datum, AllocError> {
         "text" => Ok(Datum::Text(bytes(alloc, r#"a"\"#)?)),
         "uninterned" => Ok(Datum::Uninterned(bytes(alloc, "G1")?)),
         "list" => list(alloc),
-        _ => nested(alloc, 40),
+        _ => nested(alloc, 100),
     }
 }
 
@@ -157,6 +157,6 @@ fn objects(rt: HostRuntime) -> Result<(), Fail> {
     Ok(())
 }
 
-/// 1 in 40 lists.
+/// 1 in 100 lists, as deep as a value may be.
 const NESTED: &str =
-    "((((((((((((((((((((((((((((((((((((((((1))))))))))))))))))))))))))))))))))))))))";
+    "((((((((((((((((((((((((((((((((((((((((((((((((((((((((((((((((((((((((((((((((((((((((((((((((((((1))))))))))))))))))))))))))))))))))))))))))))))))))))))))))))))))))))))))))))))))))))))))))))))))))))";
