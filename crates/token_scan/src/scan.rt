@@ -48,7 +48,7 @@ impl Model for TokenScan {
 
 impl TokenScan {
     ghost use Rattle.token_scan.specs.declared.scan.Fed.TheVariants.{Refused as FedRefused};
-    ghost use Rattle.token_scan.specs.Scans.{begun, begun_escaped, refused, from_stage, token_from, fed_gives, LeavesBy, Leaves};
+    ghost use Rattle.token_scan.specs.Scans.{begun, begun_escaped, refused, from_stage, token_from, fed_gives, GoesPast, LeavesBy, Leaves};
 
     /// An empty token of at most `limit` characters, which bars and escapes are not. It keeps `alloc` for its marks, of
     /// which 32 need no memory.
@@ -73,13 +73,16 @@ impl TokenScan {
     ///
     /// # Errors
     ///
-    /// Out of memory for a mark; then nothing has changed.
+    /// Out of memory for a mark, and so only where the token neither ends nor is refused at the byte; then nothing has
+    /// changed.
     #[tactic(auto, unfolding(crate::specs::Tokens::outside))]
     pub fn feed(&mut self, syntax: Syntax, byte: u8) -> Result<Fed, AllocError>
         ensures gives { (at : ℕ) (more : List TypedByte) → IfOk result (λ fed.
             token_from self.old at (met syntax byte ∷ more) ≡ fed_gives fed self.new at (met syntax byte) more) }
         ensures leaves { IfOk result (λ fed. Leaves fed self.old (met syntax byte) self.new) }
         ensures unchanged { OnErr result (self.new ≡ self.old) }
+        ensures memory { (at : ℕ) (more : List TypedByte) → OnErr result
+            (GoesPast at (token_from self.old at (met syntax byte ∷ more))) }
         ensures repeats { (refusal : ScanRefusal) → self.old.stage ≡ Refused refusal
             → result ≡ Ok (FedRefused refusal) }
         ensures inline { length self.old.marks < 32 → IsOk result }
@@ -154,6 +157,8 @@ impl TokenScan {
             ≡ fed_gives fed self.new at (met syntax byte) more) }
         ensures leaves { IfOk result (λ fed. Leaves fed self.old (met syntax byte) self.new) }
         ensures unchanged { OnErr result (self.new ≡ self.old) }
+        ensures memory { (at : ℕ) (more : List TypedByte) → OnErr result
+            (GoesPast at (with_front self.old.marks (outside self.old.left at (met syntax byte ∷ more)))) }
         ensures inline { length self.old.marks < 32 → IsOk result }
         ensures no_end { result ≡ Ok (FedRefused EndOfFile) → ⊥ }
     {
@@ -173,6 +178,7 @@ impl TokenScan {
     }
 
     // Takes a character that is not escaped.
+    #[tactic(auto, using(crate::proofs::Forwards::past_plain))]
     fn feed_plain(&mut self, byte: u8) -> Result<Fed, AllocError>
         requires { byte < 128 }
         ensures gives { (x : TypedByte) (at : ℕ) (more : List TypedByte) → IfOk result (λ fed.
@@ -180,6 +186,9 @@ impl TokenScan {
             ≡ fed_gives fed self.new at x more) }
         ensures leaves { IfOk result (λ fed. LeavesBy (Plain byte ∷ []) false fed self.old self.new) }
         ensures unchanged { OnErr result (self.new ≡ self.old) }
+        ensures memory { (at : ℕ) (more : List TypedByte) → OnErr result
+            (GoesPast at (with_front self.old.marks
+            (one_more self.old.left at (λ left. plain byte at (outside left (at + 1) more))))) }
         ensures inline { length self.old.marks < 32 → IsOk result }
         ensures no_end { result ≡ Ok (FedRefused EndOfFile) → ⊥ }
     {
@@ -202,6 +211,8 @@ impl TokenScan {
             ≡ fed_gives fed self.new at (met syntax byte) more) }
         ensures leaves { IfOk result (λ fed. Leaves fed self.old (met syntax byte) self.new) }
         ensures unchanged { OnErr result (self.new ≡ self.old) }
+        ensures memory { (at : ℕ) (more : List TypedByte) → OnErr result
+            (GoesPast at (with_front self.old.marks (inside self.old.left at (met syntax byte ∷ more)))) }
         ensures inline { length self.old.marks < 32 → IsOk result }
         ensures no_end { result ≡ Ok (FedRefused EndOfFile) → ⊥ }
     {
@@ -227,6 +238,9 @@ impl TokenScan {
             ≡ fed_gives fed self.new at (met syntax byte) more) }
         ensures leaves { IfOk result (λ fed. LeavesBy (Quoted byte ∷ []) false fed self.old self.new) }
         ensures unchanged { OnErr result (self.new ≡ self.old) }
+        ensures memory { (syntax : Syntax) (at : ℕ) (more : List TypedByte) → OnErr result
+            (GoesPast at (with_front self.old.marks
+            (escaped (met syntax byte) self.old.left at (λ left. from_stage back left (at + 1) more)))) }
         ensures inline { length self.old.marks < 32 → IsOk result }
         ensures no_end { result ≡ Ok (FedRefused EndOfFile) → ⊥ }
     {
@@ -237,6 +251,7 @@ impl TokenScan {
     }
 
     // Takes a character that is quoted, after which the next byte is at `back`.
+    #[tactic(auto, using(crate::proofs::Forwards::past_quoted))]
     fn feed_quoted(&mut self, byte: u8, back: Stage) -> Result<Fed, AllocError>
         requires { byte < 128 }
         ensures gives { (x : TypedByte) (at : ℕ) (more : List TypedByte) → IfOk result (λ fed.
@@ -244,6 +259,9 @@ impl TokenScan {
             ≡ fed_gives fed self.new at x more) }
         ensures leaves { IfOk result (λ fed. LeavesBy (Quoted byte ∷ []) false fed self.old self.new) }
         ensures unchanged { OnErr result (self.new ≡ self.old) }
+        ensures memory { (at : ℕ) (more : List TypedByte) → OnErr result
+            (GoesPast at (with_front self.old.marks
+            (one_more self.old.left at (λ left. quoted byte (from_stage back left (at + 1) more))))) }
         ensures inline { length self.old.marks < 32 → IsOk result }
         ensures no_end { result ≡ Ok (FedRefused EndOfFile) → ⊥ }
     {
