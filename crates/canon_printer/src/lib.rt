@@ -18,8 +18,8 @@
 //!
 //! - proofs/Lists.antt: a list is written by its items (`written_rest_pairs`, `written_list`, `written_vector`) and by what
 //!   ends it (`written_rest_dotted`).
-//! - proofs/Resolved.antt: the parts of `printed_symbols_are_found`, with `is_home`, `home_there`, `found_home`,
-//!   `nil_present`.
+//! - proofs/Resolved.antt: the parts of `printed_symbols_are_found` (`accessible_resolved`, `external_resolved`,
+//!   `internal_resolved`), with `is_home`, `home_there`, `found_home`, `nil_present`.
 //!
 //! # Modules
 //!

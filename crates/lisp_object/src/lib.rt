@@ -31,17 +31,20 @@
 //!   `proper_list_items`, `proper_list_tail`, `proper_vector_items`), and which objects are lists and proper lists
 //!   (`list_object`, `no_list_object`, `proper_list_object`, `pairs_proper`, `proper_pairs`, `no_proper_list`,
 //!   `proper_list_is`, `nil_symbol`).
-//! - proofs/Lists.antt: lists that are joined (`pairs-append`, `object_of-joined`), what is no list (`is_list-other`).
+//! - proofs/Lists.antt: lists that are joined (`pairs-append`, `object_of-joined`), what is no list (`is_list-other`), and
+//!   that proper items make a proper list (`proper_items`).
 //! - proofs/Atoms.antt: `atoms_weaker`, `symbols_weaker`, `atoms_pairs`, `pairs_atoms`,
 //!   `atoms_List`, `atoms_Vector`: for a function that goes through a datum.
-//! - proofs/Sound.antt: `all_below` (a name of ASCII characters is below 128), `sound_nil`, `sound_pairs`.
+//! - proofs/Sound.antt: `all_below` and `all_ascii` (the bytes of a name are below 128 exactly where they pass the test),
+//!   `sound_nil`, `sound_pairs`.
 //! - proofs/Restored.antt: which datum is an object of each kind (`from_integer` and so on), and that no two proper data are
 //!   one object (`same_datum`).
 //! - proofs/Depths.antt: `depth_object`. proofs/Sizes.antt: `size_object`. proofs/Quotients.antt: `gcd_from_IsGcd`, `lowest`,
 //!   `lowest_stays`.
 //! - proofs/Tree.antt: a `BTreeMap` read as a finite map, by what is read of its keys (`got_at`, `as_map-insert`,
-//!   `as_map-set_at`, `as_map-remove_at`). proofs/TreeEntries.antt: its entries in their order (`entries-as_map`,
-//!   `keys-as_set`), sets, and copies entry by entry (`copied_next`, `copied_next_key`).
+//!   `as_map-set_at`, `as_map-remove_at`, `insert_same`). proofs/TreeEntries.antt: its entries in their order
+//!   (`entries-as_map`, `entries_in_order`, `keys-as_set`), sets, and copies entry by entry (`copied_next`,
+//!   `copied_next_key`).
 #![tactic(auto)]
 
 mod boxed;

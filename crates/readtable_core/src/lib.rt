@@ -28,7 +28,7 @@
 //! - of `proofs/PutBack.antt`: `put_back`, by which an old entry, put back after any other, gives the old readtable;
 //! - of `proofs/Named.antt`: `same_is` and `same_itself`, by which `same_entry` is equality; `same_number` and
 //!   `number_known`, by which a syntax type is told by its number, which is read; `same_case` and `case_known`, by which a case
-//!   is told by its name, which is read; `all_functions` and `all_named`, which take a test of all named functions apart;
+//!   is told by its name, which is read; `all_functions`, `all_named` and `passes`, which take a test of all named functions apart;
 //!   `named_at`, `named_function` and `named_sub_function`, what such a test says at a character; `named_after`,
 //!   `named_with_function` and `named_by_dispatching`, what a change leaves of it; and
 //!   `standard_named`, by which the standard readtable names standard functions and STD-DISPATCH alone.

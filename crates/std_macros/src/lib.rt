@@ -9,7 +9,8 @@
 //! - `refusal`: `StdRefusal`, `FinishError`
 //! - `values`: `finish`; of `characters` the names of characters, of `vectors` vectors with a length
 //!
-//! Nothing of the macro functions of users is needed here.
+//! Nothing of the macro functions of users is needed here. Crates above cite `known_is` of `proofs/Names.antt`, by which a
+//! name has a standard function exactly where it is a standard one, and it keeps its name.
 #![tactic(auto)]
 
 mod characters;

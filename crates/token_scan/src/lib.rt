@@ -19,7 +19,8 @@
 //!
 //! - `proofs/Spelled.antt`: `spelled_gives` (the bytes that spell marks give them; build a `Spells`, and never unfold
 //!   `outside`), `escaped_gives`; `plain_counts`, `quoted_counts`, `bar_counts`
-//! - `proofs/Split.antt`: `splits`, `escaped_token_splits`
+//! - `proofs/Steps.antt`: what a token gives at one byte, by its syntax type (`outside_plain`, `inside_between` ..)
+//! - `proofs/Split.antt`: `splits`, `escaped_token_splits`, and their word `SplitsBy`
 //! - `proofs/Standing.antt`: `token_stands`, `escaped_token_stands`; `bytes_typed`, `typed_again`
 //! - `proofs/Forwards.antt`: `forwards`, `begun_has_mark`
 //!

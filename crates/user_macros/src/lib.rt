@@ -16,7 +16,8 @@
 //! Crates above cite these lemmas of `proofs/Covered.antt`, and they keep their names: `standard_covered`, by which the
 //! standard readtable is covered whatever is registered; `whole_registers`, by which each name of a whole meaning is
 //! registered; `registered_by_cover`, by which a covered function that is no standard one is registered; and `weaker`, by
-//! which a readtable whose functions pass a test has functions that pass a weaker one.
+//! which a readtable whose functions pass a test has functions that pass a weaker one. Of `proofs/Found.antt` they cite
+//! `each_in_all`, `each_but_one` and `second_counts`, for a loop that tests each element of a list.
 #![tactic(auto)]
 
 mod call;
