@@ -11,12 +11,19 @@ use Rattle.package_table.specs.Table.{Name, Table, common_lisp, keyword, is_lock
 use Rattle.package_table.specs.Lookup.{found, is_present, is_external, is_used}
 use Rattle.package_table.specs.Readers.{present}
 
+-- There are as many packages as there may be, or as many symbols: one more is refused.
+abbrev pub is_full_of_packages : Table → Bool
+is_full_of_packages t = nat_le most_packages (finite.len t)
+
+abbrev pub is_full_of_symbols : Table → Bool
+is_full_of_symbols t = nat_le most_symbols (symbol_count t)
+
 -- MAKE-PACKAGE (standard 11.2): a package of the name n, which has no symbols and uses nothing
 abbrev pub after_make : Table → Name → Result Table PackageError
 after_make t n =
     if length n == 0 then Err EmptyName
     else (if is_some (package_named t n) then Err PackageExists
-    else (if nat_le most_packages (finite.len t) || nat_lt longest_package_name (length n) then Err Limit
+    else (if is_full_of_packages t || nat_lt longest_package_name (length n) then Err Limit
     else Ok (with_new_package t n)))
 
 -- the table with a new symbol, which is at home in p. Symbols of KEYWORD are external.
@@ -29,7 +36,7 @@ after_intern t p n =
     if not (finite.contains_key t p) then Err NoSuchPackage
     else option_map_or (λ h. Ok (h, t)) (found t p n)
     (if bytes_eq p common_lisp then Err PackageIsLocked
-    else (if nat_lt longest_symbol_name (length n) || nat_le most_symbols (symbol_count t) then Err Limit
+    else (if nat_lt longest_symbol_name (length n) || is_full_of_symbols t then Err Limit
     else Ok (p, with_new_symbol t p n)))
 
 -- p finds the symbol of home h by the name n

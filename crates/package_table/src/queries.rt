@@ -3,8 +3,10 @@ ghost use Rattle.std.specs.Prelude.{◌≡◌, ◌↔◌, IsTrue};
 ghost use Rattle.std.specs.FinMap as finite;
 ghost use Rattle.package_table.specs.Table.{IsExternal, IsPresent, Uses, symbol_count};
 ghost use Rattle.package_table.specs.Numbering.{IsNumbered};
+ghost use Rattle.package_table.specs.Changes.{is_full_of_packages, is_full_of_symbols};
 ghost use Rattle.package_table.specs.Lookup.{is_external, is_present, is_symbol, is_used};
 
+use crate::limits::{MAX_PACKAGES, MAX_SYMBOLS};
 use crate::{PackageTable, Packages};
 
 impl Packages {
@@ -30,6 +32,20 @@ impl Packages {
         ensures numbered { IsNumbered result.now (symbol_count self.now.0) }
     {
         &self.table
+    }
+
+    /// Whether there are 1,000 packages, so that `make` refuses one more.
+    pub fn is_full_of_packages(&self) -> bool
+        ensures { result ≡ is_full_of_packages self.now.0 }
+    {
+        self.table.package_count() >= MAX_PACKAGES
+    }
+
+    /// Whether there are 1,000,000 symbols, so that `intern` refuses a new one.
+    pub fn is_full_of_symbols(&self) -> bool
+        ensures { result ≡ is_full_of_symbols self.now.0 }
+    {
+        self.count >= MAX_SYMBOLS
     }
 
     /// Whether a symbol is present in `owner` by `name` (standard 11.1.1.2.1). One that is inherited is not.

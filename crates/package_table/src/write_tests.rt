@@ -246,10 +246,14 @@ const AT_LIMITS: [(Call<'static>, Result<bool, u16>); 11] = [
 // Whether all packages and symbols can be made, and the symbols again after going back.
 fn keeps_limits(packages: &mut Packages) -> bool {
     let last = b"PAPAP";
-    makes_packages(packages)
+    !packages.is_full_of_packages()
+        && makes_packages(packages)
+        && packages.is_full_of_packages()
         && answer(packages, Call::Mark) == Ok(true)
         && makes_symbols(packages)
+        && packages.is_full_of_symbols()
         && answer(packages, Call::BackTo(0)) == Ok(true)
+        && !packages.is_full_of_symbols()
         && packages.resolve_internal(COMMON_LISP_USER, last) == Ok(Resolved::New(COMMON_LISP_USER))
         && packages
             .numbers()
