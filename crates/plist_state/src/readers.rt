@@ -1,8 +1,8 @@
 //! The lists that a world gives, each sorted by bytes.
-ghost use Rattle.std.specs.Prelude.{◌≡◌, IfOk};
+ghost use Rattle.std.specs.Prelude.{◌≡◌, map, IfOk};
 ghost use Rattle.std.specs.FinMap as finite;
 ghost use Rattle.plist_state.specs.Readers.{readtable_names, symbols_with_properties};
-ghost use Rattle.plist_state.specs.Shown.{lists_of, readtables_of};
+ghost use Rattle.plist_state.specs.Shown.{symbol_of, lists_of, readtables_of};
 
 use crate::{Property, Symbol, World};
 use lisp_object::{Bytes, Items};
@@ -20,21 +20,33 @@ fn names(alloc: Global, tables: &BTreeMap<Vec<u8>, Readtable>) -> Result<Items<B
     Ok(names)
 }
 
-fn with_properties(
+// The symbols that have properties.
+fn owners<'a>(
     alloc: Global,
-    rows: &BTreeMap<Symbol, Vec<Property>>,
-) -> Result<Items<(Bytes, Bytes)>, AllocError>
-    ensures { IfOk result (λ symbols. symbols ≡ finite.keys (lists_of rows.now)) }
+    rows: &'a BTreeMap<Symbol, Vec<Property>>,
+) -> Result<Vec<&'a Symbol>, AllocError>
+    ensures { IfOk result (λ symbols. map (λ s. symbol_of s.now) symbols.items ≡ finite.keys (lists_of rows.now)) }
 {
-    let mut symbols = Items::new(alloc);
+    let mut symbols = Vec::with_capacity(alloc, rows.len())?;
     for (symbol, row) in rows {
         if !row.is_empty() {
-            let home = Bytes::from_slice(alloc, symbol.home())?;
-            let name = Bytes::from_slice(alloc, symbol.name())?;
-            symbols.push((home, name))?;
+            symbols.push(symbol)?;
         }
     }
     Ok(symbols)
+}
+
+// The homes and the names of symbols.
+fn copies(alloc: Global, symbols: &[&Symbol]) -> Result<Items<(Bytes, Bytes)>, AllocError>
+    ensures { IfOk result (λ copies. copies ≡ map (λ s. symbol_of s.now) symbols.now) }
+{
+    let mut copies = Items::new(alloc);
+    for symbol in symbols {
+        let home = Bytes::from_slice(alloc, symbol.home())?;
+        let name = Bytes::from_slice(alloc, symbol.name())?;
+        copies.push((home, name))?;
+    }
+    Ok(copies)
 }
 
 impl World {
@@ -49,6 +61,13 @@ impl World {
     pub fn with_properties(&self, alloc: Global) -> Result<Items<(Bytes, Bytes)>, AllocError>
         ensures { IfOk result (λ symbols. symbols ≡ symbols_with_properties self.now.0) }
     {
-        with_properties(alloc, &self.stored.properties)
+        copies(alloc, owners(alloc, &self.stored.properties)?.as_slice())
+    }
+
+    /// The same symbols in the same order, as the world has them: no name is copied.
+    pub fn owners(&self, alloc: Global) -> Result<Vec<&Symbol>, AllocError>
+        ensures { IfOk result (λ symbols. map (λ s. symbol_of s.now) symbols.items ≡ symbols_with_properties self.now.0) }
+    {
+        owners(alloc, &self.stored.properties)
     }
 }

@@ -183,6 +183,7 @@ fn properties(rt: HostRuntime) -> Result<(), Fail> {
     let alloc = rt.alloc();
     let mut world = World::new(alloc)?;
     assert!(rt; world.with_properties(alloc)?.is_empty());
+    assert!(rt; world.owners(alloc)?.is_empty());
     let list = Symbol::from_bytes(alloc, COMMON_LISP, b"LIST")?;
     let get = Symbol::from_bytes(alloc, COMMON_LISP, b"GET")?;
     assert!(rt; remove(&mut world, &list, &get) == Some(false));
@@ -192,6 +193,7 @@ fn properties(rt: HostRuntime) -> Result<(), Fail> {
     }
     assert!(rt; is_number(world.get(&list, &get), 3) && has(&world, &list, 3, 2));
     assert_eq!(rt; world.with_properties(alloc)?.len(), 1);
+    assert_eq!(rt; world.owners(alloc)?.len(), 1);
     assert!(rt; remove(&mut world, &list, &get) == Some(true) && world.get(&list, &get).is_none());
     Ok(())
 }

@@ -1,7 +1,8 @@
 -- The list of the rows of property lists is written row by row.
-use Rattle.std.proofs.Common.{◌≡◌, ℕ, suc, ◌-◌, ◌≤◌, List, [], ◌∷◌, ◌++◌, length, map, take, drop, get_or, append_assoc, refl, sym, ap, ◌∙◌, arith}
+use Rattle.std.proofs.Common.{◌≡◌, ℕ, suc, ◌-◌, ◌≤◌, Bool, true, List, [], ◌∷◌, ◌++◌, length, map, take, drop, get_or, append_assoc, refl, sym, ap, ◌∙◌, arith}
 use Rattle.std.specs.Prelude.{codes}
-use Rattle.std.specs.List.{flat_map}
+use Rattle.std.specs.List.{flat_map, list_all}
+use Rattle.std.proofs.lemmas.List.Folds.{list_all-map}
 use Rattle.std.proofs.Math.Seq.{take-length}
 use Rattle.lisp_object.specs.Object.{Object, list_of}
 use Rattle.package_table.specs.Table.{Name}
@@ -39,3 +40,17 @@ first_and_others [] first some is = absurd (omega arith)
 first_and_others (x ∷ xs) first some is =
     let all : take (suc (length xs) - 1) xs ≡ xs = ap (λ n. take n xs) (let h : suc (length xs) - 1 ≡ length xs = omega arith in h) ∙ take-length xs in
     λ i. sym is i ∷ sym all i
+
+-- what holds of each image of a list, for its first item and the later ones
+pub each_passes : {A B : Type 0} (P : B → Bool) (xs ys : List A) (first : A) (g : A → B) {zs : List B} → 1 ≤ length xs → first ≡ get_or xs 0 first → xs ≡ ys
+    → map g ys ≡ zs → list_all P zs ≡ true → list_all (λ x. P (g x)) (first ∷ take (length xs - 1) (drop 1 xs)) ≡ true
+each_passes P xs ys first g some is same images all =
+    ap (list_all (λ x. P (g x))) (sym (first_and_others xs first some is) ∙ same) ∙ sym (list_all-map P g ys) ∙ ap (list_all P) images ∙ all
+
+mapped_twice : {A B C : Type 0} (f : B → C) (g : A → B) (xs : List A) → map (λ x. f (g x)) xs ≡ map f (map g xs)
+mapped_twice f g [] = refl
+mapped_twice f g (x ∷ xs) = ap (λ ys. f (g x) ∷ ys) (mapped_twice f g xs)
+
+-- the images of a list are mapped
+pub each_mapped : {A B C : Type 0} (f : B → C) (xs ys : List A) (g : A → B) {zs : List B} → xs ≡ ys → map g ys ≡ zs → map (λ x. f (g x)) xs ≡ map f zs
+each_mapped f xs ys g same images = ap (map (λ x. f (g x))) same ∙ mapped_twice f g ys ∙ ap (map f) images

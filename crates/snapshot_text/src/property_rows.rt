@@ -41,29 +41,27 @@ fn plist_of(alloc: Global, symbol: &Symbol, properties: &[Property]) -> Result<D
     Datum::list(alloc, items, None)
 }
 
-// The symbol of this home and name, and its property list.
-fn row_of(alloc: Global, world: &World, home: &[u8], name: &[u8]) -> Result<Datum, AllocError>
-    ensures object { IfOk result (λ d. object_of d ≡ plist_object (home.now, name.now) (plist world.now.0 (home.now, name.now))) }
-    ensures proper { list_all is_ascii home.now && list_all is_ascii name.now ≡ true → IfOk result (λ d. is_proper d ≡ true) }
+// A symbol and its property list.
+fn row_of(alloc: Global, world: &World, symbol: &Symbol) -> Result<Datum, AllocError>
+    ensures object { let x = symbol_of symbol.now in IfOk result (λ d. object_of d ≡ plist_object x (plist world.now.0 x)) }
+    ensures proper { list_all is_ascii (symbol_of symbol.now).0 && list_all is_ascii (symbol_of symbol.now).1 ≡ true → IfOk result (λ d. is_proper d ≡ true) }
 {
     world.soundness();
-    let symbol = Symbol::from_bytes(alloc, home, name)?;
-    plist_of(alloc, &symbol, world.plist(&symbol))
+    plist_of(alloc, symbol, world.plist(symbol))
 }
 
-// Adds the printed row of the symbol of this home and name.
+// Adds the printed row of a symbol.
 fn push_row(
     alloc: Global,
     text: &mut Vec<u8>,
     world: &World,
-    home: &[u8],
-    name: &[u8],
+    symbol: &Symbol,
 ) -> Result<(), AllocError>
-    requires { list_all is_ascii home.now && list_all is_ascii name.now ≡ true }
-    ensures { OnOk result (text.new.items
-        ≡ text.old.items ++ printed world.now.0.packages common_lisp_user (plist_object (home.now, name.now) (plist world.now.0 (home.now, name.now)))) }
+    requires { list_all is_ascii (symbol_of symbol.now).0 && list_all is_ascii (symbol_of symbol.now).1 ≡ true }
+    ensures { let x = symbol_of symbol.now in OnOk result (text.new.items
+        ≡ text.old.items ++ printed world.now.0.packages common_lisp_user (plist_object x (plist world.now.0 x))) }
 {
-    let row = row_of(alloc, world, home, name)?;
+    let row = row_of(alloc, world, symbol)?;
     push_printed(alloc, text, row, world.packages())
 }
 
@@ -72,15 +70,15 @@ fn push_others(
     alloc: Global,
     text: &mut Vec<u8>,
     world: &World,
-    symbols: &[(Bytes, Bytes)],
+    symbols: &[&Symbol],
 ) -> Result<(), AllocError>
-    requires { list_all (λ x. list_all is_ascii x.0 && list_all is_ascii x.1) symbols.now ≡ true }
+    requires { list_all (λ s. list_all is_ascii (symbol_of s.now).0 && list_all is_ascii (symbol_of s.now).1) symbols.now ≡ true }
     ensures { OnOk result (text.new.items ≡ text.old.items
-        ++ flat_map (λ x. codes " " ++ printed world.now.0.packages common_lisp_user (plist_object x (plist world.now.0 x))) symbols.now) }
+        ++ flat_map (λ s. codes " " ++ printed world.now.0.packages common_lisp_user (plist_object (symbol_of s.now) (plist world.now.0 (symbol_of s.now)))) symbols.now) }
 {
-    for (home, name) in symbols {
+    for symbol in symbols {
         text.push(b' ')?;
-        push_row(alloc, text, world, home.as_slice(), name.as_slice())?;
+        push_row(alloc, text, world, symbol)?;
     }
     Ok(())
 }
@@ -94,12 +92,12 @@ pub(crate) fn push_properties(
     ensures { OnOk result (text.new.items ≡ text.old.items ++ printed world.now.0.packages common_lisp_user (properties_object world.now.0)) }
 {
     world.soundness();
-    let symbols = world.with_properties(alloc)?;
+    let symbols = world.owners(alloc)?;
     let [first, others @ ..] = symbols.as_slice() else {
         return push_printed(alloc, text, Datum::nil(alloc)?, world.packages());
     };
     text.push(b'(')?;
-    push_row(alloc, text, world, first.0.as_slice(), first.1.as_slice())?;
+    push_row(alloc, text, world, first)?;
     push_others(alloc, text, world, others)?;
     text.push(b')')?;
     Ok(())

@@ -6,7 +6,7 @@ use Rattle.snapshot_text.proofs.property_rows.row_of.Goals as goal
 
 pub returns-clause-proper : goal.returns-clause-proper
 returns-clause-proper c = λ ascii.
-    c.plist_of.ensures.proper (ap is_ascii_symbol c.in_ok-symbol.ensures ∙ ascii)
+    c.plist_of.ensures.proper ascii
     (sym (list_all-map (λ p. is_ascii_symbol p.0) property_of c.plist.result.now) ∙ ap are_ascii_indicators c.plist.ensures.list
-    ∙ plist_ascii c.args.world.now.0 c.soundness.ensures.present (symbol_of c.in_ok-symbol.symbol))
+    ∙ plist_ascii c.args.world.now.0 c.soundness.ensures.present (symbol_of c.args.symbol.now))
     c.plist.ensures.proper
