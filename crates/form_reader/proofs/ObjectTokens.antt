@@ -12,7 +12,7 @@ use Rattle.token_scan.specs.declared.mark.Mark.{Mark}
 use Rattle.token_scan.specs.Tokens.{kind, typed}
 use Rattle.token_scan.specs.Spelling.{ends_tokens}
 use Rattle.token_scan.specs.Scans.{Scan, begun}
-use Rattle.form_reader.specs.InPlace.{Begins}
+use Rattle.form_reader.specs.InPlace.{Begins, Stays}
 use Rattle.form_reader.specs.declared.found.Found.{Found}
 use Rattle.form_reader.specs.declared.frame.Frame.{Frame}
 use Rattle.form_reader.specs.declared.macros.Moved.{Moved}
@@ -34,7 +34,8 @@ use Rattle.form_reader.specs.Reading.{closed, is_whitespace, without_space, stan
 use Rattle.form_reader.specs.Feeding.{token_read}
 use Rattle.form_reader.specs.Frames.{close_of, close_of_frames, call_in, given, between, token_goes_on}
 use Rattle.form_reader.specs.Resuming.{attempt_at, stage_gives, Brings, Moves}
-use Rattle.form_reader.proofs.Attempts.{closes, closes_over, attempts, attempt_token, takes_is, takes_over, passes_is}
+use Rattle.form_reader.proofs.Attempts.{closes, closes_over, attempts, attempt_token, alone_by, takes_is, takes_over, passes_is}
+use Rattle.form_reader.proofs.Deliveries.{nothing_stays}
 use Rattle.form_reader.proofs.Beginnings.{given_refused}
 
 -- a character that does not stand alone does not end a token
@@ -151,6 +152,15 @@ pub begun_there : (setting : Setting) (frames : List Frame) (at c : ℕ) (cs : L
 begun_there setting frames at c cs stage scan found is some begins =
     ap (λ (s : Stage). stage_gives setting frames s at (c ∷ cs)) is
     ∙ subst (λ (o : Option Scan). IfSome o (λ s. Begins setting frames at c cs s)) some begins
+
+-- whitespace is discarded in an open call
+pub blank_stays : (setting : Setting) (at c : ℕ) (cs : List ℕ) (frames : List Frame) → at < setting.limits.text → length frames ≤ setting.limits.nesting → 0 < length frames
+    → ((close : ℕ) → close_of_frames frames ≡ Some close → (c == close) ≡ false) → (entry_at setting.table c).syntax ≡ Whitespace → Stays setting frames at c cs
+blank_stays setting at c cs [] lt le some other e = absurd (omega (arith, some))
+blank_stays setting at c cs (f ∷ fs) lt le some other e =
+    attempts setting at c cs (f ∷ fs) (omega (arith, lt)) other
+    ∙ alone_by setting at c cs (f ∷ fs) Whitespace le lt (ap stands_alone e) e
+    ∙ nothing_stays setting fs f.call (at + 1) cs false f.part
 
 -- the same where it is known where the reader is
 pub stage_moves : (setting : Setting) (frames : List Frame) (at c : ℕ) (cs : List ℕ) (stage known : Stage) (result : Result Moved AllocError) → stage ≡ known

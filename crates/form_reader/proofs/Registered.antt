@@ -1,9 +1,7 @@
 -- Of the functions that are registered, reading asks only which names they have.
-use Rattle.std.proofs.Common.{◌≡◌, ℕ, Bool, true, false, ◌||◌, List, [], ◌∷◌, Option, None, if◌then◌else◌, refl, sym, subst}
-use Rattle.std.specs.Prelude.{◌&&◌, IsTrue}
-use Rattle.std.specs.List.{list_all}
-use Rattle.std.proofs.lemmas.Bool.{false≢true}
-use Rattle.readtable_core.specs.Names.{same_name, is_among}
+use Rattle.std.proofs.Common.{◌≡◌, ℕ, Bool, true, false, List, Option, None, if◌then◌else◌, refl, sym}
+use Rattle.std.specs.Prelude.{IsTrue}
+use Rattle.readtable_core.specs.Names.{is_among}
 use Rattle.readtable_core.specs.Tables.{Table}
 use Rattle.package_table.specs.Table.{Name, Table as Packages}
 use Rattle.user_macros.specs.declared.call.Gather.{Gather}

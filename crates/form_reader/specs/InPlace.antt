@@ -22,6 +22,10 @@ FeedsInPlace setting frames at c cs old new (Refused code) = stage_gives setting
 abbrev pub Begins : Setting → List Frame → ℕ → ℕ → List ℕ → Scan → Type 0
 Begins setting frames at c cs scan = stage_gives setting frames AtObject at (c ∷ cs) ≡ stage_gives setting frames (AtToken scan) (at + 1) cs
 
+-- the byte at this place is discarded, where an object may begin
+abbrev pub Stays : Setting → List Frame → ℕ → ℕ → List ℕ → Type 0
+Stays setting frames at c cs = stage_gives setting frames AtObject at (c ∷ cs) ≡ stage_gives setting frames AtObject (at + 1) cs
+
 -- where the reader may be after it
 abbrev pub IsReadyInPlace : Limits → ℕ → Stage → InPlace → Type 0
 IsReadyInPlace limits at new Taken = (at < limits.text) × IsStageAt (at + 1) new

@@ -1,14 +1,15 @@
-//! One byte that begins a token or goes on one, taken where the reader is.
-ghost use Rattle.std.specs.Prelude.{◌≡◌, ◌≤◌, ◌<◌, ◌+◌, ℕ, List, ◌∷◌, length, IfOk, IfSome, IsTrue};
+//! One byte that begins a token, goes on one, or is whitespace in an open call, taken where the reader is.
+ghost use Rattle.std.specs.Prelude.{◌≡◌, ◌≤◌, ◌<◌, ◌+◌, ℕ, List, ◌∷◌, length, true, IfOk, IfSome, IsTrue};
 ghost use Rattle.form_reader.specs.Feeding.{is_going};
 ghost use Rattle.form_reader.specs.Setting.{setting_of};
-ghost use Rattle.form_reader.specs.InPlace.{Begins, FeedsInPlace, IsReadyInPlace};
+ghost use Rattle.form_reader.specs.InPlace.{Begins, FeedsInPlace, IsReadyInPlace, Stays};
 
 use crate::attempt::stands_alone;
 use crate::bytes::LineByte;
 use crate::frame::Frames;
 use crate::stage::{BegunScan, FirstByte, Stage, first_byte};
 use crate::surroundings::Surroundings;
+use readtable_core::Syntax;
 use std::alloc::AllocError;
 use user_macros::MacroFunctions;
 
@@ -23,7 +24,8 @@ pub enum InPlace {
     Refused(u16),
 }
 
-/// The byte `c` at `at`, where the reader is at `stage`: it is taken there if it begins a token or goes on one.
+/// The byte `c` at `at`, where the reader is at `stage`: it is taken there if it begins a token or goes on one, or is discarded
+/// in an open call.
 pub(crate) fn in_place<R: MacroFunctions>(
     with: &Surroundings<'_, R>,
     frames: &Frames,
@@ -45,7 +47,12 @@ pub(crate) fn in_place<R: MacroFunctions>(
                 *stage = Stage::Token(scan);
                 Ok(InPlace::Taken)
             }
-            None => Ok(InPlace::Left),
+            None => {
+                if is_discarded(with, frames, at, c) {
+                    return Ok(InPlace::Taken);
+                }
+                Ok(InPlace::Left)
+            }
         },
         Stage::Token(scan) => match scan.feed(with.readtable, &with.limits, at, c)? {
             LineByte::More => Ok(InPlace::Taken),
@@ -81,5 +88,31 @@ fn begun_at<R: MacroFunctions>(
     match first_byte(with.alloc, with.readtable, &with.limits, at, c)? {
         FirstByte::More(scan) => Ok(Some(scan)),
         FirstByte::Refused(_) => Ok(None),
+    }
+}
+
+/// Whether the byte `c` at `at`, where an object may begin in an open call, is whitespace that is discarded.
+fn is_discarded<R: MacroFunctions>(
+    with: &Surroundings<'_, R>,
+    frames: &Frames,
+    at: usize,
+    c: u8,
+) -> bool
+    requires nesting { length frames.now ≤ with.now.limits.nesting }
+    ensures stays { (cs : List ℕ) → result ≡ true → Stays
+        (setting_of with.now.limits with.now.readtable.now with.now.packages.now.0 with.now.current.now
+        (R.registered with.now.macros.now) R.Meaning.way R.Meaning.answer)
+        frames.now at c cs }
+    ensures below { result ≡ true → at < with.now.limits.text }
+{
+    if at >= with.limits.text || frames.len() == 0 {
+        return false;
+    }
+    if frames.is_closed_by(c) {
+        return false;
+    }
+    match with.readtable.syntax(c) {
+        Syntax::Whitespace => true,
+        _ => false,
     }
 }

@@ -221,6 +221,10 @@ pub(crate) fn take_byte<R: MacroFunctions>(
     ensures ready { IfOk result (IsReadyTurn with.now.limits frames.new (start + at + 1)) }
     ensures begins { IfOk result (BeginsFrom start) }
 {
+    if let Stage::Object = &stage {
+        let brought = at_object(with, frames, at, c)?;
+        return turn_of(with, frames, brought, start, at + 1);
+    }
     match feed(with, frames, stage, at, c)? {
         Passed::Taken(event) => turn_of(with, frames, event, start, at + 1),
         Passed::Done(found) => done_before(with, frames, found, start, at, c),
