@@ -13,7 +13,7 @@ use Rattle.prevalence_store.specs.declared.step.Step.TheVariants.{Form, Snapshot
 use Rattle.prevalence_store.specs.Acceptance.{Acceptance, accepts, logged, records_of}
 use Rattle.prevalence_store.specs.Execution.{Executes, Stores, SurvivesAs}
 use Rattle.prevalence_store.specs.Functions.{Functions}
-use Rattle.prevalence_store.specs.Runs.{TakesStep, TakesSteps, acknowledged_in_steps, acknowledged_of, taken_in_steps, taken_of, world_of}
+use Rattle.prevalence_store.specs.Runs.{TakesStep, TakesSteps, acknowledged_in_steps, acknowledged_of_form, taken_in_steps, taken_of, world_of}
 use Rattle.prevalence_store.specs.Session.{Session}
 use Rattle.prevalence_store.specs.Snapshots.{Snapshots}
 use Rattle.prevalence_store.specs.Theorem.{Survives}
@@ -25,7 +25,7 @@ refused_takes : (mode : Mode) (given : Result Acceptance ℕ) (number : ℕ) →
 refused_takes mode (Err code) number other = refl
 refused_takes mode (Ok given) number other = rw other refl
 
-refused_acknowledges : (mode : Mode) (given : Result Acceptance ℕ) (number : ℕ) → acknowledged_of mode given (Refused number) ≡ 0
+refused_acknowledges : (mode : Mode) (given : Result Acceptance ℕ) (number : ℕ) → acknowledged_of_form mode given (Refused number) ≡ 0
 refused_acknowledges mode (Err code) number = refl
 refused_acknowledges mode (Ok given) number = refl
 
@@ -73,7 +73,7 @@ module _ (functions : Functions) {D R : Type 0} (state : D → State) where
       let rest = still_none takes.0 new steps outcomes (ap (λ (s : Session D R). s.world) one.1 ∙ none) takes.2 (world_of w given outcome) in (
         rest.0 ∙ one.1,
         ap₂ (λ (a b : List Entry). a ++ b) (ap (taken_of mode given) one.0 ∙ refused_takes mode given REOPEN refl) rest.1,
-        ap₂ (λ (a b : ℕ). a + b) (ap (acknowledged_of mode given) one.0 ∙ refused_acknowledges mode given REOPEN) rest.2,
+        ap₂ (λ (a b : ℕ). a + b) (ap (acknowledged_of_form mode given) one.0 ∙ refused_acknowledges mode given REOPEN) rest.2,
       )
   still_none old new (Snapshot ∷ steps) (outcome ∷ outcomes) none takes w =
       let one = subst (λ (o : Option World). TakesStep functions state old takes.0 o Snapshot outcome) none takes.1 in
@@ -126,15 +126,15 @@ module _ (functions : Functions) {D R : Type 0} (state : D → State) where
           (from_fault old mid new w ys dead.0 survives)
 
       form_survives : (mode : Mode) (text : List ℕ) (o : Outcome) → Executes functions state old mid w mode text o
-          → After (world_of w (accepts functions w mode text) o) (taken_of mode (accepts functions w mode text) o) (acknowledged_of mode (accepts functions w mode text) o)
+          → After (world_of w (accepts functions w mode text) o) (taken_of mode (accepts functions w mode text) o) (acknowledged_of_form mode (accepts functions w mode text) o)
       form_survives mode text (Accepted value) is =
           let left = stores_left state old mid is.given.wrote mode is.given.text is.given.world is.stored in
-          subst (λ (a : Result Acceptance ℕ). After (world_of w a (Accepted value)) (taken_of mode a (Accepted value)) (acknowledged_of mode a (Accepted value))) (sym is.accepted)
+          subst (λ (a : Result Acceptance ℕ). After (world_of w a (Accepted value)) (taken_of mode a (Accepted value)) (acknowledged_of_form mode a (Accepted value))) (sym is.accepted)
           (then_more old mid new w is.given.world (records_of is.given.wrote mode is.given.text) (taken_in_steps functions is.given.world steps outcomes)
           (acknowledged_in_steps functions is.given.world steps outcomes) is.survives left (more is.given.world))
       form_survives mode text Snapshotted is = absurd is
       form_survives mode text (Refused number) (inl refused) =
-          subst (λ (a : Result Acceptance ℕ). After (world_of w a (Refused number)) (taken_of mode a (Refused number)) (acknowledged_of mode a (Refused number))) (sym refused.refused)
+          subst (λ (a : Result Acceptance ℕ). After (world_of w a (Refused number)) (taken_of mode a (Refused number)) (acknowledged_of_form mode a (Refused number))) (sym refused.refused)
           (undone w [] 0 refl refl refl refused.unchanged)
       form_survives mode text (Refused number) (inr (inl full)) =
           let given = accepts functions w mode text in
@@ -143,7 +143,7 @@ module _ (functions : Functions) {D R : Type 0} (state : D → State) where
           let given = accepts functions w mode text in
           undone _ _ _ (refused_world w given number) (refused_takes mode given number (ne_eqb number DEVICE (λ bad. let is = memory.memory in absurd (omega arith)))) (refused_acknowledges mode given number) memory.unchanged
       form_survives mode text (Refused number) (inr (inr (inl fault))) =
-          subst (λ (a : Result Acceptance ℕ). After (world_of w a (Refused number)) (taken_of mode a (Refused number)) (acknowledged_of mode a (Refused number))) (sym fault.accepted)
+          subst (λ (a : Result Acceptance ℕ). After (world_of w a (Refused number)) (taken_of mode a (Refused number)) (acknowledged_of_form mode a (Refused number))) (sym fault.accepted)
           (faulted w (taken_of mode (Ok fault.given) (Refused number)) (logged mode fault.given.text ∷ []) 0 (rw (eq-eqb number DEVICE fault.device) refl) refl fault.failed.unknown fault.survives)
 
       snapshot_survives : (o : Outcome) → Snapshots functions state old mid w o → SurvivesAs functions state old new w (taken_in_steps functions w steps outcomes) (acknowledged_in_steps functions w steps outcomes)

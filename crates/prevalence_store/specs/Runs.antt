@@ -41,11 +41,11 @@ taken_of mode (Ok given) Snapshotted = []
 taken_of mode (Ok given) (Refused number) = if number == DEVICE then logged mode given.text ∷ [] else []
 
 -- how many of these were acknowledged: all that were called accepted
-abbrev pub acknowledged_of : Mode → Result Acceptance ℕ → Outcome → ℕ
-acknowledged_of mode (Err number) outcome = 0
-acknowledged_of mode (Ok given) (Accepted value) = length (records_of given.wrote mode given.text)
-acknowledged_of mode (Ok given) Snapshotted = 0
-acknowledged_of mode (Ok given) (Refused number) = 0
+abbrev pub acknowledged_of_form : Mode → Result Acceptance ℕ → Outcome → ℕ
+acknowledged_of_form mode (Err number) outcome = 0
+acknowledged_of_form mode (Ok given) (Accepted value) = length (records_of given.wrote mode given.text)
+acknowledged_of_form mode (Ok given) Snapshotted = 0
+acknowledged_of_form mode (Ok given) (Refused number) = 0
 
 -- and the world after it
 abbrev pub world_of : World → Result Acceptance ℕ → Outcome → World
@@ -69,6 +69,6 @@ module _ (functions : Functions) where
   acknowledged_in_steps world [] outcomes = 0
   acknowledged_in_steps world (step ∷ steps) [] = 0
   acknowledged_in_steps world (Form mode text ∷ steps) (outcome ∷ outcomes) =
-      acknowledged_of mode (accepts functions world mode text.now) outcome
+      acknowledged_of_form mode (accepts functions world mode text.now) outcome
       + acknowledged_in_steps (world_of world (accepts functions world mode text.now) outcome) steps outcomes
   acknowledged_in_steps world (Snapshot ∷ steps) (outcome ∷ outcomes) = acknowledged_in_steps world steps outcomes

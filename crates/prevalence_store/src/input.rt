@@ -110,6 +110,12 @@ impl Pending {
         if count == 0 {
             return Ok(());
         }
+        if count == self.text.len() {
+            // mostly nothing is open, and the room of the text serves the bytes to come
+            self.text.clear();
+            self.dropped = begun;
+            return Ok(());
+        }
         self.text = Vec::from_slice(alloc, &self.text[count..])?;
         self.dropped = begun;
         Ok(())
