@@ -109,15 +109,15 @@ fn lists(list: Result<Items<Bytes>, PackageError>, names: &[&[u8]]) -> bool {
     let Ok(list) = list else {
         return false;
     };
-    if list.len() != names.len() {
-        return false;
-    }
-    for (listed, name) in list.as_slice().iter().zip(names) {
+    for (at, listed) in list.as_slice().iter().enumerate() {
+        let Some(name) = names.get(at) else {
+            return false;
+        };
         if listed.as_slice() != *name {
             return false;
         }
     }
-    true
+    list.len() == names.len()
 }
 
 fn uses_nothing(alloc: Global, packages: &Packages, owner: &[u8]) -> bool {

@@ -25,109 +25,107 @@ fn is_ascii(name: &[u8]) -> bool
     name.iter().all(|byte| *byte < 128)
 }
 
-const WRITES: [(Call<'static>, Result<bool, u16>); 55] = [
-    (Call::Make(b""), Err(33)),
-    (Call::Make(CL), Err(35)),
-    (Call::Make(CL_USER), Err(35)),
-    (Call::Make(KEYWORD), Err(35)),
-    (Call::Make(b"P"), Ok(true)),
-    (Call::Make(b"P"), Err(35)),
-    (Call::Make(b"Q"), Ok(true)),
-    (Call::Intern(b"NO", b"Q"), Err(34)),
-    (Call::Intern(COMMON_LISP, b"LIST"), Ok(false)),
-    (Call::Intern(COMMON_LISP_USER, b"LIST"), Ok(false)),
-    (Call::Intern(COMMON_LISP, b"FOO"), Err(36)),
-    (Call::Intern(KEYWORD, b"K"), Ok(true)),
-    (Call::Intern(b"P", b"X"), Ok(true)),
-    (Call::Intern(b"P", b"X"), Ok(false)),
-    (Call::Intern(COMMON_LISP_USER, b"X"), Ok(true)),
-    (Call::Export(b"NO", b"P", b"X"), Err(34)),
-    (Call::Export(KEYWORD, COMMON_LISP_USER, b"A"), Err(36)),
-    (Call::Export(COMMON_LISP, COMMON_LISP, b"LIST"), Err(36)),
-    (Call::Export(b"P", COMMON_LISP_USER, b"X"), Err(38)),
-    (Call::Export(b"P", b"P", b"Z"), Err(38)),
-    (Call::Import(b"NO", COMMON_LISP_USER, b"X"), Err(34)),
-    (Call::Import(KEYWORD, COMMON_LISP_USER, b"X"), Err(36)),
-    (Call::Import(b"P", COMMON_LISP_USER, b"X"), Err(37)),
-    (Call::Import(b"P", b"P", b"X"), Ok(false)),
-    (Call::Intern(b"Q", b"X"), Ok(true)),
-    (Call::Export(b"Q", b"Q", b"X"), Ok(true)),
-    (Call::Export(b"Q", b"Q", b"X"), Ok(false)),
-    (Call::Use(b"P", b"NO"), Err(34)),
-    (Call::Use(b"NO", b"P"), Err(34)),
-    (Call::Use(COMMON_LISP, COMMON_LISP), Err(36)),
-    (Call::Use(b"P", KEYWORD), Err(36)),
-    (Call::Use(b"P", b"P"), Ok(false)),
-    (Call::Use(b"P", b"Q"), Err(37)),
-    // R inherits X of Q, so that it can't use P, where another X is external.
-    (Call::Make(b"R"), Ok(true)),
-    (Call::Use(b"R", b"Q"), Ok(true)),
-    (Call::Use(b"R", b"Q"), Ok(false)),
-    (Call::Export(b"P", b"P", b"X"), Ok(true)),
-    (Call::Use(b"R", b"P"), Err(37)),
-    // S has its own Y, so that P, which it uses, can't make another external.
-    (Call::Make(b"S"), Ok(true)),
-    (Call::Use(b"S", b"P"), Ok(true)),
-    (Call::Intern(b"S", b"Y"), Ok(true)),
-    (Call::Intern(b"P", b"Y"), Ok(true)),
-    (Call::Export(b"P", b"P", b"Y"), Err(37)),
-    // A symbol that R inherits becomes present and external, and stays so.
-    (Call::Intern(b"R", b"X"), Ok(false)),
-    (Call::Export(b"R", b"Q", b"X"), Ok(true)),
-    (Call::Import(b"R", b"Q", b"X"), Ok(false)),
-    (Call::Import(b"R", b"P", b"Y"), Ok(true)),
-    // T inherits Z of Q and uses U, so that U can't make another Z external.
-    (Call::Make(b"T"), Ok(true)),
-    (Call::Make(b"U"), Ok(true)),
-    (Call::Use(b"T", b"Q"), Ok(true)),
-    (Call::Use(b"T", b"U"), Ok(true)),
-    (Call::Intern(b"Q", b"Z"), Ok(true)),
-    (Call::Export(b"Q", b"Q", b"Z"), Ok(true)),
-    (Call::Intern(b"U", b"Z"), Ok(true)),
-    (Call::Export(b"U", b"U", b"Z"), Err(37)),
-];
+// Calls, and what they answer: that the packages changed, that they are the same, or the number of the refusal. In the second
+// half R inherits X of Q, so that it can't use P, where another X is external. S has its own Y, so that P, which it uses, can't
+// make another external. A symbol that R inherits becomes present and external, and stays so. T inherits Z of Q and uses U, so
+// that U can't make another Z external.
+const WRITES: &str = "\
+33 make
+35 make CL
+35 make CL-USER
+35 make KEYWORD
+changes make P
+35 make P
+changes make Q
+34 intern NO Q
+same intern COMMON-LISP LIST
+same intern COMMON-LISP-USER LIST
+36 intern COMMON-LISP FOO
+changes intern KEYWORD K
+changes intern P X
+same intern P X
+changes intern COMMON-LISP-USER X
+34 export NO P X
+36 export KEYWORD COMMON-LISP-USER A
+36 export COMMON-LISP COMMON-LISP LIST
+38 export P COMMON-LISP-USER X
+38 export P P Z
+34 import NO COMMON-LISP-USER X
+36 import KEYWORD COMMON-LISP-USER X
+37 import P COMMON-LISP-USER X
+same import P P X
+changes intern Q X
+changes export Q Q X
+same export Q Q X
+34 use P NO
+34 use NO P
+36 use COMMON-LISP COMMON-LISP
+36 use P KEYWORD
+same use P P
+37 use P Q
+changes make R
+changes use R Q
+same use R Q
+changes export P P X
+37 use R P
+changes make S
+changes use S P
+changes intern S Y
+changes intern P Y
+37 export P P Y
+same intern R X
+changes export R Q X
+same import R Q X
+changes import R P Y
+changes make T
+changes make U
+changes use T Q
+changes use T U
+changes intern Q Z
+changes export Q Q Z
+changes intern U Z
+37 export U U Z";
 
 // Marks that nest over each call that writes: back over one of them, over three, and forward again.
-const MARKS: [(Call<'static>, Result<bool, u16>); 38] = [
-    (Call::BackTo(0), Err(0)),
-    (Call::Mark, Ok(true)),
-    (Call::Intern(COMMON_LISP_USER, b"X"), Ok(true)),
-    (Call::BackTo(0), Ok(true)),
-    (Call::BackTo(0), Err(0)),
-    (Call::Intern(COMMON_LISP_USER, b"X"), Ok(true)),
-    (Call::Make(b"Q"), Ok(true)),
-    (Call::Intern(b"Q", b"A"), Ok(true)),
-    (Call::Mark, Ok(true)),
-    (Call::Export(b"Q", b"Q", b"A"), Ok(true)),
-    (Call::Make(b"P"), Ok(true)),
-    (Call::Mark, Ok(true)),
-    (Call::Use(b"P", b"Q"), Ok(true)),
-    (Call::Use(b"P", KEYWORD), Err(36)),
-    (Call::Mark, Ok(true)),
-    (Call::Import(b"P", COMMON_LISP_USER, b"X"), Ok(true)),
-    (Call::Export(b"P", b"Q", b"A"), Ok(true)),
-    (Call::Export(b"P", b"Q", b"A"), Ok(false)),
-    (Call::BackTo(2), Ok(true)),
-    (Call::Import(b"P", COMMON_LISP_USER, b"X"), Ok(true)),
-    (Call::Export(b"P", b"Q", b"A"), Ok(true)),
-    (Call::Mark, Ok(true)),
-    (Call::Intern(b"P", b"B"), Ok(true)),
-    (Call::BackTo(1), Ok(true)),
-    (Call::Use(b"P", b"Q"), Ok(true)),
-    (Call::Mark, Ok(true)),
-    (Call::Import(b"P", COMMON_LISP_USER, b"X"), Ok(true)),
-    (Call::BackTo(0), Ok(true)),
-    (Call::Use(b"P", b"Q"), Err(34)),
-    (Call::Export(b"Q", b"Q", b"A"), Ok(true)),
-    (Call::Make(b"P"), Ok(true)),
-    (Call::Mark, Ok(true)),
-    (Call::Use(b"P", b"Q"), Ok(true)),
-    (Call::Settle, Ok(true)),
-    (Call::BackTo(0), Err(0)),
-    (Call::Use(b"P", b"Q"), Ok(false)),
-    (Call::Mark, Ok(true)),
-    (Call::BackTo(0), Ok(true)),
-];
+const MARKS: &str = "\
+none back-to 0
+changes mark
+changes intern COMMON-LISP-USER X
+changes back-to 0
+none back-to 0
+changes intern COMMON-LISP-USER X
+changes make Q
+changes intern Q A
+changes mark
+changes export Q Q A
+changes make P
+changes mark
+changes use P Q
+36 use P KEYWORD
+changes mark
+changes import P COMMON-LISP-USER X
+changes export P Q A
+same export P Q A
+changes back-to 2
+changes import P COMMON-LISP-USER X
+changes export P Q A
+changes mark
+changes intern P B
+changes back-to 1
+changes use P Q
+changes mark
+changes import P COMMON-LISP-USER X
+changes back-to 0
+34 use P Q
+changes export Q Q A
+changes make P
+changes mark
+changes use P Q
+changes settle
+none back-to 0
+same use P Q
+changes mark
+changes back-to 0";
 
 // Whether the packages changed, or the number of the refusal; 0 for a call that may not be made.
 fn answer(packages: &mut Packages, call: Call<'_>) -> Result<bool, u16> {
@@ -155,10 +153,41 @@ fn answer(packages: &mut Packages, call: Call<'_>) -> Result<bool, u16> {
     answer.map_err(PackageError::number)
 }
 
+// The call of a row.
+fn call_of<'a>(words: &[&'a str; 5]) -> Call<'a> {
+    let [_, call, first, second, third] = words;
+    let (a, b, c) = (first.as_bytes(), second.as_bytes(), third.as_bytes());
+    match *call {
+        "make" => Call::Make(a),
+        "intern" => Call::Intern(a, b),
+        "export" => Call::Export(a, b, c),
+        "import" => Call::Import(a, b, c),
+        "use" => Call::Use(a, b),
+        "mark" => Call::Mark,
+        "settle" => Call::Settle,
+        _ => Call::BackTo(first.parse().unwrap_or(usize::MAX)),
+    }
+}
+
+// What a row wants.
+fn wanted_of(word: &str) -> Result<bool, u16> {
+    match word {
+        "changes" => Ok(true),
+        "same" => Ok(false),
+        _ => Err(word.parse().unwrap_or(0)),
+    }
+}
+
 // Whether each call is answered so.
-fn answers(packages: &mut Packages, rows: &[(Call<'_>, Result<bool, u16>)]) -> bool {
-    for (call, wanted) in rows {
-        if answer(packages, *call) != *wanted {
+fn answers(packages: &mut Packages, rows: &str) -> bool {
+    for row in rows.split('\n') {
+        let mut words = [""; 5];
+        for (at, word) in row.split(' ').enumerate() {
+            if at < 5 {
+                words[at] = word;
+            }
+        }
+        if answer(packages, call_of(&words)) != wanted_of(words[0]) {
             return false;
         }
     }
@@ -229,19 +258,18 @@ fn makes_symbols(packages: &mut Packages) -> bool {
 }
 
 // What is asked at the limits: an imported symbol is none more.
-const AT_LIMITS: [(Call<'static>, Result<bool, u16>); 11] = [
-    (Call::Make(b"ONE-MORE"), Err(46)),
-    (Call::Make(b"CL-USER"), Err(35)),
-    (Call::Make(b""), Err(33)),
-    (Call::Intern(COMMON_LISP_USER, b"ONE-MORE"), Err(46)),
-    (Call::Intern(KEYWORD, b"ONE-MORE"), Err(46)),
-    (Call::Intern(COMMON_LISP, b"ONE-MORE"), Err(36)),
-    (Call::Intern(b"NO", b"ONE-MORE"), Err(34)),
-    (Call::Intern(COMMON_LISP_USER, b"LIST"), Ok(false)),
-    (Call::Intern(COMMON_LISP_USER, b"PAPAP"), Ok(false)),
-    (Call::Import(KEYWORD, COMMON_LISP_USER, b"PAPAP"), Err(36)),
-    (Call::Import(b"AAAAP", COMMON_LISP_USER, b"PAPAP"), Ok(true)),
-];
+const AT_LIMITS: &str = "\
+46 make ONE-MORE
+35 make CL-USER
+33 make
+46 intern COMMON-LISP-USER ONE-MORE
+46 intern KEYWORD ONE-MORE
+36 intern COMMON-LISP ONE-MORE
+34 intern NO ONE-MORE
+same intern COMMON-LISP-USER LIST
+same intern COMMON-LISP-USER PAPAP
+36 import KEYWORD COMMON-LISP-USER PAPAP
+changes import AAAAP COMMON-LISP-USER PAPAP";
 
 // Whether all packages and symbols can be made, and the symbols again after going back.
 fn keeps_limits(packages: &mut Packages) -> bool {
@@ -261,19 +289,19 @@ fn keeps_limits(packages: &mut Packages) -> bool {
             .is_none()
         && makes_symbols(packages)
         && packages.numbers().number_of(COMMON_LISP_USER, last) == Some(986_895)
-        && answers(packages, &AT_LIMITS)
+        && answers(packages, AT_LIMITS)
 }
 
 fn marks_nest(alloc: Global) -> Result<bool, AllocError> {
     let mut packages = Packages::new(alloc)?;
-    Ok(answers(&mut packages, &MARKS))
+    Ok(answers(&mut packages, MARKS))
 }
 
 #[test]
 fn writes(rt: HostRuntime) -> Result<(), Fail> {
     let alloc = rt.alloc();
     let mut packages = Packages::new(alloc)?;
-    assert!(rt; answers(&mut packages, &WRITES));
+    assert!(rt; answers(&mut packages, WRITES));
     assert_eq!(rt; packages.resolve_external(KEYWORD, b"K"), Ok(KEYWORD));
     assert!(rt; is_r_at_last(alloc, &packages) && imports_of_r(alloc, &packages));
     assert!(rt; keeps_lengths(alloc, &mut packages)?);
