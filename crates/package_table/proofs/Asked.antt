@@ -22,10 +22,18 @@ both true b e = (refl, e)
 both false b e = absurd (false≢true e)
 
 -- a name below all the others is none of them
-none_above : {X : Type 0} (x : Name) (es : List (Name × X)) → T (below_all name_cmp x es) → find name_cmp x es ≡ None
+pub none_above : {X : Type 0} (x : Name) (es : List (Name × X)) → T (below_all name_cmp x es) → find name_cmp x es ≡ None
 none_above x [] t = refl
 none_above x (e ∷ es) t =
     ap (λ o. cond (is_eq o) (Some e.1) (find name_cmp x es)) (below x e.0 (first_of_both _ _ t)) ∙ none_above x es (second_of_both _ _ t)
+
+-- what is found after an entry is found with it
+pub found_past : {X : Type 0} (e : Name × X) (es : List (Name × X)) → T (below_all name_cmp e.0 es) → (q : Name) (x : X) → find name_cmp q es ≡ Some x → find name_cmp q (e ∷ es) ≡ Some x
+found_past e es above q x there =
+    elim (eq_by_cmp name_cmp q e.0) as (λ b. eq_by_cmp name_cmp q e.0 ≡ b → cond b (Some e.1) (find name_cmp q es) ≡ Some x) [
+      | true ↦ λ same. absurd (let no : None ≡ Some x = sym (none_above e.0 es above) ∙ ap (λ k. find name_cmp k es) (sym (tied_same q e.0 same)) ∙ there in cc)
+      | false ↦ λ _. there
+    ] refl
 
 -- an entry with a property that some of the list has
 some_of : {X : Type 0} (test : Name × X → Bool) (es : List (Name × X)) → T (is_sorted name_cmp es) → list_any test es ≡ true
@@ -36,15 +44,8 @@ some_of {X = X} test (e ∷ es) sorted some =
       | true ↦ λ here _. (e.0, e.1, ap (λ b. cond b (Some e.1) (find name_cmp e.0 es)) (same_tied e.0), here)
       | false ↦ λ _ later.
           let rest = some_of test es (second_of_both _ _ sorted) later in
-          (rest.0, rest.1, past rest.0 rest.1 rest.2, rest.3)
+          (rest.0, rest.1, found_past e es (first_of_both _ _ sorted) rest.0 rest.1 rest.2, rest.3)
     ] refl some
-  where
-    past : (q : Name) (x : X) → find name_cmp q es ≡ Some x → find name_cmp q (e ∷ es) ≡ Some x
-    past q x there =
-        elim (eq_by_cmp name_cmp q e.0) as (λ b. eq_by_cmp name_cmp q e.0 ≡ b → cond b (Some e.1) (find name_cmp q es) ≡ Some x) [
-          | true ↦ λ same. absurd (let no : None ≡ Some x = sym (none_above e.0 es (first_of_both _ _ sorted)) ∙ ap (λ k. find name_cmp k es) (sym (tied_same q e.0 same)) ∙ there in cc)
-          | false ↦ λ _. there
-        ] refl
 
 pub some_in : {X : Type 0} (test : Name × X → Bool) (m : finite.FinMap name_cmp X) → list_any test (finite.entries m) ≡ true
     → (q : Name) × (x : X) × (finite.get m q ≡ Some x) × (test (q, x) ≡ true)

@@ -1,14 +1,14 @@
 -- The numbers of the first symbols.
 --     run_none, run_more      the numbers of a package, from the first on
 --     numbers_first      of the first packages
-use Rattle.std.proofs.Common.{◌≡◌, ◌≢◌, ◌⊎◌, ◌<◌, ◌≤◌, ◌+◌, ℕ, true, false, cond, List, [], Option, None, Some, is_some, refl, sym, ap, subst, ◌∙◌, inl, inr, arith}
+use Rattle.std.proofs.Common.{◌≡◌, ◌⊎◌, ◌<◌, ◌≤◌, ◌+◌, ℕ, true, Option, None, Some, is_some, refl, sym, ap, ◌∙◌, inl, inr, arith}
 use Rattle.std.proofs.lemmas.Bool.{false≢true}
 use Rattle.std.specs.Option.{option_map, option_and_then}
 use Rattle.std.specs.FinMap as finite
 use Rattle.package_table.specs.Table.{Name, name_cmp, Entry, Table, IsPresent, entry_at, common_lisp, common_lisp_user, keyword}
 use Rattle.package_table.specs.Numbers.{Numbers, number_at}
 use Rattle.package_table.specs.Numbering.{IsNumbered, IsRun}
-use Rattle.package_table.proofs.Names.{name_total, same_some, none_some}
+use Rattle.package_table.proofs.Names.{same_some, none_some}
 use Rattle.package_table.proofs.Frames.{name_cases, get_inserted, get_kept}
 
 pub run_none : (m : finite.FinMap name_cmp ℕ) (first : ℕ) → ((n : Name) → finite.get m n ≡ None) → IsRun m first first

@@ -8,9 +8,9 @@ use Rattle.std.proofs.Common.{◌≡◌, ◌≢◌, ◌⊎◌, ◌<◌, ◌+◌,
 use Rattle.std.proofs.lemmas.Bool.{false≢true}
 use Rattle.std.specs.Option.{option_map, option_map_or, option_and_then}
 use Rattle.std.specs.FinMap as finite
-use Rattle.package_table.specs.Table.{Name, name_cmp, Entry, Table, IsPackage, IsPresent, entry_at, with_used, with_new_package}
+use Rattle.package_table.specs.Table.{Name, name_cmp, Entry, IsPackage, IsPresent, entry_at}
 use Rattle.package_table.specs.Lookup.{is_symbol}
-use Rattle.package_table.specs.Numbers.{Numbers, Numbered, number_at, number_of, number_or_none, with_numbers, with_numbered, with_package_made, with_use}
+use Rattle.package_table.specs.Numbers.{Numbers, Numbered, number_at, number_or_none, with_numbers, with_numbered, with_package_made, with_use}
 use Rattle.package_table.specs.Numbering.{IsNumbered, KeepsNumbers}
 use Rattle.package_table.proofs.Names.{same_some, none_some}
 use Rattle.package_table.proofs.Frames.{name_cases, place_cases, get_inserted, get_kept, equal_itself, entry_with_used, entry_with_new}

@@ -8,6 +8,7 @@ pub mod FirstNumbers
 pub mod Found
 pub mod Frames
 pub mod Growing
+pub mod Index
 pub mod Keeping
 pub mod KeptChanges
 pub mod KeptNumbers

@@ -1,12 +1,13 @@
 -- How the table of the packages is kept. No other file but the proofs of `table` knows it.
-use Rattle.std.specs.Prelude.{ℕ, List, map}
+use Rattle.std.specs.Prelude.{◌≡◌, ℕ, List, map}
 use Rattle.std.specs.Global.{Vec}
 use Rattle.std.specs.BTreeMap.{BTreeMap}
 use Rattle.std.specs.FinMap as finite
 use Rattle.std.specs.FinSet as set
-use Rattle.package_table.specs.declared.table.contents.Contents.{Contents}
-use Rattle.package_table.specs.Table.{name_cmp, Package, Table}
-use Rattle.package_table.specs.Numbers.{Numbers, Numbered}
+use Rattle.package_table.specs.declared.table.contents.Contents.TheInside.{Inside}
+use Rattle.package_table.specs.Table.{Name, name_cmp, Package, Table}
+use Rattle.package_table.specs.Numbers.{Held, Numbered}
+use Rattle.package_table.specs.Reached.{shows}
 use Rattle.package_table.specs.Entries.{entry_of}
 
 abbrev pub as_map : {X V : Type 0} → (X → V) → List (Vec ℕ × X) → finite.FinMap name_cmp V
@@ -15,14 +16,22 @@ as_map g es = finite.from_entries (map (λ e. (e.0.items, g e.1)) es)
 abbrev pub as_set : List (Vec ℕ) → set.FinSet name_cmp
 as_set ks = finite.from_entries (map (λ k. (k.items, tt {0})) ks)
 
-abbrev pub package_of : Contents → Package
-package_of c = record { symbols = as_map entry_of c.symbols.entries; uses = as_set c.uses.keys }
+abbrev pub held_of : Inside → Held
+held_of a =
+    (record { symbols = as_map entry_of a.symbols.entries; uses = as_set a.uses.keys }, as_map (λ s. s.number) a.symbols.entries)
 
-abbrev pub table_of : BTreeMap (Vec ℕ) Contents → Table
+-- the index has the names that are external
+abbrev pub IsIndexed : Inside → Type 0
+IsIndexed a = (n : Name) → finite.contains_key (as_set a.externals.keys) n ≡ shows n (held_of a).0
+
+abbrev pub package_of : Held → Package
+package_of k = k.0
+
+abbrev pub numbers_in : Held → finite.FinMap name_cmp ℕ
+numbers_in k = k.1
+
+abbrev pub table_of : BTreeMap (Vec ℕ) Held → Table
 table_of packages = as_map package_of packages.entries
 
-abbrev pub numbers_in : Contents → finite.FinMap name_cmp ℕ
-numbers_in c = as_map (λ s. s.number) c.symbols.entries
-
-abbrev pub numbered_of : BTreeMap (Vec ℕ) Contents → Numbered
+abbrev pub numbered_of : BTreeMap (Vec ℕ) Held → Numbered
 numbered_of packages = (table_of packages, as_map numbers_in packages.entries)

@@ -4,12 +4,19 @@ use Rattle.std.specs.Prelude.{ℕ, Option, None, option_and_then, if◌then◌el
 use Rattle.std.specs.Option.{option_map_or}
 use Rattle.std.specs.Coded.{Coded, coded×, coded_ℕ}
 use Rattle.std.specs.FinMap as finite
-use Rattle.package_table.specs.Table.{Name, name_cmp, name_code, Entry, Table, table_code, with_entry, with_used, with_new_package}
+use Rattle.package_table.specs.Table.{Name, name_cmp, name_code, Entry, Package, Table, package_code, table_code, with_entry, with_used, with_new_package}
 use Rattle.package_table.specs.Lookup.{is_symbol}
 
 -- for each package, the number of the symbol that is present by each name
 abbrev pub Numbers : Type 0
 Numbers = finite.FinMap name_cmp (finite.FinMap name_cmp ℕ)
+
+-- a package, and the numbers of its symbols
+abbrev pub Held : Type 0
+Held = Package × finite.FinMap name_cmp ℕ
+
+abbrev pub held_code : Coded Held
+held_code = coded× package_code (finite.code name_code coded_ℕ)
 
 -- a table, and the numbers of its symbols
 abbrev pub Numbered : Type 0

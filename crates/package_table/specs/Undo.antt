@@ -1,5 +1,6 @@
 -- What is noted of a change of the packages, and what undoing it gives.
-use Rattle.std.specs.Prelude.{ℕ, List, [], ◌∷◌, Option, Some, None, option_map, if◌then◌else◌}
+use Rattle.std.specs.Prelude.{ℕ, ◌&&◌, List, [], ◌∷◌, Option, Some, None, option_map, if◌then◌else◌}
+use Rattle.std.specs.Option.{option_map_or}
 use Rattle.std.specs.FinMap as finite
 use Rattle.package_table.specs.Table.{Name, name_cmp, Entry, with_package}
 use Rattle.package_table.specs.Numbers.{Numbered, with_numbers}
@@ -11,16 +12,21 @@ pub data Change : Type 0 where
   put : Name → Name → Option (Entry × ℕ) → Change
   used : Name → Name → Change
 
--- the names of a package with what was at the name n before
+-- the numbers of a package with what was at the name n before
 abbrev pub put_back : {X : Type 0} → finite.FinMap name_cmp X → Name → Option X → finite.FinMap name_cmp X
 put_back m n None = finite.remove m n
 put_back m n (Some e) = if finite.contains_key m n then finite.insert m n e else m
+
+-- The same of the symbols, where what is put back is external only where it still is: no change hides a name.
+abbrev pub entry_back : finite.FinMap name_cmp Entry → Name → Option Entry → finite.FinMap name_cmp Entry
+entry_back m n None = finite.remove m n
+entry_back m n (Some e) = option_map_or (λ now. finite.insert m n (record { home = e.home; external = e.external && now.external })) (finite.get m n) m
 
 -- the table without the change
 abbrev pub undone : Change → Numbered → Numbered
 undone (made p) s = (finite.remove s.0 p, finite.remove s.1 p)
 undone (put p n before) s = (
-  with_package s.0 p (λ k. record k { symbols = put_back k.symbols n (option_map (λ b. b.0) before) }),
+  with_package s.0 p (λ k. record k { symbols = entry_back k.symbols n (option_map (λ b. b.0) before) }),
   with_numbers s.1 p (λ m. put_back m n (option_map (λ b. b.1) before)),
 )
 undone (used p q) s = (with_package s.0 p (λ k. record k { uses = finite.remove k.uses q }), s.1)

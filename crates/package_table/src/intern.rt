@@ -1,5 +1,5 @@
 //! `intern`: the symbol of a name in a package, new where there is none.
-ghost use Rattle.std.specs.Prelude.{◌≡◌, ◌<◌, All, Some, IfErr, IfOk, OnOk, bytes_eq};
+ghost use Rattle.std.specs.Prelude.{◌≡◌, ◌<◌, All, Some, None, IfErr, IfOk, OnOk, bytes_eq};
 ghost use Rattle.std.specs.FinMap as finite;
 ghost use Rattle.package_table.specs.Table.{IsPackage, keyword, symbol_count};
 ghost use Rattle.package_table.specs.Lookup.{found};
@@ -34,7 +34,8 @@ fn put_new(
     name: &[u8],
     number: u32,
 ) -> Result<(), AllocError>
-    requires { IsPackage table.old.0 owner.now }
+    requires package { IsPackage table.old.0 owner.now }
+    requires apart { found table.old.0 owner.now name.now ≡ None }
     ensures ok { OnOk result (table.new ≡ with_numbered table.old owner.now name.now
         (record { home = owner.now; external = bytes_eq owner.now keyword }) number) }
     ensures err { IfErr result (λ _. table.new ≡ table.old) }

@@ -1,7 +1,7 @@
 //! Single changes, noted where there is a mark.
-ghost use Rattle.std.specs.Prelude.{◌≡◌, false, None, IfOk, OnOk, OnErr};
+ghost use Rattle.std.specs.Prelude.{◌≡◌, true, false, None, IfOk, OnOk, OnErr};
 ghost use Rattle.std.specs.FinMap as finite;
-ghost use Rattle.package_table.specs.Table.{IsPackage};
+ghost use Rattle.package_table.specs.Table.{IsExternal, IsPackage};
 ghost use Rattle.package_table.specs.Numbers.{with_numbered, with_package_made, with_use};
 ghost use Rattle.package_table.specs.Lookup.{is_used};
 ghost use Rattle.package_table.specs.Entries.{entry_of};
@@ -34,30 +34,31 @@ pub(crate) fn put_package(
     Ok(())
 }
 
-// Makes a symbol present at a name of the package `owner`, which exists.
+// Makes a symbol present at a name of the package `owner`, which exists; where one is external there, this one is too.
 fn put_entry(
     alloc: Global,
     table: &mut PackageTable,
     marks: &mut Vec<Mark>,
     owner: &[u8],
-    name: Vec<u8>,
+    name: &[u8],
     symbol: Symbol,
 ) -> Result<(), AllocError>
-    requires { IsPackage table.old.0 owner.now }
+    requires package { IsPackage table.old.0 owner.now }
+    requires shown { IsExternal table.old.0 owner.now name.now → symbol.external ≡ true }
     ensures ok { OnOk result (table.new
-        ≡ with_numbered table.old owner.now name.items (entry_of symbol) symbol.number) }
+        ≡ with_numbered table.old owner.now name.now (entry_of symbol) symbol.number) }
     ensures err { OnErr result (table.new ≡ table.old) }
     ensures packages { IfOk result (λ _. finite.contains_key table.old.1 owner.now ≡ finite.contains_key table.old.0 owner.now) }
     ensures marked { marked_tables marks.new.items table.new ≡ marked_tables marks.old.items table.old }
 {
     if marks.is_empty() {
-        table.insert_entry(owner, name, symbol)?;
+        table.insert_entry(alloc, owner, name, symbol)?;
         return Ok(());
     }
     let noted_owner = Vec::from_slice(alloc, owner)?;
-    let noted_name = Vec::from_slice(alloc, name.as_slice())?;
+    let noted_name = Vec::from_slice(alloc, name)?;
     reserve_note(marks)?;
-    let before = table.insert_entry(owner, name, symbol)?;
+    let before = table.insert_entry(alloc, owner, name, symbol)?;
     push_note(
         marks,
         Note::Put {
@@ -69,7 +70,8 @@ fn put_entry(
     Ok(())
 }
 
-/// Makes the symbol of this home, name and number present in `owner`, which exists, external there or not.
+/// Makes the symbol of this home, name and number present in `owner`, which exists, external there or not. Where one is
+/// external there, this one is too.
 pub(crate) fn put_symbol(
     alloc: Global,
     table: &mut PackageTable,
@@ -80,7 +82,8 @@ pub(crate) fn put_symbol(
     external: bool,
     number: u32,
 ) -> Result<(), AllocError>
-    requires { IsPackage table.old.0 owner.now }
+    requires package { IsPackage table.old.0 owner.now }
+    requires shown { IsExternal table.old.0 owner.now name.now → external ≡ true }
     ensures ok { OnOk result (table.new
         ≡ with_numbered table.old owner.now name.now (record { home = home.now; external = external }) number) }
     ensures err { OnErr result (table.new ≡ table.old) }
@@ -92,7 +95,6 @@ pub(crate) fn put_symbol(
         external,
         number,
     };
-    let name = Vec::from_slice(alloc, name)?;
     put_entry(alloc, table, marks, owner, name, symbol)
 }
 

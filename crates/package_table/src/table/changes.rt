@@ -1,7 +1,7 @@
 //! Single changes of the table: each grows it once, or leaves it as it was.
-ghost use Rattle.std.specs.Prelude.{◌≡◌, IfOk, OnErr, OnOk, option_map};
+ghost use Rattle.std.specs.Prelude.{◌≡◌, true, IfOk, OnErr, OnOk, option_map};
 ghost use Rattle.std.specs.FinMap as finite;
-ghost use Rattle.package_table.specs.Table.{Name, IsPackage, entry_at};
+ghost use Rattle.package_table.specs.Table.{Name, IsExternal, IsPackage, entry_at};
 ghost use Rattle.package_table.specs.Numbers.{number_at, with_numbered, with_package_made, with_use};
 ghost use Rattle.package_table.specs.Entries.{entry_of};
 
@@ -10,7 +10,6 @@ use super::contents::Contents;
 use super::sharing::new_name;
 use crate::entry::Symbol;
 use std::alloc::{AllocError, Global};
-use std::collections::{BTreeMap, BTreeSet};
 
 impl PackageTable {
     /// Adds a package of this name, which has no symbols and uses nothing.
@@ -19,36 +18,35 @@ impl PackageTable {
         ensures packages { OnOk result ((p : Name) → finite.contains_key self.old.1 p ≡ finite.contains_key self.old.0 p) }
         ensures err { OnErr result (self.new ≡ self.old) }
     {
-        let contents = Contents {
-            name: new_name(alloc, name.as_slice())?,
-            symbols: BTreeMap::new(alloc),
-            uses: BTreeSet::new(alloc),
-        };
+        let contents = Contents::new(alloc, new_name(alloc, name.as_slice())?);
         if let Err(_) = self.packages.insert(name, contents) {
             return Err(AllocError);
         }
         Ok(())
     }
 
-    /// Makes a symbol present at a name of the package `owner`, which exists. Gives what was at the name before.
+    /// Makes a symbol present at a name of the package `owner`, which exists; where one is external there, this one is too.
+    /// Gives what was at the name before.
     pub(crate) fn insert_entry(
         &mut self,
+        alloc: Global,
         owner: &[u8],
-        name: Vec<u8>,
+        name: &[u8],
         symbol: Symbol,
     ) -> Result<Option<Symbol>, AllocError>
-        requires { IsPackage self.old.0 owner.now }
+        requires package { IsPackage self.old.0 owner.now }
+        requires shown { IsExternal self.old.0 owner.now name.now → symbol.external ≡ true }
         ensures ok { OnOk result
-            (self.new ≡ with_numbered self.old owner.now name.items (entry_of symbol) symbol.number) }
-        ensures before { IfOk result (λ before. option_map entry_of before ≡ entry_at self.old.0 owner.now name.items) }
-        ensures number { IfOk result (λ before. option_map (λ s. s.number) before ≡ number_at self.old.1 owner.now name.items) }
+            (self.new ≡ with_numbered self.old owner.now name.now (entry_of symbol) symbol.number) }
+        ensures before { IfOk result (λ before. option_map entry_of before ≡ entry_at self.old.0 owner.now name.now) }
+        ensures number { IfOk result (λ before. option_map (λ s. s.number) before ≡ number_at self.old.1 owner.now name.now) }
         ensures packages { (p : Name) → finite.contains_key self.old.1 p ≡ finite.contains_key self.old.0 p }
         ensures err { OnErr result (self.new ≡ self.old) }
     {
         let Some(contents) = self.packages.get_mut(owner) else {
             unreachable!()
         };
-        let Ok(before) = contents.symbols.insert(name, symbol) else {
+        let Ok(before) = contents.insert(alloc, name, symbol) else {
             return Err(AllocError);
         };
         Ok(before)
@@ -63,7 +61,7 @@ impl PackageTable {
         let Some(contents) = self.packages.get_mut(owner) else {
             unreachable!()
         };
-        if let Err(_) = contents.uses.insert(used) {
+        if let Err(_) = contents.insert_use(used) {
             return Err(AllocError);
         }
         Ok(())

@@ -1,5 +1,6 @@
 //! Whether a package finds another symbol than a given one by its name.
-ghost use Rattle.std.specs.Prelude.{◌≡◌, ◌&&◌};
+ghost use Rattle.std.specs.Prelude.{◌≡◌, ◌&&◌, false};
+ghost use Rattle.std.specs.Option.{option_map_or};
 ghost use Rattle.std.specs.List.{list_any};
 ghost use Rattle.std.specs.FinMap as finite;
 ghost use Rattle.package_table.specs.Table.{IsSound};
@@ -8,7 +9,7 @@ ghost use Rattle.package_table.specs.Changes.{finds_this, finds_other, user_find
 ghost use Rattle.package_table.specs.Kept.{package_of};
 
 use super::PackageTable;
-use super::contents::{Contents, symbol_at, uses};
+use super::contents::Contents;
 
 impl PackageTable {
     /// Whether `owner` finds the symbol of this home and name.
@@ -36,7 +37,7 @@ impl PackageTable {
         ensures { result ≡ share_user self.now.0 owner.now other.now }
     {
         for (_, contents) in &self.packages {
-            if uses(contents, owner) && uses(contents, other) {
+            if contents.has_use(owner) && contents.has_use(other) {
                 return true;
             }
         }
@@ -54,13 +55,13 @@ impl PackageTable {
     ) -> bool
         ensures { result ≡ reaches self.now.0 owner.now home.now name.now (holder.now, package_of contents.now) }
     {
-        let Some(symbol) = symbol_at(contents, name) else {
+        let Some(symbol) = contents.symbol_at(name) else {
             return false;
         };
         if symbol.home.as_slice() == home {
             return false;
         }
-        if uses(contents, owner) {
+        if contents.has_use(owner) {
             return true;
         }
         symbol.external && self.share_user(owner, holder)
@@ -80,14 +81,26 @@ impl PackageTable {
         false
     }
 
-    // Whether `owner` finds another symbol by the name of one that is external in the package of these contents.
+    // Whether `owner` finds another symbol by this name than the one that is present in the package of these contents.
+    fn finds_other_than_at(&self, owner: &[u8], contents: &Contents, name: &[u8]) -> bool
+        ensures { result ≡ option_map_or (λ e. finds_other self.now.0 owner.now e.home name.now)
+            (finite.get (package_of contents.now).symbols name.now) false }
+    {
+        match contents.symbol_at(name) {
+            Some(symbol) => self.finds_other(owner, symbol.home.as_slice(), name),
+            None => false,
+        }
+    }
+
+    // Whether `owner` finds another symbol by the name of one that is external in the package of these contents. Looks at
+    // the external names alone.
     fn finds_other_than_in(&self, owner: &[u8], contents: &Contents) -> bool
         ensures { result ≡ list_any
             (λ s. s.1.external && finds_other self.now.0 owner.now s.1.home s.0)
             (finite.entries (package_of contents.now).symbols) }
     {
-        for (name, symbol) in &contents.symbols {
-            if symbol.external && self.finds_other(owner, symbol.home.as_slice(), name.as_slice()) {
+        for name in &contents.externals {
+            if self.finds_other_than_at(owner, contents, name.as_slice()) {
                 return true;
             }
         }

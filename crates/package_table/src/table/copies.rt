@@ -1,7 +1,7 @@
 //! Copies of the table.
 ghost use Rattle.std.specs.Prelude.{◌≡◌, IfOk};
 ghost use Rattle.package_table.specs.Entries.{entry_of};
-ghost use Rattle.package_table.specs.Kept.{as_map, numbers_in, package_of, table_of};
+ghost use Rattle.package_table.specs.Kept.{as_map, as_set, numbers_in, table_of};
 
 use super::PackageTable;
 use super::contents::Contents;
@@ -23,23 +23,44 @@ fn copy_symbol(alloc: Global, owner: &Rc<Vec<u8>>, symbol: &Symbol) -> Result<Sy
     })
 }
 
-fn copy_contents(alloc: Global, contents: &Contents) -> Result<Contents, AllocError>
-    ensures package { IfOk result (λ c. package_of c ≡ package_of contents.now) }
-    ensures numbers { IfOk result (λ c. numbers_in c ≡ numbers_in contents.now) }
+// Symbols of a package whose name is `owner`.
+fn copy_symbols(
+    alloc: Global,
+    owner: &Rc<Vec<u8>>,
+    symbols: &BTreeMap<Vec<u8>, Symbol>,
+) -> Result<BTreeMap<Vec<u8>, Symbol>, AllocError>
+    ensures entries { IfOk result (λ copied. as_map entry_of copied.entries ≡ as_map entry_of symbols.now.entries) }
+    ensures numbers { IfOk result (λ copied. as_map (λ s. s.number) copied.entries ≡ as_map (λ s. s.number) symbols.now.entries) }
 {
-    let owner = new_name(alloc, contents.name.as_slice())?;
-    let mut symbols = BTreeMap::new(alloc);
-    for (name, symbol) in &contents.symbols {
+    let mut copied = BTreeMap::new(alloc);
+    for (name, symbol) in symbols {
         let name = Vec::from_slice(alloc, name.as_slice())?;
-        symbols.insert(name, copy_symbol(alloc, &owner, symbol)?)?;
+        copied.insert(name, copy_symbol(alloc, owner, symbol)?)?;
     }
-    let mut uses = BTreeSet::new(alloc);
-    for used in &contents.uses {
-        uses.insert(Vec::from_slice(alloc, used.as_slice())?)?;
+    Ok(copied)
+}
+
+fn copy_names(alloc: Global, names: &BTreeSet<Vec<u8>>) -> Result<BTreeSet<Vec<u8>>, AllocError>
+    ensures { IfOk result (λ copied. as_set copied.keys ≡ as_set names.now.keys) }
+{
+    let mut copied = BTreeSet::new(alloc);
+    for name in names {
+        copied.insert(Vec::from_slice(alloc, name.as_slice())?)?;
     }
+    Ok(copied)
+}
+
+fn copy_contents(alloc: Global, contents: &Contents) -> Result<Contents, AllocError>
+    ensures { IfOk result (λ c. c ≡ contents.now) }
+{
+    let name = new_name(alloc, contents.name.as_slice())?;
+    let symbols = copy_symbols(alloc, &name, &contents.symbols)?;
+    let externals = copy_names(alloc, &contents.externals)?;
+    let uses = copy_names(alloc, &contents.uses)?;
     Ok(Contents {
-        name: owner,
+        name,
         symbols,
+        externals,
         uses,
     })
 }

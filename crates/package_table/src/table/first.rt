@@ -1,6 +1,7 @@
 //! The first packages.
 ghost use Rattle.std.specs.Prelude.{◌≡◌, ◌<◌, ◌+◌, IfOk, length, map};
-ghost use Rattle.package_table.specs.Table.{initial, package_of_names, common_lisp_package, keyword_package, user_package};
+ghost use Rattle.std.specs.FinMap as finite;
+ghost use Rattle.package_table.specs.Table.{Name, initial, package_of_names, common_lisp_package, keyword_package, user_package};
 ghost use Rattle.package_table.specs.Numbering.{IsNumbered, IsRun};
 ghost use Rattle.package_table.specs.Kept.{numbers_in, package_of};
 
@@ -10,7 +11,7 @@ use super::sharing::new_name;
 use crate::entry::Symbol;
 use crate::standardized::{COMMON_LISP, COMMON_LISP_USER, KEYWORD};
 use std::alloc::{AllocError, Global};
-use std::collections::{BTreeMap, BTreeSet};
+use std::collections::BTreeMap;
 
 const COMMON_LISP_NAMES: [&[u8]; 31] = [
     b"*PACKAGE*",
@@ -81,9 +82,10 @@ fn package_of_names(
     requires { first + length names.now < 1000 }
     ensures package { IfOk result (λ c. package_of c ≡ package_of_names owner.now (map (λ n. n.now) names.now)) }
     ensures numbers { IfOk result (λ c. IsRun (numbers_in c) first (first + length names.now)) }
+    ensures placed { IfOk result (λ c. (n : Name) → finite.contains_key c.1 n ≡ finite.contains_key c.0.symbols n) }
 {
     let shared = new_name(alloc, owner)?;
-    let mut symbols = BTreeMap::new(alloc);
+    let mut contents = Contents::new(alloc, shared.clone()?);
     let mut number = first;
     for name in names {
         let symbol = Symbol {
@@ -91,20 +93,18 @@ fn package_of_names(
             external: true,
             number,
         };
-        symbols.insert(Vec::from_slice(alloc, name)?, symbol)?;
+        contents.insert(alloc, name, symbol)?;
         number += 1;
     }
-    Ok(Contents {
-        name: shared,
-        symbols,
-        uses: BTreeSet::new(alloc),
-    })
+    contents.placement();
+    Ok(contents)
 }
 
 // COMMON-LISP.
 fn lisp_package(alloc: Global) -> Result<Contents, AllocError>
     ensures package { IfOk result (λ c. package_of c ≡ common_lisp_package) }
     ensures numbers { IfOk result (λ c. IsRun (numbers_in c) 0 31) }
+    ensures placed { IfOk result (λ c. (n : Name) → finite.contains_key c.1 n ≡ finite.contains_key c.0.symbols n) }
 {
     package_of_names(alloc, COMMON_LISP, &COMMON_LISP_NAMES, 0)
 }
@@ -113,6 +113,7 @@ fn lisp_package(alloc: Global) -> Result<Contents, AllocError>
 fn keyword_package(alloc: Global) -> Result<Contents, AllocError>
     ensures package { IfOk result (λ c. package_of c ≡ keyword_package) }
     ensures numbers { IfOk result (λ c. IsRun (numbers_in c) 31 53) }
+    ensures placed { IfOk result (λ c. (n : Name) → finite.contains_key c.1 n ≡ finite.contains_key c.0.symbols n) }
 {
     package_of_names(alloc, KEYWORD, &KEYWORD_NAMES, 31)
 }
@@ -121,15 +122,12 @@ fn keyword_package(alloc: Global) -> Result<Contents, AllocError>
 fn user_package(alloc: Global) -> Result<Contents, AllocError>
     ensures package { IfOk result (λ c. package_of c ≡ user_package) }
     ensures numbers { IfOk result (λ c. IsRun (numbers_in c) 53 53) }
+    ensures placed { IfOk result (λ c. (n : Name) → finite.contains_key c.1 n ≡ finite.contains_key c.0.symbols n) }
 {
-    let mut uses = BTreeSet::new(alloc);
-    let lisp = Vec::from_slice(alloc, COMMON_LISP)?;
-    uses.insert(lisp)?;
-    Ok(Contents {
-        name: new_name(alloc, COMMON_LISP_USER)?,
-        symbols: BTreeMap::new(alloc),
-        uses,
-    })
+    let mut contents = Contents::new(alloc, new_name(alloc, COMMON_LISP_USER)?);
+    contents.insert_use(Vec::from_slice(alloc, COMMON_LISP)?)?;
+    contents.placement();
+    Ok(contents)
 }
 
 impl PackageTable {

@@ -63,7 +63,7 @@ impl PackageTable {
         Ok(names)
     }
 
-    /// The names external in `owner`.
+    /// The names external in `owner`. Looks at them alone.
     pub(crate) fn externals(
         &self,
         alloc: Global,
@@ -75,10 +75,8 @@ impl PackageTable {
     {
         let contents = self.listed(owner)?;
         let mut names = Items::new(alloc);
-        for (name, symbol) in &contents.symbols {
-            if symbol.external {
-                names.push(Bytes::from_slice(alloc, name.as_slice())?)?;
-            }
+        for name in &contents.externals {
+            names.push(Bytes::from_slice(alloc, name.as_slice())?)?;
         }
         Ok(names)
     }

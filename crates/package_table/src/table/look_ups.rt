@@ -6,7 +6,7 @@ ghost use Rattle.package_table.specs.Numbers.{number_of, number_or_none};
 ghost use Rattle.package_table.specs.Kept.{package_of, as_set};
 
 use super::PackageTable;
-use super::contents::{Contents, symbol_at, uses};
+use super::contents::Contents;
 use std::collections::BTreeSet;
 
 impl PackageTable {
@@ -39,7 +39,7 @@ impl PackageTable {
         ensures { result ≡ is_present self.now.0 owner.now name.now }
     {
         match self.contents_of(owner) {
-            Some(contents) => symbol_at(contents, name).is_some(),
+            Some(contents) => contents.symbol_at(name).is_some(),
             None => false,
         }
     }
@@ -51,7 +51,7 @@ impl PackageTable {
         let Some(contents) = self.contents_of(home) else {
             return false;
         };
-        match symbol_at(contents, name) {
+        match contents.symbol_at(name) {
             Some(symbol) => symbol.home.as_slice() == home,
             None => false,
         }
@@ -74,7 +74,7 @@ impl PackageTable {
         let Some(contents) = self.packages.get(home) else {
             return None;
         };
-        let Some(symbol) = contents.symbols.get(name) else {
+        let Some(symbol) = contents.symbol_at(name) else {
             return None;
         };
         if symbol.home.as_slice() != home {
@@ -98,7 +98,7 @@ impl PackageTable {
         ensures { result ≡ is_used self.now.0 owner.now used.now }
     {
         match self.contents_of(owner) {
-            Some(contents) => uses(contents, used),
+            Some(contents) => contents.has_use(used),
             None => false,
         }
     }
@@ -108,7 +108,7 @@ impl PackageTable {
         ensures { option_map (λ h. h.now) result ≡ external_home self.now.0 owner.now name.now }
     {
         let contents = self.contents_of(owner)?;
-        let symbol = symbol_at(contents, name)?;
+        let symbol = contents.symbol_at(name)?;
         if symbol.external {
             Some(symbol.home.as_slice())
         } else {
@@ -135,7 +135,7 @@ impl PackageTable {
         ensures { option_map (λ h. h.now) result ≡ found self.now.0 owner.now name.now }
     {
         let contents = self.contents_of(owner)?;
-        match symbol_at(contents, name) {
+        match contents.symbol_at(name) {
             Some(symbol) => Some(symbol.home.as_slice()),
             None => self.inherited_home(&contents.uses, name),
         }

@@ -1,27 +1,68 @@
 //! Single changes of the table, undone. They take no memory.
-ghost use Rattle.std.specs.Prelude.{◌≡◌, option_map};
-ghost use Rattle.package_table.specs.Undo.{made, put, put_back, undone, used};
+ghost use Rattle.std.specs.Prelude.{◌≡◌, ◌&&◌, option_map};
+ghost use Rattle.std.specs.FinMap as finite;
+ghost use Rattle.package_table.specs.Undo.{entry_back, made, put, put_back, undone, used};
+ghost use Rattle.package_table.specs.Reached.{is_shown};
 ghost use Rattle.package_table.specs.Entries.{entry_of, numbered_entry};
 ghost use Rattle.package_table.specs.Kept.{as_map};
 
 use super::PackageTable;
+use super::contents::Contents;
 use crate::entry::Symbol;
 use std::collections::BTreeMap;
 
-// What was at the name before is there again.
-fn put_back(symbols: &mut BTreeMap<Vec<u8>, Symbol>, name: &[u8], before: Option<Symbol>)
+fn both(before: bool, now: bool) -> bool
+    ensures { result ≡ (before && now) }
+{
+    before && now
+}
+
+// What was at the name before is there again, external only where it still is. Gives whether it is.
+fn put_back(symbols: &mut BTreeMap<Vec<u8>, Symbol>, name: &[u8], before: Option<Symbol>) -> bool
     ensures entries { as_map entry_of symbols.new.entries
-        ≡ put_back (as_map entry_of symbols.old.entries) name.now (option_map entry_of before) }
+        ≡ entry_back (as_map entry_of symbols.old.entries) name.now (option_map entry_of before) }
     ensures numbers { as_map (λ s. s.number) symbols.new.entries
         ≡ put_back (as_map (λ s. s.number) symbols.old.entries) name.now (option_map (λ s. s.number) before) }
+    ensures shown { result ≡ is_shown (as_map entry_of symbols.new.entries) name.now }
 {
     let _count = symbols.len();
     let Some(before) = before else {
         symbols.remove(name);
-        return;
+        return false;
     };
-    if let Some(symbol) = symbols.get_mut(name) {
-        *symbol = before;
+    let Some(symbol) = symbols.get_mut(name) else {
+        return false;
+    };
+    let external = both(before.external, symbol.external);
+    *symbol = Symbol {
+        home: before.home,
+        external,
+        number: before.number,
+    };
+    external
+}
+
+impl Contents {
+    // What was at the name before is there again, external only where it still is.
+    fn put_back(&mut self, name: &[u8], before: Option<Symbol>)
+        ensures { self.new ≡ (
+          record self.old.0 { symbols = entry_back self.old.0.symbols name.now (option_map entry_of before) },
+          put_back self.old.1 name.now (option_map (λ s. s.number) before),
+        ) }
+    {
+        if put_back(&mut self.symbols, name, before) {
+            return;
+        }
+        let _count = self.externals.len();
+        self.externals.remove(name);
+    }
+
+    // The package uses the other no more.
+    fn remove_use(&mut self, used: &[u8])
+        ensures { self.new ≡ (record self.old.0 { uses = finite.remove self.old.0.uses used.now }, self.old.1) }
+    {
+        let _count = self.uses.len();
+        self.uses.remove(used);
     }
 }
 
@@ -33,7 +74,7 @@ impl PackageTable {
         let Some(contents) = self.packages.get_mut(owner) else {
             return;
         };
-        put_back(&mut contents.symbols, name, before);
+        contents.put_back(name, before);
     }
 
     /// The package `owner` doesn't use the other any more.
@@ -43,8 +84,7 @@ impl PackageTable {
         let Some(contents) = self.packages.get_mut(owner) else {
             return;
         };
-        let _count = contents.uses.len();
-        contents.uses.remove(used_name);
+        contents.remove_use(used_name);
     }
 
     /// The package of this name is gone.

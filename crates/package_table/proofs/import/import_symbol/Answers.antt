@@ -1,9 +1,10 @@
-use Rattle.std.proofs.Common.{rules, ◌≡◌, ◌∙◌, ℕ, false, is_some, option_map, Option, None, Some, ap, sym, subst}
+use Rattle.std.proofs.Common.{rules, ◌≡◌, ◌∙◌, ℕ, true, false, is_some, option_map, Option, None, Some, ap, sym, subst}
 use Rattle.std.proofs.lemmas.Bool.{false≢true}
-use Rattle.package_table.specs.Table.{Name, Entry, IsPresent, entry_at}
+use Rattle.package_table.specs.Table.{Name, Entry, entry_at}
 use Rattle.package_table.specs.Lookup.{is_present}
 use Rattle.package_table.specs.Numbers.{Numbered, with_numbered}
 use Rattle.package_table.specs.Numbering.{KeepsNumbers}
+use Rattle.package_table.proofs.Names.{none_some}
 use Rattle.package_table.proofs.KeptChanges.{imported_there}
 use Rattle.package_table.proofs.KeptNumbers.{numbers_put}
 use Rattle.package_table.proofs.import.import_symbol.Goals as goal
@@ -12,6 +13,16 @@ use Rattle.package_table.proofs.import.import_symbol.Goals as goal
 none_there : (o : Option Entry) (g h : Name) → is_some o ≡ false → option_map (λ (e : Entry). e.home) o ≡ Some g → g ≡ h
 none_there None g h none found = absurd (cc)
 none_there (Some e) g h none found = absurd (false≢true (sym none))
+
+-- nor is anything external there
+hidden_there : (o : Option Entry) → is_some o ≡ false → option_map (λ (e : Entry). e.external) o ≡ Some true → ⊥
+hidden_there None none shown = none_some true shown
+hidden_there (Some e) none shown = false≢true (sym none)
+
+pub put_symbol-requires-clause-shown : goal.put_symbol-requires-clause-shown
+put_symbol-requires-clause-shown c shown =
+    let absent : is_present c.args.table.now.0 c.args.owner.now c.args.name.now ≡ false = search rules in
+    absurd (hidden_there (entry_at c.args.table.now.0 c.args.owner.now c.args.name.now) absent shown)
 
 pub returns-clause-numbers : goal.returns-clause-numbers
 returns-clause-numbers c =

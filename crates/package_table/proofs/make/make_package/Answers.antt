@@ -1,5 +1,4 @@
 use Rattle.std.proofs.Common.{◌∙◌, ap, sym, subst}
-use Rattle.std.specs.FinMap as finite
 use Rattle.package_table.specs.Numbers.{Numbered, with_package_made}
 use Rattle.package_table.specs.Numbering.{KeepsNumbers}
 use Rattle.package_table.proofs.KeptChanges.{make_fresh}

@@ -1,11 +1,11 @@
-use Rattle.std.proofs.Common.{◌++◌, ◌∙◌, ap}
-use Rattle.package_table.specs.Readers.{external_among}
-use Rattle.package_table.specs.Entries.{entry_of}
-use Rattle.package_table.proofs.Seen.{read, present-read}
+use Rattle.std.proofs.Common.{◌++◌, ◌∙◌, ap, map}
+use Rattle.package_table.specs.Numbers.{Held}
+use Rattle.package_table.specs.Reached.{shows}
+use Rattle.package_table.proofs.Index.{shown-read}
 use Rattle.package_table.proofs.table.PackageTable.externals.Goals as goal
 
 pub loop-name-init : goal.loop-name-init
 loop-name-init c =
     let all = c.into_iter-name-iterator.ensures.into_iter_gives in
-    (λ i. c.new-names.ensures i ++ external_among (read entry_of (all.0 i)))
-    ∙ ap (external_among) (present-read c.args.self.now.0 c.args.owner.now c.in_ok-contents.contents.now c.in_ok-contents.ensures all.5)
+    (λ i. c.new-names.ensures i ++ map (λ k. k.items) (all.0 i))
+    ∙ shown-read c.args.self.now.0 c.args.owner.now c.in_ok-contents.contents.now c.contents.inside.externals.keys (λ n. c.contents.invariant n ∙ ap (λ (k : Held). shows n k.0) c.contents.view_is) c.in_ok-contents.ensures all.4

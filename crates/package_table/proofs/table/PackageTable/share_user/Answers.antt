@@ -19,11 +19,11 @@ loop-contents-init c =
     ∙ sym (ap (list_any test) (entries-as_map package_of c.self.inside.packages.entries c.into_iter-contents-iterator.ensures.into_iter_gives.5))
     ∙ ap (λ (s : Numbered). list_any test (finite.entries s.0)) c.self.view_is
 
-pub returns-then-uses-2 : goal.returns-then-uses-2
-returns-then-uses-2 c =
+pub returns-then-has_use-2 : goal.returns-then-has_use-2
+returns-then-has_use-2 c =
     one_left package_of (asked c.args.owner.now c.args.other.now) c.loop-contents.contents-iterator (share_user c.args.self.now.0 c.args.owner.now c.args.other.now) c.loop-contents.invariant
     (c.in-Some.field-0-0.now, c.in-Some.contents.now) c.next.new.self c.in-Some.ensures.steps
-    (λ i. (sym c.uses.ensures ∙ c.if-uses.true) i && (sym c.uses-then-uses.ensures ∙ c.if-uses-2.true) i)
+    (λ i. (sym c.has_use.ensures ∙ c.if-has_use.true) i && (sym c.has_use-then-has_use.ensures ∙ c.if-has_use-2.true) i)
 
 pub returns : goal.returns
 returns c =

@@ -1,22 +1,19 @@
-use Rattle.std.proofs.Common.{ap, ◌∙◌, refl}
+use Rattle.std.proofs.Common.{ap, ◌∙◌}
 use Rattle.std.specs.FinMap as finite
-use Rattle.package_table.specs.declared.table.contents.Contents.{Contents}
 use Rattle.package_table.specs.Table.{Package}
+use Rattle.package_table.specs.Numbers.{Held}
 use Rattle.package_table.specs.Undo.{used, undone}
-use Rattle.package_table.specs.Entries.{entry_of}
-use Rattle.package_table.specs.Kept.{as_map, as_set, numbers_in, numbered_of, package_of}
-use Rattle.package_table.proofs.Seen.{as_set-remove}
+use Rattle.package_table.specs.Kept.{as_map, numbers_in, numbered_of, package_of}
 use Rattle.package_table.proofs.Places.{changed_table, same_table, unchanged_table}
 use Rattle.package_table.proofs.table.PackageTable.undo_use.Goals as goal
 
 pub returns : goal.returns
 returns c =
-    let k : Contents = c.in-Some.contents.now in
-    let w : Contents = record { name = k.name; symbols = k.symbols; uses = c.remove.new.self } in
+    let k : Held = c.in-Some.contents.now in
+    let w : Held = c.remove_use.new.self in
     let table = changed_table package_of c.self.inside.packages.entries (c.get_mut.follows.lender w).entries c.args.owner.now k w c.in-Some.ensures.value (c.get_mut.follows.holds w).0
-    (λ (k : Package). record k { uses = finite.remove k.uses c.args.used_name.now })
-    (λ i. record { symbols = as_map entry_of k.symbols.entries; uses = (ap as_set c.remove.ensures.keys ∙ as_set-remove c.args.used_name.now k.uses.keys c.len-count.ensures.ordered) i }) in
-    let numbers = same_table numbers_in c.self.inside.packages.entries (c.get_mut.follows.lender w).entries c.args.owner.now k w c.in-Some.ensures.value (c.get_mut.follows.holds w).0 refl in
+    (λ (k : Package). record k { uses = finite.remove k.uses c.args.used_name.now }) (ap (λ (k : Held). k.0) c.remove_use.ensures) in
+    let numbers = same_table numbers_in c.self.inside.packages.entries (c.get_mut.follows.lender w).entries c.args.owner.now k w c.in-Some.ensures.value (c.get_mut.follows.holds w).0 (ap (λ (k : Held). k.1) c.remove_use.ensures) in
     (λ i. (table i, numbers i)) ∙ ap (undone (used c.args.owner.now c.args.used_name.now)) c.self.view_is
 
 pub returns-in_default : goal.returns-in_default
