@@ -24,7 +24,8 @@ use Rattle.plist_state.specs.Sound.{IsSymbol}
 use Rattle.snapshot_text.specs.Snapshot.{number, dispatch_object, dispatch_objects}
 use Rattle.snapshot_text.specs.Built.{with_table, IsWritable, IsSubFunction, IsNamedEntry}
 use Rattle.snapshot_text.proofs.Filling.{updates, put_all, update_at, update_below, filled, put_next}
-use Rattle.snapshot_text.proofs.ReadParts.{list_all-at, item_at, item_count}
+use Rattle.snapshot_text.proofs.ReadRows.{passing_item}
+use Rattle.snapshot_text.proofs.ReadParts.{item_at, item_count}
 use Rattle.snapshot_text.proofs.TableParts.{table_twice, entry_twice, entry_there, still_writable, symbol_is, upper_same}
 
 -- ---- the function
@@ -186,7 +187,7 @@ pair_at s n t c e b pairs k now pair named syntax dispatches_here small w so_far
       upper = no_key (is_lower_case u.0 || is_digit u.0) (get_or e.dispatch u.0 None) (ap is_some of.0) (named.entry.keys u.0);
       name = ap is_none_or_name (sym of.0) ∙ named.entry.names u.0;
       other = ap dispatches (sym of.0) ∙ named.entry.values u.0;
-      named = symbol_is s.packages keyword f (ap (passes (is_symbol s.packages keyword)) (sym of.0) ∙ list_all-at (passes (is_symbol s.packages keyword)) e.dispatch u.0 None all (omega arith));
+      named = symbol_is s.packages keyword f (ap (passes (is_symbol s.packages keyword)) (sym of.0) ∙ passing_item (passes (is_symbol s.packages keyword)) e.dispatch all u.0 None (omega arith));
     } in
     record {
       proper = row.0;

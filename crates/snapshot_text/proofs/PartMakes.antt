@@ -24,6 +24,7 @@ use Rattle.snapshot_text.specs.declared.error.BuildError.TheVariants.{OutOfMemor
 use Rattle.snapshot_text.specs.Refused.{of_packages}
 use Rattle.snapshot_text.specs.Part.{IsPartOf}
 use Rattle.snapshot_text.specs.Phases.{OrNoMemory}
+use Rattle.snapshot_text.proofs.Gave.{same_ok}
 use Rattle.snapshot_text.proofs.PartFinds.{present_entry, only_found}
 use Rattle.snapshot_text.proofs.PartOrder.{part_with_new, part_with_entry}
 use Rattle.snapshot_text.proofs.PartCounts.{room_for_package, room_for_symbol}
@@ -117,9 +118,6 @@ module _ (t s : Table) (part : IsPartOf t s) (sound : IsSound s) where
       ] refl
 
 -- ---- what a call answers then
-
-same_ok : {A : Type 0} (x y : A) → ◌≡◌ {A = Result A PackageError} (Ok x) (Ok y) → x ≡ y
-same_ok x y e = cc
 
 pub made_is : (t s u : Table) → IsPartOf t s → IsSound s → (p : Name) → finite.contains_key t p ≡ false → IsPackage s p → after_make t p ≡ Ok u → IsPartOf u s × IsPackage u p
 made_is t s u part sound p absent there goes =

@@ -12,6 +12,7 @@ use Rattle.lisp_object.proofs.Objects.{object_of-List, object_of-dotted, object_
 use Rattle.lisp_object.proofs.Lists.{is_list-other}
 use Rattle.lisp_object.proofs.ProperLists.{end_of_proper, items_of_proper, no_list_object, no_proper_list, pairs_proper, proper_pairs}
 use Rattle.std.specs.Prelude.{◌≢◌, codes}
+use Rattle.snapshot_text.proofs.ReadRows.{passing_item}
 use Rattle.snapshot_text.proofs.RowsByKey.{same_list}
 
 -- the items of NIL
@@ -68,17 +69,11 @@ first_item (b ∷ later) a y ys e proper is_a =
     } in
     subst (IsFirstOf y ys a) (sym (ap (λ n. take n later) (all_but_one (length later)) ∙ take-length later)) found
 
--- what passes a test at each place passes it at one
-pub list_all-at : {A : Type 0} (p : A → Bool) (xs : List A) (n : ℕ) (d : A) → list_all p xs ≡ true → n < length xs → p (get_or xs n d) ≡ true
-list_all-at p [] n d all few = absurd (omega arith)
-list_all-at p (x ∷ xs) zero d all few = (and_parts (p x) (list_all p xs) all).0
-list_all-at p (x ∷ xs) (suc n) d all few = list_all-at p xs n d (and_parts (p x) (list_all p xs) all).1 (omega arith)
-
 -- an item at a place
 pub item_at : (items : List Datum) (n : ℕ) (a : Datum) (ys : List Object) → map object_of items ≡ ys → list_all is_proper items ≡ true
     → n < length items → a ≡ get_or items n a → (is_proper a ≡ true) × (object_of a ≡ get_or ys n (object_of a))
 item_at items n a ys e proper few is = (
-  ap is_proper is ∙ list_all-at is_proper items n a proper few,
+  ap is_proper is ∙ passing_item is_proper items proper n a few,
   ap object_of is ∙ sym (get_or-map object_of items n a (object_of a) few) ∙ ap (λ zs. get_or zs n (object_of a)) e,
 )
 

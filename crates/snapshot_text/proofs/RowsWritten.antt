@@ -1,5 +1,5 @@
 -- The list of the rows of property lists is written row by row.
-use Rattle.std.proofs.Common.{◌≡◌, ℕ, suc, ◌-◌, ◌≤◌, Bool, true, List, [], ◌∷◌, ◌++◌, length, map, take, drop, get_or, append_assoc, refl, sym, ap, ◌∙◌, arith}
+use Rattle.std.proofs.Common.{◌≡◌, ℕ, suc, ◌-◌, ◌≤◌, Bool, true, List, [], ◌∷◌, ◌++◌, length, map, take, drop, get_or, append_assoc, append-nil, refl, sym, ap, ◌∙◌, arith}
 use Rattle.std.specs.Prelude.{codes}
 use Rattle.std.specs.List.{flat_map, list_all}
 use Rattle.std.proofs.lemmas.List.Folds.{list_all-map}
@@ -54,3 +54,13 @@ mapped_twice f g (x ∷ xs) = ap (λ ys. f (g x) ∷ ys) (mapped_twice f g xs)
 -- the images of a list are mapped
 pub each_mapped : {A B C : Type 0} (f : B → C) (xs ys : List A) (g : A → B) {zs : List B} → xs ≡ ys → map g ys ≡ zs → map (λ x. f (g x)) xs ≡ map f zs
 each_mapped f xs ys g same images = ap (map (λ x. f (g x))) same ∙ mapped_twice f g ys ∙ ap (map f) images
+
+-- what holds of the images of a list holds of each
+pub images_pass : {A B : Type 0} (P : B → Bool) (xs ys : List A) (g : A → B) {zs : List B} → xs ≡ ys → map g ys ≡ zs → list_all P zs ≡ true → list_all (λ x. P (g x)) xs ≡ true
+images_pass P xs ys g same images all = ap (list_all (λ x. P (g x))) same ∙ sym (list_all-map P g ys) ∙ ap (list_all P) images ∙ all
+
+-- four texts, one added after the other
+pub four_added : (t₀ a b c d : List ℕ) {t₁ t₂ t₃ t₄ : List ℕ} → t₁ ≡ t₀ ++ a → t₂ ≡ t₁ ++ b → t₃ ≡ t₂ ++ c → t₄ ≡ t₃ ++ d → t₄ ≡ t₀ ++ (a ++ (b ++ (c ++ (d ++ []))))
+four_added t₀ a b c d one two three four =
+    four ∙ ap (λ t. t ++ d) (three ∙ ap (λ t. t ++ c) (two ∙ ap (λ t. t ++ b) one)) ∙ append_assoc ((t₀ ++ a) ++ b) c d ∙ append_assoc (t₀ ++ a) b (c ++ d)
+    ∙ append_assoc t₀ a (b ++ (c ++ d)) ∙ ap (λ e. t₀ ++ (a ++ (b ++ (c ++ e)))) (sym (append-nil d))

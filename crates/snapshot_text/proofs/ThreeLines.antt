@@ -5,13 +5,12 @@ use Rattle.package_table.specs.Table.{Table}
 use Rattle.plist_state.specs.State.{State}
 use Rattle.snapshot_text.specs.Snapshot.{line, packages_object, properties_object, tables_object, snapshot}
 
--- the packages p and the objects x and z are those of the state; t is the text so far after each line
-pub three_lines : (s : State) (p : Table) (x z : Object) (t₀ t₁ t₂ t₃ : List ℕ)
-    → p ≡ s.packages → x ≡ packages_object p → z ≡ tables_object s
-    → t₀ ≡ [] → t₁ ≡ t₀ ++ line p x → t₂ ≡ t₁ ++ line s.packages (properties_object s) → t₃ ≡ t₂ ++ line p z → t₃ ≡ snapshot s
-three_lines s p x z t₀ t₁ t₂ t₃ same first third none one two three =
-    let a : t₁ ≡ line s.packages (packages_object s.packages) =
-    one ∙ ap (λ t. t ++ line p x) none ∙ ap (line p) first ∙ ap (λ q. line q (packages_object q)) same in
+-- the packages p and the object z are those of the state; t is the text so far after each line
+pub three_lines : (s : State) (p : Table) (z : Object) (t₀ t₁ t₂ t₃ : List ℕ)
+    → p ≡ s.packages → z ≡ tables_object s
+    → t₀ ≡ [] → t₁ ≡ t₀ ++ line p (packages_object p) → t₂ ≡ t₁ ++ line s.packages (properties_object s) → t₃ ≡ t₂ ++ line p z → t₃ ≡ snapshot s
+three_lines s p z t₀ t₁ t₂ t₃ same third none one two three =
+    let a : t₁ ≡ line s.packages (packages_object s.packages) = one ∙ ap (λ t. t ++ line p (packages_object p)) none ∙ ap (λ q. line q (packages_object q)) same in
     let b : t₂ ≡ line s.packages (packages_object s.packages) ++ line s.packages (properties_object s) =
     two ∙ ap (λ t. t ++ line s.packages (properties_object s)) a in
     three ∙ ap (λ t. t ++ line p z) b

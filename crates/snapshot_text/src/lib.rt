@@ -7,7 +7,7 @@
 //! `printed_objects_read_back` is the law that the printed text of an object is read, under the standard readtable and in the
 //! same packages, as the same object. What it asks of the tokens in the text, specs/Tokens.antt says.
 //!
-//! - `writer`: `write`; `package_rows`, `property_rows`, `table_rows`: packages, property lists and readtables as data;
+//! - `writer`: `write`; `package_rows`, `property_rows`: packages and property lists as text, `table_rows`: readtables as data;
 //!   `texts`: lists of texts; `printing`: data printed at the end of a text
 //! - `reader`: `read`; `lines`: the objects of a text, one at a time; `property_lines`: the line of property lists, of which
 //!   one row is in memory at a time

@@ -1,14 +1,17 @@
-//! The packages of a snapshot, as data.
-ghost use Rattle.std.specs.Prelude.{◌≡◌, ◌&&◌, true, not, map, filter, IfOk};
-ghost use Rattle.std.specs.List.{list_all};
+//! The packages of a snapshot, as text.
+ghost use Rattle.std.specs.Prelude.{◌≡◌, [], ◌∷◌, ◌++◌, codes, true, not, map, filter, bytes_eq, IfOk, OnOk};
+ghost use Rattle.std.specs.List.{list_all, flat_map};
 ghost use Rattle.lisp_object.specs.Object.{list_of};
 ghost use Rattle.lisp_object.specs.Datum.{object_of, is_proper};
-ghost use Rattle.package_table.specs.Table.{IsPackage, initial as initial_packages};
+ghost use Rattle.lisp_object.specs.Ascii.{is_ascii};
+ghost use Rattle.package_table.specs.Table.{IsPackage, common_lisp, common_lisp_user, initial as initial_packages};
 ghost use Rattle.package_table.specs.Lookup.{is_present};
-ghost use Rattle.snapshot_text.specs.Snapshot.{made_names, texts, imported_name, made_names, shown_names, package_object, packages_object};
+ghost use Rattle.canon_printer.specs.Printed.{printed};
+ghost use Rattle.snapshot_text.specs.Snapshot.{made_names, texts, imported_name, shown_names, package_object, packages_object};
 ghost use Rattle.package_table.specs.Readers.{used_names, own_names, imports};
 
-use crate::texts::{imports_of, named_list, texts_of};
+use crate::printing::push_printed;
+use crate::texts::{imports_of, push_text, push_texts, texts_of};
 use lisp_object::{Bytes, Datum, Items};
 use package_table::standardized::{COMMON_LISP, KEYWORD};
 use package_table::{PackageError, Packages};
@@ -24,23 +27,53 @@ fn listed<T>(list: Result<T, PackageError>) -> Result<T, AllocError>
     }
 }
 
-// The names at home in a package that are not in the first packages.
-fn made(
+// The names at home in a package.
+fn own(alloc: Global, packages: &Packages, owner: &[u8]) -> Result<Items<Bytes>, AllocError>
+    ensures { IfOk result (λ names. names ≡ own_names packages.now.0 owner.now) }
+{
+    listed(packages.own(alloc, owner))
+}
+
+// The names that are not at home in the package from the first.
+fn made<'a>(
     alloc: Global,
-    packages: &Packages,
+    names: &'a [Bytes],
     first: &Packages,
     owner: &[u8],
-) -> Result<Items<Bytes>, AllocError>
-    ensures { IfOk result (λ names. names
-        ≡ filter (λ n. not (is_present first.now.0 owner.now n)) (own_names packages.now.0 owner.now)) }
+) -> Result<Vec<&'a Bytes>, AllocError>
+    ensures { IfOk result (λ made. map (λ n. n.now) made.items ≡ filter (λ n. not (is_present first.now.0 owner.now n)) names.now) }
 {
-    let mut names = Items::new(alloc);
-    for name in listed(packages.own(alloc, owner))?.as_slice() {
+    let mut made = Vec::with_capacity(alloc, names.len())?;
+    for name in names {
         if !first.is_present(owner, name.as_slice()) {
-            names.push(name.copy(alloc)?)?;
+            made.push(name)?;
         }
     }
-    Ok(names)
+    Ok(made)
+}
+
+// All of these names.
+fn every<'a>(alloc: Global, names: &'a [Bytes]) -> Result<Vec<&'a Bytes>, AllocError>
+    ensures { IfOk result (λ every. map (λ n. n.now) every.items ≡ names.now) }
+{
+    let mut every = Vec::with_capacity(alloc, names.len())?;
+    for name in names {
+        every.push(name)?;
+    }
+    Ok(every)
+}
+
+// The names but COMMON-LISP.
+fn but_common_lisp<'a>(alloc: Global, names: &'a [Bytes]) -> Result<Vec<&'a Bytes>, AllocError>
+    ensures { IfOk result (λ others. map (λ n. n.now) others.items ≡ filter (λ n. not (bytes_eq n common_lisp)) names.now) }
+{
+    let mut others = Vec::new(alloc);
+    for name in names {
+        if name.as_slice() != COMMON_LISP {
+            others.push(name)?;
+        }
+    }
+    Ok(others)
 }
 
 // The names external in a package, but for KEYWORD.
@@ -66,36 +99,43 @@ fn used_of(alloc: Global, packages: &Packages, owner: &[u8]) -> Result<Datum, Al
     texts_of(alloc, names.as_slice())
 }
 
-// The names made at home in a package.
-
-fn made_of(
+// Adds the names made at home in a package, after a space.
+fn push_own(
     alloc: Global,
+    text: &mut Vec<u8>,
     packages: &Packages,
     first: &Packages,
     owner: &[u8],
-) -> Result<Datum, AllocError>
+) -> Result<(), AllocError>
     requires { first.now.0 ≡ initial_packages }
-    ensures object { IfOk result (λ d. object_of d ≡ texts (made_names packages.now.0 owner.now)) }
-    ensures proper { IfOk result (λ d. is_proper d ≡ true) }
+    ensures { OnOk result (text.new.items
+        ≡ text.old.items ++ (codes " " ++ printed packages.now.0 common_lisp_user (texts (made_names packages.now.0 owner.now)))) }
 {
     packages.soundness();
-    let names = made(alloc, packages, first, owner)?;
-    texts_of(alloc, names.as_slice())
+    let names = own(alloc, packages, owner)?;
+    let made = made(alloc, names.as_slice(), first, owner)?;
+    push_texts(alloc, text, packages, made.as_slice())?;
+    Ok(())
 }
 
-// The names external in a package.
-#[tactic(auto, using(crate::proofs::Ascii::shown_names_ascii))]
-fn shown_of(alloc: Global, packages: &Packages, owner: &[u8]) -> Result<Datum, AllocError>
-    ensures object { IfOk result (λ d. object_of d ≡ texts (shown_names packages.now.0 owner.now)) }
-    ensures proper { IfOk result (λ d. is_proper d ≡ true) }
+// Adds the names external in a package, after a space.
+fn push_shown(
+    alloc: Global,
+    text: &mut Vec<u8>,
+    packages: &Packages,
+    owner: &[u8],
+) -> Result<(), AllocError>
+    ensures { OnOk result (text.new.items
+        ≡ text.old.items ++ (codes " " ++ printed packages.now.0 common_lisp_user (texts (shown_names packages.now.0 owner.now)))) }
 {
     packages.soundness();
     let names = shown(alloc, packages, owner)?;
-    texts_of(alloc, names.as_slice())
+    let shown = every(alloc, names.as_slice())?;
+    push_texts(alloc, text, packages, shown.as_slice())?;
+    Ok(())
 }
 
 // The names that are present in a package from other homes.
-
 fn imported_of(alloc: Global, packages: &Packages, owner: &[u8]) -> Result<Datum, AllocError>
     ensures object { IfOk result (λ d. object_of d ≡ list_of (map imported_name (imports packages.now.0 owner.now))) }
     ensures proper { IfOk result (λ d. is_proper d ≡ true) }
@@ -105,37 +145,99 @@ fn imported_of(alloc: Global, packages: &Packages, owner: &[u8]) -> Result<Datum
     imports_of(alloc, rows.as_slice())
 }
 
-// A package: its name, the packages that it uses, its own names, its external ones and its imports.
-fn package_of(
+// Adds an object, after a space.
+fn push_after_space(
     alloc: Global,
+    text: &mut Vec<u8>,
+    packages: &Packages,
+    datum: Datum,
+) -> Result<(), AllocError>
+    requires { is_proper datum ≡ true }
+    ensures { OnOk result (text.new.items ≡ text.old.items ++ (codes " " ++ printed packages.now.0 common_lisp_user (object_of datum))) }
+{
+    text.push(b' ')?;
+    push_printed(alloc, text, datum, packages)
+}
+
+// Adds the lists of a package, each after a space: the packages that it uses, its own names, its external ones and its imports.
+fn push_lists(
+    alloc: Global,
+    text: &mut Vec<u8>,
     packages: &Packages,
     first: &Packages,
     owner: &[u8],
-) -> Result<Datum, AllocError>
+) -> Result<(), AllocError>
     requires { first.now.0 ≡ initial_packages }
-    ensures object { IfOk result (λ d. object_of d ≡ package_object packages.now.0 owner.now) }
-    ensures proper { IfOk result (λ d. is_proper d ≡ true) }
+    ensures { let t = packages.now.0 in let p = owner.now in OnOk result (text.new.items ≡ text.old.items
+        ++ flat_map (λ x. codes " " ++ printed t common_lisp_user x)
+        (texts (used_names t p) ∷ texts (made_names t p) ∷ texts (shown_names t p) ∷ list_of (map imported_name (imports t p)) ∷ [])) }
 {
-    packages.soundness();
     let used = used_of(alloc, packages, owner)?;
-    let made = made_of(alloc, packages, first, owner)?;
-    let shown = shown_of(alloc, packages, owner)?;
+    push_after_space(alloc, text, packages, used)?;
+    push_own(alloc, text, packages, first, owner)?;
+    push_shown(alloc, text, packages, owner)?;
     let imported = imported_of(alloc, packages, owner)?;
-    named_list(alloc, owner, used, made, shown, imported)
+    push_after_space(alloc, text, packages, imported)?;
+    Ok(())
 }
 
-// All packages but COMMON-LISP.
-pub(crate) fn packages_of(alloc: Global, packages: &Packages) -> Result<Datum, AllocError>
-    ensures object { IfOk result (λ d. object_of d ≡ packages_object packages.now.0) }
-    ensures proper { IfOk result (λ d. is_proper d ≡ true) }
+// Adds a package: its name and its lists.
+fn push_package(
+    alloc: Global,
+    text: &mut Vec<u8>,
+    packages: &Packages,
+    first: &Packages,
+    owner: &Bytes,
+) -> Result<(), AllocError>
+    requires first { first.now.0 ≡ initial_packages }
+    requires name { list_all is_ascii owner.now ≡ true }
+    ensures { OnOk result (text.new.items ≡ text.old.items ++ printed packages.now.0 common_lisp_user (package_object packages.now.0 owner.now)) }
 {
+    text.push(b'(')?;
+    push_text(alloc, text, packages, owner)?;
+    push_lists(alloc, text, packages, first, owner.as_slice())?;
+    text.push(b')')?;
+    Ok(())
+}
+
+// Adds the packages of these names, each after a space.
+fn push_later(
+    alloc: Global,
+    text: &mut Vec<u8>,
+    packages: &Packages,
+    first: &Packages,
+    names: &[&Bytes],
+) -> Result<(), AllocError>
+    requires first { first.now.0 ≡ initial_packages }
+    requires names { list_all (λ n. list_all is_ascii n.now) names.now ≡ true }
+    ensures { OnOk result (text.new.items
+        ≡ text.old.items ++ flat_map (λ n. codes " " ++ printed packages.now.0 common_lisp_user (package_object packages.now.0 n.now)) names.now) }
+{
+    for name in names {
+        text.push(b' ')?;
+        push_package(alloc, text, packages, first, name)?;
+    }
+    Ok(())
+}
+
+/// Adds the printed list of all packages but COMMON-LISP. One list of names is in memory at a time.
+pub(crate) fn push_packages(
+    alloc: Global,
+    text: &mut Vec<u8>,
+    packages: &Packages,
+) -> Result<(), AllocError>
+    ensures { OnOk result (text.new.items ≡ text.old.items ++ printed packages.now.0 common_lisp_user (packages_object packages.now.0)) }
+{
+    packages.soundness();
     let first = Packages::new(alloc)?;
     let names = packages.names(alloc)?;
-    let mut rows = Vec::new(alloc);
-    for name in names.as_slice() {
-        if name.as_slice() != COMMON_LISP {
-            rows.push(package_of(alloc, packages, &first, name.as_slice())?)?;
-        }
-    }
-    Datum::list(alloc, rows, None)
+    let others = but_common_lisp(alloc, names.as_slice())?;
+    let [one, later @ ..] = others.as_slice() else {
+        return push_printed(alloc, text, Datum::nil(alloc)?, packages);
+    };
+    text.push(b'(')?;
+    push_package(alloc, text, packages, &first, one)?;
+    push_later(alloc, text, packages, &first, later)?;
+    text.push(b')')?;
+    Ok(())
 }

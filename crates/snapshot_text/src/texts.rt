@@ -1,12 +1,17 @@
-//! Lists of texts, as data.
-ghost use Rattle.std.specs.Prelude.{◌≡◌, ◌&&◌, true, [], ◌∷◌, map, IfOk};
-ghost use Rattle.std.specs.List.{list_all};
-ghost use Rattle.lisp_object.specs.Object.{text, list_of};
+//! Lists of texts, as data and as text.
+ghost use Rattle.std.specs.Prelude.{◌≡◌, ◌&&◌, true, [], ◌∷◌, ◌++◌, codes, map, IfOk, OnOk};
+ghost use Rattle.std.specs.List.{list_all, flat_map};
+ghost use Rattle.lisp_object.specs.Object as object;
+ghost use Rattle.lisp_object.specs.Object.{list_of};
 ghost use Rattle.lisp_object.specs.Datum.{object_of, is_proper};
 ghost use Rattle.lisp_object.specs.Ascii.{is_ascii};
+ghost use Rattle.package_table.specs.Table.{common_lisp_user};
+ghost use Rattle.canon_printer.specs.Printed.{printed};
 ghost use Rattle.snapshot_text.specs.Snapshot.{texts, imported_name};
 
+use crate::printing::push_printed;
 use lisp_object::{Bytes, Datum};
+use package_table::Packages;
 use std::alloc::{AllocError, Global};
 
 // A text with these bytes.
@@ -31,29 +36,6 @@ pub(crate) fn list_of_three(
     items.push(a)?;
     items.push(b)?;
     items.push(c)?;
-    Datum::list(alloc, items, None)
-}
-
-// A list of five, of which the first is a name.
-pub(crate) fn named_list(
-    alloc: Global,
-    name: &[u8],
-    a: Datum,
-    b: Datum,
-    c: Datum,
-    d: Datum,
-) -> Result<Datum, AllocError>
-    ensures object { IfOk result
-        (λ list. object_of list ≡ list_of (text name.now ∷ object_of a ∷ object_of b ∷ object_of c ∷ object_of d ∷ [])) }
-    ensures proper { list_all is_ascii name.now && (is_proper a && (is_proper b && (is_proper c && is_proper d))) ≡ true
-        → IfOk result (λ list. is_proper list ≡ true) }
-{
-    let mut items = Vec::new(alloc);
-    items.push(text_of(alloc, name)?)?;
-    items.push(a)?;
-    items.push(b)?;
-    items.push(c)?;
-    items.push(d)?;
     Datum::list(alloc, items, None)
 }
 
@@ -91,4 +73,57 @@ pub(crate) fn imports_of(alloc: Global, imports: &[(Bytes, Bytes)]) -> Result<Da
         items.push(import_of(alloc, name, home)?)?;
     }
     Datum::list(alloc, items, None)
+}
+
+// Adds a text, as it is printed.
+pub(crate) fn push_text(
+    alloc: Global,
+    text: &mut Vec<u8>,
+    packages: &Packages,
+    name: &Bytes,
+) -> Result<(), AllocError>
+    requires { list_all is_ascii name.now ≡ true }
+    ensures { OnOk result (text.new.items ≡ text.old.items ++ printed packages.now.0 common_lisp_user (object.text name.now)) }
+{
+    let datum = Datum::Text(name.copy(alloc)?);
+    push_printed(alloc, text, datum, packages)
+}
+
+// Adds texts, each after a space.
+fn push_later(
+    alloc: Global,
+    text: &mut Vec<u8>,
+    packages: &Packages,
+    names: &[&Bytes],
+) -> Result<(), AllocError>
+    requires { list_all (λ n. list_all is_ascii n.now) names.now ≡ true }
+    ensures { OnOk result (text.new.items
+        ≡ text.old.items ++ flat_map (λ n. codes " " ++ printed packages.now.0 common_lisp_user (object.text n.now)) names.now) }
+{
+    for name in names {
+        text.push(b' ')?;
+        push_text(alloc, text, packages, name)?;
+    }
+    Ok(())
+}
+
+// Adds a list of texts, after a space. One of them is in memory at a time.
+pub(crate) fn push_texts(
+    alloc: Global,
+    text: &mut Vec<u8>,
+    packages: &Packages,
+    names: &[&Bytes],
+) -> Result<(), AllocError>
+    requires { list_all (λ n. list_all is_ascii n.now) names.now ≡ true }
+    ensures { OnOk result (text.new.items ≡ text.old.items ++ (codes " " ++ printed packages.now.0 common_lisp_user (texts (map (λ n. n.now) names.now)))) }
+{
+    text.push(b' ')?;
+    let [first, others @ ..] = names else {
+        return push_printed(alloc, text, Datum::nil(alloc)?, packages);
+    };
+    text.push(b'(')?;
+    push_text(alloc, text, packages, first)?;
+    push_later(alloc, text, packages, others)?;
+    text.push(b')')?;
+    Ok(())
 }

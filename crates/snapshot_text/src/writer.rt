@@ -1,9 +1,9 @@
 //! The text of a world.
 ghost use Rattle.std.specs.Prelude.{◌≡◌, [], ◌∷◌, ◌++◌, true, IfOk, OnOk};
 ghost use Rattle.lisp_object.specs.Datum.{object_of, is_proper};
-ghost use Rattle.snapshot_text.specs.Snapshot.{line, properties_object, snapshot};
+ghost use Rattle.snapshot_text.specs.Snapshot.{line, packages_object, properties_object, snapshot};
 
-use crate::package_rows::packages_of;
+use crate::package_rows::push_packages;
 use crate::printing::push_printed;
 use crate::property_rows::push_properties;
 use crate::table_rows::tables_of;
@@ -34,6 +34,18 @@ fn push_line(
     end_line(text)
 }
 
+// Adds the line of the packages.
+fn push_package_line(
+    alloc: Global,
+    text: &mut Vec<u8>,
+    packages: &Packages,
+) -> Result<(), AllocError>
+    ensures { OnOk result (text.new.items ≡ text.old.items ++ line packages.now.0 (packages_object packages.now.0)) }
+{
+    push_packages(alloc, text, packages)?;
+    end_line(text)
+}
+
 // Adds the line of the property lists.
 fn push_property_line(alloc: Global, text: &mut Vec<u8>, world: &World) -> Result<(), AllocError>
     ensures { OnOk result (text.new.items ≡ text.old.items ++ line world.now.0.packages (properties_object world.now.0)) }
@@ -52,7 +64,7 @@ pub fn write(alloc: Global, world: &World) -> Result<Vec<u8>, AllocError>
 {
     let packages = world.packages();
     let mut text = Vec::new(alloc);
-    push_line(alloc, &mut text, packages_of(alloc, packages)?, packages)?;
+    push_package_line(alloc, &mut text, packages)?;
     push_property_line(alloc, &mut text, world)?;
     push_line(alloc, &mut text, tables_of(alloc, world)?, packages)?;
     Ok(text)
