@@ -25,89 +25,51 @@ pub free_line : is_simple_and_free command_line ≡ true
 unfolding clap_on_literals
 free_line = refl
 
+-- the words are taken, no mistake is in them, and they ask for this
+pub record IsRight (words : List Text) (folder : Text) (task : Task) : Type 0 where
+  pub taken : takes command_line words ≡ true
+  pub faultless : fault_of command_line words ≡ []
+  pub asked : asked_in words ≡ Some (folder, task)
+
 -- words that are written out but for the program's name, the folder and the number
 module _ (program : Text) (x : ℕ) (xs : Text) (e : (x == 45) ≡ false) where
-  taken_dump : takes command_line (program ∷ codes "dump" ∷ (x ∷ xs) ∷ []) ≡ true
+  right_dump : IsRight (program ∷ codes "dump" ∷ (x ∷ xs) ∷ []) (x ∷ xs) Dump
   unfolding clap_on_literals
-  taken_dump = simp e
+  right_dump = record { taken = simp e; faultless = simp e; asked = simp e }
 
-  faultless_dump : fault_of command_line (program ∷ codes "dump" ∷ (x ∷ xs) ∷ []) ≡ []
+  right_verify : IsRight (program ∷ codes "verify" ∷ (x ∷ xs) ∷ []) (x ∷ xs) Verify
   unfolding clap_on_literals
-  faultless_dump = simp e
+  right_verify = record { taken = simp e; faultless = simp e; asked = simp e }
 
-  asked_dump : asked_in (program ∷ codes "dump" ∷ (x ∷ xs) ∷ []) ≡ Some (x ∷ xs, Dump)
+  right_current : IsRight (program ∷ codes "run" ∷ (x ∷ xs) ∷ []) (x ∷ xs) (Run Current 0)
   unfolding clap_on_literals
-  asked_dump = simp e
+  right_current = record { taken = simp e; faultless = simp e; asked = simp e }
 
-  taken_verify : takes command_line (program ∷ codes "verify" ∷ (x ∷ xs) ∷ []) ≡ true
+  right_rescue : IsRight (program ∷ codes "run" ∷ (x ∷ xs) ∷ codes "--rescue" ∷ []) (x ∷ xs) (Run Rescue 0)
   unfolding clap_on_literals
-  taken_verify = simp e
+  right_rescue = record { taken = simp e; faultless = simp e; asked = simp e }
 
-  faultless_verify : fault_of command_line (program ∷ codes "verify" ∷ (x ∷ xs) ∷ []) ≡ []
-  unfolding clap_on_literals
-  faultless_verify = simp e
+  module _ (y : ℕ) (ys : Text) (d : (y == 45) ≡ false) (passes : is_unsigned_in 1 1000000 (y ∷ ys) ≡ true) where
+    -- what is left of each of the next two: the number passes
+    left : (((is_unsigned_in 1 1000000 (y ∷ ys) && true) && true) && true) ≡ true
+    left = rw passes refl
 
-  asked_verify : asked_in (program ∷ codes "verify" ∷ (x ∷ xs) ∷ []) ≡ Some (x ∷ xs, Verify)
-  unfolding clap_on_literals
-  asked_verify = simp e
+    left_kinds : or_else (or_else (or_else (if is_unsigned_in 1 1000000 (y ∷ ys) then [] else (ValueValidation ∷ [])) []) []) [] ≡ []
+    left_kinds = rw passes refl
 
-  taken_current : takes command_line (program ∷ codes "run" ∷ (x ∷ xs) ∷ []) ≡ true
-  unfolding clap_on_literals
-  taken_current = simp e
-
-  faultless_current : fault_of command_line (program ∷ codes "run" ∷ (x ∷ xs) ∷ []) ≡ []
-  unfolding clap_on_literals
-  faultless_current = simp e
-
-  asked_current : asked_in (program ∷ codes "run" ∷ (x ∷ xs) ∷ []) ≡ Some (x ∷ xs, Run Current 0)
-  unfolding clap_on_literals
-  asked_current = simp e
-
-  taken_rescue : takes command_line (program ∷ codes "run" ∷ (x ∷ xs) ∷ codes "--rescue" ∷ []) ≡ true
-  unfolding clap_on_literals
-  taken_rescue = simp e
-
-  faultless_rescue : fault_of command_line (program ∷ codes "run" ∷ (x ∷ xs) ∷ codes "--rescue" ∷ []) ≡ []
-  unfolding clap_on_literals
-  faultless_rescue = simp e
-
-  asked_rescue : asked_in (program ∷ codes "run" ∷ (x ∷ xs) ∷ codes "--rescue" ∷ []) ≡ Some (x ∷ xs, Run Rescue 0)
-  unfolding clap_on_literals
-  asked_rescue = simp e
-
-  module _ (y : ℕ) (ys : Text) (d : (y == 45) ≡ false) where
-    module _ (passes : is_unsigned_in 1 1000000 (y ∷ ys) ≡ true) where
-      -- what is left of each of the next two: the number passes
-      left : (((is_unsigned_in 1 1000000 (y ∷ ys) && true) && true) && true) ≡ true
-      left = rw passes refl
-
-      taken_current_every : takes command_line (program ∷ codes "run" ∷ (x ∷ xs) ∷ codes "--snapshot-every" ∷ (y ∷ ys) ∷ []) ≡ true
-      unfolding clap_on_literals
-      taken_current_every = simp (e, d) left
-
-      taken_rescue_every : takes command_line (program ∷ codes "run" ∷ (x ∷ xs) ∷ codes "--rescue" ∷ codes "--snapshot-every" ∷ (y ∷ ys) ∷ []) ≡ true
-      unfolding clap_on_literals
-      taken_rescue_every = simp e (rw d (simp d left))
-
-      left_kinds : or_else (or_else (or_else (if is_unsigned_in 1 1000000 (y ∷ ys) then [] else (ValueValidation ∷ [])) []) []) [] ≡ []
-      left_kinds = rw passes refl
-
-      faultless_current_every : fault_of command_line (program ∷ codes "run" ∷ (x ∷ xs) ∷ codes "--snapshot-every" ∷ (y ∷ ys) ∷ []) ≡ []
-      unfolding clap_on_literals
-      faultless_current_every = simp (e, d) left_kinds
-
-      faultless_rescue_every : fault_of command_line (program ∷ codes "run" ∷ (x ∷ xs) ∷ codes "--rescue" ∷ codes "--snapshot-every" ∷ (y ∷ ys) ∷ []) ≡ []
-      unfolding clap_on_literals
-      faultless_rescue_every = simp e (rw (d, d) left_kinds)
-
-    asked_current_every : asked_in (program ∷ codes "run" ∷ (x ∷ xs) ∷ codes "--snapshot-every" ∷ (y ∷ ys) ∷ []) ≡ Some (x ∷ xs, Run Current (every_of_number (Some (y ∷ ys))))
+    right_current_every : IsRight (program ∷ codes "run" ∷ (x ∷ xs) ∷ codes "--snapshot-every" ∷ (y ∷ ys) ∷ []) (x ∷ xs)
+        (Run Current (every_of_number (Some (y ∷ ys))))
     unfolding clap_on_literals
-    asked_current_every = simp (e, d)
+    right_current_every = record { taken = simp (e, d) left; faultless = simp (e, d) left_kinds; asked = simp (e, d) }
 
-    asked_rescue_every : asked_in (program ∷ codes "run" ∷ (x ∷ xs) ∷ codes "--rescue" ∷ codes "--snapshot-every" ∷ (y ∷ ys) ∷ [])
-        ≡ Some (x ∷ xs, Run Rescue (every_of_number (Some (y ∷ ys))))
+    right_rescue_every : IsRight (program ∷ codes "run" ∷ (x ∷ xs) ∷ codes "--rescue" ∷ codes "--snapshot-every" ∷ (y ∷ ys) ∷ []) (x ∷ xs)
+        (Run Rescue (every_of_number (Some (y ∷ ys))))
     unfolding clap_on_literals
-    asked_rescue_every = simp e (rw (d, d) refl)
+    right_rescue_every = record {
+      taken = simp e (rw d (simp d left));
+      faultless = simp e (rw (d, d) left_kinds);
+      asked = simp e (rw (d, d) refl);
+    }
 
 differs : (x y : ℕ) → x ≢ y → (x == y) ≡ false
 differs x y apart = search rules
@@ -133,62 +95,26 @@ module _ (y : ℕ) (ys : Text) (numeral : IsNumeral 10 (y ∷ ys)) where
   number_is every is above below = rw (in_range 0 (2 ^ 64 - 1) every is (omega arith) (omega arith) (omega arith)) (ap (digits_value 10) bare ∙ is)
 
 module _ (program : Text) (x : ℕ) (xs : Text) (e : (x == 45) ≡ false) where
-  taken_number : (mode : Mode) (number : Text) (every : ℕ) → IsNumeral 10 number → digits_value 10 number ≡ every → 1 ≤ every → every ≤ 1000000
-      → takes command_line (program ∷ codes "run" ∷ (x ∷ xs) ∷ (flag_for mode ++ codes "--snapshot-every" ∷ number ∷ [])) ≡ true
-  taken_number mode [] every numeral is above below = let none : 0 < 0 = numeral.0 in absurd (omega arith)
-  taken_number Current (y ∷ ys) every numeral is above below =
-      taken_current_every program x xs e y ys (differs y 45 (no_hyphen y ys numeral)) (in_range y ys numeral 1 1000000 every is above below (omega arith))
-  taken_number Rescue (y ∷ ys) every numeral is above below =
-      taken_rescue_every program x xs e y ys (differs y 45 (no_hyphen y ys numeral)) (in_range y ys numeral 1 1000000 every is above below (omega arith))
+  right_number : (mode : Mode) (number : Text) (every : ℕ) → IsNumeral 10 number → digits_value 10 number ≡ every → 1 ≤ every → every ≤ 1000000
+      → IsRight (program ∷ codes "run" ∷ (x ∷ xs) ∷ (flag_for mode ++ codes "--snapshot-every" ∷ number ∷ [])) (x ∷ xs) (Run mode every)
+  right_number mode [] every numeral is above below = let none : 0 < 0 = numeral.0 in absurd (omega arith)
+  right_number Current (y ∷ ys) every numeral is above below =
+      subst (λ n. IsRight (program ∷ codes "run" ∷ (x ∷ xs) ∷ codes "--snapshot-every" ∷ (y ∷ ys) ∷ []) (x ∷ xs) (Run Current n)) (number_is y ys numeral every is above below)
+      (right_current_every program x xs e y ys (differs y 45 (no_hyphen y ys numeral)) (in_range y ys numeral 1 1000000 every is above below (omega arith)))
+  right_number Rescue (y ∷ ys) every numeral is above below =
+      subst (λ n. IsRight (program ∷ codes "run" ∷ (x ∷ xs) ∷ codes "--rescue" ∷ codes "--snapshot-every" ∷ (y ∷ ys) ∷ []) (x ∷ xs) (Run Rescue n)) (number_is y ys numeral every is above below)
+      (right_rescue_every program x xs e y ys (differs y 45 (no_hyphen y ys numeral)) (in_range y ys numeral 1 1000000 every is above below (omega arith)))
 
-  taken_plain : (line : List Text) (task : Task) → IsLine line (x ∷ xs) task → takes command_line (program ∷ line) ≡ true
-  taken_plain line Dump is = rw is (taken_dump program x xs e)
-  taken_plain line Verify is = rw is (taken_verify program x xs e)
-  taken_plain line (Run Current every) (option, line_is, inl none) = rw (line_is, none.1) (taken_current program x xs e)
-  taken_plain line (Run Rescue every) (option, line_is, inl none) = rw (line_is, none.1) (taken_rescue program x xs e)
-  taken_plain line (Run mode every) (option, line_is, inr given) = rw (line_is, given.1) (taken_number mode given.0 every given.2 given.3 given.4 given.5)
+  right_plain : (line : List Text) (task : Task) → IsLine line (x ∷ xs) task → IsRight (program ∷ line) (x ∷ xs) task
+  right_plain line Dump is = rw is (right_dump program x xs e)
+  right_plain line Verify is = rw is (right_verify program x xs e)
+  right_plain line (Run Current every) (option, line_is, inl none) = rw (line_is, none.0, none.1) (right_current program x xs e)
+  right_plain line (Run Rescue every) (option, line_is, inl none) = rw (line_is, none.0, none.1) (right_rescue program x xs e)
+  right_plain line (Run mode every) (option, line_is, inr given) = rw (line_is, given.1) (right_number mode given.0 every given.2 given.3 given.4 given.5)
 
-  faultless_number : (mode : Mode) (number : Text) (every : ℕ) → IsNumeral 10 number → digits_value 10 number ≡ every → 1 ≤ every → every ≤ 1000000
-      → fault_of command_line (program ∷ codes "run" ∷ (x ∷ xs) ∷ (flag_for mode ++ codes "--snapshot-every" ∷ number ∷ [])) ≡ []
-  faultless_number mode [] every numeral is above below = let none : 0 < 0 = numeral.0 in absurd (omega arith)
-  faultless_number Current (y ∷ ys) every numeral is above below =
-      faultless_current_every program x xs e y ys (differs y 45 (no_hyphen y ys numeral)) (in_range y ys numeral 1 1000000 every is above below (omega arith))
-  faultless_number Rescue (y ∷ ys) every numeral is above below =
-      faultless_rescue_every program x xs e y ys (differs y 45 (no_hyphen y ys numeral)) (in_range y ys numeral 1 1000000 every is above below (omega arith))
-
-  faultless_plain : (line : List Text) (task : Task) → IsLine line (x ∷ xs) task → fault_of command_line (program ∷ line) ≡ []
-  faultless_plain line Dump is = rw is (faultless_dump program x xs e)
-  faultless_plain line Verify is = rw is (faultless_verify program x xs e)
-  faultless_plain line (Run Current every) (option, line_is, inl none) = rw (line_is, none.1) (faultless_current program x xs e)
-  faultless_plain line (Run Rescue every) (option, line_is, inl none) = rw (line_is, none.1) (faultless_rescue program x xs e)
-  faultless_plain line (Run mode every) (option, line_is, inr given) = rw (line_is, given.1) (faultless_number mode given.0 every given.2 given.3 given.4 given.5)
-
-  asked_number : (mode : Mode) (number : Text) (every : ℕ) → IsNumeral 10 number → digits_value 10 number ≡ every → 1 ≤ every → every ≤ 1000000
-      → asked_in (program ∷ codes "run" ∷ (x ∷ xs) ∷ (flag_for mode ++ codes "--snapshot-every" ∷ number ∷ [])) ≡ Some (x ∷ xs, Run mode every)
-  asked_number mode [] every numeral is above below = let none : 0 < 0 = numeral.0 in absurd (omega arith)
-  asked_number Current (y ∷ ys) every numeral is above below =
-      asked_current_every program x xs e y ys (differs y 45 (no_hyphen y ys numeral)) ∙ ap (λ n. Some (x ∷ xs, Run Current n)) (number_is y ys numeral every is above below)
-  asked_number Rescue (y ∷ ys) every numeral is above below =
-      asked_rescue_every program x xs e y ys (differs y 45 (no_hyphen y ys numeral)) ∙ ap (λ n. Some (x ∷ xs, Run Rescue n)) (number_is y ys numeral every is above below)
-
-  asked_plain : (line : List Text) (task : Task) → IsLine line (x ∷ xs) task → asked_in (program ∷ line) ≡ Some (x ∷ xs, task)
-  asked_plain line Dump is = rw is (asked_dump program x xs e)
-  asked_plain line Verify is = rw is (asked_verify program x xs e)
-  asked_plain line (Run Current every) (option, line_is, inl none) = rw (line_is, none.0, none.1) (asked_current program x xs e)
-  asked_plain line (Run Rescue every) (option, line_is, inl none) = rw (line_is, none.0, none.1) (asked_rescue program x xs e)
-  asked_plain line (Run mode every) (option, line_is, inr given) = rw (line_is, given.1) (asked_number mode given.0 every given.2 given.3 given.4 given.5)
-
-pub taken_line : (words : List Text) (folder : Text) (task : Task) → AsksFor words folder task → takes command_line words ≡ true
-taken_line words [] task asks = absurd asks.4
-taken_line words (x ∷ xs) task asks = rw asks.2 (taken_plain asks.0 x xs (differs x 45 asks.4) asks.1 task asks.3)
-
-pub asked_line : (words : List Text) (folder : Text) (task : Task) → AsksFor words folder task → asked_in words ≡ Some (folder, task)
-asked_line words [] task asks = absurd asks.4
-asked_line words (x ∷ xs) task asks = rw asks.2 (asked_plain asks.0 x xs (differs x 45 asks.4) asks.1 task asks.3)
-
-faultless_line : (words : List Text) (folder : Text) (task : Task) → AsksFor words folder task → fault_of command_line words ≡ []
-faultless_line words [] task asks = absurd asks.4
-faultless_line words (x ∷ xs) task asks = rw asks.2 (faultless_plain asks.0 x xs (differs x 45 asks.4) asks.1 task asks.3)
+pub right_line : (words : List Text) (folder : Text) (task : Task) → AsksFor words folder task → IsRight words folder task
+right_line words [] task asks = absurd asks.4
+right_line words (x ∷ xs) task asks = rw asks.2 (right_plain asks.0 x xs (differs x 45 asks.4) asks.1 task asks.3)
 
 -- where clap finds no mistake in the words, and they ask for something, there is none
 pub no_faults : (words : List Text) (folder : Text) (task : Task) → fault_of command_line words ≡ [] → asked_in words ≡ Some (folder, task) → faults_of words ≡ []
@@ -196,8 +122,8 @@ no_faults words folder task none asked = ap (λ (kinds : Kinds). or_else kinds (
 
 pub line_is_taken : (words : List Text) (folder : Text) (task : Task) → AsksFor words folder task → IsTaken words folder task
 line_is_taken words folder task asks =
-    let asked = asked_line words folder task asks in
-    (no_faults words folder task (faultless_line words folder task asks) asked, asked)
+    let right = right_line words folder task asks in
+    (no_faults words folder task right.faultless right.asked, right.asked)
 
 -- what clap refuses is refused
 among_first : (first next : Kinds) (kind : ErrorKind) → IsAmong kind first → IsAmong kind (or_else first next)

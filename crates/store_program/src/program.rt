@@ -6,7 +6,6 @@ ghost use Rattle.plist_state.specs.State.{State as LispWorld};
 ghost use Rattle.prevalence_store.specs.Functions.{functions_of};
 ghost use Rattle.prevalence_store.specs.Opening.{IsUnopened};
 ghost use Rattle.clap.specs.Words.{kind_of};
-ghost use Rattle.clap.specs.declared.error.kind.ErrorKind.TheVariants.{OutOfMemory};
 ghost use Rattle.store_program.specs.declared.words.Task.{Task};
 ghost use Rattle.store_program.specs.CommandLine.{AsksFor, IsTaken, asked_in as asked_by_words, faults_of};
 ghost use Rattle.store_program.specs.Commands.{Does, DoesOn, IsReport, TaskBreaksOff, TaskReads, TaskWrites, TellsText, WordsRead, WordsWrite, dumped, is_of_opening, reads_input, verified};
@@ -68,6 +67,8 @@ where
         → input.new ≡ input.old }
     ensures unopened { (number : ℕ) → result ≡ Status.Fault number → is_of_opening number ≡ true
         → (input.new ≡ input.old) × (output.new ≡ output.old) }
+    ensures untaken { (faults_of (map S.text words.now) ≡ [] → ⊥) → (input.new ≡ input.old)
+        × (result ≡ Status.Fault NO_MEMORY → output.new ≡ output.old) }
     ensures quiet { IsCarriedOut result → faults.new ≡ faults.old }
     ensures helped { result ≡ Status.Helped → (faults.new ≡ faults.old) × (input.new ≡ input.old) }
     ensures refused { result ≡ Status.WordsRefused → (output.new ≡ output.old) × (input.new ≡ input.old) }
@@ -109,7 +110,7 @@ fn answer_words<O: Write, F: Write>(error: &Error, output: &mut O, faults: &mut 
     ensures helped { result ≡ Status.Helped → faults.new ≡ faults.old }
     ensures untold { (number : ℕ) → result ≡ Status.Fault number → faults.new ≡ faults.old }
     ensures refused { result ≡ Status.WordsRefused → output.new ≡ output.old }
-    ensures memory { kind_of error.now ≡ OutOfMemory → output.new ≡ output.old }
+    ensures memory { result ≡ Status.Fault NO_MEMORY → output.new ≡ output.old }
     ensures no_opening { (number : ℕ) → result ≡ Status.Fault number → is_of_opening number ≡ true → ⊥ }
 {
     match Status::of_kind(error.kind()) {

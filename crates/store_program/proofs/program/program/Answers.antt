@@ -40,11 +40,8 @@ returns-clause-carried g c = λ folder task taken.
           w.carry_out-status.ensures.carried
       | in-Err w ↦
           let memory = only_memory (faults_of (map g.S.AsStr.text c.args.words.now)) (kind_of w.in-Err.error) taken.0 w.in-Err.ensures.faults in
-          inl (
-            inl (memory_at c.end_with.result w.answer_words-status.result (kind_of w.in-Err.error) (c.end_with.ensures.status ∙ w.status-is) memory w.answer_words-status.ensures.status),
-            w.input-is,
-            w.output-is ∙ w.answer_words-status.ensures.memory memory,
-          )
+          let ended = memory_at c.end_with.result w.answer_words-status.result (kind_of w.in-Err.error) (c.end_with.ensures.status ∙ w.status-is) memory w.answer_words-status.ensures.status in
+          inl (inl ended, w.input-is, w.output-is ∙ w.answer_words-status.ensures.memory (sym (c.end_with.ensures.status ∙ w.status-is) ∙ ended))
     ]
 
 pub returns-clause-nameless : goal.returns-clause-nameless
@@ -55,11 +52,9 @@ returns-clause-nameless g c = λ task taken.
           (same_folder (asked_in (map g.S.AsStr.text c.args.words.now)) w.in-Ok.asked.folder.now [] w.in-Ok.asked.task task w.in-Ok.ensures.asked taken.1) in
           (inl (c.end_with.ensures.status ∙ w.status-is ∙ done.0), w.input-is ∙ done.1, w.output-is ∙ done.2)
       | in-Err w ↦
-          let memory = only_memory (faults_of (map g.S.AsStr.text c.args.words.now)) (kind_of w.in-Err.error) taken.0 w.in-Err.ensures.faults in (
-            inr (memory_at c.end_with.result w.answer_words-status.result (kind_of w.in-Err.error) (c.end_with.ensures.status ∙ w.status-is) memory w.answer_words-status.ensures.status),
-            w.input-is,
-            w.output-is ∙ w.answer_words-status.ensures.memory memory,
-          )
+          let memory = only_memory (faults_of (map g.S.AsStr.text c.args.words.now)) (kind_of w.in-Err.error) taken.0 w.in-Err.ensures.faults in
+          let ended = memory_at c.end_with.result w.answer_words-status.result (kind_of w.in-Err.error) (c.end_with.ensures.status ∙ w.status-is) memory w.answer_words-status.ensures.status in
+          (inr ended, w.input-is, w.output-is ∙ w.answer_words-status.ensures.memory (sym (c.end_with.ensures.status ∙ w.status-is) ∙ ended))
     ]
 
 pub returns-clause-unread : goal.returns-clause-unread
@@ -69,6 +64,13 @@ returns-clause-unread g c = λ folder task taken none.
           let same = same_task (asked_in (map g.S.AsStr.text c.args.words.now)) w.in-Ok.asked.folder.now folder w.in-Ok.asked.task task w.in-Ok.ensures.asked taken.1 in
           w.input-is ∙ w.carry_out-status.ensures.unread (ap reads_input same ∙ none)
       | in-Err w ↦ w.input-is
+    ]
+
+pub returns-clause-untaken : goal.returns-clause-untaken
+returns-clause-untaken g c = λ some.
+    elim c.match-asked_in.branch [
+      | in-Ok w ↦ absurd (some w.in-Ok.ensures.faults)
+      | in-Err w ↦ (w.input-is, λ is. w.output-is ∙ w.answer_words-status.ensures.memory (sym (c.end_with.ensures.status ∙ w.status-is) ∙ is))
     ]
 
 pub returns-clause-unopened : goal.returns-clause-unopened
@@ -108,5 +110,9 @@ returns-clause-broken g c = λ folder text held task number taken left holds is.
           (subst (λ (t : Task). TaskBreaksOff (functions_of g.M.Meaning.Meaning.names g.M.Meaning.Meaning.way g.M.Meaning.Meaning.answer) t text held (g.O.Write.contents w.carry_out-status.new.output))
           (same_task (asked_in (map g.S.AsStr.text c.args.words.now)) w.in-Ok.asked.folder.now folder w.in-Ok.asked.task task w.in-Ok.ensures.asked taken.1)
           (w.carry_out-status.ensures.broken text held number left holds (sym (c.end_with.ensures.status ∙ w.status-is) ∙ is)))
-      | in-Err w ↦ nothing_of (functions_of g.M.Meaning.Meaning.names g.M.Meaning.Meaning.way g.M.Meaning.Meaning.answer) text held _ (Some text) task (ap g.O.Write.contents (w.output-is ∙ w.answer_words-status.ensures.memory (only_memory (faults_of (map g.S.AsStr.text c.args.words.now)) (kind_of w.in-Err.error) taken.0 w.in-Err.ensures.faults)) ∙ holds)
+      | in-Err w ↦
+          let memory = only_memory (faults_of (map g.S.AsStr.text c.args.words.now)) (kind_of w.in-Err.error) taken.0 w.in-Err.ensures.faults in
+          let ended = memory_at c.end_with.result w.answer_words-status.result (kind_of w.in-Err.error) (c.end_with.ensures.status ∙ w.status-is) memory w.answer_words-status.ensures.status in
+          nothing_of (functions_of g.M.Meaning.Meaning.names g.M.Meaning.Meaning.way g.M.Meaning.Meaning.answer) text held _ (Some text) task
+          (ap g.O.Write.contents (w.output-is ∙ w.answer_words-status.ensures.memory (sym (c.end_with.ensures.status ∙ w.status-is) ∙ ended)) ∙ holds)
     ]

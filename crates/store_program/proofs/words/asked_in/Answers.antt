@@ -3,7 +3,7 @@ use Rattle.clap.specs.Words.{App, IsAmong, Text, app_of, fault_of, is_simple, is
 use Rattle.clap.specs.declared.error.kind.ErrorKind.TheVariants.{OutOfMemory}
 use Rattle.store_program.specs.CommandLine.{asked_of, command_line}
 use Rattle.store_program.specs.declared.words.Task.{Task}
-use Rattle.store_program.proofs.CommandLineLaws.{asked_line, fault_of_clap, fault_of_none, free_line, no_faults, simple_line, taken_line}
+use Rattle.store_program.proofs.CommandLineLaws.{fault_of_clap, fault_of_none, free_line, no_faults, right_line, simple_line}
 use Rattle.store_program.proofs.words.asked_in.Goals as goal
 
 pub returns-in-Some-clause-asked : goal.returns-in-Some-clause-asked
@@ -36,12 +36,12 @@ returns-in-Ok-clause-taken g c = λ folder task asks.
     let words = map g.S.AsStr.text c.args.words.now in
     let found_is : subcommand_rows_of c.in-Ok.matches ≡ subcommand_of command_line words = (c.in-Ok.ensures.ok.2 (ap is_simple c.in_ok-command.ensures ∙ simple_line)).1
     ∙ ap (λ (a : App). subcommand_of a words) c.in_ok-command.ensures in
-    let bad : ◌≡◌ {A = Option (Text × Task)} None (Some (folder, task)) = c.in-None.ensures ∙ ap (option_and_then asked_of) found_is ∙ asked_line words folder task asks in
+    let bad : ◌≡◌ {A = Option (Text × Task)} None (Some (folder, task)) = c.in-None.ensures ∙ ap (option_and_then asked_of) found_is ∙ (right_line words folder task asks).asked in
     absurd (search rules)
 
 pub returns-clause-taken : goal.returns-clause-taken
 returns-clause-taken g c = λ folder task asks.
-    c.in-Err.ensures.passes (ap (λ (a : App). takes a (map g.S.AsStr.text c.args.words.now)) c.in_ok-command.ensures ∙ taken_line _ folder task asks)
+    c.in-Err.ensures.passes (ap (λ (a : App). takes a (map g.S.AsStr.text c.args.words.now)) c.in_ok-command.ensures ∙ (right_line _ folder task asks).taken)
 
 pub returns-clause-faults : goal.returns-clause-faults
 returns-clause-faults g c =
