@@ -482,14 +482,23 @@ fitting setting sound few = record {
       (omega (arith, le, deep), answer_fits setting.packages sound x (and_parts (nat_le (object_size x) 1000000) (are_known setting.packages x) known).1);
 }
 
-pub form_fits : (setting : Setting) (text : List ℕ) (x : Object) (start «end» next : ℕ) → IsSound setting.packages → setting.limits.nesting ≤ 100 → setting.limits.token ≤ 4096
-    → reads setting text ≡ form x start «end» next → IsFitting setting.packages x
+good_form : (setting : Setting) (text : List ℕ) (x : Object) (start «end» next : ℕ) → IsSound setting.packages → setting.limits.token ≤ 4096
+    → reads setting text ≡ form x start «end» next → Within (Fits setting.packages) setting.limits.nesting x
 unfolding reads
-form_fits setting text x start «end» next sound deep few e =
+good_form setting text x start «end» next sound few e =
     let V = Within (Fits setting.packages) in
     let s = stood setting (length text + 1) 0 text x start «end» next e in
     let keeps = outermost_keeps setting V (fitting setting sound few) in
     let all : Given (FoundAt V setting.limits.nesting) (first setting s.here) =
     given_keeps (FoundAt V setting.limits.nesting) (found_more V setting.limits.nesting) setting.table setting.limits (attempt setting setting.limits.nesting) false 0 s.here keeps in
-    let good : V setting.limits.nesting x = subst (Given (FoundAt V setting.limits.nesting)) s.found all in
+    subst (Given (FoundAt V setting.limits.nesting)) s.found all
+
+pub form_fits : (setting : Setting) (text : List ℕ) (x : Object) (start «end» next : ℕ) → IsSound setting.packages → setting.limits.nesting ≤ 100 → setting.limits.token ≤ 4096
+    → reads setting text ≡ form x start «end» next → IsFitting setting.packages x
+form_fits setting text x start «end» next sound deep few e =
+    let good = good_form setting text x start «end» next sound few e in
     record { depth = omega (arith, good.0, deep); symbols = good.1 }
+
+pub form_depth : (setting : Setting) (text : List ℕ) (x : Object) (start «end» next : ℕ) → IsSound setting.packages → setting.limits.token ≤ 4096
+    → reads setting text ≡ form x start «end» next → object_depth x ≤ setting.limits.nesting
+form_depth setting text x start «end» next sound few e = (good_form setting text x start «end» next sound few e).0

@@ -1,6 +1,6 @@
 //! Laws of the definition of reading, as contracts of functions that do nothing.
 ghost use Rattle.std.specs.Prelude.{◌≡◌, ◌≤◌, ◌<◌, ◌++◌, ◌-◌, ℕ, List, Option, IsTrue, length, take, drop};
-ghost use Rattle.lisp_object.specs.Object.{Object};
+ghost use Rattle.lisp_object.specs.Object.{Object, object_depth};
 ghost use Rattle.lisp_object.specs.declared.refusal.TheConstants.{END_OF_FILE, OUT_OF_PROFILE};
 ghost use Rattle.readtable_core.specs.Names.{is_among};
 ghost use Rattle.readtable_core.specs.Tables.{Table};
@@ -64,11 +64,15 @@ pub fn spaced_forms_are_framed()
 {}
 
 /// A form that was read in sound packages has a depth of at most 100, and its symbols fit the packages: what the home of a
-/// symbol finds by its name, if anything, is this symbol. So the form may be evaluated and stored.
+/// symbol finds by its name, if anything, is this symbol. So the form may be evaluated and stored. Its depth is within the
+/// nesting, whatever that is.
 pub fn forms_fit()
-    ensures { (setting : Setting) (text : List ℕ) (x : Object) (start end next : ℕ)
+    ensures fit { (setting : Setting) (text : List ℕ) (x : Object) (start end next : ℕ)
         → IsSound setting.packages → setting.limits.nesting ≤ 100 → setting.limits.token ≤ 4096
         → reads setting text ≡ form x start end next → IsFitting setting.packages x }
+    ensures depth { (setting : Setting) (text : List ℕ) (x : Object) (start end next : ℕ)
+        → IsSound setting.packages → setting.limits.token ≤ 4096
+        → reads setting text ≡ form x start end next → object_depth x ≤ setting.limits.nesting }
 {}
 
 /// What is read depends on the packages only through which names are packages, and what each finds and shows by each name.
