@@ -1,11 +1,12 @@
 -- That what is refused at once is refused.
 --     at_once_met      of a form
---     once_known, once_unknown, once_answers, once_number      of a whole form
-use Rattle.std.proofs.Common.{◌≡◌, ℕ, Bool, true, false, not, ◌&&◌, cond, List, ◌∷◌, ◌++◌, Option, Some, None, Result, Ok, Err, refl, sym, ap, subst, ◌∙◌}
-use Rattle.std.specs.Prelude.{IfErr}
-use Rattle.std.specs.Option.{option_or}
+--     once_known, once_new, known_answers, new_answers, same_refusal, once_number      of a whole form
+use Rattle.std.proofs.Common.{◌≡◌, ℕ, Bool, true, false, not, ◌&&◌, cond, List, ◌∷◌, ◌++◌, Option, Some, None, is_none, Ok, Err, refl, sym, ap, ◌∙◌}
+use Rattle.std.specs.Option.{option_or, option_map_or}
 use Rattle.lisp_object.specs.Object.{Object, integer, rational, character, text, symbol, uninterned, pair, vector, is_proper_list}
 use Rattle.package_table.specs.Table.{Name}
+use Rattle.package_table.specs.Changes.{after_intern}
+use Rattle.plist_state.specs.Properties.{Symbol}
 use Rattle.package_table.proofs.Names.{same_some, none_some}
 use Rattle.plist_state.specs.State.{State}
 use Rattle.form_eval.specs.declared.error.EvaluationError.{EvaluationError}
@@ -20,8 +21,8 @@ use Rattle.form_eval.specs.Value.{value, values, choice, other_value, values_at_
 use Rattle.form_eval.specs.Acceptance.{symbols, accepted, accept}
 use Rattle.form_eval.specs.Evaluated.{Answers, done}
 use Rattle.form_eval.specs.Gathered.{IsRefusal}
-use Rattle.form_eval.specs.AtOnce.{refusal_of, FirstRefusals, action_refusal, form_refusal, at_once, first_at_once, test_at_once, place_at_once, before_place_at_once, are_there, refused_at_once, RunsOutAfter}
-use Rattle.form_eval.proofs.Known.{known_symbols}
+use Rattle.form_eval.specs.AtOnce.{refusal_of, FirstRefusals, action_refusal, form_refusal, at_once, first_at_once, test_at_once, place_at_once, before_place_at_once, first_new, intern_refusal, refused_at_once, RunsOutAfter}
+use Rattle.form_eval.proofs.Known.{known_symbols, new_refused}
 
 -- what is refused is refused by this number
 abbrev pub Meets : {A : Type 0} → Option ℕ → Outcome A → Type 0
@@ -119,25 +120,34 @@ mutual
 
 -- ---- a whole form
 module _ (names : List Name) (s : State) (x : Object) where
-  pub once_known : (r : Result Unit EvaluationError) → are_there s.packages (symbols x) ≡ true → IsRefusal (at_once names s x) r → IsRefusal (refused_at_once names s x) r
-  once_known r there is = subst (λ o. IsRefusal o r) (sym (ap (λ b. cond b (at_once names s x) None) there)) is
+  pub once_known : None ≡ first_new s.packages (symbols x) → refused_at_once names s x ≡ at_once names s x
+  once_known none = ap (λ o. option_map_or (λ (y : Symbol). intern_refusal (after_intern s.packages y.0 y.1)) o (at_once names s x)) (sym none)
 
-  pub once_unknown : are_there s.packages (symbols x) ≡ false → refused_at_once names s x ≡ None
-  once_unknown other = ap (λ b. cond b (at_once names s x) None) other
+  pub once_new : (y : Symbol) → Some y ≡ first_new s.packages (symbols x) → refused_at_once names s x ≡ intern_refusal (after_intern s.packages y.0 y.1)
+  once_new y some = ap (λ o. option_map_or (λ (y : Symbol). intern_refusal (after_intern s.packages y.0 y.1)) o (at_once names s x)) (sym some)
 
   met_code : (o : Option ℕ) (v : Outcome Object) (code : ℕ) → Meets o v → o ≡ Some code → v ≡ Err code
   met_code (Some n) v code met is = met ∙ ap Err (same_some n code is)
   met_code None v code met is = absurd (none_some code is)
 
-  accepted_known : are_there s.packages (symbols x) ≡ true → accept names s x ≡ also false (value names s x)
-  accepted_known there = ap (λ r. accepted names s r x) (known_symbols s.packages (symbols x) there)
+  accepted_known : None ≡ first_new s.packages (symbols x) → accept names s x ≡ also false (value names s x)
+  accepted_known none = ap (λ r. accepted names s r x) (known_symbols s.packages (symbols x) (ap is_none (sym none)))
 
-  pub once_answers : (r : Result Unit EvaluationError) → are_there s.packages (symbols x) ≡ true → IsRefusal (at_once names s x) r → IfErr r (λ e. Answers done (Err e) s (accept names s x))
-  once_answers (Ok u) there is = tt
-  once_answers (Err (Refused code)) there is = accepted_known there ∙ ap (also false) (met_code (at_once names s x) (value names s x) code (at_once_met names s x) is)
-  once_answers (Err OutOfMemory) there is = tt
+  pub known_answers : (e : EvaluationError) → None ≡ first_new s.packages (symbols x) → IsRefusal {A = Unit} (at_once names s x) (Err e) → Answers done (Err e) s (accept names s x)
+  known_answers (Refused code) none is = accepted_known none ∙ ap (also false) (met_code (at_once names s x) (value names s x) code (at_once_met names s x) is)
+  known_answers OutOfMemory none is = tt
+
+  pub new_answers : (e : EvaluationError) (y : Symbol) → Some y ≡ first_new s.packages (symbols x) → IsRefusal {A = Unit} (intern_refusal (after_intern s.packages y.0 y.1)) (Err e) → Answers done (Err e) s (accept names s x)
+  new_answers (Refused code) y some is =
+      new_refused s.packages (symbols x) y code (sym some) is (λ k. accept names s x ≡ Err k)
+      (λ e number met. ap (λ r. accepted names s r x) met ∙ ap Err number)
+  new_answers OutOfMemory y some is = tt
+
+pub same_refusal : (A B : Type 0) (o : Option ℕ) (e : EvaluationError) → IsRefusal {A = A} o (Err e) → IsRefusal {A = B} o (Err e)
+same_refusal A B o (Refused code) is = is
+same_refusal A B o OutOfMemory is = is
 
 -- what is refused at once is a refusal by number
-pub once_number : (o : Option ℕ) (e : EvaluationError) → IsRefusal {A = Unit} o (Err e) → RunsOutAfter {A = Evaluated} o (Err e)
+pub once_number : (o : Option ℕ) (e : EvaluationError) → IsRefusal {A = Bool} o (Err e) → RunsOutAfter {A = Evaluated} o (Err e)
 once_number o (Refused code) is = tt
 once_number o OutOfMemory is = absurd is

@@ -33,7 +33,7 @@ t_present : (u : packages.Table) → packages.IsSound u → IsPresent u common_l
 unfolding common_lisp_package common_lisp_names
 t_present u sound = lisp_present u sound (codes "T") (ap (option_map (λ (e : Entry). e.home)) (get-from_entries name_total (map (λ n. (n, record { home = common_lisp; external = true })) common_lisp_names) (codes "T")))
 
-nil_present : (u : packages.Table) → packages.IsSound u → IsPresent u common_lisp (codes "NIL") common_lisp
+pub nil_present : (u : packages.Table) → packages.IsSound u → IsPresent u common_lisp (codes "NIL") common_lisp
 unfolding common_lisp_package common_lisp_names
 nil_present u sound = lisp_present u sound (codes "NIL") (ap (option_map (λ (e : Entry). e.home)) (get-from_entries name_total (map (λ n. (n, record { home = common_lisp; external = true })) common_lisp_names) (codes "NIL")))
 

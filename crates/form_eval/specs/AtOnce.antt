@@ -1,12 +1,14 @@
 -- The refusals that a form meets before anything takes memory: of its head, of the number of its arguments and of its place, and
 -- then those of the first form in it that is evaluated. What comes after a value that was made may be out of memory in its place.
-use Rattle.std.specs.Prelude.{◌≡◌, ℕ, Bool, true, ◌&&◌, not, if◌then◌else◌, List, Option, Some, None, Result, Ok, Err}
-use Rattle.std.specs.Option.{option_or}
-use Rattle.std.specs.List.{list_all}
+use Rattle.std.specs.Prelude.{◌≡◌, ℕ, Bool, true, ◌&&◌, not, if◌then◌else◌, List, [], ◌∷◌, Option, Some, None, is_none, Result, Ok, Err}
+use Rattle.std.specs.Option.{option_or, option_map_or}
 use Rattle.lisp_object.specs.Object.{Object, symbol, uninterned, pair, is_proper_list}
 use Rattle.lisp_object.specs.declared.refusal.TheConstants.{NOT_A_FORM, UNKNOWN_OPERATOR, ARGUMENT_COUNT, ARGUMENT_KIND}
 use Rattle.package_table.specs.Table.{Name, Table}
+use Rattle.package_table.specs.declared.error.PackageError.{PackageError}
+use Rattle.package_table.specs.Errors.{number_of}
 use Rattle.package_table.specs.Lookup.{is_symbol}
+use Rattle.package_table.specs.Changes.{after_intern}
 use Rattle.plist_state.specs.Properties.{Symbol}
 use Rattle.plist_state.specs.State.{State}
 use Rattle.form_eval.specs.declared.error.EvaluationError.{EvaluationError}
@@ -97,13 +99,25 @@ abbrev pub subform_at_once : List Name → State → Object → Option ℕ
 subform_at_once names s (pair operator subforms) = first_at_once names s subforms
 subform_at_once names s _ = Some ARGUMENT_KIND
 
--- whether these symbols are all there
-abbrev pub are_there : Table → List Symbol → Bool
-are_there t xs = list_all (λ x. is_symbol t x.0 x.1) xs
+-- the first of these symbols that is not there
+abbrev pub first_new : Table → List Symbol → Option Symbol
+first_new t [] = None
+first_new t (x ∷ xs) = if is_symbol t x.0 x.1 then first_new t xs else Some x
 
--- of a form as a transaction: to intern a new symbol takes memory
+-- whether they are all there
+abbrev pub are_there : Table → List Symbol → Bool
+are_there t xs = is_none (first_new t xs)
+
+-- why a symbol cannot be interned
+abbrev pub intern_refusal : Result (Name × Table) PackageError → Option ℕ
+intern_refusal (Ok p) = None
+intern_refusal (Err e) = Some (number_of e)
+
+-- Of a form as a transaction: what its first new symbol is refused with, and where there is none, the form. To intern a new
+-- symbol takes memory.
 abbrev pub refused_at_once : List Name → State → Object → Option ℕ
-refused_at_once names s x = if are_there s.packages (symbols x) then at_once names s x else None
+refused_at_once names s x =
+    option_map_or (λ y. intern_refusal (after_intern s.packages y.0 y.1)) (first_new s.packages (symbols x)) (at_once names s x)
 
 -- memory ran out only where nothing was refused at once
 abbrev pub RunsOutAfter : {A : Type 0} → Option ℕ → Result A EvaluationError → Type 0

@@ -176,7 +176,7 @@ pub(crate) fn intern(
     values: &[Datum],
 ) -> Result<Evaluated, EvaluationError>
     requires { All (IsArgument world.old.0.packages) values.now }
-    ensures gives { Answers done result world.new.0 (intern (map object_of values.now) world.old.0) }
+    ensures gives { Gives done result world.new.0 (intern (map object_of values.now) world.old.0) }
     ensures proper { IfOk result (λ e. is_proper e.value ≡ true) }
     ensures marked { world.new.1 ≡ world.old.1 }
 {
@@ -329,7 +329,7 @@ pub(crate) fn set_syntax(
     values: &[Datum],
 ) -> Result<Evaluated, EvaluationError>
     requires { All (IsArgument world.old.0.packages) values.now }
-    ensures gives { Answers done result world.new.0 (set_syntax (map object_of values.now) world.old.0) }
+    ensures gives { Gives done result world.new.0 (set_syntax (map object_of values.now) world.old.0) }
     ensures proper { IfOk result (λ e. is_proper e.value ≡ true) }
     ensures marked { world.new.1 ≡ world.old.1 }
 {
@@ -351,7 +351,7 @@ pub(crate) fn set_macro(
 ) -> Result<Evaluated, EvaluationError>
     requires names { AreFunctionNames names.now }
     requires values { All (IsArgument world.old.0.packages) values.now }
-    ensures gives { Answers done result world.new.0 (set_macro names.now (map object_of values.now) world.old.0) }
+    ensures gives { Gives done result world.new.0 (set_macro names.now (map object_of values.now) world.old.0) }
     ensures proper { IfOk result (λ e. is_proper e.value ≡ true) }
     ensures marked { world.new.1 ≡ world.old.1 }
 {
@@ -387,7 +387,7 @@ pub(crate) fn make_dispatch(
     values: &[Datum],
 ) -> Result<Evaluated, EvaluationError>
     requires { All (IsArgument world.old.0.packages) values.now }
-    ensures gives { Answers done result world.new.0 (make_dispatch (map object_of values.now) world.old.0) }
+    ensures gives { Gives done result world.new.0 (make_dispatch (map object_of values.now) world.old.0) }
     ensures proper { IfOk result (λ e. is_proper e.value ≡ true) }
     ensures marked { world.new.1 ≡ world.old.1 }
 {
@@ -406,7 +406,7 @@ pub(crate) fn set_dispatch(
 ) -> Result<Evaluated, EvaluationError>
     requires names { AreFunctionNames names.now }
     requires values { All (IsArgument world.old.0.packages) values.now }
-    ensures gives { Answers done result world.new.0 (set_dispatch names.now (map object_of values.now) world.old.0) }
+    ensures gives { Gives done result world.new.0 (set_dispatch names.now (map object_of values.now) world.old.0) }
     ensures proper { IfOk result (λ e. is_proper e.value ≡ true) }
     ensures marked { world.new.1 ≡ world.old.1 }
 {

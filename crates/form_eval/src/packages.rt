@@ -4,10 +4,11 @@ ghost use Rattle.lisp_object.specs.Datum.{object_of, is_proper};
 ghost use Rattle.package_table.specs.Table.{Name};
 ghost use Rattle.form_eval.specs.Kinds.{a_name, given_or};
 ghost use Rattle.form_eval.specs.Packages.{make, enter, intern};
-ghost use Rattle.form_eval.specs.Evaluated.{IsArgument, Answers, Gives, done};
+ghost use Rattle.form_eval.specs.Evaluated.{IsArgument, Gives, done};
 
 use crate::EvaluationError::Refused;
 use crate::arguments::{given, or_other};
+use crate::symbols::check_intern;
 use crate::{Evaluated, EvaluationError, kinds, values};
 use lisp_object::Datum;
 use lisp_object::refusal::{ARGUMENT_KIND, NO_SUCH_PACKAGE};
@@ -86,7 +87,7 @@ pub(crate) fn intern(
 ) -> Result<Evaluated, EvaluationError>
     requires name { IsArgument world.old.0.packages name.now }
     requires rest { All (IsArgument world.old.0.packages) rest.now }
-    ensures gives { Answers done result world.new.0 (intern (object_of name.now ∷ map object_of rest.now) world.old.0) }
+    ensures gives { Gives done result world.new.0 (intern (object_of name.now ∷ map object_of rest.now) world.old.0) }
     ensures proper { IfOk result (λ e. is_proper e.value ≡ true) }
     ensures marked { world.new.1 ≡ world.old.1 }
 {
@@ -102,6 +103,9 @@ pub(crate) fn intern(
     else {
         return Err(Refused(NO_SUCH_PACKAGE));
     };
+    if let Err(error) = check_intern(world.packages(), package, name) {
+        return Err(error);
+    }
     let package = Vec::from_slice(alloc, package)?;
     match world.intern(package.as_slice(), name) {
         Ok(interned) => {

@@ -18,7 +18,7 @@ use crate::arguments::{given, or_other};
 use crate::{Evaluated, EvaluationError, kinds, values};
 use lisp_object::Datum;
 use lisp_object::refusal::{
-    ARGUMENT_KIND, NO_MACRO, NO_READTABLE, NOT_DISPATCHING, STANDARD_READTABLE,
+    ARGUMENT_KIND, DIGIT_SUBCHARACTER, NO_MACRO, NO_READTABLE, NOT_DISPATCHING, STANDARD_READTABLE,
 };
 use plist_state::{ReadtableError, STANDARD, World};
 use readtable_core::FnName;
@@ -50,7 +50,7 @@ fn with_truth(
     world: &World,
     made: Result<(), ReadtableError>,
 ) -> Result<Evaluated, EvaluationError>
-    ensures gives { (old : State) (said : Result State Cause) → Makes (λ _. world.now.0) made said → Answers done result world.now.0 (after old t said) }
+    ensures gives { (old : State) (said : Result State Cause) → Makes (λ _. world.now.0) made said → Gives done result world.now.0 (after old t said) }
     ensures proper { IfOk result (λ e. is_proper e.value ≡ true) }
 {
     match made {
@@ -88,13 +88,6 @@ fn given_source(rest: &[Datum]) -> Option<Option<&[u8]>>
         },
         None => Some(None),
     }
-}
-
-// A copy of the name that was given, or of the other one.
-fn copied(alloc: Global, name: Option<&[u8]>, other: &[u8]) -> Result<Vec<u8>, AllocError>
-    ensures { IfOk result (λ v. v.items ≡ unwrap_or (option_map (λ n. n.now) name.entry) other.now) }
-{
-    Vec::from_slice(alloc, or_other(name, other))
 }
 
 // Whether it is the name of the standard readtable.
@@ -258,7 +251,7 @@ pub(crate) fn set_syntax(
     requires to { IsArgument world.old.0.packages to.now }
     requires from { IsArgument world.old.0.packages from.now }
     requires rest { All (IsArgument world.old.0.packages) rest.now }
-    ensures gives { Answers done result world.new.0 (set_syntax (object_of to.now ∷ object_of from.now ∷ map object_of rest.now) world.old.0) }
+    ensures gives { Gives done result world.new.0 (set_syntax (object_of to.now ∷ object_of from.now ∷ map object_of rest.now) world.old.0) }
     ensures proper { IfOk result (λ e. is_proper e.value ≡ true) }
     ensures marked { world.new.1 ≡ world.old.1 }
 {
@@ -274,9 +267,19 @@ pub(crate) fn set_syntax(
     let Some(source) = given_source(after_first(rest)) else {
         return Err(Refused(ARGUMENT_KIND));
     };
-    let copy = copied(alloc, name, world.current_readtable())?;
-    let name = copy.as_slice();
-    let made = world.set_syntax_from_char(name, c, or_other(source, STANDARD), d);
+    let source = or_other(source, STANDARD);
+    let name = or_other(name, world.current_readtable());
+    let Some(_) = world.readtable(source) else {
+        return Err(Refused(NO_READTABLE));
+    };
+    let Some(_) = world.readtable(name) else {
+        return Err(Refused(NO_READTABLE));
+    };
+    if is_standard(name) {
+        return Err(Refused(STANDARD_READTABLE));
+    }
+    let copy = Vec::from_slice(alloc, name)?;
+    let made = world.set_syntax_from_char(copy.as_slice(), c, source, d);
     with_truth(alloc, world, made)
 }
 
@@ -293,7 +296,7 @@ pub(crate) fn set_macro(
     requires character { IsArgument world.old.0.packages character.now }
     requires function { IsArgument world.old.0.packages function.now }
     requires rest { All (IsArgument world.old.0.packages) rest.now }
-    ensures gives { Answers done result world.new.0 (set_macro names.now (object_of character.now ∷ object_of function.now ∷ map object_of rest.now) world.old.0) }
+    ensures gives { Gives done result world.new.0 (set_macro names.now (object_of character.now ∷ object_of function.now ∷ map object_of rest.now) world.old.0) }
     ensures proper { IfOk result (λ e. is_proper e.value ≡ true) }
     ensures marked { world.new.1 ≡ world.old.1 }
 {
@@ -306,8 +309,7 @@ pub(crate) fn set_macro(
     let Some(name) = given_keyword(after_first(rest)) else {
         return Err(Refused(ARGUMENT_KIND));
     };
-    let copy = copied(alloc, name, world.current_readtable())?;
-    let name = copy.as_slice();
+    let name = or_other(name, world.current_readtable());
     let Some(_) = world.readtable(name) else {
         return Err(Refused(NO_READTABLE));
     };
@@ -317,7 +319,8 @@ pub(crate) fn set_macro(
     let Some(function) = function_named(names, function) else {
         return Err(Refused(NO_MACRO));
     };
-    let made = world.set_macro(name, c, function, is_given(rest));
+    let copy = Vec::from_slice(alloc, name)?;
+    let made = world.set_macro(copy.as_slice(), c, function, is_given(rest));
     with_truth(alloc, world, made)
 }
 
@@ -368,7 +371,7 @@ pub(crate) fn make_dispatch(
 ) -> Result<Evaluated, EvaluationError>
     requires character { IsArgument world.old.0.packages character.now }
     requires rest { All (IsArgument world.old.0.packages) rest.now }
-    ensures gives { Answers done result world.new.0 (make_dispatch (object_of character.now ∷ map object_of rest.now) world.old.0) }
+    ensures gives { Gives done result world.new.0 (make_dispatch (object_of character.now ∷ map object_of rest.now) world.old.0) }
     ensures proper { IfOk result (λ e. is_proper e.value ≡ true) }
     ensures marked { world.new.1 ≡ world.old.1 }
 {
@@ -378,9 +381,15 @@ pub(crate) fn make_dispatch(
     let Some(name) = given_keyword(after_first(rest)) else {
         return Err(Refused(ARGUMENT_KIND));
     };
-    let copy = copied(alloc, name, world.current_readtable())?;
-    let name = copy.as_slice();
-    let made = world.make_dispatch(name, c, is_given(rest));
+    let name = or_other(name, world.current_readtable());
+    let Some(_) = world.readtable(name) else {
+        return Err(Refused(NO_READTABLE));
+    };
+    if is_standard(name) {
+        return Err(Refused(STANDARD_READTABLE));
+    }
+    let copy = Vec::from_slice(alloc, name)?;
+    let made = world.make_dispatch(copy.as_slice(), c, is_given(rest));
     with_truth(alloc, world, made)
 }
 
@@ -399,7 +408,7 @@ pub(crate) fn set_dispatch(
     requires sub { IsArgument world.old.0.packages sub.now }
     requires function { IsArgument world.old.0.packages function.now }
     requires rest { All (IsArgument world.old.0.packages) rest.now }
-    ensures gives { Answers done result world.new.0 (set_dispatch names.now (object_of character.now ∷ object_of sub.now ∷ object_of function.now ∷ map object_of rest.now) world.old.0) }
+    ensures gives { Gives done result world.new.0 (set_dispatch names.now (object_of character.now ∷ object_of sub.now ∷ object_of function.now ∷ map object_of rest.now) world.old.0) }
     ensures proper { IfOk result (λ e. is_proper e.value ≡ true) }
     ensures marked { world.new.1 ≡ world.old.1 }
 {
@@ -415,9 +424,8 @@ pub(crate) fn set_dispatch(
     let Some(name) = given_keyword(rest) else {
         return Err(Refused(ARGUMENT_KIND));
     };
-    let copy = copied(alloc, name, world.current_readtable())?;
-    let name = copy.as_slice();
-    let Some(_) = world.readtable(name) else {
+    let name = or_other(name, world.current_readtable());
+    let Some(table) = world.readtable(name) else {
         return Err(Refused(NO_READTABLE));
     };
     if is_standard(name) {
@@ -426,7 +434,14 @@ pub(crate) fn set_dispatch(
     let Some(function) = function_named(names, function) else {
         return Err(Refused(NO_MACRO));
     };
-    let made = world.set_dispatch(name, c, d, function);
+    if !table.is_dispatching(c) {
+        return Err(Refused(NOT_DISPATCHING));
+    }
+    if d.is_ascii_digit() {
+        return Err(Refused(DIGIT_SUBCHARACTER));
+    }
+    let copy = Vec::from_slice(alloc, name)?;
+    let made = world.set_dispatch(copy.as_slice(), c, d, function);
     with_truth(alloc, world, made)
 }
 

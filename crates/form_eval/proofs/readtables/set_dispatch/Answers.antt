@@ -1,16 +1,14 @@
 use Rattle.std.proofs.Common.{◌≡◌, Some, IsFalse, subst, ap, sym, map, ◌∙◌, Err}
+use Rattle.std.specs.Prelude.{IsOk}
 use Rattle.lisp_object.specs.Datum.{object_of}
-use Rattle.lisp_object.specs.declared.refusal.TheConstants.{NO_MACRO}
+use Rattle.lisp_object.specs.declared.refusal.TheConstants.{NOT_DISPATCHING, DIGIT_SUBCHARACTER}
 use Rattle.readtable_core.specs.Names.{is_dispatch_name}
 use Rattle.package_table.specs.Table.{keyword}
 use Rattle.plist_state.specs.Sound.{IsSymbol}
-use Rattle.plist_state.specs.Changes.{with_dispatch, in_state, Gives}
-use Rattle.form_eval.specs.Kinds.{a_character, a_keyword, given_or}
-use Rattle.form_eval.specs.Outcomes.{of_kind}
-use Rattle.form_eval.specs.Properties.{t}
-use Rattle.form_eval.specs.Readtables.{with_readtables, changeable, a_function, is_function}
-use Rattle.form_eval.specs.Evaluated.{Answers, done}
-use Rattle.form_eval.proofs.KindSteps.{kind_is, goes_on, changeable_is}
+use Rattle.plist_state.specs.Changes.{with_dispatch, in_state, Gives as Makes}
+use Rattle.form_eval.specs.Kinds.{a_keyword, given_or}
+use Rattle.form_eval.specs.Evaluated.{Gives, done}
+use Rattle.form_eval.proofs.ReadtableSteps.{ran_out, dispatch_is, ok_dispatch, no_dispatch, digit_dispatch}
 use Rattle.form_eval.proofs.Storable.{character_kind, keyword_kind}
 use Rattle.form_eval.proofs.SoundReadtables.{function_named}
 use Rattle.form_eval.proofs.readtables.set_dispatch.Goals as goal
@@ -31,26 +29,71 @@ set_dispatch-made-requires-clause-keyword c =
     let f = c.in-Some-function_named.ensures in
     subst (λ k. IsSymbol c.args.world.now.0.packages (keyword, k)) (sym f.0) (keyword_kind c.args.world.now.0.packages (object_of c.args.function.now) c.in-Some-keyword.function.now (sym c.in-Some-keyword.ensures) c.requires.function.value)
 
-pub returns-clause-gives : goal.returns-clause-gives
-returns-clause-gives c =
+pub returns-then-not-is_dispatching-clause-gives : goal.returns-then-not-is_dispatching-clause-gives
+returns-then-not-is_dispatching-clause-gives c =
     let s = c.args.world.now.0 in
-    let names = c.args.names.now in
-    let r = c.with_truth.result in
-    let u = c.set_dispatch-made.new.self.0 in
     let rest = map object_of c.args.rest.now in
-    let n = c.as_slice-name.result.now in
+    let n = c.or_other-name.result.now in
+    let table = c.in-Some-readtable.table.now in
+    let there = c.in-Some-readtable.ensures in
+    let other = sym c.is_standard.ensures ∙ c.if-is_standard.false in
     let at = c.in-Some.c in
     let sub = c.in-Some-character.d in
     let function = c.in-Some-keyword.function.now in
-    let f = c.in-Some-function_named.ensures in
-    kind_is (Answers done r u) (a_character (object_of c.args.character.now)) at
-    (λ at'. of_kind (a_character (object_of c.args.sub.now)) (λ sub'. of_kind (a_keyword (object_of c.args.function.now)) (λ f'. of_kind (given_or a_keyword s.current_readtable rest) (λ n'. changeable s n' (a_function names f' (with_readtables s t (with_dispatch s.readtables n' at' sub' f'))))))) c.in-Some.ensures
-    (kind_is (Answers done r u) (a_character (object_of c.args.sub.now)) sub
-    (λ sub'. of_kind (a_keyword (object_of c.args.function.now)) (λ f'. of_kind (given_or a_keyword s.current_readtable rest) (λ n'. changeable s n' (a_function names f' (with_readtables s t (with_dispatch s.readtables n' at sub' f')))))) c.in-Some-character.ensures
-    (kind_is (Answers done r u) (a_keyword (object_of c.args.function.now)) function (λ f'. of_kind (given_or a_keyword s.current_readtable rest) (λ n'. changeable s n' (a_function names f' (with_readtables s t (with_dispatch s.readtables n' at sub f'))))) c.in-Some-keyword.ensures
-    (kind_is (Answers done r u) (given_or a_keyword s.current_readtable rest) n (λ n'. changeable s n' (a_function names function (with_readtables s t (with_dispatch s.readtables n' at sub function))))
-    (subst (λ k. Some n ≡ given_or a_keyword k rest) c.current_readtable.ensures (ap Some (c.as_slice-name.ensures.value ∙ c.in_ok-copy.ensures) ∙ sym (c.in-Some-given_keyword.ensures c.current_readtable.result.now)))
-    (changeable_is (Answers done r u) s n (a_function names function (with_readtables s t (with_dispatch s.readtables n at sub function))) c.in-Some-readtable.field-0.now c.in-Some-readtable.ensures (sym c.is_standard.ensures ∙ c.if-is_standard.false)
-    (goes_on (Answers done r u) (is_function names function) (with_readtables s t (with_dispatch s.readtables n at sub function)) (Err NO_MACRO) f.1
+    dispatch_is s n table there other (λ o. o ≡ Err NOT_DISPATCHING) c.args.names.now rest function c.in-Some-function_named.ensures.1
+    (object_of c.args.character.now) (object_of c.args.sub.now) (object_of c.args.function.now) at sub c.in-Some.ensures c.in-Some-character.ensures c.in-Some-keyword.ensures
+    (subst (λ k. Some n ≡ given_or a_keyword k rest) c.current_readtable.ensures (ap Some c.or_other-name.ensures ∙ sym (c.in-Some-given_keyword.ensures c.current_readtable.result.now)))
+    (no_dispatch s n table there other at sub function (sym c.is_dispatching.ensures ∙ c.if-not-is_dispatching.true))
+
+pub returns-then-is_ascii_digit-clause-gives : goal.returns-then-is_ascii_digit-clause-gives
+returns-then-is_ascii_digit-clause-gives c =
+    let s = c.args.world.now.0 in
+    let rest = map object_of c.args.rest.now in
+    let n = c.or_other-name.result.now in
+    let table = c.in-Some-readtable.table.now in
+    let there = c.in-Some-readtable.ensures in
+    let other = sym c.is_standard.ensures ∙ c.if-is_standard.false in
+    let at = c.in-Some.c in
+    let sub = c.in-Some-character.d in
+    let function = c.in-Some-keyword.function.now in
+    dispatch_is s n table there other (λ o. o ≡ Err DIGIT_SUBCHARACTER) c.args.names.now rest function c.in-Some-function_named.ensures.1
+    (object_of c.args.character.now) (object_of c.args.sub.now) (object_of c.args.function.now) at sub c.in-Some.ensures c.in-Some-character.ensures c.in-Some-keyword.ensures
+    (subst (λ k. Some n ≡ given_or a_keyword k rest) c.current_readtable.ensures (ap Some c.or_other-name.ensures ∙ sym (c.in-Some-given_keyword.ensures c.current_readtable.result.now)))
+    (digit_dispatch s n table there other at sub function (sym c.is_dispatching.ensures ∙ c.if-not-is_dispatching.false) (sym c.is_ascii_digit.ensures.value ∙ c.if-is_ascii_digit.true))
+
+pub returns-in_err-copy-clause-gives : goal.returns-in_err-copy-clause-gives
+returns-in_err-copy-clause-gives c =
+    let s = c.args.world.now.0 in
+    let rest = map object_of c.args.rest.now in
+    let n = c.or_other-name.result.now in
+    let table = c.in-Some-readtable.table.now in
+    let there = c.in-Some-readtable.ensures in
+    let other = sym c.is_standard.ensures ∙ c.if-is_standard.false in
+    let at = c.in-Some.c in
+    let sub = c.in-Some-character.d in
+    let function = c.in-Some-keyword.function.now in
+    ran_out c.from_residual.result s _ c.from_residual.ensures.1
+    (dispatch_is s n table there other IsOk c.args.names.now rest function c.in-Some-function_named.ensures.1
+    (object_of c.args.character.now) (object_of c.args.sub.now) (object_of c.args.function.now) at sub c.in-Some.ensures c.in-Some-character.ensures c.in-Some-keyword.ensures
+    (subst (λ k. Some n ≡ given_or a_keyword k rest) c.current_readtable.ensures (ap Some c.or_other-name.ensures ∙ sym (c.in-Some-given_keyword.ensures c.current_readtable.result.now)))
+    (ok_dispatch s n table there other at sub function (sym c.is_dispatching.ensures ∙ c.if-not-is_dispatching.false) (sym c.is_ascii_digit.ensures.value ∙ c.if-is_ascii_digit.false)))
+
+pub returns-clause-gives : goal.returns-clause-gives
+returns-clause-gives c =
+    let s = c.args.world.now.0 in
+    let rest = map object_of c.args.rest.now in
+    let n = c.or_other-name.result.now in
+    let table = c.in-Some-readtable.table.now in
+    let there = c.in-Some-readtable.ensures in
+    let other = sym c.is_standard.ensures ∙ c.if-is_standard.false in
+    let at = c.in-Some.c in
+    let sub = c.in-Some-character.d in
+    let function = c.in-Some-keyword.function.now in
+    let r = c.with_truth.result in
+    let u = c.set_dispatch-made.new.self.0 in
+    dispatch_is s n table there other (Gives done r u) c.args.names.now rest function c.in-Some-function_named.ensures.1
+    (object_of c.args.character.now) (object_of c.args.sub.now) (object_of c.args.function.now) at sub c.in-Some.ensures c.in-Some-character.ensures c.in-Some-keyword.ensures
+    (subst (λ k. Some n ≡ given_or a_keyword k rest) c.current_readtable.ensures (ap Some c.or_other-name.ensures ∙ sym (c.in-Some-given_keyword.ensures c.current_readtable.result.now)))
     (c.with_truth.ensures.gives s (in_state s (with_dispatch s.readtables n at sub function))
-    (subst (λ k. Gives (λ _. u) c.set_dispatch-made.result (in_state s (with_dispatch s.readtables n at sub k))) f.0 c.set_dispatch-made.ensures.gives)))))))
+    (subst (λ k. Makes (λ _. u) c.set_dispatch-made.result (in_state s (with_dispatch s.readtables k at sub function))) (c.as_slice.ensures.value ∙ c.in_ok-copy.ensures.items)
+    (subst (λ k. Makes (λ _. u) c.set_dispatch-made.result (in_state s (with_dispatch s.readtables c.as_slice.result.now at sub k))) c.in-Some-function_named.ensures.0 c.set_dispatch-made.ensures.gives)))
