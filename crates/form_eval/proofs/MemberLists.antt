@@ -1,9 +1,8 @@
 -- Lists of arguments of a kind.
 --     members_or_each      one argument, or a list of them, by its members
---     each_step, each_none, each_end      members one after the other
-use Rattle.std.proofs.Common.{◌≡◌, ◌<◌, ◌+◌, ℕ, Bool, true, false, cond, List, [], ◌∷◌, ◌++◌, Option, Some, None, option_map, option_and_then, map, length, drop, get_or, is_some, All, refl, sym, ap, subst, ◌∙◌, add-one, suc}
+--     members_list, members_dotted, members_proper, all_of_map      the members of a datum
+use Rattle.std.proofs.Common.{◌≡◌, ℕ, Bool, true, false, cond, List, [], ◌∷◌, Option, Some, None, option_map, option_and_then, map, is_some, All, refl, sym, ap, subst, ◌∙◌}
 use Rattle.std.specs.Option.{option_map_or}
-use Rattle.std.proofs.Math.Seq.{drop-cons, drop-length}
 use Rattle.std.specs.List.{list_all}
 use Rattle.std.proofs.lemmas.Bool.{false≢true, and_parts}
 use Rattle.std.proofs.lemmas.List.Elements.{All-cons, All-nil, All-head, All-tail}
@@ -11,7 +10,7 @@ use Rattle.lisp_object.specs.declared.datum.Datum.{Datum}
 use Rattle.lisp_object.specs.Object.{Object, integer, rational, character, text, symbol, uninterned, pair, vector, is_nil, list_of, object_is_list, is_proper_list}
 use Rattle.lisp_object.specs.declared.datum.Datum
 use Rattle.lisp_object.specs.Datum.{object_of, is_proper}
-use Rattle.lisp_object.proofs.ProperLists.{nil_symbol, proper_list_object, items_of_proper}
+use Rattle.lisp_object.proofs.ProperLists.{proper_list_object, items_of_proper}
 use Rattle.form_eval.proofs.Shapes.{dotted_pair}
 use Rattle.form_eval.proofs.Steps.{list_object}
 use Rattle.form_eval.specs.Kinds.{each_of, one_or_each}
@@ -67,48 +66,7 @@ module _ {A : Type 0} (kind : Object → Option A) where
   members_or_each (uninterned n) None are = absurd (false≢true are.0)
   members_or_each (vector xs) None are = absurd (false≢true are.0)
 
-  -- ---- members one after the other
-  at : (members : List Datum) (i : ℕ) (d : Datum) → i < length members → d ≡ get_or members i d → map object_of (drop i members) ≡ object_of d ∷ map object_of (drop (i + 1) members)
-  at members i d within is =
-      ap (map object_of) (drop-cons members i d within) ∙ ap (λ z. object_of z ∷ map object_of (drop (suc i) members)) (sym is) ∙ ap (λ n. object_of d ∷ map object_of (drop n members)) (sym (add-one i))
-
-  joined : (ys : List A) (y : A) (o : Option (List A)) → option_map (λ zs. ys ++ zs) (option_map (λ zs. y ∷ zs) o) ≡ option_map (λ zs. (ys ++ y ∷ []) ++ zs) o
-  joined ys y None = refl
-  joined ys y (Some zs) = ap Some (more ys)
-    where
-      more : (xs : List A) → xs ++ (y ∷ zs) ≡ (xs ++ y ∷ []) ++ zs
-      more [] = refl
-      more (x ∷ xs) = ap (λ l. x ∷ l) (more xs)
-
-  pub each_step : (ys : List A) (members : List Datum) (i : ℕ) (d : Datum) (y : A) → i < length members → d ≡ get_or members i d → Some y ≡ kind (object_of d)
-      → option_map (λ zs. ys ++ zs) (each_in kind (map object_of (drop i members))) ≡ option_map (λ zs. (ys ++ y ∷ []) ++ zs) (each_in kind (map object_of (drop (i + 1) members)))
-  each_step ys members i d y within is e =
-      ap (λ l. option_map (λ zs. ys ++ zs) (each_in kind l)) (at members i d within is)
-      ∙ ap (λ o. option_map (λ zs. ys ++ zs) (option_and_then (λ z. option_map (λ zs. z ∷ zs) (each_in kind (map object_of (drop (i + 1) members)))) o)) (sym e)
-      ∙ joined ys y (each_in kind (map object_of (drop (i + 1) members)))
-
-  pub each_none : (ys : List A) (members : List Datum) (i : ℕ) (d : Datum) → i < length members → d ≡ get_or members i d → None ≡ kind (object_of d)
-      → option_map (λ zs. ys ++ zs) (each_in kind (map object_of (drop i members))) ≡ None
-  each_none ys members i d within is e =
-      ap (λ l. option_map (λ zs. ys ++ zs) (each_in kind l)) (at members i d within is)
-      ∙ ap (λ o. option_map (λ zs. ys ++ zs) (option_and_then (λ z. option_map (λ zs. z ∷ zs) (each_in kind (map object_of (drop (i + 1) members)))) o)) (sym e)
-
-  pub each_end : (ys : List A) (members : List Datum) (i : ℕ) → i ≡ length members → option_map (λ zs. ys ++ zs) (each_in kind (map object_of (drop i members))) ≡ Some ys
-  each_end ys members i is =
-      ap (λ n. option_map (λ zs. ys ++ zs) (each_in kind (map object_of (drop n members)))) is
-      ∙ ap (λ l. option_map (λ zs. ys ++ zs) (each_in kind (map object_of l))) (drop-length members) ∙ ap Some (whole ys)
-    where
-      whole : (xs : List A) → xs ++ [] ≡ xs
-      whole [] = refl
-      whole (x ∷ xs) = ap (λ l. x ∷ l) (whole xs)
-
 -- ---- the members of a datum
-pub members_one : (x : Object) (xs : List Object) → object_is_list x ≡ false → xs ≡ x ∷ [] → AreMembers x (Some xs)
-members_one x xs other is = (λ list. absurd (false≢true (sym other ∙ list)), λ _. is)
-
-pub members_nil : (h n : List ℕ) → is_nil h n ≡ true → AreMembers (symbol h n) (Some [])
-members_nil h n e = (λ _. nil_symbol h n e, λ other. absurd (false≢true (sym other ∙ e)))
-
 pub members_list : (d : Datum) (items xs : List Datum) (tail : Option Datum) → d ≡ Datum.List items tail → is_proper d ≡ true → is_some tail ≡ false → xs ≡ items → AreMembers (object_of d) (Some (map object_of xs))
 members_list d items xs tail is proper none same = (
   λ _. list_object d items tail is none ∙ ap (λ l. list_of (map object_of l)) (sym same),

@@ -1,8 +1,10 @@
 -- Changes of the packages one after the other.
 --     one_step, one_refused      the first of some changes
 --     from_place, at_the_end      what is from a place on
+--     handed_on      a refusal that `?` hands on
 --     intern_refused      INTERN of a name that may not be interned
 use Rattle.std.proofs.Common.{◌≡◌, ◌<◌, ◌+◌, ℕ, Bool, ◌||◌, List, [], ◌∷◌, Result, Ok, Err, Some, map, length, drop, get_or, sym, ap, ◌∙◌, add-one, suc}
+use Rattle.std.specs.Result.{IsErrAnd}
 use Rattle.std.proofs.Math.Seq.{drop-cons, drop-length}
 use Rattle.package_table.specs.declared.error.PackageError.{PackageError}
 use Rattle.package_table.specs.declared.error.PackageError.TheVariants.{NoPackage, NotExternal, LockedPackage, EmptyName, NoSuchPackage, PackageExists, PackageIsLocked, NameConflict, NotAccessible, Limit, OutOfMemory}
@@ -63,6 +65,11 @@ item_from xs i x within is = drop-cons xs i x within ∙ ap (λ z. z ∷ drop (s
 
 pub none_left : {X : Type 0} (xs : List X) (i : ℕ) → i ≡ length xs → drop i xs ≡ []
 none_left xs i is = ap (λ n. drop n xs) is ∙ drop-length xs
+
+-- a refusal that `?` hands on
+pub handed_on : {A E : Type 0} (r : Result A E) (e : E) → IsErrAnd r (λ f. f ≡ e) → r ≡ Err e
+handed_on (Ok x) e is = absurd is
+handed_on (Err f) e is = ap Err is
 
 -- INTERN of a name that may not be interned
 refused_interned : (s u : State) (n : List ℕ) (changes : Bool) (r : Result (List ℕ × Table) PackageError) (e : EvaluationError) → IsRefusal {A = Unit} (intern_refusal r) (Err e) → Answered done (Err e) u (interned s n changes r)

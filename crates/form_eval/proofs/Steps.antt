@@ -3,8 +3,8 @@
 --     value_symbol, value_constant, value_uninterned, value_dotted      forms that are no lists of arguments
 --     followed_start, followed_step, followed_refused, followed_end      forms one after the other
 --     good_value      what holds after the value of a form
-use Rattle.std.proofs.Common.{◌≡◌, ◌<◌, ◌+◌, ℕ, Bool, true, false, ◌||◌, List, [], ◌∷◌, ◌++◌, All, Result, Ok, Err, Option, Some, None, is_some, map, length, drop, get_or, refl, sym, ap, subst, ◌∙◌, add-one, suc}
-use Rattle.std.proofs.Math.Seq.{drop-cons, drop-length}
+use Rattle.std.proofs.Common.{◌≡◌, ◌<◌, ◌≤◌, ◌+◌, ◌-◌, ℕ, Bool, true, false, ◌||◌, List, [], ◌∷◌, ◌++◌, All, Result, Ok, Err, Option, Some, None, is_some, map, length, take, drop, get_or, refl, sym, ap, subst, ◌∙◌, add-one, suc, arith}
+use Rattle.std.proofs.Math.Seq.{drop-cons, drop-length, take-length}
 use Rattle.std.proofs.Math.Bool.{and-false}
 use Rattle.std.specs.List.{list_all}
 use Rattle.std.proofs.lemmas.Bool.{and_parts, and_from, false≢true}
@@ -203,7 +203,24 @@ followed_stops names xs w s t u forms i f OutOfMemory o same within is h = tt
 pub followed_at_end : (names : List Name) (xs : List Object) (w : Bool) (s : State) (forms : List Datum) (i : ℕ) → i ≡ length forms → followed names xs w s (list_of (map object_of (drop i forms))) ≡ Ok (record { value = xs; state = s; wrote = w })
 followed_at_end names xs w s forms i is = ap (λ n. followed names xs w s (list_of (map object_of (drop n forms)))) is ∙ followed_end names xs w s forms
 
-pub split_all : (u : Table) (xs : List Datum) (x : Datum) (rest : List Datum) → xs ≡ x ∷ rest → All (IsArgument u) xs → IsArgument u x × All (IsArgument u) rest
-split_all u xs x rest is all =
-    let both : All (IsArgument u) (x ∷ rest) = subst (All (IsArgument u)) is all in
-    (All-head (IsArgument u) x rest both, All-tail (IsArgument u) x rest both)
+-- what holds of all arguments holds of the first two, and of those after them
+pub after_two : (u : Table) (xs : List Datum) (a b : Datum) → 2 ≤ length xs → a ≡ get_or xs 0 a → b ≡ get_or xs 1 b → All (IsArgument u) xs
+    → IsArgument u a × IsArgument u b × All (IsArgument u) (take (length xs - 2) (drop 2 xs))
+after_two u [] a b long first second all = absurd (omega arith)
+after_two u (x ∷ []) a b long first second all = absurd (omega arith)
+after_two u (x ∷ (y ∷ xs)) a b long first second all =
+    let tail : All (IsArgument u) (y ∷ xs) = All-tail (IsArgument u) x (y ∷ xs) all in
+    let same : take (length (x ∷ (y ∷ xs)) - 2) xs ≡ xs = ap (λ n. take n xs) (let h : length (x ∷ (y ∷ xs)) - 2 ≡ length xs = omega arith in h) ∙ take-length xs in (
+      subst (IsArgument u) (sym first) (All-head (IsArgument u) x (y ∷ xs) all),
+      subst (IsArgument u) (sym second) (All-head (IsArgument u) y xs tail),
+      subst (All (IsArgument u)) (sym same) (All-tail (IsArgument u) y xs tail),
+    )
+
+-- the same of the first three
+pub after_three : (u : Table) (xs : List Datum) (a b d : Datum) → 3 ≤ length xs → a ≡ get_or xs 0 a → b ≡ get_or xs 1 b → d ≡ get_or xs 2 d → All (IsArgument u) xs
+    → IsArgument u a × IsArgument u b × IsArgument u d × All (IsArgument u) (take (length xs - 3) (drop 3 xs))
+after_three u [] a b d long first second third all = absurd (omega arith)
+after_three u (x ∷ xs) a b d long first second third all =
+    let rest = after_two u xs b d (omega (arith, long)) second third (All-tail (IsArgument u) x xs all) in
+    let same : take (length (x ∷ xs) - 3) (drop 2 xs) ≡ take (length xs - 2) (drop 2 xs) = ap (λ n. take n (drop 2 xs)) (let h : length (x ∷ xs) - 3 ≡ length xs - 2 = omega arith in h) in
+    (subst (IsArgument u) (sym first) (All-head (IsArgument u) x xs all), rest.0, rest.1, subst (All (IsArgument u)) (sym same) rest.2)

@@ -1,14 +1,20 @@
 -- What the calls of the evaluator answer.
-use Rattle.std.specs.Prelude.{◌≡◌, Bool, true, List, map, Result, Ok, Err, IsOk}
+use Rattle.std.specs.Global.{Vec}
+use Rattle.std.specs.Prelude.{◌≡◌, ◌⊎◌, ℕ, Bool, true, false, List, map, Option, Some, None, IsSome, Result, Ok, Err, IsOk}
 use Rattle.lisp_object.specs.Object.{Object, symbol}
+use Rattle.lisp_object.specs.declared.refusal.TheConstants.{ARGUMENT_KIND, NO_SUCH_PACKAGE, PACKAGE_IS_LOCKED, NO_READTABLE, NO_MACRO}
 use Rattle.lisp_object.specs.declared.datum.Datum.{Datum}
 use Rattle.lisp_object.specs.Datum.{object_of, is_proper}
 use Rattle.package_table.specs.declared.error.PackageError.{PackageError}
 use Rattle.package_table.specs.declared.error.PackageError.TheVariants.{OutOfMemory as NoRoom}
-use Rattle.package_table.specs.Table.{Table}
+use Rattle.package_table.specs.Table.{Name, Table, is_locked}
 use Rattle.plist_state.specs.Properties.{Symbol}
 use Rattle.plist_state.specs.State.{State}
 use Rattle.plist_state.specs.Sound.{IsValue}
+use Rattle.plist_state.specs.Shown.{symbol_of}
+use Rattle.plist_state.specs.declared.symbol.Symbol.{Symbol as Stored}
+use Rattle.plist_state.specs.declared.error.ReadtableError.{ReadtableError}
+use Rattle.plist_state.specs.Refused.{number_of}
 use Rattle.form_eval.specs.declared.error.EvaluationError.{EvaluationError}
 use Rattle.form_eval.specs.declared.error.EvaluationError.TheVariants.{Refused, OutOfMemory}
 use Rattle.form_eval.specs.declared.evaluated.Evaluated.{Evaluated}
@@ -53,3 +59,54 @@ abbrev pub Makes : Result Bool PackageError → Table → Result (Table × Bool)
 Makes (Ok wrote) u said = said ≡ Ok (u, wrote)
 Makes (Err NoRoom) u said = Unit {0}
 Makes (Err e) u said = said ≡ Err e
+
+-- what was found; or where there is nothing, the refusal of this number
+abbrev pub FoundOr : {A B : Type 0} → ℕ → (A → B) → Result A EvaluationError → Option B → Type 0
+FoundOr code view (Ok x) o = Some (view x) ≡ o
+FoundOr code view (Err error) o = (error ≡ Refused code) × (None ≡ o)
+
+-- what an argument stands for, where it is of the kind that is asked for
+abbrev pub IsOfKind : {A B : Type 0} → (A → B) → Result A EvaluationError → Option B → Type 0
+IsOfKind view result o = FoundOr ARGUMENT_KIND view result o
+
+-- the package of a name, where there is one
+abbrev pub IsPackageOr : {A B : Type 0} → (A → B) → Result A EvaluationError → Option B → Type 0
+IsPackageOr view result o = FoundOr NO_SUCH_PACKAGE view result o
+
+-- The same as `FoundOr`. Where memory ran out it says nothing.
+abbrev pub MayFind : {A B : Type 0} → ℕ → (A → B) → Result A EvaluationError → Option B → Type 0
+MayFind number view (Ok x) o = Some (view x) ≡ o
+MayFind number view (Err (Refused code)) o = (code ≡ number) × (None ≡ o)
+MayFind number view (Err OutOfMemory) o = Unit {0}
+
+-- the package of a name, where there is one and it is not locked
+abbrev pub IsUnlocked : Result (Vec ℕ) EvaluationError → Option Name → Type 0
+IsUnlocked (Ok p) o = (Some p.items ≡ o) × (is_locked p.items ≡ false)
+IsUnlocked (Err (Refused code)) o =
+    ((code ≡ NO_SUCH_PACKAGE) × (None ≡ o)) ⊎ ((p : Name) × (code ≡ PACKAGE_IS_LOCKED) × (Some p ≡ o) × (is_locked p ≡ true))
+IsUnlocked (Err OutOfMemory) o = (p : Name) × (Some p ≡ o) × (is_locked p ≡ false)
+
+-- the readtable of a name, where there is one
+abbrev pub IsReadtableOr : {A B : Type 0} → (A → B) → Result A EvaluationError → Option B → Type 0
+IsReadtableOr view result o = FoundOr NO_READTABLE view result o
+
+-- the readtable of a name, where it may be written
+abbrev pub IsWritableOr : {A B : Type 0} → (A → B) → Result A EvaluationError → Result B ReadtableError → Type 0
+IsWritableOr view (Ok x) said = said ≡ Ok (view x)
+IsWritableOr view (Err error) said = (e : ReadtableError) × (error ≡ Refused (number_of e)) × (said ≡ Err e)
+
+-- the function of a name, where a readtable may name it
+abbrev pub IsFunctionOr : Result Name EvaluationError → Name → Bool → Type 0
+IsFunctionOr (Ok f) name b = (f ≡ name) × (b ≡ true)
+IsFunctionOr (Err error) name b = (error ≡ Refused NO_MACRO) × (b ≡ false)
+
+-- arguments of the number that is asked for; or they are refused, and then this is so
+abbrev pub AreArguments : {A : Type 0} → (A → List Datum) → Result A EvaluationError → List Datum → Type 0 → Type 0
+AreArguments view (Ok x) values other = values ≡ view x
+AreArguments view (Err error) values other = (error ≡ Refused ARGUMENT_KIND) × other
+
+-- The symbol and the indicator of a property, where both arguments are symbols. Memory runs out only then.
+abbrev pub IsPlace : Result (Stored × Stored) EvaluationError → Option Symbol → Option Symbol → Type 0
+IsPlace (Ok p) o i = (Some (symbol_of p.0) ≡ o) × (Some (symbol_of p.1) ≡ i)
+IsPlace (Err (Refused code)) o i = (code ≡ ARGUMENT_KIND) × ((None ≡ o) ⊎ (None ≡ i))
+IsPlace (Err OutOfMemory) o i = IsSome o × IsSome i

@@ -1,20 +1,129 @@
-//! The arguments after those that an operator always takes.
-ghost use Rattle.std.specs.Prelude.{◌≡◌, true, [], ◌∷◌, List, map, All, IfOk, IfSome, MatchOption, unwrap_or, option_map};
+//! The arguments of an operator: so many of them, and what those after the first ones stand for where they are given.
+ghost use Rattle.std.specs.Prelude.{◌≡◌, ◌≢◌, ◌<◌, true, [], ◌∷◌, map, length, All, IfOk};
 ghost use Rattle.lisp_object.specs.Datum.{object_of, is_proper};
 ghost use Rattle.package_table.specs.Table.{Table};
-ghost use Rattle.form_eval.specs.Kinds.{given_or_nil};
-ghost use Rattle.form_eval.specs.Evaluated.{IsArgument};
+ghost use Rattle.form_eval.specs.Kinds.{a_name, a_keyword, a_source, given_or, given_or_nil, is_true};
+ghost use Rattle.form_eval.specs.Readtables.{after_first};
+ghost use Rattle.form_eval.specs.Evaluated.{IsArgument, IsOfKind, AreArguments};
 
+use crate::EvaluationError::Refused;
+use crate::{EvaluationError, kinds};
 use lisp_object::Datum;
+use lisp_object::refusal::ARGUMENT_KIND;
 use std::alloc::{AllocError, Global};
 
-/// The first of these.
-pub(crate) fn given(rest: &[Datum]) -> Option<&Datum>
-    ensures { MatchOption result (rest.now ≡ []) (λ x. (more : List Datum) × (rest.now ≡ x.now ∷ more)) }
+/// The one argument.
+pub(crate) fn one(values: &[Datum]) -> Result<&Datum, EvaluationError>
+    ensures value { AreArguments (λ x. x.now ∷ []) result values.now (length values.now ≢ 1) }
+    ensures arguments { (u : Table) → All (IsArgument u) values.now → IfOk result (λ x. IsArgument u x.now) }
 {
-    match rest.split_first() {
-        Some((first, _)) => Some(first),
-        None => None,
+    match values {
+        [first] => Ok(first),
+        _ => Err(Refused(ARGUMENT_KIND)),
+    }
+}
+
+/// The two arguments.
+pub(crate) fn two(values: &[Datum]) -> Result<(&Datum, &Datum), EvaluationError>
+    ensures value { AreArguments (λ p. p.0.now ∷ p.1.now ∷ []) result values.now (length values.now ≢ 2) }
+    ensures arguments { (u : Table) → All (IsArgument u) values.now → IfOk result (λ p. IsArgument u p.0.now × IsArgument u p.1.now) }
+{
+    match values {
+        [first, second] => Ok((first, second)),
+        _ => Err(Refused(ARGUMENT_KIND)),
+    }
+}
+
+/// The three arguments.
+pub(crate) fn three(values: &[Datum]) -> Result<(&Datum, &Datum, &Datum), EvaluationError>
+    ensures value { AreArguments (λ p. p.0.now ∷ p.1.now ∷ p.2.now ∷ []) result values.now (length values.now ≢ 3) }
+    ensures arguments { (u : Table) → All (IsArgument u) values.now → IfOk result (λ p. IsArgument u p.0.now × IsArgument u p.1.now × IsArgument u p.2.now) }
+{
+    match values {
+        [first, second, third] => Ok((first, second, third)),
+        _ => Err(Refused(ARGUMENT_KIND)),
+    }
+}
+
+/// The first argument, and those after it.
+pub(crate) fn one_and_rest(values: &[Datum]) -> Result<(&Datum, &[Datum]), EvaluationError>
+    ensures value { AreArguments (λ p. p.0.now ∷ p.1.now) result values.now (length values.now < 1) }
+    ensures arguments { (u : Table) → All (IsArgument u) values.now → IfOk result (λ p. IsArgument u p.0.now × All (IsArgument u) p.1.now) }
+{
+    match values {
+        [first, rest @ ..] => Ok((first, rest)),
+        _ => Err(Refused(ARGUMENT_KIND)),
+    }
+}
+
+/// The first two arguments, and those after them.
+pub(crate) fn two_and_rest(values: &[Datum]) -> Result<(&Datum, &Datum, &[Datum]), EvaluationError>
+    ensures value { AreArguments (λ p. p.0.now ∷ p.1.now ∷ p.2.now) result values.now (length values.now < 2) }
+    ensures arguments { (u : Table) → All (IsArgument u) values.now → IfOk result (λ p. IsArgument u p.0.now × IsArgument u p.1.now × All (IsArgument u) p.2.now) }
+{
+    match values {
+        [first, second, rest @ ..] => Ok((first, second, rest)),
+        _ => Err(Refused(ARGUMENT_KIND)),
+    }
+}
+
+/// The first three arguments, and those after them.
+pub(crate) fn three_and_rest(
+    values: &[Datum],
+) -> Result<(&Datum, &Datum, &Datum, &[Datum]), EvaluationError>
+    ensures value { AreArguments (λ p. p.0.now ∷ p.1.now ∷ p.2.now ∷ p.3.now) result values.now (length values.now < 3) }
+    ensures arguments { (u : Table) → All (IsArgument u) values.now → IfOk result (λ p. IsArgument u p.0.now × IsArgument u p.1.now × IsArgument u p.2.now × All (IsArgument u) p.3.now) }
+{
+    match values {
+        [first, second, third, rest @ ..] => Ok((first, second, third, rest)),
+        _ => Err(Refused(ARGUMENT_KIND)),
+    }
+}
+
+/// What is given after the first of these.
+pub(crate) fn after_first(rest: &[Datum]) -> &[Datum]
+    ensures value { map object_of result.now ≡ after_first (map object_of rest.now) }
+    ensures proper { All (λ d. is_proper d ≡ true) rest.now → All (λ d. is_proper d ≡ true) result.now }
+{
+    match rest {
+        [_, more @ ..] => more,
+        [] => rest,
+    }
+}
+
+/// The name that the first of these designates, or the other one where there is none.
+pub(crate) fn name_or<'a>(rest: &'a [Datum], other: &'a [u8]) -> Result<&'a [u8], EvaluationError>
+    requires { All (λ d. is_proper d ≡ true) rest.now }
+    ensures { IsOfKind (λ n. n.now) result (given_or a_name other.now (map object_of rest.now)) }
+{
+    match rest {
+        [given, ..] => kinds::name(given),
+        [] => Ok(other),
+    }
+}
+
+/// The same of a keyword.
+pub(crate) fn keyword_or<'a>(
+    rest: &'a [Datum],
+    other: &'a [u8],
+) -> Result<&'a [u8], EvaluationError>
+    requires { All (λ d. is_proper d ≡ true) rest.now }
+    ensures { IsOfKind (λ n. n.now) result (given_or a_keyword other.now (map object_of rest.now)) }
+{
+    match rest {
+        [given, ..] => kinds::keyword(given),
+        [] => Ok(other),
+    }
+}
+
+/// The same of a readtable to take from.
+pub(crate) fn source_or<'a>(rest: &'a [Datum], other: &'a [u8]) -> Result<&'a [u8], EvaluationError>
+    requires { All (λ d. is_proper d ≡ true) rest.now }
+    ensures { IsOfKind (λ n. n.now) result (given_or a_source other.now (map object_of rest.now)) }
+{
+    match rest {
+        [given, ..] => kinds::source(given),
+        [] => Ok(other),
     }
 }
 
@@ -24,29 +133,19 @@ pub(crate) fn given_or_nil(alloc: Global, rest: &[Datum]) -> Result<Datum, Alloc
     ensures value { IfOk result (λ d. object_of d ≡ given_or_nil (map object_of rest.now)) }
     ensures proper { IfOk result (λ d. is_proper d ≡ true) }
 {
-    match given(rest) {
-        Some(datum) => datum.copy(alloc),
-        None => Datum::nil(alloc),
+    match rest {
+        [given, ..] => given.copy(alloc),
+        [] => Datum::nil(alloc),
     }
 }
 
-/// The name that was given, or the other one.
-pub(crate) fn or_other<'a>(name: Option<&'a [u8]>, other: &'a [u8]) -> &'a [u8]
-    ensures { result.now ≡ unwrap_or (option_map (λ n. n.now) name.entry) other.now }
+/// Whether the first of these is given, and true.
+pub(crate) fn is_given(rest: &[Datum]) -> bool
+    requires { All (λ d. is_proper d ≡ true) rest.now }
+    ensures { result ≡ is_true (given_or_nil (map object_of rest.now)) }
 {
-    match name {
-        Some(name) => name,
-        None => other,
-    }
-}
-
-/// The first of these, and those after it.
-pub(crate) fn split(values: &[Datum]) -> Option<(&Datum, &[Datum])>
-    ensures value { MatchOption result (values.now ≡ []) (λ p. values.now ≡ p.0.now ∷ p.1.now) }
-    ensures arguments { (u : Table) → All (IsArgument u) values.now → IfSome result (λ p. IsArgument u p.0.now × All (IsArgument u) p.1.now) }
-{
-    match values.split_first() {
-        Some((first, rest)) => Some((first, rest)),
-        None => None,
+    match rest {
+        [given, ..] => kinds::is_true(given),
+        [] => false,
     }
 }

@@ -14,9 +14,10 @@ ghost use Rattle.form_eval.specs.AtOnce.{refusal_of, at_once, first_at_once, sub
 use crate::EvaluationError::Refused;
 use crate::control::is_standard;
 use crate::operators::{Operation, operation_of};
+use crate::packages::package_named;
 use crate::place::check_place;
 use crate::{EvaluationError, kinds};
-use lisp_object::refusal::{ARGUMENT_KIND, NO_SUCH_PACKAGE, NOT_A_FORM};
+use lisp_object::refusal::{ARGUMENT_KIND, NOT_A_FORM};
 use lisp_object::{Datum, Items};
 use package_table::standardized::KEYWORD;
 use plist_state::World;
@@ -49,7 +50,7 @@ fn check_symbol(form: &Datum) -> Result<(), EvaluationError>
     requires { is_proper form.now ≡ true }
     ensures { (home name : Name) → a_symbol (object_of form.now) ≡ Some (home, name) → (s : State) → IsRefusal (refusal_of (symbol_value home name s)) result }
 {
-    let Some((home, name)) = kinds::symbol(form) else {
+    let Ok((home, name)) = kinds::symbol(form) else {
         return Err(Refused(NOT_A_FORM));
     };
     if home == KEYWORD || is_standard(home, name, b"T") || is_standard(home, name, b"NIL") {
@@ -134,11 +135,6 @@ fn check_package(world: &World, name: &Datum) -> Result<(), EvaluationError>
     requires { is_proper name.now ≡ true }
     ensures { IsRefusal (refusal_of (enter (object_of name.now) world.now.0)) result }
 {
-    let Some(name) = kinds::name(name) else {
-        return Err(Refused(ARGUMENT_KIND));
-    };
-    match world.packages().find(name) {
-        Some(_) => Ok(()),
-        None => Err(Refused(NO_SUCH_PACKAGE)),
-    }
+    package_named(world, kinds::name(name)?)?;
+    Ok(())
 }

@@ -101,7 +101,7 @@ pub(crate) fn symbol_value(
     ensures gives { (home name : List ℕ) → a_symbol (object_of form.now) ≡ Some (home, name) → Gives done result world.now.0 (symbol_value home name world.now.0) }
     ensures proper { IfOk result (λ e. is_proper e.value ≡ true) }
 {
-    let Some((home, name)) = kinds::symbol(form) else {
+    let Ok((home, name)) = kinds::symbol(form) else {
         return Err(Refused(NOT_A_FORM));
     };
     if home == KEYWORD || is_standard(home, name, b"T") || is_standard(home, name, b"NIL") {

@@ -3,7 +3,7 @@ ghost use Rattle.std.specs.Prelude.{◌≡◌};
 
 use package_table::PackageError;
 use plist_state::ReadtableError;
-use std::alloc::AllocError;
+use std::alloc::{AllocError, AllocFailed};
 
 /// Why a form has no value.
 #[derive(Clone, Copy, Debug, PartialEq, Eq)]
@@ -21,6 +21,17 @@ impl From<AllocError> for EvaluationError {
     ghost from_gives = { λ _ e. e ≡ OutOfMemory };
 
     fn from(_: AllocError) -> EvaluationError {
+        EvaluationError::OutOfMemory
+    }
+}
+
+impl<T: Drop> From<AllocFailed<T>> for EvaluationError {
+    ghost use Rattle.std.specs.Prelude.{◌≡◌};
+    ghost use Rattle.form_eval.specs.declared.error.EvaluationError.TheVariants.{OutOfMemory};
+
+    ghost from_gives = { λ _ e. e ≡ OutOfMemory };
+
+    fn from(_: AllocFailed<T>) -> EvaluationError {
         EvaluationError::OutOfMemory
     }
 }

@@ -1,119 +1,122 @@
 //! The kinds of arguments, and what an argument of each stands for.
-ghost use Rattle.std.specs.Prelude.{◌≡◌, true, Option, option_map};
+ghost use Rattle.std.specs.Prelude.{◌≡◌, true};
 ghost use Rattle.lisp_object.specs.Datum.{object_of, is_proper};
 ghost use Rattle.form_eval.specs.Kinds.{a_symbol, a_name, a_text, an_integer, a_character, a_keyword, a_source, a_case, case_named, is_true, is_pair};
+ghost use Rattle.form_eval.specs.Evaluated.{IsOfKind};
 
+use crate::EvaluationError;
+use crate::EvaluationError::Refused;
 use lisp_object::Datum;
+use lisp_object::refusal::ARGUMENT_KIND;
 use package_table::standardized::{COMMON_LISP, KEYWORD};
 use plist_state::STANDARD;
 use readtable_core::Case;
 
 /// The home and the name of an interned symbol.
-pub(crate) fn symbol(datum: &Datum) -> Option<(&[u8], &[u8])>
+pub(crate) fn symbol(datum: &Datum) -> Result<(&[u8], &[u8]), EvaluationError>
     requires { is_proper datum.now ≡ true }
-    ensures { option_map (λ p. (p.0.now, p.1.now)) result ≡ a_symbol (object_of datum.now) }
+    ensures { IsOfKind (λ p. (p.0.now, p.1.now)) result (a_symbol (object_of datum.now)) }
 {
     match datum {
-        Datum::Symbol { package, name } => Some((package.as_slice(), name.as_slice())),
-        Datum::Integer(_) => None,
-        Datum::Rational(_) => None,
-        Datum::Char(_) => None,
-        Datum::Text(_) => None,
-        Datum::Uninterned(_) => None,
-        Datum::List { .. } => None,
-        Datum::Vector(_) => None,
+        Datum::Symbol { package, name } => Ok((package.as_slice(), name.as_slice())),
+        Datum::Integer(_) => Err(Refused(ARGUMENT_KIND)),
+        Datum::Rational(_) => Err(Refused(ARGUMENT_KIND)),
+        Datum::Char(_) => Err(Refused(ARGUMENT_KIND)),
+        Datum::Text(_) => Err(Refused(ARGUMENT_KIND)),
+        Datum::Uninterned(_) => Err(Refused(ARGUMENT_KIND)),
+        Datum::List { .. } => Err(Refused(ARGUMENT_KIND)),
+        Datum::Vector(_) => Err(Refused(ARGUMENT_KIND)),
     }
 }
 
 /// The characters of a text.
-pub(crate) fn text(datum: &Datum) -> Option<&[u8]>
+pub(crate) fn text(datum: &Datum) -> Result<&[u8], EvaluationError>
     requires { is_proper datum.now ≡ true }
-    ensures { option_map (λ n. n.now) result ≡ a_text (object_of datum.now) }
+    ensures { IsOfKind (λ n. n.now) result (a_text (object_of datum.now)) }
 {
     match datum {
-        Datum::Text(characters) => Some(characters.as_slice()),
-        Datum::Integer(_) => None,
-        Datum::Rational(_) => None,
-        Datum::Char(_) => None,
-        Datum::Symbol { .. } => None,
-        Datum::Uninterned(_) => None,
-        Datum::List { .. } => None,
-        Datum::Vector(_) => None,
+        Datum::Text(characters) => Ok(characters.as_slice()),
+        Datum::Integer(_) => Err(Refused(ARGUMENT_KIND)),
+        Datum::Rational(_) => Err(Refused(ARGUMENT_KIND)),
+        Datum::Char(_) => Err(Refused(ARGUMENT_KIND)),
+        Datum::Symbol { .. } => Err(Refused(ARGUMENT_KIND)),
+        Datum::Uninterned(_) => Err(Refused(ARGUMENT_KIND)),
+        Datum::List { .. } => Err(Refused(ARGUMENT_KIND)),
+        Datum::Vector(_) => Err(Refused(ARGUMENT_KIND)),
     }
 }
 
 /// An integer.
-pub(crate) fn integer(datum: &Datum) -> Option<i128>
+pub(crate) fn integer(datum: &Datum) -> Result<i128, EvaluationError>
     requires { is_proper datum.now ≡ true }
-    ensures { result ≡ an_integer (object_of datum.now) }
+    ensures { IsOfKind (λ x. x) result (an_integer (object_of datum.now)) }
 {
     match datum {
-        Datum::Integer(n) => Some(*n),
-        Datum::Rational(_) => None,
-        Datum::Char(_) => None,
-        Datum::Text(_) => None,
-        Datum::Symbol { .. } => None,
-        Datum::Uninterned(_) => None,
-        Datum::List { .. } => None,
-        Datum::Vector(_) => None,
+        Datum::Integer(n) => Ok(*n),
+        Datum::Rational(_) => Err(Refused(ARGUMENT_KIND)),
+        Datum::Char(_) => Err(Refused(ARGUMENT_KIND)),
+        Datum::Text(_) => Err(Refused(ARGUMENT_KIND)),
+        Datum::Symbol { .. } => Err(Refused(ARGUMENT_KIND)),
+        Datum::Uninterned(_) => Err(Refused(ARGUMENT_KIND)),
+        Datum::List { .. } => Err(Refused(ARGUMENT_KIND)),
+        Datum::Vector(_) => Err(Refused(ARGUMENT_KIND)),
     }
 }
 
 /// A character.
-pub(crate) fn character(datum: &Datum) -> Option<u8>
+pub(crate) fn character(datum: &Datum) -> Result<u8, EvaluationError>
     requires { is_proper datum.now ≡ true }
-    ensures { result ≡ a_character (object_of datum.now) }
+    ensures { IsOfKind (λ x. x) result (a_character (object_of datum.now)) }
 {
     match datum {
-        Datum::Char(c) => Some(*c),
-        Datum::Integer(_) => None,
-        Datum::Rational(_) => None,
-        Datum::Text(_) => None,
-        Datum::Symbol { .. } => None,
-        Datum::Uninterned(_) => None,
-        Datum::List { .. } => None,
-        Datum::Vector(_) => None,
+        Datum::Char(c) => Ok(*c),
+        Datum::Integer(_) => Err(Refused(ARGUMENT_KIND)),
+        Datum::Rational(_) => Err(Refused(ARGUMENT_KIND)),
+        Datum::Text(_) => Err(Refused(ARGUMENT_KIND)),
+        Datum::Symbol { .. } => Err(Refused(ARGUMENT_KIND)),
+        Datum::Uninterned(_) => Err(Refused(ARGUMENT_KIND)),
+        Datum::List { .. } => Err(Refused(ARGUMENT_KIND)),
+        Datum::Vector(_) => Err(Refused(ARGUMENT_KIND)),
     }
 }
 
 /// The name for which a text or a symbol is the designator (standard 11.1).
 #[tactic(auto, using(crate::proofs::Shapes::name_by_parts))]
-pub(crate) fn name(datum: &Datum) -> Option<&[u8]>
+pub(crate) fn name(datum: &Datum) -> Result<&[u8], EvaluationError>
     requires { is_proper datum.now ≡ true }
-    ensures { option_map (λ n. n.now) result ≡ a_name (object_of datum.now) }
+    ensures { IsOfKind (λ n. n.now) result (a_name (object_of datum.now)) }
 {
     match symbol(datum) {
-        Some((_, name)) => Some(name),
-        None => text(datum),
+        Ok((_, name)) => Ok(name),
+        Err(_) => text(datum),
     }
 }
 
 /// The name of a keyword.
 #[tactic(auto, using(crate::proofs::Shapes::keyword_by_parts))]
-pub(crate) fn keyword(datum: &Datum) -> Option<&[u8]>
+pub(crate) fn keyword(datum: &Datum) -> Result<&[u8], EvaluationError>
     requires { is_proper datum.now ≡ true }
-    ensures { option_map (λ n. n.now) result ≡ a_keyword (object_of datum.now) }
+    ensures { IsOfKind (λ n. n.now) result (a_keyword (object_of datum.now)) }
 {
-    match symbol(datum) {
-        Some((home, name)) => { if home == KEYWORD { Some(name) } else { None } }
-        None => None,
+    let (home, name) = symbol(datum)?;
+    if home == KEYWORD {
+        Ok(name)
+    } else {
+        Err(Refused(ARGUMENT_KIND))
     }
 }
 
 /// The name of a readtable to take from: a keyword, or NIL for the standard one.
 #[tactic(auto, using(crate::proofs::Shapes::source_by_parts))]
-pub(crate) fn source(datum: &Datum) -> Option<&[u8]>
+pub(crate) fn source(datum: &Datum) -> Result<&[u8], EvaluationError>
     requires { is_proper datum.now ≡ true }
-    ensures { option_map (λ n. n.now) result ≡ a_source (object_of datum.now) }
+    ensures { IsOfKind (λ n. n.now) result (a_source (object_of datum.now)) }
 {
-    match symbol(datum) {
-        Some((home, name)) => {
-            if home == COMMON_LISP && name == b"NIL".as_slice() {
-                return Some(STANDARD);
-            }
-            if home == KEYWORD { Some(name) } else { None }
-        }
-        None => None,
+    let (home, name) = symbol(datum)?;
+    if home == COMMON_LISP && name == b"NIL".as_slice() {
+        Ok(STANDARD)
+    } else {
+        keyword(datum)
     }
 }
 
@@ -137,14 +140,11 @@ fn case_named(name: &[u8]) -> Option<Case>
 }
 
 /// The case that a keyword names.
-pub(crate) fn case(datum: &Datum) -> Option<Case>
+pub(crate) fn case(datum: &Datum) -> Result<Case, EvaluationError>
     requires { is_proper datum.now ≡ true }
-    ensures { result ≡ a_case (object_of datum.now) }
+    ensures { IsOfKind (λ x. x) result (a_case (object_of datum.now)) }
 {
-    match keyword(datum) {
-        Some(name) => case_named(name),
-        None => None,
-    }
+    case_named(keyword(datum)?).ok_or(Refused(ARGUMENT_KIND))
 }
 
 /// Whether it is true: NIL is false.
@@ -154,8 +154,8 @@ pub(crate) fn is_true(datum: &Datum) -> bool
     ensures { result ≡ is_true (object_of datum.now) }
 {
     match symbol(datum) {
-        Some((home, name)) => !(home == COMMON_LISP && name == b"NIL".as_slice()),
-        None => true,
+        Ok((home, name)) => !(home == COMMON_LISP && name == b"NIL".as_slice()),
+        Err(_) => true,
     }
 }
 

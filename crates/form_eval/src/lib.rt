@@ -10,10 +10,10 @@
 //! - `error`, `evaluated`: what a form gives, `EvaluationError` and `Evaluated`
 //! - `evaluation`: the value of a form, by recursion on it; `operators`: what is at its head; `place`: the places of SETF,
 //!   INCF and PUSH; `perform`: what an operator makes of the values of its arguments
-//! - `control`, `properties`, `packages`, `package_lists`, `readtables`: the operators of each family; `calls`: the same of
-//!   lists of values
-//! - `kinds`, `arguments`, `lists`, `values`: what arguments stand for, those after the first ones, lists of them, and values
-//!   that are built; `changes`: changes of the packages, one after the other
+//! - `control`, `properties`, `packages`, `package_lists`, `readtables`: the operators of each family, of the list of the values
+//!   of their arguments
+//! - `arguments`, `kinds`, `lists`, `values`: so many arguments, what each stands for, lists of them, and values that are
+//!   built; `changes`: changes of the packages, one after the other
 //!
 //! Each operator answers its definition of the values of its arguments. `Gives` (specs/Evaluated.antt) also says that memory
 //! runs out only where nothing is refused; `Answers` says nothing of it.
@@ -21,7 +21,6 @@
 
 mod arguments;
 mod at_once;
-mod calls;
 mod changes;
 mod control;
 mod error;

@@ -177,7 +177,7 @@ pub(crate) fn operation_of(head: &Datum, number: usize) -> Result<Operation, Eva
     ensures at_once { (names : List Name) → IsFirstHead names (object_of head.now) number result }
     ensures counted { IfOk result (λ operation. IsCounted operation (number + 1)) }
 {
-    let Some((home, name)) = kinds::symbol(head) else {
+    let Ok((home, name)) = kinds::symbol(head) else {
         return Err(Refused(NOT_A_FORM));
     };
     if !is_name(home, COMMON_LISP) {

@@ -1,25 +1,26 @@
 //! The operators that take packages or symbols in lists (standard 11.2): EXPORT, IMPORT, USE-PACKAGE.
-ghost use Rattle.std.specs.Prelude.{◌≡◌, ◌∷◌, true, Bool, Result, map, All, IfOk, IfSome, unwrap_or, option_map, bytes_eq};
+ghost use Rattle.std.specs.Prelude.{◌≡◌, true, Bool, Result, map, All, IfOk, bytes_eq};
 ghost use Rattle.std.specs.List.{list_any};
 ghost use Rattle.lisp_object.specs.Datum.{object_of, is_proper};
+ghost use Rattle.lisp_object.specs.declared.refusal.TheConstants.{NO_SUCH_PACKAGE as NO_PACKAGE};
 ghost use Rattle.package_table.specs.declared.error.PackageError.{PackageError as Cause};
 ghost use Rattle.package_table.specs.Table.{Table, IsPackage, package_named, keyword};
 ghost use Rattle.plist_state.specs.State.{State};
 ghost use Rattle.plist_state.specs.Changes.{with_packages};
 ghost use Rattle.form_eval.specs.Packages.{changed, export, import, use_package, packages_named};
-ghost use Rattle.form_eval.specs.Evaluated.{IsArgument, Answers, Makes, done};
+ghost use Rattle.form_eval.specs.Evaluated.{IsArgument, IsUnlocked, MayFind, Answers, Makes, done};
 
 use crate::EvaluationError::Refused;
-use crate::arguments::or_other;
+use crate::arguments::{name_or, one_and_rest};
 use crate::changes::{export_all, finds_all, import_all, use_each};
-use crate::packages::given_name;
+use crate::packages::package_named;
 use crate::{Evaluated, EvaluationError, lists, values};
-use lisp_object::refusal::{ARGUMENT_KIND, NO_SUCH_PACKAGE, NOT_ACCESSIBLE, PACKAGE_IS_LOCKED};
+use lisp_object::refusal::{NOT_ACCESSIBLE, PACKAGE_IS_LOCKED};
 use lisp_object::{Bytes, Datum};
 use package_table::PackageError;
 use package_table::standardized::KEYWORD;
 use plist_state::World;
-use std::alloc::{AllocError, Global};
+use std::alloc::Global;
 
 // What changes of the packages give: T.
 fn changed(
@@ -40,50 +41,33 @@ fn changed(
     }
 }
 
-// The package that is given first of these, by its name, or the current one.
-fn owner_named(
-    alloc: Global,
-    world: &World,
-    owner: Option<&[u8]>,
-) -> Result<Option<Vec<u8>>, AllocError>
-    ensures value { IfOk result (λ o. option_map (λ v. v.items) o ≡ package_named world.now.0.packages (unwrap_or (option_map (λ n. n.now) owner.entry) world.now.0.current_package)) }
-    ensures there { IfOk result (λ o. IfSome o (λ v. IsPackage world.now.0.packages v.items)) }
+// The package of this name or nickname, where it is not locked.
+fn unlocked(alloc: Global, world: &World, name: &[u8]) -> Result<Vec<u8>, EvaluationError>
+    ensures unlocked { IsUnlocked result (package_named world.now.0.packages name.now) }
+    ensures there { IfOk result (λ p. IsPackage world.now.0.packages p.items) }
 {
-    match world
-        .packages()
-        .find(or_other(owner, world.current_package()))
-    {
-        Some(package) => Ok(Some(Vec::from_slice(alloc, package)?)),
-        None => Ok(None),
+    let package = package_named(world, name)?;
+    if world.packages().is_locked(package) {
+        return Err(Refused(PACKAGE_IS_LOCKED));
     }
+    Ok(Vec::from_slice(alloc, package)?)
 }
 
 /// EXPORT of a symbol or a list of them. That the package finds each is looked at before any conflict.
 pub(crate) fn export(
     alloc: Global,
     world: &mut World,
-    symbols: &Datum,
-    rest: &[Datum],
+    values: &[Datum],
 ) -> Result<Evaluated, EvaluationError>
-    requires symbols { IsArgument world.old.0.packages symbols.now }
-    requires rest { All (IsArgument world.old.0.packages) rest.now }
-    ensures gives { Answers done result world.new.0 (export (object_of symbols.now ∷ map object_of rest.now) world.old.0) }
+    requires { All (IsArgument world.old.0.packages) values.now }
+    ensures gives { Answers done result world.new.0 (export (map object_of values.now) world.old.0) }
     ensures proper { IfOk result (λ e. is_proper e.value ≡ true) }
     ensures marked { world.new.1 ≡ world.old.1 }
 {
-    let Some(symbols) = lists::symbols(alloc, symbols)? else {
-        return Err(Refused(ARGUMENT_KIND));
-    };
-    let Some(owner) = given_name(rest) else {
-        return Err(Refused(ARGUMENT_KIND));
-    };
-    let Some(package) = owner_named(alloc, world, owner)? else {
-        return Err(Refused(NO_SUCH_PACKAGE));
-    };
+    let (symbols, rest) = one_and_rest(values)?;
+    let symbols = lists::symbols(alloc, symbols)?;
+    let package = unlocked(alloc, world, name_or(rest, world.current_package())?)?;
     let package = package.as_slice();
-    if world.packages().is_locked(package) {
-        return Err(Refused(PACKAGE_IS_LOCKED));
-    }
     if !finds_all(world.packages(), package, symbols.as_slice()) {
         return Err(Refused(NOT_ACCESSIBLE));
     }
@@ -95,28 +79,17 @@ pub(crate) fn export(
 pub(crate) fn import(
     alloc: Global,
     world: &mut World,
-    symbols: &Datum,
-    rest: &[Datum],
+    values: &[Datum],
 ) -> Result<Evaluated, EvaluationError>
-    requires symbols { IsArgument world.old.0.packages symbols.now }
-    requires rest { All (IsArgument world.old.0.packages) rest.now }
-    ensures gives { Answers done result world.new.0 (import (object_of symbols.now ∷ map object_of rest.now) world.old.0) }
+    requires { All (IsArgument world.old.0.packages) values.now }
+    ensures gives { Answers done result world.new.0 (import (map object_of values.now) world.old.0) }
     ensures proper { IfOk result (λ e. is_proper e.value ≡ true) }
     ensures marked { world.new.1 ≡ world.old.1 }
 {
-    let Some(symbols) = lists::symbols(alloc, symbols)? else {
-        return Err(Refused(ARGUMENT_KIND));
-    };
-    let Some(owner) = given_name(rest) else {
-        return Err(Refused(ARGUMENT_KIND));
-    };
-    let Some(package) = owner_named(alloc, world, owner)? else {
-        return Err(Refused(NO_SUCH_PACKAGE));
-    };
+    let (symbols, rest) = one_and_rest(values)?;
+    let symbols = lists::symbols(alloc, symbols)?;
+    let package = unlocked(alloc, world, name_or(rest, world.current_package())?)?;
     let package = package.as_slice();
-    if world.packages().is_locked(package) {
-        return Err(Refused(PACKAGE_IS_LOCKED));
-    }
     let made = import_all(world, package, symbols.as_slice());
     changed(alloc, world, made)
 }
@@ -126,17 +99,14 @@ fn packages_named(
     alloc: Global,
     world: &World,
     names: &[Bytes],
-) -> Result<Option<Vec<Bytes>>, AllocError>
-    ensures { IfOk result (λ o. option_map (λ v. v.items) o ≡ packages_named world.now.0.packages names.now) }
+) -> Result<Vec<Bytes>, EvaluationError>
+    ensures { MayFind NO_PACKAGE (λ v. v.items) result (packages_named world.now.0.packages names.now) }
 {
     let mut found = Vec::new(alloc);
     for name in names {
-        let Some(package) = world.packages().find(name.as_slice()) else {
-            return Ok(None);
-        };
-        found.push(Bytes::from_slice(alloc, package)?)?;
+        found.push(Bytes::from_slice(alloc, package_named(world, name.as_slice())?)?)?;
     }
-    Ok(Some(found))
+    Ok(found)
 }
 
 // Whether KEYWORD is one of these.
@@ -150,29 +120,20 @@ fn has_keyword(names: &[Bytes]) -> bool
 pub(crate) fn use_package(
     alloc: Global,
     world: &mut World,
-    used: &Datum,
-    rest: &[Datum],
+    values: &[Datum],
 ) -> Result<Evaluated, EvaluationError>
-    requires used { IsArgument world.old.0.packages used.now }
-    requires rest { All (IsArgument world.old.0.packages) rest.now }
-    ensures gives { Answers done result world.new.0 (use_package (object_of used.now ∷ map object_of rest.now) world.old.0) }
+    requires { All (IsArgument world.old.0.packages) values.now }
+    ensures gives { Answers done result world.new.0 (use_package (map object_of values.now) world.old.0) }
     ensures proper { IfOk result (λ e. is_proper e.value ≡ true) }
     ensures marked { world.new.1 ≡ world.old.1 }
 {
-    let Some(names) = lists::names(alloc, used)? else {
-        return Err(Refused(ARGUMENT_KIND));
-    };
-    let Some(owner) = given_name(rest) else {
-        return Err(Refused(ARGUMENT_KIND));
-    };
-    let Some(used) = packages_named(alloc, world, names.as_slice())? else {
-        return Err(Refused(NO_SUCH_PACKAGE));
-    };
-    let Some(package) = owner_named(alloc, world, owner)? else {
-        return Err(Refused(NO_SUCH_PACKAGE));
-    };
+    let (used, rest) = one_and_rest(values)?;
+    let names = lists::names(alloc, used)?;
+    let owner = name_or(rest, world.current_package())?;
+    let used = packages_named(alloc, world, names.as_slice())?;
+    let package = unlocked(alloc, world, owner)?;
     let package = package.as_slice();
-    if world.packages().is_locked(package) || has_keyword(used.as_slice()) {
+    if has_keyword(used.as_slice()) {
         return Err(Refused(PACKAGE_IS_LOCKED));
     }
     let made = use_each(world, package, used.as_slice());

@@ -1,55 +1,44 @@
 //! The operators on packages (standard 11.2).
-ghost use Rattle.std.specs.Prelude.{◌≡◌, true, [], ◌∷◌, map, All, IfOk, unwrap_or, option_map};
+ghost use Rattle.std.specs.Prelude.{◌≡◌, true, map, All, IfOk};
 ghost use Rattle.lisp_object.specs.Datum.{object_of, is_proper};
-ghost use Rattle.package_table.specs.Table.{Name};
-ghost use Rattle.form_eval.specs.Kinds.{a_name, given_or};
+ghost use Rattle.package_table.specs.Table.{IsPackage, package_named};
 ghost use Rattle.form_eval.specs.Packages.{make, enter, intern};
-ghost use Rattle.form_eval.specs.Evaluated.{IsArgument, Gives, done};
+ghost use Rattle.form_eval.specs.Evaluated.{IsArgument, IsPackageOr, Gives, done};
 
 use crate::EvaluationError::Refused;
-use crate::arguments::{given, or_other};
+use crate::arguments::{name_or, one, one_and_rest};
 use crate::symbols::check_intern;
 use crate::{Evaluated, EvaluationError, kinds, values};
 use lisp_object::Datum;
-use lisp_object::refusal::{ARGUMENT_KIND, NO_SUCH_PACKAGE};
+use lisp_object::refusal::NO_SUCH_PACKAGE;
 use plist_state::World;
 use std::alloc::Global;
 
-/// The name of a package that is given first of these, or nothing where there is none.
-pub(crate) fn given_name(rest: &[Datum]) -> Option<Option<&[u8]>>
-    requires { All (λ d. is_proper d ≡ true) rest.now }
-    ensures { (other : Name) → given_or a_name other (map object_of rest.now) ≡ option_map (λ g. unwrap_or (option_map (λ n. n.now) g) other) result }
+/// The package of this name or nickname. Takes no memory.
+pub(crate) fn package_named<'a>(world: &'a World, name: &[u8]) -> Result<&'a [u8], EvaluationError>
+    ensures named { IsPackageOr (λ p. p.now) result (package_named world.now.0.packages name.now) }
+    ensures there { IfOk result (λ p. IsPackage world.now.0.packages p.now) }
 {
-    match given(rest) {
-        Some(datum) => match kinds::name(datum) {
-            Some(name) => Some(Some(name)),
-            None => None,
-        },
-        None => Some(None),
-    }
+    world.packages().find(name).ok_or(Refused(NO_SUCH_PACKAGE))
 }
 
 /// MAKE-PACKAGE: the name.
 pub(crate) fn make(
     alloc: Global,
     world: &mut World,
-    name: &Datum,
+    values: &[Datum],
 ) -> Result<Evaluated, EvaluationError>
-    requires { IsArgument world.old.0.packages name.now }
-    ensures gives { Gives done result world.new.0 (make (object_of name.now ∷ []) world.old.0) }
+    requires { All (IsArgument world.old.0.packages) values.now }
+    ensures gives { Gives done result world.new.0 (make (map object_of values.now) world.old.0) }
     ensures proper { IfOk result (λ e. is_proper e.value ≡ true) }
     ensures marked { world.new.1 ≡ world.old.1 }
 {
-    let Some(name) = kinds::name(name) else {
-        return Err(Refused(ARGUMENT_KIND));
-    };
-    match world.make(name) {
-        Ok(()) => Ok(Evaluated {
-            value: values::text(alloc, name)?,
-            wrote: true,
-        }),
-        Err(error) => Err(EvaluationError::from(error)),
-    }
+    let name = kinds::name(one(values)?)?;
+    world.make(name)?;
+    Ok(Evaluated {
+        value: values::text(alloc, name)?,
+        wrote: true,
+    })
 }
 
 /// IN-PACKAGE, of its argument as it is written: the name of the package that becomes current.
@@ -63,58 +52,33 @@ pub(crate) fn enter(
     ensures proper { IfOk result (λ e. is_proper e.value ≡ true) }
     ensures marked { world.new.1 ≡ world.old.1 }
 {
-    let Some(name) = kinds::name(name) else {
-        return Err(Refused(ARGUMENT_KIND));
-    };
     world.soundness();
-    let Some(package) = world.packages().find(name) else {
-        return Err(Refused(NO_SUCH_PACKAGE));
-    };
-    let package = Vec::from_slice(alloc, package)?;
+    let package = Vec::from_slice(alloc, package_named(world, kinds::name(name)?)?)?;
     let value = values::text(alloc, package.as_slice())?;
-    match world.set_current_package(package.as_slice()) {
-        Ok(()) => Ok(Evaluated { value, wrote: true }),
-        Err(error) => Err(EvaluationError::from(error)),
-    }
+    world.set_current_package(package.as_slice())?;
+    Ok(Evaluated { value, wrote: true })
 }
 
 /// INTERN: the symbol.
 pub(crate) fn intern(
     alloc: Global,
     world: &mut World,
-    name: &Datum,
-    rest: &[Datum],
+    values: &[Datum],
 ) -> Result<Evaluated, EvaluationError>
-    requires name { IsArgument world.old.0.packages name.now }
-    requires rest { All (IsArgument world.old.0.packages) rest.now }
-    ensures gives { Gives done result world.new.0 (intern (object_of name.now ∷ map object_of rest.now) world.old.0) }
+    requires { All (IsArgument world.old.0.packages) values.now }
+    ensures gives { Gives done result world.new.0 (intern (map object_of values.now) world.old.0) }
     ensures proper { IfOk result (λ e. is_proper e.value ≡ true) }
     ensures marked { world.new.1 ≡ world.old.1 }
 {
-    let Some(name) = kinds::text(name) else {
-        return Err(Refused(ARGUMENT_KIND));
-    };
-    let Some(owner) = given_name(rest) else {
-        return Err(Refused(ARGUMENT_KIND));
-    };
-    let Some(package) = world
-        .packages()
-        .find(or_other(owner, world.current_package()))
-    else {
-        return Err(Refused(NO_SUCH_PACKAGE));
-    };
-    if let Err(error) = check_intern(world.packages(), package, name) {
-        return Err(error);
-    }
+    let (name, rest) = one_and_rest(values)?;
+    let name = kinds::text(name)?;
+    let package = package_named(world, name_or(rest, world.current_package())?)?;
+    check_intern(world.packages(), package, name)?;
     let package = Vec::from_slice(alloc, package)?;
-    match world.intern(package.as_slice(), name) {
-        Ok(interned) => {
-            world.soundness();
-            Ok(Evaluated {
-                value: values::symbol(alloc, interned.home.as_slice(), name)?,
-                wrote: interned.is_new,
-            })
-        }
-        Err(error) => Err(EvaluationError::from(error)),
-    }
+    let interned = world.intern(package.as_slice(), name)?;
+    world.soundness();
+    Ok(Evaluated {
+        value: values::symbol(alloc, interned.home.as_slice(), name)?,
+        wrote: interned.is_new,
+    })
 }

@@ -12,7 +12,7 @@ use crate::EvaluationError::Refused;
 use crate::control::{after, last};
 use crate::evaluated::Values;
 use crate::operators::Operation;
-use crate::{Evaluated, EvaluationError, calls, values};
+use crate::{Evaluated, EvaluationError, package_lists, packages, properties, readtables, values};
 use lisp_object::Datum;
 use lisp_object::refusal::ARGUMENT_KIND;
 use plist_state::World;
@@ -58,39 +58,44 @@ fn carry_out(
     match operation {
         Operation::Progn => last(alloc, values),
         Operation::MakeList => values::list(alloc, values),
-        Operation::Get => calls::get(alloc, world, values.as_slice()),
+        Operation::Get => properties::get(alloc, world, values.as_slice()),
         Operation::Setf => put(alloc, world, is_case, values.as_slice()),
-        Operation::Remprop => calls::remove(alloc, world, values.as_slice()),
-        Operation::SymbolPlist => calls::symbol_plist(alloc, world, values.as_slice()),
-        Operation::Incf => calls::increment(alloc, world, values.as_slice()),
-        Operation::Push => calls::push(alloc, world, values.as_slice()),
-        Operation::MakePackage => calls::make(alloc, world, values.as_slice()),
-        Operation::Export => calls::export(alloc, world, values.as_slice()),
-        Operation::Import => calls::import(alloc, world, values.as_slice()),
-        Operation::UsePackage => calls::use_package(alloc, world, values.as_slice()),
-        Operation::Intern => calls::intern(alloc, world, values.as_slice()),
-        Operation::CopyReadtable => calls::copy_readtable(alloc, world, values.as_slice()),
-        Operation::InReadtable => calls::enter_readtable(alloc, world, values.as_slice()),
-        Operation::SetSyntaxFromChar => calls::set_syntax(alloc, world, values.as_slice()),
-        Operation::SetMacroCharacter => calls::set_macro(alloc, world, names, values.as_slice()),
-        Operation::GetMacroCharacter => calls::get_macro(alloc, world, values.as_slice()),
-        Operation::MakeDispatchMacroCharacter => calls::make_dispatch(
-            alloc,
-            world,
-            values.as_slice(),
-        ),
-        Operation::SetDispatchMacroCharacter => calls::set_dispatch(
+        Operation::Remprop => properties::remove(alloc, world, values.as_slice()),
+        Operation::SymbolPlist => properties::symbol_plist(alloc, world, values.as_slice()),
+        Operation::Incf => properties::increment(alloc, world, values.as_slice()),
+        Operation::Push => properties::push(alloc, world, values.as_slice()),
+        Operation::MakePackage => packages::make(alloc, world, values.as_slice()),
+        Operation::Export => package_lists::export(alloc, world, values.as_slice()),
+        Operation::Import => package_lists::import(alloc, world, values.as_slice()),
+        Operation::UsePackage => package_lists::use_package(alloc, world, values.as_slice()),
+        Operation::Intern => packages::intern(alloc, world, values.as_slice()),
+        Operation::CopyReadtable => readtables::copy_readtable(alloc, world, values.as_slice()),
+        Operation::InReadtable => readtables::enter_readtable(alloc, world, values.as_slice()),
+        Operation::SetSyntaxFromChar => readtables::set_syntax(alloc, world, values.as_slice()),
+        Operation::SetMacroCharacter => readtables::set_macro(
             alloc,
             world,
             names,
             values.as_slice(),
         ),
-        Operation::GetDispatchMacroCharacter => calls::get_dispatch(
+        Operation::GetMacroCharacter => readtables::get_macro(alloc, world, values.as_slice()),
+        Operation::MakeDispatchMacroCharacter => readtables::make_dispatch(
             alloc,
             world,
             values.as_slice(),
         ),
-        Operation::ReadtableCase => calls::readtable_case(alloc, world, values.as_slice()),
+        Operation::SetDispatchMacroCharacter => readtables::set_dispatch(
+            alloc,
+            world,
+            names,
+            values.as_slice(),
+        ),
+        Operation::GetDispatchMacroCharacter => readtables::get_dispatch(
+            alloc,
+            world,
+            values.as_slice(),
+        ),
+        Operation::ReadtableCase => readtables::readtable_case(alloc, world, values.as_slice()),
         Operation::Quote => Err(Refused(ARGUMENT_KIND)),
         Operation::If => Err(Refused(ARGUMENT_KIND)),
         Operation::InPackage => Err(Refused(ARGUMENT_KIND)),
@@ -110,8 +115,8 @@ fn put(
     ensures marked { world.new.1 ≡ world.old.1 }
 {
     if is_case {
-        calls::set_case(alloc, world, values)
+        readtables::set_case(alloc, world, values)
     } else {
-        calls::set(alloc, world, values)
+        properties::set(alloc, world, values)
     }
 }

@@ -48,8 +48,8 @@ fn is_standard(datum: &Datum, name: &[u8]) -> bool
     ensures { result ≡ is_standard name.now (object_of datum.now) }
 {
     match kinds::symbol(datum) {
-        Some((home, own)) => home == COMMON_LISP && own == name,
-        None => false,
+        Ok((home, own)) => home == COMMON_LISP && own == name,
+        Err(_) => false,
     }
 }
 

@@ -5,39 +5,48 @@ ghost use Rattle.lisp_object.specs.Object.{IsSound, pair, nil};
 ghost use Rattle.lisp_object.specs.Datum.{object_of, is_proper};
 ghost use Rattle.plist_state.specs.Changes.{property};
 ghost use Rattle.plist_state.specs.Shown.{symbol_of, property_of};
+ghost use Rattle.form_eval.specs.Kinds.{a_symbol};
 ghost use Rattle.form_eval.specs.Properties.{get, set, remove, in_turn, symbol_plist, amount, increment, push};
-ghost use Rattle.form_eval.specs.Evaluated.{IsArgument, Answers, Gives, done, object_of_symbol};
+ghost use Rattle.form_eval.specs.Evaluated.{IsArgument, IsOfKind, IsPlace, Answers, Gives, done, object_of_symbol};
 
 use crate::EvaluationError::Refused;
-use crate::arguments::{given, given_or_nil};
+use crate::arguments::{given_or_nil, one, three, two, two_and_rest};
 use crate::{Evaluated, EvaluationError, kinds, values};
 use lisp_object::Datum;
 use lisp_object::refusal::{ARGUMENT_KIND, INTEGER_RANGE, LIMIT, VALUE_TOO_DEEP};
 use plist_state::{Property, Symbol, World};
 use std::alloc::{AllocError, Global};
 
-/// GET of a symbol and an indicator, and what is given where there is no such property.
+// The symbol and the indicator of a property.
+fn place(
+    alloc: Global,
+    symbol: &Datum,
+    indicator: &Datum,
+) -> Result<(Symbol, Symbol), EvaluationError>
+    requires symbol { is_proper symbol.now ≡ true }
+    requires indicator { is_proper indicator.now ≡ true }
+    ensures { IsPlace result (a_symbol (object_of symbol.now)) (a_symbol (object_of indicator.now)) }
+{
+    let (home, name) = kinds::symbol(symbol)?;
+    let (indicator_home, indicator_name) = kinds::symbol(indicator)?;
+    Ok((
+        Symbol::from_bytes(alloc, home, name)?,
+        Symbol::from_bytes(alloc, indicator_home, indicator_name)?,
+    ))
+}
+
+/// GET: the value of a property, or what is given where there is no such property.
 pub(crate) fn get(
     alloc: Global,
     world: &World,
-    symbol: &Datum,
-    indicator: &Datum,
-    rest: &[Datum],
+    values: &[Datum],
 ) -> Result<Evaluated, EvaluationError>
-    requires symbol { IsArgument world.now.0.packages symbol.now }
-    requires indicator { IsArgument world.now.0.packages indicator.now }
-    requires rest { All (IsArgument world.now.0.packages) rest.now }
-    ensures gives { Gives done result world.now.0 (get (object_of symbol.now ∷ object_of indicator.now ∷ map object_of rest.now) world.now.0) }
+    requires { All (IsArgument world.now.0.packages) values.now }
+    ensures gives { Gives done result world.now.0 (get (map object_of values.now) world.now.0) }
     ensures proper { IfOk result (λ e. is_proper e.value ≡ true) }
 {
-    let Some((home, name)) = kinds::symbol(symbol) else {
-        return Err(Refused(ARGUMENT_KIND));
-    };
-    let Some((indicator_home, indicator_name)) = kinds::symbol(indicator) else {
-        return Err(Refused(ARGUMENT_KIND));
-    };
-    let symbol = Symbol::from_bytes(alloc, home, name)?;
-    let indicator = Symbol::from_bytes(alloc, indicator_home, indicator_name)?;
+    let (symbol, indicator, rest) = two_and_rest(values)?;
+    let (symbol, indicator) = place(alloc, symbol, indicator)?;
     let value = match world.get(&symbol, &indicator) {
         Some(value) => value.copy(alloc)?,
         None => given_or_nil(alloc, rest)?,
@@ -52,27 +61,17 @@ pub(crate) fn get(
 pub(crate) fn set(
     alloc: Global,
     world: &mut World,
-    symbol: &Datum,
-    indicator: &Datum,
-    value: &Datum,
+    values: &[Datum],
 ) -> Result<Evaluated, EvaluationError>
-    requires symbol { IsArgument world.old.0.packages symbol.now }
-    requires indicator { IsArgument world.old.0.packages indicator.now }
-    requires value { IsArgument world.old.0.packages value.now }
-    ensures gives { Gives done result world.new.0 (set (object_of symbol.now ∷ object_of indicator.now ∷ object_of value.now ∷ []) world.old.0) }
+    requires { All (IsArgument world.old.0.packages) values.now }
+    ensures gives { Gives done result world.new.0 (set (map object_of values.now) world.old.0) }
     ensures proper { IfOk result (λ e. is_proper e.value ≡ true) }
     ensures marked { world.new.1 ≡ world.old.1 }
 {
-    let Some((home, name)) = kinds::symbol(symbol) else {
-        return Err(Refused(ARGUMENT_KIND));
-    };
-    let Some((indicator_home, indicator_name)) = kinds::symbol(indicator) else {
-        return Err(Refused(ARGUMENT_KIND));
-    };
-    let symbol = Symbol::from_bytes(alloc, home, name)?;
-    let indicator = Symbol::from_bytes(alloc, indicator_home, indicator_name)?;
-    let value = value.copy(alloc)?;
+    let (symbol, indicator, value) = three(values)?;
+    let (symbol, indicator) = place(alloc, symbol, indicator)?;
     let stored = value.copy(alloc)?;
+    let value = value.copy(alloc)?;
     world.put(&symbol, indicator, stored)?;
     Ok(Evaluated { value, wrote: true })
 }
@@ -81,23 +80,15 @@ pub(crate) fn set(
 pub(crate) fn remove(
     alloc: Global,
     world: &mut World,
-    symbol: &Datum,
-    indicator: &Datum,
+    values: &[Datum],
 ) -> Result<Evaluated, EvaluationError>
-    requires symbol { IsArgument world.old.0.packages symbol.now }
-    requires indicator { IsArgument world.old.0.packages indicator.now }
-    ensures gives { Gives done result world.new.0 (remove (object_of symbol.now ∷ object_of indicator.now ∷ []) world.old.0) }
+    requires { All (IsArgument world.old.0.packages) values.now }
+    ensures gives { Gives done result world.new.0 (remove (map object_of values.now) world.old.0) }
     ensures proper { IfOk result (λ e. is_proper e.value ≡ true) }
     ensures marked { world.new.1 ≡ world.old.1 }
 {
-    let Some((home, name)) = kinds::symbol(symbol) else {
-        return Err(Refused(ARGUMENT_KIND));
-    };
-    let Some((indicator_home, indicator_name)) = kinds::symbol(indicator) else {
-        return Err(Refused(ARGUMENT_KIND));
-    };
-    let symbol = Symbol::from_bytes(alloc, home, name)?;
-    let indicator = Symbol::from_bytes(alloc, indicator_home, indicator_name)?;
+    let (symbol, indicator) = two(values)?;
+    let (symbol, indicator) = place(alloc, symbol, indicator)?;
     if world.get(&symbol, &indicator).is_none() {
         return Ok(Evaluated {
             value: values::empty_list(alloc)?,
@@ -131,15 +122,13 @@ fn in_turn(alloc: Global, row: &[Property]) -> Result<Vec<Datum>, AllocError>
 pub(crate) fn symbol_plist(
     alloc: Global,
     world: &World,
-    symbol: &Datum,
+    values: &[Datum],
 ) -> Result<Evaluated, EvaluationError>
-    requires { IsArgument world.now.0.packages symbol.now }
-    ensures gives { Answers done result world.now.0 (symbol_plist (object_of symbol.now ∷ []) world.now.0) }
+    requires { All (IsArgument world.now.0.packages) values.now }
+    ensures gives { Answers done result world.now.0 (symbol_plist (map object_of values.now) world.now.0) }
     ensures proper { IfOk result (λ e. is_proper e.value ≡ true) }
 {
-    let Some((home, name)) = kinds::symbol(symbol) else {
-        return Err(Refused(ARGUMENT_KIND));
-    };
+    let (home, name) = kinds::symbol(one(values)?)?;
     world.soundness();
     let symbol = Symbol::from_bytes(alloc, home, name)?;
     let values = in_turn(alloc, world.plist(&symbol))?;
@@ -147,13 +136,13 @@ pub(crate) fn symbol_plist(
 }
 
 // By how much INCF adds: 1 where it is not given.
-fn amount(rest: &[Datum]) -> Option<i128>
+fn amount(rest: &[Datum]) -> Result<i128, EvaluationError>
     requires { All (λ d. is_proper d ≡ true) rest.now }
-    ensures { result ≡ amount (map object_of rest.now) }
+    ensures { IsOfKind (λ n. n) result (amount (map object_of rest.now)) }
 {
-    match given(rest) {
-        Some(datum) => kinds::integer(datum),
-        None => Some(1),
+    match rest {
+        [given, ..] => kinds::integer(given),
+        [] => Ok(1),
     }
 }
 
@@ -161,35 +150,20 @@ fn amount(rest: &[Datum]) -> Option<i128>
 pub(crate) fn increment(
     alloc: Global,
     world: &mut World,
-    symbol: &Datum,
-    indicator: &Datum,
-    rest: &[Datum],
+    values: &[Datum],
 ) -> Result<Evaluated, EvaluationError>
-    requires symbol { IsArgument world.old.0.packages symbol.now }
-    requires indicator { IsArgument world.old.0.packages indicator.now }
-    requires rest { All (IsArgument world.old.0.packages) rest.now }
-    ensures gives { Answers done result world.new.0 (increment (object_of symbol.now ∷ object_of indicator.now ∷ map object_of rest.now) world.old.0) }
+    requires { All (IsArgument world.old.0.packages) values.now }
+    ensures gives { Answers done result world.new.0 (increment (map object_of values.now) world.old.0) }
     ensures proper { IfOk result (λ e. is_proper e.value ≡ true) }
     ensures marked { world.new.1 ≡ world.old.1 }
 {
-    let Some((home, name)) = kinds::symbol(symbol) else {
-        return Err(Refused(ARGUMENT_KIND));
-    };
-    let Some((indicator_home, indicator_name)) = kinds::symbol(indicator) else {
-        return Err(Refused(ARGUMENT_KIND));
-    };
-    let Some(amount) = amount(rest) else {
-        return Err(Refused(ARGUMENT_KIND));
-    };
-    let symbol = Symbol::from_bytes(alloc, home, name)?;
-    let indicator = Symbol::from_bytes(alloc, indicator_home, indicator_name)?;
+    let (symbol, indicator, rest) = two_and_rest(values)?;
+    let amount = amount(rest)?;
+    let (symbol, indicator) = place(alloc, symbol, indicator)?;
     let Some(value) = world.get(&symbol, &indicator) else {
         return Err(Refused(ARGUMENT_KIND));
     };
-    let Some(before) = kinds::integer(value) else {
-        return Err(Refused(ARGUMENT_KIND));
-    };
-    let Some(sum) = before.checked_add(amount) else {
+    let Some(sum) = kinds::integer(value)?.checked_add(amount) else {
         return Err(Refused(INTEGER_RANGE));
     };
     world.put(&symbol, indicator, Datum::Integer(sum))?;
@@ -224,25 +198,15 @@ fn pushed(
 pub(crate) fn push(
     alloc: Global,
     world: &mut World,
-    value: &Datum,
-    symbol: &Datum,
-    indicator: &Datum,
+    values: &[Datum],
 ) -> Result<Evaluated, EvaluationError>
-    requires value { IsArgument world.old.0.packages value.now }
-    requires symbol { IsArgument world.old.0.packages symbol.now }
-    requires indicator { IsArgument world.old.0.packages indicator.now }
-    ensures gives { Answers done result world.new.0 (push (object_of value.now ∷ object_of symbol.now ∷ object_of indicator.now ∷ []) world.old.0) }
+    requires { All (IsArgument world.old.0.packages) values.now }
+    ensures gives { Answers done result world.new.0 (push (map object_of values.now) world.old.0) }
     ensures proper { IfOk result (λ e. is_proper e.value ≡ true) }
     ensures marked { world.new.1 ≡ world.old.1 }
 {
-    let Some((home, name)) = kinds::symbol(symbol) else {
-        return Err(Refused(ARGUMENT_KIND));
-    };
-    let Some((indicator_home, indicator_name)) = kinds::symbol(indicator) else {
-        return Err(Refused(ARGUMENT_KIND));
-    };
-    let symbol = Symbol::from_bytes(alloc, home, name)?;
-    let indicator = Symbol::from_bytes(alloc, indicator_home, indicator_name)?;
+    let (value, symbol, indicator) = three(values)?;
+    let (symbol, indicator) = place(alloc, symbol, indicator)?;
     let value = pushed(alloc, world, value, &symbol, &indicator)?;
     if values::is_too_deep(&value) {
         return Err(Refused(VALUE_TOO_DEEP));

@@ -6,7 +6,7 @@ use Rattle.lisp_object.specs.declared.refusal.TheConstants.{FORM_TOO_LONG, INVAL
 use Rattle.std.specs.declared.alloc.AllocError.{AllocError}
 use Rattle.std.proofs.Math.ListN.{get_or-eq_default}
 use Rattle.readtable_core.specs.declared.characters.Syntax.{Syntax}
-use Rattle.readtable_core.specs.declared.characters.Syntax.TheVariants.{Invalid}
+use Rattle.readtable_core.specs.declared.characters.Syntax.TheVariants.{Whitespace, TerminatingMacro, NonTerminatingMacro, Invalid}
 use Rattle.readtable_core.specs.Tables.{Table, Entry, entry_at, no_entry}
 use Rattle.token_scan.specs.Scans.{begun}
 use Rattle.form_reader.specs.declared.limits.Limits.{Limits}
@@ -150,6 +150,15 @@ module _ (setting : Setting) (at c : ℕ) (cs : List ℕ) where
       alone_by frames s le lt e known
       ∙ ap (λ (p : Plan Found). run setting.table setting.limits (given setting frames p) (at + 1) cs) refused
       ∙ given_refused setting frames (at + 1) cs INVALID_CHARACTER 1 ∙ ap (λ (n : ℕ). fault INVALID_CHARACTER n) back
+
+  -- a character of no other type begins something
+  pub alone_other : (frames : List Frame) (s : Syntax) → length frames ≤ setting.limits.nesting → at < setting.limits.text → stands_alone (entry_at setting.table c).syntax ≡ true
+      → (entry_at setting.table c).syntax ≡ s → (s ≡ Whitespace → ⊥) → (s ≡ TerminatingMacro → ⊥) → (s ≡ NonTerminatingMacro → ⊥)
+      → run setting.table setting.limits (given setting frames (attempt_at setting (length frames))) at (c ∷ cs) ≡ fault INVALID_CHARACTER at
+  alone_other frames Whitespace le lt e known blank ends goes = absurd (blank refl)
+  alone_other frames TerminatingMacro le lt e known blank ends goes = absurd (ends refl)
+  alone_other frames NonTerminatingMacro le lt e known blank ends goes = absurd (goes refl)
+  alone_other frames s le lt e known blank ends goes = alone_refused frames s le lt e known refl
 
   pub alone_calls : (frames after : List Frame) (s : Syntax) (result : Result Event AllocError) → length frames ≤ setting.limits.nesting → at < setting.limits.text
       → stands_alone (entry_at setting.table c).syntax ≡ true → (entry_at setting.table c).syntax ≡ s

@@ -1,5 +1,6 @@
 -- How a call begins, in any open calls.
-use Rattle.std.proofs.Common.{◌≡◌, ℕ, suc, ◌+◌, ◌-◌, ◌<◌, ◌≤◌, true, false, List, [], ◌∷◌, length, Option, Some, None, Ok, Err, refl, sym, ap, subst, ◌∙◌, arith}
+use Rattle.std.proofs.Common.{◌≡◌, ℕ, suc, ◌+◌, ◌-◌, ◌<◌, ◌≤◌, true, false, List, [], ◌∷◌, length, Option, Some, None, Result, Ok, Err, IfOk, refl, sym, ap, subst, ◌∙◌, arith}
+use Rattle.std.specs.declared.alloc.AllocError.{AllocError}
 use Rattle.lisp_object.specs.declared.refusal.TheConstants.{TOO_DEEP, OUT_OF_PROFILE}
 use Rattle.lisp_object.specs.Object.{Object}
 use Rattle.token_scan.specs.declared.mark.Mark.{Mark}
@@ -20,8 +21,8 @@ use Rattle.form_reader.specs.Setting.{Setting, way_in}
 use Rattle.form_reader.specs.Reading.{place, completed, gathered, gathered_by, called, attempt, inner}
 use Rattle.form_reader.specs.Completing.{plan_of}
 use Rattle.form_reader.specs.Feeding.{token_read}
-use Rattle.form_reader.specs.Frames.{given, between, token_goes_on}
-use Rattle.form_reader.specs.Resuming.{inner_at, Brings, Begins, Gathers, ComesTo}
+use Rattle.form_reader.specs.Frames.{given, between, plan_gives, token_goes_on}
+use Rattle.form_reader.specs.Resuming.{inner_at, Brings, Begins, Gathers}
 use Rattle.form_reader.proofs.Opened.{given_moves, given_fault, list_is, until_is}
 
 -- one more call may be open, or none
@@ -158,13 +159,10 @@ module _ (setting : Setting) (frames : List Frame) (call : InvokedCall) (way : W
       ap opened_so e ∙ escaped_begins setting frames setting.limits.token (λ marks. completed setting (length frames) call true false (marked marks)) at cs
       ∙ ap call_token (sym p)
 
-  pub nothing_at : (done : Completed) (event : Event) (round : ℕ) → way ≡ Nothing → round ≡ length frames → completed setting round call false false no_material ≡ plan_of done
-      → ComesTo setting frames done at cs event → Gathers setting frames frames call way at cs event
-  nothing_at done event round e open_calls p comes =
-      let same : opened_so way ≡ run setting.table setting.limits (given setting frames (plan_of done)) at cs =
-      ap opened_so e ∙ ap (λ (n : ℕ). run setting.table setting.limits (given setting frames (completed setting n call false false no_material)) at cs) (sym open_calls)
-      ∙ ap (λ (plan : Plan Found). run setting.table setting.limits (given setting frames plan) at cs) p in
-      subst (λ (r : Read Found). Brings setting frames at cs event r) (sym same) comes
+  pub nothing_at : (result : Result Event AllocError) → way ≡ Nothing
+      → IfOk result (λ event. Brings setting frames at cs event (plan_gives setting frames (completed setting (length frames) call false false no_material) at cs))
+      → IfOk result (λ event. Gathers setting frames frames call way at cs event)
+  nothing_at result e brings = subst (λ (r : Read Found). IfOk result (λ event. Brings setting frames at cs event r)) (sym (ap opened_so e)) brings
 
 pub none_begins : (setting : Setting) (frames : List Frame) (call : InvokedCall) (at place : ℕ) (cs : List ℕ) → way_in setting call ≡ None → place ≡ at - 1
     → run setting.table setting.limits (given setting frames (called setting (length frames) (inner_at setting (length frames)) call)) at cs ≡ fault OUT_OF_PROFILE place

@@ -5,10 +5,8 @@ use Rattle.lisp_object.specs.declared.refusal.TheConstants.{OUT_OF_PROFILE}
 use Rattle.readtable_core.specs.Names.{is_dispatch_name}
 use Rattle.token_scan.specs.declared.mark.Mark.{Mark}
 use Rattle.token_scan.specs.Scans.{Scan}
-use Rattle.std_macros.specs.Values.{marked}
 use Rattle.form_reader.specs.declared.bytes.LineByte.{LineByte}
 use Rattle.form_reader.specs.declared.bytes.LineByte.TheVariants.{Ended as LineEnded}
-use Rattle.form_reader.specs.declared.complete.Completed.{Completed}
 use Rattle.form_reader.specs.declared.found.Found.{Found}
 use Rattle.form_reader.specs.declared.frame.Frame.{Frame}
 use Rattle.form_reader.specs.declared.stage.Event.{Event}
@@ -16,11 +14,10 @@ use Rattle.form_reader.specs.declared.way.Function.{Function}
 use Rattle.form_reader.specs.Plans.{Plan, Read, fault, run}
 use Rattle.form_reader.specs.Calls.{InvokedCall}
 use Rattle.form_reader.specs.Setting.{Setting, function_of}
-use Rattle.form_reader.specs.Reading.{called, dispatched, macro_called, completed}
-use Rattle.form_reader.specs.Completing.{plan_of}
+use Rattle.form_reader.specs.Reading.{called, dispatched, macro_called}
 use Rattle.form_reader.specs.Feeding.{TokenFeeds, token_read}
-use Rattle.form_reader.specs.Frames.{given, token_goes_on}
-use Rattle.form_reader.specs.Resuming.{inner_at, Brings, Begins, ComesTo}
+use Rattle.form_reader.specs.Frames.{given, plan_gives, token_goes_on}
+use Rattle.form_reader.specs.Resuming.{inner_at, Brings, Begins}
 use Rattle.form_reader.proofs.Beginnings.{given_refused}
 
 module _ (setting : Setting) (frames : List Frame) (c at : ℕ) (cs : List ℕ) where
@@ -52,19 +49,13 @@ module _ (setting : Setting) (frames : List Frame) (c at : ℕ) (cs : List ℕ) 
       ap call_gives (is ∙ ap of_character same) ∙ sym (named_gives name dispatch) ∙ sym (ap macro_gives e) in
       subst (λ (r : Read Found). IfOk result (λ event. Brings setting after at cs event r)) whole begins
 
-pub token_ends : (setting : Setting) (frames : List Frame) (call : InvokedCall) (old new : Scan) (marks : List Mark) (fed : LineByte) (at c : ℕ) (cs : List ℕ)
-    (round : ℕ) (done : Completed) (event : Event) → fed ≡ LineEnded
-    → TokenFeeds setting.table setting.limits new at c cs fed (token_read setting.table setting.limits old at (c ∷ cs))
-    → marks ≡ new.marks → round ≡ length frames → completed setting round call true false (marked marks) ≡ plan_of done
-    → ComesTo setting frames done at (c ∷ cs) event
-    → Brings setting frames at (c ∷ cs) event (token_goes_on setting frames (λ marks. completed setting (length frames) call true false (marked marks))
-    (token_read setting.table setting.limits old at (c ∷ cs)))
-token_ends setting frames call old new marks fed at c cs round done event e feeds same open_calls comes brings =
-    let on = λ (marks : List Mark). completed setting (length frames) call true false (marked marks) in
+pub token_ends : (setting : Setting) (frames : List Frame) (on : List Mark → Plan Found) (old new : Scan) (marks : List Mark) (fed : LineByte) (at c : ℕ) (cs : List ℕ) (event : Event)
+    → fed ≡ LineEnded → TokenFeeds setting.table setting.limits new at c cs fed (token_read setting.table setting.limits old at (c ∷ cs)) → marks ≡ new.marks
+    → Brings setting frames at (c ∷ cs) event (plan_gives setting frames (on marks) at (c ∷ cs))
+    → Brings setting frames at (c ∷ cs) event (token_goes_on setting frames on (token_read setting.table setting.limits old at (c ∷ cs)))
+token_ends setting frames on old new marks fed at c cs event e feeds same brings =
     let told : token_read setting.table setting.limits old at (c ∷ cs) ≡ Ok (new.marks, at, c ∷ cs) =
     subst (λ (f : LineByte). TokenFeeds setting.table setting.limits new at c cs f (token_read setting.table setting.limits old at (c ∷ cs))) e feeds in
-    let whole : token_goes_on setting frames on (token_read setting.table setting.limits old at (c ∷ cs)) ≡ run setting.table setting.limits (given setting frames (plan_of done)) at (c ∷ cs) =
-    ap (token_goes_on setting frames on) told
-    ∙ ap (λ (plan : Plan Found). run setting.table setting.limits (given setting frames plan) at (c ∷ cs))
-    ((λ i. completed setting (sym open_calls i) call true false (marked (sym same i))) ∙ comes) in
+    let whole : token_goes_on setting frames on (token_read setting.table setting.limits old at (c ∷ cs)) ≡ plan_gives setting frames (on marks) at (c ∷ cs) =
+    ap (token_goes_on setting frames on) told ∙ ap (λ (ms : List Mark). plan_gives setting frames (on ms) at (c ∷ cs)) (sym same) in
     subst (λ (r : Read Found). Brings setting frames at (c ∷ cs) event r) (sym whole) brings

@@ -1,5 +1,5 @@
 -- What an open call gives where its closing character comes.
-use Rattle.std.proofs.Common.{◌≡◌, ℕ, ◌-◌, false, List, length, Result, IfOk, refl, sym, ap, subst, ◌∙◌, arith}
+use Rattle.std.proofs.Common.{◌≡◌, ℕ, ◌-◌, Bool, false, List, length, Result, IfOk, refl, sym, ap, subst, ◌∙◌, arith}
 use Rattle.lisp_object.specs.Object.{Object}
 use Rattle.lisp_object.specs.declared.refusal.TheConstants.{DOT_CONTEXT}
 use Rattle.std_macros.specs.Values.{Material, many, dotted}
@@ -10,21 +10,21 @@ use Rattle.form_reader.specs.declared.frame.Frame.{Frame}
 use Rattle.form_reader.specs.declared.frame.Part.{Part}
 use Rattle.form_reader.specs.declared.frame.Part.TheVariants.{Next as InNext, List as InList, Until as InUntil, Dotted as InDotted, Tailed as InTailed}
 use Rattle.form_reader.specs.declared.stage.Event.{Event}
-use Rattle.form_reader.specs.Plans.{Plan, Read, then_plan, fault, run}
+use Rattle.form_reader.specs.Plans.{Plan, Read, then_plan, fault}
 use Rattle.form_reader.specs.Calls.{InvokedCall}
 use Rattle.form_reader.specs.Setting.{Setting}
 use Rattle.form_reader.specs.Reading.{closed, completed}
 use Rattle.form_reader.specs.Completing.{plan_of}
-use Rattle.form_reader.specs.Frames.{call_in, given}
+use Rattle.form_reader.specs.Frames.{call_in, plan_gives}
 use Rattle.form_reader.specs.Resuming.{Brings, ComesTo}
 use Rattle.form_reader.proofs.Beginnings.{given_refused}
 
 module _ (setting : Setting) (frames : List Frame) (call : InvokedCall) (at : ℕ) (cs : List ℕ) where
   abbrev pub closing : Part → Read Found
-  closing part = run setting.table setting.limits (given setting frames (call_in setting (record { call = call; part = part }) frames closed)) at cs
+  closing part = plan_gives setting frames (call_in setting (record { call = call; part = part }) frames closed) at cs
 
   abbrev pub completing : Material → Read Found
-  completing material = run setting.table setting.limits (given setting frames (completed setting (length frames) call false false material)) at cs
+  completing material = plan_gives setting frames (completed setting (length frames) call false false material) at cs
 
   pub next_closes : (part : Part) → part ≡ InNext → closing part ≡ fault DOT_CONTEXT at
   next_closes part e = ap closing e ∙ given_refused setting frames at cs DOT_CONTEXT 0 ∙ (let e : at - 0 ≡ at = omega arith in ap (λ (n : ℕ). fault DOT_CONTEXT n) e)
@@ -55,10 +55,11 @@ module _ (setting : Setting) (frames : List Frame) (call : InvokedCall) (at : �
   tailed_closes part xs ys tail last result e same ends brings =
       subst (λ (r : Read Found). IfOk result (λ event. Brings setting frames at cs event r)) ((λ i. completing (dotted (same i) (ends i))) ∙ sym (ap closing e)) brings
 
-  pub call_closes : (material : Material) (round : ℕ) (done : Completed) (event : Event) → round ≡ length frames → completed setting round call false false material ≡ plan_of done
-      → ComesTo setting frames done at cs event → Brings setting frames at cs event (completing material)
-  call_closes material round done event open_calls comes brings =
-      let same : completing material ≡ run setting.table setting.limits (given setting frames (plan_of done)) at cs =
-      ap (λ (plan : Plan Found). run setting.table setting.limits (given setting frames plan) at cs)
-      (ap (λ (n : ℕ). completed setting n call false false material) (sym open_calls) ∙ comes) in
-      subst (λ (r : Read Found). Brings setting frames at cs event r) (sym same) brings
+-- what the call gives, whether a token ends it or not
+pub call_ends : (setting : Setting) (frames : List Frame) (call : InvokedCall) (at : ℕ) (cs : List ℕ) (token : Bool) (material : Material) (round : ℕ) (done : Completed) (event : Event)
+    → round ≡ length frames → completed setting round call token false material ≡ plan_of done
+    → ComesTo setting frames done at cs event → Brings setting frames at cs event (plan_gives setting frames (completed setting (length frames) call token false material) at cs)
+call_ends setting frames call at cs token material round done event open_calls comes brings =
+    let same : completed setting (length frames) call token false material ≡ plan_of done =
+    ap (λ (n : ℕ). completed setting n call token false material) (sym open_calls) ∙ comes in
+    subst (λ (plan : Plan Found). Brings setting frames at cs event (plan_gives setting frames plan at cs)) (sym same) brings

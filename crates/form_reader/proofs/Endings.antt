@@ -3,10 +3,8 @@ use Rattle.std.proofs.Common.{◌≡◌, ℕ, ◌+◌, ◌-◌, ◌≤◌, Bool,
 use Rattle.std.specs.declared.alloc.AllocError.{AllocError}
 use Rattle.lisp_object.specs.declared.refusal.TheConstants.{END_OF_FILE}
 use Rattle.readtable_core.specs.Tables.{Table}
-use Rattle.std_macros.specs.Values.{letters, marked}
 use Rattle.token_scan.specs.declared.mark.Mark.{Mark}
 use Rattle.token_scan.specs.Scans.{Scan}
-use Rattle.form_reader.specs.declared.complete.Completed.{Completed}
 use Rattle.form_reader.specs.declared.found.Found.{Found}
 use Rattle.form_reader.specs.declared.found.Found.TheVariants.{Nothing as nothing, TheEnd as the_end}
 use Rattle.form_reader.specs.declared.frame.Frame.{Frame}
@@ -24,13 +22,11 @@ use Rattle.form_reader.specs.Delivering.{Delivers}
 use Rattle.form_reader.specs.Reader.{IsOutcome}
 use Rattle.form_reader.specs.Plans.{Plan, gives, then_plan, next_byte, loop, Read, fault, run}
 use Rattle.form_reader.specs.Setting.{Setting}
-use Rattle.form_reader.specs.Calls.{InvokedCall}
-use Rattle.form_reader.specs.Completing.{plan_of}
 use Rattle.form_reader.specs.Gathering.{text_turn, line_turn, block_turn, number_turn}
-use Rattle.form_reader.specs.Reading.{Piece, without_space, empty, token_found, completed, line_after, sub_there, dispatched}
+use Rattle.form_reader.specs.Reading.{Piece, without_space, empty, sub_there, dispatched}
 use Rattle.form_reader.specs.Feeding.{token_read}
 use Rattle.form_reader.specs.Frames.{attempt_in, place_in, call_in, close_of, given, between, token_goes_on}
-use Rattle.form_reader.specs.Resuming.{inner_at, stage_gives, Brings, ComesTo}
+use Rattle.form_reader.specs.Resuming.{inner_at, stage_gives, Brings}
 use Rattle.form_reader.specs.Ending.{TokenStops}
 use Rattle.form_reader.specs.Turning.{outcome_of, Settles}
 use Rattle.form_reader.proofs.Forms.{reads_is, the_end_there}
@@ -87,37 +83,15 @@ module _ (setting : Setting) (frames : List Frame) (at : ℕ) where
       ∙ given_fault setting frames (sub_there setting (length frames) (inner_at setting (length frames)) c number) at [] (record { code = END_OF_FILE; at = at })
       (byte_end setting.table setting.limits at _)
 
-  pub line_ends : (keep : Keep) (text gathered : List ℕ) (call : InvokedCall) (round : ℕ) (done : Completed) (event : Event) → at ≤ setting.limits.text
-      → round ≡ length frames → gathered ≡ text → completed setting round call false false (letters gathered) ≡ plan_of done → ComesTo setting frames done at [] event
-      → Brings setting frames at [] event (at_end (then_plan (line_after setting keep text) (λ cs. completed setting (length frames) call false false (letters cs))))
-  line_ends keep text gathered call round done event h open_calls same comes brings =
-      let on = λ (cs : List ℕ). completed setting (length frames) call false false (letters cs) in
-      let whole : at_end (then_plan (line_after setting keep text) on) ≡ at_end (plan_of done) =
-      gathering_ends setting frames (line_after setting keep text) on text at at [] [] (line_end setting.table setting.limits at keep text h)
-      ∙ ap at_end ((λ i. completed setting (sym open_calls i) call false false (letters (sym same i))) ∙ comes) in
-      subst (λ (r : Read Found). Brings setting frames at [] event r) (sym whole) brings
-
   -- ---- a token
 
-  pub token_last : (scan : Scan) (marks : List Mark) (result : Result Event AllocError) → TokenStops setting.table setting.limits scan at None → marks ≡ scan.marks
-      → IfOk result (λ event. Brings setting frames at [] event (at_end (token_found setting marks)))
-      → IfOk result (λ event. Brings setting frames at [] event (token_goes_on setting frames (token_found setting) (token_read setting.table setting.limits scan at [])))
-  token_last scan marks result told same brings =
-      let whole : token_goes_on setting frames (token_found setting) (token_read setting.table setting.limits scan at []) ≡ at_end (token_found setting marks) =
-      ap (token_goes_on setting frames (token_found setting)) told.0 ∙ ap (λ (ms : List Mark). at_end (token_found setting ms)) (sym same) in
+  pub token_last : (on : List Mark → Plan Found) (scan : Scan) (marks : List Mark) (result : Result Event AllocError) → TokenStops setting.table setting.limits scan at None → marks ≡ scan.marks
+      → IfOk result (λ event. Brings setting frames at [] event (at_end (on marks)))
+      → IfOk result (λ event. Brings setting frames at [] event (token_goes_on setting frames on (token_read setting.table setting.limits scan at [])))
+  token_last on scan marks result told same brings =
+      let whole : token_goes_on setting frames on (token_read setting.table setting.limits scan at []) ≡ at_end (on marks) =
+      ap (token_goes_on setting frames on) told.0 ∙ ap (λ (ms : List Mark). at_end (on ms)) (sym same) in
       subst (λ (r : Read Found). IfOk result (λ event. Brings setting frames at [] event r)) (sym whole) brings
-
-  pub call_token_last : (call : InvokedCall) (scan : Scan) (marks : List Mark) (round : ℕ) (done : Completed) (event : Event)
-      → TokenStops setting.table setting.limits scan at None → marks ≡ scan.marks → round ≡ length frames
-      → completed setting round call true false (marked marks) ≡ plan_of done → ComesTo setting frames done at [] event
-      → Brings setting frames at [] event (token_goes_on setting frames (λ marks. completed setting (length frames) call true false (marked marks))
-      (token_read setting.table setting.limits scan at []))
-  call_token_last call scan marks round done event told same open_calls comes brings =
-      let on = λ (marks : List Mark). completed setting (length frames) call true false (marked marks) in
-      let whole : token_goes_on setting frames on (token_read setting.table setting.limits scan at []) ≡ at_end (plan_of done) =
-      ap (token_goes_on setting frames on) told.0
-      ∙ ap at_end ((λ i. completed setting (sym open_calls i) call true false (marked (sym same i))) ∙ comes) in
-      subst (λ (r : Read Found). Brings setting frames at [] event r) (sym whole) brings
 
   pub token_stopped : (scan : Scan) (on : List Mark → Plan Found) (code : ℕ) → TokenStops setting.table setting.limits scan at (Some code)
       → token_goes_on setting frames on (token_read setting.table setting.limits scan at []) ≡ fault code at

@@ -1,6 +1,7 @@
 -- What keeps a reader going, where calls and tokens end.
-use Rattle.std.proofs.Common.{◌≡◌, ℕ, ◌≤◌, Bool, true, false, subst, arith}
+use Rattle.std.proofs.Common.{◌≡◌, ℕ, ◌≤◌, Bool, true, false, Result, Ok, Err, IfOk, refl, subst, arith}
 use Rattle.std.specs.Prelude.{◌||◌}
+use Rattle.std.specs.declared.alloc.AllocError.{AllocError}
 use Rattle.form_reader.specs.declared.limits.Limits.{Limits}
 use Rattle.form_reader.specs.declared.stage.Event.{Event}
 use Rattle.form_reader.specs.declared.stage.Event.TheVariants.{Stage as IsAt, Gives as IsGiven, Refused as IsRefused}
@@ -16,10 +17,19 @@ ended_ready limits most at (IsAt stage) h none le = absurd h
 ended_ready limits most at (IsGiven found) h none le = (le, omega (arith, h, none))
 ended_ready limits most at (IsRefused code place) h none le = h
 
+-- the same, where it may run out of memory
+pub all_ready : (limits : Limits) (at : ℕ) (result : Result Event AllocError) → IfOk result (IsEnd 0 at) → at ≤ limits.text → IfOk result (IsReady limits at)
+all_ready limits at (Ok event) h le = ended_ready limits 0 at event h (omega arith) le
+all_ready limits at (Err e) h le = tt
+
 pub end_within : (less most at : ℕ) (event : Event) → IsEnd less at event → less ≤ most → IsEnd most at event
 end_within less most at (IsAt stage) h le = h
 end_within less most at (IsGiven found) h le = omega (arith, h, le)
 end_within less most at (IsRefused code place) h le = h
+
+pub or_none : (a : Bool) → space (a || false) ≡ space a
+or_none true = refl
+or_none false = refl
 
 pub space_or : (a b : Bool) → space a ≤ space (a || b)
 space_or true b = omega arith

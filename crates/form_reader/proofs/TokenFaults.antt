@@ -52,6 +52,14 @@ chosen «end» false l l2 r r2 p q = q
 fault_extends : («end» at : ℕ) (refusal : ScanRefusal) → at < «end» → Extends «end» (fault refusal at) (fault refusal at)
 fault_extends «end» at refusal lt = (omega (arith, lt), λ _. refl, λ le. omega (arith, lt, le))
 
+or_first : (p q : Bool) → IsTrue p → IsTrue (p || q)
+or_first true q is = refl
+or_first false q is = cc
+
+or_second : (p q : Bool) → IsTrue q → IsTrue (p || q)
+or_second true q is = refl
+or_second false q is = is
+
 same_extends : («end» : ℕ) (l l2 r r2 : Scanned) → l ≡ l2 → r ≡ r2 → Extends «end» l2 r2 → Extends «end» l r
 same_extends «end» l l2 r r2 p q h = subst (λ (s : Scanned). Extends «end» s r) (sym p) (subst (λ (s : Scanned). Extends «end» l2 s) (sym q) h)
 
@@ -101,33 +109,36 @@ module _ (more : List TypedByte) where
         (chosen last (left == 0) _ _ _ _ (here_fault TokenTooLong)
         (front_extends (Quoted x.byte ∷ []) last (inside (left - 1) (at + 1) (xs ++ more)) (inside (left - 1) (at + 1) xs) (next_extends Inside (left - 1))))
 
-    outside_extends : Extends last (outside left at (x ∷ xs ++ more)) (outside left at (x ∷ xs))
-    outside_extends = by_kind (kind x) refl
+    -- by the kind of the first character, where an escape, a bar and an invalid character are scanned so
+    kinds_extend : (scan : ℕ → ℕ → List TypedByte → Scanned) (quoting other : Stage)
+        → ((ys : List TypedByte) → kind x ≡ SingleEscape → scan left at (x ∷ ys) ≡ from_stage quoting left (at + 1) ys)
+        → ((ys : List TypedByte) → kind x ≡ MultipleEscape → scan left at (x ∷ ys) ≡ with_front (Bar ∷ []) (from_stage other left (at + 1) ys))
+        → ((ys : List TypedByte) → kind x ≡ Invalid → scan left at (x ∷ ys) ≡ fault InvalidCharacter at)
+        → (IsTrue (is_plain (kind x)) → Extends last (scan left at (x ∷ xs ++ more)) (scan left at (x ∷ xs)))
+        → (IsTrue (ends_tokens (kind x)) → Extends last (scan left at (x ∷ xs ++ more)) (scan left at (x ∷ xs)))
+        → Extends last (scan left at (x ∷ xs ++ more)) (scan left at (x ∷ xs))
+    kinds_extend scan quoting other escapes bars faults plain ends = by_kind (kind x) refl
       where
-        by_kind : (k : Syntax) → kind x ≡ k → Extends last (outside left at (x ∷ xs ++ more)) (outside left at (x ∷ xs))
-        by_kind Whitespace e = ends_extends (ap ends_tokens e)
-        by_kind TerminatingMacro e = ends_extends (ap ends_tokens e)
-        by_kind Constituent e = plain_extends (ap is_plain e)
-        by_kind NonTerminatingMacro e = plain_extends (ap is_plain e)
-        by_kind SingleEscape e = same_extends last _ _ _ _ (outside_escape x (xs ++ more) left at e) (outside_escape x xs left at e) (next_extends EscapedOutside left)
+        by_kind : (k : Syntax) → kind x ≡ k → Extends last (scan left at (x ∷ xs ++ more)) (scan left at (x ∷ xs))
+        by_kind Whitespace e = ends (ap ends_tokens e)
+        by_kind TerminatingMacro e = ends (ap ends_tokens e)
+        by_kind Constituent e = plain (ap is_plain e)
+        by_kind NonTerminatingMacro e = plain (ap is_plain e)
+        by_kind SingleEscape e = same_extends last _ _ _ _ (escapes (xs ++ more) e) (escapes xs e) (next_extends quoting left)
         by_kind MultipleEscape e =
-            same_extends last _ _ _ _ (outside_bar x (xs ++ more) left at e) (outside_bar x xs left at e)
-            (front_extends (Bar ∷ []) last (inside left (at + 1) (xs ++ more)) (inside left (at + 1) xs) (next_extends Inside left))
-        by_kind Invalid e = same_extends last _ _ _ _ (outside_invalid x (xs ++ more) left at e) (outside_invalid x xs left at e) (here_fault InvalidCharacter)
+            same_extends last _ _ _ _ (bars (xs ++ more) e) (bars xs e)
+            (front_extends (Bar ∷ []) last (from_stage other left (at + 1) (xs ++ more)) (from_stage other left (at + 1) xs) (next_extends other left))
+        by_kind Invalid e = same_extends last _ _ _ _ (faults (xs ++ more) e) (faults xs e) (here_fault InvalidCharacter)
+
+    outside_extends : Extends last (outside left at (x ∷ xs ++ more)) (outside left at (x ∷ xs))
+    outside_extends =
+        kinds_extend outside EscapedOutside Inside (λ ys e. outside_escape x ys left at e) (λ ys e. outside_bar x ys left at e) (λ ys e. outside_invalid x ys left at e)
+        plain_extends ends_extends
 
     inside_extends : Extends last (inside left at (x ∷ xs ++ more)) (inside left at (x ∷ xs))
-    inside_extends = by_kind (kind x) refl
-      where
-        by_kind : (k : Syntax) → kind x ≡ k → Extends last (inside left at (x ∷ xs ++ more)) (inside left at (x ∷ xs))
-        by_kind Whitespace e = between_extends (rw e refl)
-        by_kind TerminatingMacro e = between_extends (rw e refl)
-        by_kind Constituent e = between_extends (rw e refl)
-        by_kind NonTerminatingMacro e = between_extends (rw e refl)
-        by_kind SingleEscape e = same_extends last _ _ _ _ (inside_escape x (xs ++ more) left at e) (inside_escape x xs left at e) (next_extends EscapedInside left)
-        by_kind MultipleEscape e =
-            same_extends last _ _ _ _ (inside_bar x (xs ++ more) left at e) (inside_bar x xs left at e)
-            (front_extends (Bar ∷ []) last (outside left (at + 1) (xs ++ more)) (outside left (at + 1) xs) (next_extends Outside left))
-        by_kind Invalid e = same_extends last _ _ _ _ (inside_invalid x (xs ++ more) left at e) (inside_invalid x xs left at e) (here_fault InvalidCharacter)
+    inside_extends =
+        kinds_extend inside EscapedInside Outside (λ ys e. inside_escape x ys left at e) (λ ys e. inside_bar x ys left at e) (λ ys e. inside_invalid x ys left at e)
+        (λ is. between_extends (or_first _ _ is)) (λ is. between_extends (or_second _ _ is))
 
     escaped_extends : (longer r : ℕ → Scanned) → Extends last (longer (left - 1)) (r (left - 1)) → Extends last (escaped x left at longer) (escaped x left at r)
     escaped_extends longer r h =

@@ -9,24 +9,21 @@ use Rattle.form_reader.specs.declared.objects.Passed.TheVariants.{Taken as Passe
 use Rattle.form_reader.specs.declared.found.Found.{Found}
 use Rattle.form_reader.specs.declared.found.Found.TheVariants.{Nothing as nothing, One as one, LoneDot as lone_dot, TheEnd as the_end}
 use Rattle.form_reader.specs.declared.frame.Frame.{Frame}
-use Rattle.form_reader.specs.Plans.{Read, fault, gives, run}
+use Rattle.form_reader.specs.Plans.{Read, fault, gives}
 use Rattle.form_reader.specs.Setting.{Setting}
-use Rattle.form_reader.specs.Reading.{without_space}
-use Rattle.form_reader.specs.Frames.{given, between}
+use Rattle.form_reader.specs.Frames.{plan_gives, place_gives}
 use Rattle.form_reader.specs.Resuming.{Brings}
 
 -- What one open call makes of it: it goes on as this call, perhaps after one whitespace character; or it comes to this; or it
 -- is refused.
 abbrev pub Takes : Setting → List Frame → ℕ → List ℕ → Taken → Read Found → Type 0
-Takes setting frames at cs (Stays token frame) read =
-    read ≡ run setting.table setting.limits (without_space setting.table token (between setting (frame ∷ frames))) at cs
-Takes setting frames at cs (Gives found) read = read ≡ run setting.table setting.limits (given setting frames (gives found)) at cs
+Takes setting frames at cs (Stays token frame) read = read ≡ place_gives setting token (frame ∷ frames) at cs
+Takes setting frames at cs (Gives found) read = read ≡ plan_gives setting frames (gives found) at cs
 Takes setting frames at cs (TakenRefused code place) read = read ≡ fault code place
 
 -- What all open calls make of it.
 abbrev pub Delivers : Setting → List Frame → ℕ → List ℕ → Delivered → Read Found → Type 0
-Delivers setting frames at cs (Waits token) read =
-    read ≡ run setting.table setting.limits (without_space setting.table token (between setting frames)) at cs
+Delivers setting frames at cs (Waits token) read = read ≡ place_gives setting token frames at cs
 Delivers setting frames at cs (Done found) read = (read ≡ Ok (found, at, cs)) × (frames ≡ [])
 Delivers setting frames at cs (Refused code place) read = read ≡ fault code place
 

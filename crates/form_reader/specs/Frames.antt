@@ -1,6 +1,6 @@
 -- What a reader that takes one byte at a time stands for: its open calls, innermost first, and where it is in the innermost.
 -- By recursion on the open calls alone, over the definition of reading.
-use Rattle.std.specs.Prelude.{ℕ, ◌+◌, ◌-◌, false, List, [], ◌∷◌, length, Option, Some, None, Ok, Err}
+use Rattle.std.specs.Prelude.{ℕ, ◌+◌, ◌-◌, Bool, false, List, [], ◌∷◌, length, Option, Some, None, Ok, Err}
 use Rattle.token_scan.specs.declared.mark.Mark.{Mark}
 use Rattle.std_macros.specs.Values.{one as one_object}
 use Rattle.form_reader.specs.declared.found.Found.{Found}
@@ -10,7 +10,7 @@ use Rattle.form_reader.specs.declared.frame.Part.TheVariants.{Next as InNext, Li
 use Rattle.form_reader.specs.Plans.{Plan, then_plan, Read, run}
 use Rattle.form_reader.specs.Calls.{InvokedCall}
 use Rattle.form_reader.specs.Setting.{Setting}
-use Rattle.form_reader.specs.Reading.{Piece, at_place, place, items_step, items_after, undotted, after_tail, after_dot, list_end, one_piece, completed, attempt}
+use Rattle.form_reader.specs.Reading.{Piece, at_place, place, items_step, items_after, undotted, after_tail, after_dot, list_end, one_piece, completed, attempt, without_space}
 
 -- the closing character that is looked for
 abbrev pub close_of : Part → Option ℕ
@@ -55,8 +55,18 @@ abbrev pub between : Setting → List Frame → Plan Found
 between setting [] = attempt setting setting.limits.nesting
 between setting (f ∷ fs) = given setting fs (then_plan (place_in setting f fs) (λ p. call_in setting f fs p))
 
+-- ---- what is given on a text
+
+-- if the attempt in the innermost call comes to this
+abbrev pub plan_gives : Setting → List Frame → Plan Found → ℕ → List ℕ → Read Found
+plan_gives setting frames plan at cs = run setting.table setting.limits (given setting frames plan) at cs
+
+-- at a place where an object may begin: where a token ended before it, one whitespace character is discarded first
+abbrev pub place_gives : Setting → Bool → List Frame → ℕ → List ℕ → Read Found
+place_gives setting token frames at cs = run setting.table setting.limits (without_space setting.table token (between setting frames)) at cs
+
 -- ---- a token, whose bytes are not kept: what is given where it has come to this
 
 abbrev pub token_goes_on : Setting → List Frame → (List Mark → Plan Found) → Read (List Mark) → Read Found
-token_goes_on setting frames on (Ok p) = run setting.table setting.limits (given setting frames (on p.0)) p.1 p.2
+token_goes_on setting frames on (Ok p) = plan_gives setting frames (on p.0) p.1 p.2
 token_goes_on setting frames on (Err e) = Err e

@@ -2,6 +2,7 @@ pub mod Plans
 pub mod Gathering
 pub mod Calls
 pub mod Setting
+pub mod Surrounding
 pub mod Naming
 pub mod Answering
 pub mod Reading

@@ -17,7 +17,7 @@ use Rattle.form_reader.specs.Plans.{Plan, gives, then_plan, next_byte, Read, fau
 use Rattle.form_reader.specs.Setting.{Setting}
 use Rattle.form_reader.specs.Reading.{text_to, line_after, block_after, dispatched, completed, gathered, called, token_found, attempt, inner}
 use Rattle.form_reader.specs.Feeding.{is_going, token_read}
-use Rattle.form_reader.specs.Frames.{given, between, token_goes_on}
+use Rattle.form_reader.specs.Frames.{between, plan_gives, token_goes_on}
 
 -- an attempt where so many calls are open
 abbrev pub attempt_at : Setting → ℕ → Plan Found
@@ -36,19 +36,19 @@ stage_gives setting frames (AtCallToken call scan) at cs =
     token_goes_on setting frames (λ marks. completed setting (length frames) call true false (marked marks))
     (token_read setting.table setting.limits scan at cs)
 stage_gives setting frames (AtText call terminator text) at cs =
-    run setting.table setting.limits (given setting frames (then_plan (text_to setting terminator text)
-    (λ cs. completed setting (length frames) call false false (letters cs)))) at cs
+    plan_gives setting frames (then_plan (text_to setting terminator text)
+    (λ cs. completed setting (length frames) call false false (letters cs))) at cs
 stage_gives setting frames (AtEscaped call terminator text) at cs =
-    run setting.table setting.limits (given setting frames (then_plan (next_byte (λ d. text_to setting terminator (text ++ d ∷ [])))
-    (λ cs. completed setting (length frames) call false false (letters cs)))) at cs
+    plan_gives setting frames (then_plan (next_byte (λ d. text_to setting terminator (text ++ d ∷ [])))
+    (λ cs. completed setting (length frames) call false false (letters cs))) at cs
 stage_gives setting frames (AtLine call keep text) at cs =
-    run setting.table setting.limits (given setting frames (then_plan (line_after setting keep text)
-    (λ cs. completed setting (length frames) call false false (letters cs)))) at cs
+    plan_gives setting frames (then_plan (line_after setting keep text)
+    (λ cs. completed setting (length frames) call false false (letters cs))) at cs
 stage_gives setting frames (AtBlock call levels) at cs =
-    run setting.table setting.limits (given setting frames (then_plan (block_after setting levels)
-    (λ u. completed setting (length frames) call false false no_material))) at cs
+    plan_gives setting frames (then_plan (block_after setting levels)
+    (λ u. completed setting (length frames) call false false no_material)) at cs
 stage_gives setting frames (AtNumber c number) at cs =
-    run setting.table setting.limits (given setting frames (dispatched setting (length frames) (inner_at setting (length frames)) c number)) at cs
+    plan_gives setting frames (dispatched setting (length frames) (inner_at setting (length frames)) c number) at cs
 
 -- What holds of where it is, at this place: a token is not refused, and each block inside a block took a byte.
 abbrev pub IsStageAt : ℕ → Stage → Type 0
@@ -60,7 +60,7 @@ IsStageAt at _ = Unit {0}
 -- what was read is what this brings
 abbrev pub Brings : Setting → List Frame → ℕ → List ℕ → Event → Read Found → Type 0
 Brings setting frames at cs (IsAt stage) read = read ≡ stage_gives setting frames stage at cs
-Brings setting frames at cs (IsGiven found) read = read ≡ run setting.table setting.limits (given setting frames (gives found)) at cs
+Brings setting frames at cs (IsGiven found) read = read ≡ plan_gives setting frames (gives found) at cs
 Brings setting frames at cs (IsRefused code place) read = read ≡ fault code place
 
 -- the same before the byte at this place
@@ -71,16 +71,14 @@ Moves setting frames at c cs (IsBefore event) read = Brings setting frames at (c
 -- a call begins in these open calls, after which there are those
 abbrev pub Begins : Setting → List Frame → List Frame → InvokedCall → ℕ → List ℕ → Event → Type 0
 Begins setting after frames call at cs event =
-    Brings setting after at cs event (run setting.table setting.limits
-    (given setting frames (called setting (length frames) (inner_at setting (length frames)) call)) at cs)
+    Brings setting after at cs event (plan_gives setting frames (called setting (length frames) (inner_at setting (length frames)) call) at cs)
 
 -- it gathers in this way
 abbrev pub Gathers : Setting → List Frame → List Frame → InvokedCall → Way → ℕ → List ℕ → Event → Type 0
 Gathers setting after frames call way at cs event =
-    Brings setting after at cs event (run setting.table setting.limits
-    (given setting frames (gathered setting (length frames) (inner_at setting (length frames)) call way)) at cs)
+    Brings setting after at cs event (plan_gives setting frames (gathered setting (length frames) (inner_at setting (length frames)) call way) at cs)
 
 -- a call comes to this in these open calls
 abbrev pub ComesTo : Setting → List Frame → Completed → ℕ → List ℕ → Event → Type 0
 ComesTo setting frames completed at cs event =
-    Brings setting frames at cs event (run setting.table setting.limits (given setting frames (plan_of completed)) at cs)
+    Brings setting frames at cs event (plan_gives setting frames (plan_of completed) at cs)

@@ -1,9 +1,9 @@
 //! One byte, wherever a reader is in its innermost call.
 ghost use Rattle.std.specs.Prelude.{◌≡◌, ◌≤◌, ◌<◌, ◌+◌, ◌^◌, ℕ, List, ◌∷◌, length, IfOk};
-ghost use Rattle.package_table.specs.Table.{IsPackage};
-ghost use Rattle.form_reader.specs.Setting.{setting_of};
-ghost use Rattle.form_reader.specs.Resuming.{Moves, IsStageAt, stage_gives};
+ghost use Rattle.form_reader.specs.Surrounding.{setting_with};
+ghost use Rattle.form_reader.specs.Resuming.{Moves, stage_gives};
 ghost use Rattle.form_reader.specs.Ready.{IsReadyMove};
+ghost use Rattle.form_reader.specs.Turning.{IsStanding};
 
 use crate::frame::Frames;
 use crate::gathering::{in_block, in_escaped, in_line, in_text};
@@ -23,18 +23,11 @@ pub(crate) fn advance<R: MacroFunctions>(
     c: u8,
 ) -> Result<Moved, AllocError>
     requires answers { R.answers with.now.macros.now }
-    requires place { at ≤ with.now.limits.text }
+    requires standing { IsStanding with.now.limits frames.old stage at }
     requires count { at < 2 ^ 63 }
-    requires nesting { length frames.old ≤ with.now.limits.nesting }
-    requires current { IsPackage with.now.packages.now.0 with.now.current.now }
-    requires stage { IsStageAt at stage }
-    ensures moves { (cs : List ℕ) → IfOk result (λ moved. Moves
-        (setting_of with.now.limits with.now.readtable.now with.now.packages.now.0 with.now.current.now
-        (R.registered with.now.macros.now) R.Meaning.way R.Meaning.answer)
-        frames.new at c cs moved (stage_gives
-        (setting_of with.now.limits with.now.readtable.now with.now.packages.now.0 with.now.current.now
-        (R.registered with.now.macros.now) R.Meaning.way R.Meaning.answer)
-        frames.old stage at (c ∷ cs))) }
+    ensures moves { let setting = setting_with (R.registered with.now.macros.now) R.Meaning.way R.Meaning.answer with.now in
+        (cs : List ℕ) → IfOk result (λ moved. Moves setting frames.new at c cs moved
+        (stage_gives setting frames.old stage at (c ∷ cs))) }
     ensures ready { IfOk result (IsReadyMove with.now.limits at) }
     ensures nesting { IfOk result (λ _. length frames.new ≤ with.now.limits.nesting) }
 {
@@ -44,24 +37,19 @@ pub(crate) fn advance<R: MacroFunctions>(
         Stage::Token(scan) => in_token(with, scan, at, c),
         Stage::CallToken(call, scan) => in_call_token(with, round, call, scan, at, c),
         Stage::Text(call, terminator, text) => {
-            let event = in_text(with, round, call, terminator, text, at, c)?;
-            Ok(Moved::Taken(event))
+            Ok(Moved::Taken(in_text(with, round, call, terminator, text, at, c)?))
         }
         Stage::Escaped(call, terminator, text) => {
-            let event = in_escaped(with, round, call, terminator, text, at, c)?;
-            Ok(Moved::Taken(event))
+            Ok(Moved::Taken(in_escaped(with, round, call, terminator, text, at, c)?))
         }
         Stage::Line(call, keep, text) => {
-            let event = in_line(with, round, call, keep, text, at, c)?;
-            Ok(Moved::Taken(event))
+            Ok(Moved::Taken(in_line(with, round, call, keep, text, at, c)?))
         }
         Stage::Block(call, levels) => {
-            let event = in_block(with, round, call, levels, at, c)?;
-            Ok(Moved::Taken(event))
+            Ok(Moved::Taken(in_block(with, round, call, levels, at, c)?))
         }
         Stage::Number(character, number) => {
-            let event = in_number(with, frames, character, number, at, c)?;
-            Ok(Moved::Taken(event))
+            Ok(Moved::Taken(in_number(with, frames, character, number, at, c)?))
         }
     }
 }

@@ -2,11 +2,10 @@
 ghost use Rattle.std.specs.Prelude.{◌≡◌, ◌≤◌, ◌<◌, ◌+◌, ◌^◌, ℕ, List, ◌∷◌, length, true, false, IfOk};
 ghost use Rattle.form_reader.specs.declared.frame.Frame.{Frame as OpenCall};
 ghost use Rattle.readtable_core.specs.Tables.{entry_at};
-ghost use Rattle.form_reader.specs.Plans.{run};
-ghost use Rattle.form_reader.specs.Setting.{setting_of};
+ghost use Rattle.form_reader.specs.Surrounding.{setting_with};
 ghost use Rattle.form_reader.specs.Reading.{stands_alone, alone};
-ghost use Rattle.form_reader.specs.Frames.{given};
-ghost use Rattle.form_reader.specs.Resuming.{inner_at, attempt_at, Brings};
+ghost use Rattle.form_reader.specs.Frames.{plan_gives};
+ghost use Rattle.form_reader.specs.Resuming.{attempt_at, Brings};
 ghost use Rattle.form_reader.specs.Ready.{IsReady};
 
 use crate::found::Found;
@@ -45,16 +44,9 @@ pub(crate) fn alone<R: MacroFunctions>(
     requires place { at ≤ with.now.limits.text }
     requires nesting { length frames.old ≤ with.now.limits.nesting }
     requires alone { stands_alone (entry_at with.now.readtable.now c).syntax ≡ true }
-    ensures brings { (cs : List ℕ) → IfOk result (λ event. Brings
-        (setting_of with.now.limits with.now.readtable.now with.now.packages.now.0 with.now.current.now
-        (R.registered with.now.macros.now) R.Meaning.way R.Meaning.answer)
-        frames.new (at + 1) cs event (run with.now.readtable.now with.now.limits (given
-        (setting_of with.now.limits with.now.readtable.now with.now.packages.now.0 with.now.current.now
-        (R.registered with.now.macros.now) R.Meaning.way R.Meaning.answer)
-        frames.old (attempt_at
-        (setting_of with.now.limits with.now.readtable.now with.now.packages.now.0 with.now.current.now
-        (R.registered with.now.macros.now) R.Meaning.way R.Meaning.answer)
-        (length frames.old))) at (c ∷ cs))) }
+    ensures brings { let setting = setting_with (R.registered with.now.macros.now) R.Meaning.way R.Meaning.answer with.now in
+        (cs : List ℕ) → IfOk result (λ event. Brings setting frames.new (at + 1) cs event
+        (plan_gives setting frames.old (attempt_at setting (length frames.old)) at (c ∷ cs))) }
     ensures ready { IfOk result (IsReady with.now.limits (at + 1)) }
     ensures nesting { IfOk result (λ _. length frames.new ≤ with.now.limits.nesting) }
 {
@@ -69,10 +61,7 @@ pub(crate) fn alone<R: MacroFunctions>(
         Syntax::Whitespace => Ok(Event::Gives(Found::Nothing(false))),
         Syntax::TerminatingMacro => begin_macro(with, frames, c, at + 1),
         Syntax::NonTerminatingMacro => begin_macro(with, frames, c, at + 1),
-        Syntax::Invalid => Ok(Event::Refused(INVALID_CHARACTER, at)),
-        Syntax::Constituent => Ok(Event::Refused(INVALID_CHARACTER, at)),
-        Syntax::SingleEscape => Ok(Event::Refused(INVALID_CHARACTER, at)),
-        Syntax::MultipleEscape => Ok(Event::Refused(INVALID_CHARACTER, at)),
+        _ => Ok(Event::Refused(INVALID_CHARACTER, at)),
     }
 }
 
@@ -85,16 +74,10 @@ pub(crate) fn begin_token<R: MacroFunctions>(
 ) -> Result<Event, AllocError>
     requires place { at ≤ with.now.limits.text }
     requires begins { stands_alone (entry_at with.now.readtable.now c).syntax ≡ false }
-    ensures brings { (frames : List OpenCall) (cs : List ℕ) → length frames ≤ with.now.limits.nesting → IfOk result (λ event. Brings
-        (setting_of with.now.limits with.now.readtable.now with.now.packages.now.0 with.now.current.now
-        (R.registered with.now.macros.now) R.Meaning.way R.Meaning.answer)
-        frames (at + 1) cs event (run with.now.readtable.now with.now.limits (given
-        (setting_of with.now.limits with.now.readtable.now with.now.packages.now.0 with.now.current.now
-        (R.registered with.now.macros.now) R.Meaning.way R.Meaning.answer)
-        frames (attempt_at
-        (setting_of with.now.limits with.now.readtable.now with.now.packages.now.0 with.now.current.now
-        (R.registered with.now.macros.now) R.Meaning.way R.Meaning.answer)
-        (length frames))) at (c ∷ cs))) }
+    ensures brings { let setting = setting_with (R.registered with.now.macros.now) R.Meaning.way R.Meaning.answer with.now in
+        (frames : List OpenCall) (cs : List ℕ) → length frames ≤ with.now.limits.nesting
+        → IfOk result (λ event. Brings setting frames (at + 1) cs event
+        (plan_gives setting frames (attempt_at setting (length frames)) at (c ∷ cs))) }
     ensures ready { IfOk result (IsReady with.now.limits (at + 1)) }
 {
     match first_byte(with.alloc, with.readtable, &with.limits, at, c)? {

@@ -1,5 +1,5 @@
 //! One byte of what a call gathers.
-ghost use Rattle.std.specs.Prelude.{◌≡◌, ◌≤◌, ◌<◌, ◌+◌, ◌^◌, ℕ, List, ◌∷◌, ◌++◌, [], IfOk, IfSome, Ok, None};
+ghost use Rattle.std.specs.Prelude.{◌≡◌, ◌≤◌, ◌<◌, ◌+◌, ◌^◌, ℕ, List, ◌∷◌, ◌++◌, [], IfOk, IfSome, OnErr, Ok, None};
 ghost use Rattle.form_reader.specs.Plans.{loop, next_byte, run};
 ghost use Rattle.form_reader.specs.Gathering.{text_turn, line_turn, block_turn, number_turn};
 ghost use Rattle.form_reader.specs.Gathering.{block_next};
@@ -38,7 +38,7 @@ pub enum LineByte {
     Refused(u16),
 }
 
-/// The byte `c` at `at`, after the characters of `text`.
+/// The byte `c` at `at`, after the characters of `text`. Only a character that is taken needs memory.
 #[tactic(auto, using(crate::proofs::Fed::text_over, crate::proofs::Fed::text_invalid, crate::proofs::Fed::text_ends, crate::proofs::Fed::text_escapes, crate::proofs::Fed::text_takes))]
 pub(crate) fn text_byte(
     readtable: &Readtable,
@@ -55,6 +55,7 @@ pub(crate) fn text_byte(
     ensures more { result ≡ Ok TextMore → at < limits.now.text }
     ensures escape { result ≡ Ok TextEscape → at < limits.now.text }
     ensures ended { result ≡ Ok TextEnded → at < limits.now.text }
+    ensures calm { OnErr result ((at < limits.now.text) × (c < 128)) }
 {
     if at >= limits.text {
         return Ok(TextByte::Refused(FORM_TOO_LONG));
@@ -72,7 +73,7 @@ pub(crate) fn text_byte(
     Ok(TextByte::More)
 }
 
-/// The byte `c` at `at`, after an escape.
+/// The byte `c` at `at`, after an escape. Only a character that is taken needs memory.
 #[tactic(auto, using(crate::proofs::Fed::byte_over, crate::proofs::Fed::byte_invalid, crate::proofs::Fed::byte_taken))]
 pub(crate) fn escaped_byte(
     readtable: &Readtable,
@@ -86,6 +87,7 @@ pub(crate) fn escaped_byte(
         EscapeFeeds readtable.now limits.now terminator text.new at cs fed
         (run readtable.now limits.now (next_byte (λ d. loop limits.now (text_turn readtable.now terminator) (text.old ++ d ∷ []))) at (c ∷ cs))) }
     ensures more { result ≡ Ok None → at < limits.now.text }
+    ensures calm { OnErr result ((at < limits.now.text) × (c < 128)) }
 {
     if at >= limits.text {
         return Ok(Some(FORM_TOO_LONG));
@@ -97,7 +99,7 @@ pub(crate) fn escaped_byte(
     Ok(None)
 }
 
-/// The byte `c` at `at`, after the characters of a line.
+/// The byte `c` at `at`, after the characters of a line. Only a character that is taken needs memory.
 #[tactic(auto, using(crate::proofs::Fed::line_over, crate::proofs::Fed::line_invalid, crate::proofs::Fed::line_ends, crate::proofs::Fed::line_keeps, crate::proofs::Fed::line_drops))]
 pub(crate) fn line_byte(
     readtable: &Readtable,
@@ -113,6 +115,7 @@ pub(crate) fn line_byte(
         (run readtable.now limits.now (loop limits.now (line_turn keep) text.old) at (c ∷ cs))) }
     ensures more { result ≡ Ok LineMore → at < limits.now.text }
     ensures ended { result ≡ Ok LineEnded → at < limits.now.text }
+    ensures calm { OnErr result ((at < limits.now.text) × (c < 128)) }
 {
     if at >= limits.text {
         return Ok(LineByte::Refused(FORM_TOO_LONG));

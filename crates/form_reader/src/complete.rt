@@ -6,7 +6,8 @@ ghost use Rattle.user_macros.specs.Calls.{call_of, answer_of, material_of};
 ghost use Rattle.user_macros.specs.Sound.{IsSoundCall, IsProperMaterial};
 ghost use Rattle.std_macros.specs.Values.{value_of};
 ghost use Rattle.std_macros.specs.Results.{view_gathered, IsProperGathered};
-ghost use Rattle.form_reader.specs.Setting.{setting_of, macro_call, user_material};
+ghost use Rattle.form_reader.specs.Setting.{macro_call, user_material};
+ghost use Rattle.form_reader.specs.Surrounding.{setting_with};
 ghost use Rattle.form_reader.specs.Reading.{bytes_back, finished, answered, completed};
 ghost use Rattle.form_reader.specs.Completing.{plan_of};
 ghost use Rattle.form_reader.specs.Ready.{space, completed_lookahead};
@@ -48,10 +49,8 @@ pub(crate) fn complete<R: MacroFunctions>(
 ) -> Result<Completed, AllocError>
     requires answers { R.answers with.now.macros.now }
     requires proper { IsProperGathered gathered }
-    ensures gives { IfOk result (λ r. completed
-        (setting_of with.now.limits with.now.readtable.now with.now.packages.now.0 with.now.current.now
-        (R.registered with.now.macros.now) R.Meaning.way R.Meaning.answer)
-        round call.now token spaced (view_gathered gathered) ≡ plan_of r) }
+    ensures gives { let setting = setting_with (R.registered with.now.macros.now) R.Meaning.way R.Meaning.answer with.now in
+        IfOk result (λ r. completed setting round call.now token spaced (view_gathered gathered) ≡ plan_of r) }
     ensures ends { IfOk result (λ r. completed_lookahead r ≤ space (token || spaced)) }
 {
     match call.function() {

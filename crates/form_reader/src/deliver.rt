@@ -1,10 +1,11 @@
 //! What the open calls make of what is found in the innermost.
 ghost use Rattle.std.specs.Prelude.{◌≡◌, ◌≤◌, ℕ, List, ◌∷◌, length, IfOk};
-ghost use Rattle.form_reader.specs.Plans.{gives, run};
+ghost use Rattle.form_reader.specs.Plans.{gives};
 ghost use Rattle.form_reader.specs.declared.frame.Frame.{Frame as OpenCall};
 ghost use Rattle.form_reader.specs.Completing.{plan_of};
-ghost use Rattle.form_reader.specs.Setting.{Setting, setting_of};
-ghost use Rattle.form_reader.specs.Frames.{given};
+ghost use Rattle.form_reader.specs.Setting.{Setting};
+ghost use Rattle.form_reader.specs.Surrounding.{setting_with};
+ghost use Rattle.form_reader.specs.Frames.{plan_gives};
 ghost use Rattle.form_reader.specs.Delivering.{Takes, Delivers};
 ghost use Rattle.form_reader.specs.Ready.{space, lookahead, completed_lookahead, IsTakenAt, IsDeliveredAt};
 
@@ -51,13 +52,10 @@ pub(crate) fn take<R: MacroFunctions>(
 ) -> Result<Taken, AllocError>
     requires answers { R.answers with.now.macros.now }
     requires place { at ≤ with.now.limits.text }
-    ensures takes { (frames : List OpenCall) (cs : List ℕ) → round ≡ length frames → IfOk result (λ taken. Takes
-        (setting_of with.now.limits with.now.readtable.now with.now.packages.now.0 with.now.current.now
-        (R.registered with.now.macros.now) R.Meaning.way R.Meaning.answer)
-        frames at cs taken (run with.now.readtable.now with.now.limits (given
-        (setting_of with.now.limits with.now.readtable.now with.now.packages.now.0 with.now.current.now
-        (R.registered with.now.macros.now) R.Meaning.way R.Meaning.answer)
-        (frame ∷ frames) (gives found)) at cs)) }
+    ensures takes { let setting = setting_with (R.registered with.now.macros.now) R.Meaning.way R.Meaning.answer with.now in
+        (frames : List OpenCall) (cs : List ℕ) → round ≡ length frames
+        → IfOk result (λ taken. Takes setting frames at cs taken
+        (plan_gives setting (frame ∷ frames) (gives found) at cs)) }
     ensures leaves { IfOk result (IsTakenAt (lookahead found) at) }
 {
     match found {
@@ -79,13 +77,10 @@ fn take_one<R: MacroFunctions>(
 ) -> Result<Taken, AllocError>
     requires answers { R.answers with.now.macros.now }
     requires place { at ≤ with.now.limits.text }
-    ensures takes { (frames : List OpenCall) (cs : List ℕ) → round ≡ length frames → IfOk result (λ taken. Takes
-        (setting_of with.now.limits with.now.readtable.now with.now.packages.now.0 with.now.current.now
-        (R.registered with.now.macros.now) R.Meaning.way R.Meaning.answer)
-        frames at cs taken (run with.now.readtable.now with.now.limits (given
-        (setting_of with.now.limits with.now.readtable.now with.now.packages.now.0 with.now.current.now
-        (R.registered with.now.macros.now) R.Meaning.way R.Meaning.answer)
-        (frame ∷ frames) (gives (Found.One token x))) at cs)) }
+    ensures takes { let setting = setting_with (R.registered with.now.macros.now) R.Meaning.way R.Meaning.answer with.now in
+        (frames : List OpenCall) (cs : List ℕ) → round ≡ length frames
+        → IfOk result (λ taken. Takes setting frames at cs taken
+        (plan_gives setting (frame ∷ frames) (gives (Found.One token x)) at cs)) }
     ensures leaves { IfOk result (IsTakenAt (space token) at) }
 {
     let Frame { call, part } = frame;
@@ -115,7 +110,7 @@ fn take_one<R: MacroFunctions>(
 /// What an open call makes of a dot.
 fn take_dot(frame: Frame, at: usize) -> Taken
     ensures takes { (setting : Setting) (frames : List OpenCall) (cs : List ℕ) → at ≤ setting.limits.text → Takes setting frames at cs result
-        (run setting.table setting.limits (given setting (frame ∷ frames) (gives Found.LoneDot)) at cs) }
+        (plan_gives setting (frame ∷ frames) (gives Found.LoneDot) at cs) }
     ensures leaves { IsTakenAt 1 at result }
 {
     let Frame { call, part } = frame;
@@ -137,7 +132,7 @@ fn take_dot(frame: Frame, at: usize) -> Taken
 /// What an open call that ends at `at` comes to.
 fn taken_of(completed: Completed, at: usize) -> Taken
     ensures takes { (setting : Setting) (frames : List OpenCall) (cs : List ℕ) → Takes setting frames at cs result
-        (run setting.table setting.limits (given setting frames (plan_of completed)) at cs) }
+        (plan_gives setting frames (plan_of completed) at cs) }
     ensures leaves { IsTakenAt (completed_lookahead completed) at result }
 {
     match completed {
@@ -155,13 +150,9 @@ pub(crate) fn deliver<R: MacroFunctions>(
 ) -> Result<Delivered, AllocError>
     requires answers { R.answers with.now.macros.now }
     requires place { at ≤ with.now.limits.text }
-    ensures delivers { (cs : List ℕ) → IfOk result (λ delivered. Delivers
-        (setting_of with.now.limits with.now.readtable.now with.now.packages.now.0 with.now.current.now
-        (R.registered with.now.macros.now) R.Meaning.way R.Meaning.answer)
-        frames.new at cs delivered (run with.now.readtable.now with.now.limits (given
-        (setting_of with.now.limits with.now.readtable.now with.now.packages.now.0 with.now.current.now
-        (R.registered with.now.macros.now) R.Meaning.way R.Meaning.answer)
-        frames.old (gives found)) at cs)) }
+    ensures delivers { let setting = setting_with (R.registered with.now.macros.now) R.Meaning.way R.Meaning.answer with.now in
+        (cs : List ℕ) → IfOk result (λ delivered. Delivers setting frames.new at cs delivered
+        (plan_gives setting frames.old (gives found) at cs)) }
     ensures shorter { IfOk result (λ delivered. length frames.new ≤ length frames.old) }
     ensures leaves { IfOk result (IsDeliveredAt (lookahead found) at) }
 {

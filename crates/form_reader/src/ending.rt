@@ -1,27 +1,24 @@
 //! The end of a text, wherever a reader is in a form.
 ghost use Rattle.std.specs.Prelude.{◌≡◌, ◌≤◌, ◌<◌, ◌+◌, ◌^◌, ℕ, List, [], length, None, Ok, IfOk};
-ghost use Rattle.package_table.specs.Table.{IsPackage};
 ghost use Rattle.readtable_core.specs.Tables.{Table};
 ghost use Rattle.form_reader.specs.declared.frame.Frame.{Frame as OpenCall};
-ghost use Rattle.form_reader.specs.Setting.{Setting, setting_of};
-ghost use Rattle.form_reader.specs.declared.stage.Stage.TheVariants.{Token as AtToken, CallToken as AtCallToken, Line as AtLine};
+ghost use Rattle.form_reader.specs.Setting.{Setting};
+ghost use Rattle.form_reader.specs.Surrounding.{setting_with};
+ghost use Rattle.form_reader.specs.declared.stage.Stage.TheVariants.{Object as AtObject, Token as AtToken, CallToken as AtCallToken, Line as AtLine};
 ghost use Rattle.form_reader.specs.declared.way.Keep.{Keep};
-ghost use Rattle.form_reader.specs.Frames.{between};
-ghost use Rattle.form_reader.specs.Plans.{run};
 ghost use Rattle.form_reader.specs.Resuming.{Brings, stage_gives};
 ghost use Rattle.form_reader.specs.Turning.{outcome_of, rest_of, Settles, IsStanding};
 ghost use Rattle.form_reader.specs.Ending.{TokenStops, IsLastEvent, IsLastSettled};
 ghost use Rattle.form_reader.specs.Reader.{IsOutcome};
 
 use crate::call::Invoked;
-use crate::complete::complete;
 use crate::deliver::{Delivered, deliver};
 use crate::found::Found;
 use crate::frame::Frames;
 use crate::held::HeldText;
 use crate::limits::Limits;
 use crate::objects::token_end;
-use crate::opening::event_of;
+use crate::opening::ended;
 use crate::stage::{BegunScan, Event, Stage};
 use crate::surroundings::Surroundings;
 use crate::tokens::refused;
@@ -72,14 +69,9 @@ fn last_token<R: MacroFunctions>(
     at: usize,
 ) -> Result<Event, AllocError>
     requires place { at ≤ with.now.limits.text }
-    requires current { IsPackage with.now.packages.now.0 with.now.current.now }
-    ensures brings { (frames : List OpenCall) → IfOk result (λ event. Brings
-        (setting_of with.now.limits with.now.readtable.now with.now.packages.now.0 with.now.current.now
-        (R.registered with.now.macros.now) R.Meaning.way R.Meaning.answer)
-        frames at [] event (stage_gives
-        (setting_of with.now.limits with.now.readtable.now with.now.packages.now.0 with.now.current.now
-        (R.registered with.now.macros.now) R.Meaning.way R.Meaning.answer)
-        frames (AtToken scan) at [])) }
+    ensures brings { let setting = setting_with (R.registered with.now.macros.now) R.Meaning.way R.Meaning.answer with.now in
+        (frames : List OpenCall) → IfOk result (λ event. Brings setting frames at [] event
+        (stage_gives setting frames (AtToken scan) at [])) }
     ensures last { IfOk result (IsLastEvent at) }
 {
     let mut scan = scan.into_scan();
@@ -99,19 +91,15 @@ fn last_call_token<R: MacroFunctions>(
 ) -> Result<Event, AllocError>
     requires answers { R.answers with.now.macros.now }
     requires place { at ≤ with.now.limits.text }
-    ensures brings { (frames : List OpenCall) → round ≡ length frames → IfOk result (λ event. Brings
-        (setting_of with.now.limits with.now.readtable.now with.now.packages.now.0 with.now.current.now
-        (R.registered with.now.macros.now) R.Meaning.way R.Meaning.answer)
-        frames at [] event (stage_gives
-        (setting_of with.now.limits with.now.readtable.now with.now.packages.now.0 with.now.current.now
-        (R.registered with.now.macros.now) R.Meaning.way R.Meaning.answer)
-        frames (AtCallToken call scan) at [])) }
+    ensures brings { let setting = setting_with (R.registered with.now.macros.now) R.Meaning.way R.Meaning.answer with.now in
+        (frames : List OpenCall) → round ≡ length frames → IfOk result (λ event. Brings setting frames at [] event
+        (stage_gives setting frames (AtCallToken call scan) at [])) }
     ensures last { IfOk result (IsLastEvent at) }
 {
     match token_stop(&with.limits, &mut scan, at) {
         None => {
             let gathered = StdGathered::Marks(scan.into_marks());
-            Ok(event_of(complete(with, round, &call, true, false, gathered)?, at))
+            ended(with, round, &call, true, gathered, at)
         }
         Some(code) => Ok(Event::Refused(code, at)),
     }
@@ -127,17 +115,14 @@ fn last_line<R: MacroFunctions>(
 ) -> Result<Event, AllocError>
     requires answers { R.answers with.now.macros.now }
     requires place { at ≤ with.now.limits.text }
-    ensures brings { (frames : List OpenCall) (keep : Keep) → round ≡ length frames → IfOk result (λ event. Brings
-        (setting_of with.now.limits with.now.readtable.now with.now.packages.now.0 with.now.current.now
-        (R.registered with.now.macros.now) R.Meaning.way R.Meaning.answer)
-        frames at [] event (stage_gives
-        (setting_of with.now.limits with.now.readtable.now with.now.packages.now.0 with.now.current.now
-        (R.registered with.now.macros.now) R.Meaning.way R.Meaning.answer)
-        frames (AtLine call keep text) at [])) }
+    ensures brings { let setting = setting_with (R.registered with.now.macros.now) R.Meaning.way R.Meaning.answer with.now in
+        (frames : List OpenCall) (keep : Keep) → round ≡ length frames
+        → IfOk result (λ event. Brings setting frames at [] event
+        (stage_gives setting frames (AtLine call keep text) at [])) }
     ensures last { IfOk result (IsLastEvent at) }
 {
     let gathered = StdGathered::Text(text.into_bytes());
-    Ok(event_of(complete(with, round, &call, false, false, gathered)?, at))
+    ended(with, round, &call, false, gathered, at)
 }
 
 /// What the end of the text at `at` brings; the stage is left where an object may begin.
@@ -149,14 +134,9 @@ fn last<R: MacroFunctions>(
 ) -> Result<Event, AllocError>
     requires answers { R.answers with.now.macros.now }
     requires place { at ≤ with.now.limits.text }
-    requires current { IsPackage with.now.packages.now.0 with.now.current.now }
-    ensures brings { (frames : List OpenCall) → round ≡ length frames → IfOk result (λ event. Brings
-        (setting_of with.now.limits with.now.readtable.now with.now.packages.now.0 with.now.current.now
-        (R.registered with.now.macros.now) R.Meaning.way R.Meaning.answer)
-        frames at [] event (stage_gives
-        (setting_of with.now.limits with.now.readtable.now with.now.packages.now.0 with.now.current.now
-        (R.registered with.now.macros.now) R.Meaning.way R.Meaning.answer)
-        frames stage at [])) }
+    ensures brings { let setting = setting_with (R.registered with.now.macros.now) R.Meaning.way R.Meaning.answer with.now in
+        (frames : List OpenCall) → round ≡ length frames → IfOk result (λ event. Brings setting frames at [] event
+        (stage_gives setting frames stage at [])) }
     ensures last { IfOk result (IsLastEvent at) }
 {
     match stage {
@@ -173,8 +153,8 @@ fn last<R: MacroFunctions>(
 
 /// The end of the text at `at`, where an object may begin.
 fn waited(calls: usize, at: usize) -> Settled
-    ensures settles { (setting : Setting) (frames : List OpenCall) → calls ≡ length frames → at ≤ setting.limits.text → Settles setting frames at [] result
-        (run setting.table setting.limits (between setting frames) at []) }
+    ensures settles { (setting : Setting) (frames : List OpenCall) → calls ≡ length frames → at ≤ setting.limits.text
+        → Settles setting frames at [] result (stage_gives setting frames AtObject at []) }
     ensures last { IsLastSettled at result }
 {
     if calls == 0 {
@@ -192,14 +172,9 @@ fn settle_last<R: MacroFunctions>(
 ) -> Result<Settled, AllocError>
     requires answers { R.answers with.now.macros.now }
     requires place { at ≤ with.now.limits.text }
-    requires current { IsPackage with.now.packages.now.0 with.now.current.now }
-    ensures settles { IfOk result (λ settled. Settles
-        (setting_of with.now.limits with.now.readtable.now with.now.packages.now.0 with.now.current.now
-        (R.registered with.now.macros.now) R.Meaning.way R.Meaning.answer)
-        frames.new at [] settled (stage_gives
-        (setting_of with.now.limits with.now.readtable.now with.now.packages.now.0 with.now.current.now
-        (R.registered with.now.macros.now) R.Meaning.way R.Meaning.answer)
-        frames.old stage at [])) }
+    ensures settles { let setting = setting_with (R.registered with.now.macros.now) R.Meaning.way R.Meaning.answer with.now in
+        IfOk result (λ settled. Settles setting frames.new at [] settled
+        (stage_gives setting frames.old stage at [])) }
     ensures last { IfOk result (IsLastSettled at) }
 {
     match last(with, frames.len(), stage, at)? {
@@ -246,13 +221,10 @@ pub(crate) fn last_outcome<R: MacroFunctions>(
     at: usize,
 ) -> Result<ReadOutcome, AllocError>
     requires answers { R.answers with.now.macros.now }
-    requires current { IsPackage with.now.packages.now.0 with.now.current.now }
     requires place { at ≤ with.now.limits.text }
     requires count { start + at ≤ 2 ^ 63 }
-    ensures { IfOk result (λ outcome. IsOutcome outcome (rest_of
-        (setting_of with.now.limits with.now.readtable.now with.now.packages.now.0 with.now.current.now
-        (R.registered with.now.macros.now) R.Meaning.way R.Meaning.answer)
-        frames.old stage start at [])) }
+    ensures { let setting = setting_with (R.registered with.now.macros.now) R.Meaning.way R.Meaning.answer with.now in
+        IfOk result (λ outcome. IsOutcome outcome (rest_of setting frames.old stage start at [])) }
 {
     match settle_last(with, frames, stage, at)? {
         Settled::Open(_) => unreachable!(),

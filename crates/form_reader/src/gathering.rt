@@ -1,16 +1,15 @@
 //! One byte of what a call gathers, and what the call comes to.
 ghost use Rattle.std.specs.Prelude.{◌≡◌, ◌≤◌, ◌<◌, ◌+◌, ◌^◌, ℕ, List, ◌∷◌, length, IfOk};
 ghost use Rattle.form_reader.specs.declared.frame.Frame.{Frame as OpenCall};
-ghost use Rattle.form_reader.specs.Setting.{setting_of};
+ghost use Rattle.form_reader.specs.Surrounding.{setting_with};
 ghost use Rattle.form_reader.specs.declared.stage.Stage.TheVariants.{Text as AtText, Escaped as AtEscaped, Line as AtLine, Block as AtBlock, CallToken as AtCallToken};
 ghost use Rattle.form_reader.specs.Resuming.{Brings, stage_gives};
 ghost use Rattle.form_reader.specs.Ready.{IsReady};
 
 use crate::bytes::{LineByte, TextByte, block_byte, escaped_byte, line_byte, text_byte};
 use crate::call::Invoked;
-use crate::complete::complete;
 use crate::held::HeldText;
-use crate::opening::event_of;
+use crate::opening::ended;
 use crate::stage::{Event, Stage};
 use crate::surroundings::Surroundings;
 use crate::way::Keep;
@@ -19,7 +18,7 @@ use std_macros::StdGathered;
 use user_macros::MacroFunctions;
 
 /// The byte `c` at `at`, in the text of a call with so many open calls round it.
-#[tactic(auto, using(crate::proofs::Readiness::ended_ready))]
+#[tactic(auto, using(crate::proofs::Readiness::all_ready))]
 pub(crate) fn in_text<R: MacroFunctions>(
     with: &Surroundings<'_, R>,
     round: usize,
@@ -32,13 +31,10 @@ pub(crate) fn in_text<R: MacroFunctions>(
     requires answers { R.answers with.now.macros.now }
     requires place { at ≤ with.now.limits.text }
     requires count { at < 2 ^ 63 }
-    ensures brings { (frames : List OpenCall) (cs : List ℕ) → round ≡ length frames → IfOk result (λ event. Brings
-        (setting_of with.now.limits with.now.readtable.now with.now.packages.now.0 with.now.current.now
-        (R.registered with.now.macros.now) R.Meaning.way R.Meaning.answer)
-        frames (at + 1) cs event (stage_gives
-        (setting_of with.now.limits with.now.readtable.now with.now.packages.now.0 with.now.current.now
-        (R.registered with.now.macros.now) R.Meaning.way R.Meaning.answer)
-        frames (AtText call terminator text) at (c ∷ cs))) }
+    ensures brings { let setting = setting_with (R.registered with.now.macros.now) R.Meaning.way R.Meaning.answer with.now in
+        (frames : List OpenCall) (cs : List ℕ) → round ≡ length frames
+        → IfOk result (λ event. Brings setting frames (at + 1) cs event
+        (stage_gives setting frames (AtText call terminator text) at (c ∷ cs))) }
     ensures ready { IfOk result (IsReady with.now.limits (at + 1)) }
 {
     match text_byte(with.readtable, &with.limits, terminator, &mut text, at, c)? {
@@ -46,8 +42,7 @@ pub(crate) fn in_text<R: MacroFunctions>(
         TextByte::Escape => Ok(Event::Stage(Stage::Escaped(call, terminator, text))),
         TextByte::Ended => {
             let gathered = StdGathered::Text(text.into_bytes());
-            let done = complete(with, round, &call, false, false, gathered)?;
-            Ok(event_of(done, at + 1))
+            ended(with, round, &call, false, gathered, at + 1)
         }
         TextByte::Refused(code) => Ok(Event::Refused(code, at)),
     }
@@ -63,13 +58,10 @@ pub(crate) fn in_escaped<R: MacroFunctions>(
     at: usize,
     c: u8,
 ) -> Result<Event, AllocError>
-    ensures brings { (frames : List OpenCall) (cs : List ℕ) → round ≡ length frames → IfOk result (λ event. Brings
-        (setting_of with.now.limits with.now.readtable.now with.now.packages.now.0 with.now.current.now
-        (R.registered with.now.macros.now) R.Meaning.way R.Meaning.answer)
-        frames (at + 1) cs event (stage_gives
-        (setting_of with.now.limits with.now.readtable.now with.now.packages.now.0 with.now.current.now
-        (R.registered with.now.macros.now) R.Meaning.way R.Meaning.answer)
-        frames (AtEscaped call terminator text) at (c ∷ cs))) }
+    ensures brings { let setting = setting_with (R.registered with.now.macros.now) R.Meaning.way R.Meaning.answer with.now in
+        (frames : List OpenCall) (cs : List ℕ) → round ≡ length frames
+        → IfOk result (λ event. Brings setting frames (at + 1) cs event
+        (stage_gives setting frames (AtEscaped call terminator text) at (c ∷ cs))) }
     ensures ready { IfOk result (IsReady with.now.limits (at + 1)) }
 {
     match escaped_byte(with.readtable, &with.limits, terminator, &mut text, at, c)? {
@@ -79,7 +71,7 @@ pub(crate) fn in_escaped<R: MacroFunctions>(
 }
 
 /// The byte `c` at `at`, in the line of a call with so many open calls round it.
-#[tactic(auto, using(crate::proofs::Readiness::ended_ready))]
+#[tactic(auto, using(crate::proofs::Readiness::all_ready))]
 pub(crate) fn in_line<R: MacroFunctions>(
     with: &Surroundings<'_, R>,
     round: usize,
@@ -92,28 +84,24 @@ pub(crate) fn in_line<R: MacroFunctions>(
     requires answers { R.answers with.now.macros.now }
     requires place { at ≤ with.now.limits.text }
     requires count { at < 2 ^ 63 }
-    ensures brings { (frames : List OpenCall) (cs : List ℕ) → round ≡ length frames → IfOk result (λ event. Brings
-        (setting_of with.now.limits with.now.readtable.now with.now.packages.now.0 with.now.current.now
-        (R.registered with.now.macros.now) R.Meaning.way R.Meaning.answer)
-        frames (at + 1) cs event (stage_gives
-        (setting_of with.now.limits with.now.readtable.now with.now.packages.now.0 with.now.current.now
-        (R.registered with.now.macros.now) R.Meaning.way R.Meaning.answer)
-        frames (AtLine call keep text) at (c ∷ cs))) }
+    ensures brings { let setting = setting_with (R.registered with.now.macros.now) R.Meaning.way R.Meaning.answer with.now in
+        (frames : List OpenCall) (cs : List ℕ) → round ≡ length frames
+        → IfOk result (λ event. Brings setting frames (at + 1) cs event
+        (stage_gives setting frames (AtLine call keep text) at (c ∷ cs))) }
     ensures ready { IfOk result (IsReady with.now.limits (at + 1)) }
 {
     match line_byte(with.readtable, &with.limits, keep, &mut text, at, c)? {
         LineByte::More => Ok(Event::Stage(Stage::Line(call, keep, text))),
         LineByte::Ended => {
             let gathered = StdGathered::Text(text.into_bytes());
-            let done = complete(with, round, &call, false, false, gathered)?;
-            Ok(event_of(done, at + 1))
+            ended(with, round, &call, false, gathered, at + 1)
         }
         LineByte::Refused(code) => Ok(Event::Refused(code, at)),
     }
 }
 
 /// The byte `c` at `at`, in the block of a call with so many open calls round it.
-#[tactic(auto, using(crate::proofs::Readiness::ended_ready))]
+#[tactic(auto, using(crate::proofs::Readiness::all_ready))]
 pub(crate) fn in_block<R: MacroFunctions>(
     with: &Surroundings<'_, R>,
     round: usize,
@@ -126,21 +114,15 @@ pub(crate) fn in_block<R: MacroFunctions>(
     requires place { at ≤ with.now.limits.text }
     requires count { at < 2 ^ 63 }
     requires level { levels.0 ≤ at }
-    ensures brings { (frames : List OpenCall) (cs : List ℕ) → round ≡ length frames → IfOk result (λ event. Brings
-        (setting_of with.now.limits with.now.readtable.now with.now.packages.now.0 with.now.current.now
-        (R.registered with.now.macros.now) R.Meaning.way R.Meaning.answer)
-        frames (at + 1) cs event (stage_gives
-        (setting_of with.now.limits with.now.readtable.now with.now.packages.now.0 with.now.current.now
-        (R.registered with.now.macros.now) R.Meaning.way R.Meaning.answer)
-        frames (AtBlock call levels) at (c ∷ cs))) }
+    ensures brings { let setting = setting_with (R.registered with.now.macros.now) R.Meaning.way R.Meaning.answer with.now in
+        (frames : List OpenCall) (cs : List ℕ) → round ≡ length frames
+        → IfOk result (λ event. Brings setting frames (at + 1) cs event
+        (stage_gives setting frames (AtBlock call levels) at (c ∷ cs))) }
     ensures ready { IfOk result (IsReady with.now.limits (at + 1)) }
 {
     match block_byte(with.readtable, &with.limits, &mut levels, at, c) {
         LineByte::More => Ok(Event::Stage(Stage::Block(call, levels))),
-        LineByte::Ended => {
-            let done = complete(with, round, &call, false, false, StdGathered::Nothing)?;
-            Ok(event_of(done, at + 1))
-        }
+        LineByte::Ended => ended(with, round, &call, false, StdGathered::Nothing, at + 1),
         LineByte::Refused(code) => Ok(Event::Refused(code, at)),
     }
 }

@@ -1,7 +1,7 @@
 //! One byte that begins a token, goes on one, or is whitespace in an open call, taken where the reader is.
 ghost use Rattle.std.specs.Prelude.{◌≡◌, ◌≤◌, ◌<◌, ◌+◌, ℕ, List, ◌∷◌, length, true, IfOk, IfSome, IsTrue};
 ghost use Rattle.form_reader.specs.Feeding.{is_going};
-ghost use Rattle.form_reader.specs.Setting.{setting_of};
+ghost use Rattle.form_reader.specs.Surrounding.{setting_with};
 ghost use Rattle.form_reader.specs.InPlace.{Begins, FeedsInPlace, IsReadyInPlace, Stays};
 
 use crate::attempt::stands_alone;
@@ -35,10 +35,8 @@ pub(crate) fn in_place<R: MacroFunctions>(
 ) -> Result<InPlace, AllocError>
     requires place { at ≤ with.now.limits.text }
     requires nesting { length frames.now ≤ with.now.limits.nesting }
-    ensures feeds { (cs : List ℕ) → IfOk result (FeedsInPlace
-        (setting_of with.now.limits with.now.readtable.now with.now.packages.now.0 with.now.current.now
-        (R.registered with.now.macros.now) R.Meaning.way R.Meaning.answer)
-        frames.now at c cs stage.old stage.new) }
+    ensures feeds { let setting = setting_with (R.registered with.now.macros.now) R.Meaning.way R.Meaning.answer with.now in
+        (cs : List ℕ) → IfOk result (FeedsInPlace setting frames.now at c cs stage.old stage.new) }
     ensures ready { IfOk result (IsReadyInPlace with.now.limits at stage.new) }
 {
     match stage {
@@ -73,10 +71,8 @@ fn begun_at<R: MacroFunctions>(
 ) -> Result<Option<BegunScan>, AllocError>
     requires place { at ≤ with.now.limits.text }
     requires nesting { length frames.now ≤ with.now.limits.nesting }
-    ensures begins { (cs : List ℕ) → IfOk result (λ begun. IfSome begun (λ scan. Begins
-        (setting_of with.now.limits with.now.readtable.now with.now.packages.now.0 with.now.current.now
-        (R.registered with.now.macros.now) R.Meaning.way R.Meaning.answer)
-        frames.now at c cs scan)) }
+    ensures begins { let setting = setting_with (R.registered with.now.macros.now) R.Meaning.way R.Meaning.answer with.now in
+        (cs : List ℕ) → IfOk result (λ begun. IfSome begun (λ scan. Begins setting frames.now at c cs scan)) }
     ensures ready { IfOk result (λ begun. IfSome begun (λ scan. (at < with.now.limits.text) × IsTrue (is_going scan.stage))) }
 {
     if frames.is_closed_by(c) {
@@ -99,10 +95,8 @@ fn is_discarded<R: MacroFunctions>(
     c: u8,
 ) -> bool
     requires nesting { length frames.now ≤ with.now.limits.nesting }
-    ensures stays { (cs : List ℕ) → result ≡ true → Stays
-        (setting_of with.now.limits with.now.readtable.now with.now.packages.now.0 with.now.current.now
-        (R.registered with.now.macros.now) R.Meaning.way R.Meaning.answer)
-        frames.now at c cs }
+    ensures stays { let setting = setting_with (R.registered with.now.macros.now) R.Meaning.way R.Meaning.answer with.now in
+        (cs : List ℕ) → result ≡ true → Stays setting frames.now at c cs }
     ensures below { result ≡ true → at < with.now.limits.text }
 {
     if at >= with.limits.text || frames.len() == 0 {

@@ -1,10 +1,10 @@
 //! The functions at macro characters and sub-characters.
 ghost use Rattle.std.specs.Prelude.{◌≡◌, ◌≤◌, ◌<◌, ◌+◌, ℕ, List, ◌∷◌, length, IfOk, IfSome};
 ghost use Rattle.readtable_core.specs.Tables.{entry_at, dispatch_at};
-ghost use Rattle.form_reader.specs.Plans.{run};
-ghost use Rattle.form_reader.specs.Setting.{setting_of, function_of};
+ghost use Rattle.form_reader.specs.Setting.{function_of};
+ghost use Rattle.form_reader.specs.Surrounding.{setting_with};
 ghost use Rattle.form_reader.specs.Reading.{macro_called, sub_there};
-ghost use Rattle.form_reader.specs.Frames.{given};
+ghost use Rattle.form_reader.specs.Frames.{plan_gives};
 ghost use Rattle.form_reader.specs.Resuming.{inner_at, Brings, Moves, stage_gives};
 ghost use Rattle.form_reader.specs.declared.frame.Frame.{Frame as OpenCall};
 ghost use Rattle.form_reader.specs.declared.stage.Stage.TheVariants.{CallToken as AtCallToken, Number as AtNumber};
@@ -12,10 +12,9 @@ ghost use Rattle.form_reader.specs.Ready.{IsReady, IsReadyMove};
 
 use crate::bytes::{LineByte, number_byte};
 use crate::call::Invoked;
-use crate::complete::complete;
 use crate::frame::Frames;
 use crate::held::{HeldCharacter, HeldNumber};
-use crate::opening::{begin_call, event_of};
+use crate::opening::{begin_call, ended};
 use crate::stage::{Event, Stage};
 use crate::surroundings::Surroundings;
 use crate::tokens::token_byte;
@@ -56,19 +55,10 @@ pub(crate) fn begin_macro<R: MacroFunctions>(
     requires place { at ≤ with.now.limits.text }
     requires character { c < 128 }
     requires nesting { length frames.old ≤ with.now.limits.nesting }
-    ensures brings { (cs : List ℕ) → IfOk result (λ event. Brings
-        (setting_of with.now.limits with.now.readtable.now with.now.packages.now.0 with.now.current.now
-        (R.registered with.now.macros.now) R.Meaning.way R.Meaning.answer)
-        frames.new at cs event (run with.now.readtable.now with.now.limits (given
-        (setting_of with.now.limits with.now.readtable.now with.now.packages.now.0 with.now.current.now
-        (R.registered with.now.macros.now) R.Meaning.way R.Meaning.answer)
-        frames.old (macro_called
-        (setting_of with.now.limits with.now.readtable.now with.now.packages.now.0 with.now.current.now
-        (R.registered with.now.macros.now) R.Meaning.way R.Meaning.answer)
-        (length frames.old) (inner_at
-        (setting_of with.now.limits with.now.readtable.now with.now.packages.now.0 with.now.current.now
-        (R.registered with.now.macros.now) R.Meaning.way R.Meaning.answer)
-        (length frames.old)) c (entry_at with.now.readtable.now c).function)) at cs)) }
+    ensures brings { let setting = setting_with (R.registered with.now.macros.now) R.Meaning.way R.Meaning.answer with.now in
+        (cs : List ℕ) → IfOk result (λ event. Brings setting frames.new at cs event
+        (plan_gives setting frames.old (macro_called setting (length frames.old) (inner_at setting (length frames.old)) c
+        (entry_at setting.table c).function) at cs)) }
     ensures ready { IfOk result (IsReady with.now.limits at) }
     ensures nesting { IfOk result (λ _. length frames.new ≤ with.now.limits.nesting) }
 {
@@ -85,7 +75,6 @@ pub(crate) fn begin_macro<R: MacroFunctions>(
 }
 
 /// The byte `c` at `at`, in the token of a call with so many open calls round it.
-#[tactic(auto, using(crate::proofs::Readiness::end_within))]
 pub(crate) fn in_call_token<R: MacroFunctions>(
     with: &Surroundings<'_, R>,
     round: usize,
@@ -96,21 +85,17 @@ pub(crate) fn in_call_token<R: MacroFunctions>(
 ) -> Result<Moved, AllocError>
     requires answers { R.answers with.now.macros.now }
     requires place { at ≤ with.now.limits.text }
-    ensures moves { (frames : List OpenCall) (cs : List ℕ) → round ≡ length frames → IfOk result (λ moved. Moves
-        (setting_of with.now.limits with.now.readtable.now with.now.packages.now.0 with.now.current.now
-        (R.registered with.now.macros.now) R.Meaning.way R.Meaning.answer)
-        frames at c cs moved (stage_gives
-        (setting_of with.now.limits with.now.readtable.now with.now.packages.now.0 with.now.current.now
-        (R.registered with.now.macros.now) R.Meaning.way R.Meaning.answer)
-        frames (AtCallToken call scan) at (c ∷ cs))) }
+    ensures moves { let setting = setting_with (R.registered with.now.macros.now) R.Meaning.way R.Meaning.answer with.now in
+        (frames : List OpenCall) (cs : List ℕ) → round ≡ length frames
+        → IfOk result (λ moved. Moves setting frames at c cs moved
+        (stage_gives setting frames (AtCallToken call scan) at (c ∷ cs))) }
     ensures ready { IfOk result (IsReadyMove with.now.limits at) }
 {
     match token_byte(with.readtable, &with.limits, &mut scan, at, c)? {
         LineByte::More => Ok(Moved::Taken(Event::Stage(Stage::CallToken(call, scan)))),
         LineByte::Ended => {
             let gathered = StdGathered::Marks(scan.into_marks());
-            let done = complete(with, round, &call, true, false, gathered)?;
-            Ok(Moved::Before(event_of(done, at)))
+            Ok(Moved::Before(ended(with, round, &call, true, gathered, at)?))
         }
         LineByte::Refused(code) => Ok(Moved::Taken(Event::Refused(code, at))),
     }
@@ -128,13 +113,9 @@ pub(crate) fn in_number<R: MacroFunctions>(
     requires answers { R.answers with.now.macros.now }
     requires place { at ≤ with.now.limits.text }
     requires nesting { length frames.old ≤ with.now.limits.nesting }
-    ensures brings { (cs : List ℕ) → IfOk result (λ event. Brings
-        (setting_of with.now.limits with.now.readtable.now with.now.packages.now.0 with.now.current.now
-        (R.registered with.now.macros.now) R.Meaning.way R.Meaning.answer)
-        frames.new (at + 1) cs event (stage_gives
-        (setting_of with.now.limits with.now.readtable.now with.now.packages.now.0 with.now.current.now
-        (R.registered with.now.macros.now) R.Meaning.way R.Meaning.answer)
-        frames.old (AtNumber character number) at (c ∷ cs))) }
+    ensures brings { let setting = setting_with (R.registered with.now.macros.now) R.Meaning.way R.Meaning.answer with.now in
+        (cs : List ℕ) → IfOk result (λ event. Brings setting frames.new (at + 1) cs event
+        (stage_gives setting frames.old (AtNumber character number) at (c ∷ cs))) }
     ensures ready { IfOk result (IsReady with.now.limits (at + 1)) }
     ensures nesting { IfOk result (λ _. length frames.new ≤ with.now.limits.nesting) }
 {
@@ -158,19 +139,10 @@ fn sub_byte<R: MacroFunctions>(
     requires place { at ≤ with.now.limits.text }
     requires character { character < 128 }
     requires nesting { length frames.old ≤ with.now.limits.nesting }
-    ensures brings { (cs : List ℕ) → IfOk result (λ event. Brings
-        (setting_of with.now.limits with.now.readtable.now with.now.packages.now.0 with.now.current.now
-        (R.registered with.now.macros.now) R.Meaning.way R.Meaning.answer)
-        frames.new (at + 1) cs event (run with.now.readtable.now with.now.limits (given
-        (setting_of with.now.limits with.now.readtable.now with.now.packages.now.0 with.now.current.now
-        (R.registered with.now.macros.now) R.Meaning.way R.Meaning.answer)
-        frames.old (sub_there
-        (setting_of with.now.limits with.now.readtable.now with.now.packages.now.0 with.now.current.now
-        (R.registered with.now.macros.now) R.Meaning.way R.Meaning.answer)
-        (length frames.old) (inner_at
-        (setting_of with.now.limits with.now.readtable.now with.now.packages.now.0 with.now.current.now
-        (R.registered with.now.macros.now) R.Meaning.way R.Meaning.answer)
-        (length frames.old)) character number)) at (c ∷ cs))) }
+    ensures brings { let setting = setting_with (R.registered with.now.macros.now) R.Meaning.way R.Meaning.answer with.now in
+        (cs : List ℕ) → IfOk result (λ event. Brings setting frames.new (at + 1) cs event
+        (plan_gives setting frames.old (sub_there setting (length frames.old) (inner_at setting (length frames.old))
+        character number) at (c ∷ cs))) }
     ensures ready { IfOk result (IsReady with.now.limits (at + 1)) }
     ensures nesting { IfOk result (λ _. length frames.new ≤ with.now.limits.nesting) }
 {

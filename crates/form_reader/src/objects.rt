@@ -1,15 +1,14 @@
 //! One byte at a place where an object may begin, after a token there, and in a token that is an object.
 ghost use Rattle.std.specs.Prelude.{◌≡◌, ◌≤◌, ◌<◌, ◌+◌, ◌^◌, ℕ, List, ◌∷◌, length, true, IfOk, IsTrue};
-ghost use Rattle.package_table.specs.Table.{IsPackage};
 ghost use Rattle.token_scan.specs.Marks.{are_ascii};
 ghost use Rattle.form_reader.specs.Delivering.{Passes};
-ghost use Rattle.form_reader.specs.Plans.{gives, run};
-ghost use Rattle.form_reader.specs.Setting.{setting_of};
-ghost use Rattle.form_reader.specs.Reading.{is_blank, token_found, without_space};
-ghost use Rattle.form_reader.specs.Frames.{given, between};
+ghost use Rattle.form_reader.specs.Plans.{gives};
+ghost use Rattle.form_reader.specs.Surrounding.{setting_with};
+ghost use Rattle.form_reader.specs.Reading.{is_blank, token_found};
+ghost use Rattle.form_reader.specs.Frames.{plan_gives, place_gives};
 ghost use Rattle.form_reader.specs.Resuming.{Brings, Moves, stage_gives};
 ghost use Rattle.form_reader.specs.declared.frame.Frame.{Frame as OpenCall};
-ghost use Rattle.form_reader.specs.declared.stage.Stage.TheVariants.{Token as AtToken};
+ghost use Rattle.form_reader.specs.declared.stage.Stage.TheVariants.{Object as AtObject, Token as AtToken};
 ghost use Rattle.form_reader.specs.Ready.{lookahead, IsReady, IsReadyMove, IsReadyPass, IsEnd};
 
 use crate::attempt::{alone, begin_token, stands_alone};
@@ -37,13 +36,9 @@ pub(crate) fn at_object<R: MacroFunctions>(
     requires answers { R.answers with.now.macros.now }
     requires place { at ≤ with.now.limits.text }
     requires nesting { length frames.old ≤ with.now.limits.nesting }
-    ensures brings { (cs : List ℕ) → IfOk result (λ event. Brings
-        (setting_of with.now.limits with.now.readtable.now with.now.packages.now.0 with.now.current.now
-        (R.registered with.now.macros.now) R.Meaning.way R.Meaning.answer)
-        frames.new (at + 1) cs event (run with.now.readtable.now with.now.limits (between
-        (setting_of with.now.limits with.now.readtable.now with.now.packages.now.0 with.now.current.now
-        (R.registered with.now.macros.now) R.Meaning.way R.Meaning.answer)
-        frames.old) at (c ∷ cs))) }
+    ensures brings { let setting = setting_with (R.registered with.now.macros.now) R.Meaning.way R.Meaning.answer with.now in
+        (cs : List ℕ) → IfOk result (λ event. Brings setting frames.new (at + 1) cs event
+        (stage_gives setting frames.old AtObject at (c ∷ cs))) }
     ensures ready { IfOk result (IsReady with.now.limits (at + 1)) }
     ensures nesting { IfOk result (λ _. length frames.new ≤ with.now.limits.nesting) }
 {
@@ -70,13 +65,9 @@ pub(crate) fn after_token<R: MacroFunctions>(
     requires answers { R.answers with.now.macros.now }
     requires place { at ≤ with.now.limits.text }
     requires nesting { length frames.old ≤ with.now.limits.nesting }
-    ensures brings { (cs : List ℕ) → IfOk result (λ event. Brings
-        (setting_of with.now.limits with.now.readtable.now with.now.packages.now.0 with.now.current.now
-        (R.registered with.now.macros.now) R.Meaning.way R.Meaning.answer)
-        frames.new (at + 1) cs event (run with.now.readtable.now with.now.limits (without_space with.now.readtable.now true (between
-        (setting_of with.now.limits with.now.readtable.now with.now.packages.now.0 with.now.current.now
-        (R.registered with.now.macros.now) R.Meaning.way R.Meaning.answer)
-        frames.old)) at (c ∷ cs))) }
+    ensures brings { let setting = setting_with (R.registered with.now.macros.now) R.Meaning.way R.Meaning.answer with.now in
+        (cs : List ℕ) → IfOk result (λ event. Brings setting frames.new (at + 1) cs event
+        (place_gives setting true frames.old at (c ∷ cs))) }
     ensures ready { IfOk result (IsReady with.now.limits (at + 1)) }
     ensures nesting { IfOk result (λ _. length frames.new ≤ with.now.limits.nesting) }
 {
@@ -125,13 +116,9 @@ pub(crate) fn after_found<R: MacroFunctions>(
     requires place { at ≤ with.now.limits.text }
     requires nesting { length frames.old ≤ with.now.limits.nesting }
     requires found { lookahead found ≤ 1 }
-    ensures passes { (cs : List ℕ) → IfOk result (λ passed. Passes
-        (setting_of with.now.limits with.now.readtable.now with.now.packages.now.0 with.now.current.now
-        (R.registered with.now.macros.now) R.Meaning.way R.Meaning.answer)
-        frames.new at c cs passed (run with.now.readtable.now with.now.limits (given
-        (setting_of with.now.limits with.now.readtable.now with.now.packages.now.0 with.now.current.now
-        (R.registered with.now.macros.now) R.Meaning.way R.Meaning.answer)
-        frames.old (gives found)) at (c ∷ cs))) }
+    ensures passes { let setting = setting_with (R.registered with.now.macros.now) R.Meaning.way R.Meaning.answer with.now in
+        (cs : List ℕ) → IfOk result (λ passed. Passes setting frames.new at c cs passed
+        (plan_gives setting frames.old (gives found) at (c ∷ cs))) }
     ensures ready { IfOk result (IsReadyPass with.now.limits at) }
     ensures nesting { IfOk result (λ _. length frames.new ≤ with.now.limits.nesting) }
 {
@@ -156,14 +143,9 @@ pub(crate) fn in_token<R: MacroFunctions>(
     c: u8,
 ) -> Result<Moved, AllocError>
     requires place { at ≤ with.now.limits.text }
-    requires current { IsPackage with.now.packages.now.0 with.now.current.now }
-    ensures moves { (frames : List OpenCall) (cs : List ℕ) → IfOk result (λ moved. Moves
-        (setting_of with.now.limits with.now.readtable.now with.now.packages.now.0 with.now.current.now
-        (R.registered with.now.macros.now) R.Meaning.way R.Meaning.answer)
-        frames at c cs moved (stage_gives
-        (setting_of with.now.limits with.now.readtable.now with.now.packages.now.0 with.now.current.now
-        (R.registered with.now.macros.now) R.Meaning.way R.Meaning.answer)
-        frames (AtToken scan) at (c ∷ cs))) }
+    ensures moves { let setting = setting_with (R.registered with.now.macros.now) R.Meaning.way R.Meaning.answer with.now in
+        (frames : List OpenCall) (cs : List ℕ) → IfOk result (λ moved. Moves setting frames at c cs moved
+        (stage_gives setting frames (AtToken scan) at (c ∷ cs))) }
     ensures ready { IfOk result (IsReadyMove with.now.limits at) }
 {
     match scan.byte(with.readtable, &with.limits, at, c)? {
@@ -181,17 +163,9 @@ pub(crate) fn token_end<R: MacroFunctions>(
 ) -> Result<Event, AllocError>
     requires some { 0 < length marks.items }
     requires ascii { IsTrue (are_ascii marks.items) }
-    requires current { IsPackage with.now.packages.now.0 with.now.current.now }
-    ensures brings { (frames : List OpenCall) (cs : List ℕ) → IfOk result (λ event. Brings
-        (setting_of with.now.limits with.now.readtable.now with.now.packages.now.0 with.now.current.now
-        (R.registered with.now.macros.now) R.Meaning.way R.Meaning.answer)
-        frames at cs event (run with.now.readtable.now with.now.limits (given
-        (setting_of with.now.limits with.now.readtable.now with.now.packages.now.0 with.now.current.now
-        (R.registered with.now.macros.now) R.Meaning.way R.Meaning.answer)
-        frames (token_found
-        (setting_of with.now.limits with.now.readtable.now with.now.packages.now.0 with.now.current.now
-        (R.registered with.now.macros.now) R.Meaning.way R.Meaning.answer)
-        marks.items)) at cs)) }
+    ensures brings { let setting = setting_with (R.registered with.now.macros.now) R.Meaning.way R.Meaning.answer with.now in
+        (frames : List OpenCall) (cs : List ℕ) → IfOk result (λ event. Brings setting frames at cs event
+        (plan_gives setting frames (token_found setting marks.items) at cs)) }
     ensures ends { IfOk result (IsEnd 1 at) }
 {
     let case = with.readtable.case();

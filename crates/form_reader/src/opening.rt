@@ -1,10 +1,14 @@
 //! How a call begins.
-ghost use Rattle.std.specs.Prelude.{◌≡◌, ◌≤◌, ℕ, true, List, IfOk, length};
-ghost use Rattle.form_reader.specs.Setting.{Setting, setting_of, is_baseless, standard_way, user_way, way_in};
+ghost use Rattle.std.specs.Prelude.{◌≡◌, ◌≤◌, ℕ, true, false, List, IfOk, length};
+ghost use Rattle.form_reader.specs.Setting.{Setting, is_baseless, standard_way, user_way, way_in};
+ghost use Rattle.form_reader.specs.Surrounding.{setting_with};
 ghost use Rattle.form_reader.specs.declared.frame.Frame.{Frame as OpenCall};
-ghost use Rattle.form_reader.specs.Resuming.{Begins, Gathers, ComesTo};
+ghost use Rattle.form_reader.specs.Frames.{plan_gives};
+ghost use Rattle.form_reader.specs.Reading.{completed};
+ghost use Rattle.form_reader.specs.Resuming.{Begins, Brings, Gathers, ComesTo};
 ghost use Rattle.form_reader.specs.Opening.{reads_objects};
-ghost use Rattle.form_reader.specs.Ready.{IsReady, IsEnd, completed_lookahead};
+ghost use Rattle.form_reader.specs.Ready.{IsReady, IsEnd, completed_lookahead, space};
+ghost use Rattle.std_macros.specs.Results.{view_gathered, IsProperGathered};
 
 use crate::call::Invoked;
 use crate::complete::{Completed, complete};
@@ -30,10 +34,8 @@ pub(crate) fn begin_call<R: MacroFunctions>(
     requires answers { R.answers with.now.macros.now }
     requires place { at ≤ with.now.limits.text }
     requires nesting { length frames.old ≤ with.now.limits.nesting }
-    ensures begins { (cs : List ℕ) → IfOk result (λ event. Begins
-        (setting_of with.now.limits with.now.readtable.now with.now.packages.now.0 with.now.current.now
-        (R.registered with.now.macros.now) R.Meaning.way R.Meaning.answer)
-        frames.new frames.old call at cs event) }
+    ensures begins { let setting = setting_with (R.registered with.now.macros.now) R.Meaning.way R.Meaning.answer with.now in
+        (cs : List ℕ) → IfOk result (λ event. Begins setting frames.new frames.old call at cs event) }
     ensures ready { IfOk result (IsReady with.now.limits at) }
     ensures nesting { IfOk result (λ _. length frames.new ≤ with.now.limits.nesting) }
 {
@@ -44,7 +46,7 @@ pub(crate) fn begin_call<R: MacroFunctions>(
 }
 
 /// Begins to gather in this way.
-#[tactic(auto, using(crate::proofs::Beginnings::next_opens, crate::proofs::Beginnings::list_opens, crate::proofs::Beginnings::until_opens, crate::proofs::Beginnings::next_deep, crate::proofs::Beginnings::list_deep, crate::proofs::Beginnings::until_deep, crate::proofs::Beginnings::token_begins, crate::proofs::Beginnings::escaped_begins, crate::proofs::Readiness::ended_ready))]
+#[tactic(auto, using(crate::proofs::Beginnings::next_opens, crate::proofs::Beginnings::list_opens, crate::proofs::Beginnings::until_opens, crate::proofs::Beginnings::next_deep, crate::proofs::Beginnings::list_deep, crate::proofs::Beginnings::until_deep, crate::proofs::Beginnings::token_begins, crate::proofs::Beginnings::escaped_begins, crate::proofs::Readiness::all_ready))]
 fn gather<R: MacroFunctions>(
     with: &Surroundings<'_, R>,
     frames: &mut Frames,
@@ -55,25 +57,13 @@ fn gather<R: MacroFunctions>(
     requires answers { R.answers with.now.macros.now }
     requires place { at ≤ with.now.limits.text }
     requires nesting { length frames.old ≤ with.now.limits.nesting }
-    ensures gathers { (cs : List ℕ) → IfOk result (λ event. Gathers
-        (setting_of with.now.limits with.now.readtable.now with.now.packages.now.0 with.now.current.now
-        (R.registered with.now.macros.now) R.Meaning.way R.Meaning.answer)
-        frames.new frames.old call way at cs event) }
+    ensures gathers { let setting = setting_with (R.registered with.now.macros.now) R.Meaning.way R.Meaning.answer with.now in
+        (cs : List ℕ) → IfOk result (λ event. Gathers setting frames.new frames.old call way at cs event) }
     ensures ready { IfOk result (IsReady with.now.limits at) }
     ensures nesting { IfOk result (λ _. length frames.new ≤ with.now.limits.nesting) }
 {
     match way {
-        Way::Nothing => {
-            let done = complete(
-                with,
-                frames.len(),
-                &call,
-                false,
-                false,
-                StdGathered::Nothing,
-            )?;
-            Ok(event_of(done, at))
-        }
+        Way::Nothing => ended(with, frames.len(), &call, false, StdGathered::Nothing, at),
         Way::Next => gather_objects(with, frames, call, way, at),
         Way::List => gather_objects(with, frames, call, way, at),
         Way::Until(_) => gather_objects(with, frames, call, way, at),
@@ -109,10 +99,8 @@ fn gather_objects<R: MacroFunctions>(
     requires objects { reads_objects way ≡ true }
     requires place { at ≤ with.now.limits.text }
     requires nesting { length frames.old ≤ with.now.limits.nesting }
-    ensures gathers { (cs : List ℕ) → IfOk result (λ event. Gathers
-        (setting_of with.now.limits with.now.readtable.now with.now.packages.now.0 with.now.current.now
-        (R.registered with.now.macros.now) R.Meaning.way R.Meaning.answer)
-        frames.new frames.old call way at cs event) }
+    ensures gathers { let setting = setting_with (R.registered with.now.macros.now) R.Meaning.way R.Meaning.answer with.now in
+        (cs : List ℕ) → IfOk result (λ event. Gathers setting frames.new frames.old call way at cs event) }
     ensures ready { IfOk result (IsReady with.now.limits at) }
     ensures nesting { IfOk result (λ _. length frames.new ≤ with.now.limits.nesting) }
 {
@@ -159,12 +147,30 @@ pub(crate) fn event_of(completed: Completed, at: usize) -> Event
     }
 }
 
+/// What a call brings that ends at `at`, with so many open calls round it, and whether a token ends it.
+pub(crate) fn ended<R: MacroFunctions>(
+    with: &Surroundings<'_, R>,
+    round: usize,
+    call: &Invoked,
+    token: bool,
+    gathered: StdGathered,
+    at: usize,
+) -> Result<Event, AllocError>
+    requires answers { R.answers with.now.macros.now }
+    requires proper { IsProperGathered gathered }
+    ensures brings { let setting = setting_with (R.registered with.now.macros.now) R.Meaning.way R.Meaning.answer with.now in
+        (frames : List OpenCall) (cs : List ℕ) → round ≡ length frames
+        → IfOk result (λ event. Brings setting frames at cs event
+        (plan_gives setting frames (completed setting (length frames) call.now token false (view_gathered gathered)) at cs)) }
+    ensures ends { IfOk result (IsEnd (space token) at) }
+{
+    Ok(event_of(complete(with, round, call, token, false, gathered)?, at))
+}
+
 /// The way in which the function of a call gathers.
 fn way_of<R: MacroFunctions>(with: &Surroundings<'_, R>, call: &Invoked) -> Option<Way>
-    ensures { result ≡ way_in
-        (setting_of with.now.limits with.now.readtable.now with.now.packages.now.0 with.now.current.now
-        (R.registered with.now.macros.now) R.Meaning.way R.Meaning.answer)
-        call.now }
+    ensures { let setting = setting_with (R.registered with.now.macros.now) R.Meaning.way R.Meaning.answer with.now in
+        result ≡ way_in setting call.now }
 {
     match call.function() {
         Function::Standard(kind) => {

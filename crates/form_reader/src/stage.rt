@@ -1,8 +1,8 @@
 //! Where a reader is in its innermost call.
-ghost use Rattle.std.specs.Prelude.{◌≡◌, ◌≤◌, ◌<◌, ℕ, List, [], ◌∷◌, length, IfOk, IsTrue, IsFalse, Ok};
-ghost use Rattle.token_scan.specs.Tokens.{kind, typed};
+ghost use Rattle.std.specs.Prelude.{◌≡◌, ◌≤◌, ◌<◌, ℕ, List, [], ◌∷◌, length, IfOk, OnErr, IsTrue, IsFalse, Ok};
+ghost use Rattle.token_scan.specs.Tokens.{kind, typed, typed_text};
 ghost use Rattle.token_scan.specs.Spelling.{ends_tokens};
-ghost use Rattle.token_scan.specs.Scans.{Scan, begun, has_begun};
+ghost use Rattle.token_scan.specs.Scans.{GoesPast, Scan, begun, has_begun, token_from};
 ghost use Rattle.form_reader.specs.Feeding.{TokenFeeds, is_going, token_read};
 ghost use Rattle.form_reader.specs.declared.bytes.LineByte.TheVariants.{Ended as LineEnded, More as LineMore};
 ghost use Rattle.form_reader.specs.Begun.{BegunFeeds, FirstFeeds, IsBegunByte};
@@ -72,6 +72,9 @@ pub(crate) fn first_byte(
         FirstFeeds readtable.now limits.now at cs fed (token_read readtable.now limits.now (begun limits.now.token) at (c ∷ cs))) }
     ensures going { (scan : Scan) → result ≡ Ok (FirstMore scan) → IsTrue (is_going scan.stage) }
     ensures below { (scan : Scan) → result ≡ Ok (FirstMore scan) → at < limits.now.text }
+    ensures calm { OnErr result (at < limits.now.text) }
+    ensures goes { (more : List ℕ) → OnErr result
+        (GoesPast at (token_from (begun limits.now.token) at (typed_text readtable.now (c ∷ more)))) }
 {
     let mut scan = TokenScan::begin(alloc, limits.token);
     match token_byte(readtable, limits, &mut scan, at, c)? {
@@ -104,6 +107,9 @@ impl BegunScan {
         ensures ended { result ≡ Ok LineEnded → self.new ≡ self.old }
         ensures going { result ≡ Ok LineMore → IsTrue (is_going self.new.stage) }
         ensures below { result ≡ Ok LineMore → at < limits.now.text }
+        ensures calm { OnErr result (at < limits.now.text) }
+        ensures goes { (more : List ℕ) → OnErr result
+            (GoesPast at (token_from self.old at (typed_text readtable.now (c ∷ more)))) }
     {
         token_byte(readtable, limits, &mut self.scan, at, c)
     }
@@ -123,6 +129,9 @@ impl BegunScan {
         ensures ended { IfOk result IsBegunByte }
         ensures going { (scan : Scan) → result ≡ Ok (BegunMore scan) → IsTrue (is_going scan.stage) }
         ensures below { (scan : Scan) → result ≡ Ok (BegunMore scan) → at < limits.now.text }
+        ensures calm { OnErr result (at < limits.now.text) }
+        ensures goes { (more : List ℕ) → OnErr result
+            (GoesPast at (token_from self at (typed_text readtable.now (c ∷ more)))) }
     {
         let BegunScan { mut scan } = self;
         match token_byte(readtable, limits, &mut scan, at, c)? {

@@ -1,11 +1,13 @@
 //! What reading is handed.
+ghost use Rattle.package_table.specs.Table.{IsPackage};
+
 use crate::Limits;
 use package_table::Packages;
 use readtable_core::Readtable;
 use std::alloc::Global;
 
-/// The limits, the readtable in force, the packages and the current one, and the functions of users.
-#[derive(Clone, Copy)]
+/// The limits, the readtable in force, the packages and the current one, which is one of them, and the functions of users.
+#[derive(Drop)]
 pub struct Surroundings<'a, R> {
     pub alloc: Global,
     pub limits: Limits,
@@ -13,4 +15,5 @@ pub struct Surroundings<'a, R> {
     pub packages: &'a Packages,
     pub current: &'a [u8],
     pub macros: &'a R,
+    ghost known: { IsPackage packages.now.0 current.now },
 }

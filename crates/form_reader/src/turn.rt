@@ -1,13 +1,13 @@
 //! One byte of a text, wherever a reader is in a form, and after what it ends.
 ghost use Rattle.std.specs.Prelude.{◌≡◌, ◌≤◌, ◌<◌, ◌+◌, ◌^◌, ℕ, List, [], ◌∷◌, length, Ok, IfOk};
-ghost use Rattle.package_table.specs.Table.{IsPackage};
 ghost use Rattle.form_reader.specs.Plans.{Read};
 ghost use Rattle.form_reader.specs.declared.found.Found.{Found as FoundThere};
 ghost use Rattle.form_reader.specs.declared.frame.Frame.{Frame as OpenCall};
 ghost use Rattle.form_reader.specs.declared.limits.Limits.{Limits as Bounds};
-ghost use Rattle.form_reader.specs.Setting.{Setting, setting_of};
+ghost use Rattle.form_reader.specs.Setting.{Setting};
+ghost use Rattle.form_reader.specs.Surrounding.{setting_with};
 ghost use Rattle.form_reader.specs.Delivering.{Passes};
-ghost use Rattle.form_reader.specs.Resuming.{Brings, IsStageAt, stage_gives};
+ghost use Rattle.form_reader.specs.Resuming.{Brings, stage_gives};
 ghost use Rattle.form_reader.specs.Ready.{lookahead, IsReady, IsReadyPass};
 ghost use Rattle.form_reader.specs.Turning.{outcome_of, rest_of, Settles, TurnsTo, IsStanding, IsReadySettled, IsReadyTurn, BeginsFrom};
 
@@ -55,18 +55,11 @@ pub(crate) fn feed<R: MacroFunctions>(
     c: u8,
 ) -> Result<Passed, AllocError>
     requires answers { R.answers with.now.macros.now }
-    requires place { at ≤ with.now.limits.text }
+    requires standing { IsStanding with.now.limits frames.old stage at }
     requires count { at < 2 ^ 63 }
-    requires nesting { length frames.old ≤ with.now.limits.nesting }
-    requires current { IsPackage with.now.packages.now.0 with.now.current.now }
-    requires stage { IsStageAt at stage }
-    ensures passes { (cs : List ℕ) → IfOk result (λ passed. Passes
-        (setting_of with.now.limits with.now.readtable.now with.now.packages.now.0 with.now.current.now
-        (R.registered with.now.macros.now) R.Meaning.way R.Meaning.answer)
-        frames.new at c cs passed (stage_gives
-        (setting_of with.now.limits with.now.readtable.now with.now.packages.now.0 with.now.current.now
-        (R.registered with.now.macros.now) R.Meaning.way R.Meaning.answer)
-        frames.old stage at (c ∷ cs))) }
+    ensures passes { let setting = setting_with (R.registered with.now.macros.now) R.Meaning.way R.Meaning.answer with.now in
+        (cs : List ℕ) → IfOk result (λ passed. Passes setting frames.new at c cs passed
+        (stage_gives setting frames.old stage at (c ∷ cs))) }
     ensures ready { IfOk result (IsReadyPass with.now.limits at) }
     ensures nesting { IfOk result (λ _. length frames.new ≤ with.now.limits.nesting) }
 {
@@ -90,13 +83,9 @@ fn settle<R: MacroFunctions>(
     requires answers { R.answers with.now.macros.now }
     requires nesting { length frames.old ≤ with.now.limits.nesting }
     requires ready { IsReady with.now.limits at event }
-    ensures settles { (cs : List ℕ) (read : Read FoundThere) → Brings
-        (setting_of with.now.limits with.now.readtable.now with.now.packages.now.0 with.now.current.now
-        (R.registered with.now.macros.now) R.Meaning.way R.Meaning.answer)
-        frames.old at cs event read → IfOk result (λ settled. Settles
-        (setting_of with.now.limits with.now.readtable.now with.now.packages.now.0 with.now.current.now
-        (R.registered with.now.macros.now) R.Meaning.way R.Meaning.answer)
-        frames.new at cs settled read) }
+    ensures settles { let setting = setting_with (R.registered with.now.macros.now) R.Meaning.way R.Meaning.answer with.now in
+        (cs : List ℕ) (read : Read FoundThere) → Brings setting frames.old at cs event read
+        → IfOk result (λ settled. Settles setting frames.new at cs settled read) }
     ensures ready { IfOk result (IsReadySettled with.now.limits frames.new at) }
 {
     match event {
@@ -138,16 +127,9 @@ fn turn_of<R: MacroFunctions>(
     requires nesting { length frames.old ≤ with.now.limits.nesting }
     requires ready { IsReady with.now.limits at event }
     requires count { start + at ≤ 2 ^ 63 }
-    ensures turns { (cs : List ℕ) (read : Read FoundThere) → Brings
-        (setting_of with.now.limits with.now.readtable.now with.now.packages.now.0 with.now.current.now
-        (R.registered with.now.macros.now) R.Meaning.way R.Meaning.answer)
-        frames.old at cs event read → IfOk result (λ turn. TurnsTo
-        (setting_of with.now.limits with.now.readtable.now with.now.packages.now.0 with.now.current.now
-        (R.registered with.now.macros.now) R.Meaning.way R.Meaning.answer)
-        frames.new cs turn (outcome_of
-        (setting_of with.now.limits with.now.readtable.now with.now.packages.now.0 with.now.current.now
-        (R.registered with.now.macros.now) R.Meaning.way R.Meaning.answer)
-        start read)) }
+    ensures turns { let setting = setting_with (R.registered with.now.macros.now) R.Meaning.way R.Meaning.answer with.now in
+        (cs : List ℕ) (read : Read FoundThere) → Brings setting frames.old at cs event read
+        → IfOk result (λ turn. TurnsTo setting frames.new cs turn (outcome_of setting start read)) }
     ensures ready { IfOk result (IsReadyTurn with.now.limits frames.new (start + at)) }
     ensures begins { IfOk result (BeginsFrom start) }
 {
@@ -171,13 +153,9 @@ fn done_before<R: MacroFunctions>(
     requires found { lookahead found ≤ 1 }
     requires none { frames.old ≡ [] }
     requires count { start + at < 2 ^ 63 }
-    ensures turns { (cs : List ℕ) → IfOk result (λ turn. TurnsTo
-        (setting_of with.now.limits with.now.readtable.now with.now.packages.now.0 with.now.current.now
-        (R.registered with.now.macros.now) R.Meaning.way R.Meaning.answer)
-        frames.new cs turn (outcome_of
-        (setting_of with.now.limits with.now.readtable.now with.now.packages.now.0 with.now.current.now
-        (R.registered with.now.macros.now) R.Meaning.way R.Meaning.answer)
-        start (Ok (found, at, c ∷ cs)))) }
+    ensures turns { let setting = setting_with (R.registered with.now.macros.now) R.Meaning.way R.Meaning.answer with.now in
+        (cs : List ℕ) → IfOk result (λ turn. TurnsTo setting frames.new cs turn
+        (outcome_of setting start (Ok (found, at, c ∷ cs)))) }
     ensures ready { IfOk result (IsReadyTurn with.now.limits frames.new (start + at + 1)) }
     ensures begins { IfOk result (BeginsFrom start) }
 {
@@ -208,16 +186,11 @@ pub(crate) fn take_byte<R: MacroFunctions>(
     c: u8,
 ) -> Result<Turn, AllocError>
     requires answers { R.answers with.now.macros.now }
-    requires current { IsPackage with.now.packages.now.0 with.now.current.now }
     requires standing { IsStanding with.now.limits frames.old stage at }
     requires count { start + at < 2 ^ 63 }
-    ensures turns { (cs : List ℕ) → IfOk result (λ turn. TurnsTo
-        (setting_of with.now.limits with.now.readtable.now with.now.packages.now.0 with.now.current.now
-        (R.registered with.now.macros.now) R.Meaning.way R.Meaning.answer)
-        frames.new cs turn (rest_of
-        (setting_of with.now.limits with.now.readtable.now with.now.packages.now.0 with.now.current.now
-        (R.registered with.now.macros.now) R.Meaning.way R.Meaning.answer)
-        frames.old stage start at (c ∷ cs))) }
+    ensures turns { let setting = setting_with (R.registered with.now.macros.now) R.Meaning.way R.Meaning.answer with.now in
+        (cs : List ℕ) → IfOk result (λ turn. TurnsTo setting frames.new cs turn
+        (rest_of setting frames.old stage start at (c ∷ cs))) }
     ensures ready { IfOk result (IsReadyTurn with.now.limits frames.new (start + at + 1)) }
     ensures begins { IfOk result (BeginsFrom start) }
 {

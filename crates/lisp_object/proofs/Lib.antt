@@ -1,4 +1,5 @@
 pub mod Atoms
+pub mod ByKind
 pub mod Depths
 pub mod Lists
 pub mod Objects

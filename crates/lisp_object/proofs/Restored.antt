@@ -1,16 +1,13 @@
 -- A proper datum is told by the object that it stands for: it can be built again from it.
-use Rattle.std.proofs.Common.{◌≡◌, ℕ, ℤ, List, [], ◌∷◌, length, map, Option, None, Some, true, false, not, ◌&&◌, nat_lt, refl, sym, ap, ◌∙◌, subst}
+use Rattle.std.proofs.Common.{◌≡◌, ℕ, ℤ, List, [], ◌∷◌, length, map, Option, None, Some, true, false, nat_lt, refl, sym, ap, ◌∙◌}
 use Rattle.std.specs.Prelude.{if◌then◌else◌}
 use Rattle.std.specs.List.{list_all}
-use Rattle.std.proofs.lemmas.Bool.{and_parts, both_ways, not-true}
+use Rattle.std.proofs.lemmas.Bool.{and_parts}
 use Rattle.lisp_object.specs.declared.datum.Datum
-use Rattle.lisp_object.specs.declared.datum.Datum.{Datum, roll-Datum, map-Datum, ind-Datum}
-use Rattle.lisp_object.specs.declared.datum.Datum.TheOpen.{Datum-F}
-use Rattle.lisp_object.specs.declared.datum.Datum.TheVariants.{rolls-Integer, rolls-Rational, rolls-Char, rolls-Text, rolls-Symbol, rolls-Uninterned, rolls-List, rolls-Vector}
+use Rattle.lisp_object.specs.declared.datum.Datum.{Datum}
 use Rattle.lisp_object.specs.Object.{Object, integer, rational, character, text, symbol, uninterned, pair, vector, nil, is_nil, pairs, list_of}
-use Rattle.lisp_object.specs.Datum.{object_of, is_proper, is_list}
-use Rattle.lisp_object.proofs.Objects.{object_of-Integer, object_of-Rational, object_of-Char, object_of-Text, object_of-Symbol, object_of-Uninterned, object_of-List, object_of-dotted, object_of-Vector}
-use Rattle.lisp_object.proofs.Properness.{is_proper-List, is_proper-dotted, is_proper-Vector, is_list-Symbol, is_list-List, is_list-dotted}
+use Rattle.lisp_object.specs.Datum.{object_of, is_proper}
+use Rattle.lisp_object.proofs.ByKind
 
 -- the datum of an object, the items of a list, and its end unless that is NIL
 abbrev mutual
@@ -39,29 +36,17 @@ abbrev mutual
   end_along (vector xs) = Some (Datum.Vector (items_along xs))
 
 -- a datum comes back from its object, and so does an end of a list
-abbrev Ends : Datum → Object → Type 0
-Ends x o = (items_along o ≡ []) × (end_along o ≡ Some x)
+abbrev Whole : Datum → Object → Type 0
+Whole x o = datum_of o ≡ x
 
-abbrev Restored : Datum → Type 0
-Restored x = is_proper x ≡ true → (datum_of (object_of x) ≡ x) × (is_list x ≡ false → Ends x (object_of x))
+abbrev End : Datum → Object → Type 0
+End x o = (items_along o ≡ []) × (end_along o ≡ Some x)
 
 abbrev Known : Type 0
-Known = (x : Datum) × Restored x
+Known = ByKind.Known Whole End
 
 abbrev data_of : List Known → List Datum
-data_of es = map (λ e. e.0) es
-
-atom : (x : Datum) (o : Object) → object_of x ≡ o → datum_of o ≡ x → Ends x o → Restored x
-atom x o is back ends _ = (ap datum_of is ∙ back, λ _. subst (Ends x) (sym is) ends)
-
-symbol_arm : (home name : List ℕ) → Restored (Datum.Symbol home name)
-symbol_arm home name _ =
-    let is : object_of (Datum.Symbol home name) ≡ symbol home name = object_of-Symbol home name in (
-      ap datum_of is,
-      λ other.
-          let unnamed : is_nil home name ≡ false = sym (is_list-Symbol home name) ∙ other in
-          (ap items_along is, ap end_along is ∙ ap (λ b. if b then None else Some (Datum.Symbol home name)) unnamed),
-    )
+data_of es = ByKind.data_of Whole End es
 
 along : (es : List Known) (end : Object) → items_along end ≡ [] → list_all is_proper (data_of es) ≡ true
     → items_along (pairs (map object_of (data_of es)) end) ≡ data_of es
@@ -88,53 +73,19 @@ list_back : (es : List Known) (end : Object) (tail : Option Datum) → nat_lt 0 
 list_back es end tail some all none last =
     over es end some ∙ (λ i. Datum.List (along es end none all i) ((ends_same es end ∙ last) i))
 
-list_arm : (es : List Known) → Restored (Datum.List (data_of es) None)
-list_arm es proper =
-    let parts : (nat_lt 0 (length (data_of es)) ≡ true) × (list_all is_proper (data_of es) ≡ true) =
-    and_parts (nat_lt 0 (length (data_of es))) (list_all is_proper (data_of es)) (sym (is_proper-List (data_of es)) ∙ proper) in (
-      ap datum_of (object_of-List (data_of es)) ∙ list_back es nil None parts.0 parts.1 refl refl,
-      λ other. absurd (both_ways (is_list (Datum.List (data_of es) None)) other (is_list-List (data_of es))),
-    )
-
-dotted_arm : (es : List Known) (t : Known) → Restored (Datum.List (data_of es) (Some t.0))
-dotted_arm es t proper =
-    let whole : ((nat_lt 0 (length (data_of es)) && list_all is_proper (data_of es)) ≡ true) × ((is_proper t.0 && not (is_list t.0)) ≡ true) =
-    and_parts (nat_lt 0 (length (data_of es)) && list_all is_proper (data_of es)) (is_proper t.0 && not (is_list t.0))
-    (sym (is_proper-dotted (data_of es) t.0) ∙ proper) in
-    let parts : (nat_lt 0 (length (data_of es)) ≡ true) × (list_all is_proper (data_of es) ≡ true) =
-    and_parts (nat_lt 0 (length (data_of es))) (list_all is_proper (data_of es)) whole.0 in
-    let last : (is_proper t.0 ≡ true) × (not (is_list t.0) ≡ true) = and_parts (is_proper t.0) (not (is_list t.0)) whole.1 in
-    let ends : Ends t.0 (object_of t.0) = (t.1 last.0).1 (not-true (is_list t.0) last.1) in (
-      ap datum_of (object_of-dotted (data_of es) t.0)
-          ∙ list_back es (object_of t.0) (Some t.0) parts.0 parts.1 ends.0 ends.1,
-      λ other. absurd (both_ways (is_list (Datum.List (data_of es) (Some t.0))) other (is_list-dotted (data_of es) t.0)),
-    )
-
-vector_arm : (es : List Known) → Restored (Datum.Vector (data_of es))
-vector_arm es proper =
-    let all : list_all is_proper (data_of es) ≡ true = sym (is_proper-Vector (data_of es)) ∙ proper in
-    let is : object_of (Datum.Vector (data_of es)) ≡ vector (list_of (map object_of (data_of es))) = object_of-Vector (data_of es) in
-    let same : items_along (list_of (map object_of (data_of es))) ≡ data_of es = along es nil refl all in
-    (ap datum_of is ∙ ap Datum.Vector same, λ _. (ap items_along is, ap end_along is ∙ ap (λ xs. Some (Datum.Vector xs)) same))
-
-at : (y : Datum-F Known) → Restored (roll-Datum (map-Datum Known Datum (λ e. e.0) y))
-at (Datum-F.Integer n) = subst Restored (sym (rolls-Integer n)) (atom (Datum.Integer n) (integer n) (object_of-Integer n) refl (refl, refl))
-at (Datum-F.Rational r) =
-    subst Restored (sym (rolls-Rational r)) (atom (Datum.Rational r) (rational r.0 r.1) (object_of-Rational r) refl (refl, refl))
-at (Datum-F.Char c) = subst Restored (sym (rolls-Char c)) (atom (Datum.Char c) (character c) (object_of-Char c) refl (refl, refl))
-at (Datum-F.Text b) = subst Restored (sym (rolls-Text b)) (atom (Datum.Text b) (text b) (object_of-Text b) refl (refl, refl))
-at (Datum-F.Symbol h n) = subst Restored (sym (rolls-Symbol h n)) (symbol_arm h n)
-at (Datum-F.Uninterned n) =
-    subst Restored (sym (rolls-Uninterned n)) (atom (Datum.Uninterned n) (uninterned n) (object_of-Uninterned n) refl (refl, refl))
-at (Datum-F.List es None) = subst Restored (sym (rolls-List (data_of es) None)) (list_arm es)
-at (Datum-F.List es (Some t)) = subst Restored (sym (rolls-List (data_of es) (Some t.0))) (dotted_arm es t)
-at (Datum-F.Vector es) = subst Restored (sym (rolls-Vector (data_of es))) (vector_arm es)
-
-restored : (x : Datum) → Restored x
-restored = ind-Datum Restored (λ x y is. subst (λ z. Restored (roll-Datum z)) is (at y))
+vector_back : (es : List Known) → list_all is_proper (data_of es) ≡ true
+    → items_along (list_of (map object_of (data_of es))) ≡ data_of es
+vector_back es all = along es nil refl all
 
 pub datum_of-object_of : (x : Datum) → is_proper x ≡ true → datum_of (object_of x) ≡ x
-datum_of-object_of x proper = (restored x proper).0
+datum_of-object_of x proper =
+    (ByKind.by_kind Whole End
+    (λ n. (refl, (refl, refl))) (λ r. (refl, (refl, refl))) (λ c. (refl, (refl, refl))) (λ b. (refl, (refl, refl)))
+    (λ home name. (refl, λ unnamed. (refl, ap (λ b. if b then None else Some (Datum.Symbol home name)) unnamed)))
+    (λ name. (refl, (refl, refl)))
+    (λ es some all. list_back es nil None some all refl refl)
+    (λ es t some all end. list_back es (object_of t.0) (Some t.0) some all end.0 end.1)
+    (λ es all. (ap Datum.Vector (vector_back es all), (refl, ap (λ xs. Some (Datum.Vector xs)) (vector_back es all)))) x proper).0
 
 -- proper data that stand for one object are equal
 pub same_datum : (x y : Datum) → is_proper x ≡ true → is_proper y ≡ true → object_of x ≡ object_of y → x ≡ y

@@ -1,43 +1,28 @@
 -- The size of a proper datum is the size of the object that it stands for.
-use Rattle.std.proofs.Common.{◌≡◌, ℕ, ◌+◌, List, [], ◌∷◌, length, map, None, Some, true, false, not, ◌&&◌, nat_lt, refl, sym, ap, ◌∙◌, subst, arith}
+use Rattle.std.proofs.Common.{◌≡◌, ℕ, ◌+◌, List, [], ◌∷◌, length, map, None, Some, true, false, nat_lt, refl, sym, ap, ◌∙◌, arith}
 use Rattle.std.specs.Prelude.{sum, if◌then◌else◌}
 use Rattle.std.specs.List.{list_all}
 use Rattle.std.proofs.lemmas.List.Sums.{sum_by-cons}
-use Rattle.std.proofs.lemmas.Bool.{and_parts, both_ways, not-true}
+use Rattle.std.proofs.lemmas.Bool.{and_parts}
 use Rattle.lisp_object.specs.declared.datum.Datum
-use Rattle.lisp_object.specs.declared.datum.Datum.{Datum, roll-Datum, map-Datum, ind-Datum}
-use Rattle.lisp_object.specs.declared.datum.Datum.TheOpen.{Datum-F}
-use Rattle.lisp_object.specs.declared.datum.Datum.TheVariants.{rolls-Integer, rolls-Rational, rolls-Char, rolls-Text, rolls-Symbol, rolls-Uninterned, rolls-List, rolls-Vector}
+use Rattle.lisp_object.specs.declared.datum.Datum.{Datum}
 use Rattle.lisp_object.specs.Object.{Object, nil, is_nil, pairs, list_of, object_size, size_along}
-use Rattle.lisp_object.specs.Datum.{object_of, size, size_step, is_proper, is_list}
-use Rattle.lisp_object.proofs.Objects.{fold-Integer, fold-Rational, fold-Char, fold-Text, fold-Symbol, fold-Uninterned, object_of-Integer, object_of-Rational, object_of-Char, object_of-Text, object_of-Symbol, object_of-Uninterned, object_of-List, object_of-dotted, object_of-Vector, size-List, size-dotted, size-Vector}
-use Rattle.lisp_object.proofs.Properness.{is_proper-List, is_proper-dotted, is_proper-Vector, is_list-Symbol, is_list-List, is_list-dotted}
+use Rattle.lisp_object.specs.Datum.{object_of, size, size_step, is_proper}
+use Rattle.lisp_object.proofs.Objects.{fold-Integer, fold-Rational, fold-Char, fold-Text, fold-Symbol, fold-Uninterned, size-List, size-dotted, size-Vector}
+use Rattle.lisp_object.proofs.ByKind
 
--- both sizes agree at a datum, and where it is the end of a list
-abbrev Agrees : Datum → Type 0
-Agrees x = is_proper x ≡ true
-    → (size x ≡ object_size (object_of x)) × (is_list x ≡ false → size x ≡ size_along (object_of x))
+-- the size is that of the object, and where the datum ends a list too
+abbrev Whole : Datum → Object → Type 0
+Whole x o = size x ≡ object_size o
+
+abbrev End : Datum → Object → Type 0
+End x o = size x ≡ size_along o
 
 abbrev Known : Type 0
-Known = (x : Datum) × Agrees x
+Known = ByKind.Known Whole End
 
 abbrev data_of : List Known → List Datum
-data_of es = map (λ e. e.0) es
-
--- an atom other than a symbol has size 1 either way
-atom : (x : Datum) (o : Object) → size x ≡ 1 → object_of x ≡ o → object_size o ≡ 1 → size_along o ≡ 1 → Agrees x
-atom x o one is alone along _ =
-    (one ∙ sym (ap object_size is ∙ alone), λ _. one ∙ sym (ap size_along is ∙ along))
-
--- a symbol has size 1, and at the end of a list too unless it is NIL
-symbol_arm : (home name : List ℕ) → Agrees (Datum.Symbol home name)
-symbol_arm home name _ =
-    let one : size (Datum.Symbol home name) ≡ 1 = fold-Symbol size_step home name in (
-      one ∙ sym (ap object_size (object_of-Symbol home name)),
-      λ other.
-          let unnamed : is_nil home name ≡ false = sym (is_list-Symbol home name) ∙ other in
-          one ∙ sym (ap size_along (object_of-Symbol home name) ∙ ap (λ b. if b then 0 else 1) unnamed),
-    )
+data_of es = ByKind.data_of Whole End es
 
 along : (es : List Known) (end : Object) → list_all is_proper (data_of es) ≡ true
     → size_along (pairs (map object_of (data_of es)) end) ≡ sum (map size (data_of es)) + size_along end
@@ -53,57 +38,29 @@ over : (es : List Known) (end : Object) → nat_lt 0 (length (data_of es)) ≡ t
 over [] end some = absurd (cc)
 over (e ∷ es) end some = refl
 
-list_arm : (es : List Known) → Agrees (Datum.List (data_of es) None)
-list_arm es proper =
-    let parts : (nat_lt 0 (length (data_of es)) ≡ true) × (list_all is_proper (data_of es) ≡ true) =
-    and_parts (nat_lt 0 (length (data_of es))) (list_all is_proper (data_of es)) (sym (is_proper-List (data_of es)) ∙ proper) in (
-      size-List (data_of es)
-          ∙ sym (ap object_size (object_of-List (data_of es)) ∙ over es nil parts.0 ∙ ap (λ m. m + 1) (along es nil parts.1)),
-      λ other. absurd (both_ways (is_list (Datum.List (data_of es) None)) other (is_list-List (data_of es))),
-    )
+of_list : (es : List Known) → nat_lt 0 (length (data_of es)) ≡ true → list_all is_proper (data_of es) ≡ true
+    → Whole (Datum.List (data_of es) None) (pairs (map object_of (data_of es)) nil)
+of_list es some all = size-List (data_of es) ∙ sym (over es nil some ∙ ap (λ m. m + 1) (along es nil all))
 
-dotted_arm : (es : List Known) (t : Known) → Agrees (Datum.List (data_of es) (Some t.0))
-dotted_arm es t proper =
-    let whole : ((nat_lt 0 (length (data_of es)) && list_all is_proper (data_of es)) ≡ true) × ((is_proper t.0 && not (is_list t.0)) ≡ true) =
-    and_parts (nat_lt 0 (length (data_of es)) && list_all is_proper (data_of es)) (is_proper t.0 && not (is_list t.0))
-    (sym (is_proper-dotted (data_of es) t.0) ∙ proper) in
-    let parts : (nat_lt 0 (length (data_of es)) ≡ true) × (list_all is_proper (data_of es) ≡ true) =
-    and_parts (nat_lt 0 (length (data_of es))) (list_all is_proper (data_of es)) whole.0 in
-    let ends : (is_proper t.0 ≡ true) × (not (is_list t.0) ≡ true) = and_parts (is_proper t.0) (not (is_list t.0)) whole.1 in
-    let tail : size t.0 ≡ size_along (object_of t.0) = (t.1 ends.0).1 (not-true (is_list t.0) ends.1) in (
-      size-dotted (data_of es) t.0 ∙ ap (λ m. sum (map size (data_of es)) + m + 1) tail
-          ∙ sym (ap object_size (object_of-dotted (data_of es) t.0) ∙ over es (object_of t.0) parts.0
-          ∙ ap (λ m. m + 1) (along es (object_of t.0) parts.1)),
-      λ other. absurd (both_ways (is_list (Datum.List (data_of es) (Some t.0))) other (is_list-dotted (data_of es) t.0)),
-    )
+of_dotted : (es : List Known) (t : Known) → nat_lt 0 (length (data_of es)) ≡ true → list_all is_proper (data_of es) ≡ true
+    → End t.0 (object_of t.0) → Whole (Datum.List (data_of es) (Some t.0)) (pairs (map object_of (data_of es)) (object_of t.0))
+of_dotted es t some all tail =
+    size-dotted (data_of es) t.0 ∙ ap (λ m. sum (map size (data_of es)) + m + 1) tail
+    ∙ sym (over es (object_of t.0) some ∙ ap (λ m. m + 1) (along es (object_of t.0) all))
 
-vector_arm : (es : List Known) → Agrees (Datum.Vector (data_of es))
-vector_arm es proper =
-    let all : list_all is_proper (data_of es) ≡ true = sym (is_proper-Vector (data_of es)) ∙ proper in
+of_vector : (es : List Known) → list_all is_proper (data_of es) ≡ true
+    → size (Datum.Vector (data_of es)) ≡ size_along (list_of (map object_of (data_of es))) + 1
+of_vector es all =
     let total : size_along (list_of (map object_of (data_of es))) ≡ sum (map size (data_of es)) =
     along es nil all ∙ omega arith in
-    let same : size (Datum.Vector (data_of es)) ≡ size_along (list_of (map object_of (data_of es))) + 1 =
-    size-Vector (data_of es) ∙ ap (λ m. m + 1) (sym total) in
-    (same ∙ sym (ap object_size (object_of-Vector (data_of es))), λ _. same ∙ sym (ap size_along (object_of-Vector (data_of es))))
+    size-Vector (data_of es) ∙ ap (λ m. m + 1) (sym total)
 
-at : (y : Datum-F Known) → Agrees (roll-Datum (map-Datum Known Datum (λ e. e.0) y))
-at (Datum-F.Integer n) =
-    subst Agrees (sym (rolls-Integer n)) (atom (Datum.Integer n) _ (fold-Integer size_step n) (object_of-Integer n) refl refl)
-at (Datum-F.Rational r) =
-    subst Agrees (sym (rolls-Rational r)) (atom (Datum.Rational r) _ (fold-Rational size_step r) (object_of-Rational r) refl refl)
-at (Datum-F.Char c) =
-    subst Agrees (sym (rolls-Char c)) (atom (Datum.Char c) _ (fold-Char size_step c) (object_of-Char c) refl refl)
-at (Datum-F.Text b) =
-    subst Agrees (sym (rolls-Text b)) (atom (Datum.Text b) _ (fold-Text size_step b) (object_of-Text b) refl refl)
-at (Datum-F.Symbol h n) = subst Agrees (sym (rolls-Symbol h n)) (symbol_arm h n)
-at (Datum-F.Uninterned n) =
-    subst Agrees (sym (rolls-Uninterned n)) (atom (Datum.Uninterned n) _ (fold-Uninterned size_step n) (object_of-Uninterned n) refl refl)
-at (Datum-F.List es None) = subst Agrees (sym (rolls-List (data_of es) None)) (list_arm es)
-at (Datum-F.List es (Some t)) = subst Agrees (sym (rolls-List (data_of es) (Some t.0))) (dotted_arm es t)
-at (Datum-F.Vector es) = subst Agrees (sym (rolls-Vector (data_of es))) (vector_arm es)
-
-agrees : (x : Datum) → Agrees x
-agrees = ind-Datum Agrees (λ x y is. subst (λ z. Agrees (roll-Datum z)) is (at y))
-
+-- an atom has size 1 either way; NIL at the end of a list has none
 pub size_object : (x : Datum) → is_proper x ≡ true → size x ≡ object_size (object_of x)
-size_object x proper = (agrees x proper).0
+size_object x proper =
+    (ByKind.by_kind Whole End
+    (λ n. (fold-Integer size_step n, fold-Integer size_step n)) (λ r. (fold-Rational size_step r, fold-Rational size_step r))
+    (λ c. (fold-Char size_step c, fold-Char size_step c)) (λ b. (fold-Text size_step b, fold-Text size_step b))
+    (λ home name. (fold-Symbol size_step home name, λ unnamed. fold-Symbol size_step home name ∙ sym (ap (λ b. if b then 0 else 1) unnamed)))
+    (λ name. (fold-Uninterned size_step name, fold-Uninterned size_step name))
+    of_list of_dotted (λ es all. (of_vector es all, of_vector es all)) x proper).0

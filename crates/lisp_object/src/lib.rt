@@ -39,6 +39,7 @@
 //!   `sound_nil`, `sound_pairs`.
 //! - proofs/Restored.antt: which datum is an object of each kind (`from_integer` and so on), and that no two proper data are
 //!   one object (`same_datum`).
+//! - proofs/ByKind.antt: what holds of each kind of datum and its object holds of every proper datum (`by_kind`).
 //! - proofs/Depths.antt: `depth_object`. proofs/Sizes.antt: `size_object`. proofs/Quotients.antt: `gcd_from_IsGcd`, `lowest`,
 //!   `lowest_stays`.
 //! - proofs/Tree.antt: a `BTreeMap` read as a finite map, by what is read of its keys (`got_at`, `as_map-insert`,

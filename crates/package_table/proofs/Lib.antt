@@ -1,6 +1,7 @@
 pub mod Alone
 pub mod Asked
 pub mod CallRows
+pub mod Calls
 pub mod Conflicts
 pub mod Counting
 pub mod First
@@ -9,6 +10,7 @@ pub mod Found
 pub mod Frames
 pub mod Growing
 pub mod Index
+pub mod Inserted
 pub mod Keeping
 pub mod KeptChanges
 pub mod KeptNumbers

@@ -1,5 +1,6 @@
 -- What a write through `get_mut`, at a key that is given by its bytes, leaves of a tree and of the table.
 --     changed_table, same_table      the table after the write of a package, changed or the same
+--     numbered_changed, package_changed, numbered_same      the same with the numbers of the symbols: both changed, the package alone, or none
 use Rattle.std.proofs.Common.{◌≡◌, ℕ, true, false, cond, ◌&&◌, Option, None, Some, List, [], IsSome, IsTrue, is_some, bytes_eq, refl, sym, ap, subst, ◌∙◌}
 use Rattle.std.specs.Global.{Vec}
 use Rattle.std.proofs.lemmas.Bool.{false≢true}
@@ -11,7 +12,7 @@ use Rattle.std.specs.FinMap as finite
 use Rattle.lisp_object.proofs.Tree.{insert_same}
 use Rattle.package_table.specs.declared.entry.Symbol.{Symbol}
 use Rattle.package_table.specs.Table.{Name, name_cmp, Entry, Package, entry_at}
-use Rattle.package_table.specs.Numbers.{Held, number_at, number_of}
+use Rattle.package_table.specs.Numbers.{Held, Numbered, number_at, number_of}
 use Rattle.package_table.specs.Undo.{entry_back, put_back}
 use Rattle.package_table.specs.Entries.{entry_of, numbered_entry}
 use Rattle.package_table.specs.Kept.{as_map, numbers_in, package_of}
@@ -40,6 +41,34 @@ module _ {V : Type 0} (g : Held → V) (table later : List (Vec ℕ × Held)) (o
   same_table is =
       inserted ∙ ap (finite.insert (as_map g table) owner) is
       ∙ insert_same name_of g name_cmp name_total name_exact (as_map g table) owner (g k) was_there
+
+-- the table with the numbers of its symbols
+module _ (table later : List (Vec ℕ × Held)) (owner : Name) (k w : Held)
+    (there : Some k ≡ lookup (at owner) table)
+    (written : later ≡ set_value (at owner) table w) where
+  pub numbered_changed : (change : Package → Package) (numbers : finite.FinMap name_cmp ℕ → finite.FinMap name_cmp ℕ) → w ≡ (change k.0, numbers k.1)
+      → ◌≡◌ {A = Numbered} (as_map package_of later, as_map numbers_in later) (
+        option_map_or (λ v. finite.insert (as_map package_of table) owner (change v)) (finite.get (as_map package_of table) owner) (as_map package_of table),
+        option_map_or (λ v. finite.insert (as_map numbers_in table) owner (numbers v)) (finite.get (as_map numbers_in table) owner) (as_map numbers_in table),
+      )
+  numbered_changed change numbers is =
+      let first = changed_table package_of table later owner k w there written change (ap package_of is) in
+      let second = changed_table numbers_in table later owner k w there written numbers (ap numbers_in is) in
+      λ i. (first i, second i)
+
+  pub package_changed : (change : Package → Package) → w ≡ (change k.0, k.1)
+      → ◌≡◌ {A = Numbered} (as_map package_of later, as_map numbers_in later)
+      (option_map_or (λ v. finite.insert (as_map package_of table) owner (change v)) (finite.get (as_map package_of table) owner) (as_map package_of table), as_map numbers_in table)
+  package_changed change is =
+      let first = changed_table package_of table later owner k w there written change (ap package_of is) in
+      let second = same_table numbers_in table later owner k w there written (ap numbers_in is) in
+      λ i. (first i, second i)
+
+  pub numbered_same : w ≡ k → ◌≡◌ {A = Numbered} (as_map package_of later, as_map numbers_in later) (as_map package_of table, as_map numbers_in table)
+  numbered_same is =
+      let first = same_table package_of table later owner k w there written (ap package_of is) in
+      let second = same_table numbers_in table later owner k w there written (ap numbers_in is) in
+      λ i. (first i, second i)
 
 -- what a package that is there has at a name
 pub entry_there : (table : List (Vec ℕ × Held)) (owner n : Name) (k : Held) → Some k ≡ lookup (at owner) table → entry_at (as_map package_of table) owner n ≡ finite.get (package_of k).symbols n

@@ -1,5 +1,5 @@
 //! The packages, and the calls on them.
-ghost use Rattle.std.specs.Prelude.{◌≡◌, [], Ok, Err, IfOk, IfErr, IfSome, All, MatchResult, option_map};
+ghost use Rattle.std.specs.Prelude.{◌≡◌, [], Ok, Err, map, IfOk, IfErr, IfSome, All, MatchResult, option_map};
 ghost use Rattle.package_table.specs.Table.{initial, is_locked, package_named, IsPackage, IsSound};
 ghost use Rattle.package_table.specs.Resolving.{resolution, external_resolution, internal_resolution, resolution_of};
 ghost use Rattle.package_table.specs.Readers.{package_names, used_names, own_names, external_names, imports, ListRefused};
@@ -107,6 +107,18 @@ impl Packages {
         self.table.own(alloc, owner)
     }
 
+    /// The same names in the same order, as the packages have them: no name is copied.
+    ///
+    /// # Errors
+    /// `NoSuchPackage` where no package has the name `owner`; `OutOfMemory` where memory runs out.
+    pub fn own_names(&self, alloc: Global, owner: &[u8]) -> Result<Vec<&[u8]>, PackageError>
+        ensures list { IfOk result (λ names. map (λ n. n.now) names.items ≡ own_names self.now.0 owner.now) }
+        ensures there { IfOk result (λ _. IsPackage self.now.0 owner.now) }
+        ensures refused { IfErr result (ListRefused self.now.0 owner.now) }
+    {
+        self.table.own_names(alloc, owner)
+    }
+
     /// The names that are external in `owner`, sorted by their bytes.
     ///
     /// # Errors
@@ -117,6 +129,18 @@ impl Packages {
         ensures refused { IfErr result (ListRefused self.now.0 owner.now) }
     {
         self.table.externals(alloc, owner)
+    }
+
+    /// The same names in the same order, as the packages have them: no name is copied.
+    ///
+    /// # Errors
+    /// `NoSuchPackage` where no package has the name `owner`; `OutOfMemory` where memory runs out.
+    pub fn external_names(&self, alloc: Global, owner: &[u8]) -> Result<Vec<&[u8]>, PackageError>
+        ensures list { IfOk result (λ names. map (λ n. n.now) names.items ≡ external_names self.now.0 owner.now) }
+        ensures there { IfOk result (λ _. IsPackage self.now.0 owner.now) }
+        ensures refused { IfErr result (ListRefused self.now.0 owner.now) }
+    {
+        self.table.external_names(alloc, owner)
     }
 
     /// The names that are present in `owner` with another home, each with the name of that home, sorted by their bytes.

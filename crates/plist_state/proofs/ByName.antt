@@ -1,5 +1,5 @@
 -- Readtables by name: what a write through `get_mut` leaves, what a change gives, and what leads back from it.
-use Rattle.std.proofs.Common.{◌≡◌, ◌≢◌, ℕ, Bool, true, false, cond, Option, None, Some, List, IsSome, Result, Ok, Err, IsOk, is_some, bytes_eq, refl, sym, ap, subst, ◌∙◌}
+use Rattle.std.proofs.Common.{◌≡◌, ◌≢◌, ◌<◌, ℕ, Bool, true, false, cond, Option, None, Some, List, IsSome, Result, Ok, Err, IsOk, is_some, bytes_eq, refl, sym, ap, subst, ◌∙◌}
 use Rattle.std.specs.Prelude.{if◌then◌else◌, unwrap_or}
 use Rattle.std.specs.Global.{Vec}
 use Rattle.std.proofs.lemmas.Bool.{false≢true}
@@ -9,14 +9,16 @@ use Rattle.std.specs.Ordering.{eq_by_cmp}
 use Rattle.std.specs.FinMap as finite
 use Rattle.std.specs.FinMap.{same_map, get-insert, get-remove}
 use Rattle.lisp_object.proofs.Tree.{insert_same}
-use Rattle.readtable_core.specs.Tables.{Table}
+use Rattle.readtable_core.specs.Tables.{Entry, Table, entry_at}
+use Rattle.readtable_core.specs.Changes.{with_entry}
+use Rattle.readtable_core.proofs.PutBack.{put_back}
 use Rattle.package_table.specs.Table.{Name, name_cmp}
 use Rattle.package_table.specs.Shown.{as_map}
 use Rattle.package_table.proofs.Seen.{at, name_of, got_name, written_at}
 use Rattle.plist_state.specs.declared.error.ReadtableError.{ReadtableError}
 use Rattle.plist_state.specs.declared.error.ReadtableError.TheVariants.{NoReadtable, StandardReadtable, NotDispatching, DigitSubcharacter, Limit, OutOfMemory}
 use Rattle.plist_state.specs.declared.note.TableChange.{TableChange}
-use Rattle.plist_state.specs.declared.note.TableChange.TheVariants.{Over}
+use Rattle.plist_state.specs.declared.note.TableChange.TheVariants.{Over, Character}
 use Rattle.plist_state.specs.declared.note.Note.{Note}
 use Rattle.plist_state.specs.declared.note.Note.TheVariants.{Made, Changed}
 use Rattle.plist_state.specs.State.{Readtables, Rest, standard_name}
@@ -118,6 +120,17 @@ module _ (tables later : List (Vec ℕ × Table)) (n : Name) (t w : Table)
   same_there e =
       put_there ∙ ap (finite.insert (shown tables) n) e
       ∙ insert_same name_of (λ (t : Table). t) name_cmp name_total name_exact (shown tables) n t (got_table n tables ∙ sym there)
+
+-- a change of a character of a readtable, written through `get_mut` and noted with what was there
+pub entry_noted : (ms ks ns : List (List Note)) → ks ≡ ms → (note : Note) → ((t u : Rest) → IsNoted note → undone note u ≡ t → Continues ks t ns u)
+    → (tables later : List (Vec ℕ × Table)) (n : Name) (t w : Table) → Some t ≡ lookup (at n) tables → later ≡ set_value (at n) tables w
+    → (name : Vec ℕ) → name.items ≡ n → (c : ℕ) (before e : Entry) → c < 128 → note ≡ Changed name (Character c before)
+    → ((x : Table) → finite.get (shown tables) n ≡ Some x → before ≡ entry_at x c) → w ≡ with_entry t c e
+    → (r : Rest) → Continues ms (record r { readtables = shown tables }) ns (record r { readtables = shown later })
+entry_noted ms ks ns same note pushed tables later n t w there holds name named c before e below is was made r =
+    let got : finite.get (shown tables) n ≡ Some t = got_table n tables ∙ sym there in
+    let back : with_entry w c before ≡ t = (λ i. with_entry (made i) c (was t got i)) ∙ put_back t c e in
+    change_noted ms ks ns same note pushed (shown tables) (shown later) n w (put_there tables later n t w there holds) name named t got (Character c before) below is back r
 
 -- ---- a change that is taken back
 module _ (tables : List (Vec ℕ × Table)) (n : Name) (change : TableChange) where

@@ -8,3 +8,4 @@ pub mod FirstWorld
 pub mod InOrder
 pub mod Notes
 pub mod Marking
+pub mod Left

@@ -3,6 +3,7 @@
 --     get-lists_in, list-lists_in      what the rows hold
 --     IsPut, put_insert, put_set      one row replaced
 --     lists-put, room-put, wider_put      what is shown then
+--     written, lists_made, list_now      after a write through `get_mut`
 use Rattle.std.proofs.Common.{◌≡◌, ℕ, ◌≤◌, Bool, true, false, cond, Option, None, Some, unwrap_or, List, [], ◌∷◌, map, refl, sym, ap, subst, ◌∙◌, arith}
 use Rattle.std.specs.Prelude.{All, IfSome, is_some, vec_capacity}
 use Rattle.std.proofs.lemmas.List.Elements.{All-nil}
@@ -175,19 +176,27 @@ pub record IsWritten (rows later : Rows) (x : properties.Symbol) (ps : Plist) : 
   pub lists : lists_in later ≡ with_list (lists_in rows) x ps
   pub wider : IsWider rows later
 
-pub written : (rows later : Rows) (x : Symbol) (old row : Vec Property)
-    → Some old ≡ lookup (is_at (λ k. symbol_cmp (symbol_of x) (symbol_of k))) rows
-    → later ≡ set_value (is_at (λ k. symbol_cmp (symbol_of x) (symbol_of k))) rows row
-    → vec_capacity old ≤ vec_capacity row → (IsProperRow old → IsProperRow row)
-    → IsWritten rows later (symbol_of x) (plist_of row)
-written rows later x old row there is room proper =
-    let put : IsPut rows later (symbol_of x) row = put_set rows later x old row (row_is x rows ∙ sym there) is in
-    record {
-      lists = lists-put rows later (symbol_of x) row put;
-      wider = wider_put rows later (symbol_of x) row put
-          (let same : room_at rows (symbol_of x) ≡ vec_capacity old = room_shown rows x old there in omega (arith, room, same))
-          (λ all. proper (proper_shown rows x old there all));
-    }
+-- a row that was written through `get_mut`
+module _ (rows later : Rows) (x : Symbol) (old row : Vec Property)
+    (there : Some old ≡ lookup (is_at (λ k. symbol_cmp (symbol_of x) (symbol_of k))) rows)
+    (is : later ≡ set_value (is_at (λ k. symbol_cmp (symbol_of x) (symbol_of k))) rows row)
+    (room : vec_capacity old ≤ vec_capacity row) (proper : IsProperRow old → IsProperRow row) where
+  pub written : IsWritten rows later (symbol_of x) (plist_of row)
+  written =
+      let put : IsPut rows later (symbol_of x) row = put_set rows later x old row (row_is x rows ∙ sym there) is in
+      record {
+        lists = lists-put rows later (symbol_of x) row put;
+        wider = wider_put rows later (symbol_of x) row put
+            (let same : room_at rows (symbol_of x) ≡ vec_capacity old = room_shown rows x old there in omega (arith, room, same))
+            (λ all. proper (proper_shown rows x old there all));
+      }
+
+  -- what was made of the list
+  pub lists_made : (f : Plist → Plist) → plist_of row ≡ f (plist_of old) → lists_in later ≡ with_list (lists_in rows) (symbol_of x) (f (list_at (lists_in rows) (symbol_of x)))
+  lists_made f made = written.lists ∙ ap (with_list (lists_in rows) (symbol_of x)) (made ∙ ap f (sym (row_shown rows x old there)))
+
+  pub list_now : list_at (lists_in later) (symbol_of x) ≡ plist_of row
+  list_now = ap (λ m. list_at m (symbol_of x)) written.lists ∙ list-with_list (lists_in rows) (symbol_of x) (plist_of row)
 
 -- the list in the row is as it was
 pub written_same : (rows later : Rows) (x : properties.Symbol) (ps : Plist) → IsWritten rows later x ps → ps ≡ list_at (lists_in rows) x → lists_in later ≡ lists_in rows

@@ -4,7 +4,9 @@
 --     fits_now      the rows have memory for what they hold
 --     same_marks, room_last, had_room, noted      what a write to the newest mark leaves
 --     continues_same, continues_noted      nothing was changed, and a change was noted
---     popped, past_marks, at_mark      the newest mark taken away
+--     property_noted      the same of a change of a property list
+--     popped, taken      the newest mark taken away
+--     gone_past, gone_to      the mark that was to be gone back to
 use Rattle.std.proofs.Common.{◌≡◌, ◌++◌, ◌-◌, ◌<◌, ◌≤◌, ℕ, suc, None, Some, List, [], ◌∷◌, length, slice_index_or, slice_set, take, refl, sym, ap, ◌∙◌, arith, subst}
 use Rattle.std.specs.List.{slice_get}
 use Rattle.std.specs.Option.{option_map_or}
@@ -13,14 +15,18 @@ use Rattle.std.specs.Vec.{vec_len, vec_capacity}
 use Rattle.std.proofs.lemmas.List.{length-map, map_push, append_assoc}
 pub use Rattle.package_table.proofs.Undoing.{IsLast, at_last, no_more, on_ok, take_seam, get_seam}
 use Rattle.plist_state.specs.declared.note.Note.{Note}
+use Rattle.plist_state.specs.declared.note.Note.TheVariants.{Property as OfList}
+use Rattle.plist_state.specs.declared.note.PropertyChange.{PropertyChange}
 use Rattle.plist_state.specs.declared.property.Property.{Property}
-use Rattle.plist_state.specs.Properties.{Properties, list_at}
+use Rattle.plist_state.specs.declared.symbol.Symbol.{Symbol}
+use Rattle.plist_state.specs.Properties as properties
+use Rattle.plist_state.specs.Properties.{Plist, Properties, list_at, with_list}
 use Rattle.plist_state.specs.State.{Rest}
-use Rattle.plist_state.specs.Shown.{Rows, lists_in, plist_of, property_of, row_at, room_at}
-use Rattle.plist_state.specs.Kept.{IsWider}
-use Rattle.plist_state.specs.Undoing.{undone, all_undone, undone_since, rests_at}
+use Rattle.plist_state.specs.Shown.{Rows, lists_in, plist_of, property_of, row_at, room_at, symbol_of}
+use Rattle.plist_state.specs.Kept.{IsProperChange, IsWider}
+use Rattle.plist_state.specs.Undoing.{list_before, undone, all_undone, undone_since, rests_at}
 use Rattle.plist_state.specs.Journal.{marks_of, has_room, IsNoted, Fits, LeadsBack, IsJournal, Continues}
-use Rattle.plist_state.proofs.Lists.{list-lists_in}
+use Rattle.plist_state.proofs.Lists.{list-lists_in, property_back}
 
 -- ---- what is led back to
 pub all_push : (ns : List Note) (n : Note) (r : Rest) → all_undone (ns ++ n ∷ []) r ≡ all_undone ns (undone n r)
@@ -113,6 +119,16 @@ continues_same ms ns t u marks rest = record {
 pub continues_noted : (ms ks ns : List (List Note)) (note : Note) (t u : Rest) → ks ≡ ms → ((t u : Rest) → IsNoted note → undone note u ≡ t → Continues ks t ns u) → IsNoted note → undone note u ≡ t → Continues ms t ns u
 continues_noted ms ks ns note t u same pushed proper undoes = subst (λ k. Continues k t ns u) same (pushed t u proper undoes)
 
+-- the same of a change of a property list, under a copy of the symbol
+pub property_noted : (ms ks ns : List (List Note)) → ks ≡ ms → (copy : Symbol) (change : PropertyChange)
+    → ((t u : Rest) → IsNoted (OfList copy change) → undone (OfList copy change) u ≡ t → Continues ks t ns u) → IsProperChange change
+    → (t : Rest) (rows later : Rows) (x : properties.Symbol) (ps : Plist) → symbol_of copy ≡ x
+    → lists_in later ≡ with_list (lists_in rows) x ps → list_before change (list_at (lists_in later) x) ≡ list_at (lists_in rows) x
+    → Continues ms (record t { properties = lists_in rows }) ns (record t { properties = lists_in later })
+property_noted ms ks ns same copy change pushed proper t rows later x ps named put back =
+    continues_noted ms ks ns (OfList copy change) (record t { properties = lists_in rows }) (record t { properties = lists_in later }) same pushed proper
+    (ap (λ (m : Properties). record t { properties = m }) (property_back rows later x ps (symbol_of copy) named change put back))
+
 -- one note more under the newest mark
 continues_push : (ms : List (List Note)) (m : List Note) (n : Note) (t u : Rest) → IsNoted n → undone n u ≡ t → Continues (ms ++ m ∷ []) t (ms ++ (m ++ n ∷ []) ∷ []) u
 continues_push ms m n t u noted undoes =
@@ -172,8 +188,17 @@ module _ (before : List (List Note)) (u : Rest) (all rest : List Rest) (mark : �
   place : length (rests_at before u) ≡ mark
   place = length-rests before u ∙ here
 
-  pub past_marks : rests_at before u ≡ take mark all
+  past_marks : rests_at before u ≡ take mark all
   past_marks = sym (ap (λ k. take k all) (sym place) ∙ ap (take (length (rests_at before u))) is ∙ take_seam (rests_at before u) (u ∷ rest))
 
-  pub at_mark : slice_get all mark ≡ Some u
+  at_mark : slice_get all mark ≡ Some u
   at_mark = ap (slice_get all) (sym place) ∙ ap (λ xs. slice_get xs (length (rests_at before u))) is ∙ get_seam (rests_at before u) u rest
+
+-- the mark that was to be gone back to
+module _ (before : List (Vec Note)) (m : Vec Note) (ms : List (Vec Note)) (split : ms ≡ before ++ m ∷ []) (t u : Rest) (undoes : u ≡ all_undone m.items t)
+    (all rest : List Rest) (is : all ≡ rests_at (marks_of ms) t ++ rest) (mark : ℕ) (here : length before ≡ mark) where
+  pub gone_past : rests_at (marks_of before) u ≡ take mark all
+  gone_past = past_marks (marks_of before) u all rest mark (popped before m ms split t u undoes all rest is) (length-map before notes_of ∙ here)
+
+  pub gone_to : slice_get all mark ≡ Some u
+  gone_to = at_mark (marks_of before) u all rest mark (popped before m ms split t u undoes all rest is) (length-map before notes_of ∙ here)

@@ -1,56 +1,42 @@
 //! Marks that nest over each kind of writing call: going back over any number of them, and forward again.
-use crate::tests::{Call, answer, put, remove};
-use crate::{Property, STANDARD, Symbol, USER, World};
+use crate::tests::{answer, put, remove, words_of};
+use crate::{Property, Symbol, World};
 use package_table::Packages;
-use package_table::standardized::{COMMON_LISP, COMMON_LISP_USER};
+use package_table::standardized::COMMON_LISP;
 use readtable_core::Readtable;
 use std::alloc::Global;
 use std::test::Fail;
 
-// A call that writes.
-#[derive(Clone, Copy)]
-enum Step<'a> {
-    Put(&'a [u8], &'a [u8], i128),
-    Remove(&'a [u8], &'a [u8]),
-    Make(&'a [u8]),
-    Intern(&'a [u8], &'a [u8]),
-    Export(&'a [u8], &'a [u8], &'a [u8]),
-    Import(&'a [u8], &'a [u8], &'a [u8]),
-    UsePackage(&'a [u8], &'a [u8]),
-    InPackage(&'a [u8]),
-    Readtable(Call<'a>),
-}
-
 const COUNT: usize = 26;
 
-const STEPS: [Step<'static>; COUNT] = [
-    Step::Put(b"LIST", b"GET", 1),
-    Step::Put(b"LIST", b"IF", 2),
-    Step::Put(b"LIST", b"LIST", 3),
-    Step::Put(b"LIST", b"IF", 4),
-    Step::Remove(b"LIST", b"GET"),
-    Step::Remove(b"LIST", b"GET"),
-    Step::Put(b"LIST", b"GET", 5),
-    Step::Put(b"GET", b"LIST", 6),
-    Step::Remove(b"GET", b"LIST"),
-    Step::Make(b"P"),
-    Step::Intern(COMMON_LISP_USER, b"X"),
-    Step::Intern(b"P", b"Y"),
-    Step::Export(b"P", b"P", b"Y"),
-    Step::Import(b"P", COMMON_LISP_USER, b"X"),
-    Step::UsePackage(COMMON_LISP_USER, b"P"),
-    Step::InPackage(b"P"),
-    Step::Readtable(Call::Copy(STANDARD, b"UPCASE")),
-    Step::Readtable(Call::Case(b"UPCASE")),
-    Step::Readtable(Call::Use(b"UPCASE")),
-    Step::Readtable(Call::MakeDispatch(USER, b'!')),
-    Step::Readtable(Call::Dispatch(USER, b'!', b's', b"STD-CHAR")),
-    Step::Readtable(Call::Macro(USER, b'!', b"STD-LIST")),
-    Step::Readtable(Call::Syntax(USER, STANDARD)),
-    Step::Readtable(Call::Copy(USER, b"UPCASE")),
-    Step::Remove(b"LIST", b"LIST"),
-    Step::InPackage(COMMON_LISP_USER),
-];
+// Calls that write.
+const STEPS: &str = "\
+put LIST GET 1
+put LIST IF 2
+put LIST LIST 3
+put LIST IF 4
+remove LIST GET
+remove LIST GET
+put LIST GET 5
+put GET LIST 6
+remove GET LIST
+make P
+intern COMMON-LISP-USER X
+intern P Y
+export P P Y
+import P COMMON-LISP-USER X
+use-package COMMON-LISP-USER P
+in-package P
+copy STANDARD UPCASE
+case UPCASE
+use UPCASE
+make-dispatch USER !
+dispatch USER ! s STD-CHAR
+macro USER ! STD-LIST
+syntax USER STANDARD
+copy USER UPCASE
+remove LIST LIST
+in-package COMMON-LISP-USER";
 
 fn import(world: &mut World, owner: &[u8], home: &[u8], name: &[u8]) -> Option<()> {
     if !world.packages().is_symbol(home, name) {
@@ -63,33 +49,24 @@ fn lisp(alloc: Global, name: &[u8]) -> Option<Symbol> {
     Symbol::from_bytes(alloc, COMMON_LISP, name).ok()
 }
 
-fn write_property(world: &mut World, alloc: Global, step: Step<'_>) -> Option<()> {
-    match step {
-        Step::Put(symbol, indicator, number) => {
-            put(
-                world,
-                &lisp(alloc, symbol)?,
-                lisp(alloc, indicator)?,
-                number,
-            )
+// Carries out the step of a row.
+fn carry_out(world: &mut World, alloc: Global, row: &str) -> Option<()> {
+    let words = words_of(row);
+    let [call, first, second, third, _] = words;
+    let (a, b, c) = (first.as_bytes(), second.as_bytes(), third.as_bytes());
+    match call {
+        "put" => {
+            let number = third.parse::<u8>().ok()?;
+            put(world, &lisp(alloc, a)?, lisp(alloc, b)?, i128::from(number))
         }
-        Step::Remove(symbol, indicator) => {
-            remove(world, &lisp(alloc, symbol)?, &lisp(alloc, indicator)?).map(|_| ())
-        }
-        _ => None,
-    }
-}
-
-fn carry_out(world: &mut World, alloc: Global, step: Step<'_>) -> Option<()> {
-    match step {
-        Step::Make(name) if name.is_ascii() => world.make(name).ok(),
-        Step::Intern(owner, name) if name.is_ascii() => world.intern(owner, name).ok().map(|_| ()),
-        Step::Export(owner, home, name) => world.export(owner, home, name).ok().map(|_| ()),
-        Step::Import(owner, home, name) => import(world, owner, home, name),
-        Step::UsePackage(owner, used) => world.use_package(owner, used).ok().map(|_| ()),
-        Step::InPackage(name) => world.set_current_package(name).ok(),
-        Step::Readtable(call) => answer(world, call)?.ok(),
-        _ => write_property(world, alloc, step),
+        "remove" => remove(world, &lisp(alloc, a)?, &lisp(alloc, b)?).map(|_| ()),
+        "make" if a.is_ascii() => world.make(a).ok(),
+        "intern" if b.is_ascii() => world.intern(a, b).ok().map(|_| ()),
+        "export" => world.export(a, b, c).ok().map(|_| ()),
+        "import" => import(world, a, b, c),
+        "use-package" => world.use_package(a, b).ok().map(|_| ()),
+        "in-package" => world.set_current_package(a).ok(),
+        _ => answer(world, &words)?.ok(),
     }
 }
 
@@ -188,8 +165,8 @@ fn is_after(alloc: Global, world: &World, count: usize) -> bool {
     let Ok(mut other) = World::new(alloc) else {
         return false;
     };
-    for step in STEPS.iter().take(count) {
-        if carry_out(&mut other, alloc, *step).is_none() {
+    for step in STEPS.split('\n').take(count) {
+        if carry_out(&mut other, alloc, step).is_none() {
             return false;
         }
     }
@@ -206,11 +183,11 @@ fn back_to(world: &mut World, mark: usize) -> bool {
 
 // Carries out the steps from this one on, with a mark before each whose number is a multiple of `gap`.
 fn go_on(world: &mut World, alloc: Global, start: usize, gap: usize) -> bool {
-    for (number, step) in STEPS.iter().enumerate().skip(start) {
+    for (number, step) in STEPS.split('\n').enumerate().skip(start) {
         if number.checked_rem(gap) == Some(0) && world.mark().is_err() {
             return false;
         }
-        if carry_out(world, alloc, *step).is_none() {
+        if carry_out(world, alloc, step).is_none() {
             return false;
         }
     }

@@ -7,39 +7,43 @@ use readtable_core::{Case, FnName, Syntax};
 use std::alloc::Global;
 use std::test::Fail;
 
-// A call on readtables by their names.
-#[derive(Clone, Copy)]
-pub(crate) enum Call<'a> {
-    Use(&'a [u8]),
-    Case(&'a [u8]),
-    Macro(&'a [u8], u8, &'a [u8]),
-    MakeDispatch(&'a [u8], u8),
-    Dispatch(&'a [u8], u8, u8, &'a [u8]),
-    Syntax(&'a [u8], &'a [u8]),
-    Copy(&'a [u8], &'a [u8]),
+// Calls on readtables by their names: that they succeed, or the number of the refusal.
+const CALLS: &str = "\
+39 use NO
+ok use STANDARD
+39 case NO
+40 case STANDARD
+ok case USER
+40 macro STANDARD [ STD-LIST
+ok macro USER [ STD-LIST
+42 dispatch USER ! s STD-CHAR
+40 make-dispatch STANDARD !
+ok make-dispatch USER !
+43 dispatch USER ! 5 STD-CHAR
+ok dispatch USER ! s STD-CHAR
+39 syntax USER NO
+39 syntax STANDARD NO
+40 syntax STANDARD USER
+ok syntax USER STANDARD
+39 copy NO STANDARD
+40 copy USER STANDARD
+ok copy USER UPCASE";
+
+// The words of a call.
+pub(crate) fn words_of(call: &str) -> [&str; 5] {
+    let mut words = [""; 5];
+    for (at, word) in call.split(' ').enumerate() {
+        if at < 5 {
+            words[at] = word;
+        }
+    }
+    words
 }
 
-const CALLS: [(Call<'static>, Result<(), u16>); 19] = [
-    (Call::Use(b"NO"), Err(39)),
-    (Call::Use(STANDARD), Ok(())),
-    (Call::Case(b"NO"), Err(39)),
-    (Call::Case(STANDARD), Err(40)),
-    (Call::Case(USER), Ok(())),
-    (Call::Macro(STANDARD, b'[', b"STD-LIST"), Err(40)),
-    (Call::Macro(USER, b'[', b"STD-LIST"), Ok(())),
-    (Call::Dispatch(USER, b'!', b's', b"STD-CHAR"), Err(42)),
-    (Call::MakeDispatch(STANDARD, b'!'), Err(40)),
-    (Call::MakeDispatch(USER, b'!'), Ok(())),
-    (Call::Dispatch(USER, b'!', b'5', b"STD-CHAR"), Err(43)),
-    (Call::Dispatch(USER, b'!', b's', b"STD-CHAR"), Ok(())),
-    (Call::Syntax(USER, b"NO"), Err(39)),
-    (Call::Syntax(STANDARD, b"NO"), Err(39)),
-    (Call::Syntax(STANDARD, USER), Err(40)),
-    (Call::Syntax(USER, STANDARD), Ok(())),
-    (Call::Copy(b"NO", STANDARD), Err(39)),
-    (Call::Copy(USER, STANDARD), Err(40)),
-    (Call::Copy(USER, b"UPCASE"), Ok(())),
-];
+// The first byte of a word.
+fn byte_of(word: &str) -> u8 {
+    word.as_bytes().first().copied().unwrap_or(0)
+}
 
 fn set_macro(
     world: &mut World,
@@ -88,16 +92,39 @@ fn make_dispatch(world: &mut World, name: &[u8], c: u8) -> Option<Result<(), Rea
     Some(world.make_dispatch(name, c, true))
 }
 
-// Does the call, where what it asks for holds.
-pub(crate) fn answer(world: &mut World, call: Call<'_>) -> Option<Result<(), ReadtableError>> {
-    match call {
-        Call::Use(name) => Some(world.set_current_readtable(name)),
-        Call::Case(name) => Some(world.set_case(name, Case::Invert)),
-        Call::Macro(name, c, function) => set_macro(world, name, c, function),
-        Call::MakeDispatch(name, c) => make_dispatch(world, name, c),
-        Call::Dispatch(name, c, sub, function) => set_dispatch(world, name, c, sub, function),
-        Call::Syntax(to, from) => Some(world.set_syntax_from_char(to, b'$', from, b'"')),
-        Call::Copy(from, to) => copy(world, from, to),
+// Does the call of these words, where what it asks for holds.
+pub(crate) fn answer(world: &mut World, words: &[&str; 5]) -> Option<Result<(), ReadtableError>> {
+    let [call, first, second, third, fourth] = words;
+    let name = first.as_bytes();
+    match *call {
+        "use" => Some(world.set_current_readtable(name)),
+        "case" => Some(world.set_case(name, Case::Invert)),
+        "macro" => set_macro(world, name, byte_of(second), third.as_bytes()),
+        "make-dispatch" => make_dispatch(world, name, byte_of(second)),
+        "dispatch" => {
+            set_dispatch(
+                world,
+                name,
+                byte_of(second),
+                byte_of(third),
+                fourth.as_bytes(),
+            )
+        }
+        "syntax" => Some(world.set_syntax_from_char(name, b'$', second.as_bytes(), b'"')),
+        "copy" => copy(world, name, second.as_bytes()),
+        _ => None,
+    }
+}
+
+// Whether the call of a row is answered as the row wants.
+fn answers(world: &mut World, row: &str) -> bool {
+    let Some((wanted, call)) = row.split_once(' ') else {
+        return false;
+    };
+    match answer(world, &words_of(call)) {
+        Some(Ok(())) => wanted == "ok",
+        Some(Err(error)) => wanted.parse() == Ok(error.number()),
+        None => false,
     }
 }
 
@@ -130,9 +157,8 @@ fn readtables(rt: HostRuntime) -> Result<(), Fail> {
     let mut world = World::new(alloc)?;
     assert!(rt; lists(&world.readtable_names(alloc)?, &[STANDARD, USER]));
     assert!(rt; world.current_readtable() == USER);
-    for (call, expected) in CALLS {
-        let answered = answer(&mut world, call).map(|r| r.map_err(ReadtableError::number));
-        assert!(rt; answered == Some(expected));
+    for row in CALLS.split('\n') {
+        assert!(rt; answers(&mut world, row), "{row}");
     }
     assert!(rt; is_changed(&world) && world.current_readtable() == STANDARD);
     assert!(rt; lists(&world.readtable_names(alloc)?, &[STANDARD, b"UPCASE", USER]));

@@ -17,10 +17,12 @@ use Rattle.prevalence_store.specs.Acceptance.{between, read_in, setting_in}
 use Rattle.prevalence_store.specs.Functions.{Functions}
 use Rattle.prevalence_store.specs.Output.{Progress, after_forms, begun, evaluated, one_form, onward}
 use Rattle.prevalence_store.specs.Pending.{HasForm, IsLastForm, IsPending, HasRefusal}
-use Rattle.prevalence_store.specs.Serving.{Advances, IsAfter, Serves, StaysRefused}
+use Rattle.prevalence_store.specs.Pacing.{EndsInPace, Pace, Paces, fill_of}
+use Rattle.prevalence_store.specs.Serving.{Advances, IsAfter, Serves, ServesInPace, StaysRefused}
 use Rattle.prevalence_store.specs.Session.{Session}
 use Rattle.prevalence_store.specs.Turns.{Answers, AnswersFault, AnswersForm, BeginsWith, GoesOn, HasEnded, LeavesByte, StaysEnded, StopsInForm}
 use Rattle.prevalence_store.proofs.Executing.{form_places}
+use Rattle.prevalence_store.proofs.InTurn.{ends_after, fault_paced, paces_both}
 use Rattle.prevalence_store.specs.Streams.{Writes}
 use Rattle.prevalence_store.proofs.Pendings.{reads_none}
 use Rattle.prevalence_store.proofs.Progressing.{advance_both, forms_onward, serve_both}
@@ -44,6 +46,12 @@ longer_evaluated w mode own rest more (Err number) = refl
 rest_evaluated : (w : World) (mode : Mode) (own rest : List ℕ) (given : Evaluation Object) → (evaluated w mode own rest given).rest ≡ rest
 rest_evaluated w mode own rest (Ok done) = refl
 rest_evaluated w mode own rest (Err number) = refl
+
+-- a session, and how far its snapshots have come
+abbrev pub InPace : (functions : Functions) {D R : Type 0} (state : D → State) (pace : Pace) (old new : Session D R) (world : World) (mode : Mode) (text : List ℕ)
+    (held written : Option (List ℕ)) (ending : Ending) → Type 0
+InPace functions state pace old new world mode text held written ending =
+    (served : Serves functions state old new world mode text held written ending) × ServesInPace functions state pace old new world mode text held written ending served
 
 -- ---- a form that the bytes begin with, whatever follows them
 
@@ -92,27 +100,28 @@ module _ (functions : Functions) (w : World) (mode : Mode) (pending : Pending) (
   one_rest : (far : Progress) → after_forms functions 1 w mode text ≡ Some far → far.rest ≡ drop has.next text
   one_rest far is = ap (λ (p : Progress). p.rest) (far_is_one far is) ∙ rest_evaluated w mode (between has.start has.stop text) (drop has.next text) given
 
-  module _ {D R : Type 0} (state : D → State) (old new : Session D R) (a b : Option (List ℕ)) (answered : AnswersForm functions state old new w mode text a b None) where
+  module _ {D R : Type 0} (state : D → State) (pace later : Pace) (old new : Session D R) (a b : Option (List ℕ)) (answered : AnswersForm functions state old new w mode pace later text a b None) where
     -- the form was answered, and this is left
-    unfoldable after_form : (rest : List ℕ) → drop has.next text ≡ rest → GoesOn functions state old new w mode text a b pending rest
+    unfoldable after_form : (rest : List ℕ) → drop has.next text ≡ rest → GoesOn functions state pace later old new w mode text a b pending rest
     after_form rest is = record {
       forms = 1;
       far = answered.0;
       advances = answered.1;
+      paced = answered.2;
       stays = one_stays answered.0 answered.1.far_is;
       bytes = [];
       rest = one_rest answered.0 answered.1.far_is ∙ is;
       is_pending = has.none answered.0.world mode;
     }
 
-    pub form_taken : left ≡ false → GoesOn functions state old new w mode text a b pending []
+    pub form_taken : left ≡ false → GoesOn functions state pace later old new w mode text a b pending []
     form_taken is =
         let all : has.next + cond left 1 0 ≡ length text = has.next_is in
         let same : has.next + 0 ≡ length text = subst (λ l. has.next + cond l 1 0 ≡ length text) is all in
         after_form [] (drop_all has.next text (omega arith))
 
-  module _ {D R : Type 0} (state : D → State) (old new : Session D R) (a b : Option (List ℕ)) (bytes : List ℕ) (byte : ℕ) (whole : text ≡ bytes ++ byte ∷ [])
-      (answered : AnswersForm functions state old new w mode text a b None) where
+  module _ {D R : Type 0} (state : D → State) (pace later : Pace) (old new : Session D R) (a b : Option (List ℕ)) (bytes : List ℕ) (byte : ℕ) (whole : text ≡ bytes ++ byte ∷ [])
+      (answered : AnswersForm functions state old new w mode pace later text a b None) where
     byte_left : left ≡ true → has.next + 1 ≡ length text
     byte_left is = subst (λ l. has.next + cond l 1 0 ≡ length text) is has.next_is
 
@@ -122,10 +131,10 @@ module _ (functions : Functions) (w : World) (mode : Mode) (pending : Pending) (
         let many : length text ≡ length bytes + 1 = ap length whole ∙ length-append bytes (byte ∷ []) in
         ap (drop has.next) whole ∙ drop-append-le has.next bytes (byte ∷ []) (omega arith) ∙ ap (λ t. t ++ byte ∷ []) (drop_all has.next bytes (omega arith))
 
-    pub form_left : left ≡ true → LeavesByte functions state old new w mode text a b pending byte
+    pub form_left : left ≡ true → LeavesByte functions state pace later old new w mode text a b pending byte
     unfolding after_form
     form_left is = record {
-      goes = after_form state old new a b answered (byte ∷ []) (rest_left is);
+      goes = after_form state pace later old new a b answered (byte ∷ []) (rest_left is);
       alone = refl;
       not_first = let all = byte_left is in let order = stop_within.0 in let after = stop_within.1 in omega arith;
     }
@@ -144,39 +153,41 @@ module _ (functions : Functions) (w : World) (mode : Mode) (text : List ℕ) (x 
       ap (λ (p : Progress). p.rest) same ∙ rest_evaluated w mode (between last.start last.stop text) (drop (length text) text) given ∙ drop_all (length text) text (omega arith)
 
   -- it was answered, and nothing is left
-  pub ended_form : {D R : Type 0} (state : D → State) (old new : Session D R) (a b : Option (List ℕ)) → AnswersForm functions state old new w mode text a b None
-      → Serves functions state old new w mode text a b End
-  ended_form state old new a b answered =
+  pub ended_form : {D R : Type 0} (state : D → State) (pace later : Pace) (old new : Session D R) (a b : Option (List ℕ)) → AnswersForm functions state old new w mode pace later text a b None
+      → InPace functions state pace old new w mode text a b End
+  ended_form state pace later old new a b answered =
       let far : Progress = answered.0 in
-      let advances = answered.1 in
-      record {
-        forms = 1;
-        far = far;
-        far_is = advances.far_is;
-        lines = 1;
-        answered = far;
-        answered_is = advances.far_is;
-        at_most = omega arith;
-        in_turn = omega arith;
-        part = [];
-        output = subst (Writes a b) (sym (append-nil far.lines)) advances.lines;
-        survives = advances.survives;
-        ends = record {
-          all = refl;
-          no_part = refl;
-          nothing_left = ap (read_in functions far.world mode) (last_rest far advances.far_is) ∙ reads_none (setting_in functions far.world mode);
-          after = advances.after;
-        };
-      }
+      let advances = answered.1 in (
+        record {
+          forms = 1;
+          far = far;
+          far_is = advances.far_is;
+          lines = 1;
+          answered = far;
+          answered_is = advances.far_is;
+          at_most = omega arith;
+          in_turn = omega arith;
+          part = [];
+          output = subst (Writes a b) (sym (append-nil far.lines)) advances.lines;
+          survives = advances.survives;
+          ends = record {
+            all = refl;
+            no_part = refl;
+            nothing_left = ap (read_in functions far.world mode) (last_rest far advances.far_is) ∙ reads_none (setting_in functions far.world mode);
+            after = advances.after;
+          };
+        },
+        (later, answered.2),
+      )
 
 module _ (functions : Functions) {D R : Type 0} (state : D → State) where
   after_longer : (old new : Session D R) (w : World) (far : Progress) (more : List ℕ) → IsAfter functions state old new w far → IsAfter functions state old new w (longer far more)
   after_longer old new w far more a = record { left = a.left; records = a.records; limit = a.limit; macros = a.macros; failures = a.failures; log = a.log }
 
   -- the same forms, of a text that goes on
-  pub extended : (old new : Session D R) (w : World) (mode : Mode) (text : List ℕ) (a b : Option (List ℕ)) (pending : Pending) (left more : List ℕ)
-      → GoesOn functions state old new w mode text a b pending left → GoesOn functions state old new w mode (text ++ more) a b pending (left ++ more)
-  extended old new w mode text a b pending left more goes = record {
+  pub extended : (pace later : Pace) (old new : Session D R) (w : World) (mode : Mode) (text : List ℕ) (a b : Option (List ℕ)) (pending : Pending) (left more : List ℕ)
+      → GoesOn functions state pace later old new w mode text a b pending left → GoesOn functions state pace later old new w mode (text ++ more) a b pending (left ++ more)
+  extended pace later old new w mode text a b pending left more goes = record {
     forms = goes.forms;
     far = longer goes.far more;
     advances = record {
@@ -185,6 +196,7 @@ module _ (functions : Functions) {D R : Type 0} (state : D → State) where
       after = after_longer old new w goes.far more goes.advances.after;
       survives = goes.advances.survives;
     };
+    paced = goes.paced;
     stays = λ others. ap (after_forms functions goes.forms w mode) (append_assoc text more others) ∙ goes.stays (more ++ others)
         ∙ ap (λ rest. Some (record goes.far { rest = rest })) (sym (append_assoc goes.far.rest more others));
     bytes = goes.bytes;
@@ -193,9 +205,9 @@ module _ (functions : Functions) {D R : Type 0} (state : D → State) where
   }
 
   -- nothing was answered yet
-  pub nothing_answered : ((d : D) → IsHonest (state d) → IsSound (state d)) → (old : Session D R) (w : World) (mode : Mode) (text : List ℕ) (held : Option (List ℕ)) (pending : Pending)
-      → old.world ≡ Some w → IsPending functions w mode pending text → GoesOn functions state old old w mode text held held pending []
-  nothing_answered sound old w mode text held pending known is = record {
+  pub nothing_answered : ((d : D) → IsHonest (state d) → IsSound (state d)) → (pace : Pace) (old : Session D R) (w : World) (mode : Mode) (text : List ℕ) (held : Option (List ℕ)) (pending : Pending)
+      → old.world ≡ Some w → IsPending functions w mode pending text → GoesOn functions state pace pace old old w mode text held held pending []
+  nothing_answered sound pace old w mode text held pending known is = record {
     forms = 0;
     far = begun w text;
     advances = record {
@@ -204,6 +216,7 @@ module _ (functions : Functions) {D R : Type 0} (state : D → State) where
       after = after_none functions state sound old old w mode text held held known text [] refl;
       survives = unchanged_survives functions state sound old old w refl;
     };
+    paced = (refl, refl);
     stays = λ more. refl;
     bytes = text;
     rest = sym (append-nil text);
@@ -211,31 +224,32 @@ module _ (functions : Functions) {D R : Type 0} (state : D → State) where
   }
 
   -- what is pending after it
-  pub pending_again : (old new : Session D R) (w : World) (mode : Mode) (text : List ℕ) (a b : Option (List ℕ)) (pending : Pending) (left : List ℕ)
-      → GoesOn functions state old new w mode text a b pending left → (v : World) → new.world ≡ Some v → (bytes : List ℕ) × IsPending functions v mode pending bytes
-  pending_again old new w mode text a b pending left goes v known =
+  pub pending_again : (pace later : Pace) (old new : Session D R) (w : World) (mode : Mode) (text : List ℕ) (a b : Option (List ℕ)) (pending : Pending) (left : List ℕ)
+      → GoesOn functions state pace later old new w mode text a b pending left → (v : World) → new.world ≡ Some v → (bytes : List ℕ) × IsPending functions v mode pending bytes
+  pending_again pace later old new w mode text a b pending left goes v known =
       let same : goes.far.world ≡ v = let left_is = goes.advances.after.left in cc in
       (goes.bytes, subst (λ u. IsPending functions u mode pending goes.bytes) same goes.is_pending)
 
   -- the session ended before any answer, whatever follows the text
-  pub ends_at_once : (old new : Session D R) (w : World) (mode : Mode) (text : List ℕ) (a b : Option (List ℕ)) (number : ℕ)
-      → StopsInForm functions state old new w mode text a b number → HasEnded functions state old new w mode text a b (Store number)
-  ends_at_once old new w mode text a b number is = record { serves = is.serves; stays = λ output all. let one = is.in_form output in absurd (omega arith) }
+  pub ends_at_once : (pace : Pace) (old new : Session D R) (w : World) (mode : Mode) (text : List ℕ) (a b : Option (List ℕ)) (number : ℕ)
+      → (stops : StopsInForm functions state old new w mode text a b number) × ServesInPace functions state pace old new w mode text a b (Store number) stops.serves → HasEnded functions state pace old new w mode text a b (Store number)
+  ends_at_once pace old new w mode text a b number is = record { serves = is.0.serves; paced = is.1; stays = λ output all. let one = is.0.in_form output in absurd (omega arith) }
 
   -- the reader refused the text, whatever follows it
-  pub fault_ended : (sound : (d : D) → IsHonest (state d) → IsSound (state d)) (old new : Session D R) (w : World) (mode : Mode) (text : List ℕ) (a b : Option (List ℕ)) (pending : Pending)
+  pub fault_ended : (sound : (d : D) → IsHonest (state d) → IsSound (state d)) (pace later : Pace) (old new : Session D R) (w : World) (mode : Mode) (text : List ℕ) (a b : Option (List ℕ)) (pending : Pending)
       (number : ℕ) → old.world ≡ Some w → HasRefusal functions w mode text number → new ≡ old → (ending : Ending) → AnswersFault number a b ending
-      → Answers functions state old new w mode text a b pending (Some ending)
+      → Answers functions state pace later old new w mode text a b pending (Some ending)
   unfolding fault_answered nothing
-  fault_ended sound old new w mode text a b pending number known refuses same ending answers more = record {
+  fault_ended sound pace later old new w mode text a b pending number known refuses same ending answers more = record {
     serves = fault_answered functions state sound old new w mode (text ++ more) a b known number refuses.place (refuses.reads more) same ending answers;
+    paced = fault_paced functions state sound old new w mode (text ++ more) a b known number refuses.place (refuses.reads more) same ending answers pace;
     stays = by_ending ending answers;
   } where
     still : (others : List ℕ) → read_in functions w mode ((text ++ more) ++ others) ≡ refused number refuses.place
     still others = ap (read_in functions w mode) (append_assoc text more others) ∙ refuses.reads (more ++ others)
 
     by_ending : (e : Ending) (is : AnswersFault number a b e)
-        → StaysEnded functions state old new w mode (text ++ more) a b e
+        → StaysEnded functions state pace old new w mode (text ++ more) a b e
         (fault_answered functions state sound old new w mode (text ++ more) a b known number refuses.place (refuses.reads more) same e is)
     by_ending End is = absurd is
     by_ending (Reader code) is = λ others. (refl, (refuses.place, still others ∙ ap (λ n. refused n refuses.place) (sym is.0)))
@@ -244,22 +258,24 @@ module _ (functions : Functions) {D R : Type 0} (state : D → State) where
 
   -- ---- one after the other
 
-  module _ (sound : (d : D) → IsHonest (state d) → IsSound (state d)) (old mid new : Session D R) (w : World) (mode : Mode) (a b c : Option (List ℕ)) (pending : Pending)
+  module _ (sound : (d : D) → IsHonest (state d) → IsSound (state d)) (pace later last : Pace) (old mid new : Session D R) (w : World) (mode : Mode) (a b c : Option (List ℕ)) (pending : Pending)
       (honest : (state mid.disk).honest ≡ (state old.disk).honest) where
-    module _ (text : List ℕ) (left : List ℕ) (first : GoesOn functions state old mid w mode text a b pending left) where
+    module _ (text : List ℕ) (left : List ℕ) (first : GoesOn functions state pace later old mid w mode text a b pending left) where
       abbrev p : Progress
       p = first.far
 
       abbrev rest : List ℕ
       rest = first.bytes ++ left
 
-      goes_on_both : (after : Pending) (others : List ℕ) → GoesOn functions state mid new p.world mode rest b c after others
-          → GoesOn functions state old new w mode text a c after others
+      goes_on_both : (after : Pending) (others : List ℕ) → GoesOn functions state later last mid new p.world mode rest b c after others
+          → GoesOn functions state pace last old new w mode text a c after others
       goes_on_both after others second = record {
         forms = second.forms + first.forms;
         far = onward p second.far;
         advances = advance_both functions state sound old mid new w mode text a b c first.forms p first.advances honest second.forms (second.forms + first.forms) second.far refl
             (subst (λ t. Advances functions state mid new p.world mode t b c second.forms second.far) (sym first.rest) second.advances);
+        paced = paces_both functions old.limit w p.world p.taken second.far.taken pace later last (fill_of old) (fill_of mid) (fill_of new) first.advances.after.records first.paced
+            (subst (λ n. Paces functions n p.world second.far.taken later last (fill_of mid) (fill_of new)) first.advances.after.limit second.paced);
         stays = λ more. forms_onward functions second.forms first.forms (second.forms + first.forms) w mode (text ++ more) (longer p more) (longer second.far more) refl (first.stays more)
             (ap (λ t. after_forms functions second.forms p.world mode (t ++ more)) first.rest ∙ second.stays more);
         bytes = second.bytes;
@@ -267,10 +283,19 @@ module _ (functions : Functions) {D R : Type 0} (state : D → State) where
         is_pending = second.is_pending;
       }
 
-      serves_both : (ending : Ending) → HasEnded functions state mid new p.world mode p.rest b c ending → HasEnded functions state old new w mode text a c ending
+      pub paced_both : (ending : Ending) (served : Serves functions state mid new p.world mode p.rest b c ending) → ServesInPace functions state later mid new p.world mode p.rest b c ending served
+          → ServesInPace functions state pace old new w mode text a c ending (serve_both functions state sound old mid new w mode text a b c first.forms p first.advances honest ending served)
+      unfolding serve_both
+      paced_both ending served paced =
+          ends_after functions old.limit w mode p pace later (fill_of old) (fill_of mid) first.advances.after.records first.paced first.forms served.forms served.far served.lines served.answered
+          (fill_of new) ending
+          (subst (λ n. EndsInPace functions n p.world later (fill_of mid) mode served.forms served.far served.lines served.answered (fill_of new) ending) first.advances.after.limit paced)
+
+      serves_both : (ending : Ending) → HasEnded functions state later mid new p.world mode p.rest b c ending → HasEnded functions state pace old new w mode text a c ending
       unfolding serve_both
       serves_both ending second = record {
         serves = serve_both functions state sound old mid new w mode text a b c first.forms p first.advances honest ending second.serves;
+        paced = paced_both ending second.serves second.paced;
         stays = by_ending ending second;
       } where
         refused_both : (forms : ℕ) (far : Progress) (code : ℕ) → StaysRefused functions p.world mode p.rest forms far code
@@ -280,8 +305,8 @@ module _ (functions : Functions) {D R : Type 0} (state : D → State) where
           (is more).1,
         )
 
-        by_ending : (e : Ending) (is : HasEnded functions state mid new p.world mode p.rest b c e)
-            → StaysEnded functions state old new w mode text a c e
+        by_ending : (e : Ending) (is : HasEnded functions state later mid new p.world mode p.rest b c e)
+            → StaysEnded functions state pace old new w mode text a c e
             (serve_both functions state sound old mid new w mode text a b c first.forms p first.advances honest e is.serves)
         by_ending End is = absurd is.stays
         by_ending (Reader code) is = refused_both is.serves.forms is.serves.far code is.stays
@@ -290,84 +315,86 @@ module _ (functions : Functions) {D R : Type 0} (state : D → State) where
             let decided = is.stays output (omega arith) in
             (decided.0, refused_both is.serves.forms is.serves.far decided.0 decided.1)
 
-      pub ended_both : (ending : Ending) → HasEnded functions state mid new p.world mode rest b c ending → HasEnded functions state old new w mode text a c ending
-      ended_both ending second = serves_both ending (subst (λ t. HasEnded functions state mid new p.world mode t b c ending) (sym first.rest) second)
+      pub ended_both : (ending : Ending) → HasEnded functions state later mid new p.world mode rest b c ending → HasEnded functions state pace old new w mode text a c ending
+      ended_both ending second = serves_both ending (subst (λ t. HasEnded functions state later mid new p.world mode t b c ending) (sym first.rest) second)
 
     -- what was answered, and what became of what was left
-    pub answers_both : (text left : List ℕ) (first : GoesOn functions state old mid w mode text a b pending left) (after : Pending) (result : Option Ending)
-        → Answers functions state mid new first.far.world mode (first.bytes ++ left) b c after result → Answers functions state old new w mode text a c after result
+    pub answers_both : (text left : List ℕ) (first : GoesOn functions state pace later old mid w mode text a b pending left) (after : Pending) (result : Option Ending)
+        → Answers functions state later last mid new first.far.world mode (first.bytes ++ left) b c after result → Answers functions state pace last old new w mode text a c after result
     unfolding extended
     answers_both text left first after None second = goes_on_both text left first after [] second
     answers_both text left first after (Some ending) second = λ more.
-        ended_both (text ++ more) (left ++ more) (extended old mid w mode text a b pending left more first) ending
-        (subst (λ t. HasEnded functions state mid new first.far.world mode t b c ending) (append_assoc first.bytes left more) (second more))
+        ended_both (text ++ more) (left ++ more) (extended pace later old mid w mode text a b pending left more first) ending
+        (subst (λ t. HasEnded functions state later mid new first.far.world mode t b c ending) (append_assoc first.bytes left more) (second more))
 
     -- a byte that was left, and what it came to
-    pub left_both : (text : List ℕ) (byte : ℕ) (first : LeavesByte functions state old mid w mode text a b pending byte) (after : Pending) (result : Option Ending)
-        → Answers functions state mid new first.goes.far.world mode (byte ∷ []) b c after result → Answers functions state old new w mode text a c after result
+    pub left_both : (text : List ℕ) (byte : ℕ) (first : LeavesByte functions state pace later old mid w mode text a b pending byte) (after : Pending) (result : Option Ending)
+        → Answers functions state later last mid new first.goes.far.world mode (byte ∷ []) b c after result → Answers functions state pace last old new w mode text a c after result
     left_both text byte first after result second =
         answers_both text (byte ∷ []) first.goes after result
-        (subst (λ bytes. Answers functions state mid new first.goes.far.world mode (bytes ++ byte ∷ []) b c after result) (sym first.alone) second)
+        (subst (λ bytes. Answers functions state later last mid new first.goes.far.world mode (bytes ++ byte ∷ []) b c after result) (sym first.alone) second)
 
     -- more of the text, and what it came to
-    pub more_both : (text more : List ℕ) (first : GoesOn functions state old mid w mode text a b pending []) (after : Pending) (result : Option Ending)
-        → Answers functions state mid new first.far.world mode (first.bytes ++ more) b c after result → Answers functions state old new w mode (text ++ more) a c after result
+    pub more_both : (text more : List ℕ) (first : GoesOn functions state pace later old mid w mode text a b pending []) (after : Pending) (result : Option Ending)
+        → Answers functions state later last mid new first.far.world mode (first.bytes ++ more) b c after result → Answers functions state pace last old new w mode (text ++ more) a c after result
     unfolding extended
-    more_both text more first after result second = answers_both (text ++ more) more (extended old mid w mode text a b pending [] more first) after result second
+    more_both text more first after result second = answers_both (text ++ more) more (extended pace later old mid w mode text a b pending [] more first) after result second
 
     piece_is : (bytes piece : List ℕ) (k byte : ℕ) → take (k + 1) piece ≡ take k piece ++ byte ∷ [] → (bytes ++ take k piece) ++ byte ∷ [] ≡ bytes ++ take (k + 1) piece
     piece_is bytes piece k byte taken = append_assoc bytes (take k piece) (byte ∷ []) ∙ ap (λ t. bytes ++ t) (sym taken)
 
     -- one byte more of a piece, and what it came to
     pub byte_both : (bytes piece : List ℕ) (k byte : ℕ) → take (k + 1) piece ≡ take k piece ++ byte ∷ []
-        → (first : GoesOn functions state old mid w mode (bytes ++ take k piece) a b pending []) (after : Pending) (result : Option Ending)
-        → Answers functions state mid new first.far.world mode (first.bytes ++ byte ∷ []) b c after result → Answers functions state old new w mode (bytes ++ take (k + 1) piece) a c after result
+        → (first : GoesOn functions state pace later old mid w mode (bytes ++ take k piece) a b pending []) (after : Pending) (result : Option Ending)
+        → Answers functions state later last mid new first.far.world mode (first.bytes ++ byte ∷ []) b c after result → Answers functions state pace last old new w mode (bytes ++ take (k + 1) piece) a c after result
     byte_both bytes piece k byte taken first after result second =
-        subst (λ t. Answers functions state old new w mode t a c after result) (piece_is bytes piece k byte taken)
+        subst (λ t. Answers functions state pace last old new w mode t a c after result) (piece_is bytes piece k byte taken)
         (more_both (bytes ++ take k piece) (byte ∷ []) first after result second)
 
     -- the end of the input, and what it came to
-    pub end_both : (text : List ℕ) (first : GoesOn functions state old mid w mode text a b pending []) (ending : Ending)
-        → Serves functions state mid new first.far.world mode first.bytes b c ending → Serves functions state old new w mode text a c ending
+    pub end_both : (text : List ℕ) (first : GoesOn functions state pace later old mid w mode text a b pending []) (ending : Ending)
+        → InPace functions state later mid new first.far.world mode first.bytes b c ending → InPace functions state pace old new w mode text a c ending
     end_both text first ending second =
-        serve_both functions state sound old mid new w mode text a b c first.forms first.far first.advances honest ending
-        (subst (λ t. Serves functions state mid new first.far.world mode t b c ending) (sym (first.rest ∙ append-nil first.bytes)) second)
+        let whole = subst (λ t. InPace functions state later mid new first.far.world mode t b c ending) (sym (first.rest ∙ append-nil first.bytes)) second in
+        (serve_both functions state sound old mid new w mode text a b c first.forms first.far first.advances honest ending whole.0, paced_both text [] first ending whole.0 whole.1)
 
   -- the session ended within a piece
-  pub ended_within : (old new : Session D R) (w : World) (mode : Mode) (a b : Option (List ℕ)) (after : Pending) (bytes piece : List ℕ) (n : ℕ) (ending : Ending)
-      → Answers functions state old new w mode (bytes ++ take n piece) a b after (Some ending) → Answers functions state old new w mode (bytes ++ piece) a b after (Some ending)
-  ended_within old new w mode a b after bytes piece n ending ended more =
-      subst (λ t. HasEnded functions state old new w mode t a b ending)
+  pub ended_within : (pace later : Pace) (old new : Session D R) (w : World) (mode : Mode) (a b : Option (List ℕ)) (after : Pending) (bytes piece : List ℕ) (n : ℕ) (ending : Ending)
+      → Answers functions state pace later old new w mode (bytes ++ take n piece) a b after (Some ending) → Answers functions state pace later old new w mode (bytes ++ piece) a b after (Some ending)
+  ended_within pace later old new w mode a b after bytes piece n ending ended more =
+      subst (λ t. HasEnded functions state pace old new w mode t a b ending)
       (append_assoc bytes (take n piece) (drop n piece ++ more) ∙ ap (λ t. bytes ++ t) (sym (append_assoc (take n piece) (drop n piece) more) ∙ ap (λ t. t ++ more) (take-append-drop n piece))
       ∙ sym (append_assoc bytes piece more)) (ended (drop n piece ++ more))
 
   -- a read failed after it
-  pub unread_after : (old new : Session D R) (w : World) (mode : Mode) (text : List ℕ) (a b : Option (List ℕ)) (pending : Pending)
-      → GoesOn functions state old new w mode text a b pending [] → Serves functions state old new w mode text a b (Store INPUT)
-  unread_after old new w mode text a b pending goes =
-      let far : Progress = goes.far in
-      record {
-        forms = goes.forms;
-        far = far;
-        far_is = goes.advances.far_is;
-        lines = goes.forms;
-        answered = far;
-        answered_is = goes.advances.far_is;
-        at_most = omega arith;
-        in_turn = omega arith;
-        part = [];
-        output = subst (Writes a b) (sym (append-nil far.lines)) goes.advances.lines;
-        survives = goes.advances.survives;
-        ends = inr (inr (inr (inr (inl (record {
-          input = refl;
-          all = refl;
-          no_part = refl;
-          more = subst (λ t. MayGoOn t (read_in functions far.world mode t)) (sym (goes.rest ∙ append-nil goes.bytes)) goes.is_pending.more;
-          after = goes.advances.after;
-        })))));
-      }
+  pub unread_after : (pace later : Pace) (old new : Session D R) (w : World) (mode : Mode) (text : List ℕ) (a b : Option (List ℕ)) (pending : Pending)
+      → GoesOn functions state pace later old new w mode text a b pending [] → InPace functions state pace old new w mode text a b (Store INPUT)
+  unread_after pace later old new w mode text a b pending goes =
+      let far : Progress = goes.far in (
+        record {
+          forms = goes.forms;
+          far = far;
+          far_is = goes.advances.far_is;
+          lines = goes.forms;
+          answered = far;
+          answered_is = goes.advances.far_is;
+          at_most = omega arith;
+          in_turn = omega arith;
+          part = [];
+          output = subst (Writes a b) (sym (append-nil far.lines)) goes.advances.lines;
+          survives = goes.advances.survives;
+          ends = inr (inr (inr (inr (inl (record {
+            input = refl;
+            all = refl;
+            no_part = refl;
+            more = subst (λ t. MayGoOn t (read_in functions far.world mode t)) (sym (goes.rest ∙ append-nil goes.bytes)) goes.is_pending.more;
+            after = goes.advances.after;
+          })))));
+        },
+        inl (record { paced = (later, goes.paced); other = λ full. absurd (omega arith); fault = λ device. absurd (omega arith) }),
+      )
 
   -- what is pending where a byte was left
-  pub none_left : (old new : Session D R) (w : World) (mode : Mode) (text : List ℕ) (a b : Option (List ℕ)) (pending : Pending) (byte : ℕ)
-      (first : LeavesByte functions state old new w mode text a b pending byte) → IsPending functions first.goes.far.world mode pending []
-  none_left old new w mode text a b pending byte first = subst (λ bytes. IsPending functions first.goes.far.world mode pending bytes) first.alone first.goes.is_pending
+  pub none_left : (pace later : Pace) (old new : Session D R) (w : World) (mode : Mode) (text : List ℕ) (a b : Option (List ℕ)) (pending : Pending) (byte : ℕ)
+      (first : LeavesByte functions state pace later old new w mode text a b pending byte) → IsPending functions first.goes.far.world mode pending []
+  none_left pace later old new w mode text a b pending byte first = subst (λ bytes. IsPending functions first.goes.far.world mode pending bytes) first.alone first.goes.is_pending

@@ -8,9 +8,11 @@ use Rattle.prevalence_store.specs.declared.mode.Mode.{Mode}
 use Rattle.prevalence_store.specs.declared.outcome.Ending.{Ending}
 use Rattle.prevalence_store.specs.declared.outcome.Ending.TheVariants.{End, Reader, Store}
 use Rattle.prevalence_store.specs.Functions.{Functions}
+use Rattle.prevalence_store.specs.Pacing.{first_pace}
 use Rattle.prevalence_store.specs.Serving.{HasRead, Serves, ServesInput}
 use Rattle.prevalence_store.specs.Session.{Session}
 use Rattle.prevalence_store.specs.Turns.{HasEnded}
+use Rattle.prevalence_store.proofs.Answering.{InPace}
 
 -- what a reader had, is this text and what it has
 abbrev pub HasLeft : Option (List ℕ) → Option (List ℕ) → List ℕ → Type 0
@@ -45,27 +47,29 @@ left_both had old new text piece before took all is =
     let then = consumed old new first.0 piece first.1.0 took in
     (then.0, (then.1.0, first.1.1 ∙ ap (λ t. text ++ t) then.1.1 ∙ sym (append_assoc text piece then.0)))
 
-module _ (functions : Functions) {D R : Type 0} (state : D → State) (old new : Session D R) (w : World) (mode : Mode) (held written : Option (List ℕ)) (had before has : Option (List ℕ)) (text : List ℕ) where
+module _ (functions : Functions) {D R : Type 0} (state : D → State) (every : ℕ) (old new : Session D R) (w : World) (mode : Mode) (held written : Option (List ℕ)) (had before has : Option (List ℕ)) (text : List ℕ) where
   -- a read failed
-  pub unread_input : Serves functions state old new w mode text held written (Store INPUT) → HasLeft had before text → Keeps before has
-      → ServesInput functions state old new w mode had has held written (Store INPUT)
+  pub unread_input : InPace functions state (first_pace every) old new w mode text held written (Store INPUT) → HasLeft had before text → Keeps before has
+      → ServesInput functions state every old new w mode had has held written (Store INPUT)
   unread_input serves left keeps = record {
     text = text;
-    serves = serves;
+    serves = serves.0;
+    paced = serves.1;
     reads = λ all is. let first = left all is in (first.0, first.1.1, (λ output. absurd (omega arith), kept before has first.0 first.1.0 keeps));
   }
 
   -- the input is at its end
-  pub ended_input : (ending : Ending) → Serves functions state old new w mode text held written ending → HasLeft had before text → Consumes before has [] → IsAtEnd has
-      → ServesInput functions state old new w mode had has held written ending
+  pub ended_input : (ending : Ending) → InPace functions state (first_pace every) old new w mode text held written ending → HasLeft had before text → Consumes before has [] → IsAtEnd has
+      → ServesInput functions state every old new w mode had has held written ending
   ended_input ending serves left took ends = record {
     text = text;
-    serves = serves;
+    serves = serves.0;
+    paced = serves.1;
     reads = λ all is.
         let first = left all is in
         let then = consumed before has first.0 [] first.1.0 took in
         let none = at_end has then.0 then.1.0 ends in
-        ([], first.1.1 ∙ ap (λ t. text ++ t) (then.1.1 ∙ none), all_read ending serves (then.1.0 ∙ ap (λ t. Some t) none));
+        ([], first.1.1 ∙ ap (λ t. text ++ t) (then.1.1 ∙ none), all_read ending serves.0 (then.1.0 ∙ ap (λ t. Some t) none));
   } where
     all_read : (e : Ending) (served : Serves functions state old new w mode text held written e) → has ≡ Some [] → HasRead functions state old new w mode text held written e served [] has
     all_read End served is = (refl, is)
@@ -73,14 +77,15 @@ module _ (functions : Functions) {D R : Type 0} (state : D → State) (old new :
     all_read (Store number) served is = (λ output all. inl refl, is)
 
   -- the session ended before it
-  pub decided_input : (ending : Ending) → HasEnded functions state old new w mode text held written ending → HasLeft had has text
-      → ServesInput functions state old new w mode had has held written ending
+  pub decided_input : (ending : Ending) → HasEnded functions state (first_pace every) old new w mode text held written ending → HasLeft had has text
+      → ServesInput functions state every old new w mode had has held written ending
   decided_input ending ended left = record {
     text = text;
     serves = ended.serves;
+    paced = ended.paced;
     reads = λ all is. let first = left all is in (first.0, first.1.1, some_read ending ended first.0 first.1.0);
   } where
-    some_read : (e : Ending) (is : HasEnded functions state old new w mode text held written e) (rest : List ℕ) → has ≡ Some rest
+    some_read : (e : Ending) (is : HasEnded functions state (first_pace every) old new w mode text held written e) (rest : List ℕ) → has ≡ Some rest
         → HasRead functions state old new w mode text held written e is.serves rest has
     some_read End is rest left_is = absurd is.stays
     some_read (Reader number) is rest left_is = (inr is.stays, left_is)

@@ -3,6 +3,7 @@ pub mod Committing
 pub mod Covering
 pub mod Executing
 pub mod Inputs
+pub mod InTurn
 pub mod Joining
 pub mod LeftAlone
 pub mod Loading

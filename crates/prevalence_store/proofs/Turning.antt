@@ -24,6 +24,7 @@ use Rattle.prevalence_store.specs.Acceptance.{after, between, logged, read_in, r
 use Rattle.prevalence_store.specs.Causes.{is_device, IsCause}
 use Rattle.prevalence_store.specs.Execution.{DeviceFails, Stores, SurvivesAs, acknowledged_in, taken_in}
 use Rattle.prevalence_store.specs.Output.{Progress, after_forms, begun, evaluated, last_line, one_form, onward, refusal_line, value_line}
+use Rattle.prevalence_store.specs.Pacing.{fill_of}
 use Rattle.prevalence_store.specs.Serving.{Ends, IsAfter, IsOver, Serves}
 use Rattle.gate_log.specs.Place.{HalvesValue}
 use Rattle.prevalence_store.specs.Session.{Session, Describes, session_of}
@@ -31,7 +32,7 @@ use Rattle.prevalence_store.proofs.Committing.{accepts-logged}
 use Rattle.prevalence_store.proofs.Executing.{own_whole, world_inside}
 use Rattle.prevalence_store.proofs.Replaying.{stepped}
 use Rattle.prevalence_store.specs.Streams.{Writes, WritesPart}
-use Rattle.prevalence_store.specs.Turns.{AnswersFault, AnswersForm, IsLine, IsLineOf, IsStop, StopsInForm, TriesForm}
+use Rattle.prevalence_store.specs.Turns.{AnswersFault, EndsTry, IsLine, IsLineOf, IsStop, LeavesRecord, LogsAtOnce, StopsInForm, TriesForm, is_logged}
 use Rattle.prevalence_store.proofs.LeftAlone.{alone_still}
 use Rattle.prevalence_store.proofs.Surviving.{fewer_survive, unchanged_survives}
 use Rattle.prevalence_store.specs.Functions.{Functions}
@@ -114,11 +115,11 @@ module _ (functions : Functions) where
       ends = ends;
     }
 
-    pub no_memory : new ≡ old → written ≡ held → Serves functions state old new w mode text held written (Store NO_MEMORY)
+    unfoldable pub no_memory : new ≡ old → written ≡ held → Serves functions state old new w mode text held written (Store NO_MEMORY)
     no_memory same quiet = nothing (Store NO_MEMORY) [] same (writes_nothing held written quiet)
         (inr (inr (inr (inr (inr (inr (record { memory = refl; no_part = refl; after = after_none text [] same })))))))
 
-    pub done : new ≡ old → written ≡ held → empty ≡ read_in functions w mode text → Serves functions state old new w mode text held written End
+    unfoldable pub done : new ≡ old → written ≡ held → empty ≡ read_in functions w mode text → Serves functions state old new w mode text held written End
     done same quiet is = nothing End [] same (writes_nothing held written quiet)
         (record { all = refl; no_part = refl; nothing_left = sym is; after = after_none text [] same })
 
@@ -202,10 +203,22 @@ module _ (functions : Functions) where
           subst (λ v. IsAfter functions state old new w (record { world = v; rest = drop next text; taken = []; lines = value_line given (object_of e.value) })) here
           (after_none state sound old new w mode text held written known (drop next text) (value_line given (object_of e.value)) same.0)
 
+    -- what it leaves in the half in use
+    leaves : (wrote : Bool) (given : World) → Stores state old new wrote mode own given
+        → LeavesRecord (LogsAtOnce old.limit (fill_of old) (fill_of new)) (records_of wrote mode own) (fill_of old) (fill_of new) wrote
+    leaves true given logs =
+        let size = logs.size in
+        let fits = logs.fits in
+        inr (refl, (logged mode own, refl, (omega arith, λ i. record { generation = logs.generation i; record_count = logs.record_count i; size = logs.size i })))
+    leaves false given same = inl (refl, refl, ap (λ (s : Session D R). fill_of s) same.0)
+
+    refused_leaves : new ≡ old → LeavesRecord (LogsAtOnce old.limit (fill_of old) (fill_of new)) [] (fill_of old) (fill_of new) false
+    refused_leaves same = inl (refl, refl, ap (λ (s : Session D R). fill_of s) same)
+
     -- the form is answered, and the session goes on
-    pub form_answered : (answer : Result Evaluated Failure) (line : List ℕ) → IsAnswerOf state old new mode own x answer → IsLine new answer line
-        → Writes held written line → AnswersForm functions state old new w mode text held written None
-    form_answered (Ok e) line of is_line writes =
+    form_is_answered : (answer : Result Evaluated Failure) (line : List ℕ) → IsAnswerOf state old new mode own x answer → IsLine new answer line
+        → Writes held written line → TriesForm functions state old new w mode text held written (Ok (is_logged answer))
+    form_is_answered (Ok e) line of is_line writes =
         let given = of.accepted w known in (
           evaluated w mode own (drop next text) (Ok (done_of e given.0)),
           record {
@@ -214,8 +227,9 @@ module _ (functions : Functions) where
             after = after_stores e given.0 given.1 given.2;
             survives = of.survives w;
           },
+          leaves e.wrote given.0 given.2,
         )
-    form_answered (Err (Refused number)) line of is_line writes =
+    form_is_answered (Err (Refused number)) line of is_line writes =
         let same = of.unchanged refl in (
           evaluated w mode own (drop next text) (Err number),
           record {
@@ -224,13 +238,19 @@ module _ (functions : Functions) where
             after = after_none state sound old new w mode text held written known (drop next text) (refusal_line number) same;
             survives = unchanged_survives functions state sound old new w same;
           },
+          refused_leaves same,
         )
-    form_answered (Err Full) line of is_line writes = absurd is_line.line_of
-    form_answered (Err DeviceFault) line of is_line writes = absurd is_line.line_of
-    form_answered (Err OutOfMemory) line of is_line writes = absurd is_line.line_of
+    form_is_answered (Err Full) line of is_line writes = absurd is_line.line_of
+    form_is_answered (Err DeviceFault) line of is_line writes = absurd is_line.line_of
+    form_is_answered (Err OutOfMemory) line of is_line writes = absurd is_line.line_of
+
+    pub form_answered : (answer : Result Evaluated Failure) (line : List ℕ) → IsAnswerOf state old new mode own x answer → IsLine new answer line
+        → Writes held written line → (wrote : Bool) → wrote ≡ is_logged answer → TriesForm functions state old new w mode text held written (Ok wrote)
+    form_answered answer line of is_line writes wrote same =
+        subst (λ b. TriesForm functions state old new w mode text held written (Ok b)) (sym same) (form_is_answered answer line of is_line writes)
 
     -- one form was taken, and not answered whole
-    taken_only : (far : Progress) (part : List ℕ) (number : ℕ) (n : ℕ) → after_forms functions 1 w mode text ≡ Some far → Writes held written part
+    unfoldable taken_only : (far : Progress) (part : List ℕ) (number : ℕ) (n : ℕ) → after_forms functions 1 w mode text ≡ Some far → Writes held written part
         → SurvivesAs functions state old new w far.taken n → Ends functions state old new w mode text held written 1 far 0 (begun w text) part (Store number)
         → StopsInForm functions state old new w mode text held written number
     taken_only far part number n one writes survives ends = record {
@@ -251,81 +271,99 @@ module _ (functions : Functions) where
       in_form = λ output. refl;
     }
 
+    -- the session has ended in the form, and this is left of it
+    abbrev Stops : ℕ → Type 0
+    Stops number = (stops : StopsInForm functions state old new w mode text held written number) × EndsTry functions state old new w mode text held written number stops
+
     -- the writer failed in its line
     unwritten_front : (lines line : List ℕ) (front rest more : List ℕ) → line ≡ lines → line ≡ front ++ rest → lines ++ more ≡ front ++ (rest ++ more)
     unwritten_front lines line front rest more same parts = ap (λ t. t ++ more) (sym same ∙ parts) ∙ append_assoc front rest more
 
     line_unwritten : (answer : Result Evaluated Failure) (line : List ℕ) → IsAnswerOf state old new mode own x answer → IsLine new answer line
-        → WritesPart held written line → StopsInForm functions state old new w mode text held written OUTPUT
+        → WritesPart held written line → Stops OUTPUT
+    unfolding taken_only
     line_unwritten (Ok e) line of is_line writes =
         let given = of.accepted w known in
         let same_line = value_lines new e line given.0 (stores_left state old new e.wrote mode own given.0 given.2) is_line in
         let part = part_of held written line (some_line (value_line given.0 (object_of e.value)) line same_line (some_last (printed given.0.packages given.0.current_package (object_of e.value)) 10)) writes in
-        let far : Progress = evaluated w mode own (drop next text) (Ok (done_of e given.0)) in
-        taken_only far part.0 OUTPUT (length (records_of e.wrote mode own)) (one_is (Ok (done_of e given.0)) given.1) part.4 (of.survives w)
-        (inr (inr (inr (inr (inr (inl (record {
-          output = refl;
-          unwritten = part.1 ++ last_line (read_in functions far.world mode far.rest);
-          some_left = some_first part.1 (last_line (read_in functions far.world mode far.rest)) part.3;
-          front = unwritten_front far.lines line part.0 part.1 (last_line (read_in functions far.world mode far.rest)) same_line part.2;
-          in_form = λ one. (part.1, part.3, sym same_line ∙ part.2);
-          after = after_stores e given.0 given.1 given.2;
-        })))))))
+        let far : Progress = evaluated w mode own (drop next text) (Ok (done_of e given.0)) in (
+          taken_only far part.0 OUTPUT (length (records_of e.wrote mode own)) (one_is (Ok (done_of e given.0)) given.1) part.4 (of.survives w)
+              (inr (inr (inr (inr (inr (inl (record {
+                output = refl;
+                unwritten = part.1 ++ last_line (read_in functions far.world mode far.rest);
+                some_left = some_first part.1 (last_line (read_in functions far.world mode far.rest)) part.3;
+                front = unwritten_front far.lines line part.0 part.1 (last_line (read_in functions far.world mode far.rest)) same_line part.2;
+                in_form = λ one. (part.1, part.3, sym same_line ∙ part.2);
+                after = after_stores e given.0 given.1 given.2;
+              }))))))),
+          inr (inl (refl, inl refl, (e.wrote, leaves e.wrote given.0 given.2))),
+        )
     line_unwritten (Err (Refused number)) line of is_line writes =
         let same = of.unchanged refl in
         let part = part_of held written line (some_line (refusal_line number) line is_line.line_of (λ none. absurd (cc))) writes in
-        let far : Progress = evaluated w mode own (drop next text) (Err number) in
-        taken_only far part.0 OUTPUT 0 (one_is (Err number) (of.cause w known)) part.4 (unchanged_survives functions state sound old new w same)
-        (inr (inr (inr (inr (inr (inl (record {
-          output = refl;
-          unwritten = part.1 ++ last_line (read_in functions far.world mode far.rest);
-          some_left = some_first part.1 (last_line (read_in functions far.world mode far.rest)) part.3;
-          front = unwritten_front far.lines line part.0 part.1 (last_line (read_in functions far.world mode far.rest)) is_line.line_of part.2;
-          in_form = λ one. (part.1, part.3, sym is_line.line_of ∙ part.2);
-          after = after_none state sound old new w mode text held written known (drop next text) (refusal_line number) same;
-        })))))))
+        let far : Progress = evaluated w mode own (drop next text) (Err number) in (
+          taken_only far part.0 OUTPUT 0 (one_is (Err number) (of.cause w known)) part.4 (unchanged_survives functions state sound old new w same)
+              (inr (inr (inr (inr (inr (inl (record {
+                output = refl;
+                unwritten = part.1 ++ last_line (read_in functions far.world mode far.rest);
+                some_left = some_first part.1 (last_line (read_in functions far.world mode far.rest)) part.3;
+                front = unwritten_front far.lines line part.0 part.1 (last_line (read_in functions far.world mode far.rest)) is_line.line_of part.2;
+                in_form = λ one. (part.1, part.3, sym is_line.line_of ∙ part.2);
+                after = after_none state sound old new w mode text held written known (drop next text) (refusal_line number) same;
+              }))))))),
+          inr (inl (refl, inl refl, (false, refused_leaves same))),
+        )
     line_unwritten (Err Full) line of is_line writes = absurd is_line.line_of
     line_unwritten (Err DeviceFault) line of is_line writes = absurd is_line.line_of
     line_unwritten (Err OutOfMemory) line of is_line writes = absurd is_line.line_of
 
     -- there is no line
-    out_of_memory : (number : ℕ) → number ≡ NO_MEMORY → new ≡ old → written ≡ held → StopsInForm functions state old new w mode text held written number
-    out_of_memory number memory same quiet = record {
-      serves = nothing state sound old new w mode text held written known (Store number) [] same (writes_nothing held written quiet)
-          (inr (inr (inr (inr (inr (inr (record { memory = memory; no_part = refl; after = after_none state sound old new w mode text held written known text [] same })))))));
-      in_form = λ output. absurd (omega arith);
-    }
+    out_of_memory : (number : ℕ) → number ≡ NO_MEMORY → new ≡ old → written ≡ held → Stops number
+    unfolding nothing
+    out_of_memory number memory same quiet = (
+      record {
+        serves = nothing state sound old new w mode text held written known (Store number) [] same (writes_nothing held written quiet)
+            (inr (inr (inr (inr (inr (inr (record { memory = memory; no_part = refl; after = after_none state sound old new w mode text held written known text [] same })))))));
+        in_form = λ output. absurd (omega arith);
+      },
+      inl (memory, refl, ap (λ (s : Session D R). fill_of s) same),
+    )
 
     records_written : (wrote : Bool) → wrote ≡ true → records_of wrote mode own ≡ logged mode own ∷ []
     records_written wrote wrote_is = ap (λ b. records_of b mode own) wrote_is
 
     stops_in : (answer : Result Evaluated Failure) (number : ℕ) → IsAnswerOf state old new mode own x answer → IsStop answer number → number ≢ LOG_FULL → written ≡ held
-        → StopsInForm functions state old new w mode text held written number
+        → Stops number
+    unfolding taken_only
     stops_in (Ok e) number of stop other quiet =
-        let given = of.accepted w known in
-        taken_only (evaluated w mode own (drop next text) (Ok (done_of e given.0))) [] number (length (records_of e.wrote mode own)) (one_is (Ok (done_of e given.0)) given.1)
-        (writes_nothing held written quiet) (of.survives w)
-        (inr (inr (inr (inr (inr (inr (record { memory = stop; no_part = refl; after = after_stores e given.0 given.1 given.2 })))))))
+        let given = of.accepted w known in (
+          taken_only (evaluated w mode own (drop next text) (Ok (done_of e given.0))) [] number (length (records_of e.wrote mode own)) (one_is (Ok (done_of e given.0)) given.1)
+              (writes_nothing held written quiet) (of.survives w)
+              (inr (inr (inr (inr (inr (inr (record { memory = stop; no_part = refl; after = after_stores e given.0 given.1 given.2 }))))))),
+          inr (inl (refl, inr stop, (e.wrote, leaves e.wrote given.0 given.2))),
+        )
     stops_in (Err (Refused code)) number of stop other quiet = out_of_memory number stop (of.unchanged refl) quiet
     stops_in (Err OutOfMemory) number of stop other quiet = out_of_memory number stop (of.unchanged refl) quiet
     stops_in (Err Full) number of stop other quiet = absurd (other stop)
     stops_in (Err DeviceFault) number of stop other quiet =
         let why = of.cause w known in
         let failed = of.fault refl in
-        let taken = records_written why.0.0.wrote why.0.2 in
-        taken_only (evaluated w mode own (drop next text) (Ok why.0.0)) [] number 0 (one_is (Ok why.0.0) why.0.1) (writes_nothing held written quiet)
-        (subst (λ (es : List Entry). SurvivesAs functions state old new w es 0) (sym taken) (of.survives w))
-        (inl (record {
-          device = stop;
-          one_open = refl;
-          no_part = refl;
-          mid = old;
-          before = after_none state sound old old w mode text held held known text [] refl;
-          record_ = logged mode own;
-          was_accepted = taken;
-          fits = why.1;
-          failed = failed;
-        }))
+        let taken = records_written why.0.0.wrote why.0.2 in (
+          taken_only (evaluated w mode own (drop next text) (Ok why.0.0)) [] number 0 (one_is (Ok why.0.0) why.0.1) (writes_nothing held written quiet)
+              (subst (λ (es : List Entry). SurvivesAs functions state old new w es 0) (sym taken) (of.survives w))
+              (inl (record {
+                device = stop;
+                one_open = refl;
+                no_part = refl;
+                mid = old;
+                before = after_none state sound old old w mode text held held known text [] refl;
+                record_ = logged mode own;
+                was_accepted = taken;
+                fits = why.1;
+                failed = failed;
+              })),
+          inr (inr (stop, refl, refl, λ i. record { generation = failed.generation i; record_count = failed.record_count i; size = failed.size i })),
+        )
 
     over_in : (answer : Result Evaluated Failure) (number : ℕ) → IsAnswerOf state old new mode own x answer → IsStop answer number → number ≡ LOG_FULL → IsOver functions old w mode text
     over_in (Ok e) number of stop full = absurd (omega arith)

@@ -13,6 +13,7 @@ pub mod Snapshots
 pub mod Opening
 pub mod Output
 pub mod Streams
+pub mod Pacing
 pub mod Serving
 pub mod Runs
 -- how the code answers it

@@ -1,5 +1,5 @@
 -- How a session goes, and how it ends: one relation, with a case for each ending.
-use Rattle.std.specs.Prelude.{◌≡◌, ◌≢◌, ◌⊎◌, ℕ, zero, suc, ◌+◌, ◌<◌, ◌≤◌, max, List, [], ◌∷◌, ◌++◌, length, Option, Some}
+use Rattle.std.specs.Prelude.{◌≡◌, ◌≢◌, ◌⊎◌, ℕ, zero, suc, ◌+◌, ◌≤◌, max, List, [], ◌∷◌, ◌++◌, length, Option, Some}
 use Rattle.std.specs.List.{sum_by}
 use Rattle.disk_trait.specs.Disk.{State, IsHonest}
 use Rattle.disk_trait.specs.Half.{opposite_of}
@@ -12,7 +12,8 @@ use Rattle.prevalence_store.specs.declared.outcome.Ending.TheVariants.{End, Read
 use Rattle.prevalence_store.specs.Acceptance.{after, read_in}
 use Rattle.prevalence_store.specs.Execution.{DeviceFails, SurvivesAs}
 use Rattle.prevalence_store.specs.LeftAlone.{LeavesAlone}
-use Rattle.prevalence_store.specs.Output.{Progress, after_forms, last_line, one_form, refusal_line}
+use Rattle.prevalence_store.specs.Output.{Progress, after_forms, last_line, refusal_line}
+use Rattle.prevalence_store.specs.Pacing.{EndsInPace, IsOverIn, Pace, fill_of, first_pace}
 use Rattle.form_reader.specs.Reader.{MayGoOn}
 use Rattle.form_reader.specs.Reading.{empty, refused}
 use Rattle.prevalence_store.specs.Session.{Session, Describes}
@@ -85,13 +86,9 @@ module _ (functions : Functions) {D R : Type 0} (state : D → State) (old new :
     pub failures : (state new.disk).failures ≡ (state old.disk).failures
     pub log : IsExtended state old new far.taken ⊎ IsRenewed state old new functions world far.taken
 
--- The form that this text begins with is accepted in this world, and the half would pass its limit by its record.
-pub record IsOver (functions : Functions) {D R : Type 0} (session : Session D R) (world : World) (mode : Mode) (text : List ℕ) : Type 0 where
-  pub next : Progress
-  pub next_is : one_form functions world mode text (read_in functions world mode text) ≡ Some next
-  pub record_ : Entry
-  pub is_taken : next.taken ≡ record_ ∷ []
-  pub over : session.limit < session.size + (6 + length record_.text)
+-- the half would pass its limit by the record of the form that this text begins with
+abbrev pub IsOver : Functions → {D R : Type 0} → Session D R → World → Mode → List ℕ → Type 0
+IsOver functions session world mode text = IsOverIn functions session.limit session.size world mode text
 
 module _ (functions : Functions) {D R : Type 0} (state : D → State) (old new : Session D R) where
   module _ (world : World) (mode : Mode) (text : List ℕ) (held written : Option (List ℕ)) where
@@ -235,9 +232,17 @@ HasRead functions state old new world mode text held written (Store number) serv
     (number ≡ OUTPUT → served.lines ≡ served.forms → (left ≡ []) ⊎ ((code : ℕ) × StaysRefused functions world mode text served.forms served.far code))
     × (reader ≡ Some left)
 
--- A session over what a reader gives: what the reader had is what was read and what is left.
-pub record ServesInput (functions : Functions) {D R : Type 0} (state : D → State) (old new : Session D R) (world : World) (mode : Mode) (had has held written : Option (List ℕ)) (ending : Ending) : Type 0 where
+-- how far the snapshots had come as a session ended that began at this pace
+abbrev pub ServesInPace : (functions : Functions) {D R : Type 0} (state : D → State) (pace : Pace) (old new : Session D R) (world : World) (mode : Mode) (text : List ℕ)
+    (held written : Option (List ℕ)) (ending : Ending) → Serves functions state old new world mode text held written ending → Type 0
+ServesInPace functions state pace old new world mode text held written ending served =
+    EndsInPace functions old.limit world pace (fill_of old) mode served.forms served.far served.lines served.answered (fill_of new) ending
+
+-- A session over what a reader gives, with a snapshot after every so many forms that were logged: what the reader had is what was
+-- read and what is left.
+pub record ServesInput (functions : Functions) {D R : Type 0} (state : D → State) (every : ℕ) (old new : Session D R) (world : World) (mode : Mode) (had has held written : Option (List ℕ)) (ending : Ending) : Type 0 where
   pub text : List ℕ
   pub serves : Serves functions state old new world mode text held written ending
+  pub paced : ServesInPace functions state (first_pace every) old new world mode text held written ending serves
   pub reads : (all : List ℕ) → had ≡ Some all
       → (left : List ℕ) × (all ≡ text ++ left) × HasRead functions state old new world mode text held written ending serves left has

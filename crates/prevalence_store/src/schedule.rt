@@ -1,5 +1,7 @@
 // When a session takes snapshots.
-ghost use Rattle.std.specs.Prelude.{◌≡◌, ◌<◌, ◌≤◌, ◌+◌, ◌↔◌, IsTrue};
+ghost use Rattle.std.specs.Prelude.{◌≡◌, ◌↔◌, IsTrue};
+ghost use Rattle.prevalence_store.specs.Pacing.{Counts, IsDue, first_pace};
+ghost use Rattle.prevalence_store.specs.Turns.{pace_of};
 
 /// A snapshot after every so many forms that were logged, and how many are left until the next one.
 #[derive(Drop)]
@@ -11,18 +13,15 @@ pub(crate) struct Schedule {
 impl Schedule {
     /// A snapshot after every so many forms; never where that is 0.
     pub(crate) fn new(every: u64) -> Schedule
-        ensures every { result.every ≡ every }
-        ensures left { result.left ≡ every }
+        ensures { pace_of result ≡ first_pace every }
     {
         Schedule { every, left: every }
     }
 
     /// Counts a form that was logged, and says whether a snapshot is due.
     pub(crate) fn count(&mut self) -> bool
-        ensures due { IsTrue result ↔ ((self.old.left ≤ 1) × (0 < self.old.every)) }
-        ensures fewer { 1 < self.old.left → self.new.left + 1 ≡ self.old.left }
-        ensures again { self.old.left ≤ 1 → self.new.left ≡ self.old.every }
-        ensures every { self.new.every ≡ self.old.every }
+        ensures due { IsTrue result ↔ IsDue (pace_of self.old) }
+        ensures counts { Counts (pace_of self.old) (pace_of self.new) }
     {
         if self.left > 1 {
             self.left -= 1;

@@ -41,6 +41,11 @@ first_and_others (x ∷ xs) first some is =
     let all : take (suc (length xs) - 1) xs ≡ xs = ap (λ n. take n xs) (let h : suc (length xs) - 1 ≡ length xs = omega arith in h) ∙ take-length xs in
     λ i. sym is i ∷ sym all i
 
+-- the first item of a list is there whatever is given for none
+pub first_either : {A : Type 0} (xs : List A) (a b : A) → 1 ≤ length xs → get_or xs 0 a ≡ get_or xs 0 b
+first_either [] a b some = absurd (omega arith)
+first_either (x ∷ xs) a b some = refl
+
 -- what holds of each image of a list, for its first item and the later ones
 pub each_passes : {A B : Type 0} (P : B → Bool) (xs ys : List A) (first : A) (g : A → B) {zs : List B} → 1 ≤ length xs → first ≡ get_or xs 0 first → xs ≡ ys
     → map g ys ≡ zs → list_all P zs ≡ true → list_all (λ x. P (g x)) (first ∷ take (length xs - 1) (drop 1 xs)) ≡ true

@@ -12,7 +12,7 @@ ghost use Rattle.package_table.specs.Readers.{used_names, own_names, imports};
 
 use crate::printing::push_printed;
 use crate::texts::{imports_of, push_text, push_texts, texts_of};
-use lisp_object::{Bytes, Datum, Items};
+use lisp_object::{Bytes, Datum};
 use package_table::standardized::{COMMON_LISP, KEYWORD};
 use package_table::{PackageError, Packages};
 use std::alloc::{AllocError, Global};
@@ -28,39 +28,29 @@ fn listed<T>(list: Result<T, PackageError>) -> Result<T, AllocError>
 }
 
 // The names at home in a package.
-fn own(alloc: Global, packages: &Packages, owner: &[u8]) -> Result<Items<Bytes>, AllocError>
-    ensures { IfOk result (λ names. names ≡ own_names packages.now.0 owner.now) }
+fn own<'a>(alloc: Global, packages: &'a Packages, owner: &[u8]) -> Result<Vec<&'a [u8]>, AllocError>
+    ensures { IfOk result (λ names. map (λ n. n.now) names.items ≡ own_names packages.now.0 owner.now) }
 {
-    listed(packages.own(alloc, owner))
+    listed(packages.own_names(alloc, owner))
 }
 
 // The names that are not at home in the package from the first.
 fn made<'a>(
     alloc: Global,
-    names: &'a [Bytes],
+    names: &[&'a [u8]],
     first: &Packages,
     owner: &[u8],
-) -> Result<Vec<&'a Bytes>, AllocError>
-    ensures { IfOk result (λ made. map (λ n. n.now) made.items ≡ filter (λ n. not (is_present first.now.0 owner.now n)) names.now) }
+) -> Result<Vec<&'a [u8]>, AllocError>
+    ensures { IfOk result (λ made. map (λ n. n.now) made.items
+        ≡ filter (λ n. not (is_present first.now.0 owner.now n)) (map (λ n. n.now) names.now)) }
 {
     let mut made = Vec::with_capacity(alloc, names.len())?;
     for name in names {
-        if !first.is_present(owner, name.as_slice()) {
-            made.push(name)?;
+        if !first.is_present(owner, name) {
+            made.push(*name)?;
         }
     }
     Ok(made)
-}
-
-// All of these names.
-fn every<'a>(alloc: Global, names: &'a [Bytes]) -> Result<Vec<&'a Bytes>, AllocError>
-    ensures { IfOk result (λ every. map (λ n. n.now) every.items ≡ names.now) }
-{
-    let mut every = Vec::with_capacity(alloc, names.len())?;
-    for name in names {
-        every.push(name)?;
-    }
-    Ok(every)
 }
 
 // The names but COMMON-LISP.
@@ -77,13 +67,17 @@ fn but_common_lisp<'a>(alloc: Global, names: &'a [Bytes]) -> Result<Vec<&'a Byte
 }
 
 // The names external in a package, but for KEYWORD.
-fn shown(alloc: Global, packages: &Packages, owner: &[u8]) -> Result<Items<Bytes>, AllocError>
-    ensures { IfOk result (λ names. names ≡ shown_names packages.now.0 owner.now) }
+fn shown<'a>(
+    alloc: Global,
+    packages: &'a Packages,
+    owner: &[u8],
+) -> Result<Vec<&'a [u8]>, AllocError>
+    ensures { IfOk result (λ names. map (λ n. n.now) names.items ≡ shown_names packages.now.0 owner.now) }
 {
     if owner == KEYWORD {
-        Ok(Items::new(alloc))
+        Ok(Vec::new(alloc))
     } else {
-        listed(packages.externals(alloc, owner))
+        listed(packages.external_names(alloc, owner))
     }
 }
 
@@ -130,8 +124,7 @@ fn push_shown(
 {
     packages.soundness();
     let names = shown(alloc, packages, owner)?;
-    let shown = every(alloc, names.as_slice())?;
-    push_texts(alloc, text, packages, shown.as_slice())?;
+    push_texts(alloc, text, packages, names.as_slice())?;
     Ok(())
 }
 
@@ -194,7 +187,7 @@ fn push_package(
     ensures { OnOk result (text.new.items ≡ text.old.items ++ printed packages.now.0 common_lisp_user (package_object packages.now.0 owner.now)) }
 {
     text.push(b'(')?;
-    push_text(alloc, text, packages, owner)?;
+    push_text(alloc, text, packages, owner.as_slice())?;
     push_lists(alloc, text, packages, first, owner.as_slice())?;
     text.push(b')')?;
     Ok(())

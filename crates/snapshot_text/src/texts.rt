@@ -80,12 +80,12 @@ pub(crate) fn push_text(
     alloc: Global,
     text: &mut Vec<u8>,
     packages: &Packages,
-    name: &Bytes,
+    name: &[u8],
 ) -> Result<(), AllocError>
     requires { list_all is_ascii name.now ≡ true }
     ensures { OnOk result (text.new.items ≡ text.old.items ++ printed packages.now.0 common_lisp_user (object.text name.now)) }
 {
-    let datum = Datum::Text(name.copy(alloc)?);
+    let datum = text_of(alloc, name)?;
     push_printed(alloc, text, datum, packages)
 }
 
@@ -94,7 +94,7 @@ fn push_later(
     alloc: Global,
     text: &mut Vec<u8>,
     packages: &Packages,
-    names: &[&Bytes],
+    names: &[&[u8]],
 ) -> Result<(), AllocError>
     requires { list_all (λ n. list_all is_ascii n.now) names.now ≡ true }
     ensures { OnOk result (text.new.items
@@ -112,7 +112,7 @@ pub(crate) fn push_texts(
     alloc: Global,
     text: &mut Vec<u8>,
     packages: &Packages,
-    names: &[&Bytes],
+    names: &[&[u8]],
 ) -> Result<(), AllocError>
     requires { list_all (λ n. list_all is_ascii n.now) names.now ≡ true }
     ensures { OnOk result (text.new.items ≡ text.old.items ++ (codes " " ++ printed packages.now.0 common_lisp_user (texts (map (λ n. n.now) names.now)))) }

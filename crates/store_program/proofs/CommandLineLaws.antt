@@ -1,9 +1,8 @@
 -- What clap makes of the words of a command.
-use Rattle.std.proofs.Common.{if◌then◌else◌, ◌≡◌, ◌≢◌, ◌==◌, ◌∙◌, ◌&&◌, ◌⊎◌, ◌<◌, ◌≤◌, ◌++◌, ◌^◌, ◌-◌, ℕ, List, [], ◌∷◌, Option, None, Some, codes, true, false, refl, rules, ap, sym, subst, inl, inr, arith, length}
+use Rattle.std.proofs.Common.{if◌then◌else◌, ◌≡◌, ◌≢◌, ◌==◌, ◌∙◌, ◌&&◌, ◌⊎◌, ◌<◌, ◌≤◌, ◌++◌, ◌^◌, ◌-◌, ℕ, List, [], ◌∷◌, None, Some, codes, true, false, refl, rules, ap, sym, subst, inl, inr, arith}
 use Rattle.std.proofs.lemmas.Str.Parse.{digit_from_value}
 use Rattle.std.specs.Str.Parse.{IsNumeral, digits_value, without_leading_plus}
 use Rattle.clap.specs.ValueTests.{is_unsigned_in}
-use Rattle.clap.specs.Values.{Accepts}
 use Rattle.clap.specs.declared.builder.value_parser.ValueParser.TheVariants.{Unsigned}
 use Rattle.clap.specs.Kinds.{Kinds, or_else}
 use Rattle.clap.specs.Words.{IsAmong, Text, fault_of, is_simple, is_simple_and_free, takes}
@@ -14,7 +13,8 @@ use Rattle.clap.proofs.ValueTestLemmas.{Accepts-accepts}
 use Rattle.prevalence_store.specs.declared.mode.Mode.{Mode}
 use Rattle.prevalence_store.specs.declared.mode.Mode.TheVariants.{Current, Rescue}
 use Rattle.store_program.specs.declared.words.Task.{Task}
-use Rattle.store_program.specs.declared.words.Task.TheVariants.{Run, Dump, Verify}
+use Rattle.store_program.specs.declared.words.Report.TheVariants.{Dump, Verify}
+use Rattle.store_program.specs.declared.words.Task.TheVariants.{Run, Tell}
 use Rattle.store_program.specs.CommandLine.{AsksFor, IsLine, IsTaken, asked_in, command_line, every_of_number, faults_of, flag_for, missing_command}
 
 pub simple_line : is_simple command_line ≡ true
@@ -33,11 +33,11 @@ pub record IsRight (words : List Text) (folder : Text) (task : Task) : Type 0 wh
 
 -- words that are written out but for the program's name, the folder and the number
 module _ (program : Text) (x : ℕ) (xs : Text) (e : (x == 45) ≡ false) where
-  right_dump : IsRight (program ∷ codes "dump" ∷ (x ∷ xs) ∷ []) (x ∷ xs) Dump
+  right_dump : IsRight (program ∷ codes "dump" ∷ (x ∷ xs) ∷ []) (x ∷ xs) (Tell Dump)
   unfolding clap_on_literals
   right_dump = record { taken = simp e; faultless = simp e; asked = simp e }
 
-  right_verify : IsRight (program ∷ codes "verify" ∷ (x ∷ xs) ∷ []) (x ∷ xs) Verify
+  right_verify : IsRight (program ∷ codes "verify" ∷ (x ∷ xs) ∷ []) (x ∷ xs) (Tell Verify)
   unfolding clap_on_literals
   right_verify = record { taken = simp e; faultless = simp e; asked = simp e }
 
@@ -106,8 +106,8 @@ module _ (program : Text) (x : ℕ) (xs : Text) (e : (x == 45) ≡ false) where
       (right_rescue_every program x xs e y ys (differs y 45 (no_hyphen y ys numeral)) (in_range y ys numeral 1 1000000 every is above below (omega arith)))
 
   right_plain : (line : List Text) (task : Task) → IsLine line (x ∷ xs) task → IsRight (program ∷ line) (x ∷ xs) task
-  right_plain line Dump is = rw is (right_dump program x xs e)
-  right_plain line Verify is = rw is (right_verify program x xs e)
+  right_plain line (Tell Dump) is = rw is (right_dump program x xs e)
+  right_plain line (Tell Verify) is = rw is (right_verify program x xs e)
   right_plain line (Run Current every) (option, line_is, inl none) = rw (line_is, none.0, none.1) (right_current program x xs e)
   right_plain line (Run Rescue every) (option, line_is, inl none) = rw (line_is, none.0, none.1) (right_rescue program x xs e)
   right_plain line (Run mode every) (option, line_is, inr given) = rw (line_is, given.1) (right_number mode given.0 every given.2 given.3 given.4 given.5)

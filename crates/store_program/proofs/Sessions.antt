@@ -1,5 +1,5 @@
 -- From what the store promises of a session to what the program does.
-use Rattle.std.proofs.Common.{◌≡◌, ◌⊎◌, ℕ, ◌+◌, ◌≤◌, true, List, [], ◌++◌, Option, Some, refl, sym, ap, subst, ◌∙◌, inl, inr, append-nil, arith}
+use Rattle.std.proofs.Common.{◌≡◌, ℕ, ◌≤◌, true, List, [], ◌++◌, Option, Some, refl, sym, ap, subst, ◌∙◌, inl, inr, append-nil, arith}
 use Rattle.disk_trait.specs.Disk.{State}
 use Rattle.lisp_object.specs.declared.refusal.TheConstants.{DEVICE, DAMAGED, LOG_FULL, SNAPSHOT_TOO_LARGE, INPUT, OUTPUT, NO_MEMORY}
 use Rattle.plist_state.specs.State.{State as World, initial}
@@ -11,7 +11,7 @@ use Rattle.prevalence_store.specs.declared.outcome.Ending.TheVariants.{End, Read
 use Rattle.prevalence_store.specs.Functions.{Functions}
 use Rattle.prevalence_store.specs.Opening.{fault_number}
 use Rattle.prevalence_store.specs.Output.{Progress, after_forms, begun, last_line}
-use Rattle.prevalence_store.specs.Serving.{HasRead, Serves, ServesInput}
+use Rattle.prevalence_store.specs.Serving.{ServesInput}
 use Rattle.prevalence_store.specs.Session.{Session}
 use Rattle.prevalence_store.specs.Acceptance.{read_in}
 use Rattle.store_program.specs.Commands.{is_of_opening}
@@ -48,7 +48,7 @@ module _ (functions : Functions) (mode : Mode) where
   no_more lines part last none = ap (λ l. l ++ last) (sym (append-nil lines)) ∙ ap (λ p. (lines ++ p) ++ last) (sym none)
 
   module _ {D R : Type 0} (state : D → State) (old new : Session D R) (w : World) (had has held_now written : Option (List ℕ)) where
-    pub answers_input : (ending : Ending) → ServesInput functions state old new w mode had has held_now written ending → (input held : List ℕ) → had ≡ Some input → held_now ≡ Some held
+    pub answers_input : {every : ℕ} (ending : Ending) → ServesInput functions state every old new w mode had has held_now written ending → (input held : List ℕ) → had ≡ Some input → held_now ≡ Some held
         → AnswersInput functions mode (status_of_ending ending) input held written
     answers_input End served input held left holds =
         let s = served.serves in
@@ -90,7 +90,7 @@ module _ (functions : Functions) (mode : Mode) where
         ]
     answers_input (Store number) served input held left holds = tt
 
-    pub broken_input : (number : ℕ) → ServesInput functions state old new w mode had has held_now written (Store number) → (input held : List ℕ) → had ≡ Some input → held_now ≡ Some held
+    pub broken_input : {every : ℕ} (number : ℕ) → ServesInput functions state every old new w mode had has held_now written (Store number) → (input held : List ℕ) → had ≡ Some input → held_now ≡ Some held
         → IsBrokenOff functions mode input held written
     broken_input number served input held left holds =
         let s = served.serves in
@@ -141,11 +141,11 @@ module _ (functions : Functions) (mode : Mode) where
           ]
         ]
 
-    pub broken_at : (ending : Ending) (number : ℕ) → ending ≡ Store number → ServesInput functions state old new w mode had has held_now written ending → (input held : List ℕ) → had ≡ Some input → held_now ≡ Some held
+    pub broken_at : {every : ℕ} (ending : Ending) (number : ℕ) → ending ≡ Store number → ServesInput functions state every old new w mode had has held_now written ending → (input held : List ℕ) → had ≡ Some input → held_now ≡ Some held
         → IsBrokenOff functions mode input held written
-    broken_at ending number is served = broken_input number (subst (λ (e : Ending). ServesInput functions state old new w mode had has held_now written e) is served)
+    broken_at {every} ending number is served = broken_input number (subst (λ (e : Ending). ServesInput functions state every old new w mode had has held_now written e) is served)
 
-    pub reads_input : (ending : Ending) → ServesInput functions state old new w mode had has held_now written ending → (input : List ℕ) → had ≡ Some input
+    pub reads_input : {every : ℕ} (ending : Ending) → ServesInput functions state every old new w mode had has held_now written ending → (input : List ℕ) → had ≡ Some input
         → ReadsToEnd (status_of_ending ending) has
     reads_input End served input left = let read = served.reads input left in read.2.1 ∙ ap (λ l. Some l) read.2.0
     reads_input (Reader number) served input left = tt
@@ -154,7 +154,7 @@ module _ (functions : Functions) (mode : Mode) where
     between_numbers : (number given : ℕ) → number ≡ given → (DAMAGED ≤ given) × (given ≤ OUTPUT) → IsFaultNumber number
     between_numbers number given is within = subst IsFaultNumber (sym is) (inr (inl within))
 
-    pub fault_of_session : (ending : Ending) → ServesInput functions state old new w mode had has held_now written ending → HasFaultNumber (status_of_ending ending)
+    pub fault_of_session : {every : ℕ} (ending : Ending) → ServesInput functions state every old new w mode had has held_now written ending → HasFaultNumber (status_of_ending ending)
     fault_of_session End served = λ number is. absurd (cc)
     fault_of_session (Reader code) served = λ number is. absurd (cc)
     fault_of_session (Store code) served = λ number is. let same : code ≡ number = cc in subst IsFaultNumber same (elim served.serves.ends [
@@ -178,7 +178,7 @@ module _ (functions : Functions) (mode : Mode) where
     ])
 
     -- no session ends with a number of an opening
-    pub none_of_opening : (number : ℕ) → ServesInput functions state old new w mode had has held_now written (Store number) → is_of_opening number ≡ true → ⊥
+    pub none_of_opening : {every : ℕ} (number : ℕ) → ServesInput functions state every old new w mode had has held_now written (Store number) → is_of_opening number ≡ true → ⊥
     none_of_opening number served of =
         elim served.serves.ends [
           | inl stopped ↦ other_number number DEVICE stopped.device refl of
@@ -200,8 +200,8 @@ module _ (functions : Functions) (mode : Mode) where
           ]
         ]
 
-    pub no_opening_at : (ending : Ending) (number : ℕ) → ending ≡ Store number → ServesInput functions state old new w mode had has held_now written ending → is_of_opening number ≡ true → ⊥
-    no_opening_at ending number is served = none_of_opening number (subst (λ (e : Ending). ServesInput functions state old new w mode had has held_now written e) is served)
+    pub no_opening_at : {every : ℕ} (ending : Ending) (number : ℕ) → ending ≡ Store number → ServesInput functions state every old new w mode had has held_now written ending → is_of_opening number ≡ true → ⊥
+    no_opening_at {every} ending number is served = none_of_opening number (subst (λ (e : Ending). ServesInput functions state every old new w mode had has held_now written e) is served)
 
 fault_is : (fault : OpenFault) → IsFaultNumber (fault_number fault)
 fault_is opening.OutOfMemory = inr (inr refl)

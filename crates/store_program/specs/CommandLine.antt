@@ -1,5 +1,5 @@
 -- The command line of the program, as clap reads it: `run DIR [--rescue] [--snapshot-every N]`, `dump DIR` and `verify DIR`.
-use Rattle.std.specs.Prelude.{◌≡◌, ◌≢◌, ◌≤◌, ◌^◌, ◌-◌, ◌⊎◌, ℕ, Bool, true, false, if◌then◌else◌, List, [], ◌∷◌, ◌++◌, Option, Some, None, codes, option_map, option_and_then}
+use Rattle.std.specs.Prelude.{◌≡◌, ◌≢◌, ◌≤◌, ◌^◌, ◌-◌, ◌⊎◌, ℕ, true, false, if◌then◌else◌, List, [], ◌∷◌, ◌++◌, Option, Some, None, codes, option_map, option_and_then}
 use Rattle.std.specs.Option.{option_map_or}
 use Rattle.std.specs.Str.{bytes_eq}
 use Rattle.std.specs.Str.Parse.{IsNumeral, digits_value, without_leading_plus}
@@ -13,7 +13,8 @@ use Rattle.clap.specs.declared.error.kind.ErrorKind.TheVariants.{MissingRequired
 use Rattle.prevalence_store.specs.declared.mode.Mode.{Mode}
 use Rattle.prevalence_store.specs.declared.mode.Mode.TheVariants.{Current, Rescue}
 use Rattle.store_program.specs.declared.words.Task.{Task}
-use Rattle.store_program.specs.declared.words.Task.TheVariants.{Run, Dump, Verify}
+use Rattle.store_program.specs.declared.words.Report.TheVariants.{Dump, Verify}
+use Rattle.store_program.specs.declared.words.Task.TheVariants.{Run, Tell}
 
 -- DIR: one value, required
 abbrev pub directory_rule : Rule
@@ -64,8 +65,8 @@ every_of_number (Some text) = if is_unsigned_in 0 (2 ^ 64 - 1) text then digits_
 abbrev pub task_of : Text × List Row → Option Task
 task_of found =
     if bytes_eq found.0 (codes "run") then Some (Run (mode_of_flag (first_of (codes "rescue") found.1)) (every_of_number (one_of (codes "snapshot-every") found.1)))
-    else (if bytes_eq found.0 (codes "dump") then Some Dump
-    else (if bytes_eq found.0 (codes "verify") then Some Verify
+    else (if bytes_eq found.0 (codes "dump") then Some (Tell Dump)
+    else (if bytes_eq found.0 (codes "verify") then Some (Tell Verify)
     else None))
 
 -- what was found asks for: a folder, and what is to be done with it
@@ -109,8 +110,8 @@ IsEvery every words =
 -- the words of a command on this folder that asks for this
 abbrev pub IsLine : List Text → Text → Task → Type 0
 IsLine words folder (Run mode every) = (option : List Text) × (words ≡ codes "run" ∷ folder ∷ (flag_for mode ++ option)) × IsEvery every option
-IsLine words folder Dump = words ≡ codes "dump" ∷ folder ∷ []
-IsLine words folder Verify = words ≡ codes "verify" ∷ folder ∷ []
+IsLine words folder (Tell Dump) = words ≡ codes "dump" ∷ folder ∷ []
+IsLine words folder (Tell Verify) = words ≡ codes "verify" ∷ folder ∷ []
 
 -- the words are the program's name, and a command on this folder that asks for this
 abbrev pub AsksFor : List Text → Text → Task → Type 0

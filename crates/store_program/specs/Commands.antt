@@ -16,8 +16,10 @@ use Rattle.store_program.specs.Session.{AnswersInput, IsBrokenOff, IsSession, Re
 use Rattle.store_program.specs.Status.{IsCarriedOut, status_of_ending}
 use Rattle.store_program.specs.declared.status.Status.{Status}
 use Rattle.store_program.specs.declared.status.Status.TheVariants.{Done, Helped, ReaderRefused, WordsRefused, Fault}
+use Rattle.store_program.specs.declared.words.Report.{Report}
+use Rattle.store_program.specs.declared.words.Report.TheVariants.{Dump, Verify}
 use Rattle.store_program.specs.declared.words.Task.{Task}
-use Rattle.store_program.specs.declared.words.Task.TheVariants.{Run, Dump, Verify}
+use Rattle.store_program.specs.declared.words.Task.TheVariants.{Run, Tell}
 
 -- ---- what is written
 
@@ -30,12 +32,10 @@ letter_of B = codes "B"
 abbrev pub half_line : Half → ℕ → ℕ → List ℕ
 half_line half generation records = codes "half " ++ (letter_of half ++ (codes " generation " ++ (decimal generation ++ (codes " records " ++ (decimal records ++ 10 ∷ [])))))
 
--- what `dump` writes of an open store with this world, and what `verify` writes
-abbrev pub dumped : {D R : Type 0} → Session D R → World → List ℕ
-dumped session world = snapshot world
-
-abbrev pub verified : {D R : Type 0} → Session D R → World → List ℕ
-verified session world = half_line session.half session.generation session.record_count
+-- what is told of an open store with this world: `dump` writes the text of it, and `verify` the line on the half in use
+abbrev pub text_of : Report → {D R : Type 0} → Session D R → World → List ℕ
+text_of Dump session world = snapshot world
+text_of Verify session world = half_line session.half session.generation session.record_count
 
 -- what was written is the first part of this text, perhaps all of it
 abbrev pub IsFront : List ℕ → Option (List ℕ) → List ℕ → Type 0
@@ -53,42 +53,40 @@ TellsText Helped held written text = ⊥
 TellsText ReaderRefused held written text = ⊥
 TellsText WordsRefused held written text = ⊥
 
--- The store that a disk holds was opened with these macro functions, a text on it was written, and it was closed: this is its
--- disk.
-pub record IsReport (functions : Functions) {D R : Type 0} (state : D → State) (text : Session D R → World → List ℕ) (disk : D) (macros : R) (limit : ℕ)
+-- The store that a disk holds was opened with these macro functions, this was told of it, and it was closed: this is its disk.
+pub record IsReport (functions : Functions) {D R : Type 0} (state : D → State) (report : Report) (disk : D) (macros : R) (limit : ℕ)
     (held written : Option (List ℕ)) (status : Status) (back : D) : Type 0 where
   pub opened : Session D R
   pub is_opened : IsOpened functions state disk macros limit opened
-  pub tells : TellsText status held written (text opened is_opened.world)
+  pub tells : TellsText status held written (text_of report opened is_opened.world)
   pub disk_is : back ≡ opened.disk
 
--- The command was carried out over the store that a disk holds: a session went so, and the status is that of its ending; or a
--- text on the store was written.
-module _ (functions : Functions) {D R : Type 0} (state : D → State) (disk : D) (macros : R) (had has held written : Option (List ℕ)) where
+-- The command was carried out over the store that a disk holds: a session went so, and the status is that of its ending; or
+-- something was told of the store. The disk is left as the store that was closed left it.
+module _ (functions : Functions) {D R : Type 0} (state : D → State) (disk back : D) (macros : R) (had has held written : Option (List ℕ)) where
   abbrev pub CarriesOut : Task → Status → Type 0
   CarriesOut (Run mode every) status =
-      (ending : Ending) × (back : D) × (status ≡ status_of_ending ending) × IsSession functions mode state disk macros 1073741824 had has held written ending back
-  CarriesOut Dump status = (back : D) × IsReport functions state dumped disk macros 1073741824 held written status back
-  CarriesOut Verify status = (back : D) × IsReport functions state verified disk macros 1073741824 held written status back
+      (ending : Ending) × (status ≡ status_of_ending ending) × IsSession functions mode every state disk macros 1073741824 had has held written ending back
+  CarriesOut (Tell report) status = IsReport functions state report disk macros 1073741824 held written status back
 
--- the store that a disk holds was not opened, and the status tells why
-abbrev pub TellsUnopened : Functions → {D : Type 0} → (D → State) → D → Bool → Status → Type 0
-TellsUnopened functions {D} state disk whole status =
-    (number : ℕ) × (back : D) × (status ≡ Fault number) × IsUnopened functions state disk whole 1073741824 number back
+-- the store that a disk holds was not opened, and the status tells why; the disk is left as the opening left it
+abbrev pub TellsUnopened : Functions → {D : Type 0} → (D → State) → (disk back : D) → Bool → Status → Type 0
+TellsUnopened functions {D} state disk back whole status =
+    (number : ℕ) × (status ≡ Fault number) × IsUnopened functions state disk whole 1073741824 number back
 
 -- What a command does over the store that a disk holds: it is carried out; or the store is not opened, and nothing is read or
--- written. What a reader has left, and what a writer holds, is told by these functions.
-abbrev pub DoesOn : Functions → {D R : Type 0} → (D → State) → D → R → Bool → {I O : Type 0} → (I → Option (List ℕ)) → (O → Option (List ℕ)) → I → I → O → O → Task → Status → Type 0
-DoesOn functions state disk macros whole remaining contents input left held written task status =
-    CarriesOut functions state disk macros (remaining input) (remaining left) (contents held) (contents written) task status
-    ⊎ (TellsUnopened functions state disk whole status × (left ≡ input) × (written ≡ held))
+-- written. What a reader has left, and what a writer holds, is told by these functions. The first disk becomes the second.
+abbrev pub DoesOn : Functions → {D R : Type 0} → (D → State) → D → D → R → Bool → {I O : Type 0} → (I → Option (List ℕ)) → (O → Option (List ℕ)) → I → I → O → O → Task → Status → Type 0
+DoesOn functions state disk back macros whole remaining contents input left held written task status =
+    CarriesOut functions state disk back macros (remaining input) (remaining left) (contents held) (contents written) task status
+    ⊎ (TellsUnopened functions state disk back whole status × (left ≡ input) × (written ≡ held))
 
 -- What the program does for words that the command line has: there is no memory, or the folder is not opened, and nothing is read
 -- or written; or it does this over some disk of this type. That its files are those of the folder is not said here.
 abbrev pub Does : Functions → {D R : Type 0} → (D → State) → R → Bool → {I O : Type 0} → (I → Option (List ℕ)) → (O → Option (List ℕ)) → I → I → O → O → Task → Status → Type 0
 Does functions {D} state macros whole remaining contents input left held written task status =
     (((status ≡ Fault NO_MEMORY) ⊎ (status ≡ Fault DEVICE)) × (left ≡ input) × (written ≡ held))
-    ⊎ ((disk : D) × DoesOn functions state disk macros whole remaining contents input left held written task status)
+    ⊎ ((disk : D) × (back : D) × DoesOn functions state disk back macros whole remaining contents input left held written task status)
 
 -- numbers that nothing but the opening of a store answers
 abbrev pub is_of_opening : ℕ → Bool
@@ -97,8 +95,7 @@ is_of_opening number = number == DAMAGED || (number == MISSING_MACRO || number =
 -- `dump` and `verify` read nothing
 abbrev pub reads_input : Task → Bool
 reads_input (Run mode every) = true
-reads_input Dump = false
-reads_input Verify = false
+reads_input (Tell report) = false
 
 -- ---- over the files of a folder, of which no clause can say what they hold
 
@@ -122,8 +119,8 @@ module _ (functions : Functions) where
   -- what a command writes where it ends well
   abbrev pub TaskWrites : Task → Status → List ℕ → List ℕ → Option (List ℕ) → Type 0
   TaskWrites (Run mode every) status input held written = AnswersInput functions mode status input held written
-  TaskWrites Dump status input held written = DumpsWorld status held written
-  TaskWrites Verify status input held written = TellsHalf status held written
+  TaskWrites (Tell Dump) status input held written = DumpsWorld status held written
+  TaskWrites (Tell Verify) status input held written = TellsHalf status held written
 
   -- words that ask for nothing do not end well
   abbrev pub WordsWrite : Option (Text × Task) → Status → List ℕ → List ℕ → Option (List ℕ) → Type 0
@@ -133,14 +130,13 @@ module _ (functions : Functions) where
   -- what a command wrote that met a fault is the first part of what it would have written, over the store of some world
   abbrev pub TaskBreaksOff : Task → List ℕ → List ℕ → Option (List ℕ) → Type 0
   TaskBreaksOff (Run mode every) input held written = IsBrokenOff functions mode input held written
-  TaskBreaksOff Dump input held written = (world : World) × IsFront held written (snapshot world)
-  TaskBreaksOff Verify input held written = (half : Half) × (generation : ℕ) × (records : ℕ) × IsFront held written (half_line half generation records)
+  TaskBreaksOff (Tell Dump) input held written = (world : World) × IsFront held written (snapshot world)
+  TaskBreaksOff (Tell Verify) input held written = (half : Half) × (generation : ℕ) × (records : ℕ) × IsFront held written (half_line half generation records)
 
 -- `run` that ends well reads to the end; the other commands read nothing
 abbrev pub TaskReads : Task → Status → List ℕ → Option (List ℕ) → Type 0
 TaskReads (Run mode every) status input left = ReadsToEnd status left
-TaskReads Dump status input left = left ≡ Some input
-TaskReads Verify status input left = left ≡ Some input
+TaskReads (Tell report) status input left = left ≡ Some input
 
 abbrev pub WordsRead : Option (Text × Task) → Status → List ℕ → Option (List ℕ) → Type 0
 WordsRead None status input left = left ≡ Some input

@@ -1,5 +1,5 @@
 -- What a session over a disk does, and what it has written. Of what the files of a folder hold no clause can say a thing.
-use Rattle.std.specs.Prelude.{◌≡◌, ◌⊎◌, ℕ, List, [], ◌++◌, Option, None, Some}
+use Rattle.std.specs.Prelude.{◌≡◌, ◌⊎◌, ℕ, List, [], ◌++◌, Option, Some}
 use Rattle.disk_trait.specs.Disk.{State}
 use Rattle.form_reader.specs.Reading.{empty, refused}
 use Rattle.plist_state.specs.State.{State as World}
@@ -17,12 +17,13 @@ use Rattle.store_program.specs.declared.status.Status.TheVariants.{Done, Helped,
 
 -- What a session does where the macro functions mean this, and each form is read in this mode.
 module _ (functions : Functions) (mode : Mode) where
-  -- The store that a disk holds was opened with these macro functions, it served the input, and it was closed: this is its disk.
-  pub record IsSession {D R : Type 0} (state : D → State) (disk : D) (macros : R) (limit : ℕ) (had has held written : Option (List ℕ)) (ending : Ending) (back : D) : Type 0 where
+  -- The store that a disk holds was opened with these macro functions, it served the input, with a snapshot after every so many
+  -- forms that were logged, and it was closed: this is its disk.
+  pub record IsSession (every : ℕ) {D R : Type 0} (state : D → State) (disk : D) (macros : R) (limit : ℕ) (had has held written : Option (List ℕ)) (ending : Ending) (back : D) : Type 0 where
     pub opened : Session D R
     pub is_opened : IsOpened functions state disk macros limit opened
     pub closed : Session D R
-    pub serves : ServesInput functions state opened closed is_opened.world mode had has held written ending
+    pub serves : ServesInput functions state every opened closed is_opened.world mode had has held written ending
     pub disk_is : back ≡ closed.disk
 
   -- the lines of so many forms of the input were written, and this last line

@@ -1,11 +1,12 @@
 -- Exit statuses, and when each comes.
-use Rattle.std.specs.Prelude.{◌≡◌, ◌≤◌, ◌⊎◌, ℕ, [], ◌∷◌}
+use Rattle.std.specs.Prelude.{◌≡◌, ◌≤◌, ◌⊎◌, ℕ, [], ◌∷◌, Result, Ok, Err}
 use Rattle.clap.specs.Words.{Kinds}
 use Rattle.clap.specs.declared.error.kind.ErrorKind.{ErrorKind}
 use Rattle.clap.specs.declared.error.kind.ErrorKind.TheVariants.{DisplayHelp, DisplayVersion, OutOfMemory}
 use Rattle.lisp_object.specs.declared.refusal.TheConstants.{DEVICE, DAMAGED, OUTPUT, NO_MEMORY}
 use Rattle.prevalence_store.specs.declared.outcome.Ending.{Ending}
 use Rattle.prevalence_store.specs.declared.outcome.Ending.TheVariants.{End, Reader, Store}
+use Rattle.store_program.specs.declared.fault.Unwritten.{Unwritten}
 use Rattle.store_program.specs.declared.status.Status.{Status}
 use Rattle.store_program.specs.declared.status.Status.TheVariants.{Done, Helped, ReaderRefused, WordsRefused, Fault}
 
@@ -22,6 +23,11 @@ abbrev pub status_of_ending : Ending → Status
 status_of_ending End = Done
 status_of_ending (Reader number) = ReaderRefused
 status_of_ending (Store number) = Fault number
+
+-- after a text that was written, or not whole
+abbrev pub status_of_output : Result Unit Unwritten → Status
+status_of_output (Ok written) = Done
+status_of_output (Err unwritten) = Fault OUTPUT
 
 -- after words that gave no command: help that was asked for, out of memory, or words that are refused
 abbrev pub status_of_kind : ErrorKind → Status

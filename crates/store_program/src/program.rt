@@ -5,17 +5,18 @@ ghost use Rattle.readtable_core.specs.Names.{is_among};
 ghost use Rattle.plist_state.specs.State.{State as LispWorld};
 ghost use Rattle.prevalence_store.specs.Functions.{functions_of};
 ghost use Rattle.prevalence_store.specs.Opening.{IsUnopened};
+ghost use Rattle.snapshot_text.specs.Snapshot.{snapshot};
 ghost use Rattle.clap.specs.Words.{kind_of};
 ghost use Rattle.store_program.specs.declared.words.Task.{Task};
 ghost use Rattle.store_program.specs.CommandLine.{AsksFor, IsTaken, asked_in as asked_by_words, faults_of};
-ghost use Rattle.store_program.specs.Commands.{Does, DoesOn, IsReport, TaskBreaksOff, TaskReads, TaskWrites, TellsText, WordsRead, WordsWrite, dumped, is_of_opening, reads_input, verified};
+ghost use Rattle.store_program.specs.Commands.{Does, DoesOn, IsReport, TaskBreaksOff, TaskReads, TaskWrites, TellsText, WordsRead, WordsWrite, half_line, is_of_opening, reads_input, text_of};
 ghost use Rattle.store_program.specs.Session.{IsSession, TellsFault};
-ghost use Rattle.store_program.specs.Status.{EndsAfter, HasFaultNumber, IsAfterWords, IsCarriedOut, TakesWords};
+ghost use Rattle.store_program.specs.Status.{EndsAfter, HasFaultNumber, IsAfterWords, IsCarriedOut, TakesWords, status_of_output};
 
-use crate::fault::{write_fault, write_out};
+use crate::fault::{Unwritten, write_fault, write_out};
 use crate::half_line::write_half_line;
 use crate::status::Status;
-use crate::words::{Asked, Task, asked_in};
+use crate::words::{Asked, Report, Task, asked_in};
 use clap::Error;
 use disk_trait::{Disk, HostDisk};
 use lisp_object::refusal::{DEVICE, NO_MEMORY, OUTPUT, REOPEN};
@@ -173,10 +174,11 @@ where
     let Ok(disk) = HostDisk::open(rt, asked.folder) else {
         return Status::Fault(DEVICE);
     };
-    carry_out_on(rt.alloc(), disk, macros, asked.task, input, output)
+    let (status, _disk) = carry_out_on(rt.alloc(), disk, macros, asked.task, input, output);
+    status
 }
 
-// Carries a task out over the store that a disk holds.
+// Carries a task out over the store that a disk holds, and gives the disk back as the store left it.
 fn carry_out_on<D, M, I, O>(
     alloc: Global,
     disk: D,
@@ -184,7 +186,7 @@ fn carry_out_on<D, M, I, O>(
     task: Task,
     input: &mut I,
     output: &mut O,
-) -> Status
+) -> (Status, D)
 where
     D: Disk + Drop,
     M: MacroFunctions + Drop,
@@ -192,19 +194,19 @@ where
     O: Write,
     requires room { (D.state disk).failures < 2 ^ 64 - 1 }
     requires answers { M.answers macros }
-    ensures taken { TakesWords result }
-    ensures carried { DoesOn (functions_of M.Meaning.names M.Meaning.way M.Meaning.answer) D.state disk macros
+    ensures taken { TakesWords result.0 }
+    ensures carried { DoesOn (functions_of M.Meaning.names M.Meaning.way M.Meaning.answer) D.state disk result.1 macros
         (list_all (is_among (M.registered macros)) M.Meaning.names) I.remaining O.contents
-        input.old input.new output.old output.new task result }
+        input.old input.new output.old output.new task result.0 }
     ensures unread { reads_input task ≡ false → input.new ≡ input.old }
-    ensures unopened { (number : ℕ) → result ≡ Status.Fault number → is_of_opening number ≡ true
+    ensures unopened { (number : ℕ) → result.0 ≡ Status.Fault number → is_of_opening number ≡ true
         → (input.new ≡ input.old) × (output.new ≡ output.old) }
-    ensures read { (text : List ℕ) → I.remaining input.old ≡ Some text → TaskReads task result text (I.remaining input.new) }
+    ensures read { (text : List ℕ) → I.remaining input.old ≡ Some text → TaskReads task result.0 text (I.remaining input.new) }
     ensures written { (text held : List ℕ) → I.remaining input.old ≡ Some text → O.contents output.old ≡ Some held
-        → TaskWrites (functions_of M.Meaning.names M.Meaning.way M.Meaning.answer) task result text held (O.contents output.new) }
-    ensures fault { HasFaultNumber result }
+        → TaskWrites (functions_of M.Meaning.names M.Meaning.way M.Meaning.answer) task result.0 text held (O.contents output.new) }
+    ensures fault { HasFaultNumber result.0 }
     ensures broken { (text held : List ℕ) (number : ℕ) → I.remaining input.old ≡ Some text → O.contents output.old ≡ Some held
-        → result ≡ Status.Fault number
+        → result.0 ≡ Status.Fault number
         → TaskBreaksOff (functions_of M.Meaning.names M.Meaning.way M.Meaning.answer) task text held (O.contents output.new) }
 {
     match task {
@@ -212,16 +214,12 @@ where
             mode,
             snapshot_every,
         } => match serve_on(alloc, disk, macros, mode, snapshot_every, input, output) {
-            Ok((ending, _disk, _macros)) => Status::of_ending(ending),
-            Err(unopened) => Status::Fault(unopened.number),
+            Ok((ending, disk, _macros)) => (Status::of_ending(ending), disk),
+            Err(unopened) => (Status::Fault(unopened.number), unopened.disk),
         },
-        Task::Dump => match dump_on(alloc, disk, macros, output) {
-            Ok((status, _disk, _macros)) => status,
-            Err(unopened) => Status::Fault(unopened.number),
-        },
-        Task::Verify => match verify_on(alloc, disk, macros, output) {
-            Ok((status, _disk, _macros)) => status,
-            Err(unopened) => Status::Fault(unopened.number),
+        Task::Tell(report) => match report_on(alloc, disk, macros, report, output) {
+            Ok((status, disk, _macros)) => (status, disk),
+            Err(unopened) => (Status::Fault(unopened.number), unopened.disk),
         },
     }
 }
@@ -249,7 +247,7 @@ where
     O: Write,
     requires room { (D.state disk).failures < 2 ^ 64 - 1 }
     requires answers { M.answers macros }
-    ensures served { IfOk result (λ p. IsSession (functions_of M.Meaning.names M.Meaning.way M.Meaning.answer) mode
+    ensures served { IfOk result (λ p. IsSession (functions_of M.Meaning.names M.Meaning.way M.Meaning.answer) mode snapshot_every
         D.state disk macros 1073741824 (I.remaining input.old) (I.remaining input.new)
         (O.contents output.old) (O.contents output.new) p.0 p.1) }
     ensures kept { IfOk result (λ p. p.2 ≡ macros) }
@@ -264,16 +262,17 @@ where
     Ok((ending, disk, macros))
 }
 
-/// Writes the text of the world that a disk holds, and answers how that ended. The disk is given back as the opening left it,
-/// and the macro functions.
+/// Tells this of the store that a disk holds, and answers how that ended. The disk is given back as the opening left it, and the
+/// macro functions.
 ///
 /// # Errors
 ///
 /// Those of opening the store. Nothing is written then, and the disk and the macro functions are given back.
-pub fn dump_on<D, M, O>(
+pub fn report_on<D, M, O>(
     alloc: Global,
     disk: D,
     macros: M,
+    report: Report,
     output: &mut O,
 ) -> Result<(Status, D, M), Unopened<D, M>>
 where
@@ -282,7 +281,7 @@ where
     O: Write,
     requires room { (D.state disk).failures < 2 ^ 64 - 1 }
     requires answers { M.answers macros }
-    ensures reports { IfOk result (λ p. IsReport (functions_of M.Meaning.names M.Meaning.way M.Meaning.answer) D.state dumped
+    ensures reports { IfOk result (λ p. IsReport (functions_of M.Meaning.names M.Meaning.way M.Meaning.answer) D.state report
         disk macros 1073741824 (O.contents output.old) (O.contents output.new) p.0 p.1) }
     ensures kept { IfOk result (λ p. p.2 ≡ macros) }
     ensures refused { IfErr result (λ e. IsUnopened (functions_of M.Meaning.names M.Meaning.way M.Meaning.answer)
@@ -291,15 +290,31 @@ where
     ensures given_back { IfErr result (λ e. e.macros ≡ macros) }
 {
     let store = Store::open(alloc, disk, macros, HALF_LIMIT)?;
-    let status = write_world(alloc, &store, output);
+    let status = write_report(alloc, &store, report, output);
     let (disk, macros) = store.close();
     Ok((status, disk, macros))
+}
+
+// Writes what is told of an open store.
+fn write_report<D: Disk, M, O: Write>(
+    alloc: Global,
+    store: &Store<D, M>,
+    report: Report,
+    output: &mut O,
+) -> Status
+    requires known { IsSome store.now.world }
+    ensures { IfSome store.now.world (λ world. TellsText result (O.contents output.old) (O.contents output.new) (text_of report store.now world)) }
+{
+    match report {
+        Report::Dump => write_world(alloc, store, output),
+        Report::Verify => write_half(store, output),
+    }
 }
 
 // Writes the text of the world of an open store.
 fn write_world<D: Disk, M, O: Write>(alloc: Global, store: &Store<D, M>, output: &mut O) -> Status
     requires known { IsSome store.now.world }
-    ensures { IfSome store.now.world (λ world. TellsText result (O.contents output.old) (O.contents output.new) (dumped store.now world)) }
+    ensures { IfSome store.now.world (λ world. TellsText result (O.contents output.old) (O.contents output.new) (snapshot world)) }
 {
     let Some(world) = store.world() else {
         return Status::Fault(REOPEN);
@@ -307,55 +322,28 @@ fn write_world<D: Disk, M, O: Write>(alloc: Global, store: &Store<D, M>, output:
     let Ok(text) = snapshot_text::write(alloc, world) else {
         return Status::Fault(NO_MEMORY);
     };
-    write_report(output, text.as_slice())
+    status_of_output(write_out(output, text.as_slice()))
 }
 
-// Writes a text, and tells how that went.
-fn write_report<O: Write>(output: &mut O, text: &[u8]) -> Status
-    ensures { TellsText result (O.contents output.old) (O.contents output.new) text.now }
+// Writes the line on the half in use of an open store.
+fn write_half<D: Disk, M, O: Write>(store: &Store<D, M>, output: &mut O) -> Status
+    ensures { TellsText result (O.contents output.old) (O.contents output.new) (half_line store.now.half store.now.generation store.now.record_count) }
 {
-    match write_out(output, text) {
-        Ok(()) => Status::Done,
-        Err(_) => Status::Fault(OUTPUT),
-    }
-}
-
-/// Writes the line on the half in use of the store that a disk holds, and answers how that ended. The disk is given back as the
-/// opening left it, and the macro functions.
-///
-/// # Errors
-///
-/// Those of opening the store. Nothing is written then, and the disk and the macro functions are given back.
-pub fn verify_on<D, M, O>(
-    alloc: Global,
-    disk: D,
-    macros: M,
-    output: &mut O,
-) -> Result<(Status, D, M), Unopened<D, M>>
-where
-    D: Disk,
-    M: MacroFunctions,
-    O: Write,
-    requires room { (D.state disk).failures < 2 ^ 64 - 1 }
-    requires answers { M.answers macros }
-    ensures reports { IfOk result (λ p. IsReport (functions_of M.Meaning.names M.Meaning.way M.Meaning.answer) D.state verified
-        disk macros 1073741824 (O.contents output.old) (O.contents output.new) p.0 p.1) }
-    ensures kept { IfOk result (λ p. p.2 ≡ macros) }
-    ensures refused { IfErr result (λ e. IsUnopened (functions_of M.Meaning.names M.Meaning.way M.Meaning.answer)
-        D.state disk (list_all (is_among (M.registered macros)) M.Meaning.names) 1073741824 e.number e.disk
-        × (output.new ≡ output.old)) }
-    ensures given_back { IfErr result (λ e. e.macros ≡ macros) }
-{
-    let store = Store::open(alloc, disk, macros, HALF_LIMIT)?;
     let written = write_half_line(
         output,
         store.half(),
         store.generation(),
         store.record_count(),
     );
-    let (disk, macros) = store.close();
+    status_of_output(written)
+}
+
+// How the program ends after a text that was written.
+fn status_of_output(written: Result<(), Unwritten>) -> Status
+    ensures { result ≡ status_of_output written }
+{
     match written {
-        Ok(()) => Ok((Status::Done, disk, macros)),
-        Err(_) => Ok((Status::Fault(OUTPUT), disk, macros)),
+        Ok(()) => Status::Done,
+        Err(_) => Status::Fault(OUTPUT),
     }
 }

@@ -50,9 +50,16 @@ pub enum Task {
         /// After how many forms that write a snapshot is taken; 0 is never.
         snapshot_every: u64,
     },
-    /// The text of the world is written.
+    /// Something is told of the store.
+    Tell(Report),
+}
+
+/// What is told of a store.
+#[derive(Clone, Copy, Debug, PartialEq, Eq)]
+pub enum Report {
+    /// The text of its world.
     Dump,
-    /// The half in use is told.
+    /// The line on its half in use.
     Verify,
 }
 
@@ -159,8 +166,8 @@ fn task_for(name: &str, found: &ArgMatches<'_>) -> Option<Task>
             mode: mode_for(found.get_str(RESCUE)),
             snapshot_every: every_in(found),
         }),
-        DUMP => Some(Task::Dump),
-        VERIFY => Some(Task::Verify),
+        DUMP => Some(Task::Tell(Report::Dump)),
+        VERIFY => Some(Task::Tell(Report::Verify)),
         _ => None,
     }
 }

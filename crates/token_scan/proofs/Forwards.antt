@@ -113,13 +113,15 @@ passed_else false at r s not_so h = h
 passed_on : (mark : Mark) (stage : Stage) (left at : ℕ) (text : List TypedByte) → GoesPast at (with_front (mark ∷ []) (from_stage stage left (at + 1) text))
 passed_on mark stage left at text = passed_after (mark ∷ []) at _ (passed at _ (stage_forwards text stage left (at + 1)))
 
-pub past_bar_outside : (front : List Mark) (x : TypedByte) (xs : List TypedByte) (left at : ℕ) → kind x ≡ MultipleEscape
-    → GoesPast at (with_front front (outside left at (x ∷ xs)))
-past_bar_outside front x xs left at e = rw (outside_bar x xs left at e) (passed_after front at _ (passed_on Bar Inside left at xs))
+pub past_bar_outside : (scan : Scan) (x : TypedByte) (xs : List TypedByte) (at : ℕ) → scan.stage ≡ Outside → kind x ≡ MultipleEscape
+    → GoesPast at (token_from scan at (x ∷ xs))
+past_bar_outside scan x xs at stage e =
+    rw stage (rw (outside_bar x xs scan.left at e) (passed_after scan.marks at _ (passed_on Bar Inside scan.left at xs)))
 
-pub past_bar_inside : (front : List Mark) (x : TypedByte) (xs : List TypedByte) (left at : ℕ) → kind x ≡ MultipleEscape
-    → GoesPast at (with_front front (inside left at (x ∷ xs)))
-past_bar_inside front x xs left at e = rw (inside_bar x xs left at e) (passed_after front at _ (passed_on Bar Outside left at xs))
+pub past_bar_inside : (scan : Scan) (x : TypedByte) (xs : List TypedByte) (at : ℕ) → scan.stage ≡ Inside → kind x ≡ MultipleEscape
+    → GoesPast at (token_from scan at (x ∷ xs))
+past_bar_inside scan x xs at stage e =
+    rw stage (rw (inside_bar x xs scan.left at e) (passed_after scan.marks at _ (passed_on Bar Outside scan.left at xs)))
 
 pub past_quoted : (front : List Mark) (byte left at : ℕ) (back : Stage) (text : List TypedByte) → 0 < left
     → GoesPast at (with_front front (one_more left at (λ left. quoted byte (from_stage back left (at + 1) text))))

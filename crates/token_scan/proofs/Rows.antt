@@ -14,57 +14,28 @@ short text = token_in standard 2 0 text
 refused_at : ScanRefusal → ℕ → Result (List Mark × ℕ × List ℕ) TokenFault
 refused_at refusal at = Err (record { refusal = refusal; at = at })
 
-whitespace_ends : short (codes "a# b") ≡ Ok (Plain 97 ∷ Plain 35 ∷ [], 2, codes " b")
+-- 1 is a character of type invalid
+tokens : (short (codes "a# b") ≡ Ok (Plain 97 ∷ Plain 35 ∷ [], 2, codes " b"))
+    × (short (codes "a(") ≡ Ok (Plain 97 ∷ [], 1, codes "("))
+    × (short (codes ";") ≡ Ok ([], 0, codes ";"))
+    × (short (codes "|(|\\ ||") ≡ Ok (Bar ∷ Quoted 40 ∷ Bar ∷ Quoted 32 ∷ Bar ∷ Bar ∷ [], 7, []))
+    × (short (codes "\\" ++ 1 ∷ []) ≡ Ok (Quoted 1 ∷ [], 2, []))
 unfolding outside standard short
-whitespace_ends = refl
+tokens = (refl, refl, refl, refl, refl)
 
-terminating_macro_ends : short (codes "a(") ≡ Ok (Plain 97 ∷ [], 1, codes "(")
-unfolding outside standard short
-terminating_macro_ends = refl
-
-empty : short (codes ";") ≡ Ok ([], 0, codes ";")
-unfolding outside standard short
-empty = refl
-
-bars_and_escapes : short (codes "|(|\\ ||") ≡ Ok (Bar ∷ Quoted 40 ∷ Bar ∷ Quoted 32 ∷ Bar ∷ Bar ∷ [], 7, [])
-unfolding outside standard short
-bars_and_escapes = refl
-
-open_bars : short (codes "a| ") ≡ refused_at EndOfFile 3
+-- Bars or an escape at the end; a byte that is no character, escaped or not; 8, which is a constituent with the trait invalid.
+refusals : (short (codes "a| ") ≡ refused_at EndOfFile 3)
+    × (short (codes "a\\") ≡ refused_at EndOfFile 2)
+    × (short (codes "a" ++ 195 ∷ []) ≡ refused_at InvalidCharacter 1)
+    × (short (codes "\\" ++ 195 ∷ []) ≡ refused_at InvalidCharacter 1)
+    × (short (codes "a" ++ 8 ∷ []) ≡ refused_at InvalidTrait 1)
 unfolding outside standard short refused_at
-open_bars = refl
+refusals = (refl, refl, refl, refl, refl)
 
-open_escape : short (codes "a\\") ≡ refused_at EndOfFile 2
+-- On one byte an invalid character comes before a token that is too long, and that before an invalid trait. The escaped
+-- character is one too many, not its escape.
+too_long : (short (codes "ab" ++ 8 ∷ []) ≡ refused_at TokenTooLong 2)
+    × (short (codes "ab" ++ 195 ∷ []) ≡ refused_at InvalidCharacter 2)
+    × (short (codes "a||b\\c") ≡ refused_at TokenTooLong 5)
 unfolding outside standard short refused_at
-open_escape = refl
-
-byte_over_127 : short (codes "a" ++ 195 ∷ []) ≡ refused_at InvalidCharacter 1
-unfolding outside standard short refused_at
-byte_over_127 = refl
-
-escaped_byte_over_127 : short (codes "\\" ++ 195 ∷ []) ≡ refused_at InvalidCharacter 1
-unfolding outside standard short refused_at
-escaped_byte_over_127 = refl
-
--- 1 is a character of type invalid, 8 a constituent with the trait invalid
-escaped_invalid : short (codes "\\" ++ 1 ∷ []) ≡ Ok (Quoted 1 ∷ [], 2, [])
-unfolding outside standard short
-escaped_invalid = refl
-
-invalid_trait : short (codes "a" ++ 8 ∷ []) ≡ refused_at InvalidTrait 1
-unfolding outside standard short refused_at
-invalid_trait = refl
-
--- On one byte an invalid character comes before a token that is too long, and that before an invalid trait.
-too_long_before_trait : short (codes "ab" ++ 8 ∷ []) ≡ refused_at TokenTooLong 2
-unfolding outside standard short refused_at
-too_long_before_trait = refl
-
-character_before_too_long : short (codes "ab" ++ 195 ∷ []) ≡ refused_at InvalidCharacter 2
-unfolding outside standard short refused_at
-character_before_too_long = refl
-
--- the escaped character is one too many, not its escape
-escaped_too_long : short (codes "a||b\\c") ≡ refused_at TokenTooLong 5
-unfolding outside standard short refused_at
-escaped_too_long = refl
+too_long = (refl, refl, refl)

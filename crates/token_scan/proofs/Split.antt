@@ -10,7 +10,7 @@ use Rattle.token_scan.specs.Tokens.{TypedByte, kind, is_character, Scanned, with
 use Rattle.token_scan.specs.Marks.{character_count, are_ascii}
 use Rattle.token_scan.specs.Spelling.{Spells, nothing, plain as spells_plain, between, escaped as spells_escaped, bar, SpellsEscaped, first, Splits, ends_tokens, is_plain}
 use Rattle.token_scan.proofs.Steps.{outside_ends, outside_plain, outside_escape, outside_invalid, inside_between, inside_escape, inside_invalid}
-use Rattle.token_scan.proofs.Spelled.{from_bars, escape_at, bar_at, plain_counts, quoted_counts, bar_counts, spelled_ascii}
+use Rattle.token_scan.proofs.Spelled.{from_bars, escape_at, bar_at, plain_counts, quoted_counts, bar_counts}
 
 -- what the text gives splits it
 abbrev pub SplitsBy : (List TypedByte → List Mark → Type 0) → ℕ → ℕ → List TypedByte → Scanned → Type 0

@@ -3,7 +3,7 @@ use Rattle.std.proofs.Common.{◌≡◌, ◌≤◌, ◌+◌, ℕ, false, List, [
 use Rattle.std.proofs.lemmas.List.{length-map, map-append}
 use Rattle.readtable_core.specs.Tables.{Table}
 use Rattle.token_scan.specs.declared.mark.Mark.{Mark}
-use Rattle.token_scan.specs.Tokens.{TypedByte, Scanned, typed, typed_text, in_bytes, token, token_in, escaped_token, escaped_token_in, outside}
+use Rattle.token_scan.specs.Tokens.{TypedByte, Scanned, typed, typed_text, in_bytes, token, token_in, escaped_token, escaped_token_in}
 use Rattle.token_scan.specs.Marks.{character_count}
 use Rattle.token_scan.specs.Spelling.{Spells, SpellsEscaped, Stands, may_end}
 use Rattle.token_scan.proofs.Spelled.{spelled_gives, escaped_gives}

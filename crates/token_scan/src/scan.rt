@@ -1,7 +1,7 @@
 //! Tokens, fed byte by byte.
 ghost use Rattle.std.specs.Prelude.{◌≡◌, ◌+◌, ◌-◌, ◌<◌, ℕ, if◌then◌else◌, false, is_ok, Err, List, [], ◌∷◌, ◌++◌, length, IsTrue, Ok, IsOk, IfOk, OnOk, OnErr, IfErr, MatchResult};
 ghost use Rattle.readtable_core.specs.declared.characters.Syntax.TheVariants.{Constituent};
-ghost use Rattle.token_scan.specs.declared.mark.Mark.TheVariants.{Plain, Quoted};
+ghost use Rattle.token_scan.specs.declared.mark.Mark.TheVariants.{Plain, Quoted, Bar};
 ghost use Rattle.token_scan.specs.declared.refusal.ScanRefusal.TheVariants.{EndOfFile};
 ghost use Rattle.token_scan.specs.Marks.{is_ascii_mark, are_ascii};
 ghost use Rattle.token_scan.specs.Tokens.{TypedByte, met, kind, with_front, one_more, plain, quoted, escaped, outside, inside, token, escaped_token, fault};
@@ -47,7 +47,7 @@ impl Model for TokenScan {
 }
 
 impl TokenScan {
-    ghost use Rattle.token_scan.specs.declared.scan.Fed.TheVariants.{Refused as FedRefused};
+    ghost use Rattle.token_scan.specs.declared.scan.Fed.TheVariants.{More, Refused as FedRefused};
     ghost use Rattle.token_scan.specs.Scans.{begun, begun_escaped, refused, from_stage, token_from, fed_gives, GoesPast, LeavesBy, Leaves};
 
     /// An empty token of at most `limit` characters, which bars and escapes are not. It keeps `alloc` for its marks, of
@@ -88,12 +88,18 @@ impl TokenScan {
         ensures inline { length self.old.marks < 32 → IsOk result }
         ensures no_end { result ≡ Ok (FedRefused EndOfFile) → self.old.stage ≡ Refused EndOfFile }
     {
-        match self.stage {
-            Stage::Outside => self.feed_outside(syntax, byte),
-            Stage::Inside => self.feed_inside(syntax, byte),
-            Stage::EscapedOutside => self.feed_escaped(byte, Stage::Outside),
-            Stage::EscapedInside => self.feed_escaped(byte, Stage::Inside),
-            Stage::Refused(refusal) => Ok(Fed::Refused(refusal)),
+        match (self.stage, kind_of(syntax, byte)) {
+            (Stage::Refused(refusal), _) => Ok(Fed::Refused(refusal)),
+            (Stage::EscapedOutside, _) => self.feed_escaped(byte, Stage::Outside),
+            (Stage::EscapedInside, _) => self.feed_escaped(byte, Stage::Inside),
+            (_, Syntax::Invalid) => Ok(self.refuse(ScanRefusal::InvalidCharacter)),
+            (Stage::Outside, Syntax::SingleEscape) => Ok(self.pass_escape(Stage::EscapedOutside)),
+            (Stage::Inside, Syntax::SingleEscape) => Ok(self.pass_escape(Stage::EscapedInside)),
+            (Stage::Outside, Syntax::MultipleEscape) => self.feed_bar(Stage::Inside),
+            (Stage::Inside, Syntax::MultipleEscape) => self.feed_bar(Stage::Outside),
+            (Stage::Outside, Syntax::Whitespace | Syntax::TerminatingMacro) => Ok(Fed::Ended),
+            (Stage::Outside, _) => self.feed_plain(byte),
+            (Stage::Inside, _) => self.feed_quoted(byte, Stage::Inside),
         }
     }
 
@@ -148,33 +154,25 @@ impl TokenScan {
         }
     }
 
-    // Takes a byte outside multiple escapes.
-    #[tactic(auto, unfolding(crate::specs::Tokens::outside))]
-    fn feed_outside(&mut self, syntax: Syntax, byte: u8) -> Result<Fed, AllocError>
-        requires { self.old.stage ≡ Outside }
-        ensures gives { (at : ℕ) (more : List TypedByte) → IfOk result (λ fed.
-            with_front self.old.marks (outside self.old.left at (met syntax byte ∷ more))
-            ≡ fed_gives fed self.new at (met syntax byte) more) }
-        ensures leaves { IfOk result (λ fed. Leaves fed self.old (met syntax byte) self.new) }
-        ensures unchanged { OnErr result (self.new ≡ self.old) }
-        ensures memory { (at : ℕ) (more : List TypedByte) → OnErr result
-            (GoesPast at (with_front self.old.marks (outside self.old.left at (met syntax byte ∷ more)))) }
-        ensures inline { length self.old.marks < 32 → IsOk result }
-        ensures no_end { result ≡ Ok (FedRefused EndOfFile) → ⊥ }
+    // Takes a single escape, after which the next byte is at `stage`.
+    fn pass_escape(&mut self, stage: Stage) -> Fed
+        ensures value { result ≡ More }
+        ensures after { self.new ≡ record self.old { stage = stage } }
     {
-        match kind_of(syntax, byte) {
-            Syntax::Whitespace | Syntax::TerminatingMacro => Ok(Fed::Ended),
-            Syntax::Constituent | Syntax::NonTerminatingMacro => self.feed_plain(byte),
-            Syntax::SingleEscape => {
-                self.stage = Stage::EscapedOutside;
-                Ok(Fed::More)
-            }
-            Syntax::MultipleEscape => {
-                self.add(Mark::Bar, Stage::Inside)?;
-                Ok(Fed::More)
-            }
-            Syntax::Invalid => Ok(self.refuse(ScanRefusal::InvalidCharacter)),
-        }
+        self.stage = stage;
+        Fed::More
+    }
+
+    // Takes a multiple escape, after which the next byte is at `stage`.
+    fn feed_bar(&mut self, stage: Stage) -> Result<Fed, AllocError>
+        ensures more { IfOk result (λ fed. fed ≡ More) }
+        ensures after { self.new ≡ (if is_ok result
+            then record self.old { marks = self.old.marks ++ Bar ∷ []; stage = stage }
+            else self.old) }
+        ensures inline { length self.old.marks < 32 → IsOk result }
+    {
+        self.add(Mark::Bar, stage)?;
+        Ok(Fed::More)
     }
 
     // Takes a character that is not escaped.
@@ -200,34 +198,6 @@ impl TokenScan {
         }
         self.add_character(Mark::Plain(byte), Stage::Outside)?;
         Ok(Fed::More)
-    }
-
-    // Takes a byte between multiple escapes.
-    #[tactic(auto, unfolding(crate::specs::Tokens::outside))]
-    fn feed_inside(&mut self, syntax: Syntax, byte: u8) -> Result<Fed, AllocError>
-        requires { self.old.stage ≡ Inside }
-        ensures gives { (at : ℕ) (more : List TypedByte) → IfOk result (λ fed.
-            with_front self.old.marks (inside self.old.left at (met syntax byte ∷ more))
-            ≡ fed_gives fed self.new at (met syntax byte) more) }
-        ensures leaves { IfOk result (λ fed. Leaves fed self.old (met syntax byte) self.new) }
-        ensures unchanged { OnErr result (self.new ≡ self.old) }
-        ensures memory { (at : ℕ) (more : List TypedByte) → OnErr result
-            (GoesPast at (with_front self.old.marks (inside self.old.left at (met syntax byte ∷ more)))) }
-        ensures inline { length self.old.marks < 32 → IsOk result }
-        ensures no_end { result ≡ Ok (FedRefused EndOfFile) → ⊥ }
-    {
-        match kind_of(syntax, byte) {
-            Syntax::SingleEscape => {
-                self.stage = Stage::EscapedInside;
-                Ok(Fed::More)
-            }
-            Syntax::MultipleEscape => {
-                self.add(Mark::Bar, Stage::Outside)?;
-                Ok(Fed::More)
-            }
-            Syntax::Invalid => Ok(self.refuse(ScanRefusal::InvalidCharacter)),
-            _ => self.feed_quoted(byte, Stage::Inside),
-        }
     }
 
     // Takes a byte after a single escape.

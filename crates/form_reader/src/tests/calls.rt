@@ -6,7 +6,8 @@ ghost use Rattle.user_macros.specs.Sound.{IsSoundCall};
 ghost use Rattle.form_reader.specs.Trial.{trial_answer, makes, other_answer};
 
 use super::hostile::repeated;
-use super::trial::{Trial, counted, empty_list, named, symbol, wrapped};
+use super::trial::{Trial, counted, empty_list, name_of, named, symbol, wrapped};
+use super::{field, number};
 use crate::{Limits, ReadOutcome, read_one};
 use lisp_object::Datum;
 use package_table::Packages;
@@ -84,67 +85,73 @@ fn counted_in(rt: &HostRuntime, name: FnName, text: &[u8]) -> Result<(i128, usiz
 
 #[test]
 fn ways_of_gathering(rt: HostRuntime) -> Result<(), Fail> {
-    let none = FnName::new(b"NONE").unwrap();
+    let none = name_of(b"NONE");
     assert!(rt; counts(&rt, none, b"!A")? == (0, 1));
-    let next = FnName::new(b"NEXT").unwrap();
+    let next = name_of(b"NEXT");
     assert!(rt; counts(&rt, next, b"! (A B) ")? == (1, 7));
-    let until = FnName::new(b"UNTIL").unwrap();
+    let until = name_of(b"UNTIL");
     assert!(rt; counts(&rt, until, b"!A (B) #|x|# C ]")? == (3, 16));
-    let text = FnName::new(b"TEXT").unwrap();
+    let text = name_of(b"TEXT");
     assert!(rt; counts(&rt, text, b"!a\\}b c} ")? == (5, 8));
     Ok(())
 }
 
 #[test]
 fn ways_of_gathering_characters(rt: HostRuntime) -> Result<(), Fail> {
-    let same = FnName::new(b"SAME").unwrap();
+    let same = name_of(b"SAME");
     assert!(rt; counts(&rt, same, b"!a\\!b! ")? == (3, 6));
-    let line = FnName::new(b"LINE").unwrap();
+    let line = name_of(b"LINE");
     assert!(rt; counts(&rt, line, b"!a b\nc")? == (3, 5));
     assert!(rt; counts(&rt, line, b"!a b")? == (3, 4));
-    let token = FnName::new(b"TOKEN").unwrap();
+    let token = name_of(b"TOKEN");
     assert!(rt; counts(&rt, token, b"!a|b c|d e")? == (5, 9));
     assert!(rt; counts(&rt, token, b"! a")? == (0, 2));
     Ok(())
 }
 
 // The number and the place of a refusal; 0 and where the next form begins, of a form.
-fn refusal(outcome: &ReadOutcome) -> (u16, usize) {
+fn refusal(outcome: &ReadOutcome) -> (usize, usize) {
     match outcome {
         ReadOutcome::Form { next, .. } => (0, *next),
-        ReadOutcome::Refused { code, at } => (*code, *at),
+        ReadOutcome::Refused { code, at } => (usize::from(*code), *at),
         ReadOutcome::Empty => (0, 0),
     }
 }
 
 #[test]
-fn symbols_that_are_answered(rt: HostRuntime) -> Result<(), Fail> {
+fn symbols_of_no_package(rt: HostRuntime) -> Result<(), Fail> {
     let alloc = rt.alloc();
-    let alien = FnName::new(b"ALIEN").unwrap();
+    let alien = name_of(b"ALIEN");
     let function: MacroFn = Box::new(
         rt.alloc(),
         move |_call: &Call| symbol(alloc, b"NOWHERE", b"X"),
     )?;
     assert!(rt; refusal(&read_with(&rt, alien, function, b"!")?) == (21, 1));
-    let nickname = FnName::new(b"NICKNAME").unwrap();
+    let nickname = name_of(b"NICKNAME");
     let function: MacroFn = Box::new(
         rt.alloc(),
         move |_call: &Call| symbol(alloc, b"CL-USER", b"X"),
     )?;
     assert!(rt; refusal(&read_with(&rt, nickname, function, b"(!)")?) == (21, 2));
-    let fresh = FnName::new(b"FRESH").unwrap();
+    Ok(())
+}
+
+#[test]
+fn symbols_and_their_homes(rt: HostRuntime) -> Result<(), Fail> {
+    let alloc = rt.alloc();
+    let fresh = name_of(b"FRESH");
     let function: MacroFn = Box::new(
         rt.alloc(),
         move |_call: &Call| symbol(alloc, b"COMMON-LISP-USER", b"X"),
     )?;
     assert!(rt; refusal(&read_with(&rt, fresh, function, b"'! ")?) == (0, 2));
-    let own = FnName::new(b"OWN").unwrap();
+    let own = name_of(b"OWN");
     let function: MacroFn = Box::new(
         rt.alloc(),
         move |_call: &Call| symbol(alloc, b"COMMON-LISP", b"X"),
     )?;
     assert!(rt; refusal(&read_with(&rt, own, function, b"!")?) == (21, 1));
-    let other = FnName::new(b"OTHER").unwrap();
+    let other = name_of(b"OTHER");
     let function: MacroFn = Box::new(
         rt.alloc(),
         move |_call: &Call| symbol(alloc, b"COMMON-LISP-USER", b"GET"),
@@ -153,32 +160,40 @@ fn symbols_that_are_answered(rt: HostRuntime) -> Result<(), Fail> {
     Ok(())
 }
 
+// A number or 0, a place, what is before the lists, how many lists are in one another, and what is in the innermost.
+const AT_A_LIMIT: &str = "\
+0,198,!,98,A
+21,200,!,99,A
+0,197,'!,97,A
+21,199,'!,98,A
+0,11,!,0,#999997(1)
+21,11,!,0,#999998(1)";
+
 #[test]
 fn answers_at_a_limit(rt: HostRuntime) -> Result<(), Fail> {
     let alloc = rt.alloc();
-    let wrap = FnName::new(b"WRAP").unwrap();
-    let rows: [(&[u8], u32, &[u8], (u16, usize)); 6] = [
-        (b"!", 98, b"A", (0, 198)),
-        (b"!", 99, b"A", (21, 200)),
-        (b"'!", 97, b"A", (0, 197)),
-        (b"'!", 98, b"A", (21, 199)),
-        (b"!", 0, b"#999997(1)", (0, 11)),
-        (b"!", 0, b"#999998(1)", (21, 11)),
-    ];
-    for (front, depth, object, expected) in rows {
-        let closed = repeated(&rt, object, b')', depth, b"")?;
-        let text = repeated(&rt, front, b'(', depth, closed.as_slice())?;
+    let wrap = name_of(b"WRAP");
+    for row in AT_A_LIMIT.split('\n') {
+        let (code, rest) = number(row);
+        let (place, rest) = number(rest);
+        let (front, rest) = field(rest);
+        let (depth, object) = number(rest);
+        let closed = repeated(&rt, object.as_bytes(), b")", depth, b"")?;
+        let text = repeated(&rt, front.as_bytes(), b"(", depth, closed.as_slice())?;
         let function: MacroFn = Box::new(
             rt.alloc(),
             move |call: &Call| -> Result<Answer, AllocError>
                 requires { IsSoundCall call.now }
             { wrapped(alloc, call) },
         )?;
-        assert!(rt; refusal(&read_with(&rt, wrap, function, text.as_slice())?) == expected);
+        assert!(rt;
+            refusal(&read_with(&rt, wrap, function, text.as_slice())?) == (code, place),
+            "{row}"
+        );
     }
-    let name = FnName::new(b"NAME").unwrap();
+    let name = name_of(b"NAME");
     for (count, expected) in [(4_096, (0, 4_098)), (4_097, (21, 4_099))] {
-        let text = repeated(&rt, b"!", b'A', count, b"}")?;
+        let text = repeated(&rt, b"!", b"A", count, b"}")?;
         let function: MacroFn = Box::new(
             rt.alloc(),
             move |call: &Call| -> Result<Answer, AllocError>
@@ -191,18 +206,23 @@ fn answers_at_a_limit(rt: HostRuntime) -> Result<(), Fail> {
 }
 
 #[test]
-fn functions_that_refuse_or_answer_nothing(rt: HostRuntime) -> Result<(), Fail> {
-    let low = FnName::new(b"LOW").unwrap();
+fn functions_that_refuse(rt: HostRuntime) -> Result<(), Fail> {
+    let low = name_of(b"LOW");
     let refuses: MacroFn = Box::new(rt.alloc(), |_call: &Call| Ok(Answer::Refused(0)))?;
     assert!(rt; refusal(&read_with(&rt, low, refuses, b" (!A)")?) == (20, 3));
-    let high = FnName::new(b"HIGH").unwrap();
+    let high = name_of(b"HIGH");
     let refuses: MacroFn = Box::new(rt.alloc(), |_call: &Call| Ok(Answer::Refused(65_535)))?;
     assert!(rt; refusal(&read_with(&rt, high, refuses, b"!")?) == (20, 1));
+    Ok(())
+}
+
+#[test]
+fn answers_without_an_object(rt: HostRuntime) -> Result<(), Fail> {
     let alloc = rt.alloc();
-    let improper = FnName::new(b"IMPROPER").unwrap();
+    let improper = name_of(b"IMPROPER");
     let answers: MacroFn = Box::new(rt.alloc(), move |_call: &Call| Ok(empty_list(alloc)))?;
     assert!(rt; refusal(&read_with(&rt, improper, answers, b"!")?) == (21, 1));
-    let mute = FnName::new(b"MUTE").unwrap();
+    let mute = name_of(b"MUTE");
     let nothing: MacroFn = Box::new(rt.alloc(), |_call: &Call| Ok(Answer::Nothing))?;
     assert!(rt; refusal(&read_with(&rt, mute, nothing, b"!a b ")?) == (0, 5));
     let nothing: MacroFn = Box::new(rt.alloc(), |_call: &Call| Ok(Answer::Nothing))?;

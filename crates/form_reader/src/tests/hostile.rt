@@ -1,54 +1,75 @@
 //! Hostile texts: at each limit, and one past it.
-use super::{form, refused};
+use super::{field, form, number, refused};
 use std::test::Fail;
 
-// The text `front`, so many times the byte, and `back`.
+// The text `front`, the one in the middle so many times, and `back`.
 pub(super) fn repeated(
     rt: &HostRuntime,
     front: &[u8],
-    byte: u8,
-    count: u32,
+    middle: &[u8],
+    count: usize,
     back: &[u8],
 ) -> Result<Vec<u8>, Fail> {
     let mut text = Vec::from_slice(rt.alloc(), front)?;
     for _ in 0..count {
-        text.push(byte)?;
+        text.extend_from_slice(middle)?;
     }
     text.extend_from_slice(back)?;
     Ok(text)
 }
 
+// The text of what is before it, what is repeated, how often, and what is after it.
+fn text_of(rt: &HostRuntime, row: &str) -> Result<Vec<u8>, Fail> {
+    let (front, rest) = field(row);
+    let (middle, rest) = field(rest);
+    let (count, back) = number(rest);
+    repeated(
+        rt,
+        front.as_bytes(),
+        middle.as_bytes(),
+        count,
+        back.as_bytes(),
+    )
+}
+
+// A number, a place, and a text that is refused so.
+const PAST_A_LIMIT: &str = "\
+22,100,,(,101,
+1,100,,(,100,
+22,100,,',101,A
+22,100,(,',100,A
+24,4096,,A,4097,
+24,4098,(|,A,4097,|)
+23,65536,;,A,70000,
+23,65536,\",A,65535,\"";
+
 #[test]
 fn texts_past_a_limit(rt: HostRuntime) -> Result<(), Fail> {
-    let rows: [(&[u8], u8, u32, &[u8], (u16, usize)); 8] = [
-        (b"", b'(', 101, b"", (22, 100)),
-        (b"", b'(', 100, b"", (1, 100)),
-        (b"", b'\'', 101, b"A", (22, 100)),
-        (b"(", b'\'', 100, b"A", (22, 100)),
-        (b"", b'A', 4_097, b"", (24, 4_096)),
-        (b"(|", b'A', 4_097, b"|)", (24, 4_098)),
-        (b";", b'A', 70_000, b"", (23, 65_536)),
-        (b"\"", b'A', 65_535, b"\"", (23, 65_536)),
-    ];
-    for (front, byte, count, back, expected) in rows {
-        let text = repeated(&rt, front, byte, count, back)?;
-        assert!(rt; refused(&rt, text.as_slice())? == expected);
+    for row in PAST_A_LIMIT.split('\n') {
+        let (code, rest) = number(row);
+        let (place, rest) = number(rest);
+        let text = text_of(&rt, rest)?;
+        assert!(rt; refused(&rt, text.as_slice())? == (code, place), "{row}");
     }
     Ok(())
 }
 
+// The start and the end of a form, where the next begins, and a text.
+const AT_A_LIMIT: &str = "\
+0,101,101,,',100,A
+0,4096,4096,,A,4096,
+0,65536,65536,\",A,65534,\"
+0,65536,65537,'#|,A,65530,|#A\x20
+70000,70001,70002,, ,70000,A\x20";
+
 #[test]
 fn texts_at_a_limit(rt: HostRuntime) -> Result<(), Fail> {
-    let rows: [(&[u8], u8, u32, &[u8], (usize, usize, usize)); 5] = [
-        (b"", b'\'', 100, b"A", (0, 101, 101)),
-        (b"", b'A', 4_096, b"", (0, 4_096, 4_096)),
-        (b"\"", b'A', 65_534, b"\"", (0, 65_536, 65_536)),
-        (b"'#|", b'A', 65_530, b"|#A ", (0, 65_536, 65_537)),
-        (b"", b' ', 70_000, b"A ", (70_000, 70_001, 70_002)),
-    ];
-    for (front, byte, count, back, expected) in rows {
-        let text = repeated(&rt, front, byte, count, back)?;
-        assert!(rt; form(&rt, text.as_slice())? == expected);
+    for row in AT_A_LIMIT.split('\n') {
+        let (start, rest) = number(row);
+        let (end, rest) = number(rest);
+        let (next, rest) = number(rest);
+        let text = text_of(&rt, rest)?;
+        assert!(rt; form(&rt, text.as_slice())? == (start, end, next), "{row}");
     }
     Ok(())
 }

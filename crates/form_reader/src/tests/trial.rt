@@ -1,5 +1,6 @@
 //! A meaning of functions in each way of gathering, and of some that answer what may not be answered.
-ghost use Rattle.std.specs.Prelude.{◌≡◌, pos, true, IfOk};
+ghost use Rattle.std.specs.Prelude.{◌≡◌, pos, true, IfOk, IsTrue};
+ghost use Rattle.readtable_core.specs.Names.{is_function_name};
 ghost use Rattle.std.specs.List.{list_all};
 ghost use Rattle.lisp_object.specs.Ascii.{is_ascii};
 ghost use Rattle.lisp_object.specs.Datum.{is_proper, object_of};
@@ -13,6 +14,14 @@ use readtable_core::FnName;
 use std::alloc::{AllocError, Global};
 use user_macros::{Answer, Call, Gather, Gathered, Meaning};
 
+/// The name of these bytes.
+pub fn name_of(bytes: &[u8]) -> FnName
+    requires { IsTrue (is_function_name bytes.now) }
+    ensures { result ≡ bytes.now }
+{
+    FnName::new(bytes).unwrap()
+}
+
 #[derive(Drop)]
 pub struct Trial {
     names: [FnName; 18],
@@ -23,24 +32,24 @@ impl Trial {
     pub fn new() -> Trial {
         Trial {
             names: [
-                FnName::new(b"NONE").unwrap(),
-                FnName::new(b"NEXT").unwrap(),
-                FnName::new(b"UNTIL").unwrap(),
-                FnName::new(b"TEXT").unwrap(),
-                FnName::new(b"SAME").unwrap(),
-                FnName::new(b"LINE").unwrap(),
-                FnName::new(b"TOKEN").unwrap(),
-                FnName::new(b"MUTE").unwrap(),
-                FnName::new(b"LOW").unwrap(),
-                FnName::new(b"ALIEN").unwrap(),
-                FnName::new(b"NICKNAME").unwrap(),
-                FnName::new(b"FRESH").unwrap(),
-                FnName::new(b"HIGH").unwrap(),
-                FnName::new(b"OWN").unwrap(),
-                FnName::new(b"OTHER").unwrap(),
-                FnName::new(b"IMPROPER").unwrap(),
-                FnName::new(b"WRAP").unwrap(),
-                FnName::new(b"NAME").unwrap(),
+                name_of(b"NONE"),
+                name_of(b"NEXT"),
+                name_of(b"UNTIL"),
+                name_of(b"TEXT"),
+                name_of(b"SAME"),
+                name_of(b"LINE"),
+                name_of(b"TOKEN"),
+                name_of(b"MUTE"),
+                name_of(b"LOW"),
+                name_of(b"ALIEN"),
+                name_of(b"NICKNAME"),
+                name_of(b"FRESH"),
+                name_of(b"HIGH"),
+                name_of(b"OWN"),
+                name_of(b"OTHER"),
+                name_of(b"IMPROPER"),
+                name_of(b"WRAP"),
+                name_of(b"NAME"),
             ],
         }
     }

@@ -1,5 +1,5 @@
 //! Lists of names, each sorted by its bytes.
-ghost use Rattle.std.specs.Prelude.{◌≡◌, Some, IfOk, IfErr, MatchResult};
+ghost use Rattle.std.specs.Prelude.{◌≡◌, Some, map, IfOk, IfErr, MatchResult};
 ghost use Rattle.std.specs.FinMap as finite;
 ghost use Rattle.package_table.specs.Table.{IsPackage};
 ghost use Rattle.package_table.specs.Readers.{package_names, used_names, own_names, external_names, imports, ListRefused};
@@ -10,6 +10,17 @@ use super::contents::Contents;
 use crate::PackageError;
 use lisp_object::{Bytes, Items};
 use std::alloc::{AllocError, Global};
+
+// Copies of these names.
+fn copies(alloc: Global, names: &[&[u8]]) -> Result<Items<Bytes>, AllocError>
+    ensures { IfOk result (λ copies. copies ≡ map (λ n. n.now) names.now) }
+{
+    let mut copies = Items::new(alloc);
+    for name in names {
+        copies.push(Bytes::from_slice(alloc, name)?)?;
+    }
+    Ok(copies)
+}
 
 impl PackageTable {
     /// The names of the packages.
@@ -47,20 +58,52 @@ impl PackageTable {
         Ok(names)
     }
 
+    /// The names at home in `owner`, as they are kept.
+    pub(crate) fn own_names(&self, alloc: Global, owner: &[u8]) -> Result<Vec<&[u8]>, PackageError>
+        ensures list { IfOk result (λ names. map (λ n. n.now) names.items ≡ own_names self.now.0 owner.now) }
+        ensures there { IfOk result (λ _. IsPackage self.now.0 owner.now) }
+        ensures refused { IfErr result (ListRefused self.now.0 owner.now) }
+    {
+        let contents = self.listed(owner)?;
+        let mut names = Vec::with_capacity(alloc, contents.symbols.len())?;
+        for (name, symbol) in &contents.symbols {
+            if symbol.home.as_slice() == owner {
+                if let Err(_) = names.push(name.as_slice()) {
+                    return Err(PackageError::OutOfMemory);
+                }
+            }
+        }
+        Ok(names)
+    }
+
+    /// The names external in `owner`, as they are kept. Looks at them alone.
+    pub(crate) fn external_names(
+        &self,
+        alloc: Global,
+        owner: &[u8],
+    ) -> Result<Vec<&[u8]>, PackageError>
+        ensures list { IfOk result (λ names. map (λ n. n.now) names.items ≡ external_names self.now.0 owner.now) }
+        ensures there { IfOk result (λ _. IsPackage self.now.0 owner.now) }
+        ensures refused { IfErr result (ListRefused self.now.0 owner.now) }
+    {
+        let contents = self.listed(owner)?;
+        let mut names = Vec::with_capacity(alloc, contents.externals.len())?;
+        for name in &contents.externals {
+            if let Err(_) = names.push(name.as_slice()) {
+                return Err(PackageError::OutOfMemory);
+            }
+        }
+        Ok(names)
+    }
+
     /// The names at home in `owner`.
     pub(crate) fn own(&self, alloc: Global, owner: &[u8]) -> Result<Items<Bytes>, PackageError>
         ensures list { IfOk result (λ names. names ≡ own_names self.now.0 owner.now) }
         ensures there { IfOk result (λ _. IsPackage self.now.0 owner.now) }
         ensures refused { IfErr result (ListRefused self.now.0 owner.now) }
     {
-        let contents = self.listed(owner)?;
-        let mut names = Items::new(alloc);
-        for (name, symbol) in &contents.symbols {
-            if symbol.home.as_slice() == owner {
-                names.push(Bytes::from_slice(alloc, name.as_slice())?)?;
-            }
-        }
-        Ok(names)
+        let names = self.own_names(alloc, owner)?;
+        Ok(copies(alloc, names.as_slice())?)
     }
 
     /// The names external in `owner`. Looks at them alone.
@@ -73,12 +116,8 @@ impl PackageTable {
         ensures there { IfOk result (λ _. IsPackage self.now.0 owner.now) }
         ensures refused { IfErr result (ListRefused self.now.0 owner.now) }
     {
-        let contents = self.listed(owner)?;
-        let mut names = Items::new(alloc);
-        for name in &contents.externals {
-            names.push(Bytes::from_slice(alloc, name.as_slice())?)?;
-        }
-        Ok(names)
+        let names = self.external_names(alloc, owner)?;
+        Ok(copies(alloc, names.as_slice())?)
     }
 
     /// The names present in `owner` with another home, each with that home.

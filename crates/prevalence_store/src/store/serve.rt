@@ -9,9 +9,9 @@ ghost use Rattle.plist_state.specs.State.{State as LispWorld};
 ghost use Rattle.form_reader.specs.Reader.{fed};
 ghost use Rattle.prevalence_store.specs.Functions.{functions_of};
 ghost use Rattle.prevalence_store.specs.Pending.{IsPending, IsSoundFed, Feeds, Finishes};
-ghost use Rattle.prevalence_store.specs.Serving.{IsOver, Serves, ServesInput};
+ghost use Rattle.prevalence_store.specs.Serving.{Serves, ServesInPace, ServesInput};
 ghost use Rattle.prevalence_store.specs.Streams.{Writes, WritesPart};
-ghost use Rattle.prevalence_store.specs.Turns.{Answers, AnswersFault, AnswersForm, BeginsWith, IsLine, IsStop, Renewing, RenewsInTurn, TriesForm, TurnsInto};
+ghost use Rattle.prevalence_store.specs.Turns.{Answers, AnswersFault, AnswersForm, BeginsWith, FitsForm, IsFormOf, IsLine, IsStop, Renewing, RenewsInTurn, TriesForm, TurnsInto, is_logged, pace_of};
 
 use crate::failure::Failure;
 use crate::input::{Fed, Pending};
@@ -42,8 +42,7 @@ impl<D: Disk, R: MacroFunctions> Store<D, R> {
     ///
     /// Where the half has no room for the record of a form, it takes one snapshot and tries the form once more. After every
     /// `snapshot_every` forms that were logged since it began, their answers written, it takes a snapshot; never where that is
-    /// 0. One of these for which there is no half is passed over. The contract says what is left by snapshots that were taken,
-    /// and that one was taken in vain where it ends with 64; when others are taken is shown by tests alone.
+    /// 0. One of these for which there is no half is passed over.
     ///
     /// Ends with `Store` and, in this order: 61 at once after an earlier device fault; 64 where a half that holds nothing but
     /// the text of the world has no room for a record; 65 where a record has no room, and there is no half for a snapshot; 60
@@ -61,7 +60,7 @@ impl<D: Disk, R: MacroFunctions> Store<D, R> {
         ensures reopen { self.old.world ≡ None → (result ≡ Ending.Store REOPEN) × (self.new ≡ self.old)
             × (reader.new ≡ reader.old) × (writer.new ≡ writer.old) }
         ensures serves { (world : LispWorld) → self.old.world ≡ Some world
-            → ServesInput (functions_of R.Meaning.names R.Meaning.way R.Meaning.answer) D.state self.old self.new world mode
+            → ServesInput (functions_of R.Meaning.names R.Meaning.way R.Meaning.answer) D.state snapshot_every self.old self.new world mode
             (I.remaining reader.old) (I.remaining reader.new) (W.contents writer.old) (W.contents writer.new) result }
         ensures honest { (D.state self.new.disk).honest ≡ (D.state self.old.disk).honest }
         ensures macros { self.new.macros ≡ self.old.macros }
@@ -108,7 +107,7 @@ impl<D: Disk, R: MacroFunctions> Store<D, R> {
         requires count { fed pending.old.reader + length piece.now ≤ 2 ^ 63 }
         ensures answers { (w : LispWorld) → self.old.world ≡ Some w → (bytes : List ℕ)
             → IsPending (functions_of R.Meaning.names R.Meaning.way R.Meaning.answer) w mode pending.old bytes
-            → Answers (functions_of R.Meaning.names R.Meaning.way R.Meaning.answer) D.state self.old self.new w mode
+            → Answers (functions_of R.Meaning.names R.Meaning.way R.Meaning.answer) D.state (pace_of schedule.old) (pace_of schedule.new) self.old self.new w mode
             (bytes ++ piece.now) (W.contents writer.old) (W.contents writer.new) pending.new result }
         ensures count { fed pending.new.reader ≤ fed pending.old.reader + length piece.now }
         ensures honest { (D.state self.new.disk).honest ≡ (D.state self.old.disk).honest }
@@ -140,7 +139,7 @@ impl<D: Disk, R: MacroFunctions> Store<D, R> {
         requires count { fed pending.old.reader < 2 ^ 63 }
         ensures answers { (w : LispWorld) → self.old.world ≡ Some w → (bytes : List ℕ)
             → IsPending (functions_of R.Meaning.names R.Meaning.way R.Meaning.answer) w mode pending.old bytes
-            → Answers (functions_of R.Meaning.names R.Meaning.way R.Meaning.answer) D.state self.old self.new w mode
+            → Answers (functions_of R.Meaning.names R.Meaning.way R.Meaning.answer) D.state (pace_of schedule.old) (pace_of schedule.new) self.old self.new w mode
             (bytes ++ byte ∷ []) (W.contents writer.old) (W.contents writer.new) pending.new result }
         ensures count { fed pending.new.reader ≤ fed pending.old.reader + 1 }
         ensures honest { (D.state self.new.disk).honest ≡ (D.state self.old.disk).honest }
@@ -174,7 +173,7 @@ impl<D: Disk, R: MacroFunctions> Store<D, R> {
         requires count { fed pending.old.reader < 2 ^ 63 }
         ensures turns { (w : LispWorld) → self.old.world ≡ Some w → (bytes : List ℕ)
             → IsPending (functions_of R.Meaning.names R.Meaning.way R.Meaning.answer) w mode pending.old bytes
-            → TurnsInto (functions_of R.Meaning.names R.Meaning.way R.Meaning.answer) D.state self.old self.new w mode
+            → TurnsInto (functions_of R.Meaning.names R.Meaning.way R.Meaning.answer) D.state (pace_of schedule.old) (pace_of schedule.new) self.old self.new w mode
             (bytes ++ byte ∷ []) (W.contents writer.old) (W.contents writer.new) pending.new byte result }
         ensures count { fed pending.new.reader ≤ fed pending.old.reader + 1 }
         ensures honest { (D.state self.new.disk).honest ≡ (D.state self.old.disk).honest }
@@ -229,8 +228,10 @@ impl<D: Disk, R: MacroFunctions> Store<D, R> {
         requires count { fed pending.reader ≤ 2 ^ 63 }
         ensures serves { (w : LispWorld) → self.old.world ≡ Some w → (bytes : List ℕ)
             → IsPending (functions_of R.Meaning.names R.Meaning.way R.Meaning.answer) w mode pending bytes
-            → Serves (functions_of R.Meaning.names R.Meaning.way R.Meaning.answer) D.state self.old self.new w mode
-            bytes (W.contents writer.old) (W.contents writer.new) result }
+            → (served : Serves (functions_of R.Meaning.names R.Meaning.way R.Meaning.answer) D.state self.old self.new w mode
+            bytes (W.contents writer.old) (W.contents writer.new) result)
+            × ServesInPace (functions_of R.Meaning.names R.Meaning.way R.Meaning.answer) D.state (pace_of schedule.old) self.old self.new w mode
+            bytes (W.contents writer.old) (W.contents writer.new) result served }
         ensures honest { (D.state self.new.disk).honest ≡ (D.state self.old.disk).honest }
         ensures macros { self.new.macros ≡ self.old.macros }
     {
@@ -280,8 +281,8 @@ impl<D: Disk, R: MacroFunctions> Store<D, R> {
         }
     }
 
-    // Answers a form that was read, and takes a snapshot where one is due after it. Where the half has no room for the form, it
-    // takes a snapshot, and tries once more. Gives the number of the fault that ends the session in it.
+    // Answers a form that was read, and takes a snapshot where one is due after it. Gives the number of the fault that ends the
+    // session in it.
     fn answer_form<W: Write>(
         &mut self,
         writer: &mut W,
@@ -290,57 +291,49 @@ impl<D: Disk, R: MacroFunctions> Store<D, R> {
         datum: &Datum,
         own: &[u8],
     ) -> Option<u16>
-        requires known { IsSome self.old.world }
-        requires read { (w : LispWorld) → self.old.world ≡ Some w → (text : List ℕ) × ((next : ℕ)
-            × BeginsWith (functions_of R.Meaning.names R.Meaning.way R.Meaning.answer) w mode text (object_of datum.now) own.now next) }
-        requires proper { is_proper datum.now ≡ true }
-        requires sound { IsSound (object_of datum.now) }
+        requires form { IsFormOf (functions_of R.Meaning.names R.Meaning.way R.Meaning.answer) self.old.world mode datum.now own.now }
         ensures answers { (w : LispWorld) → self.old.world ≡ Some w → (text : List ℕ) (next : ℕ)
             → BeginsWith (functions_of R.Meaning.names R.Meaning.way R.Meaning.answer) w mode text (object_of datum.now) own.now next
-            → AnswersForm (functions_of R.Meaning.names R.Meaning.way R.Meaning.answer) D.state self.old self.new w mode
+            → AnswersForm (functions_of R.Meaning.names R.Meaning.way R.Meaning.answer) D.state self.old self.new w mode (pace_of schedule.old) (pace_of schedule.new)
             text (W.contents writer.old) (W.contents writer.new) result }
         ensures honest { (D.state self.new.disk).honest ≡ (D.state self.old.disk).honest }
         ensures macros { self.new.macros ≡ self.old.macros }
     {
-        match self.try_form(writer, mode, datum, own) {
+        match self.fit_form(writer, mode, datum, own) {
             Ok(wrote) => self.renew_in_turn(schedule, wrote),
-            Err(number) => {
-                if number != LOG_FULL {
-                    return Some(number);
-                }
-                self.answer_again(writer, mode, schedule, datum, own)
-            }
+            Err(number) => Some(number),
         }
     }
 
-    // Takes a snapshot, as the half has no room for the form, and tries once more.
-    fn answer_again<W: Write>(
+    // Answers a form that was read. Where the half has no room for it, it takes a snapshot, and tries once more. Gives whether
+    // the form was logged, or the number of the fault that ends the session in it.
+    fn fit_form<W: Write>(
         &mut self,
         writer: &mut W,
         mode: Mode,
-        schedule: &mut Schedule,
         datum: &Datum,
         own: &[u8],
-    ) -> Option<u16>
-        requires known { IsSome self.old.world }
-        requires read { (w : LispWorld) → self.old.world ≡ Some w → (text : List ℕ) × ((next : ℕ)
-            × BeginsWith (functions_of R.Meaning.names R.Meaning.way R.Meaning.answer) w mode text (object_of datum.now) own.now next) }
-        requires proper { is_proper datum.now ≡ true }
-        requires sound { IsSound (object_of datum.now) }
-        ensures answers { (w : LispWorld) → self.old.world ≡ Some w → (text : List ℕ) (next : ℕ)
+    ) -> Result<bool, u16>
+        requires form { IsFormOf (functions_of R.Meaning.names R.Meaning.way R.Meaning.answer) self.old.world mode datum.now own.now }
+        ensures fits { (w : LispWorld) → self.old.world ≡ Some w → (text : List ℕ) (next : ℕ)
             → BeginsWith (functions_of R.Meaning.names R.Meaning.way R.Meaning.answer) w mode text (object_of datum.now) own.now next
-            → IsOver (functions_of R.Meaning.names R.Meaning.way R.Meaning.answer) self.old w mode text
-            → AnswersForm (functions_of R.Meaning.names R.Meaning.way R.Meaning.answer) D.state self.old self.new w mode
+            → FitsForm (functions_of R.Meaning.names R.Meaning.way R.Meaning.answer) D.state self.old self.new w mode
             text (W.contents writer.old) (W.contents writer.new) result }
+        ensures known { OnOk result (IsSome self.new.world) }
         ensures honest { (D.state self.new.disk).honest ≡ (D.state self.old.disk).honest }
         ensures macros { self.new.macros ≡ self.old.macros }
     {
-        if let Err(number) = self.renew() {
-            return Some(number);
-        }
         match self.try_form(writer, mode, datum, own) {
-            Ok(wrote) => self.renew_in_turn(schedule, wrote),
-            Err(number) => Some(number),
+            Ok(wrote) => Ok(wrote),
+            Err(number) => {
+                if number != LOG_FULL {
+                    return Err(number);
+                }
+                if let Err(number) = self.renew() {
+                    return Err(number);
+                }
+                self.try_form(writer, mode, datum, own)
+            }
         }
     }
 
@@ -353,11 +346,7 @@ impl<D: Disk, R: MacroFunctions> Store<D, R> {
         datum: &Datum,
         own: &[u8],
     ) -> Result<bool, u16>
-        requires known { IsSome self.old.world }
-        requires read { (w : LispWorld) → self.old.world ≡ Some w → (text : List ℕ) × ((next : ℕ)
-            × BeginsWith (functions_of R.Meaning.names R.Meaning.way R.Meaning.answer) w mode text (object_of datum.now) own.now next) }
-        requires proper { is_proper datum.now ≡ true }
-        requires sound { IsSound (object_of datum.now) }
+        requires form { IsFormOf (functions_of R.Meaning.names R.Meaning.way R.Meaning.answer) self.old.world mode datum.now own.now }
         ensures tries { (w : LispWorld) → self.old.world ≡ Some w → (text : List ℕ) (next : ℕ)
             → BeginsWith (functions_of R.Meaning.names R.Meaning.way R.Meaning.answer) w mode text (object_of datum.now) own.now next
             → TriesForm (functions_of R.Meaning.names R.Meaning.way R.Meaning.answer) D.state self.old self.new w mode
@@ -369,14 +358,13 @@ impl<D: Disk, R: MacroFunctions> Store<D, R> {
         ensures macros { self.new.macros ≡ self.old.macros }
     {
         self.world.soundness();
-        let before = self.record_count();
         let answer = self.take_form(mode, datum, own);
         let line = match self.line(&answer) {
             Ok(line) => line,
             Err(number) => return Err(number),
         };
         match write_line(writer, line.as_slice()) {
-            Ok(()) => Ok(self.record_count() > before),
+            Ok(()) => Ok(was_logged(&answer)),
             Err(_) => Err(OUTPUT),
         }
     }
@@ -386,11 +374,14 @@ impl<D: Disk, R: MacroFunctions> Store<D, R> {
     fn renew_in_turn(&mut self, schedule: &mut Schedule, wrote: bool) -> Option<u16>
         requires known { IsSome self.old.world }
         ensures renews { (w : LispWorld) → self.old.world ≡ Some w
-            → RenewsInTurn (functions_of R.Meaning.names R.Meaning.way R.Meaning.answer) D.state self.old self.new w result }
+            → RenewsInTurn (functions_of R.Meaning.names R.Meaning.way R.Meaning.answer) D.state self.old self.new w wrote (pace_of schedule.old) (pace_of schedule.new) result }
         ensures honest { (D.state self.new.disk).honest ≡ (D.state self.old.disk).honest }
         ensures macros { self.new.macros ≡ self.old.macros }
     {
-        if !wrote || !schedule.count() {
+        if !wrote {
+            return None;
+        }
+        if !schedule.count() {
             return None;
         }
         match self.renew() {
@@ -423,6 +414,16 @@ impl<D: Disk, R> Store<D, R> {
         ensures stop { IfErr result (IsStop answer.now) }
     {
         line_of_answer(self.alloc, &self.world, answer)
+    }
+}
+
+// Whether a form was logged.
+fn was_logged(answer: &Result<Evaluated, Failure>) -> bool
+    ensures { result ≡ is_logged answer.now }
+{
+    match answer {
+        Ok(evaluated) => evaluated.wrote,
+        Err(_) => false,
     }
 }
 

@@ -3,7 +3,8 @@
 use super::by_name::ByName;
 use super::{bytes_of, session_of};
 use crate::meaning::SixFunctions;
-use crate::program::{dump_on, serve_on, verify_on};
+use crate::program::{report_on, serve_on};
+use crate::words::Report;
 use disk_trait::{Half, MemoryDisk};
 use prevalence_store::{Ending, Mode};
 use std::alloc::Global;
@@ -114,7 +115,7 @@ fn watched(alloc: Global, input: &[u8]) -> (Option<u64>, bool, bool) {
 }
 
 /// Whether the text of the world, or the line on the half, is written to the output and not flushed.
-fn unflushed(alloc: Global, is_dump: bool) -> (bool, bool) {
+fn unflushed(alloc: Global, report: Report) -> (bool, bool) {
     let seen = nothing_seen();
     let mut writer = Noted {
         seen: &seen,
@@ -122,11 +123,7 @@ fn unflushed(alloc: Global, is_dump: bool) -> (bool, bool) {
     };
     let macros = ByName::new(alloc, SixFunctions::new());
     let disk = MemoryDisk::new(alloc);
-    if is_dump {
-        let _report = dump_on(alloc, disk, macros, &mut writer);
-    } else {
-        let _report = verify_on(alloc, disk, macros, &mut writer);
-    }
+    let _report = report_on(alloc, disk, macros, report, &mut writer);
     (writer.first.is_some(), seen.waits.get())
 }
 
@@ -136,8 +133,8 @@ fn a_form_is_answered_before_the_next_read(rt: HostRuntime) -> Result<(), Fail> 
     let (reads, is_late, waits) = watched(rt.alloc(), input);
     assert!(rt; reads.is_some_and(|reads| reads < 21), "{reads:?}");
     assert_eq!(rt; (is_late, waits), (false, false));
-    for is_dump in [true, false] {
-        assert_eq!(rt; unflushed(rt.alloc(), is_dump), (true, false));
+    for report in [Report::Dump, Report::Verify] {
+        assert_eq!(rt; unflushed(rt.alloc(), report), (true, false));
     }
     Ok(())
 }

@@ -4,4 +4,4 @@ use Rattle.form_eval.proofs.Shapes.{pair_at}
 use Rattle.form_eval.proofs.kinds.integer.Goals as goal
 
 pub returns-in-List : goal.returns-in-List
-returns-in-List c = pair_at an_integer None c.args.datum.now c.in-List.items c.in-List.tail (λ _ _. refl) c.in-List.is c.requires
+returns-in-List c = (refl, pair_at an_integer None c.args.datum.now c.in-List.items c.in-List.tail (λ _ _. refl) c.in-List.is c.requires)

@@ -1,4 +1,4 @@
-use Rattle.std.proofs.Common.{Some, None, map, sym}
+use Rattle.std.proofs.Common.{Some, None, map, refl, sym}
 use Rattle.lisp_object.specs.Datum.{object_of}
 use Rattle.form_eval.specs.Kinds.{a_name}
 use Rattle.form_eval.proofs.MemberLists.{members_or_each}
@@ -10,4 +10,4 @@ returns-in-Some c =
     rw same c.each_name.ensures
 
 pub returns-in-None : goal.returns-in-None
-returns-in-None c = sym (members_or_each a_name (object_of c.args.datum.now) None c.in-None.ensures.value)
+returns-in-None c = (refl, sym (members_or_each a_name (object_of c.args.datum.now) None c.in-None.ensures.value))

@@ -6,47 +6,47 @@ use Rattle.form_eval.proofs.AtOnceHeads.{first_other, first_unknown, first_count
 use Rattle.form_eval.proofs.operators.operation_of.Goals as goal
 
 pub returns-in_default-clause-head : goal.returns-in_default-clause-head
-returns-in_default-clause-head c = λ names s arguments proper counted. head_other names s (object_of c.args.head.now) arguments c.in_default.ensures
+returns-in_default-clause-head c = λ names s arguments proper counted. head_other names s (object_of c.args.head.now) arguments c.in_default.ensures.1
 
 pub returns-then-not-is_name-clause-head : goal.returns-then-not-is_name-clause-head
 returns-then-not-is_name-clause-head c = λ names s arguments proper counted.
-    head_unknown names s (object_of c.args.head.now) arguments c.in-Some.home.now c.in-Some.name.now c.in-Some.ensures proper
-    (ap (λ b. cond b (operator_named names c.in-Some.name.now) None) (sym c.is_name.ensures ∙ c.if-not-is_name.true))
+    head_unknown names s (object_of c.args.head.now) arguments c.in-Ok.home.now c.in-Ok.name.now c.in-Ok.ensures proper
+    (ap (λ b. cond b (operator_named names c.in-Ok.name.now) None) (sym c.is_name.ensures ∙ c.if-not-is_name.true))
 
 pub returns-in_default-named-clause-head : goal.returns-in_default-named-clause-head
 returns-in_default-named-clause-head c = λ names s arguments proper counted.
-    head_unknown names s (object_of c.args.head.now) arguments c.in-Some.home.now c.in-Some.name.now c.in-Some.ensures proper
-    (ap (λ b. cond b (operator_named names c.in-Some.name.now) None) (sym c.is_name.ensures ∙ c.if-not-is_name.false) ∙ sym (c.in_default-named.ensures names))
+    head_unknown names s (object_of c.args.head.now) arguments c.in-Ok.home.now c.in-Ok.name.now c.in-Ok.ensures proper
+    (ap (λ b. cond b (operator_named names c.in-Ok.name.now) None) (sym c.is_name.ensures ∙ c.if-not-is_name.false) ∙ sym (c.in_default-named.ensures names))
 
 pub returns-then-not-counts-clause-head : goal.returns-then-not-counts-clause-head
 returns-then-not-counts-clause-head c = λ names s arguments proper counted.
-    head_count names s (object_of c.args.head.now) arguments c.in-Some.home.now c.in-Some.name.now c.in-Some-named.operation c.args.number c.in-Some.ensures proper
-    (sym c.is_name.ensures ∙ c.if-not-is_name.false) (c.in-Some-named.ensures names) counted (sym (c.counts.ensures.value names) ∙ c.if-not-counts.true)
+    head_count names s (object_of c.args.head.now) arguments c.in-Ok.home.now c.in-Ok.name.now c.in-Some.operation c.args.number c.in-Ok.ensures proper
+    (sym c.is_name.ensures ∙ c.if-not-is_name.false) (c.in-Some.ensures names) counted (sym (c.counts.ensures.value names) ∙ c.if-not-counts.true)
 
 pub returns-clause-head : goal.returns-clause-head
 returns-clause-head c = λ names s arguments proper counted.
-    head_acts names s (object_of c.args.head.now) arguments c.in-Some.home.now c.in-Some.name.now c.in-Some-named.operation c.args.number c.in-Some.ensures proper
-    (sym c.is_name.ensures ∙ c.if-not-is_name.false) (c.in-Some-named.ensures names) counted (sym (c.counts.ensures.value names) ∙ c.if-not-counts.false)
+    head_acts names s (object_of c.args.head.now) arguments c.in-Ok.home.now c.in-Ok.name.now c.in-Some.operation c.args.number c.in-Ok.ensures proper
+    (sym c.is_name.ensures ∙ c.if-not-is_name.false) (c.in-Some.ensures names) counted (sym (c.counts.ensures.value names) ∙ c.if-not-counts.false)
 
 pub returns-in_default-clause-at_once : goal.returns-in_default-clause-at_once
-returns-in_default-clause-at_once c = λ names s arguments proper counted. first_other names s (object_of c.args.head.now) arguments c.in_default.ensures
+returns-in_default-clause-at_once c = λ names s arguments proper counted. first_other names s (object_of c.args.head.now) arguments c.in_default.ensures.1
 
 pub returns-then-not-is_name-clause-at_once : goal.returns-then-not-is_name-clause-at_once
 returns-then-not-is_name-clause-at_once c = λ names s arguments proper counted.
-    first_unknown names s (object_of c.args.head.now) arguments c.in-Some.home.now c.in-Some.name.now c.in-Some.ensures proper
-    (ap (λ b. cond b (operator_named names c.in-Some.name.now) None) (sym c.is_name.ensures ∙ c.if-not-is_name.true))
+    first_unknown names s (object_of c.args.head.now) arguments c.in-Ok.home.now c.in-Ok.name.now c.in-Ok.ensures proper
+    (ap (λ b. cond b (operator_named names c.in-Ok.name.now) None) (sym c.is_name.ensures ∙ c.if-not-is_name.true))
 
 pub returns-in_default-named-clause-at_once : goal.returns-in_default-named-clause-at_once
 returns-in_default-named-clause-at_once c = λ names s arguments proper counted.
-    first_unknown names s (object_of c.args.head.now) arguments c.in-Some.home.now c.in-Some.name.now c.in-Some.ensures proper
-    (ap (λ b. cond b (operator_named names c.in-Some.name.now) None) (sym c.is_name.ensures ∙ c.if-not-is_name.false) ∙ sym (c.in_default-named.ensures names))
+    first_unknown names s (object_of c.args.head.now) arguments c.in-Ok.home.now c.in-Ok.name.now c.in-Ok.ensures proper
+    (ap (λ b. cond b (operator_named names c.in-Ok.name.now) None) (sym c.is_name.ensures ∙ c.if-not-is_name.false) ∙ sym (c.in_default-named.ensures names))
 
 pub returns-then-not-counts-clause-at_once : goal.returns-then-not-counts-clause-at_once
 returns-then-not-counts-clause-at_once c = λ names s arguments proper counted.
-    first_count names s (object_of c.args.head.now) arguments c.in-Some.home.now c.in-Some.name.now c.in-Some-named.operation c.args.number c.in-Some.ensures proper
-    (sym c.is_name.ensures ∙ c.if-not-is_name.false) (c.in-Some-named.ensures names) counted (sym (c.counts.ensures.value names) ∙ c.if-not-counts.true)
+    first_count names s (object_of c.args.head.now) arguments c.in-Ok.home.now c.in-Ok.name.now c.in-Some.operation c.args.number c.in-Ok.ensures proper
+    (sym c.is_name.ensures ∙ c.if-not-is_name.false) (c.in-Some.ensures names) counted (sym (c.counts.ensures.value names) ∙ c.if-not-counts.true)
 
 pub returns-clause-at_once : goal.returns-clause-at_once
 returns-clause-at_once c = λ names s arguments proper counted.
-    first_acts names s (object_of c.args.head.now) arguments c.in-Some.home.now c.in-Some.name.now c.in-Some-named.operation c.args.number c.in-Some.ensures proper
-    (sym c.is_name.ensures ∙ c.if-not-is_name.false) (c.in-Some-named.ensures names) counted (sym (c.counts.ensures.value names) ∙ c.if-not-counts.false)
+    first_acts names s (object_of c.args.head.now) arguments c.in-Ok.home.now c.in-Ok.name.now c.in-Some.operation c.args.number c.in-Ok.ensures proper
+    (sym c.is_name.ensures ∙ c.if-not-is_name.false) (c.in-Some.ensures names) counted (sym (c.counts.ensures.value names) ∙ c.if-not-counts.false)

@@ -3,10 +3,22 @@ use Rattle.lisp_object.specs.Datum.{object_of}
 use Rattle.plist_state.specs.Sound.{IsValue}
 use Rattle.plist_state.specs.Shown.{symbol_of}
 use Rattle.form_eval.proofs.PropertyRows.{pushed_value}
+use Rattle.form_eval.proofs.Storable.{symbol_kind}
 use Rattle.form_eval.proofs.properties.push.Goals as goal
+
+pub put-requires-clause-symbol : goal.put-requires-clause-symbol
+put-requires-clause-symbol c =
+    symbol_kind c.args.world.now.0.packages (object_of c.in_ok-value.symbol.now) (symbol_of c.in_ok-symbol.symbol) (sym c.in_ok-symbol.ensures.0)
+    (c.in_ok-value.ensures.arguments c.args.world.now.0.packages c.requires).1.value
+
+pub put-requires-clause-indicator : goal.put-requires-clause-indicator
+put-requires-clause-indicator c =
+    symbol_kind c.args.world.now.0.packages (object_of c.in_ok-value.indicator.now) (symbol_of c.in_ok-symbol.indicator) (sym c.in_ok-symbol.ensures.1)
+    (c.in_ok-value.ensures.arguments c.args.world.now.0.packages c.requires).2.value
 
 pub put-requires-clause-value : goal.put-requires-clause-value
 put-requires-clause-value c =
     subst (λ d. IsValue c.args.world.now.0.packages (object_of d)) (sym c.in_ok-stored.ensures)
-    (pushed_value c.args.world.now.0 (symbol_of c.in_ok-symbol.symbol) (symbol_of c.in_ok-indicator.indicator) (object_of c.args.value.now) (object_of c.in_ok-value.value)
-    c.soundness.ensures.present c.requires.value.value c.in_ok-value.ensures.value (sym c.is_too_deep.ensures ∙ c.if-is_too_deep.false))
+    (pushed_value c.args.world.now.0 (symbol_of c.in_ok-symbol.symbol) (symbol_of c.in_ok-symbol.indicator) (object_of c.in_ok-value.value.now) (object_of c.in_ok-value-2.value)
+    c.soundness.ensures.present (c.in_ok-value.ensures.arguments c.args.world.now.0.packages c.requires).0.value c.in_ok-value-2.ensures.value
+    (sym c.is_too_deep.ensures ∙ c.if-is_too_deep.false))

@@ -1,9 +1,8 @@
-use Rattle.form_reader.specs.Setting.{setting_of}
+use Rattle.form_reader.specs.Surrounding.{setting_with}
 use Rattle.form_reader.proofs.ObjectTokens.{stage_moves}
 use Rattle.form_reader.proofs.advance.advance.Goals as goal
 
 pub returns-in-Token-clause-moves : goal.returns-in-Token-clause-moves
 returns-in-Token-clause-moves g c = λ cs.
-    let setting = setting_of c.args.with.now.limits c.args.with.now.readtable.now c.args.with.now.packages.now.0 c.args.with.now.current.now
-    (g.R.MacroFunctions.registered c.args.with.now.macros.now) g.R.Meaning.Meaning.way g.R.Meaning.Meaning.answer in
+    let setting = setting_with (g.R.MacroFunctions.registered c.args.with.now.macros.now) g.R.Meaning.Meaning.way g.R.Meaning.Meaning.answer c.args.with.now in
     stage_moves setting c.args.frames.now c.args.at c.args.c cs c.args.stage _ c.in_token.result c.in-Token.is (c.in_token.ensures.moves c.args.frames.now cs)

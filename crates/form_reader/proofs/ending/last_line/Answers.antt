@@ -1,11 +1,12 @@
 use Rattle.std.proofs.Common.{[]}
-use Rattle.form_reader.specs.Setting.{setting_of}
-use Rattle.form_reader.proofs.Endings.{line_ends}
+use Rattle.form_reader.specs.Surrounding.{setting_with}
+use Rattle.form_reader.specs.Reading.{line_after}
+use Rattle.form_reader.proofs.Endings.{line_end}
+use Rattle.form_reader.proofs.Goings.{ends}
 use Rattle.form_reader.proofs.ending.last_line.Goals as goal
 
 pub returns-clause-brings : goal.returns-clause-brings
 returns-clause-brings g c = λ frames keep open_calls.
-    let setting = setting_of c.args.with.now.limits c.args.with.now.readtable.now c.args.with.now.packages.now.0 c.args.with.now.current.now
-    (g.R.MacroFunctions.registered c.args.with.now.macros.now) g.R.Meaning.Meaning.way g.R.Meaning.Meaning.answer in
-    line_ends setting frames c.args.at keep c.args.text _ c.args.call c.args.round c.in_ok-complete.field-0 c.event_of.result c.requires.place open_calls
-    c.into_bytes.ensures.value c.in_ok-complete.ensures.gives (c.event_of.ensures.comes setting frames [])
+    let setting = setting_with (g.R.MacroFunctions.registered c.args.with.now.macros.now) g.R.Meaning.Meaning.way g.R.Meaning.Meaning.answer c.args.with.now in
+    ends setting frames (line_after setting keep c.args.text) _ c.args.text c.into_bytes.result c.args.at c.args.at [] [] c.ended.result
+    (line_end setting.table setting.limits c.args.at keep c.args.text c.requires.place) c.into_bytes.ensures.value (c.ended.ensures.brings frames [] open_calls)

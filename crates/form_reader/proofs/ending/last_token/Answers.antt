@@ -2,23 +2,21 @@ use Rattle.std.proofs.Common.{◌<◌, List, [], length, ap, sym, subst, ◌∙�
 use Rattle.token_scan.specs.declared.mark.Mark.{Mark}
 use Rattle.token_scan.proofs.Forwards.{begun_has_mark}
 use Rattle.token_scan.specs.Scans.{Scan}
-use Rattle.form_reader.specs.Setting.{setting_of}
+use Rattle.form_reader.specs.Surrounding.{setting_with}
 use Rattle.form_reader.specs.Ending.{TokenStops}
 use Rattle.form_reader.proofs.Endings.{token_last, token_stopped}
 use Rattle.form_reader.proofs.ending.last_token.Goals as goal
 
 pub returns-in-None-clause-brings : goal.returns-in-None-clause-brings
 returns-in-None-clause-brings g c = λ frames.
-    let setting = setting_of c.args.with.now.limits c.args.with.now.readtable.now c.args.with.now.packages.now.0 c.args.with.now.current.now
-    (g.R.MacroFunctions.registered c.args.with.now.macros.now) g.R.Meaning.Meaning.way g.R.Meaning.Meaning.answer in
-    token_last setting frames c.args.at c.args.scan _ c.token_end.result
+    let setting = setting_with (g.R.MacroFunctions.registered c.args.with.now.macros.now) g.R.Meaning.Meaning.way g.R.Meaning.Meaning.answer c.args.with.now in
+    token_last setting frames c.args.at _ c.args.scan _ c.token_end.result
     (subst (λ (s : Scan). TokenStops setting.table setting.limits s c.args.at None) c.into_scan-scan.ensures.value (c.in-None.ensures.stops setting.table))
     (c.into_marks.ensures.value ∙ ap (λ (s : Scan). s.marks) (c.token_stop.ensures.same c.in-None.is ∙ c.into_scan-scan.ensures.value)) (c.token_end.ensures.brings frames [])
 
 pub returns-in-Some-clause-brings : goal.returns-in-Some-clause-brings
 returns-in-Some-clause-brings g c = λ frames.
-    let setting = setting_of c.args.with.now.limits c.args.with.now.readtable.now c.args.with.now.packages.now.0 c.args.with.now.current.now
-    (g.R.MacroFunctions.registered c.args.with.now.macros.now) g.R.Meaning.Meaning.way g.R.Meaning.Meaning.answer in
+    let setting = setting_with (g.R.MacroFunctions.registered c.args.with.now.macros.now) g.R.Meaning.Meaning.way g.R.Meaning.Meaning.answer c.args.with.now in
     token_stopped setting frames c.args.at c.args.scan _ c.in-Some.code
     (subst (λ (s : Scan). TokenStops setting.table setting.limits s c.args.at (Some c.in-Some.code)) c.into_scan-scan.ensures.value (c.in-Some.ensures.stops setting.table))
 

@@ -1,9 +1,8 @@
-use Rattle.form_reader.specs.Setting.{setting_of}
+use Rattle.form_reader.specs.Surrounding.{setting_with}
 use Rattle.form_reader.proofs.ObjectTokens.{begun_there}
 use Rattle.form_reader.proofs.in_place.in_place.Goals as goal
 
 pub returns-in-Some-clause-feeds : goal.returns-in-Some-clause-feeds
 returns-in-Some-clause-feeds g c = λ cs.
-    let setting = setting_of c.args.with.now.limits c.args.with.now.readtable.now c.args.with.now.packages.now.0 c.args.with.now.current.now
-    (g.R.MacroFunctions.registered c.args.with.now.macros.now) g.R.Meaning.Meaning.way g.R.Meaning.Meaning.answer in
+    let setting = setting_with (g.R.MacroFunctions.registered c.args.with.now.macros.now) g.R.Meaning.Meaning.way g.R.Meaning.Meaning.answer c.args.with.now in
     begun_there setting c.args.frames.now c.args.at c.args.c cs c.args.stage.now c.in-Some.scan c.in_ok-scan-in-Object.field-0 c.in-Object.is c.in-Some.is (c.in_ok-scan-in-Object.ensures.begins cs)

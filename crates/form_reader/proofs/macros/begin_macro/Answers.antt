@@ -1,17 +1,15 @@
 use Rattle.std.proofs.Common.{arith, sym, ◌∙◌}
-use Rattle.form_reader.specs.Setting.{setting_of}
+use Rattle.form_reader.specs.Surrounding.{setting_with}
 use Rattle.form_reader.proofs.Callers.{none_called, character_called}
 use Rattle.form_reader.proofs.macros.begin_macro.Goals as goal
 
 pub returns-in-None-clause-brings : goal.returns-in-None-clause-brings
 returns-in-None-clause-brings g c = λ cs.
-    let setting = setting_of c.args.with.now.limits c.args.with.now.readtable.now c.args.with.now.packages.now.0 c.args.with.now.current.now
-    (g.R.MacroFunctions.registered c.args.with.now.macros.now) g.R.Meaning.Meaning.way g.R.Meaning.Meaning.answer in
+    let setting = setting_with (g.R.MacroFunctions.registered c.args.with.now.macros.now) g.R.Meaning.Meaning.way g.R.Meaning.Meaning.answer c.args.with.now in
     none_called setting c.args.frames.now c.args.c c.args.at cs _ c.saturating_sub.result (sym c.macro_of.ensures ∙ c.in-None.is) (omega (arith, c.saturating_sub.ensures))
 
 pub returns-else-is_dispatch-clause-brings : goal.returns-else-is_dispatch-clause-brings
 returns-else-is_dispatch-clause-brings g c = λ cs.
-    let setting = setting_of c.args.with.now.limits c.args.with.now.readtable.now c.args.with.now.packages.now.0 c.args.with.now.current.now
-    (g.R.MacroFunctions.registered c.args.with.now.macros.now) g.R.Meaning.Meaning.way g.R.Meaning.Meaning.answer in
+    let setting = setting_with (g.R.MacroFunctions.registered c.args.with.now.macros.now) g.R.Meaning.Meaning.way g.R.Meaning.Meaning.answer c.args.with.now in
     character_called setting c.args.frames.now c.args.c c.args.at cs _ _ c.in-Some.name c.function_of.result c.of_macro.result c.begin_call.result
     (sym c.macro_of.ensures ∙ c.in-Some.is) (sym c.is_dispatch.ensures ∙ c.if-is_dispatch.false) c.function_of.ensures c.of_macro.ensures (c.begin_call.ensures.begins cs)

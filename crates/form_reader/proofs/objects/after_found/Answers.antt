@@ -1,9 +1,8 @@
-use Rattle.form_reader.specs.Setting.{setting_of}
+use Rattle.form_reader.specs.Surrounding.{setting_with}
 use Rattle.form_reader.proofs.Deliveries.{done_told}
 use Rattle.form_reader.proofs.objects.after_found.Goals as goal
 
 pub returns-in-Done-clause-passes : goal.returns-in-Done-clause-passes
 returns-in-Done-clause-passes g c = λ cs.
-    let setting = setting_of c.args.with.now.limits c.args.with.now.readtable.now c.args.with.now.packages.now.0 c.args.with.now.current.now
-    (g.R.MacroFunctions.registered c.args.with.now.macros.now) g.R.Meaning.Meaning.way g.R.Meaning.Meaning.answer in
+    let setting = setting_with (g.R.MacroFunctions.registered c.args.with.now.macros.now) g.R.Meaning.Meaning.way g.R.Meaning.Meaning.answer c.args.with.now in
     done_told setting c.deliver.new.frames c.args.at _ _ c.in_ok-token.field-0 c.in-Done.found c.in-Done.is (c.in_ok-token.ensures.delivers _)

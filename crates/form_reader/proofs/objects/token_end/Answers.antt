@@ -1,10 +1,9 @@
-use Rattle.form_reader.specs.Setting.{setting_of}
+use Rattle.form_reader.specs.Surrounding.{setting_with}
 use Rattle.form_reader.proofs.ObjectTokens.{token_fails, refused_told}
 use Rattle.form_reader.proofs.objects.token_end.Goals as goal
 
 pub returns-in-Err-Refused-clause-brings : goal.returns-in-Err-Refused-clause-brings
 returns-in-Err-Refused-clause-brings g c = λ frames cs.
-    let setting = setting_of c.args.with.now.limits c.args.with.now.readtable.now c.args.with.now.packages.now.0 c.args.with.now.current.now
-    (g.R.MacroFunctions.registered c.args.with.now.macros.now) g.R.Meaning.Meaning.way g.R.Meaning.Meaning.answer in
+    let setting = setting_with (g.R.MacroFunctions.registered c.args.with.now.macros.now) g.R.Meaning.Meaning.way g.R.Meaning.Meaning.answer c.args.with.now in
     token_fails setting frames c.args.at cs c.args.marks.items _ c.requires.some
     (refused_told setting c.case-case.result c.args.marks.items _ _ c.case-case.ensures c.in-Err-Refused.field-0-is c.in-Err-Refused.ensures)

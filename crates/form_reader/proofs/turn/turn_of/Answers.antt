@@ -1,11 +1,10 @@
-use Rattle.form_reader.specs.Setting.{setting_of}
+use Rattle.form_reader.specs.Surrounding.{setting_with}
 use Rattle.form_reader.proofs.TurnsTaken.{done_turns, done_nesting}
 use Rattle.form_reader.proofs.turn.turn_of.Goals as goal
 
 pub returns-in-Done-clause-turns : goal.returns-in-Done-clause-turns
 returns-in-Done-clause-turns g c = λ cs read brings.
-    let setting = setting_of c.args.with.now.limits c.args.with.now.readtable.now c.args.with.now.packages.now.0 c.args.with.now.current.now
-    (g.R.MacroFunctions.registered c.args.with.now.macros.now) g.R.Meaning.Meaning.way g.R.Meaning.Meaning.answer in
+    let setting = setting_with (g.R.MacroFunctions.registered c.args.with.now.macros.now) g.R.Meaning.Meaning.way g.R.Meaning.Meaning.answer c.args.with.now in
     done_turns setting c.settle.new.frames c.args.start c.args.at cs read _ c.in-Done.found c.done_after.result c.in-Done.is (c.in_ok-stage.ensures.settles cs read brings) (c.done_after.ensures.turns setting cs)
 
 pub returns-in-Done-clause-ready : goal.returns-in-Done-clause-ready

@@ -1,19 +1,15 @@
 use Rattle.std.proofs.Common.{◌≡◌, [], is_some, sym, ap, subst, ◌∙◌}
 use Rattle.std.specs.Prelude.{IfSome}
-use Rattle.plist_state.specs.Properties.{Plist, value_at, without_value, list_at, with_list}
-use Rattle.plist_state.specs.Shown.{symbol_of, plist_of, lists_of, lists_in}
+use Rattle.plist_state.specs.Properties.{Plist, value_at, without_value, list_at}
+use Rattle.plist_state.specs.Shown.{symbol_of, lists_of, lists_in}
 use Rattle.plist_state.specs.Undoing.{list_before}
-use Rattle.plist_state.proofs.Lists.{IsWritten, written, row_shown, none_shown, proper_shown, list-with_list, with_list_same, some_in}
+use Rattle.plist_state.proofs.Lists.{written, lists_made, list_now, row_shown, none_shown, proper_shown, with_list_same, some_in}
 use Rattle.plist_state.proofs.rows.remove.Goals as goal
 
 pub returns-in-Some-clause-after : goal.returns-in-Some-clause-after
 returns-in-Some-clause-after c =
-    let rows = c.args.rows.now.entries in
-    let x = c.args.symbol.now in
-    let w : IsWritten rows (c.get_mut.follows.lender c.cut.new.row).entries (symbol_of x) (plist_of c.cut.new.row) =
-    written rows _ x c.in-Some.row.now c.cut.new.row c.in-Some.ensures.value (c.get_mut.follows.holds c.cut.new.row).0 c.cut.ensures.room c.cut.ensures.values in
-    w.lists
-    ∙ ap (with_list (lists_in rows) (symbol_of x)) (c.cut.ensures.after ∙ ap (λ ps. without_value ps (symbol_of c.args.indicator.now)) (sym (row_shown rows x c.in-Some.row.now c.in-Some.ensures.value)))
+    lists_made c.args.rows.now.entries _ c.args.symbol.now c.in-Some.row.now c.cut.new.row c.in-Some.ensures.value (c.get_mut.follows.holds c.cut.new.row).0 c.cut.ensures.room c.cut.ensures.values
+    (λ ps. without_value ps (symbol_of c.args.indicator.now)) c.cut.ensures.after
 
 pub returns-in-Some-clause-had : goal.returns-in-Some-clause-had
 returns-in-Some-clause-had c =
@@ -22,13 +18,8 @@ returns-in-Some-clause-had c =
 
 pub returns-in-Some-clause-back : goal.returns-in-Some-clause-back
 returns-in-Some-clause-back c =
-    let rows = c.args.rows.now.entries in
-    let x = c.args.symbol.now in
-    let w : IsWritten rows (c.get_mut.follows.lender c.cut.new.row).entries (symbol_of x) (plist_of c.cut.new.row) =
-    written rows _ x c.in-Some.row.now c.cut.new.row c.in-Some.ensures.value (c.get_mut.follows.holds c.cut.new.row).0 c.cut.ensures.room c.cut.ensures.values in
-    let new : list_at (lists_of (c.get_mut.follows.lender c.cut.new.row)) (symbol_of x) ≡ plist_of c.cut.new.row =
-    ap (λ m. list_at m (symbol_of x)) w.lists ∙ list-with_list (lists_in rows) (symbol_of x) (plist_of c.cut.new.row) in
-    let old : list_at (lists_in rows) (symbol_of x) ≡ plist_of c.in-Some.row.now = row_shown rows x c.in-Some.row.now c.in-Some.ensures.value in
+    let new = list_now c.args.rows.now.entries _ c.args.symbol.now c.in-Some.row.now c.cut.new.row c.in-Some.ensures.value (c.get_mut.follows.holds c.cut.new.row).0 c.cut.ensures.room c.cut.ensures.values in
+    let old = row_shown c.args.rows.now.entries c.args.symbol.now c.in-Some.row.now c.in-Some.ensures.value in
     subst (λ (p : Plist × Plist). IfSome c.cut.result (λ change. list_before change p.0 ≡ p.1)) (λ i. (sym new i, sym old i)) c.cut.ensures.back
 
 pub returns-in-Some-clause-former : goal.returns-in-Some-clause-former
@@ -37,8 +28,7 @@ returns-in-Some-clause-former c =
 
 pub returns-in-Some-clause-wider : goal.returns-in-Some-clause-wider
 returns-in-Some-clause-wider c =
-    let rows = c.args.rows.now.entries in
-    (written rows _ c.args.symbol.now c.in-Some.row.now c.cut.new.row c.in-Some.ensures.value (c.get_mut.follows.holds c.cut.new.row).0 c.cut.ensures.room c.cut.ensures.values).wider
+    (written c.args.rows.now.entries _ c.args.symbol.now c.in-Some.row.now c.cut.new.row c.in-Some.ensures.value (c.get_mut.follows.holds c.cut.new.row).0 c.cut.ensures.room c.cut.ensures.values).wider
 
 pub returns-in-None-clause-after : goal.returns-in-None-clause-after
 returns-in-None-clause-after c =

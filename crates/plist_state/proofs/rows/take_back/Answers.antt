@@ -1,9 +1,9 @@
 use Rattle.std.proofs.Common.{◌≡◌, ◌≤◌, [], ◌∷◌, length, refl, sym, ap, ◌∙◌, arith}
 use Rattle.std.specs.Prelude.{vec_capacity}
-use Rattle.plist_state.specs.Properties.{Plist, list_at, with_list}
+use Rattle.plist_state.specs.Properties.{Plist, list_at}
 use Rattle.plist_state.specs.Shown.{symbol_of, plist_of, lists_of, lists_in, room_at}
 use Rattle.plist_state.specs.Undoing.{list_before}
-use Rattle.plist_state.proofs.Lists.{IsWritten, written, row_shown, none_shown, room_shown, no_room, with_list_same, some_in}
+use Rattle.plist_state.proofs.Lists.{written, lists_made, row_shown, none_shown, room_shown, no_room, with_list_same, some_in}
 use Rattle.plist_state.proofs.rows.take_back.Goals as goal
 
 pub revert-requires-clause-room : goal.revert-requires-clause-room
@@ -18,17 +18,12 @@ revert-requires-clause-room c =
 
 pub returns-in-Some-clause-after : goal.returns-in-Some-clause-after
 returns-in-Some-clause-after c =
-    let rows = c.args.rows.now.entries in
-    let x = c.args.symbol.now in
-    let w : IsWritten rows (c.get_mut.follows.lender c.revert.new.row).entries (symbol_of x) (plist_of c.revert.new.row) =
-    written rows _ x c.in-Some.row.now c.revert.new.row c.in-Some.ensures.value (c.get_mut.follows.holds c.revert.new.row).0 c.revert.ensures.room c.revert.ensures.values in
-    w.lists
-    ∙ ap (with_list (lists_in rows) (symbol_of x)) (c.revert.ensures.after ∙ ap (list_before c.args.change) (sym (row_shown rows x c.in-Some.row.now c.in-Some.ensures.value)))
+    lists_made c.args.rows.now.entries _ c.args.symbol.now c.in-Some.row.now c.revert.new.row c.in-Some.ensures.value (c.get_mut.follows.holds c.revert.new.row).0 c.revert.ensures.room c.revert.ensures.values
+    (list_before c.args.change) c.revert.ensures.after
 
 pub returns-in-Some-clause-wider : goal.returns-in-Some-clause-wider
 returns-in-Some-clause-wider c =
-    let rows = c.args.rows.now.entries in
-    (written rows _ c.args.symbol.now c.in-Some.row.now c.revert.new.row c.in-Some.ensures.value (c.get_mut.follows.holds c.revert.new.row).0 c.revert.ensures.room c.revert.ensures.values).wider
+    (written c.args.rows.now.entries _ c.args.symbol.now c.in-Some.row.now c.revert.new.row c.in-Some.ensures.value (c.get_mut.follows.holds c.revert.new.row).0 c.revert.ensures.room c.revert.ensures.values).wider
 
 pub returns-in_default-clause-after : goal.returns-in_default-clause-after
 returns-in_default-clause-after c =

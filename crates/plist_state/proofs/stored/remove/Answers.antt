@@ -1,12 +1,10 @@
 use Rattle.std.proofs.Common.{◌≡◌, false, is_some, rules, ap, sym}
-use Rattle.plist_state.specs.declared.note.Note.TheVariants.{Property}
 use Rattle.plist_state.specs.Properties as properties
 use Rattle.plist_state.specs.Properties.{Properties, without_value, list_at}
-use Rattle.plist_state.specs.State.{Rest}
 use Rattle.plist_state.specs.Shown.{Rows, symbol_of, rest_of, lists_in}
 use Rattle.plist_state.specs.Journal.{marks_of}
-use Rattle.plist_state.proofs.Notes.{continues_noted}
-use Rattle.plist_state.proofs.Lists.{property_back, without-absent, with_list_same, some_in, none_shown_as}
+use Rattle.plist_state.proofs.Notes.{property_noted}
+use Rattle.plist_state.proofs.Lists.{without-absent, with_list_same, some_in, none_shown_as}
 use Rattle.plist_state.proofs.stored.remove.Goals as goal
 
 pub returns-then-is_none-clause-ok : goal.returns-then-is_none-clause-ok
@@ -21,11 +19,7 @@ returns-then-is_none-clause-ok c =
 
 pub returns-clause-marked : goal.returns-clause-marked
 returns-clause-marked c =
-    let t : Rest = rest_of c.args.stored.now in
-    let rows : Rows = c.args.stored.now.properties.entries in
-    let later : Rows = c.remove.new.rows.entries in
-    let x : properties.Symbol = symbol_of c.args.symbol.now in
-    continues_noted (marks_of c.args.marks.now.items) _ (marks_of c.push_note.new.marks.items) (Property c.in_ok-noted.noted c.in-Some.change) t (record t { properties = lists_in later })
-    c.in_ok-reserve_note.ensures.same c.push_note.ensures c.in-Some.ensures.former
-    (ap (λ (m : Properties). record t { properties = m })
-    (property_back rows later x (without_value (list_at (lists_in rows) x) (symbol_of c.args.indicator.now)) (symbol_of c.in_ok-noted.noted) c.in_ok-noted.ensures c.in-Some.change c.in-Some.ensures.after c.in-Some.ensures.back))
+    property_noted (marks_of c.args.marks.now.items) _ (marks_of c.push_note.new.marks.items) c.in_ok-reserve_note.ensures.same
+    c.in_ok-noted.noted c.in-Some.change c.push_note.ensures c.in-Some.ensures.former
+    (rest_of c.args.stored.now) c.args.stored.now.properties.entries c.remove.new.rows.entries (symbol_of c.args.symbol.now) _
+    c.in_ok-noted.ensures c.in-Some.ensures.after c.in-Some.ensures.back

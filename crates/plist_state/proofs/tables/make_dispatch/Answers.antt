@@ -1,13 +1,9 @@
-use Rattle.std.proofs.Common.{◌∙◌, ◌≡◌, Some, Ok, sym, ap}
+use Rattle.std.proofs.Common.{Ok, sym, ap}
 use Rattle.readtable_core.specs.Tables.{Table}
 use Rattle.readtable_core.specs.Changes.{with_entry, dispatching_entry}
 use Rattle.plist_state.specs.Shown.{readtables_of}
-use Rattle.plist_state.proofs.ByName.{written_there, changed_there, same_there, change_ok}
-use Rattle.std.specs.FinMap as finite
-use Rattle.readtable_core.proofs.PutBack.{put_back}
-use Rattle.plist_state.specs.declared.note.TableChange.TheVariants.{Character}
+use Rattle.plist_state.proofs.ByName.{written_there, changed_there, same_there, change_ok, tables_same, entry_noted}
 use Rattle.plist_state.specs.Journal.{marks_of}
-use Rattle.plist_state.proofs.ByName.{tables_same, change_noted, put_there, got_table}
 use Rattle.plist_state.proofs.tables.make_dispatch.Goals as goal
 
 pub unreachable-requires : goal.unreachable-requires
@@ -27,15 +23,11 @@ returns-in-Err-clause-gives c =
     change_ok (readtables_of c.args.tables.now) c.args.name.now (λ (t : Table). with_entry t c.args.c (dispatching_entry c.args.non_terminating)) c.in_ok-check_writable.ensures
 
 pub returns-clause-marked : goal.returns-clause-marked
-returns-clause-marked c = λ r.
-    let t : Table = c.in-Some.table.now in
-    let w : Table = c.make_dispatch.new.self in
-    let tables = c.args.tables.now.entries in
-    let there : finite.get (readtables_of c.args.tables.now) c.args.name.now ≡ Some t = got_table c.args.name.now tables ∙ sym c.in-Some.ensures.value in
-    let back : with_entry w c.args.c c.in_ok-entry.entry ≡ t = (λ i. with_entry (c.in_default-make_dispatch.ensures i) c.args.c (c.in_ok-entry.ensures t there i)) ∙ put_back t c.args.c (dispatching_entry c.args.non_terminating) in
-    change_noted (marks_of c.args.marks.now.items) _ (marks_of c.push_note.new.marks.items) c.in_ok-noted.ensures.same c.was_at.result c.push_note.ensures
-    (readtables_of c.args.tables.now) _ c.args.name.now w (put_there tables _ c.args.name.now t w c.in-Some.ensures.value (c.get_mut.follows.holds w).0)
-    c.in_ok-noted.noted c.in_ok-noted.ensures.name t there (Character c.args.c c.in_ok-entry.entry) c.requires c.was_at.ensures back r
+returns-clause-marked c =
+    entry_noted (marks_of c.args.marks.now.items) _ (marks_of c.push_note.new.marks.items) c.in_ok-noted.ensures.same c.was_at.result c.push_note.ensures
+    c.args.tables.now.entries _ c.args.name.now c.in-Some.table.now c.make_dispatch.new.self c.in-Some.ensures.value (c.get_mut.follows.holds c.make_dispatch.new.self).0
+    c.in_ok-noted.noted c.in_ok-noted.ensures.name c.args.c c.in_ok-entry.entry (dispatching_entry c.args.non_terminating) c.requires c.was_at.ensures c.in_ok-entry.ensures
+    c.in_default-make_dispatch.ensures
 
 pub returns-in-Err-clause-marked : goal.returns-in-Err-clause-marked
 returns-in-Err-clause-marked c =

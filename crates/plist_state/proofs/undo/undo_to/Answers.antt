@@ -1,5 +1,5 @@
 use Rattle.std.proofs.Common.{◌≡◌, ◌∷◌, [], ◌+◌, List, length, refl, ap, sym, ◌∙◌, arith}
-use Rattle.std.proofs.lemmas.List.{length-append, length-map}
+use Rattle.std.proofs.lemmas.List.{length-append}
 use Rattle.std.specs.Global.{Vec}
 use Rattle.plist_state.specs.declared.note.Note.{Note}
 use Rattle.plist_state.specs.State.{Rest}
@@ -7,7 +7,7 @@ use Rattle.plist_state.specs.Shown.{Rows, rest_of}
 use Rattle.plist_state.specs.Undoing.{all_undone}
 use Rattle.plist_state.specs.Journal.{marks_of}
 use Rattle.plist_state.proofs.Lists.{wider_both}
-use Rattle.plist_state.proofs.Notes.{notes_of, popped, taken, past_marks, at_mark, journal_wider}
+use Rattle.plist_state.proofs.Notes.{popped, taken, gone_past, gone_to, journal_wider}
 use Rattle.plist_state.proofs.undo.undo_to.Goals as goal
 
 pub undo_all-requires : goal.undo_all-requires
@@ -17,19 +17,13 @@ undo_all-requires c =
 
 pub returns-then-len-mark-clause-past : goal.returns-then-len-mark-clause-past
 returns-then-len-mark-clause-past c =
-    let left : List (Vec Note) = c.pop.new.self.items in
-    let u : Rest = rest_of c.undo_all.new.stored in
-    past_marks (marks_of left) u _ c.loop-newest.invariant.0 c.args.mark
-    (popped left c.in-Some.newest c.loop-newest.marks.items c.in-Some.ensures.items (rest_of c.loop-newest.stored) u c.undo_all.ensures.after _ c.loop-newest.invariant.0 c.loop-newest.invariant.1)
-    (length-map left notes_of ∙ sym c.pop.new.self.ok.0 ∙ sym c.len.ensures ∙ c.if-len-mark.true)
+    gone_past c.pop.new.self.items c.in-Some.newest c.loop-newest.marks.items c.in-Some.ensures.items (rest_of c.loop-newest.stored) (rest_of c.undo_all.new.stored) c.undo_all.ensures.after
+    _ c.loop-newest.invariant.0 c.loop-newest.invariant.1 c.args.mark (sym c.pop.new.self.ok.0 ∙ sym c.len.ensures ∙ c.if-len-mark.true)
 
 pub returns-then-len-mark-clause-now : goal.returns-then-len-mark-clause-now
 returns-then-len-mark-clause-now c =
-    let left : List (Vec Note) = c.pop.new.self.items in
-    let u : Rest = rest_of c.undo_all.new.stored in
-    at_mark (marks_of left) u _ c.loop-newest.invariant.0 c.args.mark
-    (popped left c.in-Some.newest c.loop-newest.marks.items c.in-Some.ensures.items (rest_of c.loop-newest.stored) u c.undo_all.ensures.after _ c.loop-newest.invariant.0 c.loop-newest.invariant.1)
-    (length-map left notes_of ∙ sym c.pop.new.self.ok.0 ∙ sym c.len.ensures ∙ c.if-len-mark.true)
+    gone_to c.pop.new.self.items c.in-Some.newest c.loop-newest.marks.items c.in-Some.ensures.items (rest_of c.loop-newest.stored) (rest_of c.undo_all.new.stored) c.undo_all.ensures.after
+    _ c.loop-newest.invariant.0 c.loop-newest.invariant.1 c.args.mark (sym c.pop.new.self.ok.0 ∙ sym c.len.ensures ∙ c.if-len-mark.true)
 
 pub returns-then-len-mark-clause-journal : goal.returns-then-len-mark-clause-journal
 returns-then-len-mark-clause-journal c =

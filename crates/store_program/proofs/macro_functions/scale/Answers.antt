@@ -1,5 +1,4 @@
-use Rattle.std.proofs.Common.{◌≡◌, ℕ, ℤ, true, Some, refl, subst, sym, ap}
-use Rattle.lisp_object.specs.declared.datum.Datum
+use Rattle.std.proofs.Common.{◌≡◌, ℕ, ℤ, true, Some, refl, subst}
 use Rattle.lisp_object.specs.declared.datum.Datum.{Datum}
 use Rattle.lisp_object.specs.Object.{Object, integer, rational, character, text as text_object, symbol, uninterned, pair, vector}
 use Rattle.lisp_object.specs.Datum.{object_of, is_proper}

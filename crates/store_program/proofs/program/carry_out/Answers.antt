@@ -1,4 +1,4 @@
-use Rattle.std.proofs.Common.{None, inl, inr, ℕ, List, []}
+use Rattle.std.proofs.Common.{None, inl, inr, []}
 use Rattle.prevalence_store.specs.Functions.{functions_of}
 use Rattle.store_program.specs.declared.status.Status.TheVariants.{Fault}
 use Rattle.lisp_object.specs.declared.refusal.TheConstants.{DEVICE}
@@ -25,4 +25,4 @@ pub returns-in_default-clause-broken : goal.returns-in_default-clause-broken
 returns-in_default-clause-broken g c = λ text held number left holds is. nothing_of _ text held (g.O.Write.contents c.args.output.now) None c.args.asked.task holds
 
 pub returns-clause-carried : goal.returns-clause-carried
-returns-clause-carried g c = inr (c.in-Ok.disk, c.carry_out_on.ensures.carried)
+returns-clause-carried g c = inr (c.in-Ok.disk, c.carry_out_on-status.result.1, c.carry_out_on-status.ensures.carried)

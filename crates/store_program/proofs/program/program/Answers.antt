@@ -1,11 +1,10 @@
-use Rattle.std.proofs.Common.{◌≡◌, ◌∙◌, ℕ, List, [], Option, Some, ap, inl, inr, map, refl, subst, sym}
+use Rattle.std.proofs.Common.{◌∙◌, ℕ, List, [], Option, Some, ap, inl, inr, map, refl, subst, sym}
 use Rattle.clap.specs.Words.{Kinds, kind_of}
 use Rattle.prevalence_store.specs.Functions.{functions_of}
-use Rattle.store_program.specs.declared.status.Status.{Status}
 use Rattle.store_program.specs.declared.words.Task.{Task}
 use Rattle.store_program.specs.CommandLine.{asked_in, faults_of}
 use Rattle.store_program.specs.Commands.{TaskBreaksOff, reads_input}
-use Rattle.store_program.specs.Status.{EndsAfter, IsAfterWords, IsCarriedOut, TakesWords}
+use Rattle.store_program.specs.Status.{EndsAfter, IsAfterWords, TakesWords}
 use Rattle.store_program.proofs.CommandLineLaws.{line_is_taken}
 use Rattle.store_program.proofs.FoundWords.{same_folder, same_task}
 use Rattle.store_program.proofs.Reports.{moved_does, moved_read, moved_write, nothing_of, words_unread, words_unwritten}

@@ -1,4 +1,4 @@
-use Rattle.std.proofs.Common.{rules, ◌≡◌, ◌∙◌, None, Some, refl}
+use Rattle.std.proofs.Common.{rules, None, Some, refl}
 use Rattle.clap.specs.Words.{found_of}
 use Rattle.store_program.proofs.FoundWords.{asked_found}
 use Rattle.store_program.proofs.words.asked_by.Goals as goal

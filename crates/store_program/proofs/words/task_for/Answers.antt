@@ -1,4 +1,3 @@
-use Rattle.std.proofs.Common.{rules}
 use Rattle.clap.specs.Words.{found_of}
 use Rattle.store_program.proofs.FoundWords.{run_found}
 use Rattle.store_program.proofs.words.task_for.Goals as goal

@@ -2,7 +2,6 @@ use Rattle.std.proofs.Common.{◌≡◌, ap, ap₂, ◌∙◌, rules, codes, tru
 use Rattle.std.proofs.lemmas.Result.{IfOk-weaker}
 use Rattle.clap.specs.Words.{App, app_of, new_app, with_subcommand}
 use Rattle.clap.specs.Simple.{on_top}
-use Rattle.store_program.specs.CommandLine.{folder_line, run_line}
 use Rattle.store_program.proofs.words.whole_command.Goals as goal
 
 pub returns : goal.returns

@@ -1,10 +1,9 @@
 use Rattle.std.proofs.Common.{◌≡◌, ℕ, IsTrue, ap, sym, subst, ◌∙◌}
 use Rattle.std.specs.FinMap as finite
 use Rattle.package_table.specs.Table.{name_cmp, Package, IsExternal, entry_at}
-use Rattle.package_table.specs.Numbers.{Held, Numbered, number_at, with_numbered}
+use Rattle.package_table.specs.Numbers.{Numbered, number_at, with_numbered}
 use Rattle.package_table.specs.Entries.{entry_of}
-use Rattle.package_table.specs.Kept.{numbers_in, package_of}
-use Rattle.package_table.proofs.Places.{changed_table, same_table, same_packages, entry_there, number_there, external_there, no_package}
+use Rattle.package_table.proofs.Places.{numbered_changed, numbered_same, same_packages, entry_there, number_there, external_there, no_package}
 use Rattle.package_table.proofs.table.PackageTable.insert_entry.Goals as goal
 
 pub unreachable-requires : goal.unreachable-requires
@@ -17,14 +16,10 @@ insert-requires c shown =
 
 pub returns-clause-ok : goal.returns-clause-ok
 returns-clause-ok c =
-    let k : Held = c.in-Some.contents.now in
-    let w : Held = c.insert.new.self in
-    let now = c.in-Ok.ensures.ok in
-    let table = changed_table package_of c.self.inside.packages.entries (c.get_mut.follows.lender w).entries c.args.owner.now k w c.in-Some.ensures.value (c.get_mut.follows.holds w).0
-    (λ (k : Package). record k { symbols = finite.insert k.symbols c.args.name.now (entry_of c.args.symbol) }) (ap (λ (k : Held). k.0) now) in
-    let numbers = changed_table numbers_in c.self.inside.packages.entries (c.get_mut.follows.lender w).entries c.args.owner.now k w c.in-Some.ensures.value (c.get_mut.follows.holds w).0
-    (λ (m : finite.FinMap name_cmp ℕ). finite.insert m c.args.name.now c.args.symbol.number) (ap (λ (k : Held). k.1) now) in
-    (λ i. (table i, numbers i)) ∙ ap (λ (s : Numbered). with_numbered s c.args.owner.now c.args.name.now (entry_of c.args.symbol) c.args.symbol.number) c.self.view_is
+    numbered_changed c.self.inside.packages.entries (c.get_mut.follows.lender c.insert.new.self).entries c.args.owner.now c.in-Some.contents.now c.insert.new.self c.in-Some.ensures.value (c.get_mut.follows.holds c.insert.new.self).0
+    (λ (k : Package). record k { symbols = finite.insert k.symbols c.args.name.now (entry_of c.args.symbol) })
+    (λ (m : finite.FinMap name_cmp ℕ). finite.insert m c.args.name.now c.args.symbol.number) c.in-Ok.ensures.ok
+    ∙ ap (λ (s : Numbered). with_numbered s c.args.owner.now c.args.name.now (entry_of c.args.symbol) c.args.symbol.number) c.self.view_is
 
 pub returns-clause-before : goal.returns-clause-before
 returns-clause-before c =
@@ -44,9 +39,6 @@ returns-in_default-insert-clause-packages c p = subst (λ (s : Numbered). finite
 
 pub returns-in_default-insert-clause-err : goal.returns-in_default-insert-clause-err
 returns-in_default-insert-clause-err c =
-    let k : Held = c.in-Some.contents.now in
-    let w : Held = c.insert.new.self in
-    let now = c.in_default-insert.ensures.err in
-    let table = same_table package_of c.self.inside.packages.entries (c.get_mut.follows.lender w).entries c.args.owner.now k w c.in-Some.ensures.value (c.get_mut.follows.holds w).0 (ap (λ (k : Held). k.0) now) in
-    let numbers = same_table numbers_in c.self.inside.packages.entries (c.get_mut.follows.lender w).entries c.args.owner.now k w c.in-Some.ensures.value (c.get_mut.follows.holds w).0 (ap (λ (k : Held). k.1) now) in
-    (λ i. (table i, numbers i)) ∙ c.self.view_is
+    numbered_same c.self.inside.packages.entries (c.get_mut.follows.lender c.insert.new.self).entries c.args.owner.now c.in-Some.contents.now c.insert.new.self c.in-Some.ensures.value (c.get_mut.follows.holds c.insert.new.self).0
+    c.in_default-insert.ensures.err
+    ∙ c.self.view_is

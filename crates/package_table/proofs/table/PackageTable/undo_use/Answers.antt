@@ -1,20 +1,16 @@
 use Rattle.std.proofs.Common.{ap, ◌∙◌}
 use Rattle.std.specs.FinMap as finite
 use Rattle.package_table.specs.Table.{Package}
-use Rattle.package_table.specs.Numbers.{Held}
 use Rattle.package_table.specs.Undo.{used, undone}
 use Rattle.package_table.specs.Kept.{as_map, numbers_in, numbered_of, package_of}
-use Rattle.package_table.proofs.Places.{changed_table, same_table, unchanged_table}
+use Rattle.package_table.proofs.Places.{package_changed, unchanged_table}
 use Rattle.package_table.proofs.table.PackageTable.undo_use.Goals as goal
 
 pub returns : goal.returns
 returns c =
-    let k : Held = c.in-Some.contents.now in
-    let w : Held = c.remove_use.new.self in
-    let table = changed_table package_of c.self.inside.packages.entries (c.get_mut.follows.lender w).entries c.args.owner.now k w c.in-Some.ensures.value (c.get_mut.follows.holds w).0
-    (λ (k : Package). record k { uses = finite.remove k.uses c.args.used_name.now }) (ap (λ (k : Held). k.0) c.remove_use.ensures) in
-    let numbers = same_table numbers_in c.self.inside.packages.entries (c.get_mut.follows.lender w).entries c.args.owner.now k w c.in-Some.ensures.value (c.get_mut.follows.holds w).0 (ap (λ (k : Held). k.1) c.remove_use.ensures) in
-    (λ i. (table i, numbers i)) ∙ ap (undone (used c.args.owner.now c.args.used_name.now)) c.self.view_is
+    package_changed c.self.inside.packages.entries (c.get_mut.follows.lender c.remove_use.new.self).entries c.args.owner.now c.in-Some.contents.now c.remove_use.new.self c.in-Some.ensures.value (c.get_mut.follows.holds c.remove_use.new.self).0
+    (λ (k : Package). record k { uses = finite.remove k.uses c.args.used_name.now }) c.remove_use.ensures
+    ∙ ap (undone (used c.args.owner.now c.args.used_name.now)) c.self.view_is
 
 pub returns-in_default : goal.returns-in_default
 returns-in_default c =

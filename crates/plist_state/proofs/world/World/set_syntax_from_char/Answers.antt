@@ -1,34 +1,22 @@
-use Rattle.std.proofs.Common.{ap, ◌∙◌, refl}
-use Rattle.plist_state.specs.State.{State, Worlds, state_with}
+use Rattle.plist_state.specs.State.{State, state_with}
 use Rattle.plist_state.specs.Shown.{rest_of}
-use Rattle.plist_state.specs.Shown.{readtables_of}
-use Rattle.plist_state.specs.Changes.{with_syntax}
-use Rattle.plist_state.proofs.KeptWorld.{kept_gives, sound_syntax}
-use Rattle.plist_state.specs.Journal.{marks_of}
-use Rattle.plist_state.specs.Marked.{marked_states}
-use Rattle.plist_state.proofs.Lists.{wider_same}
-use Rattle.plist_state.proofs.Notes.{fits_now}
-use Rattle.plist_state.proofs.Marking.{kept_continued, refused_same}
+use Rattle.plist_state.proofs.KeptWorld.{sound_syntax}
+use Rattle.plist_state.proofs.Left.{left_kept, left_marked, left_refused}
 use Rattle.plist_state.proofs.world.World.set_syntax_from_char.Goals as goal
 
 pub invariant_of-self : goal.invariant_of-self
 invariant_of-self c =
-    let a = c.self.inside in
-    let s : State = state_with a.packages.0 (rest_of a.stored) in
-    record {
-      values = c.self.invariant.values;
-      marked = kept_continued a.packages.1 (marks_of a.marks.items) (rest_of a.stored) a.stored.properties.entries c.self.invariant.marked (marks_of c.set_syntax.new.marks.items) _ a.stored.properties.entries
-          (c.set_syntax.ensures.marked (rest_of a.stored)) (fits_now a.stored.properties.entries (rest_of a.stored) refl) (wider_same a.stored.properties.entries a.stored.properties.entries refl);
-      sound = kept_gives c.set_syntax.result s (readtables_of c.set_syntax.new.tables) (with_syntax s.readtables c.args.to.now c.args.c c.args.from.now c.args.d) c.set_syntax.ensures.gives c.set_syntax.ensures.unchanged c.self.invariant.sound
-          (sound_syntax s c.args.to.now c.args.c c.args.from.now c.args.d c.self.invariant.sound c.requires.to);
-    }
+    let s : State = state_with c.self.inside.packages.0 (rest_of c.self.inside.stored) in
+    let e = c.set_syntax.ensures in
+    left_kept c.self.inside c.set_syntax.new.tables c.set_syntax.new.marks c.set_syntax.result e.unchanged e.marked _ e.gives c.self.invariant
+    (sound_syntax s c.args.to.now c.args.c c.args.from.now c.args.d c.self.invariant.sound c.requires.to)
 
 pub returns-clause-marked : goal.returns-clause-marked
 returns-clause-marked c =
-    ap (marked_states c.self.inside.packages.1) (c.set_syntax.ensures.marked (rest_of c.self.inside.stored)).same ∙ ap (λ (w : Worlds). w.1) c.self.view_is
+    let e = c.set_syntax.ensures in
+    left_marked c.self.inside c.set_syntax.new.tables c.set_syntax.new.marks c.set_syntax.result e.unchanged e.marked c.args.self.now c.self.view_is
 
 pub returns-clause-unchanged : goal.returns-clause-unchanged
 returns-clause-unchanged c =
-    let a = c.self.inside in
-    refused_same c.set_syntax.result a.packages (marks_of a.marks.items) (marks_of c.set_syntax.new.marks.items) (rest_of a.stored) (readtables_of c.set_syntax.new.tables) _
-    c.set_syntax.ensures.unchanged (c.set_syntax.ensures.marked (rest_of a.stored)).same c.self.view_is
+    let e = c.set_syntax.ensures in
+    left_refused c.self.inside c.set_syntax.new.tables c.set_syntax.new.marks c.set_syntax.result e.unchanged e.marked c.args.self.now c.self.view_is

@@ -3,7 +3,7 @@ use Rattle.plist_state.specs.State.{State as World}
 use Rattle.form_reader.specs.Reader.{fed}
 use Rattle.prevalence_store.specs.Functions.{functions_of}
 use Rattle.prevalence_store.specs.Pending.{IsPending}
-use Rattle.prevalence_store.specs.Turns.{GoesOn}
+use Rattle.prevalence_store.specs.Turns.{GoesOn, pace_of}
 use Rattle.prevalence_store.proofs.store.Store.answer_piece.Given as goal
 
 -- what the bytes so far decided was answered
@@ -15,6 +15,6 @@ invariant-bytes g l = record {
   count : fed l.pending.reader ≤ fed l.fn.pending.reader + l.byte-index;
   goes : (w : World) → l.fn.self.world ≡ Some w → (bytes : List ℕ)
       → IsPending (functions_of g.R.Meaning.Meaning.names g.R.Meaning.Meaning.way g.R.Meaning.Meaning.answer) w l.mode l.fn.pending bytes
-      → GoesOn (functions_of g.R.Meaning.Meaning.names g.R.Meaning.Meaning.way g.R.Meaning.Meaning.answer) g.D.Disk.state l.fn.self l.self w l.mode (bytes ++ take l.byte-index l.piece)
+      → GoesOn (functions_of g.R.Meaning.Meaning.names g.R.Meaning.Meaning.way g.R.Meaning.Meaning.answer) g.D.Disk.state (pace_of l.fn.schedule) (pace_of l.schedule) l.fn.self l.self w l.mode (bytes ++ take l.byte-index l.piece)
       (g.W.Write.contents l.fn.writer) (g.W.Write.contents l.writer) l.pending [];
 }

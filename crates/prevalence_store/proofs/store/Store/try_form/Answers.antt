@@ -12,7 +12,7 @@ use Rattle.prevalence_store.proofs.store.Store.try_form.Goals as goal
 pub take_form-answer-requires-clause-fits : goal.take_form-answer-requires-clause-fits
 take_form-answer-requires-clause-fits g c = λ w known.
     let functions = functions_of g.R.Meaning.Meaning.names g.R.Meaning.Meaning.way g.R.Meaning.Meaning.answer in
-    let b = c.requires.read w known in
+    let b = c.requires.form.read w known in
     let inside = c.self.inside in
     let same = world_inside inside.failed inside.log inside.world.0 w inside.macros c.args.self.now c.self.view_is known in
     begins_fits functions w c.args.mode b.0 (object_of c.args.datum.now) c.args.own.now b.1.0 b.1.1 (subst (λ (v : World). IsSound v) same c.soundness.ensures.present)
@@ -20,21 +20,21 @@ take_form-answer-requires-clause-fits g c = λ w known.
 pub take_form-answer-requires-clause-within : goal.take_form-answer-requires-clause-within
 take_form-answer-requires-clause-within g c =
     let functions = functions_of g.R.Meaning.Meaning.names g.R.Meaning.Meaning.way g.R.Meaning.Meaning.answer in
-    let here = known_world c.args.self.now.world c.requires.known in
-    let b = c.requires.read here.0 here.1 in
+    let here = known_world c.args.self.now.world c.requires.form.known in
+    let b = c.requires.form.read here.0 here.1 in
     begins_within functions here.0 c.args.mode b.0 (object_of c.args.datum.now) c.args.own.now b.1.0 b.1.1
 
 pub take_form-answer-requires-clause-whole : goal.take_form-answer-requires-clause-whole
 take_form-answer-requires-clause-whole g c = λ w known.
     let functions = functions_of g.R.Meaning.Meaning.names g.R.Meaning.Meaning.way g.R.Meaning.Meaning.answer in
-    let b = c.requires.read w known in
+    let b = c.requires.form.read w known in
     begins_whole functions w c.args.mode b.0 (object_of c.args.datum.now) c.args.own.now b.1.0 b.1.1
 
 pub line-requires : goal.line-requires
 line-requires g c = record {
   proper =
       let functions = functions_of g.R.Meaning.Meaning.names g.R.Meaning.Meaning.way g.R.Meaning.Meaning.answer in
-      let here = known_world c.args.self.now.world c.requires.known in
+      let here = known_world c.args.self.now.world c.requires.form.known in
       let e = c.take_form-answer.ensures in
       answer_proper functions g.D.Disk.state c.args.self.now c.take_form-answer.new.self here.0 c.args.mode c.args.own.now (object_of c.args.datum.now) c.take_form-answer.result
       (record { accepted = e.accepted; cause = e.cause; unchanged = e.unchanged; fault = e.fault; survives = e.survives }) here.1 e.argument;
@@ -56,11 +56,12 @@ returns-in-Ok-write_line-clause-tries g c = λ w known text next begins.
     known begins.start begins.stop next (object_of c.args.datum.now) begins.reads c.args.own.now begins.is_own c.take_form-answer.result c.in-Ok.line.items
     (record { accepted = e.accepted; cause = e.cause; unchanged = e.unchanged; fault = e.fault; survives = e.survives }) c.in-Ok.ensures.line
     (subst (Writes (g.W.Write.contents c.args.writer.now) (g.W.Write.contents c.write_line.new.writer)) c.as_slice.ensures.value c.in-Ok-write_line.ensures.whole)
+    c.was_logged.result c.was_logged.ensures
 
 pub returns-in-Ok-write_line-clause-known : goal.returns-in-Ok-write_line-clause-known
 returns-in-Ok-write_line-clause-known g c =
     let functions = functions_of g.R.Meaning.Meaning.names g.R.Meaning.Meaning.way g.R.Meaning.Meaning.answer in
-    let here = known_world c.args.self.now.world c.requires.known in
+    let here = known_world c.args.self.now.world c.requires.form.known in
     let e = c.take_form-answer.ensures in
     line_known functions g.D.Disk.state c.args.self.now c.take_form-answer.new.self here.0 c.args.mode c.args.own.now (object_of c.args.datum.now) c.take_form-answer.result c.in-Ok.line.items
     (record { accepted = e.accepted; cause = e.cause; unchanged = e.unchanged; fault = e.fault; survives = e.survives }) c.in-Ok.ensures.line here.1

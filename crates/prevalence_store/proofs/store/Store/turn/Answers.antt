@@ -2,9 +2,11 @@ use Rattle.std.proofs.Common.{[], ◌∷◌, ◌++◌, refl, subst, arith}
 use Rattle.lisp_object.specs.Datum.{object_of}
 use Rattle.lisp_object.specs.declared.refusal.TheConstants.{NO_MEMORY}
 use Rattle.prevalence_store.specs.Functions.{functions_of}
-use Rattle.prevalence_store.specs.Pending.{Feeds}
+use Rattle.prevalence_store.specs.Pending.{Feeds, IsSoundFed}
 use Rattle.prevalence_store.specs.declared.input.Fed.{Fed}
+use Rattle.prevalence_store.specs.Turns.{pace_of}
 use Rattle.prevalence_store.proofs.Answering.{ends_at_once, fault_ended, form_begins, form_begins_here, form_left, form_taken, nothing_answered}
+use Rattle.prevalence_store.proofs.InTurn.{no_memory_paced}
 use Rattle.prevalence_store.proofs.Turning.{no_memory}
 use Rattle.prevalence_store.proofs.store.Store.turn.Goals as goal
 
@@ -12,35 +14,46 @@ pub returns-in-Err-clause-turns : goal.returns-in-Err-clause-turns
 returns-in-Err-clause-turns g c = λ w known bytes p more.
     let functions = functions_of g.R.Meaning.Meaning.names g.R.Meaning.Meaning.way g.R.Meaning.Meaning.answer in
     let held = g.W.Write.contents c.args.writer.now in
-    ends_at_once functions g.D.Disk.state c.args.self.now c.args.self.now w c.args.mode ((bytes ++ c.args.byte ∷ []) ++ more) held held NO_MEMORY (record {
-      serves = no_memory functions g.D.Disk.state g.met.D.Disk.sound c.args.self.now c.args.self.now w c.args.mode ((bytes ++ c.args.byte ∷ []) ++ more) held held known refl refl;
-      in_form = λ output. absurd (omega arith);
-    })
+    let text = (bytes ++ c.args.byte ∷ []) ++ more in
+    ends_at_once functions g.D.Disk.state (pace_of c.args.schedule.now) c.args.self.now c.args.self.now w c.args.mode text held held NO_MEMORY (
+      record {
+        serves = no_memory functions g.D.Disk.state g.met.D.Disk.sound c.args.self.now c.args.self.now w c.args.mode text held held known refl refl;
+        in_form = λ output. absurd (omega arith);
+      },
+      no_memory_paced functions g.D.Disk.state g.met.D.Disk.sound c.args.self.now c.args.self.now w c.args.mode text held held known refl refl (pace_of c.args.schedule.now),
+    )
 
 pub returns-in-Nothing-clause-turns : goal.returns-in-Nothing-clause-turns
 returns-in-Nothing-clause-turns g c = λ w known bytes p.
     let functions = functions_of g.R.Meaning.Meaning.names g.R.Meaning.Meaning.way g.R.Meaning.Meaning.answer in
     let text = bytes ++ c.args.byte ∷ [] in
-    nothing_answered functions g.D.Disk.state g.met.D.Disk.sound c.args.self.now w c.args.mode text (g.W.Write.contents c.args.writer.now) c.feed.new.pending known
+    nothing_answered functions g.D.Disk.state g.met.D.Disk.sound (pace_of c.args.schedule.now) c.args.self.now w c.args.mode text (g.W.Write.contents c.args.writer.now) c.feed.new.pending known
     (subst (λ (f : Fed). Feeds functions w c.args.mode c.feed.new.pending text f) c.in-Nothing.is (c.in-Ok.ensures.feeds w known bytes p))
 
 pub returns-in-Refused-clause-turns : goal.returns-in-Refused-clause-turns
 returns-in-Refused-clause-turns g c = λ w known bytes p.
     let functions = functions_of g.R.Meaning.Meaning.names g.R.Meaning.Meaning.way g.R.Meaning.Meaning.answer in
     let text = bytes ++ c.args.byte ∷ [] in
-    fault_ended functions g.D.Disk.state g.met.D.Disk.sound c.args.self.now c.answer_fault.new.self w c.args.mode text
+    fault_ended functions g.D.Disk.state g.met.D.Disk.sound (pace_of c.args.schedule.now) (pace_of c.args.schedule.now) c.args.self.now c.answer_fault.new.self w c.args.mode text
     (g.W.Write.contents c.args.writer.now) (g.W.Write.contents c.answer_fault.new.writer) c.feed.new.pending c.in-Refused.code known
     (subst (λ (f : Fed). Feeds functions w c.args.mode c.feed.new.pending text f) c.in-Refused.is (c.in-Ok.ensures.feeds w known bytes p))
     c.answer_fault.ensures.same c.answer_fault.result c.answer_fault.ensures.answers
 
-pub answer_form-requires-clause-read : goal.answer_form-requires-clause-read
-answer_form-requires-clause-read g c = λ w known.
-    let functions = functions_of g.R.Meaning.Meaning.names g.R.Meaning.Meaning.way g.R.Meaning.Meaning.answer in
-    let p = c.requires.pending w known in
-    let text = p.0 ++ c.args.byte ∷ [] in
-    let f = c.in-Form in
-    let has = subst (λ (fed : Fed). Feeds functions w c.args.mode c.feed.new.pending text fed) f.is (c.in-Ok.ensures.feeds w known p.0 p.1) in
-    (text, (has.next, form_begins_here functions w c.args.mode c.feed.new.pending text (object_of f.datum) f.own.items f.left has c.as_slice.result.now c.as_slice.ensures.value))
+pub answer_form-requires : goal.answer_form-requires
+answer_form-requires g c = record {
+  form = record {
+    known = c.requires.known;
+    read = λ w known.
+        let functions = functions_of g.R.Meaning.Meaning.names g.R.Meaning.Meaning.way g.R.Meaning.Meaning.answer in
+        let p = c.requires.pending w known in
+        let text = p.0 ++ c.args.byte ∷ [] in
+        let f = c.in-Form in
+        let has = subst (λ (fed : Fed). Feeds functions w c.args.mode c.feed.new.pending text fed) f.is (c.in-Ok.ensures.feeds w known p.0 p.1) in
+        (text, (has.next, form_begins_here functions w c.args.mode c.feed.new.pending text (object_of f.datum) f.own.items f.left has c.as_slice.result.now c.as_slice.ensures.value));
+    proper = (subst IsSoundFed c.in-Form.is c.in-Ok.ensures.sound).0;
+    sound = (subst IsSoundFed c.in-Form.is c.in-Ok.ensures.sound).1;
+  };
+}
 
 pub returns-in-Some-clause-turns : goal.returns-in-Some-clause-turns
 returns-in-Some-clause-turns g c = λ w known bytes p more.
@@ -48,7 +61,7 @@ returns-in-Some-clause-turns g c = λ w known bytes p more.
     let text = bytes ++ c.args.byte ∷ [] in
     let f = c.in-Form in
     let has = subst (λ (fed : Fed). Feeds functions w c.args.mode c.feed.new.pending text fed) f.is (c.in-Ok.ensures.feeds w known bytes p) in
-    ends_at_once functions g.D.Disk.state c.args.self.now c.answer_form.new.self w c.args.mode (text ++ more) (g.W.Write.contents c.args.writer.now) (g.W.Write.contents c.answer_form.new.writer) _
+    ends_at_once functions g.D.Disk.state (pace_of c.args.schedule.now) c.args.self.now c.answer_form.new.self w c.args.mode (text ++ more) (g.W.Write.contents c.args.writer.now) (g.W.Write.contents c.answer_form.new.writer) _
     (c.in-Some.ensures.answers w known (text ++ more) has.next
     (form_begins functions w c.args.mode c.feed.new.pending text (object_of f.datum) f.own.items f.left has c.as_slice.result.now more c.as_slice.ensures.value))
 
@@ -58,7 +71,7 @@ returns-then-left-clause-turns g c = λ w known bytes p.
     let text = bytes ++ c.args.byte ∷ [] in
     let f = c.in-Form in
     let has = subst (λ (fed : Fed). Feeds functions w c.args.mode c.feed.new.pending text fed) f.is (c.in-Ok.ensures.feeds w known bytes p) in
-    form_left functions w c.args.mode c.feed.new.pending text (object_of f.datum) f.own.items f.left has g.D.Disk.state c.args.self.now c.answer_form.new.self
+    form_left functions w c.args.mode c.feed.new.pending text (object_of f.datum) f.own.items f.left has g.D.Disk.state (pace_of c.args.schedule.now) (pace_of c.answer_form.new.schedule) c.args.self.now c.answer_form.new.self
     (g.W.Write.contents c.args.writer.now) (g.W.Write.contents c.answer_form.new.writer) bytes c.args.byte refl
     (c.in-None.ensures.answers w known text has.next
     (form_begins_here functions w c.args.mode c.feed.new.pending text (object_of f.datum) f.own.items f.left has c.as_slice.result.now c.as_slice.ensures.value)) c.if-left.true
@@ -69,7 +82,7 @@ returns-clause-turns g c = λ w known bytes p.
     let text = bytes ++ c.args.byte ∷ [] in
     let f = c.in-Form in
     let has = subst (λ (fed : Fed). Feeds functions w c.args.mode c.feed.new.pending text fed) f.is (c.in-Ok.ensures.feeds w known bytes p) in
-    form_taken functions w c.args.mode c.feed.new.pending text (object_of f.datum) f.own.items f.left has g.D.Disk.state c.args.self.now c.answer_form.new.self
+    form_taken functions w c.args.mode c.feed.new.pending text (object_of f.datum) f.own.items f.left has g.D.Disk.state (pace_of c.args.schedule.now) (pace_of c.answer_form.new.schedule) c.args.self.now c.answer_form.new.self
     (g.W.Write.contents c.args.writer.now) (g.W.Write.contents c.answer_form.new.writer)
     (c.in-None.ensures.answers w known text has.next
     (form_begins_here functions w c.args.mode c.feed.new.pending text (object_of f.datum) f.own.items f.left has c.as_slice.result.now c.as_slice.ensures.value)) c.if-left.false
