@@ -38,6 +38,3 @@ mod symbols;
 
 pub use laws::printed_symbols_are_found;
 pub use printer::print;
-
-#[cfg(test)]
-mod tests;

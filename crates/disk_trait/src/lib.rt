@@ -29,6 +29,3 @@ pub use half::Half;
 pub use host::HostDisk;
 pub use memory::MemoryDisk;
 pub use once::OnceDisk;
-
-#[cfg(test)]
-mod tests;

@@ -22,4 +22,3 @@ pub mod Turning
 pub mod Ending
 pub mod Standing
 pub mod Reader
-pub mod Trial

@@ -80,6 +80,3 @@ pub use limits::Limits;
 pub use reader::{FormReader, Step};
 pub use way::{Function, Keep, Way};
 pub use whole::read_one;
-
-#[cfg(test)]
-mod tests;

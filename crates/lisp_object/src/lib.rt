@@ -65,6 +65,3 @@ pub use bytes::Bytes;
 pub use datum::Datum;
 pub use items::Items;
 pub use ratio::Ratio;
-
-#[cfg(test)]
-mod tests;

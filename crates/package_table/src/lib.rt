@@ -59,8 +59,3 @@ pub use laws::look_up_laws;
 pub use packages::Packages;
 pub use resolve::Resolved;
 pub use table::PackageTable;
-
-#[cfg(test)]
-mod tests;
-#[cfg(test)]
-mod write_tests;

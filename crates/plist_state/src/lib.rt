@@ -52,8 +52,3 @@ pub use property::Property;
 pub use symbol::Symbol;
 pub use tables::{MAX_READTABLES, STANDARD, USER};
 pub use world::World;
-
-#[cfg(test)]
-mod mark_tests;
-#[cfg(test)]
-mod tests;

@@ -47,6 +47,3 @@ pub use entry::CharacterEntry;
 pub use names::FnName;
 pub use refusal::DispatchRefusal;
 pub use table::{Case, Readtable};
-
-#[cfg(test)]
-mod tests;

@@ -39,6 +39,3 @@ pub use error::SnapshotError;
 pub use laws::{one_text_one_state, printed_objects_read_back, snapshot_lines_are_read};
 pub use reader::read;
 pub use writer::write;
-
-#[cfg(test)]
-mod tests;

@@ -25,6 +25,3 @@ pub use kind::{Standard, StdGather, radix_of, standard_of, way};
 pub use refusal::{FinishError, StdRefusal};
 pub use values::finish;
 pub use vectors::LARGEST_REPEATED_VECTOR;
-
-#[cfg(test)]
-mod tests;

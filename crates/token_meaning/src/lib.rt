@@ -51,6 +51,3 @@ pub use case::fold_case;
 pub use laws::{numbers_are_concatenations, rationals_are_concatenations};
 pub use refusal::{MeaningError, MeaningRefusal, scan_refusal_number};
 pub use token::{TokenMeaning, TokenName, meaning, rational};
-
-#[cfg(test)]
-mod tests;

@@ -37,6 +37,3 @@ pub use laws::{escaped_token_laws, token_laws};
 pub use mark::{Mark, Marks, characters};
 pub use refusal::ScanRefusal;
 pub use scan::{Fed, TokenScan};
-
-#[cfg(test)]
-mod tests;

@@ -1,5 +1,4 @@
 pub mod Calls
 pub mod Sound
 pub mod Registry
-pub mod Sample
 pub mod Known

@@ -32,6 +32,3 @@ pub use functions::MacroFunctions;
 pub use meaning::Meaning;
 pub use registry::{Cause, Macros, Refusal};
 pub use stored::MacroFn;
-
-#[cfg(test)]
-mod tests;

@@ -1,0 +1,93 @@
+//! A meaning of three functions, and what one of them computes.
+ghost use Rattle.std.specs.Prelude.{◌≡◌};
+ghost use Rattle.user_macros.specs.Calls.{answer_of, call_of};
+ghost use Rattle.user_macros.specs.Sound.{IsSoundCall};
+ghost use Rattle.reader_tests.specs.Sample.{sample_names, sample_way, sample_answer, scaled};
+
+use user_macros::{Answer, Call, Gather, Gathered, Meaning};
+use lisp_object::Datum;
+use readtable_core::FnName;
+
+#[derive(Drop)]
+pub struct Sample {
+    names: [FnName; 3],
+    ghost are: { names ≡ sample_names },
+}
+
+impl Sample {
+    pub fn new() -> Sample {
+        Sample {
+            names: [
+                FnName::new(b"NOTE").unwrap(),
+                FnName::new(b"CLOSE").unwrap(),
+                FnName::new(b"SCALE").unwrap(),
+            ],
+        }
+    }
+}
+
+impl Meaning for Sample {
+    ghost use Rattle.std.proofs.Common.{rules};
+
+    ghost names = { sample_names };
+
+    ghost way = { sample_way };
+
+    ghost answer = { sample_answer };
+
+    ghost gathers = { λ name. Prim.search rules };
+
+    fn names(&self) -> &[FnName] {
+        &self.names
+    }
+
+    fn gather(&self, name: FnName) -> Option<Gather> {
+        match name.as_bytes() {
+            b"NOTE" => Some(Gather::Line),
+            b"CLOSE" => Some(Gather::Nothing),
+            b"SCALE" => Some(Gather::Next),
+            _ => None,
+        }
+    }
+}
+
+#[tactic(auto, using(lisp_object::proofs::Objects::object_laws))]
+pub fn scale(call: &Call) -> Answer
+    requires { IsSoundCall call.now }
+    ensures { answer_of result ≡ scaled call.now.number (call_of call.now).gathered }
+{
+    let Some(number) = call.number else {
+        return Answer::Refused(2);
+    };
+    let Gathered::One(datum) = &call.gathered else {
+        return Answer::Refused(2);
+    };
+    let Datum::Integer(integer) = datum else {
+        return Answer::Refused(2);
+    };
+    match integer.checked_mul(i128::from(number)) {
+        Some(product) => Answer::One(Datum::Integer(product)),
+        None => Answer::Refused(2),
+    }
+}
+
+/// A call of SCALE with this number, where it is one, on the integer.
+#[tactic(auto, using(lisp_object::proofs::Properness::proper_laws))]
+pub fn scale_call(number: Option<u32>, integer: i128) -> Call
+    ensures { IsSoundCall result }
+{
+    match number {
+        Some(n) if n <= 999_999 => Call {
+            character: b'@',
+            sub: Some(b'S'),
+            number: Some(n),
+            gathered: Gathered::One(Datum::Integer(integer)),
+        },
+        _ => Call {
+            character: b'@',
+            sub: Some(b'S'),
+            number: None,
+            gathered: Gathered::One(Datum::Integer(integer)),
+        },
+    }
+}

@@ -1,0 +1,214 @@
+//! Rows: forms, empty texts and refusals with their places, a byte at a time, and the laws.
+mod calls;
+mod hostile;
+mod trial;
+
+use form_reader::{
+    FormReader, Limits, ReadOutcome, Step, empty_texts_are_discarded, forms_are_decided,
+    forms_are_framed, forms_fit, only_what_is_found_matters, read_one, reading_goes_on,
+    refusals_are_decided, spaced_forms_are_framed,
+};
+use package_table::Packages;
+use readtable_core::Readtable;
+use std::test::Fail;
+use user_macros::Macros;
+use user_macros::example::Notes;
+
+#[test]
+fn limits_and_laws(rt: HostRuntime) {
+    let rows = [
+        (Limits::form(), 65_536, 4_096, 100),
+        (Limits::snapshot(), 4_294_967_295, 8_192, 104),
+    ];
+    for (limits, text, token, nesting) in rows {
+        assert_eq!(rt; limits.text, text);
+        assert_eq!(rt; limits.token, token);
+        assert_eq!(rt; limits.nesting, nesting);
+    }
+    forms_are_framed();
+    spaced_forms_are_framed();
+    forms_are_decided();
+    refusals_are_decided();
+    empty_texts_are_discarded();
+    forms_fit();
+    only_what_is_found_matters();
+    reading_goes_on();
+}
+
+// What a text begins with in the standard readtable, where `]` is whitespace.
+fn read(rt: &HostRuntime, text: &[u8]) -> Result<ReadOutcome, Fail> {
+    let mut table = Readtable::standard(rt.alloc())?;
+    table.copy_syntax(b']', b' ')?;
+    let packages = Packages::new(rt.alloc())?;
+    let macros = Macros::new(rt.alloc(), Notes::new());
+    let Some(current) = packages.find(b"COMMON-LISP-USER") else {
+        return Err(Fail::from("no package"));
+    };
+    let limits = Limits::form();
+    let outcome = read_one(
+        rt.alloc(),
+        limits,
+        &table,
+        &packages,
+        current,
+        &macros,
+        text,
+    )?;
+    Ok(outcome)
+}
+
+// The number and the place of a refusal.
+fn refused(rt: &HostRuntime, text: &[u8]) -> Result<(usize, usize), Fail> {
+    match read(rt, text)? {
+        ReadOutcome::Refused { code, at } => Ok((usize::from(code), at)),
+        ReadOutcome::Form { .. } => Err(Fail::from("a form")),
+        ReadOutcome::Empty => Err(Fail::from("empty")),
+    }
+}
+
+// The start and the end of a form, and where the next begins.
+fn form(rt: &HostRuntime, text: &[u8]) -> Result<(usize, usize, usize), Fail> {
+    match read(rt, text)? {
+        ReadOutcome::Form {
+            start,
+            end,
+            next,
+            ..
+        } => Ok((start, end, next)),
+        ReadOutcome::Refused { .. } => Err(Fail::from("a refusal")),
+        ReadOutcome::Empty => Err(Fail::from("empty")),
+    }
+}
+
+// The next field of a row, and what is after its comma.
+fn field(row: &str) -> (&str, &str) {
+    row.split_once(',').unwrap_or((row, ""))
+}
+
+// The same of a field that is a number.
+fn number(row: &str) -> (usize, &str) {
+    let (word, rest) = field(row);
+    (word.parse().unwrap_or(usize::MAX), rest)
+}
+
+// A number, a place, and the text that is refused so.
+const REFUSED: &str = "\
+1,2,(A
+1,2,\"A
+1,1,'
+1,3,#12
+1,3,#|A
+3,1,A\x08
+4,0,)
+4,2,(')
+5,8,(A . B C)
+5,4,(A .)
+5,10,(A . #|x|#)
+5,1,.
+14,1,#!
+15,7,#9999999(
+6,3,...
+7,3,1.5
+8,39,170141183460469231731687303715884105728
+9,3,1/0
+10,5,A:B:C
+11,6,NOPE:X
+12,12,CL-USER:LIST
+13,8,CL::FROB
+15,1,#R11
+16,5,#\\foo
+17,3,#B2
+18,9,#2(A B C)
+19,2,#:
+25,0,,A
+25,3,(A ,B)";
+
+#[test]
+fn texts_that_are_refused(rt: HostRuntime) -> Result<(), Fail> {
+    for row in REFUSED.split('\n') {
+        let (code, rest) = number(row);
+        let (place, text) = number(rest);
+        assert!(rt; refused(&rt, text.as_bytes())? == (code, place), "{row}");
+    }
+    assert!(rt; refused(&rt, b"A\xC3")? == (2, 1));
+    assert!(rt; refused(&rt, b"1.5\xC3")? == (2, 3));
+    Ok(())
+}
+
+// The start and the end of a form, where the next begins, and the text.
+const FORMS: &str = "\
+0,1,2,A B
+0,1,1,A
+0,2,2,'A(
+6,13,13,#|x|# (A . B)
+0,16,16,#(A #\\Space \"b\")
+0,7,8,'#|x|#A\x20
+0,14,14,#0000000003(A)
+0,1,1,A\"
+0,3,3,#:1
+0,6,7,|a b|c\x20";
+
+#[test]
+fn forms_and_where_the_next_begins(rt: HostRuntime) -> Result<(), Fail> {
+    for row in FORMS.split('\n') {
+        let (start, rest) = number(row);
+        let (end, rest) = number(rest);
+        let (next, text) = number(rest);
+        assert!(rt; form(&rt, text.as_bytes())? == (start, end, next), "{row}");
+    }
+    assert!(rt; form(&rt, b"(LIST 1)\n")? == (0, 8, 8));
+    assert!(rt; form(&rt, b" ;x\n A]")? == (5, 6, 7));
+    assert!(rt; matches!(read(&rt, b" ;x")?, ReadOutcome::Empty));
+    Ok(())
+}
+
+// What a reader answers to the last byte of the text, and then to its end.
+fn last_answers(rt: &HostRuntime, text: &[u8]) -> Result<(Step, ReadOutcome), Fail> {
+    let table = Readtable::standard(rt.alloc())?;
+    let packages = Packages::new(rt.alloc())?;
+    let macros = Macros::new(rt.alloc(), Notes::new());
+    let Some(current) = packages.find(b"COMMON-LISP-USER") else {
+        return Err(Fail::from("no package"));
+    };
+    let mut reader = FormReader::new(rt.alloc(), Limits::form());
+    let mut last = Step::More;
+    for byte in text {
+        last = reader.step(*byte, &table, &packages, current, &macros)?;
+    }
+    let outcome = reader.finish(&table, &packages, current, &macros)?;
+    Ok((last, outcome))
+}
+
+// The start and the end of the form that is answered, and where the next begins.
+fn form_of(step: &Step) -> Option<(usize, usize, usize)> {
+    match step {
+        Step::Form {
+            start,
+            end,
+            next,
+            ..
+        } => Some((*start, *end, *next)),
+        Step::More | Step::Refused { .. } => None,
+    }
+}
+
+#[test]
+fn a_reader_answers_before_the_next_byte(rt: HostRuntime) -> Result<(), Fail> {
+    assert!(rt; matches!(last_answers(&rt, b"'")?.0, Step::More));
+    assert!(rt; matches!(last_answers(&rt, b"'A")?.0, Step::More));
+    let (last, outcome) = last_answers(&rt, b"'A(")?;
+    assert!(rt; form_of(&last) == Some((0, 2, 2)));
+    assert!(rt; matches!(outcome, ReadOutcome::Empty));
+    Ok(())
+}
+
+#[test]
+fn a_refusal_is_answered_again(rt: HostRuntime) -> Result<(), Fail> {
+    assert!(rt; matches!(last_answers(&rt, b"A")?.0, Step::More));
+    let (refused, _) = last_answers(&rt, b"A\xC3")?;
+    assert!(rt; matches!(refused, Step::Refused { code: 2, at: 1 }));
+    let (again, outcome) = last_answers(&rt, b"A\xC3B")?;
+    assert!(rt; matches!(again, Step::Refused { code: 2, at: 1 }));
+    assert!(rt; matches!(outcome, ReadOutcome::Refused { code: 2, at: 1 }));
+    Ok(())
+}

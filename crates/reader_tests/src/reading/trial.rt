@@ -1,0 +1,204 @@
+//! A meaning of functions in each way of gathering, and of some that answer what may not be answered.
+ghost use Rattle.std.specs.Prelude.{◌≡◌, pos, true, IfOk, IsTrue};
+ghost use Rattle.readtable_core.specs.Names.{is_function_name};
+ghost use Rattle.std.specs.List.{list_all};
+ghost use Rattle.lisp_object.specs.Ascii.{is_ascii};
+ghost use Rattle.lisp_object.specs.Datum.{is_proper, object_of};
+ghost use Rattle.lisp_object.specs.Object.{integer, nil, pair, symbol};
+ghost use Rattle.user_macros.specs.Calls.{answer_of, call_of, improper, value};
+ghost use Rattle.user_macros.specs.Sound.{IsSoundCall};
+ghost use Rattle.reader_tests.specs.Trial.{trial_names, trial_way, trial_answer, count, named, wrapped};
+
+use lisp_object::{Bytes, Datum, Items};
+use readtable_core::FnName;
+use std::alloc::{AllocError, Global};
+use user_macros::{Answer, Call, Gather, Gathered, Meaning};
+
+/// The name of these bytes.
+pub fn name_of(bytes: &[u8]) -> FnName
+    requires { IsTrue (is_function_name bytes.now) }
+    ensures { result ≡ bytes.now }
+{
+    FnName::new(bytes).unwrap()
+}
+
+#[derive(Drop)]
+pub struct Trial {
+    names: [FnName; 18],
+    ghost are: { names ≡ trial_names },
+}
+
+impl Trial {
+    pub fn new() -> Trial {
+        Trial {
+            names: [
+                name_of(b"NONE"),
+                name_of(b"NEXT"),
+                name_of(b"UNTIL"),
+                name_of(b"TEXT"),
+                name_of(b"SAME"),
+                name_of(b"LINE"),
+                name_of(b"TOKEN"),
+                name_of(b"MUTE"),
+                name_of(b"LOW"),
+                name_of(b"ALIEN"),
+                name_of(b"NICKNAME"),
+                name_of(b"FRESH"),
+                name_of(b"HIGH"),
+                name_of(b"OWN"),
+                name_of(b"OTHER"),
+                name_of(b"IMPROPER"),
+                name_of(b"WRAP"),
+                name_of(b"NAME"),
+            ],
+        }
+    }
+}
+
+impl Meaning for Trial {
+    ghost use Rattle.reader_tests.specs.Trial.{rows, some_way};
+
+    ghost names = { trial_names };
+
+    ghost way = { trial_way };
+
+    ghost answer = { trial_answer };
+
+    ghost gathers = { some_way rows };
+
+    fn names(&self) -> &[FnName] {
+        &self.names
+    }
+
+    fn gather(&self, name: FnName) -> Option<Gather> {
+        if b"NONE".as_slice() == name.as_bytes() {
+            return Some(Gather::Nothing);
+        }
+        if b"NEXT".as_slice() == name.as_bytes() {
+            return Some(Gather::Next);
+        }
+        if b"UNTIL".as_slice() == name.as_bytes() {
+            return Some(Gather::Until(b']'));
+        }
+        if b"TEXT".as_slice() == name.as_bytes() {
+            return Some(Gather::Text(b'}'));
+        }
+        if b"SAME".as_slice() == name.as_bytes() {
+            return Some(Gather::TextSame);
+        }
+        if b"LINE".as_slice() == name.as_bytes() {
+            return Some(Gather::Line);
+        }
+        if b"TOKEN".as_slice() == name.as_bytes() {
+            return Some(Gather::Token);
+        }
+        if b"MUTE".as_slice() == name.as_bytes() {
+            return Some(Gather::Token);
+        }
+        if b"LOW".as_slice() == name.as_bytes() {
+            return Some(Gather::Nothing);
+        }
+        if b"ALIEN".as_slice() == name.as_bytes() {
+            return Some(Gather::Nothing);
+        }
+        if b"NICKNAME".as_slice() == name.as_bytes() {
+            return Some(Gather::Nothing);
+        }
+        if b"FRESH".as_slice() == name.as_bytes() {
+            return Some(Gather::Nothing);
+        }
+        if b"HIGH".as_slice() == name.as_bytes() {
+            return Some(Gather::Nothing);
+        }
+        if b"OWN".as_slice() == name.as_bytes() {
+            return Some(Gather::Nothing);
+        }
+        if b"OTHER".as_slice() == name.as_bytes() {
+            return Some(Gather::Nothing);
+        }
+        if b"IMPROPER".as_slice() == name.as_bytes() {
+            return Some(Gather::Nothing);
+        }
+        if b"WRAP".as_slice() == name.as_bytes() {
+            return Some(Gather::Next);
+        }
+        if b"NAME".as_slice() == name.as_bytes() {
+            return Some(Gather::Text(b'}'));
+        }
+        None
+    }
+}
+
+/// How much was gathered.
+#[tactic(auto, using(lisp_object::proofs::Objects::object_laws))]
+pub fn counted(call: &Call) -> Answer
+    ensures { answer_of result ≡ value (integer (pos (count (call_of call.now).gathered))) }
+{
+    let count = match &call.gathered {
+        Gathered::Nothing => 0,
+        Gathered::One(_) => 1,
+        Gathered::Many(items) => items.as_slice().len(),
+        Gathered::Text(bytes) => bytes.as_slice().len(),
+    };
+    Answer::One(Datum::Integer(count as i128))
+}
+
+/// The symbol of this home and name.
+#[tactic(auto, using(lisp_object::proofs::Objects::object_laws, lisp_object::proofs::Properness::proper_laws))]
+pub fn symbol(alloc: Global, home: &[u8], name: &[u8]) -> Result<Answer, AllocError>
+    requires { (list_all is_ascii home.now ≡ true) × (list_all is_ascii name.now ≡ true) }
+    ensures { IfOk result (λ a. answer_of a ≡ value (symbol home.now name.now)) }
+{
+    Ok(Answer::One(Datum::Symbol {
+        package: Bytes::from_slice(alloc, home)?,
+        name: Bytes::from_slice(alloc, name)?,
+    }))
+}
+
+/// What was gathered, in two lists.
+pub fn wrapped(alloc: Global, call: &Call) -> Result<Answer, AllocError>
+    requires { IsSoundCall call.now }
+    ensures { IfOk result (λ a. answer_of a ≡ wrapped (call_of call.now).gathered) }
+{
+    match &call.gathered {
+        Gathered::One(datum) => {
+            let inner = listed(alloc, datum.copy(alloc)?)?;
+            Ok(Answer::One(listed(alloc, inner)?))
+        }
+        _ => Ok(Answer::Nothing),
+    }
+}
+
+#[tactic(auto, using(lisp_object::proofs::Objects::object_laws, lisp_object::proofs::Properness::proper_laws))]
+fn listed(alloc: Global, datum: Datum) -> Result<Datum, AllocError>
+    requires { is_proper datum ≡ true }
+    ensures object { IfOk result (λ d. object_of d ≡ pair (object_of datum) nil) }
+    ensures proper { IfOk result (λ d. is_proper d ≡ true) }
+{
+    let mut items = Items::new(alloc);
+    items.push(datum)?;
+    Ok(Datum::List { items, tail: None })
+}
+
+/// The symbol whose name was gathered.
+#[tactic(auto, using(lisp_object::proofs::Sound::all_ascii))]
+pub fn named(alloc: Global, call: &Call) -> Result<Answer, AllocError>
+    requires { IsSoundCall call.now }
+    ensures { IfOk result (λ a. answer_of a ≡ named (call_of call.now).gathered) }
+{
+    match &call.gathered {
+        Gathered::Text(name) => symbol(alloc, b"COMMON-LISP-USER", name.as_slice()),
+        _ => Ok(Answer::Nothing),
+    }
+}
+
+/// A list without an item, which is not proper.
+#[tactic(auto, using(lisp_object::proofs::Properness::proper_laws))]
+pub fn empty_list(alloc: Global) -> Answer
+    ensures { answer_of result ≡ improper }
+{
+    Answer::One(Datum::List {
+        items: Items::new(alloc),
+        tail: None,
+    })
+}

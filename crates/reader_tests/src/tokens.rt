@@ -1,0 +1,226 @@
+//! Rows of tokens.
+use token_meaning::{
+    MeaningError, MeaningRefusal, TokenMeaning, TokenName, fold_case, meaning, rational,
+    scan_refusal_number,
+};
+use lisp_object::{Bytes, Datum};
+use readtable_core::Case;
+use std::alloc::{AllocError, Global};
+use std::test::Fail;
+use token_scan::{Mark, ScanRefusal};
+
+// A token of characters that were not escaped.
+fn plain(alloc: Global, text: &[u8]) -> Result<Vec<Mark>, AllocError> {
+    text.iter().map(|c| Mark::Plain(*c)).collect(alloc)
+}
+
+// The meaning of a token, which has a mark.
+fn read(alloc: Global, marks: &[Mark], base: u8) -> Result<TokenMeaning, MeaningError> {
+    if marks.is_empty() || base < 2 || base > 36 {
+        return Err(MeaningError::OutOfMemory);
+    }
+    meaning(alloc, marks, base)
+}
+
+// The numerator and the denominator of a number.
+fn parts(datum: &Datum) -> Option<(i128, u128)> {
+    match datum {
+        Datum::Integer(n) => Some((*n, 1)),
+        Datum::Rational(ratio) => Some((ratio.numerator(), ratio.denominator())),
+        _ => None,
+    }
+}
+
+fn number(meaning: &TokenMeaning) -> Option<(i128, u128)> {
+    match meaning {
+        TokenMeaning::Number(datum) => parts(datum),
+        _ => None,
+    }
+}
+
+#[test]
+fn numbers(rt: HostRuntime) -> Result<(), Fail> {
+    let rows: [(&[u8], u8, i128, u128); 12] = [
+        (b"1.", 10, 1, 1),
+        (b"+1", 10, 1, 1),
+        (b"-0/5", 10, 0, 1),
+        (b"1e5", 16, 485, 1),
+        (b"rZ", 36, 1007, 1),
+        (b"29.", 2, 29, 1),
+        (b"101.", 2, 101, 1),
+        (
+            b"-170141183460469231731687303715884105728",
+            10,
+            i128::MIN,
+            1,
+        ),
+        (b"170141183460469231731687303715884105727", 10, i128::MAX, 1),
+        (b"+4/6", 10, 2, 3),
+        (b"-4/6", 10, -2, 3),
+        (
+            b"1/340282366920938463463374607431768211455",
+            10,
+            1,
+            u128::MAX,
+        ),
+    ];
+    for (text, base, numerator, denominator) in rows {
+        let marks = plain(rt.alloc(), text)?;
+        let found = read(rt.alloc(), marks.as_slice(), base).map_err(|_| "no meaning")?;
+        assert_eq!(rt; number(&found), Some((numerator, denominator)), "{text:?}");
+    }
+    // Digits alone: a point and an escape are in no rational.
+    let rationals: [(&[Mark], u8, Option<Result<(i128, u128), u16>>); 6] = [
+        (
+            &[Mark::Plain(b'-'), Mark::Plain(b'1'), Mark::Plain(b'f')],
+            16,
+            Some(Ok((-31, 1))),
+        ),
+        (
+            &[Mark::Plain(b'4'), Mark::Plain(b'/'), Mark::Plain(b'6')],
+            8,
+            Some(Ok((2, 3))),
+        ),
+        (
+            &[Mark::Plain(b'1'), Mark::Plain(b'/'), Mark::Plain(b'0')],
+            2,
+            Some(Err(9)),
+        ),
+        (&[Mark::Plain(b'1'), Mark::Plain(b'.')], 10, None),
+        (&[Mark::Quoted(b'1')], 10, None),
+        (&[], 10, None),
+    ];
+    for (marks, base, wanted) in rationals {
+        let found = rational(marks, base).map(|given| given.map_err(|refusal| refusal.number()));
+        let found = match found {
+            None => None,
+            Some(Err(number)) => Some(Err(number)),
+            Some(Ok(datum)) => Some(Ok(parts(&datum).ok_or("no number")?)),
+        };
+        assert_eq!(rt; found, wanted, "{marks:?}");
+    }
+    Ok(())
+}
+
+#[test]
+fn refusals(rt: HostRuntime) -> Result<(), Fail> {
+    let rows: [(&[u8], MeaningRefusal, u16); 16] = [
+        (b"..", MeaningRefusal::DotsOnly, 6),
+        (b"1e5", MeaningRefusal::FloatToken, 7),
+        (b".5", MeaningRefusal::FloatToken, 7),
+        (b"+1.5d-3", MeaningRefusal::FloatToken, 7),
+        (b"1.e5", MeaningRefusal::FloatToken, 7),
+        (
+            b"-170141183460469231731687303715884105729",
+            MeaningRefusal::NumberRange,
+            8,
+        ),
+        (
+            b"170141183460469231731687303715884105728",
+            MeaningRefusal::NumberRange,
+            8,
+        ),
+        (
+            b"1/340282366920938463463374607431768211456",
+            MeaningRefusal::NumberRange,
+            8,
+        ),
+        (b"1/0", MeaningRefusal::ZeroDenominator, 9),
+        (b"0/00", MeaningRefusal::ZeroDenominator, 9),
+        (
+            b"9999999999999999999999999999999999999999/0",
+            MeaningRefusal::ZeroDenominator,
+            9,
+        ),
+        (b"A:B:C", MeaningRefusal::PackageMarkers, 10),
+        (b"a:", MeaningRefusal::PackageMarkers, 10),
+        (b"::a", MeaningRefusal::PackageMarkers, 10),
+        (b"a:::b", MeaningRefusal::PackageMarkers, 10),
+        (b":", MeaningRefusal::PackageMarkers, 10),
+    ];
+    for (text, refusal, number) in rows {
+        let error = MeaningError::Refused(refusal);
+        let marks = plain(rt.alloc(), text)?;
+        assert_eq!(rt; read(rt.alloc(), marks.as_slice(), 10), Err(error));
+        assert_eq!(rt; error.number(), number);
+    }
+    assert_eq!(rt; MeaningError::OutOfMemory.number(), 90);
+    let scanned = [
+        (ScanRefusal::EndOfFile, 1),
+        (ScanRefusal::InvalidCharacter, 2),
+        (ScanRefusal::InvalidTrait, 3),
+        (ScanRefusal::TokenTooLong, 24),
+    ];
+    for (refusal, number) in scanned {
+        assert_eq!(rt; scan_refusal_number(refusal), number);
+    }
+    Ok(())
+}
+
+#[test]
+fn names(rt: HostRuntime) -> Result<(), Fail> {
+    let bytes = |text: &[u8]| Bytes::from_slice(rt.alloc(), text);
+    const COLON: Mark = Mark::Plain(b':');
+    let rows: [(&[Mark], TokenName); 7] = [
+        (&[Mark::Quoted(b'1')], TokenName::Unqualified(bytes(b"1")?)),
+        (
+            &[Mark::Plain(b'1'), Mark::Plain(b'+')],
+            TokenName::Unqualified(bytes(b"1+")?),
+        ),
+        (
+            &[Mark::Plain(b'a'), Mark::Quoted(b':'), Mark::Bar],
+            TokenName::Unqualified(bytes(b"a:")?),
+        ),
+        (
+            &[COLON, Mark::Plain(b'1')],
+            TokenName::Keyword(bytes(b"1")?),
+        ),
+        (
+            &[Mark::Plain(b'a'), COLON, Mark::Plain(b'b')],
+            TokenName::External {
+                package: bytes(b"a")?,
+                name: bytes(b"b")?,
+            },
+        ),
+        // A prefix of bars alone is the empty name, and so is such a name.
+        (
+            &[Mark::Bar, Mark::Bar, COLON, Mark::Bar, Mark::Bar],
+            TokenName::External {
+                package: bytes(b"")?,
+                name: bytes(b"")?,
+            },
+        ),
+        (
+            &[Mark::Plain(b'a'), COLON, COLON, Mark::Plain(b'b')],
+            TokenName::Internal {
+                package: bytes(b"a")?,
+                name: bytes(b"b")?,
+            },
+        ),
+    ];
+    for (marks, name) in rows {
+        assert_eq!(rt; read(rt.alloc(), marks, 10), Ok(TokenMeaning::Name(name)));
+    }
+    assert_eq!(rt;
+        read(rt.alloc(), &[Mark::Plain(b'.')], 10),
+        Ok(TokenMeaning::Dot)
+    );
+    let rows: [(Case, &[u8], &[u8]); 7] = [
+        (Case::Upcase, b"aB-1", b"AB-1"),
+        (Case::Downcase, b"aB-1", b"ab-1"),
+        (Case::Preserve, b"aB-1", b"aB-1"),
+        (Case::Invert, b"Foo", b"Foo"),
+        (Case::Invert, b"foo", b"FOO"),
+        (Case::Invert, b"FOO:BAR", b"foo:bar"),
+        (Case::Invert, b"foo:BAR", b"foo:BAR"),
+    ];
+    for (case, text, folded) in rows {
+        let mut marks = plain(rt.alloc(), text)?;
+        fold_case(case, marks.as_mut_slice());
+        assert_eq!(rt; marks.as_slice(), plain(rt.alloc(), folded)?.as_slice());
+    }
+    let mut marks = [Mark::Plain(b'a'), Mark::Bar, Mark::Quoted(b' ')];
+    fold_case(Case::Upcase, &mut marks);
+    assert_eq!(rt; marks, [Mark::Plain(b'A'), Mark::Bar, Mark::Quoted(b' ')]);
+    Ok(())
+}
