@@ -3,13 +3,13 @@ ghost use Rattle.user_macros.specs.Sound.{IsSoundCall};
 
 mod sample;
 
-use user_macros::example::note;
-use user_macros::{Answer, Call, Cause, Gather, MacroFn, MacroFunctions, Macros, Meaning, Refusal};
 use lisp_object::Datum;
 use readtable_core::{FnName, Readtable};
 use sample::{Sample, scale, scale_call};
 use std::alloc::AllocError;
 use std::test::Fail;
+use user_macros::example::note;
+use user_macros::{Answer, Call, Cause, Gather, MacroFn, MacroFunctions, Macros, Meaning, Refusal};
 
 #[test]
 fn what_is_refused_gives_the_function_back(rt: HostRuntime) -> Result<(), Fail> {

@@ -1,8 +1,8 @@
 //! Rows of tokens, fed byte by byte.
-use token_scan::{Fed, Mark, ScanRefusal, TokenScan, characters};
 use readtable_core::Readtable;
 use std::alloc::AllocError;
 use std::test::Fail;
+use token_scan::{Fed, Mark, ScanRefusal, TokenScan, characters};
 
 // What the bytes leave, and what the last one was to the token. Nothing is fed after a byte that was not taken.
 fn feed(scan: &mut TokenScan, table: &Readtable, text: &[u8]) -> Result<Fed, AllocError> {

@@ -5,15 +5,15 @@ ghost use Rattle.lisp_object.specs.Datum.{is_proper};
 ghost use Rattle.token_scan.specs.Marks.{is_ascii_mark, are_ascii};
 ghost use Rattle.std_macros.specs.Results.{IsProperGathered};
 
-use std_macros::{
-    FinishError, Finished, Standard, StdGather, StdGathered, finish, radix_of, standard_of, way,
-};
 use lisp_object::{Boxed, Bytes, Datum, Items};
 use readtable_core::standard_names::{STANDARD_NAMES, STD_DISPATCH};
 use readtable_core::{Case, FnName, Readtable};
 use std::alloc::{AllocError, Global};
 use std::process::Abort;
 use std::test::Fail;
+use std_macros::{
+    FinishError, Finished, Standard, StdGather, StdGathered, finish, radix_of, standard_of, way,
+};
 use token_scan::{Mark, TokenScan};
 
 fn is_ascii(mark: Mark) -> bool

@@ -1,12 +1,12 @@
 //! Rows of tokens.
-use token_meaning::{
-    MeaningError, MeaningRefusal, TokenMeaning, TokenName, fold_case, meaning, rational,
-    scan_refusal_number,
-};
 use lisp_object::{Bytes, Datum};
 use readtable_core::Case;
 use std::alloc::{AllocError, Global};
 use std::test::Fail;
+use token_meaning::{
+    MeaningError, MeaningRefusal, TokenMeaning, TokenName, fold_case, meaning, rational,
+    scan_refusal_number,
+};
 use token_scan::{Mark, ScanRefusal};
 
 // A token of characters that were not escaped.

@@ -1,9 +1,9 @@
 //! The first packages, and look-ups in them.
 mod writes;
 
+use lisp_object::{Bytes, Items};
 use package_table::standardized::{CL, CL_USER, COMMON_LISP, COMMON_LISP_USER, KEYWORD};
 use package_table::{PackageError, Packages, Resolved};
-use lisp_object::{Bytes, Items};
 use std::alloc::Global;
 use std::test::Fail;
 

@@ -1,13 +1,13 @@
 //! Texts of worlds, byte for byte.
-use snapshot_text::{
-    SnapshotError, one_text_one_state, printed_objects_read_back, read, snapshot_lines_are_read,
-    write,
-};
 use lisp_object::{Bytes, Datum};
 use package_table::PackageError;
 use package_table::standardized::{COMMON_LISP_USER, KEYWORD};
 use plist_state::{STANDARD, Symbol, USER, World};
 use readtable_core::{Case, FnName};
+use snapshot_text::{
+    SnapshotError, one_text_one_state, printed_objects_read_back, read, snapshot_lines_are_read,
+    write,
+};
 use std::alloc::{AllocError, Global};
 use std::test::Fail;
 use user_macros::Macros;

@@ -1,10 +1,10 @@
 //! The first world, and calls on its readtables, properties and packages.
 mod marks;
 
-use plist_state::{ReadtableError, STANDARD, Symbol, USER, World};
 use lisp_object::{Bytes, Datum, Items};
 use package_table::PackageError;
 use package_table::standardized::{COMMON_LISP, COMMON_LISP_USER, KEYWORD};
+use plist_state::{ReadtableError, STANDARD, Symbol, USER, World};
 use readtable_core::{Case, FnName, Syntax};
 use std::alloc::Global;
 use std::test::Fail;

@@ -4,9 +4,9 @@ ghost use Rattle.user_macros.specs.Calls.{answer_of, call_of};
 ghost use Rattle.user_macros.specs.Sound.{IsSoundCall};
 ghost use Rattle.reader_tests.specs.Sample.{sample_names, sample_way, sample_answer, scaled};
 
-use user_macros::{Answer, Call, Gather, Gathered, Meaning};
 use lisp_object::Datum;
 use readtable_core::FnName;
+use user_macros::{Answer, Call, Gather, Gathered, Meaning};
 
 #[derive(Drop)]
 pub struct Sample {

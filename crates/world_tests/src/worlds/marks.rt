@@ -1,8 +1,8 @@
 //! Marks that nest over each kind of writing call: going back over any number of them, and forward again.
 use super::{answer, put, remove, words_of};
-use plist_state::{Property, Symbol, World};
 use package_table::Packages;
 use package_table::standardized::COMMON_LISP;
+use plist_state::{Property, Symbol, World};
 use readtable_core::Readtable;
 use std::alloc::Global;
 use std::test::Fail;
