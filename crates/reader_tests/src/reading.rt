@@ -36,7 +36,7 @@ fn limits_and_laws(rt: HostRuntime) {
 }
 
 // What a text begins with in the standard readtable, where `]` is whitespace.
-fn read(rt: &HostRuntime, text: &[u8]) -> Result<ReadOutcome, Fail> {
+pub fn read(rt: &HostRuntime, text: &[u8]) -> Result<ReadOutcome, Fail> {
     let mut table = Readtable::standard(rt.alloc())?;
     table.copy_syntax(b']', b' ')?;
     let packages = Packages::new(rt.alloc())?;
@@ -116,10 +116,24 @@ const REFUSED: &str = "\
 12,12,CL-USER:LIST
 13,8,CL::FROB
 15,1,#R11
+15,2,#1R1
+15,3,#37R1
 16,5,#\\foo
+16,6,#\\Tabs
 17,3,#B2
+17,4,#B12
+17,5,#X12.
+17,2,#O
+17,4,#O\\1
+17,7,#10R1.5
+8,34,#X80000000000000000000000000000000
+9,5,#B1/0
 18,9,#2(A B C)
+18,3,#1()
+18,13,#1000(#999(0))
+18,15,#999999(#999(0))
 19,2,#:
+19,5,#:a:b
 25,0,,A
 25,3,(A ,B)";
 
@@ -144,6 +158,7 @@ const FORMS: &str = "\
 0,16,16,#(A #\\Space \"b\")
 0,7,8,'#|x|#A\x20
 0,14,14,#0000000003(A)
+0,13,13,#999(#999(0))
 0,1,1,A\"
 0,3,3,#:1
 0,6,7,|a b|c\x20";
