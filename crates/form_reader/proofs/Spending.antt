@@ -1,0 +1,140 @@
+-- Where memory may run out: from what a call comes to, up to what a byte is.
+use Rattle.std.proofs.Common.{◌≡◌, ℕ, ◌+◌, ◌-◌, ◌<◌, ◌≤◌, true, false, List, [], ◌∷◌, ◌++◌, length, Option, Some, None, Result, Ok, Err, refl, sym, ap, subst, ◌∙◌, arith}
+use Rattle.std.specs.Prelude.{IsTrue, ◌==◌}
+use Rattle.std.specs.declared.alloc.AllocError.{AllocError}
+use Rattle.lisp_object.specs.Object.{Object}
+use Rattle.readtable_core.specs.Tables.{Table}
+use Rattle.token_scan.specs.declared.mark.Mark.{Mark}
+use Rattle.token_scan.specs.Scans.{Scan}
+use Rattle.std_macros.specs.Values.{Material, marked, nothing as no_material}
+use Rattle.form_reader.specs.declared.bytes.LineByte.{LineByte}
+use Rattle.form_reader.specs.declared.bytes.LineByte.TheVariants.{Ended as LineEnded}
+use Rattle.form_reader.specs.declared.found.Found.{Found}
+use Rattle.form_reader.specs.declared.frame.Frame.{Frame}
+use Rattle.form_reader.specs.declared.frame.Part.TheVariants.{Next as InNext, List as InList, Until as InUntil}
+use Rattle.form_reader.specs.declared.macros.Moved.{Moved}
+use Rattle.form_reader.specs.declared.macros.Moved.TheVariants.{Taken as IsTaken, Before as IsBefore}
+use Rattle.form_reader.specs.declared.objects.Passed.{Passed}
+use Rattle.form_reader.specs.declared.objects.Passed.TheVariants.{Taken as PassedTaken, Done as PassedDone}
+use Rattle.form_reader.specs.declared.stage.Event.{Event}
+use Rattle.form_reader.specs.declared.stage.Event.TheVariants.{Stage as IsAt, Gives as IsGiven, Refused as IsRefused}
+use Rattle.form_reader.specs.declared.stage.Stage.{Stage}
+use Rattle.form_reader.specs.declared.stage.Stage.TheVariants.{Object as AtObject, Token as AtToken, CallToken as AtCallToken}
+use Rattle.form_reader.specs.declared.way.Way.{Way}
+use Rattle.form_reader.specs.declared.way.Way.TheVariants.{Nothing, Next, List as AList, Until}
+use Rattle.form_reader.specs.Calls.{InvokedCall}
+use Rattle.form_reader.specs.Plans.{Plan, then_plan, Read, run}
+use Rattle.form_reader.specs.Setting.{Setting, way_in}
+use Rattle.form_reader.specs.Reading.{completed, gathered, gathered_by, called}
+use Rattle.form_reader.specs.Feeding.{GoesOn, TokenFeeds, token_read}
+use Rattle.form_reader.specs.Frames.{given, plan_gives, token_goes_on}
+use Rattle.form_reader.specs.Resuming.{IsStageAt, inner_at, stage_gives}
+use Rattle.form_reader.specs.Memory.{may_cost, Costs, goes_on, comes_to, Spends, SpendsMove, SpendsPass, TokenEnds, RunsOut, with_it, before_it}
+use Rattle.form_reader.proofs.Opened.{gathering_ends}
+use Rattle.form_reader.proofs.Beginnings.{OpensWith, next_at, list_at, until_at}
+
+pub spent : (result : Result Event AllocError) (P : Type 0) → P → Spends result P
+spent (Ok (IsAt stage)) P h = tt
+spent (Ok (IsGiven found)) P h = h
+spent (Ok (IsRefused code place)) P h = tt
+spent (Err e) P h = h
+
+pub spent_so : (result : Result Event AllocError) (P Q : Type 0) → (P → Q) → Spends result P → Spends result Q
+spent_so (Ok (IsAt stage)) P Q on h = tt
+spent_so (Ok (IsGiven found)) P Q on h = on h
+spent_so (Ok (IsRefused code place)) P Q on h = tt
+spent_so (Err e) P Q on h = on h
+
+pub moved : (result : Result Moved AllocError) (P : Type 0) → P → SpendsMove result P
+moved (Ok (IsTaken event)) P h = spent (Ok event) P h
+moved (Ok (IsBefore event)) P h = spent (Ok event) P h
+moved (Err e) P h = h
+
+-- ---- what is read is the same
+
+pub costs_same : (setting : Setting) (frames : List Frame) (at : ℕ) (read other : List ℕ → Read Found) → ((cs : List ℕ) → other cs ≡ read cs)
+    → Costs setting frames at read → Costs setting frames at other
+costs_same setting frames at read other e (goes_on after stage le stands same) = goes_on after stage le stands (λ cs. e cs ∙ same cs)
+costs_same setting frames at read other e (comes_to inner round is plan cost same) = comes_to inner round is plan cost (λ cs. e cs ∙ same cs)
+
+pub spends_same : (setting : Setting) (frames : List Frame) (at : ℕ) (read other : List ℕ → Read Found) (result : Result Event AllocError) → ((cs : List ℕ) → other cs ≡ read cs)
+    → Spends result (Costs setting frames at read) → Spends result (Costs setting frames at other)
+spends_same setting frames at read other result e h = spent_so result _ _ (costs_same setting frames at read other e) h
+
+-- ---- what a call comes to
+
+pub call_costs : (setting : Setting) (frames : List Frame) (at round : ℕ) (call : InvokedCall) (material : Material) (read : List ℕ → Read Found) (result : Result Event AllocError)
+    → round ≡ length frames → ((cs : List ℕ) → read cs ≡ plan_gives setting frames (completed setting (length frames) call false false material) at cs)
+    → Spends result (may_cost (completed setting round call false false material) ≡ true) → Spends result (Costs setting frames at read)
+call_costs setting frames at round call material read result open_calls same h =
+    spent_so result _ _ (λ cost. comes_to [] frames refl (completed setting (length frames) call false false material)
+    (subst (λ (n : ℕ). may_cost (completed setting n call false false material) ≡ true) open_calls cost) same) h
+
+-- what was gathered has ended
+pub ends_cost : {A : Type 0} (setting : Setting) (frames : List Frame) (p : Plan A) (m : A → Material) (x y : A) (at c round : ℕ) (call : InvokedCall) (result : Result Event AllocError)
+    → round ≡ length frames → ((cs : List ℕ) → run setting.table setting.limits p at (c ∷ cs) ≡ Ok (x, at + 1, cs)) → y ≡ x
+    → Spends result (may_cost (completed setting round call false false (m y)) ≡ true)
+    → Spends result (Costs setting frames (at + 1) (λ cs. plan_gives setting frames (then_plan p (λ z. completed setting (length frames) call false false (m z))) at (c ∷ cs)))
+ends_cost {A} setting frames p m x y at c round call result open_calls e same h =
+    let on : A → Plan Found = λ z. completed setting (length frames) call false false (m z) in
+    call_costs setting frames (at + 1) round call (m y) (λ cs. plan_gives setting frames (then_plan p on) at (c ∷ cs)) result open_calls
+    (λ cs. gathering_ends setting frames p on x at (at + 1) (c ∷ cs) cs (e cs) ∙ ap (λ (z : A). plan_gives setting frames (on z) (at + 1) cs) (sym same)) h
+
+-- ---- how a call begins
+
+module _ (setting : Setting) (frames : List Frame) (call : InvokedCall) (way : Way) (at : ℕ) where
+  abbrev Opens : Type 0
+  Opens = Costs setting frames at (λ cs. OpensWith setting frames call way (inner_at setting (length frames)) at cs)
+
+  pub next_costs : way ≡ Next → length frames < setting.limits.nesting → at ≤ setting.limits.text → Opens
+  next_costs e lt le =
+      let after = record { call = call; part = InNext } ∷ frames in
+      goes_on after AtObject le tt (λ cs. next_at setting frames call way at cs after e lt refl)
+
+  pub list_costs : way ≡ AList → length frames < setting.limits.nesting → at ≤ setting.limits.text → Opens
+  list_costs e lt le =
+      let after = record { call = call; part = InList [] } ∷ frames in
+      goes_on after AtObject le tt (λ cs. list_at setting frames call way at cs after [] e lt le refl refl)
+
+  pub until_costs : (close : ℕ) → way ≡ Until close → length frames < setting.limits.nesting → at ≤ setting.limits.text → Opens
+  until_costs close e lt le =
+      let after = record { call = call; part = InUntil close [] } ∷ frames in
+      goes_on after AtObject le tt (λ cs. until_at setting frames call way at cs after close [] e lt le refl refl)
+
+  pub nothing_costs : (round : ℕ) (result : Result Event AllocError) → way ≡ Nothing → round ≡ length frames
+      → Spends result (may_cost (completed setting round call false false no_material) ≡ true) → Spends result Opens
+  nothing_costs round result e open_calls h =
+      call_costs setting frames at round call no_material (λ cs. OpensWith setting frames call way (inner_at setting (length frames)) at cs) result open_calls
+      (λ cs. ap (λ (w : Way). OpensWith setting frames call w (inner_at setting (length frames)) at cs) e) h
+
+  pub some_costs : (result : Result Event AllocError) → way_in setting call ≡ Some way → Spends result Opens
+      → Spends result (Costs setting frames at (λ cs. plan_gives setting frames (called setting (length frames) (inner_at setting (length frames)) call) at cs))
+  some_costs result e h =
+      spends_same setting frames at (λ cs. OpensWith setting frames call way (inner_at setting (length frames)) at cs) _ result
+      (λ cs. ap (λ (o : Option Way). plan_gives setting frames (gathered_by setting (length frames) (inner_at setting (length frames)) call o) at cs) e) h
+
+-- ---- tokens
+
+pub token_taken : (setting : Setting) (frames : List Frame) (stage later : Stage) (on : List Mark → Plan Found) (scan new : Scan) (at c : ℕ) → IsStageAt (at + 1) later → at < setting.limits.text
+    → ((cs : List ℕ) → stage_gives setting frames stage at (c ∷ cs) ≡ token_goes_on setting frames on (token_read setting.table setting.limits scan at (c ∷ cs)))
+    → ((cs : List ℕ) → stage_gives setting frames later (at + 1) cs ≡ token_goes_on setting frames on (token_read setting.table setting.limits new (at + 1) cs))
+    → ((cs : List ℕ) → token_read setting.table setting.limits scan at (c ∷ cs) ≡ token_read setting.table setting.limits new (at + 1) cs)
+    → RunsOut setting frames stage at c
+token_taken setting frames stage later on scan new at c stands lt first then read =
+    with_it (goes_on frames later (omega (arith, lt)) stands (λ cs. first cs ∙ ap (token_goes_on setting frames on) (read cs) ∙ sym (then cs)))
+
+-- the byte ends the token
+pub token_stops : (setting : Setting) (old new : Scan) (fed : LineByte) (at c : ℕ) → fed ≡ LineEnded → new ≡ old
+    → ((cs : List ℕ) → TokenFeeds setting.table setting.limits new at c cs fed (token_read setting.table setting.limits old at (c ∷ cs))) → TokenEnds setting old at c
+token_stops setting old new fed at c e same feeds cs =
+    subst (λ (f : LineByte). TokenFeeds setting.table setting.limits new at c cs f (token_read setting.table setting.limits old at (c ∷ cs))) e (feeds cs)
+    ∙ ap (λ (s : Scan). Ok (s.marks, at, c ∷ cs)) same
+
+-- and then its call
+pub call_token_costs : (setting : Setting) (frames : List Frame) (call : InvokedCall) (old new : Scan) (marks : List Mark) (fed : LineByte) (at c round : ℕ) → fed ≡ LineEnded → new ≡ old
+    → ((cs : List ℕ) → TokenFeeds setting.table setting.limits new at c cs fed (token_read setting.table setting.limits old at (c ∷ cs))) → marks ≡ new.marks → round ≡ length frames
+    → may_cost (completed setting round call true false (marked marks)) ≡ true → RunsOut setting frames (AtCallToken call old) at c
+call_token_costs setting frames call old new marks fed at c round e same feeds marks_is open_calls cost =
+    before_it (token_stops setting old new fed at c e same feeds,
+    subst (λ (n : ℕ). may_cost (completed setting n call true false (marked old.marks)) ≡ true) open_calls
+    (subst (λ (ms : List Mark). may_cost (completed setting round call true false (marked ms)) ≡ true) (marks_is ∙ ap (λ (s : Scan). s.marks) same) cost))
