@@ -1,12 +1,18 @@
 -- Where memory may run out: from what a call comes to, up to what a byte is.
 use Rattle.std.proofs.Common.{◌≡◌, ℕ, ◌+◌, ◌-◌, ◌<◌, ◌≤◌, true, false, List, [], ◌∷◌, ◌++◌, length, Option, Some, None, Result, Ok, Err, refl, sym, ap, subst, ◌∙◌, arith}
-use Rattle.std.specs.Prelude.{IsTrue, ◌==◌}
+use Rattle.std.specs.Prelude.{IsTrue, IsOk}
 use Rattle.std.specs.declared.alloc.AllocError.{AllocError}
 use Rattle.lisp_object.specs.Object.{Object}
-use Rattle.readtable_core.specs.Tables.{Table}
+use Rattle.readtable_core.specs.declared.table.Case.{Case}
+use Rattle.package_table.specs.Table.{Name, Table as Packages}
+use Rattle.token_meaning.specs.declared.refusal.MeaningRefusal.{MeaningRefusal}
+use Rattle.token_meaning.specs.Folding.{folded}
+use Rattle.token_meaning.specs.Meanings.{Meaning, meaning_of}
 use Rattle.token_scan.specs.declared.mark.Mark.{Mark}
 use Rattle.token_scan.specs.Scans.{Scan}
 use Rattle.std_macros.specs.Values.{Material, marked, nothing as no_material}
+use Rattle.form_reader.specs.declared.told.Told.{Told}
+use Rattle.form_reader.specs.Naming.{told_of}
 use Rattle.form_reader.specs.declared.bytes.LineByte.{LineByte}
 use Rattle.form_reader.specs.declared.bytes.LineByte.TheVariants.{Ended as LineEnded}
 use Rattle.form_reader.specs.declared.found.Found.{Found}
@@ -29,8 +35,8 @@ use Rattle.form_reader.specs.Reading.{completed, gathered, gathered_by, called}
 use Rattle.form_reader.specs.Feeding.{GoesOn, TokenFeeds, token_read}
 use Rattle.form_reader.specs.Frames.{given, plan_gives, token_goes_on}
 use Rattle.form_reader.specs.Resuming.{IsStageAt, inner_at, stage_gives}
-use Rattle.form_reader.specs.Memory.{may_cost, Costs, goes_on, comes_to, Spends, SpendsMove, SpendsPass, TokenEnds, RunsOut, with_it, before_it}
-use Rattle.form_reader.proofs.Opened.{gathering_ends}
+use Rattle.form_reader.specs.Memory.{may_cost, Costs, goes_on, comes_to, Spends, SpendsMove, SpendsPass, is_given, HasMeaning, RunsOut, with_it, before_it}
+use Rattle.form_reader.proofs.Opened.{gathering_ends, gathering_moves}
 use Rattle.form_reader.proofs.Beginnings.{OpensWith, next_at, list_at, until_at}
 
 pub spent : (result : Result Event AllocError) (P : Type 0) → P → Spends result P
@@ -123,18 +129,59 @@ pub token_taken : (setting : Setting) (frames : List Frame) (stage later : Stage
 token_taken setting frames stage later on scan new at c stands lt first then read =
     with_it (goes_on frames later (omega (arith, lt)) stands (λ cs. first cs ∙ ap (token_goes_on setting frames on) (read cs) ∙ sym (then cs)))
 
--- the byte ends the token
-pub token_stops : (setting : Setting) (old new : Scan) (fed : LineByte) (at c : ℕ) → fed ≡ LineEnded → new ≡ old
-    → ((cs : List ℕ) → TokenFeeds setting.table setting.limits new at c cs fed (token_read setting.table setting.limits old at (c ∷ cs))) → TokenEnds setting old at c
-token_stops setting old new fed at c e same feeds cs =
-    subst (λ (f : LineByte). TokenFeeds setting.table setting.limits new at c cs f (token_read setting.table setting.limits old at (c ∷ cs))) e (feeds cs)
-    ∙ ap (λ (s : Scan). Ok (s.marks, at, c ∷ cs)) same
-
 -- and then its call
-pub call_token_costs : (setting : Setting) (frames : List Frame) (call : InvokedCall) (old new : Scan) (marks : List Mark) (fed : LineByte) (at c round : ℕ) → fed ≡ LineEnded → new ≡ old
+pub call_token_costs : (setting : Setting) (frames : List Frame) (call : InvokedCall) (old new : Scan) (marks : List Mark) (fed : LineByte) (at c round : ℕ) → fed ≡ LineEnded
     → ((cs : List ℕ) → TokenFeeds setting.table setting.limits new at c cs fed (token_read setting.table setting.limits old at (c ∷ cs))) → marks ≡ new.marks → round ≡ length frames
     → may_cost (completed setting round call true false (marked marks)) ≡ true → RunsOut setting frames (AtCallToken call old) at c
-call_token_costs setting frames call old new marks fed at c round e same feeds marks_is open_calls cost =
-    before_it (token_stops setting old new fed at c e same feeds,
-    subst (λ (n : ℕ). may_cost (completed setting n call true false (marked old.marks)) ≡ true) open_calls
-    (subst (λ (ms : List Mark). may_cost (completed setting round call true false (marked ms)) ≡ true) (marks_is ∙ ap (λ (s : Scan). s.marks) same) cost))
+call_token_costs setting frames call old new marks fed at c round e feeds same open_calls cost =
+    before_it (marks,
+    λ cs. subst (λ (f : LineByte). TokenFeeds setting.table setting.limits new at c cs f (token_read setting.table setting.limits old at (c ∷ cs))) e (feeds cs)
+    ∙ ap (λ (ms : List Mark). Ok (ms, at, c ∷ cs)) (sym same),
+    subst (λ (n : ℕ). may_cost (completed setting n call true false (marked marks)) ≡ true) open_calls cost)
+
+-- and then the object that it is
+pub object_token_costs : (setting : Setting) (frames : List Frame) (scan : Scan) (marks : List Mark) (at c : ℕ)
+    → ((cs : List ℕ) → token_read setting.table setting.limits scan at (c ∷ cs) ≡ Ok (marks, at, c ∷ cs)) → HasMeaning setting marks → RunsOut setting frames (AtToken scan) at c
+object_token_costs setting frames scan marks at c ends meant = before_it (marks, ends, meant)
+
+-- what is told of a token has a meaning
+pub told_means : (packages : Packages) (current : Name) (meaning : Result Meaning MeaningRefusal) (answer : Told) → told_of packages current meaning ≡ Ok answer → IsOk meaning
+told_means packages current (Ok m) answer e = refl
+told_means packages current (Err refusal) answer e = cc
+
+pub means_so : (setting : Setting) (letters : Case) (marks : List Mark) → letters ≡ setting.table.letters → IsOk (meaning_of setting.base (folded letters marks)) → HasMeaning setting marks
+means_so setting letters marks e h = subst (λ (l : Case). IsOk (meaning_of setting.base (folded l marks))) e h
+
+-- ---- where the reader is
+
+pub stage_costs : (setting : Setting) (frames : List Frame) (stage known : Stage) (at c : ℕ) → stage ≡ known
+    → Costs setting frames (at + 1) (λ cs. stage_gives setting frames known at (c ∷ cs)) → RunsOut setting frames stage at c
+stage_costs setting frames stage known at c e h = subst (λ (s : Stage). RunsOut setting frames s at c) (sym e) (with_it h)
+
+pub stage_spends : (setting : Setting) (frames : List Frame) (stage known : Stage) (at c : ℕ) (result : Result Event AllocError) → stage ≡ known
+    → Spends result (Costs setting frames (at + 1) (λ cs. stage_gives setting frames known at (c ∷ cs))) → Spends result (RunsOut setting frames stage at c)
+stage_spends setting frames stage known at c result e h = spent_so result _ _ (stage_costs setting frames stage known at c e) h
+
+pub stage_moves_spend : (setting : Setting) (frames : List Frame) (stage known : Stage) (at c : ℕ) (result : Result Moved AllocError) → stage ≡ known
+    → SpendsMove result (RunsOut setting frames known at c) → SpendsMove result (RunsOut setting frames stage at c)
+stage_moves_spend setting frames stage known at c result e h = subst (λ (s : Stage). SpendsMove result (RunsOut setting frames s at c)) (sym e) h
+
+pub passed : (result : Result Passed AllocError) (P : Type 0) → P → SpendsPass result P
+passed (Ok (PassedTaken event)) P h = spent (Ok event) P h
+passed (Ok (PassedDone found)) P h = h
+passed (Err e) P h = h
+
+-- what is given was found
+pub given_spends : (event : Event) (P : Type 0) → is_given event ≡ true → Spends (Ok event) P → P
+given_spends (IsAt stage) P e h = cc
+given_spends (IsGiven found) P e h = h
+given_spends (IsRefused code place) P e h = cc
+
+-- ---- a byte of what is gathered
+
+pub taken_costs : {A : Type 0} (setting : Setting) (frames : List Frame) (p q : Plan A) (on : A → Plan Found) (later : Stage) (at c : ℕ) → at < setting.limits.text → IsStageAt (at + 1) later
+    → ((cs : List ℕ) → run setting.table setting.limits p at (c ∷ cs) ≡ run setting.table setting.limits q (at + 1) cs)
+    → ((cs : List ℕ) → stage_gives setting frames later (at + 1) cs ≡ plan_gives setting frames (then_plan q on) (at + 1) cs)
+    → Costs setting frames (at + 1) (λ cs. plan_gives setting frames (then_plan p on) at (c ∷ cs))
+taken_costs setting frames p q on later at c lt stands moves is =
+    goes_on frames later (omega (arith, lt)) stands (λ cs. gathering_moves setting frames p q on at (at + 1) (c ∷ cs) cs (moves cs) ∙ sym (is cs))

@@ -58,9 +58,9 @@ abbrev pub is_given : Event → Bool
 is_given (IsGiven found) = true
 is_given _ = false
 
--- the byte at this place ends the token, and is not taken
-abbrev pub TokenEnds : Setting → Scan → ℕ → ℕ → Type 0
-TokenEnds setting scan at c = (cs : List ℕ) → token_read setting.table setting.limits scan at (c ∷ cs) ≡ Ok (scan.marks, at, c ∷ cs)
+-- the byte at this place ends the token, which has these marks, and is not taken
+abbrev pub TokenEnds : Setting → Scan → List Mark → ℕ → ℕ → Type 0
+TokenEnds setting scan marks at c = (cs : List ℕ) → token_read setting.table setting.limits scan at (c ∷ cs) ≡ Ok (marks, at, c ∷ cs)
 
 -- the token means a number, a dot or a name; packages may refuse the name
 abbrev pub HasMeaning : Setting → List Mark → Type 0
@@ -68,9 +68,9 @@ HasMeaning setting marks = IsOk (meaning_of setting.base (folded setting.table.l
 
 -- A token is open that the byte at this place ends, and neither its meaning nor its call is refused.
 abbrev pub EndsToken : Setting → List Frame → Stage → ℕ → ℕ → Type 0
-EndsToken setting frames (AtToken scan) at c = TokenEnds setting scan at c × HasMeaning setting scan.marks
+EndsToken setting frames (AtToken scan) at c = (marks : List Mark) × TokenEnds setting scan marks at c × HasMeaning setting marks
 EndsToken setting frames (AtCallToken call scan) at c =
-    TokenEnds setting scan at c × (may_cost (completed setting (length frames) call true false (marked scan.marks)) ≡ true)
+    (marks : List Mark) × TokenEnds setting scan marks at c × (may_cost (completed setting (length frames) call true false (marked marks)) ≡ true)
 EndsToken setting frames _ at c = ⊥
 
 -- What the byte at this place is, where memory may run out.
