@@ -1,6 +1,6 @@
 -- Where memory may run out: from what a call comes to, up to what a byte is.
 use Rattle.std.proofs.Common.{◌≡◌, ℕ, ◌+◌, ◌-◌, ◌<◌, ◌≤◌, true, false, List, [], ◌∷◌, ◌++◌, length, Option, Some, None, Result, Ok, Err, refl, sym, ap, subst, ◌∙◌, arith}
-use Rattle.std.specs.Prelude.{IsTrue, IsOk}
+use Rattle.std.specs.Prelude.{IsTrue, IsOk, OnErr}
 use Rattle.std.specs.declared.alloc.AllocError.{AllocError}
 use Rattle.lisp_object.specs.Object.{Object}
 use Rattle.readtable_core.specs.declared.table.Case.{Case}
@@ -31,7 +31,7 @@ use Rattle.form_reader.specs.declared.way.Way.TheVariants.{Nothing, Next, List a
 use Rattle.form_reader.specs.Calls.{InvokedCall}
 use Rattle.form_reader.specs.Plans.{Plan, then_plan, Read, run}
 use Rattle.form_reader.specs.Setting.{Setting, way_in}
-use Rattle.form_reader.specs.Reading.{completed, gathered, gathered_by, called}
+use Rattle.form_reader.specs.Reading.{completed, gathered, gathered_by, called, token_found}
 use Rattle.form_reader.specs.Feeding.{GoesOn, TokenFeeds, token_read}
 use Rattle.form_reader.specs.Frames.{given, plan_gives, token_goes_on}
 use Rattle.form_reader.specs.Resuming.{IsStageAt, inner_at, stage_gives}
@@ -129,6 +129,13 @@ pub token_taken : (setting : Setting) (frames : List Frame) (stage later : Stage
 token_taken setting frames stage later on scan new at c stands lt first then read =
     with_it (goes_on frames later (omega (arith, lt)) stands (λ cs. first cs ∙ ap (token_goes_on setting frames on) (read cs) ∙ sym (then cs)))
 
+-- the same where it is known where the reader is
+pub token_taken_at : (setting : Setting) (frames : List Frame) (stage : Stage) (scan new : Scan) (at c : ℕ) → stage ≡ AtToken scan → IsStageAt (at + 1) (AtToken new) → at < setting.limits.text
+    → ((cs : List ℕ) → token_read setting.table setting.limits scan at (c ∷ cs) ≡ token_read setting.table setting.limits new (at + 1) cs) → RunsOut setting frames stage at c
+token_taken_at setting frames stage scan new at c e stands lt read =
+    subst (λ (s : Stage). RunsOut setting frames s at c) (sym e)
+    (token_taken setting frames (AtToken scan) (AtToken new) (token_found setting) scan new at c stands lt (λ cs. refl) (λ cs. refl) read)
+
 -- and then its call
 pub call_token_costs : (setting : Setting) (frames : List Frame) (call : InvokedCall) (old new : Scan) (marks : List Mark) (fed : LineByte) (at c round : ℕ) → fed ≡ LineEnded
     → ((cs : List ℕ) → TokenFeeds setting.table setting.limits new at c cs fed (token_read setting.table setting.limits old at (c ∷ cs))) → marks ≡ new.marks → round ≡ length frames
@@ -185,3 +192,26 @@ pub taken_costs : {A : Type 0} (setting : Setting) (frames : List Frame) (p q : 
     → Costs setting frames (at + 1) (λ cs. plan_gives setting frames (then_plan p on) at (c ∷ cs))
 taken_costs setting frames p q on later at c lt stands moves is =
     goes_on frames later (omega (arith, lt)) stands (λ cs. gathering_moves setting frames p q on at (at + 1) (c ∷ cs) cs (moves cs) ∙ sym (is cs))
+
+-- ---- in the open calls
+
+deeper : (setting : Setting) (f : Frame) (fs frames : List Frame) (at : ℕ) (read : List ℕ → Read Found) → frames ≡ f ∷ fs → Costs setting fs at read → Costs setting frames at read
+deeper setting f fs frames at read e (goes_on after stage le stands same) = goes_on after stage le stands same
+deeper setting f fs frames at read e (comes_to inner round is plan cost same) = comes_to (f ∷ inner) round (e ∙ ap (λ (gs : List Frame). f ∷ gs) is) plan cost same
+
+pub deeper_spends : (setting : Setting) (f : Frame) (fs frames : List Frame) (at : ℕ) (read : List ℕ → Read Found) (result : Result Event AllocError) → frames ≡ f ∷ fs
+    → Spends result (Costs setting fs at read) → Spends result (Costs setting frames at read)
+deeper_spends setting f fs frames at read result e h = spent_so result _ _ (deeper setting f fs frames at read e) h
+
+pub same_frames_spend : (setting : Setting) (now frames : List Frame) (at : ℕ) (read : List ℕ → Read Found) (result : Result Event AllocError) → now ≡ frames
+    → Spends result (Costs setting now at read) → Spends result (Costs setting frames at read)
+same_frames_spend setting now frames at read result e h = subst (λ (fs : List Frame). Spends result (Costs setting fs at read)) e h
+
+-- ---- turns
+
+pub turn_spends : {T : Type 0} (result : Result T AllocError) (event : Event) (P : Type 0) → OnErr result (is_given event ≡ true) → Spends (Ok event) P → OnErr result P
+turn_spends (Ok t) event P given h = tt
+turn_spends (Err e) event P given h = given_spends event P given h
+
+pub done_spends : (passed : Passed) (found : Found) (P : Type 0) → passed ≡ PassedDone found → SpendsPass (Ok passed) P → P
+done_spends passed found P e h = subst (λ (p : Passed). SpendsPass (Ok p) P) e h

@@ -16,7 +16,6 @@ use std::alloc::AllocError;
 use user_macros::MacroFunctions;
 
 /// The byte `c` at `at`, where the reader is at `stage` in its innermost call.
-#[tactic(auto, using(crate::proofs::Spending::stage_spends))]
 pub(crate) fn advance<R: MacroFunctions>(
     with: &Surroundings<'_, R>,
     frames: &mut Frames,
