@@ -99,7 +99,8 @@ impl FormReader {
     }
 
     /// One more byte of the text, under the same readtable, packages, current package and functions as the bytes before it.
-    /// After a refusal, and after it ran out of memory, it answers the same again.
+    /// After a refusal, and after it ran out of memory, it answers the same again. It runs out of memory only where the bytes
+    /// with this one decide nothing, where the byte ends a token that is not refused, or where a call ends with it.
     pub fn step<R: MacroFunctions>(
         &mut self,
         byte: u8,
