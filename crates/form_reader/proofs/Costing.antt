@@ -1,5 +1,5 @@
 -- Where memory may run out: a byte that a token takes, and the calls of users.
-use Rattle.std.proofs.Common.{◌≡◌, ℕ, ◌+◌, ◌-◌, ◌<◌, Bool, true, false, List, [], ◌∷◌, ◌++◌, Option, Ok, Err, refl, sym, ap, subst, ◌∙◌, append_assoc, arith}
+use Rattle.std.proofs.Common.{◌≡◌, ℕ, ◌+◌, ◌-◌, ◌<◌, Bool, true, false, List, [], ◌∷◌, ◌++◌, Ok, Err, refl, sym, ap, subst, ◌∙◌, append_assoc, arith}
 use Rattle.std.specs.Prelude.{◌==◌, ◌&&◌, ◌||◌, nat_le, if◌then◌else◌, IsTrue}
 use Rattle.readtable_core.specs.Characters.{has_invalid_trait}
 use Rattle.readtable_core.specs.Tables.{Table, entry_at}
@@ -13,23 +13,22 @@ use Rattle.token_scan.specs.declared.refusal.ScanRefusal.{ScanRefusal}
 use Rattle.token_scan.specs.declared.refusal.ScanRefusal.TheVariants.{InvalidCharacter, InvalidTrait, TokenTooLong}
 use Rattle.token_scan.specs.declared.stage.Stage.{Stage}
 use Rattle.token_scan.specs.declared.stage.Stage.TheVariants.{Outside, Inside, EscapedOutside, EscapedInside, Refused}
-use Rattle.token_scan.specs.Tokens.{TypedByte, met, kind, is_character, Scanned, fault, with_front, one_more, plain, quoted, typed, typed_text, outside, inside}
+use Rattle.token_scan.specs.Tokens.{TypedByte, met, kind, is_character, Scanned, fault, with_front, typed_text, outside, inside}
 use Rattle.token_scan.specs.Spelling.{is_plain, ends_tokens}
 use Rattle.token_scan.specs.Scans.{Scan, from_stage, token_from, GoesPast}
 use Rattle.token_scan.proofs.Steps.{outside_ends, outside_plain, outside_escape, outside_bar, outside_invalid, inside_between, inside_escape, inside_bar, inside_invalid}
 use Rattle.std_macros.specs.Values.{Material}
 use Rattle.user_macros.specs.Calls.{MacroAnswer, value, no_value, improper, refused}
 use Rattle.form_reader.specs.declared.limits.Limits.{Limits}
-use Rattle.form_reader.specs.declared.found.Found.{Found}
 use Rattle.form_reader.specs.declared.found.Found.TheVariants.{One as one}
 use Rattle.form_reader.specs.declared.way.Function.{Function}
 use Rattle.form_reader.specs.declared.way.Function.TheVariants.{User}
 use Rattle.form_reader.specs.Answering.{may_be_answered}
 use Rattle.form_reader.specs.Calls.{InvokedCall}
-use Rattle.form_reader.specs.Plans.{Plan, gives, refuses}
+use Rattle.form_reader.specs.Plans.{gives, refuses}
 use Rattle.form_reader.specs.Setting.{Setting, macro_call}
 use Rattle.form_reader.specs.Reading.{answered, completed_by, completed}
-use Rattle.form_reader.specs.Feeding.{GoesOn, is_going, token_read}
+use Rattle.form_reader.specs.Feeding.{GoesOn, is_going}
 use Rattle.form_reader.specs.Memory.{may_cost}
 use Rattle.form_reader.proofs.FedTokens.{cut}
 use Rattle.lisp_object.specs.declared.refusal.TheConstants.{MACRO_ANSWER}

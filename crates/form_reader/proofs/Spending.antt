@@ -1,8 +1,7 @@
 -- Where memory may run out: from what a call comes to, up to what a byte is.
-use Rattle.std.proofs.Common.{◌≡◌, ℕ, ◌+◌, ◌-◌, ◌<◌, ◌≤◌, true, false, List, [], ◌∷◌, ◌++◌, length, Option, Some, None, Result, Ok, Err, refl, sym, ap, subst, ◌∙◌, arith}
-use Rattle.std.specs.Prelude.{IsTrue, IsOk, OnErr}
+use Rattle.std.proofs.Common.{◌≡◌, ℕ, ◌+◌, ◌<◌, ◌≤◌, true, false, List, [], ◌∷◌, length, Option, Some, Result, Ok, Err, refl, sym, ap, subst, ◌∙◌, arith}
+use Rattle.std.specs.Prelude.{IsOk, OnErr}
 use Rattle.std.specs.declared.alloc.AllocError.{AllocError}
-use Rattle.lisp_object.specs.Object.{Object}
 use Rattle.readtable_core.specs.declared.table.Case.{Case}
 use Rattle.package_table.specs.Table.{Name, Table as Packages}
 use Rattle.token_meaning.specs.declared.refusal.MeaningRefusal.{MeaningRefusal}
@@ -31,8 +30,8 @@ use Rattle.form_reader.specs.declared.way.Way.TheVariants.{Nothing, Next, List a
 use Rattle.form_reader.specs.Calls.{InvokedCall}
 use Rattle.form_reader.specs.Plans.{Plan, then_plan, Read, run}
 use Rattle.form_reader.specs.Setting.{Setting, way_in}
-use Rattle.form_reader.specs.Reading.{completed, gathered, gathered_by, called, token_found}
-use Rattle.form_reader.specs.Feeding.{GoesOn, TokenFeeds, token_read}
+use Rattle.form_reader.specs.Reading.{completed, gathered_by, called, token_found}
+use Rattle.form_reader.specs.Feeding.{TokenFeeds, token_read}
 use Rattle.form_reader.specs.Frames.{given, plan_gives, token_goes_on}
 use Rattle.form_reader.specs.Resuming.{IsStageAt, inner_at, stage_gives}
 use Rattle.form_reader.specs.Memory.{may_cost, Costs, goes_on, comes_to, Spends, SpendsMove, SpendsPass, is_given, HasMeaning, RunsOut, with_it, before_it}

@@ -1,7 +1,6 @@
 use Rattle.form_reader.specs.Surrounding.{setting_with}
 use Rattle.form_reader.proofs.ObjectTokens.{begun_there}
-use Rattle.std.proofs.Common.{refl}
-use Rattle.form_reader.specs.declared.stage.Stage.TheVariants.{Object as AtObject, Token as AtToken}
+use Rattle.form_reader.specs.declared.stage.Stage.TheVariants.{Object as AtObject}
 use Rattle.token_scan.proofs.Forwards.{held}
 use Rattle.form_reader.proofs.Spending.{stage_costs, token_taken_at}
 use Rattle.form_reader.proofs.in_place.in_place.Goals as goal

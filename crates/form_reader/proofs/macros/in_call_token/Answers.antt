@@ -2,7 +2,7 @@ use Rattle.form_reader.specs.Surrounding.{setting_with}
 use Rattle.form_reader.proofs.Callers.{token_ends}
 use Rattle.std.proofs.Common.{refl}
 use Rattle.form_reader.specs.declared.stage.Stage.TheVariants.{CallToken as AtCallToken}
-use Rattle.form_reader.proofs.Spending.{spent_so, moved, token_taken, call_token_costs}
+use Rattle.form_reader.proofs.Spending.{moved, token_taken}
 use Rattle.form_reader.proofs.macros.in_call_token.Goals as goal
 
 pub returns-in_ok-ended-in-Ended-clause-moves : goal.returns-in_ok-ended-in-Ended-clause-moves
