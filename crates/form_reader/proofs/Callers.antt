@@ -49,6 +49,10 @@ module _ (setting : Setting) (frames : List Frame) (c at : ℕ) (cs : List ℕ) 
       ap call_gives (is ∙ ap of_character same) ∙ sym (named_gives name dispatch) ∙ sym (ap macro_gives e) in
       subst (λ (r : Read Found). IfOk result (λ event. Brings setting after at cs event r)) whole begins
 
+  pub character_is : (function : Option (List ℕ)) (name : List ℕ) (f : Function) (call : InvokedCall)
+      → function ≡ Some name → is_dispatch_name name ≡ false → f ≡ function_of name → call ≡ of_character f → macro_gives function ≡ call_gives call
+  character_is function name f call e dispatch same is = ap macro_gives e ∙ named_gives name dispatch ∙ sym (ap call_gives (is ∙ ap of_character same))
+
 pub token_ends : (setting : Setting) (frames : List Frame) (on : List Mark → Plan Found) (old new : Scan) (marks : List Mark) (fed : LineByte) (at c : ℕ) (cs : List ℕ) (event : Event)
     → fed ≡ LineEnded → TokenFeeds setting.table setting.limits new at c cs fed (token_read setting.table setting.limits old at (c ∷ cs)) → marks ≡ new.marks
     → Brings setting frames at (c ∷ cs) event (plan_gives setting frames (on marks) at (c ∷ cs))

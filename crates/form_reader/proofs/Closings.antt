@@ -55,6 +55,15 @@ module _ (setting : Setting) (frames : List Frame) (call : InvokedCall) (at : �
   tailed_closes part xs ys tail last result e same ends brings =
       subst (λ (r : Read Found). IfOk result (λ event. Brings setting frames at cs event r)) ((λ i. completing (dotted (same i) (ends i))) ∙ sym (ap closing e)) brings
 
+  pub list_gathers : (part : Part) (xs ys : List Object) → part ≡ InList xs → ys ≡ xs → closing part ≡ completing (many ys)
+  list_gathers part xs ys e same = ap closing e ∙ list_gives xs ∙ sym (ap (λ (xs : List Object). completing (many xs)) same)
+
+  pub until_gathers : (part : Part) (close : ℕ) (xs ys : List Object) → part ≡ InUntil close xs → ys ≡ xs → closing part ≡ completing (many ys)
+  until_gathers part close xs ys e same = ap closing e ∙ until_gives close xs ∙ sym (ap (λ (xs : List Object). completing (many xs)) same)
+
+  pub tailed_gathers : (part : Part) (xs ys : List Object) (tail last : Object) → part ≡ InTailed xs tail → ys ≡ xs → last ≡ tail → closing part ≡ completing (dotted ys last)
+  tailed_gathers part xs ys tail last e same ends = ap closing e ∙ sym (λ i. completing (dotted (same i) (ends i)))
+
 -- what the call gives, whether a token ends it or not
 pub call_ends : (setting : Setting) (frames : List Frame) (call : InvokedCall) (at : ℕ) (cs : List ℕ) (token : Bool) (material : Material) (round : ℕ) (done : Completed) (event : Event)
     → round ≡ length frames → completed setting round call token false material ≡ plan_of done

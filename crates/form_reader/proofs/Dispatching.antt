@@ -58,6 +58,20 @@ module _ (setting : Setting) (frames : List Frame) (character at c : ℕ) (numbe
       ap call_gives (is ∙ (λ i. of_sub (same i) (upper i) (digits i))) ∙ sym (sub_taken lt ascii ∙ ap sub_found e) in
       subst (λ (r : Read Found). IfOk result (λ event. Brings setting after (at + 1) cs event r)) whole begins
 
+  pub sub_is : (name : List ℕ) (f : Function) (sub : ℕ) (n : Option ℕ) (call : InvokedCall) → at < setting.limits.text → c < 128 → dispatch_at setting.table character c ≡ Some name
+      → f ≡ function_of name → sub ≡ upper_case c → n ≡ number → call ≡ of_sub f sub n → sub_gives ≡ call_gives call
+  sub_is name f sub n call lt ascii e same upper digits is =
+      sub_taken lt ascii ∙ ap sub_found e ∙ sym (ap call_gives (is ∙ (λ i. of_sub (same i) (upper i) (digits i))))
+
+-- where the number has ended, it is what the sub-character gives
+pub number_is : (setting : Setting) (frames : List Frame) (held character at c : ℕ) (old new : Option ℕ) (cs : List ℕ)
+    → run setting.table setting.limits (number_after setting old) at (c ∷ cs) ≡ Ok (new, at, c ∷ cs) → held ≡ character
+    → run setting.table setting.limits (given setting frames (dispatched setting (length frames) (inner_at setting (length frames)) character old)) at (c ∷ cs)
+    ≡ sub_gives setting frames held at c new cs
+number_is setting frames held character at c old new cs e same =
+    gathering_ends setting frames (number_after setting old) (sub_there setting (length frames) (inner_at setting (length frames)) character) new at at (c ∷ cs) (c ∷ cs) e
+    ∙ ap (λ (n : ℕ). sub_gives setting frames n at c new cs) (sym same)
+
 -- the number has ended, and the byte is the sub-character
 pub number_ended : (setting : Setting) (frames after : List Frame) (character at c : ℕ) (old new : Option ℕ) (cs : List ℕ) (result : Result Event AllocError)
     → run setting.table setting.limits (number_after setting old) at (c ∷ cs) ≡ Ok (new, at, c ∷ cs)

@@ -11,8 +11,10 @@ pub mod Gathered
 pub mod Fed
 pub mod FedTokens
 pub mod TakenTokens
+pub mod Costing
 pub mod Beginnings
 pub mod Goings
+pub mod Spending
 pub mod Deliveries
 pub mod Closings
 pub mod Functions

@@ -1,5 +1,5 @@
 -- What a step and the end of the text are to a reader, from what a turn is to the outcome.
-use Rattle.std.proofs.Common.{◌≡◌, ℕ, ◌+◌, ◌≤◌, true, List, [], ◌∷◌, ◌++◌, length, Ok, Err, take, drop, sym, ap, subst, ◌∙◌, append_assoc, append-nil, length-append, arith}
+use Rattle.std.proofs.Common.{◌≡◌, ℕ, ◌+◌, ◌≤◌, true, List, [], ◌∷◌, ◌++◌, length, Result, Ok, Err, IfOk, take, drop, sym, ap, subst, ◌∙◌, append_assoc, append-nil, length-append, arith}
 use Rattle.std.proofs.lemmas.List.{take-append-drop}
 use Rattle.lisp_object.specs.declared.datum.Datum.{Datum}
 use Rattle.lisp_object.specs.Object.{Object, IsSound}
@@ -18,6 +18,10 @@ use Rattle.form_reader.specs.declared.turn.Turn.TheVariants.{Goes, Form as TurnF
 use Rattle.form_reader.specs.declared.found.Found.{Found}
 use Rattle.form_reader.specs.declared.found.Found.TheVariants.{Nothing as nothing, One as one, LoneDot as lone_dot, TheEnd as the_end}
 use Rattle.form_reader.specs.Plans.{Read}
+use Rattle.std.specs.declared.alloc.AllocError.{AllocError}
+use Rattle.form_reader.specs.declared.objects.Passed.{Passed}
+use Rattle.form_reader.specs.declared.objects.Passed.TheVariants.{Done as PassedDone}
+use Rattle.form_reader.specs.Delivering.{Passes}
 use Rattle.form_reader.specs.Resuming.{stage_gives}
 use Rattle.form_reader.specs.Setting.{Setting}
 use Rattle.form_reader.specs.Reading.{form, refused, reads}
@@ -25,7 +29,8 @@ use Rattle.form_reader.specs.declared.in_place.InPlace.{InPlace}
 use Rattle.form_reader.specs.declared.in_place.InPlace.TheVariants.{Taken as InPlaceTaken, Left as InPlaceLeft, Refused as InPlaceRefused}
 use Rattle.form_reader.specs.InPlace.{FeedsInPlace, IsReadyInPlace}
 use Rattle.form_reader.specs.Turning.{outcome_of, rest_of, TurnsTo, IsStanding, IsReadyTurn, BeginsFrom}
-use Rattle.form_reader.specs.Reader.{fed, begun, MayGoOn, DecideNothing, IsNew, IsAfter, IsAfterIn, Steps, BeginsLater, IsSoundStep, Takes}
+use Rattle.form_reader.specs.Reader.{fed, begun, MayGoOn, DecideNothing, IsNew, IsAfter, IsAfterIn, Steps, BeginsLater, IsSoundStep, Takes, NeedsMemory, undecided, token_ends, call_ends, MayRunOutIn, MayRunOut}
+use Rattle.form_reader.specs.Memory.{RunsOut, with_it, before_it, goes_on, comes_to}
 use Rattle.form_reader.proofs.Deciding.{may_go_on, decide_nothing}
 use Rattle.form_reader.proofs.Forms.{reads_is, stood}
 
@@ -190,3 +195,36 @@ module _ (under : Limits → Setting) (held handed : Limits) (old reader : FormR
       let told : Steps (under handed) reader (front ++ byte ∷ []) (StepRefused code place) =
       subst (λ (s : Step). Steps (under handed) reader (front ++ byte ∷ []) s) e (under_limits limits after steps) in
       ap (reads (under handed)) (whole_text same) ∙ told.0 (drop (k + 1) bytes)
+
+-- ---- out of memory
+
+needs : (setting : Setting) (old : FormReader) (stage : Stage) (bytes : List ℕ) (byte : ℕ) → IsAfterIn setting old (Open stage) bytes
+    → RunsOut setting old.frames stage old.at byte → NeedsMemory setting old.frames stage old.start old.at bytes byte
+needs setting old stage bytes byte a (before_it ends) = token_ends ends
+needs setting old stage bytes byte a (with_it (goes_on after later le stands same)) =
+    let many : length (bytes ++ byte ∷ []) ≡ length bytes + 1 = length-append bytes (byte ∷ []) in
+    let count : old.start + (old.at + 1) ≡ length (bytes ++ byte ∷ []) = omega (arith, many, a.0) in
+    undecided (decide_nothing setting after later old.start (old.at + 1) (bytes ++ byte ∷ []) stands le count
+    (λ cs. ap (reads setting) (append_assoc bytes (byte ∷ []) cs) ∙ a.1 (byte ∷ cs) ∙ ap (outcome_of setting old.start) (same cs)))
+needs setting old stage bytes byte a (with_it (comes_to inner round is plan cost same)) =
+    call_ends inner round is plan cost (λ cs. a.1 (byte ∷ cs) ∙ ap (outcome_of setting old.start) (same cs))
+
+pub runs_out : (setting : Setting) (old : FormReader) (stage : Stage) (bytes : List ℕ) (byte : ℕ) → old.state ≡ Open stage → IsAfter setting old bytes
+    → RunsOut setting old.frames stage old.at byte → MayRunOut setting old bytes byte
+runs_out setting old stage bytes byte e after h =
+    subst (λ (s : State). MayRunOutIn setting old s bytes byte) (sym e)
+    (needs setting old stage bytes byte (subst (λ (s : State). IsAfterIn setting old s bytes) e after) h)
+
+pub ran_out : (setting : Setting) (old : FormReader) (bytes : List ℕ) (byte : ℕ) → old.state ≡ OutOfMemory → MayRunOut setting old bytes byte
+ran_out setting old bytes byte e = subst (λ (s : State). MayRunOutIn setting old s bytes byte) (sym e) tt
+
+-- ---- a turn
+
+-- what the attempt came to before the byte is what it gives
+pub done_outcome : (setting : Setting) (frames after : List Frame) (start at c : ℕ) (cs : List ℕ) (passed : Passed) (found : Found) (read : Read Found) (result : Result Turn AllocError)
+    → passed ≡ PassedDone found → Passes setting frames at c cs passed read
+    → IfOk result (λ turn. TurnsTo setting after cs turn (outcome_of setting start (Ok (found, at, c ∷ cs))))
+    → IfOk result (λ turn. TurnsTo setting after cs turn (outcome_of setting start read))
+done_outcome setting frames after start at c cs passed found read result e passes turns =
+    let told : Passes setting frames at c cs (PassedDone found) read = subst (λ (p : Passed). Passes setting frames at c cs p read) e passes in
+    subst (λ (r : Read Found). IfOk result (λ turn. TurnsTo setting after cs turn (outcome_of setting start r))) (sym told.0) turns

@@ -3,6 +3,9 @@ use Rattle.std.specs.Prelude.{ℕ, ◌≡◌, ◌+◌, ◌≤◌, true, List, []
 use Rattle.lisp_object.specs.Object.{IsSound}
 use Rattle.lisp_object.specs.Datum.{object_of, is_proper}
 use Rattle.form_reader.specs.declared.limits.Limits.{Limits}
+use Rattle.form_reader.specs.declared.found.Found.{Found}
+use Rattle.form_reader.specs.declared.frame.Frame.{Frame}
+use Rattle.form_reader.specs.declared.stage.Stage.{Stage}
 use Rattle.form_reader.specs.declared.stage.Stage.TheVariants.{Object as AtObject}
 use Rattle.form_reader.specs.declared.reader.FormReader.{FormReader}
 use Rattle.form_reader.specs.declared.reader.State.{State}
@@ -15,7 +18,10 @@ use Rattle.form_reader.specs.declared.turn.Turn.{Turn}
 use Rattle.form_reader.specs.declared.turn.Turn.TheVariants.{Goes, Form as TurnForm, Refused as TurnRefused}
 use Rattle.form_reader.specs.Setting.{Setting}
 use Rattle.form_reader.specs.Reading.{Outcome, form, empty, refused, reads}
-use Rattle.form_reader.specs.Turning.{rest_of}
+use Rattle.form_reader.specs.Plans.{Plan}
+use Rattle.form_reader.specs.Frames.{plan_gives}
+use Rattle.form_reader.specs.Memory.{may_cost, EndsToken}
+use Rattle.form_reader.specs.Turning.{outcome_of, rest_of}
 
 -- the limits under which it reads
 abbrev pub limits_of : FormReader → Limits
@@ -86,6 +92,25 @@ abbrev pub BeginsLater : FormReader → FormReader → Step → Type 0
 BeginsLater old new StepMore = (begun old ≤ begun new) × (begun new ≤ fed new)
 BeginsLater old new (StepForm datum start «end» next) = (begun old ≤ start) × (begun new ≡ 0)
 BeginsLater old new (StepRefused code place) = begun new ≡ begun old
+
+-- Where memory may run out at a byte that comes after these bytes, where the reader is at this stage. The bytes with this one
+-- decide nothing. Or the byte ends an open token, and neither the token's meaning nor its call is refused. Or none or some of the
+-- open calls end with the byte, and in those round them something is found, or a function of a user refuses its call.
+pub data NeedsMemory (setting : Setting) (frames : List Frame) (stage : Stage) (start at : ℕ) (bytes : List ℕ) (c : ℕ) : Type 0 where
+  undecided : DecideNothing setting (bytes ++ c ∷ []) → NeedsMemory setting frames stage start at bytes c
+  token_ends : EndsToken setting frames stage at c → NeedsMemory setting frames stage start at bytes c
+  call_ends : (inner round : List Frame) → frames ≡ inner ++ round → (plan : Plan Found) → may_cost plan ≡ true
+      → ((cs : List ℕ) → reads setting (bytes ++ c ∷ cs) ≡ outcome_of setting start (plan_gives setting round plan (at + 1) cs))
+      → NeedsMemory setting frames stage start at bytes c
+
+-- The same of a reader. A byte needs none after a refusal.
+abbrev pub MayRunOutIn : Setting → FormReader → State → List ℕ → ℕ → Type 0
+MayRunOutIn setting reader (Open stage) bytes c = NeedsMemory setting reader.frames stage reader.start reader.at bytes c
+MayRunOutIn setting reader (Refused code place) bytes c = ⊥
+MayRunOutIn setting reader OutOfMemory bytes c = Unit {0}
+
+abbrev pub MayRunOut : Setting → FormReader → List ℕ → ℕ → Type 0
+MayRunOut setting reader bytes c = MayRunOutIn setting reader reader.state bytes c
 
 -- What is answered is the outcome, and the object of a form is sound.
 abbrev pub IsOutcome : ReadOutcome → Outcome → Type 0

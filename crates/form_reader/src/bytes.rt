@@ -1,7 +1,7 @@
 //! One byte of what a call gathers.
 ghost use Rattle.std.specs.Prelude.{◌≡◌, ◌≤◌, ◌<◌, ◌+◌, ◌^◌, ℕ, List, ◌∷◌, ◌++◌, [], IfOk, IfSome, OnErr, Ok, None};
 ghost use Rattle.form_reader.specs.Plans.{loop, next_byte, run};
-ghost use Rattle.form_reader.specs.Gathering.{text_turn, line_turn, block_turn, number_turn};
+ghost use Rattle.form_reader.specs.Gathering.{text_turn, kept, line_turn, block_turn, number_turn};
 ghost use Rattle.form_reader.specs.Gathering.{block_next};
 ghost use Rattle.form_reader.specs.Feeding.{TextFeeds, EscapeFeeds, LineFeeds, BlockFeeds, NumberFeeds};
 ghost use Rattle.form_reader.specs.declared.bytes.TextByte.TheVariants.{More as TextMore, Escape as TextEscape, Ended as TextEnded};
@@ -56,6 +56,9 @@ pub(crate) fn text_byte(
     ensures escape { result ≡ Ok TextEscape → at < limits.now.text }
     ensures ended { result ≡ Ok TextEnded → at < limits.now.text }
     ensures calm { OnErr result ((at < limits.now.text) × (c < 128)) }
+    ensures goes { (cs : List ℕ) → OnErr result
+        (run readtable.now limits.now (loop limits.now (text_turn readtable.now terminator) text.old) at (c ∷ cs)
+        ≡ run readtable.now limits.now (loop limits.now (text_turn readtable.now terminator) (text.old ++ c ∷ [])) (at + 1) cs) }
 {
     if at >= limits.text {
         return Ok(TextByte::Refused(FORM_TOO_LONG));
@@ -88,6 +91,9 @@ pub(crate) fn escaped_byte(
         (run readtable.now limits.now (next_byte (λ d. loop limits.now (text_turn readtable.now terminator) (text.old ++ d ∷ []))) at (c ∷ cs))) }
     ensures more { result ≡ Ok None → at < limits.now.text }
     ensures calm { OnErr result ((at < limits.now.text) × (c < 128)) }
+    ensures goes { (cs : List ℕ) → OnErr result
+        (run readtable.now limits.now (next_byte (λ d. loop limits.now (text_turn readtable.now terminator) (text.old ++ d ∷ []))) at (c ∷ cs)
+        ≡ run readtable.now limits.now (loop limits.now (text_turn readtable.now terminator) (text.old ++ c ∷ [])) (at + 1) cs) }
 {
     if at >= limits.text {
         return Ok(Some(FORM_TOO_LONG));
@@ -116,6 +122,9 @@ pub(crate) fn line_byte(
     ensures more { result ≡ Ok LineMore → at < limits.now.text }
     ensures ended { result ≡ Ok LineEnded → at < limits.now.text }
     ensures calm { OnErr result ((at < limits.now.text) × (c < 128)) }
+    ensures goes { (cs : List ℕ) → OnErr result
+        (run readtable.now limits.now (loop limits.now (line_turn keep) text.old) at (c ∷ cs)
+        ≡ run readtable.now limits.now (loop limits.now (line_turn keep) (kept keep text.old c)) (at + 1) cs) }
 {
     if at >= limits.text {
         return Ok(LineByte::Refused(FORM_TOO_LONG));

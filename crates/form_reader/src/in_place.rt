@@ -1,7 +1,10 @@
 //! One byte that begins a token, goes on one, or is whitespace in an open call, taken where the reader is.
-ghost use Rattle.std.specs.Prelude.{◌≡◌, ◌≤◌, ◌<◌, ◌+◌, ℕ, List, ◌∷◌, length, true, IfOk, IfSome, IsTrue};
+ghost use Rattle.std.specs.Prelude.{◌≡◌, ◌≤◌, ◌<◌, ◌+◌, ℕ, List, ◌∷◌, length, true, IfOk, IfSome, OnErr, IsTrue};
 ghost use Rattle.form_reader.specs.Feeding.{is_going};
 ghost use Rattle.form_reader.specs.Surrounding.{setting_with};
+ghost use Rattle.form_reader.specs.declared.stage.Stage.TheVariants.{Object as AtObject};
+ghost use Rattle.form_reader.specs.Memory.{Costs, RunsOut};
+ghost use Rattle.form_reader.specs.Resuming.{stage_gives};
 ghost use Rattle.form_reader.specs.InPlace.{Begins, FeedsInPlace, IsReadyInPlace, Stays};
 
 use crate::attempt::stands_alone;
@@ -38,6 +41,8 @@ pub(crate) fn in_place<R: MacroFunctions>(
     ensures feeds { let setting = setting_with (R.registered with.now.macros.now) R.Meaning.way R.Meaning.answer with.now in
         (cs : List ℕ) → IfOk result (FeedsInPlace setting frames.now at c cs stage.old stage.new) }
     ensures ready { IfOk result (IsReadyInPlace with.now.limits at stage.new) }
+    ensures memory { let setting = setting_with (R.registered with.now.macros.now) R.Meaning.way R.Meaning.answer with.now in
+        OnErr result (RunsOut setting frames.now stage.old at c) }
 {
     match stage {
         Stage::Object => match begun_at(with, frames, at, c)? {
@@ -74,6 +79,8 @@ fn begun_at<R: MacroFunctions>(
     ensures begins { let setting = setting_with (R.registered with.now.macros.now) R.Meaning.way R.Meaning.answer with.now in
         (cs : List ℕ) → IfOk result (λ begun. IfSome begun (λ scan. Begins setting frames.now at c cs scan)) }
     ensures ready { IfOk result (λ begun. IfSome begun (λ scan. (at < with.now.limits.text) × IsTrue (is_going scan.stage))) }
+    ensures memory { let setting = setting_with (R.registered with.now.macros.now) R.Meaning.way R.Meaning.answer with.now in
+        OnErr result (Costs setting frames.now (at + 1) (λ cs. stage_gives setting frames.now AtObject at (c ∷ cs))) }
 {
     if frames.is_closed_by(c) {
         return Ok(None);

@@ -12,6 +12,7 @@
 //! - specs/Reading.antt: objects, calls and forms
 //! - specs/Frames.antt, specs/Resuming.antt: what open calls stand for, and a place in the innermost, for a reader that takes
 //!   one byte at a time; specs/Feeding.antt, specs/Delivering.antt: what one byte, and what is found, are to them
+//! - specs/Memory.antt: where memory may run out
 //! - specs/Ready.antt, specs/Standing.antt: what keeps such a reader going; specs/Turning.antt, specs/Ending.antt: what one byte,
 //!   and the end of the text, are to the outcome; specs/Reader.antt: what a reader is after, and what it answers
 //!

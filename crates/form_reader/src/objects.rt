@@ -6,6 +6,7 @@ ghost use Rattle.form_reader.specs.Plans.{gives};
 ghost use Rattle.form_reader.specs.Surrounding.{setting_with};
 ghost use Rattle.form_reader.specs.Reading.{is_blank, token_found};
 ghost use Rattle.form_reader.specs.Frames.{plan_gives, place_gives};
+ghost use Rattle.form_reader.specs.Memory.{Costs, HasMeaning, RunsOut, Spends, SpendsMove};
 ghost use Rattle.form_reader.specs.Resuming.{Brings, Moves, stage_gives};
 ghost use Rattle.form_reader.specs.declared.frame.Frame.{Frame as OpenCall};
 ghost use Rattle.form_reader.specs.declared.stage.Stage.TheVariants.{Object as AtObject, Token as AtToken};
@@ -41,6 +42,8 @@ pub(crate) fn at_object<R: MacroFunctions>(
         (stage_gives setting frames.old AtObject at (c ∷ cs))) }
     ensures ready { IfOk result (IsReady with.now.limits (at + 1)) }
     ensures nesting { IfOk result (λ _. length frames.new ≤ with.now.limits.nesting) }
+    ensures memory { let setting = setting_with (R.registered with.now.macros.now) R.Meaning.way R.Meaning.answer with.now in
+        Spends result (Costs setting frames.old (at + 1) (λ cs. stage_gives setting frames.old AtObject at (c ∷ cs))) }
 {
     if let Some(frame) = frames.pop_closed_by(c) {
         if at >= with.limits.text {
@@ -147,6 +150,8 @@ pub(crate) fn in_token<R: MacroFunctions>(
         (frames : List OpenCall) (cs : List ℕ) → IfOk result (λ moved. Moves setting frames at c cs moved
         (stage_gives setting frames (AtToken scan) at (c ∷ cs))) }
     ensures ready { IfOk result (IsReadyMove with.now.limits at) }
+    ensures memory { let setting = setting_with (R.registered with.now.macros.now) R.Meaning.way R.Meaning.answer with.now in
+        (frames : List OpenCall) → SpendsMove result (RunsOut setting frames (AtToken scan) at c) }
 {
     match scan.byte(with.readtable, &with.limits, at, c)? {
         BegunByte::More(scan) => Ok(Moved::Taken(Event::Stage(Stage::Token(scan)))),
@@ -167,6 +172,8 @@ pub(crate) fn token_end<R: MacroFunctions>(
         (frames : List OpenCall) (cs : List ℕ) → IfOk result (λ event. Brings setting frames at cs event
         (plan_gives setting frames (token_found setting marks.items) at cs)) }
     ensures ends { IfOk result (IsEnd 1 at) }
+    ensures memory { let setting = setting_with (R.registered with.now.macros.now) R.Meaning.way R.Meaning.answer with.now in
+        Spends result (HasMeaning setting marks.items) }
 {
     let case = with.readtable.case();
     match tell(with.alloc, case, with.packages, with.current, 10, marks) {

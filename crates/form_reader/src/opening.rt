@@ -4,8 +4,10 @@ ghost use Rattle.form_reader.specs.Setting.{Setting, is_baseless, standard_way, 
 ghost use Rattle.form_reader.specs.Surrounding.{setting_with};
 ghost use Rattle.form_reader.specs.declared.frame.Frame.{Frame as OpenCall};
 ghost use Rattle.form_reader.specs.Frames.{plan_gives};
-ghost use Rattle.form_reader.specs.Reading.{completed};
-ghost use Rattle.form_reader.specs.Resuming.{Begins, Brings, Gathers, ComesTo};
+ghost use Rattle.form_reader.specs.Completing.{plan_of};
+ghost use Rattle.form_reader.specs.Memory.{may_cost, is_given, Costs, Spends};
+ghost use Rattle.form_reader.specs.Reading.{called, completed, gathered};
+ghost use Rattle.form_reader.specs.Resuming.{inner_at, Begins, Brings, Gathers, ComesTo};
 ghost use Rattle.form_reader.specs.Opening.{reads_objects};
 ghost use Rattle.form_reader.specs.Ready.{IsReady, IsEnd, completed_lookahead, space};
 ghost use Rattle.std_macros.specs.Results.{view_gathered, IsProperGathered};
@@ -38,6 +40,9 @@ pub(crate) fn begin_call<R: MacroFunctions>(
         (cs : List ℕ) → IfOk result (λ event. Begins setting frames.new frames.old call at cs event) }
     ensures ready { IfOk result (IsReady with.now.limits at) }
     ensures nesting { IfOk result (λ _. length frames.new ≤ with.now.limits.nesting) }
+    ensures memory { let setting = setting_with (R.registered with.now.macros.now) R.Meaning.way R.Meaning.answer with.now in
+        Spends result (Costs setting frames.old at (λ cs. plan_gives setting frames.old
+        (called setting (length frames.old) (inner_at setting (length frames.old)) call) at cs)) }
 {
     match way_of(with, &call) {
         None => Ok(Event::Refused(OUT_OF_PROFILE, at.saturating_sub(1))),
@@ -61,6 +66,9 @@ fn gather<R: MacroFunctions>(
         (cs : List ℕ) → IfOk result (λ event. Gathers setting frames.new frames.old call way at cs event) }
     ensures ready { IfOk result (IsReady with.now.limits at) }
     ensures nesting { IfOk result (λ _. length frames.new ≤ with.now.limits.nesting) }
+    ensures memory { let setting = setting_with (R.registered with.now.macros.now) R.Meaning.way R.Meaning.answer with.now in
+        Spends result (Costs setting frames.old at (λ cs. plan_gives setting frames.old
+        (gathered setting (length frames.old) (inner_at setting (length frames.old)) call way) at cs)) }
 {
     match way {
         Way::Nothing => ended(with, frames.len(), &call, false, StdGathered::Nothing, at),
@@ -103,6 +111,9 @@ fn gather_objects<R: MacroFunctions>(
         (cs : List ℕ) → IfOk result (λ event. Gathers setting frames.new frames.old call way at cs event) }
     ensures ready { IfOk result (IsReady with.now.limits at) }
     ensures nesting { IfOk result (λ _. length frames.new ≤ with.now.limits.nesting) }
+    ensures memory { let setting = setting_with (R.registered with.now.macros.now) R.Meaning.way R.Meaning.answer with.now in
+        Spends result (Costs setting frames.old at (λ cs. plan_gives setting frames.old
+        (gathered setting (length frames.old) (inner_at setting (length frames.old)) call way) at cs)) }
 {
     let deep = frames.len() >= with.limits.nesting as usize;
     match way {
@@ -140,6 +151,7 @@ fn gather_objects<R: MacroFunctions>(
 pub(crate) fn event_of(completed: Completed, at: usize) -> Event
     ensures comes { (setting : Setting) (frames : List OpenCall) (cs : List ℕ) → ComesTo setting frames completed at cs result }
     ensures ends { IsEnd (completed_lookahead completed) at result }
+    ensures gives { is_given result ≡ true → may_cost (plan_of completed) ≡ true }
 {
     match completed {
         Completed::Gives(found) => Event::Gives(found),
@@ -163,6 +175,8 @@ pub(crate) fn ended<R: MacroFunctions>(
         → IfOk result (λ event. Brings setting frames at cs event
         (plan_gives setting frames (completed setting (length frames) call.now token false (view_gathered gathered)) at cs)) }
     ensures ends { IfOk result (IsEnd (space token) at) }
+    ensures memory { let setting = setting_with (R.registered with.now.macros.now) R.Meaning.way R.Meaning.answer with.now in
+        Spends result (may_cost (completed setting round call.now token false (view_gathered gathered)) ≡ true) }
 {
     Ok(event_of(complete(with, round, call, token, false, gathered)?, at))
 }

@@ -67,7 +67,7 @@ impl FormReader {
     ghost use Rattle.form_reader.specs.declared.reader.Step.TheVariants.{Refused as StepRefused};
     ghost use Rattle.form_reader.specs.declared.ending.ReadOutcome.TheVariants.{Refused as ReadRefused};
     ghost use Rattle.form_reader.specs.Turning.{IsReadyTurn, BeginsFrom};
-    ghost use Rattle.form_reader.specs.Reader.{limits_of, fed, begun, HasRefused, HasNoMemory, IsNew, IsAfter, Steps, BeginsLater, IsSoundStep, Takes, IsOutcome};
+    ghost use Rattle.form_reader.specs.Reader.{limits_of, fed, begun, HasRefused, HasNoMemory, IsNew, IsAfter, Steps, BeginsLater, IsSoundStep, Takes, MayRunOut, IsOutcome};
 
     /// A reader that was fed nothing. It keeps `alloc` for what it gathers.
     pub fn new(alloc: Global, limits: Limits) -> FormReader
@@ -99,7 +99,8 @@ impl FormReader {
     }
 
     /// One more byte of the text, under the same readtable, packages, current package and functions as the bytes before it.
-    /// After a refusal, and after it ran out of memory, it answers the same again.
+    /// After a refusal, and after it ran out of memory, it answers the same again. It runs out of memory only where the bytes
+    /// with this one decide nothing, where the byte ends a token that is not refused, or where a call ends with it.
     pub fn step<R: MacroFunctions>(
         &mut self,
         byte: u8,
@@ -126,6 +127,13 @@ impl FormReader {
             → (result ≡ Ok (StepRefused code place)) × HasRefused self.new code place }
         ensures memory { OnErr result (HasNoMemory self.new) }
         ensures spent { HasNoMemory self.old → IsErr result }
+        ensures needs { (bytes : List ℕ) → IsAfter
+            (setting_of (limits_of self.old) readtable.now packages.now.0 current.now
+            (R.registered macros.now) R.Meaning.way R.Meaning.answer)
+            self.old bytes → OnErr result (MayRunOut
+            (setting_of (limits_of self.old) readtable.now packages.now.0 current.now
+            (R.registered macros.now) R.Meaning.way R.Meaning.answer)
+            self.old bytes byte) }
     {
         let with = Surroundings {
             alloc: self.alloc,

@@ -3,7 +3,7 @@ ghost use Rattle.std.specs.Prelude.{◌≡◌, ◌≤◌, ◌<◌, ℕ, List, []
 ghost use Rattle.token_scan.specs.Tokens.{kind, typed, typed_text};
 ghost use Rattle.token_scan.specs.Spelling.{ends_tokens};
 ghost use Rattle.token_scan.specs.Scans.{GoesPast, Scan, begun, has_begun, token_from};
-ghost use Rattle.form_reader.specs.Feeding.{TokenFeeds, is_going, token_read};
+ghost use Rattle.form_reader.specs.Feeding.{TokenFeeds, GoesOn, is_going, token_read};
 ghost use Rattle.form_reader.specs.declared.bytes.LineByte.TheVariants.{Ended as LineEnded, More as LineMore};
 ghost use Rattle.form_reader.specs.Begun.{BegunFeeds, FirstFeeds, IsBegunByte};
 ghost use Rattle.form_reader.specs.declared.stage.BegunByte.TheVariants.{More as BegunMore};
@@ -75,6 +75,7 @@ pub(crate) fn first_byte(
     ensures calm { OnErr result (at < limits.now.text) }
     ensures goes { (more : List ℕ) → OnErr result
         (GoesPast at (token_from (begun limits.now.token) at (typed_text readtable.now (c ∷ more)))) }
+    ensures next { OnErr result (GoesOn readtable.now limits.now (begun limits.now.token) at c) }
 {
     let mut scan = TokenScan::begin(alloc, limits.token);
     match token_byte(readtable, limits, &mut scan, at, c)? {
@@ -110,6 +111,7 @@ impl BegunScan {
         ensures calm { OnErr result (at < limits.now.text) }
         ensures goes { (more : List ℕ) → OnErr result
             (GoesPast at (token_from self.old at (typed_text readtable.now (c ∷ more)))) }
+        ensures next { OnErr result (GoesOn readtable.now limits.now self.old at c) }
     {
         token_byte(readtable, limits, &mut self.scan, at, c)
     }
@@ -132,6 +134,7 @@ impl BegunScan {
         ensures calm { OnErr result (at < limits.now.text) }
         ensures goes { (more : List ℕ) → OnErr result
             (GoesPast at (token_from self at (typed_text readtable.now (c ∷ more)))) }
+        ensures next { OnErr result (GoesOn readtable.now limits.now self at c) }
     {
         let BegunScan { mut scan } = self;
         match token_byte(readtable, limits, &mut scan, at, c)? {

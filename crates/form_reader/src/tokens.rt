@@ -6,7 +6,7 @@ ghost use Rattle.token_scan.specs.Tokens.{kind, typed, typed_text};
 ghost use Rattle.token_scan.specs.Spelling.{ends_tokens};
 ghost use Rattle.token_scan.specs.Scans.{GoesPast, has_begun, token_from};
 ghost use Rattle.form_reader.specs.declared.bytes.LineByte.TheVariants.{Ended as LineEnded, More as LineMore};
-ghost use Rattle.form_reader.specs.Feeding.{TokenFeeds, is_going, token_read, refused_number};
+ghost use Rattle.form_reader.specs.Feeding.{TokenFeeds, GoesOn, is_going, token_read, refused_number};
 
 use crate::bytes::LineByte;
 use crate::limits::Limits;
@@ -18,7 +18,7 @@ use std::alloc::AllocError;
 use token_scan::{Fed, ScanRefusal, TokenScan};
 
 /// The byte `c` at `at`, after what was fed to `scan`. Only a byte that is taken needs memory.
-#[tactic(auto, using(crate::proofs::FedTokens::token_more, crate::proofs::FedTokens::token_ended, crate::proofs::FedTokens::token_over, crate::proofs::FedTokens::token_refused, crate::proofs::FedTokens::token_beyond))]
+#[tactic(auto, using(crate::proofs::FedTokens::token_more, crate::proofs::FedTokens::token_ended, crate::proofs::FedTokens::token_over, crate::proofs::FedTokens::token_refused, crate::proofs::FedTokens::token_beyond, crate::proofs::Costing::token_goes_on))]
 pub(crate) fn token_byte(
     readtable: &Readtable,
     limits: &Limits,
@@ -37,6 +37,7 @@ pub(crate) fn token_byte(
     ensures begun { IsTrue (has_begun scan.old) → IsTrue (has_begun scan.new) }
     ensures calm { OnErr result (at < limits.now.text) }
     ensures goes { (more : List ℕ) → OnErr result (GoesPast at (token_from scan.old at (typed_text readtable.now (c ∷ more)))) }
+    ensures next { OnErr result (GoesOn readtable.now limits.now scan.old at c) }
 {
     match scan.feed(readtable.syntax(c), c) {
         Ok(Fed::Ended) => Ok(LineByte::Ended),

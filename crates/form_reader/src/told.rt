@@ -1,5 +1,5 @@
 //! What a token means where packages are known.
-ghost use Rattle.std.specs.Prelude.{◌≡◌, ◌<◌, ◌≤◌, true, length, Ok, Err, codes, IfOk, IsTrue};
+ghost use Rattle.std.specs.Prelude.{◌≡◌, ◌<◌, ◌≤◌, true, length, Ok, Err, codes, IfOk, IsOk, IsTrue};
 ghost use Rattle.std.specs.List.{list_all};
 ghost use Rattle.lisp_object.specs.Ascii.{is_ascii};
 ghost use Rattle.lisp_object.specs.Object.{symbol};
@@ -9,6 +9,7 @@ ghost use Rattle.token_scan.specs.Marks.{are_ascii};
 ghost use Rattle.token_meaning.specs.Folding.{folded};
 ghost use Rattle.token_meaning.specs.Meanings.{meaning_of};
 ghost use Rattle.token_meaning.specs.Results.{is_ascii_name, view_meaning, IsProperNumber, IsAsciiName};
+ghost use Rattle.form_reader.specs.declared.told.TellError.TheVariants.{OutOfMemory};
 ghost use Rattle.form_reader.specs.Naming.{named, symbol_at, symbol_in, told_of, Tells, view_resolved, view_home};
 
 use crate::held::HeldObject;
@@ -60,7 +61,8 @@ pub(crate) fn tell(
     requires lowest_base { 2 ≤ base }
     requires highest_base { base ≤ 36 }
     requires current { IsPackage packages.now.0 current.now }
-    ensures { Tells result (told_of packages.now.0 current.now (meaning_of base (folded case marks.items))) }
+    ensures tells { Tells result (told_of packages.now.0 current.now (meaning_of base (folded case marks.items))) }
+    ensures memory { result ≡ Err OutOfMemory → IsOk (meaning_of base (folded case marks.items)) }
 {
     fold_case(case, marks.as_mut_slice());
     match meaning(alloc, marks.as_slice(), base) {

@@ -1,5 +1,5 @@
 //! One byte of a text, wherever a reader is in a form, and after what it ends.
-ghost use Rattle.std.specs.Prelude.{◌≡◌, ◌≤◌, ◌<◌, ◌+◌, ◌^◌, ℕ, List, [], ◌∷◌, length, Ok, IfOk};
+ghost use Rattle.std.specs.Prelude.{◌≡◌, ◌≤◌, ◌<◌, ◌+◌, ◌^◌, ℕ, List, [], ◌∷◌, length, true, Ok, IfOk, OnErr};
 ghost use Rattle.form_reader.specs.Plans.{Read};
 ghost use Rattle.form_reader.specs.declared.found.Found.{Found as FoundThere};
 ghost use Rattle.form_reader.specs.declared.frame.Frame.{Frame as OpenCall};
@@ -7,6 +7,7 @@ ghost use Rattle.form_reader.specs.declared.limits.Limits.{Limits as Bounds};
 ghost use Rattle.form_reader.specs.Setting.{Setting};
 ghost use Rattle.form_reader.specs.Surrounding.{setting_with};
 ghost use Rattle.form_reader.specs.Delivering.{Passes};
+ghost use Rattle.form_reader.specs.Memory.{is_given, RunsOut, SpendsPass};
 ghost use Rattle.form_reader.specs.Resuming.{Brings, stage_gives};
 ghost use Rattle.form_reader.specs.Ready.{lookahead, IsReady, IsReadyPass};
 ghost use Rattle.form_reader.specs.Turning.{outcome_of, rest_of, Settles, TurnsTo, IsStanding, IsReadySettled, IsReadyTurn, BeginsFrom};
@@ -62,6 +63,8 @@ pub(crate) fn feed<R: MacroFunctions>(
         (stage_gives setting frames.old stage at (c ∷ cs))) }
     ensures ready { IfOk result (IsReadyPass with.now.limits at) }
     ensures nesting { IfOk result (λ _. length frames.new ≤ with.now.limits.nesting) }
+    ensures memory { let setting = setting_with (R.registered with.now.macros.now) R.Meaning.way R.Meaning.answer with.now in
+        SpendsPass result (RunsOut setting frames.old stage at c) }
 {
     match advance(with, frames, stage, at, c)? {
         Moved::Taken(event) => Ok(Passed::Taken(event)),
@@ -87,6 +90,7 @@ fn settle<R: MacroFunctions>(
         (cs : List ℕ) (read : Read FoundThere) → Brings setting frames.old at cs event read
         → IfOk result (λ settled. Settles setting frames.new at cs settled read) }
     ensures ready { IfOk result (IsReadySettled with.now.limits frames.new at) }
+    ensures memory { OnErr result (is_given event ≡ true) }
 {
     match event {
         Event::Stage(stage) => Ok(Settled::Open(stage)),
@@ -132,6 +136,7 @@ fn turn_of<R: MacroFunctions>(
         → IfOk result (λ turn. TurnsTo setting frames.new cs turn (outcome_of setting start read)) }
     ensures ready { IfOk result (IsReadyTurn with.now.limits frames.new (start + at)) }
     ensures begins { IfOk result (BeginsFrom start) }
+    ensures memory { OnErr result (is_given event ≡ true) }
 {
     match settle(with, frames, event, at)? {
         Settled::Open(stage) => Ok(Turn::Goes(start, at, stage)),
@@ -193,6 +198,8 @@ pub(crate) fn take_byte<R: MacroFunctions>(
         (rest_of setting frames.old stage start at (c ∷ cs))) }
     ensures ready { IfOk result (IsReadyTurn with.now.limits frames.new (start + at + 1)) }
     ensures begins { IfOk result (BeginsFrom start) }
+    ensures memory { let setting = setting_with (R.registered with.now.macros.now) R.Meaning.way R.Meaning.answer with.now in
+        OnErr result (RunsOut setting frames.old stage at c) }
 {
     if let Stage::Object = &stage {
         let brought = at_object(with, frames, at, c)?;

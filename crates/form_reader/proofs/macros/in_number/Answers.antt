@@ -1,6 +1,9 @@
 use Rattle.form_reader.specs.Surrounding.{setting_with}
 use Rattle.form_reader.proofs.Goings.{goes_on, fails}
 use Rattle.form_reader.proofs.Dispatching.{number_ended, number_of}
+use Rattle.std.proofs.Common.{◌+◌}
+use Rattle.form_reader.proofs.Dispatching.{number_is}
+use Rattle.form_reader.proofs.Spending.{spends_same}
 use Rattle.form_reader.proofs.macros.in_number.Goals as goal
 
 pub returns-in-More-clause-brings : goal.returns-in-More-clause-brings
@@ -17,3 +20,9 @@ pub returns-in-Refused-clause-brings : goal.returns-in-Refused-clause-brings
 returns-in-Refused-clause-brings g c = λ cs.
     let setting = setting_with (g.R.MacroFunctions.registered c.args.with.now.macros.now) g.R.Meaning.Meaning.way g.R.Meaning.Meaning.answer c.args.with.now in
     fails setting c.args.frames.now _ _ c.args.at c.args.c cs c.in-Refused.code (c.in-Refused.ensures.feeds cs)
+
+pub returns-in-Ended-clause-memory : goal.returns-in-Ended-clause-memory
+returns-in-Ended-clause-memory g c =
+    let setting = setting_with (g.R.MacroFunctions.registered c.args.with.now.macros.now) g.R.Meaning.Meaning.way g.R.Meaning.Meaning.answer c.args.with.now in
+    spends_same setting c.args.frames.now (c.args.at + 1) _ _ c.sub_byte.result
+    (λ cs. number_is setting c.args.frames.now _ c.args.character c.args.at c.args.c c.args.number _ cs (c.in-Ended.ensures.feeds cs) c.get.ensures.value) c.sub_byte.ensures.memory

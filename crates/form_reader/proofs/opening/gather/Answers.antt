@@ -1,5 +1,6 @@
 use Rattle.form_reader.specs.Surrounding.{setting_with}
 use Rattle.form_reader.proofs.Beginnings.{token_at, escaped_at, nothing_at}
+use Rattle.form_reader.proofs.Spending.{nothing_costs}
 use Rattle.form_reader.proofs.opening.gather.Goals as goal
 
 pub returns-in-Nothing-clause-gathers : goal.returns-in-Nothing-clause-gathers
@@ -14,3 +15,8 @@ returns-in-Token-clause-gathers g c = λ cs.
 pub returns-in-EscapedToken-clause-gathers : goal.returns-in-EscapedToken-clause-gathers
 returns-in-EscapedToken-clause-gathers g c = λ cs.
     escaped_at _ c.args.frames.now c.args.call c.args.way c.args.at cs c.begin_escaped-scan.result c.in-EscapedToken.is c.begin_escaped-scan.ensures.value
+
+pub returns-in-Nothing-clause-memory : goal.returns-in-Nothing-clause-memory
+returns-in-Nothing-clause-memory g c =
+    let setting = setting_with (g.R.MacroFunctions.registered c.args.with.now.macros.now) g.R.Meaning.Meaning.way g.R.Meaning.Meaning.answer c.args.with.now in
+    nothing_costs setting c.args.frames.now c.args.call c.args.way c.args.at c.len.result c.ended.result c.in-Nothing.is c.len.ensures c.ended.ensures.memory

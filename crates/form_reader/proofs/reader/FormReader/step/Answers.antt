@@ -3,7 +3,8 @@ use Rattle.form_reader.specs.declared.reader.State.{State}
 use Rattle.form_reader.specs.declared.reader.State.TheVariants.{Open}
 use Rattle.form_reader.specs.Setting.{setting_of}
 use Rattle.form_reader.specs.Reader.{IsAfterIn}
-use Rattle.form_reader.proofs.ReaderSteps.{went_on, gave_up, stepped, taken_there, left_there, refused_there, ready_there}
+use Rattle.form_reader.proofs.ReaderSteps.{went_on, gave_up, stepped, taken_there, left_there, refused_there, ready_there, runs_out, ran_out}
+use Rattle.token_scan.proofs.Forwards.{held}
 use Rattle.form_reader.proofs.Standings.{standing_of}
 use Rattle.form_reader.proofs.reader.FormReader.step.Goals as goal
 
@@ -43,3 +44,23 @@ returns-in_ok-next-in-Ok-Left-clause-steps g c = λ bytes after.
     (subst (λ (s : State). IsAfterIn setting c.args.self.now s bytes)
     (c.in-Open.is ∙ ap Open (sym (c.replace-stage.ensures.value ∙ left_there setting c.args.self.now.frames c.args.self.now.start c.args.self.now.at c.args.byte c.in-Open.stage c.in_place.new.stage c.in-Ok-Left.field-0 [] c.in-Ok-Left.field-0-is (c.in-Ok-Left.ensures.feeds [])))) after)
     c.in_ok-next-in-Ok-Left.ensures.turns c.in_ok-next-in-Ok-Left.ensures.ready c.take.ensures.takes refl
+
+pub returns-in-Err-clause-needs : goal.returns-in-Err-clause-needs
+returns-in-Err-clause-needs g c = λ bytes after.
+    let setting = setting_of c.args.self.now.limits c.args.readtable.now c.args.packages.now.0 c.args.current.now
+    (g.R.MacroFunctions.registered c.args.macros.now) g.R.Meaning.Meaning.way g.R.Meaning.Meaning.answer in
+    runs_out setting c.args.self.now c.in-Open.stage bytes c.args.byte c.in-Open.is after c.in-Err.ensures.memory
+
+pub returns-in_err-next-in-Ok-Left-clause-needs : goal.returns-in_err-next-in-Ok-Left-clause-needs
+returns-in_err-next-in-Ok-Left-clause-needs g c = λ bytes after.
+    let setting = setting_of c.args.self.now.limits c.args.readtable.now c.args.packages.now.0 c.args.current.now
+    (g.R.MacroFunctions.registered c.args.macros.now) g.R.Meaning.Meaning.way g.R.Meaning.Meaning.answer in
+    held c.from_residual.result _ (runs_out setting c.args.self.now c.replace-stage.result bytes c.args.byte
+    (c.in-Open.is ∙ ap Open (sym (c.replace-stage.ensures.value ∙ left_there setting c.args.self.now.frames c.args.self.now.start c.args.self.now.at c.args.byte c.in-Open.stage c.in_place.new.stage c.in-Ok-Left.field-0 [] c.in-Ok-Left.field-0-is (c.in-Ok-Left.ensures.feeds []))))
+    after c.in_err-next-in-Ok-Left.ensures.memory)
+
+pub returns-in-OutOfMemory-clause-needs : goal.returns-in-OutOfMemory-clause-needs
+returns-in-OutOfMemory-clause-needs g c = λ bytes after.
+    let setting = setting_of c.args.self.now.limits c.args.readtable.now c.args.packages.now.0 c.args.current.now
+    (g.R.MacroFunctions.registered c.args.macros.now) g.R.Meaning.Meaning.way g.R.Meaning.Meaning.answer in
+    ran_out setting c.args.self.now bytes c.args.byte c.in-OutOfMemory.is
