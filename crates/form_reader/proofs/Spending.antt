@@ -140,10 +140,12 @@ pub call_token_costs : (setting : Setting) (frames : List Frame) (call : Invoked
     → ((cs : List ℕ) → TokenFeeds setting.table setting.limits new at c cs fed (token_read setting.table setting.limits old at (c ∷ cs))) → marks ≡ new.marks → round ≡ length frames
     → may_cost (completed setting round call true false (marked marks)) ≡ true → RunsOut setting frames (AtCallToken call old) at c
 call_token_costs setting frames call old new marks fed at c round e feeds same open_calls cost =
-    before_it (marks,
-    λ cs. subst (λ (f : LineByte). TokenFeeds setting.table setting.limits new at c cs f (token_read setting.table setting.limits old at (c ∷ cs))) e (feeds cs)
-    ∙ ap (λ (ms : List Mark). Ok (ms, at, c ∷ cs)) (sym same),
-    subst (λ (n : ℕ). may_cost (completed setting n call true false (marked marks)) ≡ true) open_calls cost)
+    before_it (
+      marks,
+      λ cs. subst (λ (f : LineByte). TokenFeeds setting.table setting.limits new at c cs f (token_read setting.table setting.limits old at (c ∷ cs))) e (feeds cs)
+          ∙ ap (λ (ms : List Mark). Ok (ms, at, c ∷ cs)) (sym same),
+      subst (λ (n : ℕ). may_cost (completed setting n call true false (marked marks)) ≡ true) open_calls cost,
+    )
 
 -- and then the object that it is
 pub object_token_costs : (setting : Setting) (frames : List Frame) (scan : Scan) (marks : List Mark) (at c : ℕ)
