@@ -1,4 +1,4 @@
-use lisp_object::refusal::{NAMES, name_of};
+use lisp_object::refusal::name_of;
 use lisp_object::{Boxed, Bytes, Datum, Items, Ratio};
 use std::alloc::{AllocError, Global};
 use std::test::Fail;
@@ -18,18 +18,6 @@ fn reduced(n: i128, d: u128) -> Option<(i128, u128)> {
     }
 }
 
-/// Whether the numbers of these refusals rise.
-fn rises(rows: &[(u16, &str)]) -> bool {
-    let mut last = 0;
-    for (number, _) in rows {
-        if *number <= last {
-            return false;
-        }
-        last = *number;
-    }
-    true
-}
-
 /// Whether it is the number of a refusal: of reading, of evaluation, of the store.
 fn is_number(number: u16) -> bool {
     matches!(number, 1..=26 | 30..=46 | 60..=68 | 90)
@@ -47,7 +35,6 @@ fn numbers(rt: HostRuntime) {
     ] {
         assert_eq!(rt; reduced(n, d), wanted, "{n}/{d}");
     }
-    assert!(rt; rises(&NAMES));
     for number in 0..100 {
         assert_eq!(rt; !name_of(number).is_empty(), is_number(number), "{number}");
     }
