@@ -1,5 +1,5 @@
 -- Where memory may run out: where reading goes on, or where something was found.
-use Rattle.std.specs.Prelude.{ℕ, ◌≡◌, ◌+◌, ◌≤◌, ◌==◌, ◌||◌, Bool, true, false, List, ◌∷◌, ◌++◌, length, Result, Ok, Err, IsOk}
+use Rattle.std.specs.Prelude.{ℕ, ◌≡◌, ◌+◌, ◌≤◌, ◌==◌, ◌&&◌, ◌||◌, Bool, true, false, List, ◌∷◌, ◌++◌, length, Result, Ok, Err, IsOk}
 use Rattle.std.specs.declared.alloc.AllocError.{AllocError}
 use Rattle.lisp_object.specs.declared.refusal.TheConstants.{MACRO_REFUSED, MACRO_ANSWER}
 use Rattle.std_macros.specs.Values.{marked}
@@ -24,10 +24,10 @@ use Rattle.form_reader.specs.Feeding.{token_read}
 use Rattle.form_reader.specs.Frames.{plan_gives}
 use Rattle.form_reader.specs.Resuming.{IsStageAt, stage_gives}
 
--- What a call comes to where memory may run out: it gives something, or a function of a user refuses it.
+-- What a call comes to where memory may run out: it gives something, or a function of a user refuses it, at its end.
 abbrev pub may_cost : Plan Found → Bool
 may_cost (gives found) = true
-may_cost (refuses code back) = code == MACRO_REFUSED || code == MACRO_ANSWER
+may_cost (refuses code back) = back == 0 && (code == MACRO_REFUSED || code == MACRO_ANSWER)
 may_cost _ = false
 
 -- What is read from this place on, after a byte that was taken in these open calls: reading goes on, in some open calls at some

@@ -1,5 +1,5 @@
 //! The end of a text, wherever a reader is in a form.
-ghost use Rattle.std.specs.Prelude.{◌≡◌, ◌≤◌, ◌<◌, ◌+◌, ◌^◌, ℕ, List, [], length, None, Ok, IfOk};
+ghost use Rattle.std.specs.Prelude.{◌≡◌, ◌≤◌, ◌<◌, ◌+◌, ◌^◌, ℕ, List, [], length, None, Ok, IfOk, OnErr};
 ghost use Rattle.readtable_core.specs.Tables.{Table};
 ghost use Rattle.form_reader.specs.declared.frame.Frame.{Frame as OpenCall};
 ghost use Rattle.form_reader.specs.Setting.{Setting};
@@ -8,7 +8,8 @@ ghost use Rattle.form_reader.specs.declared.stage.Stage.TheVariants.{Object as A
 ghost use Rattle.form_reader.specs.declared.way.Keep.{Keep};
 ghost use Rattle.form_reader.specs.Resuming.{Brings, stage_gives};
 ghost use Rattle.form_reader.specs.Turning.{outcome_of, rest_of, Settles, IsStanding};
-ghost use Rattle.form_reader.specs.Ending.{TokenStops, IsLastEvent, IsLastSettled};
+ghost use Rattle.form_reader.specs.Ending.{TokenStops, IsLastEvent, IsLastSettled, EndNeedsMemory};
+ghost use Rattle.form_reader.specs.Memory.{Spends};
 ghost use Rattle.form_reader.specs.Reader.{IsOutcome};
 
 use crate::call::Invoked;
@@ -73,6 +74,8 @@ fn last_token<R: MacroFunctions>(
         (frames : List OpenCall) → IfOk result (λ event. Brings setting frames at [] event
         (stage_gives setting frames (AtToken scan) at [])) }
     ensures last { IfOk result (IsLastEvent at) }
+    ensures memory { let setting = setting_with (R.registered with.now.macros.now) R.Meaning.way R.Meaning.answer with.now in
+        (frames : List OpenCall) → Spends result (EndNeedsMemory setting frames (AtToken scan) at) }
 {
     let mut scan = scan.into_scan();
     match token_stop(&with.limits, &mut scan, at) {
@@ -95,6 +98,8 @@ fn last_call_token<R: MacroFunctions>(
         (frames : List OpenCall) → round ≡ length frames → IfOk result (λ event. Brings setting frames at [] event
         (stage_gives setting frames (AtCallToken call scan) at [])) }
     ensures last { IfOk result (IsLastEvent at) }
+    ensures memory { let setting = setting_with (R.registered with.now.macros.now) R.Meaning.way R.Meaning.answer with.now in
+        (frames : List OpenCall) → round ≡ length frames → Spends result (EndNeedsMemory setting frames (AtCallToken call scan) at) }
 {
     match token_stop(&with.limits, &mut scan, at) {
         None => {
@@ -120,6 +125,9 @@ fn last_line<R: MacroFunctions>(
         → IfOk result (λ event. Brings setting frames at [] event
         (stage_gives setting frames (AtLine call keep text) at [])) }
     ensures last { IfOk result (IsLastEvent at) }
+    ensures memory { let setting = setting_with (R.registered with.now.macros.now) R.Meaning.way R.Meaning.answer with.now in
+        (frames : List OpenCall) (keep : Keep) → round ≡ length frames
+        → Spends result (EndNeedsMemory setting frames (AtLine call keep text) at) }
 {
     let gathered = StdGathered::Text(text.into_bytes());
     ended(with, round, &call, false, gathered, at)
@@ -138,6 +146,8 @@ fn last<R: MacroFunctions>(
         (frames : List OpenCall) → round ≡ length frames → IfOk result (λ event. Brings setting frames at [] event
         (stage_gives setting frames stage at [])) }
     ensures last { IfOk result (IsLastEvent at) }
+    ensures memory { let setting = setting_with (R.registered with.now.macros.now) R.Meaning.way R.Meaning.answer with.now in
+        (frames : List OpenCall) → round ≡ length frames → Spends result (EndNeedsMemory setting frames stage at) }
 {
     match stage {
         Stage::Object => Ok(Event::Stage(Stage::Object)),
@@ -176,6 +186,8 @@ fn settle_last<R: MacroFunctions>(
         IfOk result (λ settled. Settles setting frames.new at [] settled
         (stage_gives setting frames.old stage at [])) }
     ensures last { IfOk result (IsLastSettled at) }
+    ensures memory { let setting = setting_with (R.registered with.now.macros.now) R.Meaning.way R.Meaning.answer with.now in
+        OnErr result (EndNeedsMemory setting frames.old stage at) }
 {
     match last(with, frames.len(), stage, at)? {
         Event::Stage(_) => Ok(waited(frames.len(), at)),
@@ -223,8 +235,10 @@ pub(crate) fn last_outcome<R: MacroFunctions>(
     requires answers { R.answers with.now.macros.now }
     requires place { at ≤ with.now.limits.text }
     requires count { start + at ≤ 2 ^ 63 }
-    ensures { let setting = setting_with (R.registered with.now.macros.now) R.Meaning.way R.Meaning.answer with.now in
+    ensures outcome { let setting = setting_with (R.registered with.now.macros.now) R.Meaning.way R.Meaning.answer with.now in
         IfOk result (λ outcome. IsOutcome outcome (rest_of setting frames.old stage start at [])) }
+    ensures memory { let setting = setting_with (R.registered with.now.macros.now) R.Meaning.way R.Meaning.answer with.now in
+        OnErr result (EndNeedsMemory setting frames.old stage at) }
 {
     match settle_last(with, frames, stage, at)? {
         Settled::Open(_) => unreachable!(),
