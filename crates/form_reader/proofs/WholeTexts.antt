@@ -33,11 +33,6 @@ undecided_stands setting c h code e =
     let same : refused code 0 ≡ refused h.1.0 1 = sym ((refusal_stays setting (c ∷ []) code 0 e).1 (omega arith) (h.0 ∷ [])) ∙ h.1.1 in
     cc
 
-pub going_stands : (setting : Setting) (c : ℕ) → MayGoOn (c ∷ []) (reads setting (c ∷ [])) → Stands setting c
-going_stands setting c go code e =
-    let place : 0 ≡ length (c ∷ []) = subst (MayGoOn (c ∷ [])) e go in
-    absurd (omega (arith, place))
-
 -- ---- a call that ends with it
 
 none_round : (inner round : List Frame) → [] ≡ inner ++ round → round ≡ []
@@ -95,12 +90,6 @@ module _ (setting : Setting) where
   ran_out reader bytes zero c e new later h = first_byte bytes c e (new_stands setting reader c (new refl) h)
   ran_out reader bytes (suc k) c e new later h = later (omega arith)
 
-  -- it did not
-  went_on : (bytes : List ℕ) (k c : ℕ) → take (k + 1) bytes ≡ take k bytes ++ c ∷ [] → (0 < k → ReadMayRunOut setting bytes)
-      → MayGoOn (take k bytes ++ c ∷ []) (reads setting (take k bytes ++ c ∷ [])) → ReadMayRunOut setting bytes
-  went_on bytes zero c e later go = first_byte bytes c e (going_stands setting c go)
-  went_on bytes (suc k) c e later go = later (omega arith)
-
   -- it ran out at the end
   pub end_ran_out : {A : Type 0} (other : Setting) (reader : FormReader) (bytes : List ℕ) (k : ℕ) (result : Result A AllocError) → (k ≡ 0 → IsNew reader) → (0 < k → ReadMayRunOut setting bytes)
       → OnErr result (EndMayRunOut other reader) → OnErr result (ReadMayRunOut setting bytes)
@@ -117,8 +106,3 @@ module _ (under : Limits → Setting) (held handed : Limits) (old new : FormRead
   pub byte_ran_out : (k ≡ 0 → IsNew old) → (IsAfter (under held) old (take k bytes) → MayRunOut (under held) old (take k bytes) c) → ReadMayRunOut (under handed) bytes
   byte_ran_out fresh needs =
       ran_out (under handed) old bytes k c is fresh later (subst (λ (l : Limits). MayRunOut (under l) old (take k bytes) c) limits (needs then_after))
-
-  pub byte_went_on : (step : Step) → step ≡ StepMore → (IsAfter (under held) old (take k bytes) → Steps (under held) new (take k bytes ++ c ∷ []) step) → ReadMayRunOut (under handed) bytes
-  byte_went_on step e steps =
-      let more : Steps (under held) new (take k bytes ++ c ∷ []) StepMore = subst (λ (s : Step). Steps (under held) new (take k bytes ++ c ∷ []) s) e (steps then_after) in
-      went_on (under handed) bytes k c is later (subst (λ (l : Limits). MayGoOn (take k bytes ++ c ∷ []) (reads (under l) (take k bytes ++ c ∷ []))) limits more.2)

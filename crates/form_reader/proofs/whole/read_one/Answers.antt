@@ -4,7 +4,7 @@ use Rattle.form_reader.specs.declared.limits.Limits.{Limits}
 use Rattle.form_reader.specs.Setting.{Setting, setting_of}
 use Rattle.token_scan.proofs.Forwards.{held}
 use Rattle.form_reader.proofs.ReaderSteps.{decided_form, decided_refusal}
-use Rattle.form_reader.proofs.WholeTexts.{byte_ran_out, byte_went_on, end_ran_out}
+use Rattle.form_reader.proofs.WholeTexts.{byte_ran_out, end_ran_out}
 use Rattle.form_reader.proofs.whole.read_one.Goals as goal
 
 pub returns-in-Form-clause-outcome : goal.returns-in-Form-clause-outcome
