@@ -1,5 +1,5 @@
 -- Where memory may run out in reading a whole text: its first byte is not refused where it stands.
-use Rattle.std.proofs.Common.{◌≡◌, ℕ, zero, suc, ◌+◌, ◌-◌, ◌<◌, Bool, true, false, List, [], ◌∷◌, ◌++◌, length, Result, Ok, Err, take, refl, sym, ap, subst, ◌∙◌, arith}
+use Rattle.std.proofs.Common.{◌≡◌, ℕ, zero, suc, ◌+◌, ◌-◌, ◌<◌, Bool, true, false, List, [], ◌∷◌, ◌++◌, Result, Ok, Err, take, refl, sym, ap, subst, ◌∙◌, arith}
 use Rattle.std.proofs.lemmas.Bool.{eqb-true}
 use Rattle.std.specs.Prelude.{◌==◌, ◌&&◌, OnErr}
 use Rattle.std.specs.declared.alloc.AllocError.{AllocError}
@@ -9,16 +9,14 @@ use Rattle.form_reader.specs.declared.frame.Frame.{Frame}
 use Rattle.form_reader.specs.declared.reader.FormReader.{FormReader}
 use Rattle.form_reader.specs.declared.limits.Limits.{Limits}
 use Rattle.form_reader.specs.declared.reader.State.{State}
-use Rattle.form_reader.specs.declared.reader.Step.{Step}
-use Rattle.form_reader.specs.declared.reader.Step.TheVariants.{More as StepMore}
 use Rattle.form_reader.specs.declared.stage.Stage.TheVariants.{Object as AtObject}
 use Rattle.form_reader.specs.Plans.{Plan, gives, refuses, takes, scans, run}
 use Rattle.form_reader.specs.Setting.{Setting}
-use Rattle.form_reader.specs.Reading.{Outcome, refused, reads}
+use Rattle.form_reader.specs.Reading.{refused, reads}
 use Rattle.form_reader.specs.Frames.{given, plan_gives}
 use Rattle.form_reader.specs.Memory.{may_cost}
 use Rattle.form_reader.specs.Turning.{outcome_of}
-use Rattle.form_reader.specs.Reader.{MayGoOn, DecideNothing, IsNew, IsAfter, Steps, NeedsMemory, undecided, token_ends, call_ends, MayRunOutIn, MayRunOut, EndMayRunOutIn, EndMayRunOut, ReadMayRunOut}
+use Rattle.form_reader.specs.Reader.{DecideNothing, IsNew, IsAfter, NeedsMemory, undecided, token_ends, call_ends, MayRunOutIn, MayRunOut, EndMayRunOutIn, EndMayRunOut, ReadMayRunOut}
 use Rattle.form_reader.proofs.Deciding.{refusal_stays}
 use Rattle.form_reader.proofs.Endings.{nothing_last}
 

@@ -16,7 +16,7 @@ use Rattle.form_reader.specs.Plans.{fault}
 use Rattle.form_reader.specs.Setting.{Setting}
 use Rattle.form_reader.specs.Reading.{completed}
 use Rattle.form_reader.specs.Feeding.{token_read}
-use Rattle.form_reader.specs.Memory.{may_cost, HasMeaning}
+use Rattle.form_reader.specs.Memory.{call_may_cost, HasMeaning}
 
 -- it ends the token; or the token is refused
 abbrev pub TokenStops : Table → Limits → Scan → ℕ → Option ℕ → Type 0
@@ -36,11 +36,11 @@ IsLastSettled at (SettledDone found) = Unit {0}
 IsLastSettled at (SettledRefused code place) = place ≤ at
 
 -- Where memory may run out at the end of the text, which is at this place. A token is open that the end of the text ends, and
--- neither its meaning nor its call is refused. Or a line is open, and its call is not refused, but by a function of a user.
+-- neither its meaning nor its call is refused. Or a line is open, and its call is of a function of a user, or gives an object.
 abbrev pub EndNeedsMemory : Setting → List Frame → Stage → ℕ → Type 0
 EndNeedsMemory setting frames (AtToken scan) at = TokenStops setting.table setting.limits scan at None × HasMeaning setting scan.marks
 EndNeedsMemory setting frames (AtCallToken call scan) at =
     TokenStops setting.table setting.limits scan at None
-    × (may_cost (completed setting (length frames) call true false (marked scan.marks)) ≡ true)
-EndNeedsMemory setting frames (AtLine call keep text) at = may_cost (completed setting (length frames) call false false (letters text)) ≡ true
+    × (call_may_cost call.function (completed setting (length frames) call true false (marked scan.marks)) ≡ true)
+EndNeedsMemory setting frames (AtLine call keep text) at = call_may_cost call.function (completed setting (length frames) call false false (letters text)) ≡ true
 EndNeedsMemory setting frames _ at = ⊥

@@ -213,7 +213,7 @@ impl FormReader {
     }
 
     /// The end of the text, under the same readtable, packages, current package and functions as its bytes. It runs out of
-    /// memory only where the end of the text ends a token that is not refused, or a line.
+    /// memory only where the end of the text ends a token that is not refused, or a line of a function of a user.
     pub fn finish<R: MacroFunctions>(
         self,
         readtable: &Readtable,
