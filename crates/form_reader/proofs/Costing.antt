@@ -29,7 +29,7 @@ use Rattle.form_reader.specs.Plans.{gives, refuses}
 use Rattle.form_reader.specs.Setting.{Setting, macro_call}
 use Rattle.form_reader.specs.Reading.{answered, completed_by, completed}
 use Rattle.form_reader.specs.Feeding.{GoesOn, is_going}
-use Rattle.form_reader.specs.Memory.{may_cost}
+use Rattle.form_reader.specs.Memory.{may_cost, call_may_cost}
 use Rattle.form_reader.proofs.FedTokens.{cut}
 use Rattle.lisp_object.specs.declared.refusal.TheConstants.{MACRO_ANSWER}
 
@@ -49,6 +49,12 @@ pub user_costs : (setting : Setting) (round : ℕ) (call : InvokedCall) (name : 
     → may_cost (completed setting round call token spaced material) ≡ true
 user_costs setting round call name token spaced material e =
     ap (λ (f : Function). may_cost (completed_by setting round call f token spaced material)) e
+    ∙ answer_costs setting.packages setting.limits.nesting round token spaced (setting.answer name (macro_call call material))
+
+pub user_call_costs : (setting : Setting) (round : ℕ) (call : InvokedCall) (name : List ℕ) (token spaced : Bool) (material : Material) → call.function ≡ User name
+    → call_may_cost call.function (completed setting round call token spaced material) ≡ true
+user_call_costs setting round call name token spaced material e =
+    ap (λ (f : Function). call_may_cost f (completed_by setting round call f token spaced material)) e
     ∙ answer_costs setting.packages setting.limits.nesting round token spaced (setting.answer name (macro_call call material))
 
 -- ---- a byte that a token takes

@@ -16,6 +16,7 @@ use Rattle.form_reader.specs.declared.deliver.Delivered.TheVariants.{Waits}
 use Rattle.form_reader.specs.declared.ending.ReadOutcome.{ReadOutcome}
 use Rattle.form_reader.specs.declared.stage.Event.TheVariants.{Gives as IsGiven}
 use Rattle.form_reader.specs.declared.stage.Stage.{Stage}
+use Rattle.form_reader.specs.declared.stage.Stage.TheVariants.{Object as AtObject}
 use Rattle.form_reader.specs.declared.turn.Settled.{Settled}
 use Rattle.form_reader.specs.declared.turn.Settled.TheVariants.{Done as SettledDone}
 use Rattle.form_reader.specs.Delivering.{Delivers}
@@ -25,10 +26,11 @@ use Rattle.form_reader.specs.Setting.{Setting}
 use Rattle.form_reader.specs.Gathering.{text_turn, line_turn, block_turn, number_turn}
 use Rattle.form_reader.specs.Reading.{Piece, without_space, empty, sub_there, dispatched}
 use Rattle.form_reader.specs.Feeding.{token_read}
-use Rattle.form_reader.specs.Frames.{attempt_in, place_in, call_in, close_of, given, between, token_goes_on}
+use Rattle.form_reader.specs.Frames.{attempt_in, place_in, call_in, close_of, given, between, plan_gives, token_goes_on}
 use Rattle.form_reader.specs.Resuming.{inner_at, stage_gives, Brings}
 use Rattle.form_reader.specs.Ending.{TokenStops}
 use Rattle.form_reader.specs.Turning.{outcome_of, Settles}
+use Rattle.form_reader.proofs.Deliveries.{nothing_stays}
 use Rattle.form_reader.proofs.Forms.{reads_is, the_end_there}
 use Rattle.form_reader.proofs.Steps.{and_then, run_then}
 use Rattle.form_reader.proofs.Turns.{loop_is, text_guarded, line_guarded, block_guarded, number_guarded, attempt_ends, place_at_end}
@@ -114,6 +116,26 @@ some_waits setting (f ∷ fs) at h never =
     given_fault setting fs (then_plan (place_in setting f fs) call) at [] (record { code = END_OF_FILE; at = at })
     (run_then setting.table setting.limits (place_in setting f fs) call at [] ∙ ap (and_then setting.table setting.limits call) none)
 
+no_space : (setting : Setting) (frames : List Frame) (at : ℕ) (token : Bool)
+    → run setting.table setting.limits (without_space setting.table token (between setting frames)) at [] ≡ run setting.table setting.limits (between setting frames) at []
+unfolding run
+no_space setting frames at true = refl
+no_space setting frames at false = refl
+
+-- no value
+pub nothing_none : (setting : Setting) (frames : List Frame) (at : ℕ) (token : Bool) → length frames ≡ 0
+    → (plan_gives setting frames (gives (nothing token)) at [] ≡ Ok (nothing token, at, [])) × (frames ≡ [])
+unfolding given run
+nothing_none setting [] at token e = (refl, refl)
+nothing_none setting (f ∷ fs) at token e = absurd (omega (arith, e))
+
+pub nothing_some : (setting : Setting) (frames : List Frame) (at : ℕ) (token : Bool) (settled : Settled) → (length frames ≡ 0 → ⊥)
+    → Settles setting frames at [] settled (stage_gives setting frames AtObject at []) → Settles setting frames at [] settled (plan_gives setting frames (gives (nothing token)) at [])
+nothing_some setting [] at token settled never settles = absurd (never refl)
+nothing_some setting (f ∷ fs) at token settled never settles =
+    subst (λ (r : Read Found). Settles setting (f ∷ fs) at [] settled r)
+    (sym (nothing_stays setting fs f.call at [] token f.part ∙ no_space setting (f ∷ fs) at token)) settles
+
 -- ---- the outermost attempt
 
 pub nothing_last : (setting : Setting) (start at : ℕ) (found : Found) (token : Bool) → found ≡ nothing token → outcome_of setting start (Ok (found, at, [])) ≡ empty
@@ -122,11 +144,6 @@ nothing_last setting start at found token e =
     ∙ ap (λ (r : Read Found). outcome_of setting (start + at) r) (the_end_there setting)
 
 module _ (setting : Setting) (frames : List Frame) (at : ℕ) where
-  no_space_left : (token : Bool) → run setting.table setting.limits (without_space setting.table token (between setting frames)) at [] ≡ run setting.table setting.limits (between setting frames) at []
-  unfolding run
-  no_space_left true = refl
-  no_space_left false = refl
-
   pub stage_last : (stage known : Stage) (result : Result Event AllocError) → stage ≡ known
       → IfOk result (λ event. Brings setting frames at [] event (stage_gives setting frames known at []))
       → IfOk result (λ event. Brings setting frames at [] event (stage_gives setting frames stage at []))
@@ -140,7 +157,7 @@ module _ (setting : Setting) (frames : List Frame) (at : ℕ) where
       let given_is : read ≡ run setting.table setting.limits (given setting before (gives found)) at [] = subst (λ (v : Event). Brings setting before at [] v read) e brings in
       let waiting : run setting.table setting.limits (given setting before (gives found)) at [] ≡ run setting.table setting.limits (without_space setting.table token (between setting frames)) at []
       = subst (λ (v : Delivered). Delivers setting frames at [] v (run setting.table setting.limits (given setting before (gives found)) at [])) d delivers in
-      subst (λ (r : Read Found). Settles setting frames at [] settled r) (sym (given_is ∙ waiting ∙ no_space_left token)) settles
+      subst (λ (r : Read Found). Settles setting frames at [] settled r) (sym (given_is ∙ waiting ∙ no_space setting frames at token)) settles
 
   pub done_ends : (start : ℕ) (settled : Settled) (found : Found) (read : Read Found) (outcome : ReadOutcome) → settled ≡ SettledDone found → Settles setting frames at [] settled read
       → IsOutcome outcome (outcome_of setting start (Ok (found, at, []))) → IsOutcome outcome (outcome_of setting start read)

@@ -26,6 +26,7 @@ pub mod Following
 pub mod Readiness
 pub mod TurnsTaken
 pub mod Endings
+pub mod EndSpending
 pub mod ReaderSteps
 pub mod Standings
 pub mod Bounded
@@ -39,6 +40,7 @@ pub mod Faults
 pub mod TextEnds
 pub mod Deciding
 pub mod Waiting
+pub mod WholeTexts
 pub mod Registered
 pub mod Discardings
 pub mod Dependings

@@ -1,5 +1,5 @@
 -- Where memory may run out: where reading goes on, or where something was found.
-use Rattle.std.specs.Prelude.{ℕ, ◌≡◌, ◌+◌, ◌≤◌, ◌==◌, ◌||◌, Bool, true, false, List, ◌∷◌, ◌++◌, length, Result, Ok, Err, IsOk}
+use Rattle.std.specs.Prelude.{ℕ, ◌≡◌, ◌+◌, ◌≤◌, ◌==◌, ◌&&◌, ◌||◌, Bool, true, false, List, ◌∷◌, ◌++◌, length, Result, Ok, Err, IsOk}
 use Rattle.std.specs.declared.alloc.AllocError.{AllocError}
 use Rattle.lisp_object.specs.declared.refusal.TheConstants.{MACRO_REFUSED, MACRO_ANSWER}
 use Rattle.std_macros.specs.Values.{marked}
@@ -8,6 +8,9 @@ use Rattle.token_meaning.specs.Meanings.{meaning_of}
 use Rattle.token_scan.specs.declared.mark.Mark.{Mark}
 use Rattle.token_scan.specs.Scans.{Scan}
 use Rattle.form_reader.specs.declared.found.Found.{Found}
+use Rattle.form_reader.specs.declared.found.Found.TheVariants.{Nothing as nothing}
+use Rattle.form_reader.specs.declared.way.Function.{Function}
+use Rattle.form_reader.specs.declared.way.Function.TheVariants.{Standard as AStandard, User}
 use Rattle.form_reader.specs.declared.frame.Frame.{Frame}
 use Rattle.form_reader.specs.declared.macros.Moved.{Moved}
 use Rattle.form_reader.specs.declared.macros.Moved.TheVariants.{Taken as IsTaken, Before as IsBefore}
@@ -24,11 +27,22 @@ use Rattle.form_reader.specs.Feeding.{token_read}
 use Rattle.form_reader.specs.Frames.{plan_gives}
 use Rattle.form_reader.specs.Resuming.{IsStageAt, stage_gives}
 
--- What a call comes to where memory may run out: it gives something, or a function of a user refuses it.
+-- What a call comes to where memory may run out: it gives something, or a function of a user refuses it, at its end.
 abbrev pub may_cost : Plan Found → Bool
 may_cost (gives found) = true
-may_cost (refuses code back) = code == MACRO_REFUSED || code == MACRO_ANSWER
+may_cost (refuses code back) = back == 0 && (code == MACRO_REFUSED || code == MACRO_ANSWER)
 may_cost _ = false
+
+-- It gives something else than no value.
+abbrev pub gives_some : Plan Found → Bool
+gives_some (gives (nothing token)) = false
+gives_some (gives found) = true
+gives_some _ = false
+
+-- The same of a call of this function, where no open call takes what it gives: of a standard function, it gives an object.
+abbrev pub call_may_cost : Function → Plan Found → Bool
+call_may_cost (AStandard kind) plan = gives_some plan
+call_may_cost (User name) plan = may_cost plan
 
 -- What is read from this place on, after a byte that was taken in these open calls: reading goes on, in some open calls at some
 -- stage; or some of the calls have come to their end, and in those round them this is found.
@@ -43,6 +57,13 @@ abbrev pub Spends : Result Event AllocError → Type 0 → Type 0
 Spends (Ok (IsGiven found)) P = P
 Spends (Ok _) P = Unit {0}
 Spends (Err e) P = P
+
+-- The same where no value needs no memory to be taken.
+abbrev pub SpendsSome : Result Event AllocError → Type 0 → Type 0
+SpendsSome (Ok (IsGiven (nothing token))) P = Unit {0}
+SpendsSome (Ok (IsGiven found)) P = P
+SpendsSome (Ok _) P = Unit {0}
+SpendsSome (Err e) P = P
 
 abbrev pub SpendsMove : Result Moved AllocError → Type 0 → Type 0
 SpendsMove (Ok (IsTaken event)) P = Spends (Ok event) P

@@ -21,6 +21,7 @@ use Rattle.form_reader.specs.Reading.{Outcome, form, empty, refused, reads}
 use Rattle.form_reader.specs.Plans.{Plan}
 use Rattle.form_reader.specs.Frames.{plan_gives}
 use Rattle.form_reader.specs.Memory.{may_cost, EndsToken}
+use Rattle.form_reader.specs.Ending.{EndNeedsMemory}
 use Rattle.form_reader.specs.Turning.{outcome_of, rest_of}
 
 -- the limits under which it reads
@@ -111,6 +112,20 @@ MayRunOutIn setting reader OutOfMemory bytes c = Unit {0}
 
 abbrev pub MayRunOut : Setting → FormReader → List ℕ → ℕ → Type 0
 MayRunOut setting reader bytes c = MayRunOutIn setting reader reader.state bytes c
+
+-- Where memory may run out at the end of the text. After a refusal it needs none.
+abbrev pub EndMayRunOutIn : Setting → FormReader → State → Type 0
+EndMayRunOutIn setting reader (Open stage) = EndNeedsMemory setting reader.frames stage reader.at
+EndMayRunOutIn setting reader (Refused code place) = ⊥
+EndMayRunOutIn setting reader OutOfMemory = Unit {0}
+
+abbrev pub EndMayRunOut : Setting → FormReader → Type 0
+EndMayRunOut setting reader = EndMayRunOutIn setting reader reader.state
+
+-- Where memory may run out in reading this text at once: it has a first byte, which is not refused where it stands.
+abbrev pub ReadMayRunOut : Setting → List ℕ → Type 0
+ReadMayRunOut setting [] = ⊥
+ReadMayRunOut setting (c ∷ cs) = (code : ℕ) → reads setting (c ∷ []) ≡ refused code 0 → ⊥
 
 -- What is answered is the outcome, and the object of a form is sound.
 abbrev pub IsOutcome : ReadOutcome → Outcome → Type 0

@@ -1,5 +1,5 @@
 //! The end of a text, wherever a reader is in a form.
-ghost use Rattle.std.specs.Prelude.{◌≡◌, ◌≤◌, ◌<◌, ◌+◌, ◌^◌, ℕ, List, [], length, None, Ok, IfOk};
+ghost use Rattle.std.specs.Prelude.{◌≡◌, ◌≤◌, ◌<◌, ◌+◌, ◌^◌, ℕ, List, [], length, true, None, Ok, IfOk, OnErr};
 ghost use Rattle.readtable_core.specs.Tables.{Table};
 ghost use Rattle.form_reader.specs.declared.frame.Frame.{Frame as OpenCall};
 ghost use Rattle.form_reader.specs.Setting.{Setting};
@@ -8,8 +8,11 @@ ghost use Rattle.form_reader.specs.declared.stage.Stage.TheVariants.{Object as A
 ghost use Rattle.form_reader.specs.declared.way.Keep.{Keep};
 ghost use Rattle.form_reader.specs.Resuming.{Brings, stage_gives};
 ghost use Rattle.form_reader.specs.Turning.{outcome_of, rest_of, Settles, IsStanding};
-ghost use Rattle.form_reader.specs.Ending.{TokenStops, IsLastEvent, IsLastSettled};
+ghost use Rattle.form_reader.specs.Ending.{TokenStops, IsLastEvent, IsLastSettled, EndNeedsMemory};
+ghost use Rattle.form_reader.specs.Memory.{gives_some, SpendsSome};
 ghost use Rattle.form_reader.specs.Reader.{IsOutcome};
+ghost use Rattle.form_reader.specs.Plans.{gives};
+ghost use Rattle.form_reader.specs.Frames.{plan_gives};
 
 use crate::call::Invoked;
 use crate::deliver::{Delivered, deliver};
@@ -73,6 +76,8 @@ fn last_token<R: MacroFunctions>(
         (frames : List OpenCall) → IfOk result (λ event. Brings setting frames at [] event
         (stage_gives setting frames (AtToken scan) at [])) }
     ensures last { IfOk result (IsLastEvent at) }
+    ensures memory { let setting = setting_with (R.registered with.now.macros.now) R.Meaning.way R.Meaning.answer with.now in
+        (frames : List OpenCall) → SpendsSome result (EndNeedsMemory setting frames (AtToken scan) at) }
 {
     let mut scan = scan.into_scan();
     match token_stop(&with.limits, &mut scan, at) {
@@ -95,6 +100,8 @@ fn last_call_token<R: MacroFunctions>(
         (frames : List OpenCall) → round ≡ length frames → IfOk result (λ event. Brings setting frames at [] event
         (stage_gives setting frames (AtCallToken call scan) at [])) }
     ensures last { IfOk result (IsLastEvent at) }
+    ensures memory { let setting = setting_with (R.registered with.now.macros.now) R.Meaning.way R.Meaning.answer with.now in
+        (frames : List OpenCall) → round ≡ length frames → SpendsSome result (EndNeedsMemory setting frames (AtCallToken call scan) at) }
 {
     match token_stop(&with.limits, &mut scan, at) {
         None => {
@@ -120,6 +127,9 @@ fn last_line<R: MacroFunctions>(
         → IfOk result (λ event. Brings setting frames at [] event
         (stage_gives setting frames (AtLine call keep text) at [])) }
     ensures last { IfOk result (IsLastEvent at) }
+    ensures memory { let setting = setting_with (R.registered with.now.macros.now) R.Meaning.way R.Meaning.answer with.now in
+        (frames : List OpenCall) (keep : Keep) → round ≡ length frames
+        → SpendsSome result (EndNeedsMemory setting frames (AtLine call keep text) at) }
 {
     let gathered = StdGathered::Text(text.into_bytes());
     ended(with, round, &call, false, gathered, at)
@@ -138,6 +148,8 @@ fn last<R: MacroFunctions>(
         (frames : List OpenCall) → round ≡ length frames → IfOk result (λ event. Brings setting frames at [] event
         (stage_gives setting frames stage at [])) }
     ensures last { IfOk result (IsLastEvent at) }
+    ensures memory { let setting = setting_with (R.registered with.now.macros.now) R.Meaning.way R.Meaning.answer with.now in
+        (frames : List OpenCall) → round ≡ length frames → SpendsSome result (EndNeedsMemory setting frames stage at) }
 {
     match stage {
         Stage::Object => Ok(Event::Stage(Stage::Object)),
@@ -163,6 +175,42 @@ fn waited(calls: usize, at: usize) -> Settled
     Settled::Refused(END_OF_FILE, at)
 }
 
+/// What no value in so many open calls comes to at the end of the text, which is at `at`; whether a token ended it.
+fn nothing_last(calls: usize, token: bool, at: usize) -> Settled
+    ensures settles { (setting : Setting) (frames : List OpenCall) → calls ≡ length frames → at ≤ setting.limits.text
+        → Settles setting frames at [] result (plan_gives setting frames (gives (Found.Nothing token)) at []) }
+    ensures last { IsLastSettled at result }
+{
+    if calls == 0 {
+        return Settled::Done(Found::Nothing(token));
+    }
+    waited(calls, at)
+}
+
+/// What is found in the innermost call at the end of the text, which is at `at`, comes to.
+fn give_last<R: MacroFunctions>(
+    with: &Surroundings<'_, R>,
+    frames: &mut Frames,
+    found: Found,
+    at: usize,
+) -> Result<Settled, AllocError>
+    requires answers { R.answers with.now.macros.now }
+    requires place { at ≤ with.now.limits.text }
+    ensures settles { let setting = setting_with (R.registered with.now.macros.now) R.Meaning.way R.Meaning.answer with.now in
+        IfOk result (λ settled. Settles setting frames.new at [] settled (plan_gives setting frames.old (gives found) at [])) }
+    ensures last { IfOk result (IsLastSettled at) }
+    ensures some { OnErr result (gives_some (gives found) ≡ true) }
+{
+    if let Found::Nothing(token) = &found {
+        return Ok(nothing_last(frames.len(), *token, at));
+    }
+    match deliver(with, frames, found, at)? {
+        Delivered::Waits(_) => Ok(waited(frames.len(), at)),
+        Delivered::Done(found) => Ok(Settled::Done(found)),
+        Delivered::Refused(code, place) => Ok(Settled::Refused(code, place)),
+    }
+}
+
 /// What the outermost attempt comes to at the end of the text, which is at `at`.
 fn settle_last<R: MacroFunctions>(
     with: &Surroundings<'_, R>,
@@ -176,14 +224,12 @@ fn settle_last<R: MacroFunctions>(
         IfOk result (λ settled. Settles setting frames.new at [] settled
         (stage_gives setting frames.old stage at [])) }
     ensures last { IfOk result (IsLastSettled at) }
+    ensures memory { let setting = setting_with (R.registered with.now.macros.now) R.Meaning.way R.Meaning.answer with.now in
+        OnErr result (EndNeedsMemory setting frames.old stage at) }
 {
     match last(with, frames.len(), stage, at)? {
         Event::Stage(_) => Ok(waited(frames.len(), at)),
-        Event::Gives(found) => match deliver(with, frames, found, at)? {
-            Delivered::Waits(_) => Ok(waited(frames.len(), at)),
-            Delivered::Done(found) => Ok(Settled::Done(found)),
-            Delivered::Refused(code, place) => Ok(Settled::Refused(code, place)),
-        },
+        Event::Gives(found) => give_last(with, frames, found, at),
         Event::Refused(code, place) => Ok(Settled::Refused(code, place)),
     }
 }
@@ -223,8 +269,10 @@ pub(crate) fn last_outcome<R: MacroFunctions>(
     requires answers { R.answers with.now.macros.now }
     requires place { at ≤ with.now.limits.text }
     requires count { start + at ≤ 2 ^ 63 }
-    ensures { let setting = setting_with (R.registered with.now.macros.now) R.Meaning.way R.Meaning.answer with.now in
+    ensures outcome { let setting = setting_with (R.registered with.now.macros.now) R.Meaning.way R.Meaning.answer with.now in
         IfOk result (λ outcome. IsOutcome outcome (rest_of setting frames.old stage start at [])) }
+    ensures memory { let setting = setting_with (R.registered with.now.macros.now) R.Meaning.way R.Meaning.answer with.now in
+        OnErr result (EndNeedsMemory setting frames.old stage at) }
 {
     match settle_last(with, frames, stage, at)? {
         Settled::Open(_) => unreachable!(),

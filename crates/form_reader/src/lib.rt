@@ -24,6 +24,7 @@
 //! `FormReader` takes a text one byte at a time, and `read_one` a whole text. `step`, `finish` and `read_one` answer what the
 //! definition gives, out of memory aside: a form, with its object and its places; that the text is empty; or a refusal, with
 //! its number and its place. What `step` answers is so whatever bytes follow.
+//! Where each of the three may run out of memory, its clause `needs` says.
 //!
 //! - `limits`: `Limits`
 //! - `reader`: `FormReader`, `Step`; `whole`: `read_one`

@@ -1,11 +1,12 @@
 //! How a call begins.
-ghost use Rattle.std.specs.Prelude.{◌≡◌, ◌≤◌, ℕ, true, false, List, IfOk, length};
+ghost use Rattle.std.specs.Prelude.{◌≡◌, ◌≤◌, ℕ, true, false, List, IfOk, length, Ok};
 ghost use Rattle.form_reader.specs.Setting.{Setting, is_baseless, standard_way, user_way, way_in};
 ghost use Rattle.form_reader.specs.Surrounding.{setting_with};
 ghost use Rattle.form_reader.specs.declared.frame.Frame.{Frame as OpenCall};
+ghost use Rattle.form_reader.specs.declared.way.Function.{Function as Called};
 ghost use Rattle.form_reader.specs.Frames.{plan_gives};
 ghost use Rattle.form_reader.specs.Completing.{plan_of};
-ghost use Rattle.form_reader.specs.Memory.{may_cost, is_given, Costs, Spends};
+ghost use Rattle.form_reader.specs.Memory.{may_cost, is_given, call_may_cost, Costs, Spends, SpendsSome};
 ghost use Rattle.form_reader.specs.Reading.{called, completed, gathered};
 ghost use Rattle.form_reader.specs.Resuming.{inner_at, Begins, Brings, Gathers, ComesTo};
 ghost use Rattle.form_reader.specs.Opening.{reads_objects};
@@ -152,6 +153,7 @@ pub(crate) fn event_of(completed: Completed, at: usize) -> Event
     ensures comes { (setting : Setting) (frames : List OpenCall) (cs : List ℕ) → ComesTo setting frames completed at cs result }
     ensures ends { IsEnd (completed_lookahead completed) at result }
     ensures gives { is_given result ≡ true → may_cost (plan_of completed) ≡ true }
+    ensures some { (function : Called) → SpendsSome (Ok result) (call_may_cost function (plan_of completed) ≡ true) }
 {
     match completed {
         Completed::Gives(found) => Event::Gives(found),
@@ -177,6 +179,8 @@ pub(crate) fn ended<R: MacroFunctions>(
     ensures ends { IfOk result (IsEnd (space token) at) }
     ensures memory { let setting = setting_with (R.registered with.now.macros.now) R.Meaning.way R.Meaning.answer with.now in
         Spends result (may_cost (completed setting round call.now token false (view_gathered gathered)) ≡ true) }
+    ensures some { let setting = setting_with (R.registered with.now.macros.now) R.Meaning.way R.Meaning.answer with.now in
+        SpendsSome result (call_may_cost call.now.function (completed setting round call.now token false (view_gathered gathered)) ≡ true) }
 {
     Ok(event_of(complete(with, round, call, token, false, gathered)?, at))
 }

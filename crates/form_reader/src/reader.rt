@@ -67,7 +67,7 @@ impl FormReader {
     ghost use Rattle.form_reader.specs.declared.reader.Step.TheVariants.{Refused as StepRefused};
     ghost use Rattle.form_reader.specs.declared.ending.ReadOutcome.TheVariants.{Refused as ReadRefused};
     ghost use Rattle.form_reader.specs.Turning.{IsReadyTurn, BeginsFrom};
-    ghost use Rattle.form_reader.specs.Reader.{limits_of, fed, begun, HasRefused, HasNoMemory, IsNew, IsAfter, Steps, BeginsLater, IsSoundStep, Takes, MayRunOut, IsOutcome};
+    ghost use Rattle.form_reader.specs.Reader.{limits_of, fed, begun, HasRefused, HasNoMemory, IsNew, IsAfter, Steps, BeginsLater, IsSoundStep, Takes, MayRunOut, EndMayRunOut, IsOutcome};
 
     /// A reader that was fed nothing. It keeps `alloc` for what it gathers.
     pub fn new(alloc: Global, limits: Limits) -> FormReader
@@ -212,7 +212,8 @@ impl FormReader {
         }
     }
 
-    /// The end of the text, under the same readtable, packages, current package and functions as its bytes.
+    /// The end of the text, under the same readtable, packages, current package and functions as its bytes. It runs out of
+    /// memory only where the end of the text ends a token that is not refused, or a line of a function of a user.
     pub fn finish<R: MacroFunctions>(
         self,
         readtable: &Readtable,
@@ -232,6 +233,10 @@ impl FormReader {
             (setting_of (limits_of self) readtable.now packages.now.0 current.now
             (R.registered macros.now) R.Meaning.way R.Meaning.answer)
             bytes)) }
+        ensures needs { OnErr result (EndMayRunOut
+            (setting_of (limits_of self) readtable.now packages.now.0 current.now
+            (R.registered macros.now) R.Meaning.way R.Meaning.answer)
+            self) }
     {
         let FormReader {
             limits,

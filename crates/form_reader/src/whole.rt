@@ -1,9 +1,9 @@
 //! A whole text.
-ghost use Rattle.std.specs.Prelude.{◌≡◌, ℕ, List, length, IfOk};
+ghost use Rattle.std.specs.Prelude.{◌≡◌, ℕ, List, length, IfOk, OnErr};
 ghost use Rattle.package_table.specs.Table.{IsPackage};
 ghost use Rattle.form_reader.specs.Setting.{setting_of};
 ghost use Rattle.form_reader.specs.Reading.{reads};
-ghost use Rattle.form_reader.specs.Reader.{IsOutcome};
+ghost use Rattle.form_reader.specs.Reader.{IsOutcome, ReadMayRunOut};
 
 use crate::Limits;
 use crate::ending::ReadOutcome;
@@ -13,7 +13,8 @@ use readtable_core::Readtable;
 use std::alloc::{AllocError, Global};
 use user_macros::MacroFunctions;
 
-/// What the text `bytes` begins with.
+/// What the text `bytes` begins with. It runs out of memory only where the text has a first byte that is not refused where it
+/// stands.
 pub fn read_one<R: MacroFunctions>(
     alloc: Global,
     limits: Limits,
@@ -25,10 +26,14 @@ pub fn read_one<R: MacroFunctions>(
 ) -> Result<ReadOutcome, AllocError>
     requires answers { R.answers macros.now }
     requires current { IsPackage packages.now.0 current.now }
-    ensures { IfOk result (λ outcome. IsOutcome outcome (reads
+    ensures outcome { IfOk result (λ outcome. IsOutcome outcome (reads
         (setting_of limits readtable.now packages.now.0 current.now
         (R.registered macros.now) R.Meaning.way R.Meaning.answer)
         bytes.now)) }
+    ensures needs { OnErr result (ReadMayRunOut
+        (setting_of limits readtable.now packages.now.0 current.now
+        (R.registered macros.now) R.Meaning.way R.Meaning.answer)
+        bytes.now) }
 {
     let mut reader = FormReader::new(alloc, limits);
     for byte in bytes {

@@ -2,6 +2,7 @@ use Rattle.std.proofs.Common.{[], ap, ◌∙◌}
 use Rattle.token_scan.specs.Scans.{Scan}
 use Rattle.form_reader.specs.Surrounding.{setting_with}
 use Rattle.form_reader.proofs.Endings.{token_last, token_stopped}
+use Rattle.form_reader.proofs.EndSpending.{call_token_ends}
 use Rattle.form_reader.proofs.ending.last_call_token.Goals as goal
 
 pub returns-in-None-clause-brings : goal.returns-in-None-clause-brings
@@ -15,3 +16,9 @@ pub returns-in-Some-clause-brings : goal.returns-in-Some-clause-brings
 returns-in-Some-clause-brings g c = λ frames open_calls.
     let setting = setting_with (g.R.MacroFunctions.registered c.args.with.now.macros.now) g.R.Meaning.Meaning.way g.R.Meaning.Meaning.answer c.args.with.now in
     token_stopped setting frames c.args.at c.args.scan _ c.in-Some.code (c.in-Some.ensures.stops setting.table)
+
+pub returns-in-None-clause-memory : goal.returns-in-None-clause-memory
+returns-in-None-clause-memory g c = λ frames open_calls.
+    let setting = setting_with (g.R.MacroFunctions.registered c.args.with.now.macros.now) g.R.Meaning.Meaning.way g.R.Meaning.Meaning.answer c.args.with.now in
+    call_token_ends setting frames c.args.at c.ended.result c.args.call c.args.scan c.into_marks.result.items c.args.round
+    (c.in-None.ensures.stops setting.table) (c.into_marks.ensures.value ∙ ap (λ (s : Scan). s.marks) (c.token_stop.ensures.same c.in-None.is)) open_calls c.ended.ensures.some

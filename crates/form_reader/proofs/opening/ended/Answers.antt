@@ -2,6 +2,7 @@ use Rattle.std.proofs.Common.{arith}
 use Rattle.form_reader.specs.Surrounding.{setting_with}
 use Rattle.form_reader.proofs.Closings.{call_ends}
 use Rattle.form_reader.proofs.Readiness.{end_within, or_none}
+use Rattle.form_reader.proofs.EndSpending.{called_costs}
 use Rattle.form_reader.proofs.opening.ended.Goals as goal
 
 pub returns-clause-brings : goal.returns-clause-brings
@@ -11,3 +12,7 @@ returns-clause-brings g c = λ frames cs open_calls.
 
 pub returns-clause-ends : goal.returns-clause-ends
 returns-clause-ends g c = end_within _ _ c.args.at c.event_of.result c.event_of.ensures.ends (omega (arith, c.in_ok-complete.ensures.ends, or_none c.args.token))
+
+pub returns-clause-some : goal.returns-clause-some
+returns-clause-some g c =
+    called_costs c.event_of.result c.args.call.now.function _ _ c.in_ok-complete.ensures.gives (c.event_of.ensures.some c.args.call.now.function)
