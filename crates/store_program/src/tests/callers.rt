@@ -18,11 +18,11 @@ use std::io::{Read, Write};
 use std::test::Fail;
 use user_macros::MacroFunctions;
 
-/// A disk that was closed after two forms, and what the opening of another one gave.
+/// A disk that was closed after two forms and a snapshot, and what the opening of another one gave.
 type Again<D, M> = (D, Result<Store<D, M>, Unopened<D, M>>);
 
-/// Opens a disk, executes two forms, closes it, and opens another disk with the same macro functions. `None` where it is
-/// not opened or a form is refused.
+/// Opens a disk, executes two forms, takes a snapshot, closes it, and opens another disk with the same macro functions. `None`
+/// where it is not opened, a form is refused, or the snapshot is.
 ///
 /// Both forms were accepted. Where the other disk reads as a crash may leave the first one, at any moment since the start, its
 /// store has the world after some of them, from the first on; and where the crash comes after the close, after both.
@@ -58,6 +58,10 @@ fn two_forms<D: Disk + Drop, M: MacroFunctions + Drop>(
         return None;
     };
     let Outcome::Accepted(_) = store.execute(Mode::Current, second) else {
+        let _closed = store.close();
+        return None;
+    };
+    let Outcome::Snapshotted = store.snapshot() else {
         let _closed = store.close();
         return None;
     };
@@ -126,7 +130,7 @@ fn opened_too(again: Result<Store<MemoryDisk, ByName>, Unopened<MemoryDisk, ByNa
     }
 }
 
-/// Whether both disks were opened and two forms accepted.
+/// Whether both disks were opened, two forms accepted and a snapshot taken.
 fn accepted_twice(
     alloc: Global,
     kind: Crash,

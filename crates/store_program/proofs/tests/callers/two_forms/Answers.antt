@@ -33,7 +33,8 @@ returns g c = record {
       let store = c.in-Ok.store in
       let first = c.execute.new.self in
       let second = c.execute-2.new.self in
-      -- the three calls, each from the world that the one before it left
+      let third = c.snapshot.new.self in
+      -- the four calls, each from the world that the one before it left
       let o = c.in-Ok.ensures.opened in
       let opening = o.survives w honest keeps in
       let known : store.world ≡ Some w = o.known ∙ sym (opening.after_all o.world o.known) in
@@ -44,12 +45,16 @@ returns g c = record {
       let twice = c.in-Accepted-execute.ensures.answer once.given.world left_once in
       let both = twice.survives left_once (subst IsTrue (sym one.honest) still) (one.kept once.given.world left_once) in
       let left_twice : second.world ≡ Some twice.given.world = left_by state first second twice.given.wrote Current twice.given.text twice.given.world twice.stored in
+      let renewed = c.in-Snapshotted.ensures.answer twice.given.world left_twice in
+      let after_both = subst IsTrue (sym both.honest) (subst IsTrue (sym one.honest) still) in
+      let last = renewed.survives left_twice after_both (both.kept twice.given.world left_twice) in
       let records = records_of once.given.wrote Current once.given.text in
       let more = records_of twice.given.wrote Current twice.given.text in
       let calls : List (Call g.row.D.Denot) =
       (record { disk = store.disk; taken = []; acknowledged = 0; left = Some w })
       ∷ (record { disk = first.disk; taken = records; acknowledged = length records; left = Some once.given.world })
       ∷ (record { disk = second.disk; taken = more; acknowledged = length more; left = Some twice.given.world })
+      ∷ (record { disk = third.disk; taken = []; acknowledged = 0; left = Some twice.given.world })
       ∷ [] in
       let run : Run functions state c.args.disk (Some w) calls = (
         subst (λ (left : Option World). Survives functions (state c.args.disk) (state store.disk) w [] 0 left) known opening,
@@ -57,7 +62,10 @@ returns g c = record {
           subst (λ (left : Option World). Survives functions (state store.disk) (state first.disk) w records (length records) left) left_once one,
           (
             subst (λ (left : Option World). Survives functions (state first.disk) (state second.disk) once.given.world more (length more) left) left_twice both,
-            tt,
+            (
+              subst (λ (left : Option World). Survives functions (state second.disk) (state third.disk) twice.given.world [] 0 left) renewed.renews.left last,
+              tt,
+            ),
           ),
         ),
       ) in (
@@ -74,7 +82,7 @@ returns g c = record {
         λ might. IfOk-weaker c.open-2.result _ _ (λ again opened. (
           opened.world,
           opened.known,
-          as_two functions w once.given.wrote once.given.text twice.given.wrote twice.given.text (0 + (length records + length more)) (length records + length more) opened.world (omega arith) ((c.headline.ensures.holds functions c.args.disk w calls [] honest keeps run).reopened _ c.args.crashed again.disk opened.world
+          as_two functions w once.given.wrote once.given.text twice.given.wrote twice.given.text (0 + (length records + (length more + 0))) (length records + length more) opened.world (omega arith) ((c.headline.ensures.holds functions c.args.disk w calls [] honest keeps run).reopened _ c.args.crashed again.disk opened.world
               (subst (λ d. (state d).left_since (state d).moment (state c.args.crashed).reads) c.close-closed-2.ensures.disk might) refl (opened.reopens fresh)),
         )) c.open-2.ensures.opened,
       );
