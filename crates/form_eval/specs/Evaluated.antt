@@ -1,7 +1,7 @@
 -- What the calls of the evaluator answer.
 use Rattle.std.specs.Global.{Vec}
-use Rattle.std.specs.Prelude.{◌≡◌, ◌⊎◌, ℕ, Bool, true, false, List, map, Option, Some, None, IsSome, Result, Ok, Err, IsOk}
-use Rattle.lisp_object.specs.Object.{Object, symbol}
+use Rattle.std.specs.Prelude.{◌≡◌, ◌⊎◌, ℕ, Bool, true, false, List, map, Option, Some, None, IsSome, unwrap_or, Result, Ok, Err, IsOk}
+use Rattle.lisp_object.specs.Object.{Object, symbol, nil}
 use Rattle.lisp_object.specs.declared.refusal.TheConstants.{ARGUMENT_KIND, NO_SUCH_PACKAGE, PACKAGE_IS_LOCKED, NO_READTABLE, NO_MACRO}
 use Rattle.lisp_object.specs.declared.datum.Datum.{Datum}
 use Rattle.lisp_object.specs.Datum.{object_of, is_proper}
@@ -32,6 +32,10 @@ Keeps u v = (d : Datum) → IsArgument u d → IsArgument v d
 
 abbrev pub object_of_symbol : Symbol → Object
 object_of_symbol x = symbol x.0 x.1
+
+-- NIL where there is no object
+abbrev pub or_nil : Option Object → Object
+or_nil x = unwrap_or x nil
 
 -- a value that leaves this state
 abbrev pub done : Evaluated → State → Done Object
@@ -105,8 +109,8 @@ abbrev pub AreArguments : {A : Type 0} → (A → List Datum) → Result A Evalu
 AreArguments view (Ok x) values other = values ≡ view x
 AreArguments view (Err error) values other = (error ≡ Refused ARGUMENT_KIND) × other
 
--- The symbol and the indicator of a property, where both arguments are symbols. Memory runs out only then.
+-- The symbol and the indicator of a property, where both arguments are symbols. It takes no memory.
 abbrev pub IsPlace : Result (Stored × Stored) EvaluationError → Option Symbol → Option Symbol → Type 0
 IsPlace (Ok p) o i = (Some (symbol_of p.0) ≡ o) × (Some (symbol_of p.1) ≡ i)
 IsPlace (Err (Refused code)) o i = (code ≡ ARGUMENT_KIND) × ((None ≡ o) ⊎ (None ≡ i))
-IsPlace (Err OutOfMemory) o i = IsSome o × IsSome i
+IsPlace (Err OutOfMemory) o i = ⊥

@@ -12,8 +12,8 @@
 //!   INCF and PUSH; `perform`: what an operator makes of the values of its arguments
 //! - `control`, `properties`, `packages`, `package_lists`, `readtables`: the operators of each family, of the list of the values
 //!   of their arguments
-//! - `arguments`, `kinds`, `lists`, `values`: so many arguments, what each stands for, lists of them, and values that are
-//!   built; `changes`: changes of the packages, one after the other
+//! - `arguments`, `taken`, `kinds`, `lists`, `values`: so many arguments, what each stands for, lists of them, and values that
+//!   are built; `changes`: changes of the packages, one after the other
 //!
 //! Each operator answers its definition of the values of its arguments. `Gives` (specs/Evaluated.antt) also says that memory
 //! runs out only where nothing is refused; `Answers` says nothing of it.
@@ -37,6 +37,7 @@ mod place;
 mod properties;
 mod readtables;
 mod symbols;
+mod taken;
 mod transaction;
 mod values;
 
