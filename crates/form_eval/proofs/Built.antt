@@ -2,11 +2,11 @@
 --     list_depth, other_depth, list_size, other_size      the parts of a list, by the list that ends with them
 --     pair_depth_test, pair_size_test      a pair, by its parts
 --     more_depth, all_depth, more_size, all_size      indicators and values in turn
-use Rattle.std.proofs.Common.{◌≡◌, ◌<◌, ◌≤◌, ◌+◌, ◌-◌, ◌^◌, ℕ, Bool, true, false, List, [], ◌∷◌, ◌++◌, map, take, length, get_or, max, min, nat_lt, nat_le, refl, sym, ap, ◌∙◌, arith}
+use Rattle.std.proofs.Common.{◌≡◌, ◌<◌, ◌≤◌, ◌+◌, ◌-◌, ◌^◌, ℕ, true, false, List, [], ◌∷◌, ◌++◌, map, take, length, get_or, max, min, nat_lt, nat_le, refl, sym, ap, ◌∙◌, arith}
 use Rattle.std.proofs.lemmas.Bool.{false≢true}
 use Rattle.std.proofs.lemmas.Bool.Decides.{nat_tests}
 use Rattle.std.proofs.lemmas.List.{map_more, take_all}
-use Rattle.lisp_object.specs.Object.{Object, integer, rational, character, text, symbol, uninterned, pair, vector, is_nil, list_of, object_is_list, object_depth, object_size, depth_along, size_along}
+use Rattle.lisp_object.specs.Object.{Object, integer, rational, character, text, symbol, uninterned, pair, vector, list_of, object_is_list, object_depth, object_size, depth_along, size_along}
 use Rattle.lisp_object.specs.Datum.{object_of}
 use Rattle.plist_state.specs.declared.property.Property.{Property}
 use Rattle.plist_state.specs.Properties.{Symbol, Plist}

@@ -2,7 +2,7 @@
 --     export_is, import_is, use_is      they are changes, one after the other
 --     export_not_found, use_keyword      what is refused before any change
 --     so_far      what a call tells where memory ran out among the changes
-use Rattle.std.proofs.Common.{◌≡◌, ◌≤◌, ◌+◌, ℕ, Bool, true, false, ◌||◌, cond, not, List, [], ◌∷◌, Result, Ok, Err, Option, Some, IsOk, take, length, bytes_eq, refl, sym, ap, subst, ◌∙◌, arith}
+use Rattle.std.proofs.Common.{◌≡◌, ◌+◌, ℕ, Bool, true, false, ◌||◌, cond, not, List, ◌∷◌, Result, Ok, Err, Option, Some, IsOk, take, length, bytes_eq, refl, sym, ap, subst, ◌∙◌, arith}
 use Rattle.std.specs.List.{list_all, list_any}
 use Rattle.std.specs.Option.{option_map_or}
 use Rattle.std.proofs.lemmas.List.{take_all}
@@ -18,7 +18,7 @@ use Rattle.plist_state.specs.Properties.{Symbol}
 use Rattle.plist_state.specs.State.{State}
 use Rattle.plist_state.specs.Changes.{with_packages}
 use Rattle.form_eval.specs.declared.error.EvaluationError.{EvaluationError}
-use Rattle.form_eval.specs.declared.error.EvaluationError.TheVariants.{Refused, OutOfMemory}
+use Rattle.form_eval.specs.declared.error.EvaluationError.TheVariants.{Refused}
 use Rattle.form_eval.specs.declared.evaluated.Evaluated.{Evaluated}
 use Rattle.form_eval.specs.Kinds.{a_symbol, a_name, one_or_each, given_or}
 use Rattle.form_eval.specs.Members.{AreMembers}

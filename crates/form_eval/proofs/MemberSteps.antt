@@ -3,7 +3,7 @@
 --     no_member      one is not of the kind
 --     all_front, any_front      what holds of a list holds of a front of it
 --     packages_found, packages_front, no_package      packages by their names
-use Rattle.std.proofs.Common.{◌≡◌, ◌<◌, ◌+◌, ℕ, Bool, true, false, cond, ◌||◌, List, [], ◌∷◌, Option, Some, None, option_map, option_and_then, unwrap_or, is_some, map, take, length, get_or, All, refl, sym, ap, subst, ◌∙◌, suc, zero, arith}
+use Rattle.std.proofs.Common.{◌≡◌, ◌<◌, ℕ, Bool, true, false, cond, ◌||◌, List, [], ◌∷◌, Option, Some, None, option_map, option_and_then, unwrap_or, map, take, length, get_or, All, refl, sym, ap, ◌∙◌, suc, zero, arith}
 use Rattle.std.specs.List.{list_all, list_any}
 use Rattle.std.specs.Option.{IsSome, option_map_or}
 use Rattle.std.proofs.lemmas.Bool.{false≢true, and_parts, and_from}

@@ -1,4 +1,4 @@
-use Rattle.std.proofs.Common.{◌≡◌, ℕ, Ok, List, Bor, sym, ap, ◌∙◌, arith}
+use Rattle.std.proofs.Common.{ℕ, Ok, List, Bor, sym, ap, ◌∙◌, arith}
 use Rattle.std.proofs.lemmas.List.{get_or_default}
 use Rattle.package_table.specs.Table.{Table}
 use Rattle.package_table.specs.Changes.{intern_changes}

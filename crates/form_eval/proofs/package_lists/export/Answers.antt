@@ -8,7 +8,6 @@ use Rattle.plist_state.specs.State.{Worlds}
 use Rattle.form_eval.specs.Kinds.{a_symbol, a_name, given_or}
 use Rattle.form_eval.specs.Members.{symbol_in}
 use Rattle.form_eval.specs.Packages.{export, changed}
-use Rattle.form_eval.specs.declared.error.EvaluationError.TheVariants.{Refused}
 use Rattle.form_eval.specs.Evaluated.{GivesSoFar}
 use Rattle.form_eval.proofs.MemberSteps.{front_found, all_front}
 use Rattle.form_eval.proofs.ListSteps.{exports, export_is, export_not_found, so_far}

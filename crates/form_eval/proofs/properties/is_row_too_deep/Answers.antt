@@ -1,4 +1,4 @@
-use Rattle.std.proofs.Common.{◌≡◌, ◌+◌, ◌-◌, ◌^◌, true, min, sym, ap, subst, ◌∙◌, arith}
+use Rattle.std.proofs.Common.{◌≡◌, ◌-◌, ◌^◌, true, min, sym, ap, subst, ◌∙◌, arith}
 use Rattle.lisp_object.specs.Object.{object_depth}
 use Rattle.lisp_object.specs.Datum.{object_of, is_proper}
 use Rattle.form_eval.proofs.Built.{more_depth, all_depth}
