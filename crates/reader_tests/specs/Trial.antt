@@ -6,13 +6,21 @@ use Rattle.user_macros.specs.declared.call.Gather.{Gather}
 use Rattle.user_macros.specs.declared.call.Gather.TheVariants.{Nothing, Next, Until, Text, TextSame, Line, Token}
 use Rattle.user_macros.specs.Calls.{Material, nothing, one, many, text, MacroCall, MacroAnswer, value, no_value, improper, refused}
 
--- the ways of seven that count what they gather, and of others
+-- the ways of seven that count what they gather, and of others, in three parts
+abbrev pub last_rows : List (List ℕ × Gather)
+last_rows =
+    (codes "HIGH", Nothing) ∷ (codes "OWN", Nothing) ∷ (codes "OTHER", Nothing) ∷ (codes "IMPROPER", Nothing) ∷ (codes "WRAP", Next)
+    ∷ (codes "NAME", Text 125) ∷ []
+
+abbrev pub later_rows : List (List ℕ × Gather)
+later_rows =
+    (codes "TOKEN", Token) ∷ (codes "MUTE", Token) ∷ (codes "LOW", Nothing) ∷ (codes "ALIEN", Nothing) ∷ (codes "NICKNAME", Nothing)
+    ∷ (codes "FRESH", Nothing) ∷ last_rows
+
 abbrev pub rows : List (List ℕ × Gather)
 rows =
     (codes "NONE", Nothing) ∷ (codes "NEXT", Next) ∷ (codes "UNTIL", Until 93) ∷ (codes "TEXT", Text 125) ∷ (codes "SAME", TextSame)
-    ∷ (codes "LINE", Line) ∷ (codes "TOKEN", Token) ∷ (codes "MUTE", Token) ∷ (codes "LOW", Nothing) ∷ (codes "ALIEN", Nothing)
-    ∷ (codes "NICKNAME", Nothing) ∷ (codes "FRESH", Nothing) ∷ (codes "HIGH", Nothing) ∷ (codes "OWN", Nothing)
-    ∷ (codes "OTHER", Nothing) ∷ (codes "IMPROPER", Nothing) ∷ (codes "WRAP", Next) ∷ (codes "NAME", Text 125) ∷ []
+    ∷ (codes "LINE", Line) ∷ later_rows
 
 abbrev pub way_among : List (List ℕ × Gather) → List ℕ → Option Gather
 way_among [] name = None

@@ -1,4 +1,6 @@
 //! Rows: forms, empty texts and refusals with their places, a byte at a time, and the laws.
+ghost use Rattle.package_table.specs.Table.{IsPackage};
+
 mod calls;
 mod hostile;
 mod trial;
@@ -10,9 +12,10 @@ use form_reader::{
 };
 use package_table::Packages;
 use readtable_core::Readtable;
+use std::alloc::{AllocError, Global};
 use std::test::Fail;
-use user_macros::Macros;
 use user_macros::example::Notes;
+use user_macros::{MacroFunctions, Macros};
 
 #[test]
 fn limits_and_laws(rt: HostRuntime) {
@@ -177,53 +180,88 @@ fn forms_and_where_the_next_begins(rt: HostRuntime) -> Result<(), Fail> {
     Ok(())
 }
 
+// What is answered to a byte, or to the end of a text.
+#[derive(Clone, Copy, PartialEq, Eq)]
+enum Told {
+    // no form yet, or none at all
+    Nothing,
+    // the start and the end of a form, and where the next begins
+    Form(usize, usize, usize),
+    // the number and the place of a refusal
+    Refused(u16, usize),
+}
+
+fn told_at_step(step: &Step) -> Told {
+    match step {
+        Step::More => Told::Nothing,
+        Step::Form {
+            start,
+            end,
+            next,
+            ..
+        } => Told::Form(*start, *end, *next),
+        Step::Refused { code, at } => Told::Refused(*code, *at),
+    }
+}
+
+fn told_at_end(outcome: &ReadOutcome) -> Told {
+    match outcome {
+        ReadOutcome::Empty => Told::Nothing,
+        ReadOutcome::Form {
+            start,
+            end,
+            next,
+            ..
+        } => Told::Form(*start, *end, *next),
+        ReadOutcome::Refused { code, at } => Told::Refused(*code, *at),
+    }
+}
+
 // What a reader answers to the last byte of the text, and then to its end.
-fn last_answers(rt: &HostRuntime, text: &[u8]) -> Result<(Step, ReadOutcome), Fail> {
+fn answers_to<R: MacroFunctions>(
+    alloc: Global,
+    readtable: &Readtable,
+    packages: &Packages,
+    current: &[u8],
+    macros: &R,
+    text: &[u8],
+) -> Result<(Told, Told), AllocError>
+    requires answers { R.answers macros.now }
+    requires current { IsPackage packages.now.0 current.now }
+{
+    let mut reader = FormReader::new(alloc, Limits::form());
+    let mut last = Told::Nothing;
+    for byte in text {
+        last = told_at_step(&reader.step(*byte, readtable, packages, current, macros)?);
+    }
+    let outcome = reader.finish(readtable, packages, current, macros)?;
+    Ok((last, told_at_end(&outcome)))
+}
+
+// The same in the first packages and the standard readtable.
+fn last_answers(rt: &HostRuntime, text: &[u8]) -> Result<(Told, Told), Fail> {
     let table = Readtable::standard(rt.alloc())?;
     let packages = Packages::new(rt.alloc())?;
     let macros = Macros::new(rt.alloc(), Notes::new());
     let Some(current) = packages.find(b"COMMON-LISP-USER") else {
         return Err(Fail::from("no package"));
     };
-    let mut reader = FormReader::new(rt.alloc(), Limits::form());
-    let mut last = Step::More;
-    for byte in text {
-        last = reader.step(*byte, &table, &packages, current, &macros)?;
-    }
-    let outcome = reader.finish(&table, &packages, current, &macros)?;
-    Ok((last, outcome))
-}
-
-// The start and the end of the form that is answered, and where the next begins.
-fn form_of(step: &Step) -> Option<(usize, usize, usize)> {
-    match step {
-        Step::Form {
-            start,
-            end,
-            next,
-            ..
-        } => Some((*start, *end, *next)),
-        Step::More | Step::Refused { .. } => None,
-    }
+    Ok(answers_to(rt.alloc(), &table, &packages, current, &macros, text)?)
 }
 
 #[test]
 fn a_reader_answers_before_the_next_byte(rt: HostRuntime) -> Result<(), Fail> {
-    assert!(rt; matches!(last_answers(&rt, b"'")?.0, Step::More));
-    assert!(rt; matches!(last_answers(&rt, b"'A")?.0, Step::More));
-    let (last, outcome) = last_answers(&rt, b"'A(")?;
-    assert!(rt; form_of(&last) == Some((0, 2, 2)));
-    assert!(rt; matches!(outcome, ReadOutcome::Empty));
+    assert!(rt; last_answers(&rt, b"'")?.0 == Told::Nothing);
+    assert!(rt; last_answers(&rt, b"'A")?.0 == Told::Nothing);
+    assert!(rt; last_answers(&rt, b"'A(")? == (Told::Form(0, 2, 2), Told::Nothing));
     Ok(())
 }
 
 #[test]
 fn a_refusal_is_answered_again(rt: HostRuntime) -> Result<(), Fail> {
-    assert!(rt; matches!(last_answers(&rt, b"A")?.0, Step::More));
-    let (refused, _) = last_answers(&rt, b"A\xC3")?;
-    assert!(rt; matches!(refused, Step::Refused { code: 2, at: 1 }));
-    let (again, outcome) = last_answers(&rt, b"A\xC3B")?;
-    assert!(rt; matches!(again, Step::Refused { code: 2, at: 1 }));
-    assert!(rt; matches!(outcome, ReadOutcome::Refused { code: 2, at: 1 }));
+    let refused = Told::Refused(2, 1);
+    assert!(rt; last_answers(&rt, b"A")?.0 == Told::Nothing);
+    assert!(rt; last_answers(&rt, b"A\xC3")?.0 == refused);
+    assert!(rt; last_answers(&rt, b"A\xC3B")? == (refused, refused));
     Ok(())
 }

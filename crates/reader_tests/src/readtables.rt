@@ -1,4 +1,7 @@
 //! Rows of the tables of the standard, read and changed.
+ghost use Rattle.std.specs.Prelude.{IsFalse};
+ghost use Rattle.readtable_core.specs.Names.{is_dispatch_name};
+
 use readtable_core::{Case, DispatchRefusal, FnName, Readtable, Syntax, Traits, traits_of};
 use std::alloc::{AllocError, Global};
 use std::test::Fail;
@@ -46,6 +49,29 @@ fn changed(alloc: Global, standard: &Readtable, letters: Case) -> Result<Readtab
     Ok(table)
 }
 
+// Whether the copy has the table's entries, which are those of the standard but at `!`, `$` and `%`.
+fn has_changed(copy: &Readtable, table: &Readtable, standard: &Readtable) -> bool {
+    for c in 0..=255 {
+        let is_changed = c == b'!' || c == b'$' || c == b'%';
+        if !copy.same_entry(table, c) || copy.same_entry(standard, c) == is_changed {
+            return false;
+        }
+    }
+    true
+}
+
+// Whether the changes in this case are all in a copy.
+fn are_copied(alloc: Global, standard: &Readtable, letters: Case) -> Result<bool, AllocError> {
+    let table = changed(alloc, standard, letters)?;
+    let copy = table.copy(alloc)?;
+    Ok(
+        copy.case() == letters
+            && has_changed(&copy, &table, standard)
+            && copy.dispatch_of(b'%', b'S') == FnName::new(b"SQUARE")
+            && copy.macro_of(b'$') == FnName::new(b"STD-STRING"),
+    )
+}
+
 #[test]
 fn changes_in_each_case(rt: HostRuntime) -> Result<(), Fail> {
     let standard = Readtable::standard(rt.alloc())?;
@@ -57,18 +83,28 @@ fn changes_in_each_case(rt: HostRuntime) -> Result<(), Fail> {
     ];
     for (name, letters) in cases {
         assert!(rt; Case::from_name(name) == Some(letters) && letters.name() == name);
-        let table = changed(rt.alloc(), &standard, letters)?;
-        let copy = table.copy(rt.alloc())?;
-        assert!(rt; copy.case() == letters);
-        for c in 0..=255 {
-            let is_changed = c == b'!' || c == b'$' || c == b'%';
-            assert!(rt; copy.same_entry(&table, c), "at {c}");
-            assert!(rt; copy.same_entry(&standard, c) != is_changed, "at {c}");
-        }
-        assert!(rt; copy.dispatch_of(b'%', b'S') == FnName::new(b"SQUARE"));
-        assert!(rt; copy.macro_of(b'$') == FnName::new(b"STD-STRING"));
+        assert!(rt; are_copied(rt.alloc(), &standard, letters)?, "{name:?}");
     }
     Ok(())
+}
+
+// Whether this is the name of a standard function, and whether it is STD-DISPATCH.
+fn kind_of(bytes: &[u8]) -> Option<(bool, bool)> {
+    let name = FnName::new(bytes)?;
+    Some((name.is_standard(), name.is_dispatch()))
+}
+
+// Whether an entry that was overwritten is as it was, once it is put back.
+fn is_put_back(alloc: Global, table: &mut Readtable, square: FnName) -> Result<bool, AllocError>
+    requires { IsFalse (is_dispatch_name square) }
+{
+    let hash = table.entry(alloc, b'#')?;
+    table.set_macro(b'#', square, false);
+    if table.syntax(b'#') != Syntax::TerminatingMacro {
+        return Ok(false);
+    }
+    let _ = table.put_entry(b'#', hash);
+    Ok(table.dispatch_of(b'#', b's') == Some(square))
 }
 
 #[test]
@@ -89,16 +125,11 @@ fn refusals_and_entries(rt: HostRuntime) -> Result<(), Fail> {
         (b"SQUARE", false, false),
     ];
     for (bytes, is_standard, is_dispatch) in names {
-        let name = FnName::new(bytes).ok_or("a name")?;
-        assert!(rt; name.is_standard() == is_standard && name.is_dispatch() == is_dispatch);
+        assert!(rt; kind_of(bytes) == Some((is_standard, is_dispatch)));
     }
     assert!(rt; table.is_dispatching(b'#') && !table.is_dispatching(b'('));
-    let list = table.entries().get(40).ok_or("an entry")?;
-    assert!(rt; list.function() == FnName::new(b"STD-LIST"));
-    let hash = table.entry(rt.alloc(), b'#')?;
-    table.set_macro(b'#', square, false);
-    assert!(rt; table.syntax(b'#') == Syntax::TerminatingMacro);
-    let _ = table.put_entry(b'#', hash);
-    assert!(rt; table.dispatch_of(b'#', b's') == Some(square));
+    let list = table.entries().get(40).map(|entry| entry.function());
+    assert!(rt; list == Some(FnName::new(b"STD-LIST")));
+    assert!(rt; is_put_back(rt.alloc(), &mut table, square)?);
     Ok(())
 }

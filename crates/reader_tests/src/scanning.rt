@@ -1,6 +1,6 @@
 //! Rows of tokens, fed byte by byte.
 use readtable_core::Readtable;
-use std::alloc::AllocError;
+use std::alloc::{AllocError, Global};
 use std::test::Fail;
 use token_scan::{Fed, Mark, ScanRefusal, TokenScan, characters};
 
@@ -13,6 +13,35 @@ fn feed(scan: &mut TokenScan, table: &Readtable, text: &[u8]) -> Result<Fed, All
         }
     }
     Ok(last)
+}
+
+// Whether the text has a token of these marks, of which these are the characters, and ends it.
+fn is_token(
+    alloc: Global,
+    table: &Readtable,
+    text: &[u8],
+    marks: &[Mark],
+    wanted: &[u8],
+) -> Result<bool, AllocError> {
+    let mut scan = TokenScan::begin(alloc, 4096);
+    if feed(&mut scan, table, text)? != Fed::Ended {
+        return Ok(false);
+    }
+    if scan.finish() != Ok(()) || scan.marks() != marks {
+        return Ok(false);
+    }
+    Ok(characters(alloc, marks)?.as_slice() == wanted)
+}
+
+// The same of a token whose first character is taken whatever it is, and ends nothing.
+fn is_escaped_token(
+    alloc: Global,
+    table: &Readtable,
+    text: &[u8],
+    marks: &[Mark],
+) -> Result<bool, AllocError> {
+    let mut scan = TokenScan::begin_escaped(alloc, 4096);
+    Ok(feed(&mut scan, table, text)? == Fed::Ended && scan.into_marks().as_slice() == marks)
 }
 
 #[test]
@@ -30,21 +59,32 @@ fn tokens(rt: HostRuntime) -> Result<(), Fail> {
         (b"\\\x01\t", &[Mark::Quoted(1)], b"\x01"),
     ];
     for (text, marks, wanted) in rows {
-        let mut scan = TokenScan::begin(rt.alloc(), 4096);
-        assert_eq!(rt; feed(&mut scan, &table, text)?, Fed::Ended);
-        assert_eq!(rt; scan.finish(), Ok(()));
-        assert_eq!(rt; scan.marks(), marks);
-        assert_eq!(rt; characters(rt.alloc(), marks)?.as_slice(), wanted);
+        assert!(rt;
+            is_token(rt.alloc(), &table, text, marks, wanted)?,
+            "{text:?}"
+        );
     }
-    // The first character is taken whatever it is, and ends nothing.
-    let mut scan = TokenScan::begin_escaped(rt.alloc(), 4096);
-    assert_eq!(rt; feed(&mut scan, &table, b"(a)")?, Fed::Ended);
-    let marks = scan.into_marks();
-    assert_eq!(rt;
-        marks.as_slice(),
-        [Mark::Quoted(b'('), Mark::Plain(b'a')].as_slice()
-    );
+    let marks = [Mark::Quoted(b'('), Mark::Plain(b'a')];
+    assert!(rt; is_escaped_token(rt.alloc(), &table, b"(a)", &marks)?);
     Ok(())
+}
+
+// Whether the text is refused so, again and again.
+fn is_refused(
+    alloc: Global,
+    table: &Readtable,
+    text: &[u8],
+    refusal: ScanRefusal,
+) -> Result<bool, AllocError> {
+    let mut scan = TokenScan::begin(alloc, 4);
+    let last = feed(&mut scan, table, text)?;
+    if refusal != ScanRefusal::EndOfFile && last != Fed::Refused(refusal) {
+        return Ok(false);
+    }
+    if scan.finish() != Err(refusal) || scan.finish() != Err(refusal) {
+        return Ok(false);
+    }
+    Ok(scan.feed(table.syntax(b'a'), b'a')? == Fed::Refused(refusal))
 }
 
 #[test]
@@ -67,16 +107,19 @@ fn refusals(rt: HostRuntime) -> Result<(), Fail> {
         (b"abcd\xC3", ScanRefusal::InvalidCharacter),
     ];
     for (text, refusal) in rows {
-        let mut scan = TokenScan::begin(rt.alloc(), 4);
-        let last = feed(&mut scan, &table, text)?;
-        assert_eq!(rt; scan.finish(), Err(refusal));
-        assert_eq!(rt; scan.finish(), Err(refusal));
-        assert_eq!(rt; scan.feed(table.syntax(b'a'), b'a')?, Fed::Refused(refusal));
-        if refusal != ScanRefusal::EndOfFile {
-            assert_eq!(rt; last, Fed::Refused(refusal));
-        }
+        assert!(rt; is_refused(rt.alloc(), &table, text, refusal)?, "{text:?}");
     }
     Ok(())
+}
+
+// Whether a letter is taken. Where there is no memory for it nothing has changed, and it can be fed again.
+fn takes_letter(scan: &mut TokenScan, table: &Readtable) -> Result<bool, AllocError> {
+    let before = scan.marks().len();
+    match scan.feed(table.syntax(b'A'), b'A') {
+        Ok(fed) => Ok(fed == Fed::More),
+        Err(error) if scan.marks().len() == before => Err(error),
+        Err(_) => Ok(false),
+    }
 }
 
 // A token of a snapshot at its limit, whose marks take memory.
@@ -85,18 +128,10 @@ fn a_token_at_the_limit(rt: HostRuntime) -> Result<(), Fail> {
     let table = Readtable::standard(rt.alloc())?;
     let mut scan = TokenScan::begin(rt.alloc(), 8192);
     for _ in 0..8192 {
-        let before = scan.marks().len();
-        match scan.feed(table.syntax(b'A'), b'A') {
-            Ok(fed) => assert_eq!(rt; fed, Fed::More),
-            Err(error) => {
-                // Nothing has changed, and the byte can be fed again.
-                assert_eq!(rt; scan.marks().len(), before);
-                return Err(error.into());
-            }
-        }
+        assert!(rt; takes_letter(&mut scan, &table)?);
     }
-    assert_eq!(rt; feed(&mut scan, &table, b"||\\")?, Fed::More);
-    assert_eq!(rt; scan.marks().len(), 8194);
-    assert_eq!(rt; scan.finish(), Err(ScanRefusal::EndOfFile));
+    assert!(rt; feed(&mut scan, &table, b"||\\")? == Fed::More);
+    assert!(rt; scan.marks().len() == 8194);
+    assert!(rt; scan.finish() == Err(ScanRefusal::EndOfFile));
     Ok(())
 }

@@ -2,22 +2,27 @@
 use super::reading::read;
 use canon_printer::print;
 use form_reader::ReadOutcome;
+use lisp_object::Datum;
 use package_table::Packages;
 use readtable_core::FnName;
 use readtable_core::standard_names::{STANDARD_NAMES, STD_DISPATCH};
+use std::alloc::Global;
 use std::test::Fail;
 use std_macros::{Standard, StdGather, radix_of, standard_of, way};
 
+// The standard function of a name.
+fn standard_named(name: &[u8]) -> Option<Standard> {
+    standard_of(FnName::new(name)?)
+}
+
 #[test]
-fn kinds(rt: HostRuntime) -> Result<(), Fail> {
+fn kinds(rt: HostRuntime) {
     for name in STANDARD_NAMES {
-        let name = FnName::new(name).ok_or("a name")?;
-        assert!(rt; standard_of(name).is_some());
+        assert!(rt; standard_named(name).is_some());
     }
     let others: [&[u8]; 4] = [STD_DISPATCH, b"STD-LIS", b"std-list", b"SQUARE"];
     for name in others {
-        let name = FnName::new(name).ok_or("a name")?;
-        assert_eq!(rt; standard_of(name), None);
+        assert!(rt; FnName::new(name).is_some() && standard_named(name).is_none());
     }
     let rows: [(&[u8], Standard, StdGather); 5] = [
         (b"STD-LIST", Standard::List, StdGather::List),
@@ -27,9 +32,7 @@ fn kinds(rt: HostRuntime) -> Result<(), Fail> {
         (b"STD-RADIX", Standard::Radix, StdGather::Token),
     ];
     for (name, kind, gather) in rows {
-        let name = FnName::new(name).ok_or("a name")?;
-        assert_eq!(rt; standard_of(name), Some(kind));
-        assert_eq!(rt; way(kind), gather);
+        assert!(rt; standard_named(name) == Some(kind) && way(kind) == gather);
     }
     for (number, base) in [
         (None, None),
@@ -37,9 +40,8 @@ fn kinds(rt: HostRuntime) -> Result<(), Fail> {
         (Some(2), Some(2)),
         (Some(37), None),
     ] {
-        assert_eq!(rt; radix_of(number), base);
+        assert!(rt; radix_of(number) == base);
     }
-    Ok(())
 }
 
 // A text, and how the object is printed that it is read as.
@@ -75,19 +77,24 @@ const PRINTED: &str = "\
 #:|| => #:||
 #:a\\:b => #:|A:B|";
 
-// The printed text of the object that a text is read as.
-fn printed(rt: &HostRuntime, text: &str) -> Result<Vec<u8>, Fail> {
-    let packages = Packages::new(rt.alloc())?;
-    let (ReadOutcome::Form { datum, .. }, Some(current)) = (
-        read(rt, text.as_bytes())?,
-        packages.find(b"COMMON-LISP-USER"),
-    ) else {
-        return Err(Fail::from("no form"));
+// The printed text of an object in the first packages.
+fn shown(alloc: Global, datum: &Datum) -> Result<Vec<u8>, Fail> {
+    let packages = Packages::new(alloc)?;
+    let Some(current) = packages.find(b"COMMON-LISP-USER") else {
+        return Err(Fail::from("no package"));
     };
     if !datum.is_proper() {
         return Err(Fail::from("not proper"));
     }
-    Ok(print(rt.alloc(), &datum, &packages, current)?)
+    Ok(print(alloc, datum, &packages, current)?)
+}
+
+// The printed text of the object that a text is read as.
+fn printed(rt: &HostRuntime, text: &str) -> Result<Vec<u8>, Fail> {
+    match &read(rt, text.as_bytes())? {
+        ReadOutcome::Form { datum, .. } => shown(rt.alloc(), datum),
+        _ => Err(Fail::from("no form")),
+    }
 }
 
 #[test]

@@ -1,5 +1,5 @@
 //! Rows of tokens.
-use lisp_object::{Bytes, Datum};
+use lisp_object::Datum;
 use readtable_core::Case;
 use std::alloc::{AllocError, Global};
 use std::test::Fail;
@@ -38,6 +38,24 @@ fn number(meaning: &TokenMeaning) -> Option<(i128, u128)> {
     }
 }
 
+// The number that a token is in a base.
+fn number_of(alloc: Global, text: &[u8], base: u8) -> Result<Option<(i128, u128)>, MeaningError> {
+    let marks = plain(alloc, text)?;
+    let found = read(alloc, marks.as_slice(), base)?;
+    Ok(number(&found))
+}
+
+// The rational that marks are in a base, or the number of the refusal; 0 for an object that is no number.
+fn rational_of(marks: &[Mark], base: u8) -> Option<Result<(i128, u128), u16>> {
+    if base < 2 || base > 36 {
+        return None;
+    }
+    match &rational(marks, base)? {
+        Ok(datum) => Some(parts(datum).ok_or(0)),
+        Err(refusal) => Some(Err(refusal.number())),
+    }
+}
+
 #[test]
 fn numbers(rt: HostRuntime) -> Result<(), Fail> {
     let rows: [(&[u8], u8, i128, u128); 12] = [
@@ -65,9 +83,8 @@ fn numbers(rt: HostRuntime) -> Result<(), Fail> {
         ),
     ];
     for (text, base, numerator, denominator) in rows {
-        let marks = plain(rt.alloc(), text)?;
-        let found = read(rt.alloc(), marks.as_slice(), base).map_err(|_| "no meaning")?;
-        assert_eq!(rt; number(&found), Some((numerator, denominator)), "{text:?}");
+        let found = number_of(rt.alloc(), text, base);
+        assert!(rt; found == Ok(Some((numerator, denominator))), "{text:?}");
     }
     // Digits alone: a point and an escape are in no rational.
     let rationals: [(&[Mark], u8, Option<Result<(i128, u128), u16>>); 6] = [
@@ -91,15 +108,15 @@ fn numbers(rt: HostRuntime) -> Result<(), Fail> {
         (&[], 10, None),
     ];
     for (marks, base, wanted) in rationals {
-        let found = rational(marks, base).map(|given| given.map_err(|refusal| refusal.number()));
-        let found = match found {
-            None => None,
-            Some(Err(number)) => Some(Err(number)),
-            Some(Ok(datum)) => Some(Ok(parts(&datum).ok_or("no number")?)),
-        };
-        assert_eq!(rt; found, wanted, "{marks:?}");
+        assert!(rt; rational_of(marks, base) == wanted, "{marks:?}");
     }
     Ok(())
+}
+
+// What a token that has no meaning is refused as.
+fn refusal_of(alloc: Global, text: &[u8]) -> Result<Option<MeaningError>, AllocError> {
+    let marks = plain(alloc, text)?;
+    Ok(read(alloc, marks.as_slice(), 10).err())
 }
 
 #[test]
@@ -140,9 +157,8 @@ fn refusals(rt: HostRuntime) -> Result<(), Fail> {
     ];
     for (text, refusal, number) in rows {
         let error = MeaningError::Refused(refusal);
-        let marks = plain(rt.alloc(), text)?;
-        assert_eq!(rt; read(rt.alloc(), marks.as_slice(), 10), Err(error));
-        assert_eq!(rt; error.number(), number);
+        assert!(rt; refusal_of(rt.alloc(), text)? == Some(error), "{text:?}");
+        assert!(rt; error.number() == number, "{text:?}");
     }
     assert_eq!(rt; MeaningError::OutOfMemory.number(), 90);
     let scanned = [
@@ -157,54 +173,82 @@ fn refusals(rt: HostRuntime) -> Result<(), Fail> {
     Ok(())
 }
 
+// What a name means, with its parts.
+#[derive(Clone, Copy)]
+enum Named<'a> {
+    Unqualified(&'a [u8]),
+    Keyword(&'a [u8]),
+    External(&'a [u8], &'a [u8]),
+    Internal(&'a [u8], &'a [u8]),
+}
+
+// Whether the name is this one.
+fn is_name(name: &TokenName, wanted: Named<'_>) -> bool {
+    match (name, wanted) {
+        (TokenName::Unqualified(found), Named::Unqualified(name)) => found.as_slice() == name,
+        (TokenName::Keyword(found), Named::Keyword(name)) => found.as_slice() == name,
+        (TokenName::External { package, name }, Named::External(home, wanted)) => {
+            package.as_slice() == home && name.as_slice() == wanted
+        }
+        (TokenName::Internal { package, name }, Named::Internal(home, wanted)) => {
+            package.as_slice() == home && name.as_slice() == wanted
+        }
+        _ => false,
+    }
+}
+
+// Whether the marks mean this name.
+fn means(alloc: Global, marks: &[Mark], wanted: Named<'_>) -> Result<bool, MeaningError> {
+    match &read(alloc, marks, 10)? {
+        TokenMeaning::Name(name) => Ok(is_name(name, wanted)),
+        _ => Ok(false),
+    }
+}
+
+fn is_dot(alloc: Global, marks: &[Mark]) -> bool {
+    matches!(read(alloc, marks, 10), Ok(TokenMeaning::Dot))
+}
+
+// Whether the text in this case is this one.
+fn folds(alloc: Global, case: Case, text: &[u8], folded: &[u8]) -> Result<bool, AllocError> {
+    let mut marks = plain(alloc, text)?;
+    fold_case(case, marks.as_mut_slice());
+    let wanted = plain(alloc, folded)?;
+    Ok(marks.as_slice() == wanted.as_slice())
+}
+
 #[test]
 fn names(rt: HostRuntime) -> Result<(), Fail> {
-    let bytes = |text: &[u8]| Bytes::from_slice(rt.alloc(), text);
     const COLON: Mark = Mark::Plain(b':');
-    let rows: [(&[Mark], TokenName); 7] = [
-        (&[Mark::Quoted(b'1')], TokenName::Unqualified(bytes(b"1")?)),
+    let rows: [(&[Mark], Named<'_>); 7] = [
+        (&[Mark::Quoted(b'1')], Named::Unqualified(b"1")),
         (
             &[Mark::Plain(b'1'), Mark::Plain(b'+')],
-            TokenName::Unqualified(bytes(b"1+")?),
+            Named::Unqualified(b"1+"),
         ),
         (
             &[Mark::Plain(b'a'), Mark::Quoted(b':'), Mark::Bar],
-            TokenName::Unqualified(bytes(b"a:")?),
+            Named::Unqualified(b"a:"),
         ),
-        (
-            &[COLON, Mark::Plain(b'1')],
-            TokenName::Keyword(bytes(b"1")?),
-        ),
+        (&[COLON, Mark::Plain(b'1')], Named::Keyword(b"1")),
         (
             &[Mark::Plain(b'a'), COLON, Mark::Plain(b'b')],
-            TokenName::External {
-                package: bytes(b"a")?,
-                name: bytes(b"b")?,
-            },
+            Named::External(b"a", b"b"),
         ),
         // A prefix of bars alone is the empty name, and so is such a name.
         (
             &[Mark::Bar, Mark::Bar, COLON, Mark::Bar, Mark::Bar],
-            TokenName::External {
-                package: bytes(b"")?,
-                name: bytes(b"")?,
-            },
+            Named::External(b"", b""),
         ),
         (
             &[Mark::Plain(b'a'), COLON, COLON, Mark::Plain(b'b')],
-            TokenName::Internal {
-                package: bytes(b"a")?,
-                name: bytes(b"b")?,
-            },
+            Named::Internal(b"a", b"b"),
         ),
     ];
     for (marks, name) in rows {
-        assert_eq!(rt; read(rt.alloc(), marks, 10), Ok(TokenMeaning::Name(name)));
+        assert!(rt; means(rt.alloc(), marks, name) == Ok(true), "{marks:?}");
     }
-    assert_eq!(rt;
-        read(rt.alloc(), &[Mark::Plain(b'.')], 10),
-        Ok(TokenMeaning::Dot)
-    );
+    assert!(rt; is_dot(rt.alloc(), &[Mark::Plain(b'.')]));
     let rows: [(Case, &[u8], &[u8]); 7] = [
         (Case::Upcase, b"aB-1", b"AB-1"),
         (Case::Downcase, b"aB-1", b"ab-1"),
@@ -215,12 +259,10 @@ fn names(rt: HostRuntime) -> Result<(), Fail> {
         (Case::Invert, b"foo:BAR", b"foo:BAR"),
     ];
     for (case, text, folded) in rows {
-        let mut marks = plain(rt.alloc(), text)?;
-        fold_case(case, marks.as_mut_slice());
-        assert_eq!(rt; marks.as_slice(), plain(rt.alloc(), folded)?.as_slice());
+        assert!(rt; folds(rt.alloc(), case, text, folded)?, "{text:?}");
     }
     let mut marks = [Mark::Plain(b'a'), Mark::Bar, Mark::Quoted(b' ')];
     fold_case(Case::Upcase, &mut marks);
-    assert_eq!(rt; marks, [Mark::Plain(b'A'), Mark::Bar, Mark::Quoted(b' ')]);
+    assert!(rt; marks == [Mark::Plain(b'A'), Mark::Bar, Mark::Quoted(b' ')]);
     Ok(())
 }

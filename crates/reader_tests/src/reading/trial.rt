@@ -7,7 +7,7 @@ ghost use Rattle.lisp_object.specs.Datum.{is_proper, object_of};
 ghost use Rattle.lisp_object.specs.Object.{integer, nil, pair, symbol};
 ghost use Rattle.user_macros.specs.Calls.{answer_of, call_of, improper, value};
 ghost use Rattle.user_macros.specs.Sound.{IsSoundCall};
-ghost use Rattle.reader_tests.specs.Trial.{trial_names, trial_way, trial_answer, count, named, wrapped};
+ghost use Rattle.reader_tests.specs.Trial.{trial_names, trial_way, trial_answer, later_rows, last_rows, way_among, count, named, wrapped};
 
 use lisp_object::{Bytes, Datum, Items};
 use readtable_core::FnName;
@@ -89,44 +89,58 @@ impl Meaning for Trial {
         if b"LINE".as_slice() == name.as_bytes() {
             return Some(Gather::Line);
         }
-        if b"TOKEN".as_slice() == name.as_bytes() {
-            return Some(Gather::Token);
-        }
-        if b"MUTE".as_slice() == name.as_bytes() {
-            return Some(Gather::Token);
-        }
-        if b"LOW".as_slice() == name.as_bytes() {
-            return Some(Gather::Nothing);
-        }
-        if b"ALIEN".as_slice() == name.as_bytes() {
-            return Some(Gather::Nothing);
-        }
-        if b"NICKNAME".as_slice() == name.as_bytes() {
-            return Some(Gather::Nothing);
-        }
-        if b"FRESH".as_slice() == name.as_bytes() {
-            return Some(Gather::Nothing);
-        }
-        if b"HIGH".as_slice() == name.as_bytes() {
-            return Some(Gather::Nothing);
-        }
-        if b"OWN".as_slice() == name.as_bytes() {
-            return Some(Gather::Nothing);
-        }
-        if b"OTHER".as_slice() == name.as_bytes() {
-            return Some(Gather::Nothing);
-        }
-        if b"IMPROPER".as_slice() == name.as_bytes() {
-            return Some(Gather::Nothing);
-        }
-        if b"WRAP".as_slice() == name.as_bytes() {
-            return Some(Gather::Next);
-        }
-        if b"NAME".as_slice() == name.as_bytes() {
-            return Some(Gather::Text(b'}'));
-        }
-        None
+        later(name)
     }
+}
+
+// The ways of the functions after these.
+fn later(name: FnName) -> Option<Gather>
+    ensures { result ≡ way_among later_rows name }
+{
+    if b"TOKEN".as_slice() == name.as_bytes() {
+        return Some(Gather::Token);
+    }
+    if b"MUTE".as_slice() == name.as_bytes() {
+        return Some(Gather::Token);
+    }
+    if b"LOW".as_slice() == name.as_bytes() {
+        return Some(Gather::Nothing);
+    }
+    if b"ALIEN".as_slice() == name.as_bytes() {
+        return Some(Gather::Nothing);
+    }
+    if b"NICKNAME".as_slice() == name.as_bytes() {
+        return Some(Gather::Nothing);
+    }
+    if b"FRESH".as_slice() == name.as_bytes() {
+        return Some(Gather::Nothing);
+    }
+    last(name)
+}
+
+// The ways of the last functions.
+fn last(name: FnName) -> Option<Gather>
+    ensures { result ≡ way_among last_rows name }
+{
+    if b"HIGH".as_slice() == name.as_bytes() {
+        return Some(Gather::Nothing);
+    }
+    if b"OWN".as_slice() == name.as_bytes() {
+        return Some(Gather::Nothing);
+    }
+    if b"OTHER".as_slice() == name.as_bytes() {
+        return Some(Gather::Nothing);
+    }
+    if b"IMPROPER".as_slice() == name.as_bytes() {
+        return Some(Gather::Nothing);
+    }
+    if b"WRAP".as_slice() == name.as_bytes() {
+        return Some(Gather::Next);
+    }
+    if b"NAME".as_slice() == name.as_bytes() {
+        return Some(Gather::Text(b'}'));
+    }
+    None
 }
 
 /// How much was gathered.
