@@ -1,6 +1,6 @@
 -- EXPORT, IMPORT and USE-PACKAGE of arguments of their kinds.
 --     export_is, import_is, use_is      they are changes, one after the other
---     export_not_found, use_keyword      what is refused before any change
+--     export_not_found      what is refused before any change
 --     so_far      what a call tells where memory ran out among the changes
 use Rattle.std.proofs.Common.{◌≡◌, ◌+◌, ℕ, Bool, true, false, ◌||◌, cond, not, List, ◌∷◌, Result, Ok, Err, Option, Some, IsOk, take, length, bytes_eq, refl, sym, ap, subst, ◌∙◌, arith}
 use Rattle.std.specs.List.{list_all, list_any}
@@ -78,11 +78,6 @@ pub use_is : (s : State) (x : Object) (rest : List Object) (ns qs : List Name) (
     → is_locked p ≡ false → list_any (bytes_eq keyword) qs ≡ false → use_package (x ∷ rest) s ≡ changed s (uses s p qs)
 use_is s x rest ns qs q p kind given each named free others =
     use_open s x rest ns qs q p kind given each named free ∙ ap (λ b. cond b (Err PACKAGE_IS_LOCKED) (changed s (uses s p qs))) others
-
-pub use_keyword : (s : State) (x : Object) (rest : List Object) (ns qs : List Name) (q p : Name) → one_or_each a_name x ≡ Some ns → given_or a_name s.current_package rest ≡ Some q → packages_named s.packages ns ≡ Some qs → package_named s.packages q ≡ Some p
-    → is_locked p ≡ false → list_any (bytes_eq keyword) qs ≡ true → use_package (x ∷ rest) s ≡ Err PACKAGE_IS_LOCKED
-use_keyword s x rest ns qs q p kind given each named free among =
-    use_open s x rest ns qs q p kind given each named free ∙ ap (λ b. cond b (Err PACKAGE_IS_LOCKED) (changed s (uses s p qs))) among
 
 -- ---- what such a call tells
 tells_value : (s u : State) (v : Table) (wrote : Bool) (e : Evaluated) → object_of e.value ≡ t → e.wrote ≡ wrote → u ≡ with_packages s v → changed s (Ok (v, wrote)) ≡ Ok (record { value = object_of e.value; state = u; wrote = e.wrote })
