@@ -1,8 +1,7 @@
 -- What an operator answers where its arguments are of their kinds.
 --     kind_is      an argument is of its kind
 --     option_is      a name names something
---     not_refused, goes_on      a test that is passed
-use Rattle.std.proofs.Common.{◌≡◌, Bool, true, false, cond, Option, Some, sym, subst}
+use Rattle.std.proofs.Common.{◌≡◌, Option, Some, subst}
 use Rattle.std.specs.Option.{option_map_or}
 use Rattle.lisp_object.specs.Object.{Object}
 use Rattle.form_eval.specs.Outcomes.{Outcome, of_kind}
@@ -14,9 +13,3 @@ module _ (P : Outcome Object → Type 0) where
 
   pub option_is : {A : Type 0} (o : Option A) (x : A) (on : A → Outcome Object) (other : Outcome Object) → Some x ≡ o → P (on x) → P (option_map_or on o other)
   option_is o x on other is h = subst (λ p. P (option_map_or on p other)) is h
-
-  pub not_refused : (b : Bool) (x y : Outcome Object) → b ≡ false → P y → P (cond b x y)
-  not_refused b x y is h = subst (λ c. P (cond c x y)) (sym is) h
-
-  pub goes_on : (b : Bool) (x y : Outcome Object) → b ≡ true → P x → P (cond b x y)
-  goes_on b x y is h = subst (λ c. P (cond c x y)) (sym is) h

@@ -21,7 +21,7 @@ module _ {A : Type 0} (kind : Object → Option A) where
   each_of_list [] = refl
   each_of_list (x ∷ xs) = ap (λ r. option_and_then (λ y. option_map (λ ys. y ∷ ys) r) (kind x)) (each_of_list xs)
 
-  no_more : (o : Option A) → option_and_then (λ y. option_map (λ (ys : List A). y ∷ ys) None) o ≡ None
+  pub no_more : (o : Option A) → option_and_then (λ y. option_map (λ (ys : List A). y ∷ ys) None) o ≡ None
   no_more None = refl
   no_more (Some y) = refl
 
@@ -65,6 +65,11 @@ module _ {A : Type 0} (kind : Object → Option A) where
   members_or_each (text b) None are = absurd (false≢true are.0)
   members_or_each (uninterned n) None are = absurd (false≢true are.0)
   members_or_each (vector xs) None are = absurd (false≢true are.0)
+
+-- the members of a list are these
+pub same_members : (xs : List Object) → AreMembers (list_of xs) (Some xs)
+same_members [] = (λ _. refl, λ other. absurd (false≢true (sym other)))
+same_members (x ∷ xs) = (λ _. refl, λ other. absurd (false≢true (sym other)))
 
 -- ---- the members of a datum
 pub members_list : (d : Datum) (items xs : List Datum) (tail : Option Datum) → d ≡ Datum.List items tail → is_proper d ≡ true → is_some tail ≡ false → xs ≡ items → AreMembers (object_of d) (Some (map object_of xs))

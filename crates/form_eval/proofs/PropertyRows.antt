@@ -31,12 +31,12 @@ use Rattle.form_eval.specs.Evaluated.{object_of_symbol}
 use Rattle.form_eval.proofs.Storable.{name_kind, text_kind, symbol_is_value, nil_value, pair_value}
 use Rattle.form_eval.proofs.SoundProperties.{property_value, held}
 
-pub pushed_value : (s : State) (x i : Symbol) (v o : Object) → IsSound s → IsValue s.packages v → o ≡ pair v (unwrap_or (property s x i) nil) → nat_lt 100 (object_depth o) ≡ false → IsValue s.packages o
+pub pushed_value : (s : State) (x i : Symbol) (v o : Object) → IsSound s → IsValue s.packages v → o ≡ pair v (unwrap_or (property s x i) nil)
+    → nat_lt 100 (object_depth (pair v (unwrap_or (property s x i) nil))) ≡ false → IsValue s.packages o
 pushed_value s x i v o sound value is shallow =
-    let built : nat_lt 100 (object_depth (pair v (unwrap_or (property s x i) nil))) ≡ false = ap (λ k. nat_lt 100 (object_depth k)) (sym is) ∙ shallow in
     subst (IsValue s.packages) (sym is)
     (pair_value s.packages v (unwrap_or (property s x i) nil) value (property_value s x i nil sound (nil_value s.packages sound.packages))
-    (ltb-false 100 (object_depth (pair v (unwrap_or (property s x i) nil))) built))
+    (ltb-false 100 (object_depth (pair v (unwrap_or (property s x i) nil))) shallow))
 
 of_row : (P : Symbol → Type 0) (row : List Property) → All (λ p. P p.0) (map property_of row) → All (λ p. P (property_of p).0) row
 of_row P [] all = λ k d h. absurd (omega arith)

@@ -1,7 +1,6 @@
 -- What the calls of the evaluator answer.
-use Rattle.std.specs.Global.{Vec}
-use Rattle.std.specs.Prelude.{◌≡◌, ◌⊎◌, ℕ, Bool, true, false, List, map, Option, Some, None, IsSome, Result, Ok, Err, IsOk}
-use Rattle.lisp_object.specs.Object.{Object, symbol}
+use Rattle.std.specs.Prelude.{◌≡◌, ◌⊎◌, ℕ, ◌+◌, Bool, true, false, List, [], ◌∷◌, map, take, All, Option, Some, None, IsSome, unwrap_or, Result, Ok, Err, IsOk}
+use Rattle.lisp_object.specs.Object.{Object, symbol, nil, list_of}
 use Rattle.lisp_object.specs.declared.refusal.TheConstants.{ARGUMENT_KIND, NO_SUCH_PACKAGE, PACKAGE_IS_LOCKED, NO_READTABLE, NO_MACRO}
 use Rattle.lisp_object.specs.declared.datum.Datum.{Datum}
 use Rattle.lisp_object.specs.Datum.{object_of, is_proper}
@@ -18,8 +17,12 @@ use Rattle.plist_state.specs.Refused.{number_of}
 use Rattle.form_eval.specs.declared.error.EvaluationError.{EvaluationError}
 use Rattle.form_eval.specs.declared.error.EvaluationError.TheVariants.{Refused, OutOfMemory}
 use Rattle.form_eval.specs.declared.evaluated.Evaluated.{Evaluated}
+use Rattle.form_eval.specs.declared.owner.Owner.{Owner}
 use Rattle.form_eval.specs.declared.evaluated.Values.{Values}
+use Rattle.form_eval.specs.Errors.{of_package}
+use Rattle.form_eval.specs.Members.{AreMembers}
 use Rattle.form_eval.specs.Outcomes.{Done, Outcome}
+use Rattle.form_eval.specs.Properties.{t}
 
 -- a proper datum whose value may be stored in these packages
 pub record IsArgument (u : Table) (d : Datum) : Type 0 where
@@ -32,6 +35,10 @@ Keeps u v = (d : Datum) → IsArgument u d → IsArgument v d
 
 abbrev pub object_of_symbol : Symbol → Object
 object_of_symbol x = symbol x.0 x.1
+
+-- NIL where there is no object
+abbrev pub or_nil : Option Object → Object
+or_nil x = unwrap_or x nil
 
 -- a value that leaves this state
 abbrev pub done : Evaluated → State → Done Object
@@ -54,11 +61,50 @@ Gives view (Ok x) s said = said ≡ Ok (view x s)
 Gives view (Err (Refused code)) s said = said ≡ Err code
 Gives view (Err OutOfMemory) s said = IsOk said
 
--- Changes of the packages, one after the other, answer what the definition says. Where memory ran out it says nothing.
-abbrev pub Makes : Result Bool PackageError → Table → Result (Table × Bool) PackageError → Type 0
-Makes (Ok wrote) u said = said ≡ Ok (u, wrote)
-Makes (Err NoRoom) u said = Unit {0}
-Makes (Err e) u said = said ≡ Err e
+-- Changes of the packages for one after the other answer what the definition says of the list. Memory runs out only after some
+-- of them, which left these packages, and only where these and the next one are not refused.
+abbrev pub Makes : {A : Type 0} → (List A → Result (Table × Bool) PackageError) → List A → Result Bool PackageError → Table → Type 0
+Makes said xs (Ok wrote) u = said xs ≡ Ok (u, wrote)
+Makes said xs (Err NoRoom) u = (count : ℕ) × (wrote : Bool) × (said (take count xs) ≡ Ok (u, wrote)) × IsOk (said (take (count + 1) xs))
+Makes said xs (Err e) u = said xs ≡ Err e
+
+-- The same of the symbols of a form, whose list takes memory before the first of them is looked at. So where memory ran out it
+-- says nothing: what may be said then, `RunsOutAfter` says of the form.
+abbrev pub MayMake : Result Bool PackageError → Table → Result (Table × Bool) PackageError → Type 0
+MayMake (Ok wrote) u said = said ≡ Ok (u, wrote)
+MayMake (Err NoRoom) u said = Unit {0}
+MayMake (Err e) u said = said ≡ Err e
+
+-- T, and whether the packages changed; or the refusal of the changes. T takes memory.
+abbrev pub TellsChange : Result Bool PackageError → Result Evaluated EvaluationError → Type 0
+TellsChange (Ok wrote) (Ok e) = (object_of e.value ≡ t) × (e.wrote ≡ wrote)
+TellsChange (Ok wrote) (Err error) = error ≡ OutOfMemory
+TellsChange (Err cause) (Ok e) = ⊥
+TellsChange (Err cause) (Err error) = error ≡ of_package cause
+
+-- an outcome that leaves this state
+abbrev pub Leaves : Outcome Object → State → Type 0
+Leaves (Ok d) s = d.state ≡ s
+Leaves (Err code) s = ⊥
+
+-- Memory ran out after so many members of a list: the definition of these leaves this state, and of these and the next one it
+-- refuses nothing.
+pub record RanOut (said : List Object → Outcome Object) (members : List Object) (s : State) : Type 0 where
+  pub count : ℕ
+  pub left : Leaves (said (take count members)) s
+  pub next : IsOk (said (take (count + 1) members))
+
+-- of an operator whose first argument is one object or a list of such
+abbrev pub RanOutAmong : (List Object → State → Outcome Object) → List Object → State → State → Type 0
+RanOutAmong f [] old new = ⊥
+RanOutAmong f (x ∷ rest) old new = (members : List Object) × AreMembers x (Some members) × RanOut (λ xs. f (list_of xs ∷ rest) old) members new
+
+-- Such an operator answers what the definition says. It changes the packages for one member after the other, and memory runs
+-- out only where the definition refuses nothing of the members up to the one at which it ran out.
+abbrev pub GivesSoFar : (List Object → State → Outcome Object) → List Object → State → Result Evaluated EvaluationError → State → Type 0
+GivesSoFar f xs old (Ok e) new = f xs old ≡ Ok (done e new)
+GivesSoFar f xs old (Err (Refused code)) new = f xs old ≡ Err code
+GivesSoFar f xs old (Err OutOfMemory) new = RanOutAmong f xs old new
 
 -- what was found; or where there is nothing, the refusal of this number
 abbrev pub FoundOr : {A B : Type 0} → ℕ → (A → B) → Result A EvaluationError → Option B → Type 0
@@ -73,18 +119,22 @@ IsOfKind view result o = FoundOr ARGUMENT_KIND view result o
 abbrev pub IsPackageOr : {A B : Type 0} → (A → B) → Result A EvaluationError → Option B → Type 0
 IsPackageOr view result o = FoundOr NO_SUCH_PACKAGE view result o
 
--- The same as `FoundOr`. Where memory ran out it says nothing.
-abbrev pub MayFind : {A B : Type 0} → ℕ → (A → B) → Result A EvaluationError → Option B → Type 0
-MayFind number view (Ok x) o = Some (view x) ≡ o
-MayFind number view (Err (Refused code)) o = (code ≡ number) × (None ≡ o)
-MayFind number view (Err OutOfMemory) o = Unit {0}
+-- the members of a list of arguments, or the one argument, where each is of the kind
+pub record AreEach {A : Type 0} (kind : Object → Option A) (these : List Datum) (x : Object) : Type 0 where
+  pub members : AreMembers x (Some (map object_of these))
+  pub proper : All (λ d. is_proper d ≡ true) these
+  pub kinds : All (λ d. IsSome (kind (object_of d))) these
+
+-- the name that is held
+abbrev pub name_held : Owner → Name
+name_held p = take p.size p.bytes
 
 -- the package of a name, where there is one and it is not locked
-abbrev pub IsUnlocked : Result (Vec ℕ) EvaluationError → Option Name → Type 0
-IsUnlocked (Ok p) o = (Some p.items ≡ o) × (is_locked p.items ≡ false)
+abbrev pub IsUnlocked : Result Owner EvaluationError → Option Name → Type 0
+IsUnlocked (Ok p) o = (Some (name_held p) ≡ o) × (is_locked (name_held p) ≡ false)
 IsUnlocked (Err (Refused code)) o =
     ((code ≡ NO_SUCH_PACKAGE) × (None ≡ o)) ⊎ ((p : Name) × (code ≡ PACKAGE_IS_LOCKED) × (Some p ≡ o) × (is_locked p ≡ true))
-IsUnlocked (Err OutOfMemory) o = (p : Name) × (Some p ≡ o) × (is_locked p ≡ false)
+IsUnlocked (Err OutOfMemory) o = ⊥
 
 -- the readtable of a name, where there is one
 abbrev pub IsReadtableOr : {A B : Type 0} → (A → B) → Result A EvaluationError → Option B → Type 0
@@ -105,8 +155,8 @@ abbrev pub AreArguments : {A : Type 0} → (A → List Datum) → Result A Evalu
 AreArguments view (Ok x) values other = values ≡ view x
 AreArguments view (Err error) values other = (error ≡ Refused ARGUMENT_KIND) × other
 
--- The symbol and the indicator of a property, where both arguments are symbols. Memory runs out only then.
+-- The symbol and the indicator of a property, where both arguments are symbols. It takes no memory.
 abbrev pub IsPlace : Result (Stored × Stored) EvaluationError → Option Symbol → Option Symbol → Type 0
 IsPlace (Ok p) o i = (Some (symbol_of p.0) ≡ o) × (Some (symbol_of p.1) ≡ i)
 IsPlace (Err (Refused code)) o i = (code ≡ ARGUMENT_KIND) × ((None ≡ o) ⊎ (None ≡ i))
-IsPlace (Err OutOfMemory) o i = IsSome o × IsSome i
+IsPlace (Err OutOfMemory) o i = ⊥

@@ -34,17 +34,6 @@ pub(crate) fn two(values: &[Datum]) -> Result<(&Datum, &Datum), EvaluationError>
     }
 }
 
-/// The three arguments.
-pub(crate) fn three(values: &[Datum]) -> Result<(&Datum, &Datum, &Datum), EvaluationError>
-    ensures value { AreArguments (λ p. p.0.now ∷ p.1.now ∷ p.2.now ∷ []) result values.now (length values.now ≢ 3) }
-    ensures arguments { (u : Table) → All (IsArgument u) values.now → IfOk result (λ p. IsArgument u p.0.now × IsArgument u p.1.now × IsArgument u p.2.now) }
-{
-    match values {
-        [first, second, third] => Ok((first, second, third)),
-        _ => Err(Refused(ARGUMENT_KIND)),
-    }
-}
-
 /// The first argument, and those after it.
 pub(crate) fn one_and_rest(values: &[Datum]) -> Result<(&Datum, &[Datum]), EvaluationError>
     ensures value { AreArguments (λ p. p.0.now ∷ p.1.now) result values.now (length values.now < 1) }

@@ -1,28 +1,33 @@
 //! Changes of the packages, one after the other.
-ghost use Rattle.std.specs.Prelude.{◌≡◌, ◌<◌, false, map, All, IfOk};
+ghost use Rattle.std.specs.Prelude.{◌≡◌, ◌<◌, true, false, map, All, IfErr, IfOk};
 ghost use Rattle.package_table.specs.Changes.{after_export, after_import, after_use, finds_this, export_changes, import_changes, intern_changes, use_changes, Gives};
-ghost use Rattle.package_table.specs.Table.{IsPackage};
+ghost use Rattle.package_table.specs.Table.{IsPackage, full_name};
 ghost use Rattle.std.specs.List.{list_all};
+ghost use Rattle.lisp_object.specs.Datum.{object_of, is_proper};
 ghost use Rattle.plist_state.specs.Changes.{with_packages};
-ghost use Rattle.plist_state.specs.Shown.{symbol_of};
 ghost use Rattle.plist_state.specs.Sound.{IsSymbol};
 ghost use Rattle.form_eval.specs.Acceptance.{after_symbol, with_symbols};
+ghost use Rattle.form_eval.specs.Members.{symbol_in, name_in};
 ghost use Rattle.form_eval.specs.Packages.{one_by_one};
 ghost use Rattle.form_eval.specs.Evaluated.{Makes};
 
 use crate::control::either;
-use lisp_object::Bytes;
+use crate::lists::{name_in, symbol_in};
+use crate::packages::full_name;
+use lisp_object::Datum;
 use package_table::{PackageError, Packages, Resolved};
-use plist_state::{Symbol, World};
+use plist_state::World;
 
 // Whether a package finds this symbol by its name.
-fn finds(packages: &Packages, owner: &[u8], symbol: &Symbol) -> bool
-    requires { IsPackage packages.now.0 owner.now }
-    ensures { result ≡ finds_this packages.now.0 owner.now (symbol_of symbol.now).0 (symbol_of symbol.now).1 }
+fn finds(packages: &Packages, owner: &[u8], symbol: &Datum) -> bool
+    requires owner { IsPackage packages.now.0 owner.now }
+    requires symbol { is_proper symbol.now ≡ true }
+    ensures { result ≡ finds_this packages.now.0 owner.now (symbol_in symbol.now).0 (symbol_in symbol.now).1 }
 {
-    match packages.resolve(owner, symbol.name()) {
+    let (symbol_home, name) = symbol_in(symbol);
+    match packages.resolve(owner, name) {
         Ok(resolved) => match resolved {
-            Resolved::Found(home) => home == symbol.home(),
+            Resolved::Found(home) => home == symbol_home,
             Resolved::New(_) => false,
         },
         Err(_) => false,
@@ -30,9 +35,10 @@ fn finds(packages: &Packages, owner: &[u8], symbol: &Symbol) -> bool
 }
 
 /// Whether a package finds each of these symbols by its name.
-pub(crate) fn finds_all(packages: &Packages, owner: &[u8], symbols: &[Symbol]) -> bool
-    requires { IsPackage packages.now.0 owner.now }
-    ensures { result ≡ list_all (λ y. finds_this packages.now.0 owner.now y.0 y.1) (map symbol_of symbols.now) }
+pub(crate) fn finds_all(packages: &Packages, owner: &[u8], symbols: &[Datum]) -> bool
+    requires owner { IsPackage packages.now.0 owner.now }
+    requires symbols { All (λ d. is_proper d ≡ true) symbols.now }
+    ensures { result ≡ list_all (λ y. finds_this packages.now.0 owner.now y.0 y.1) (map symbol_in symbols.now) }
 {
     for symbol in symbols {
         if !finds(packages, owner, symbol) {
@@ -46,14 +52,16 @@ pub(crate) fn finds_all(packages: &Packages, owner: &[u8], symbols: &[Symbol]) -
 pub(crate) fn export_all(
     world: &mut World,
     owner: &[u8],
-    symbols: &[Symbol],
+    symbols: &[Datum],
 ) -> Result<bool, PackageError>
-    ensures gives { Makes result world.new.0.packages (one_by_one (λ u y. after_export u owner.now y.0 y.1) (λ u y. export_changes u owner.now y.1) world.old.0.packages false (map symbol_of symbols.now)) }
+    requires { All (λ d. is_proper d ≡ true) symbols.now }
+    ensures gives { Makes (one_by_one (λ u y. after_export u owner.now y.0 y.1) (λ u y. export_changes u owner.now y.1) world.old.0.packages false) (map symbol_in symbols.now) result world.new.0.packages }
     ensures rest { world.new ≡ (with_packages world.old.0 world.new.0.packages, world.old.1) }
 {
     let mut wrote = false;
     for symbol in symbols {
-        match world.export(owner, symbol.home(), symbol.name()) {
+        let (home, name) = symbol_in(symbol);
+        match world.export(owner, home, name) {
             Ok(changed) => wrote = either(wrote, changed),
             Err(error) => return Err(error),
         }
@@ -65,15 +73,17 @@ pub(crate) fn export_all(
 pub(crate) fn import_all(
     world: &mut World,
     owner: &[u8],
-    symbols: &[Symbol],
+    symbols: &[Datum],
 ) -> Result<bool, PackageError>
-    requires { All (λ x. IsSymbol world.old.0.packages (symbol_of x)) symbols.now }
-    ensures gives { Makes result world.new.0.packages (one_by_one (λ u y. after_import u owner.now y.0 y.1) (λ u y. import_changes u owner.now y.1) world.old.0.packages false (map symbol_of symbols.now)) }
+    requires proper { All (λ d. is_proper d ≡ true) symbols.now }
+    requires there { All (λ d. IsSymbol world.old.0.packages (symbol_in d)) symbols.now }
+    ensures gives { Makes (one_by_one (λ u y. after_import u owner.now y.0 y.1) (λ u y. import_changes u owner.now y.1) world.old.0.packages false) (map symbol_in symbols.now) result world.new.0.packages }
     ensures rest { world.new ≡ (with_packages world.old.0 world.new.0.packages, world.old.1) }
 {
     let mut wrote = false;
     for symbol in symbols {
-        match world.import(owner, symbol.home(), symbol.name()) {
+        let (home, name) = symbol_in(symbol);
+        match world.import(owner, home, name) {
             Ok(changed) => wrote = either(wrote, changed),
             Err(error) => return Err(error),
         }
@@ -81,18 +91,19 @@ pub(crate) fn import_all(
     Ok(wrote)
 }
 
-/// USE-PACKAGE of these, one after the other, and whether the packages changed.
+/// USE-PACKAGE of the packages of these names, one after the other, and whether the packages changed.
 pub(crate) fn use_each(
     world: &mut World,
     owner: &[u8],
-    used: &[Bytes],
+    used: &[Datum],
 ) -> Result<bool, PackageError>
-    ensures gives { Makes result world.new.0.packages (one_by_one (λ u q. after_use u owner.now q) (λ u q. use_changes u owner.now q) world.old.0.packages false used.now) }
+    requires { All (λ d. is_proper d ≡ true) used.now }
+    ensures gives { Makes (one_by_one (λ u q. after_use u owner.now q) (λ u q. use_changes u owner.now q) world.old.0.packages false) (map (λ d. full_name (name_in d)) used.now) result world.new.0.packages }
     ensures rest { world.new ≡ (with_packages world.old.0 world.new.0.packages, world.old.1) }
 {
     let mut wrote = false;
     for package in used {
-        match world.use_package(owner, package.as_slice()) {
+        match world.use_package(owner, full_name(name_in(package))) {
             Ok(changed) => wrote = either(wrote, changed),
             Err(error) => return Err(error),
         }
@@ -106,6 +117,7 @@ fn intern_one(world: &mut World, symbol: &(&[u8], &[u8])) -> Result<bool, Packag
     ensures gives { Gives (λ _. world.new.0.packages) result (after_symbol world.old.0.packages (symbol.now.0.now, symbol.now.1.now)) }
     ensures is_new { IfOk result (λ is_new. is_new ≡ intern_changes world.old.0.packages symbol.now.0.now symbol.now.1.now) }
     ensures rest { world.new ≡ (with_packages world.old.0 world.new.0.packages, world.old.1) }
+    ensures unchanged { IfErr result (λ _. world.new ≡ world.old) }
 {
     if world.packages().is_symbol(symbol.0, symbol.1) {
         return Ok(false);
@@ -122,7 +134,7 @@ pub(crate) fn intern_all(
     symbols: &[(&[u8], &[u8])],
 ) -> Result<bool, PackageError>
     requires { All (λ p. All (λ b. b < 128) p.1.now) symbols.now }
-    ensures gives { Makes result world.new.0.packages (with_symbols world.old.0.packages (map (λ p. (p.0.now, p.1.now)) symbols.now)) }
+    ensures gives { Makes (with_symbols world.old.0.packages) (map (λ p. (p.0.now, p.1.now)) symbols.now) result world.new.0.packages }
     ensures rest { world.new ≡ (with_packages world.old.0 world.new.0.packages, world.old.1) }
 {
     let mut wrote = false;

@@ -12,11 +12,12 @@
 //!   INCF and PUSH; `perform`: what an operator makes of the values of its arguments
 //! - `control`, `properties`, `packages`, `package_lists`, `readtables`: the operators of each family, of the list of the values
 //!   of their arguments
-//! - `arguments`, `kinds`, `lists`, `values`: so many arguments, what each stands for, lists of them, and values that are
-//!   built; `changes`: changes of the packages, one after the other
+//! - `arguments`, `taken`, `kinds`, `lists`, `values`: so many arguments, what each stands for, lists of them, and values that
+//!   are built; `changes`: changes of the packages, one after the other; `owner`: the name of a package that changes
 //!
 //! Each operator answers its definition of the values of its arguments. `Gives` (specs/Evaluated.antt) also says that memory
-//! runs out only where nothing is refused; `Answers` says nothing of it.
+//! runs out only where nothing is refused; `GivesSoFar`, that it runs out only where nothing is refused of the members of a list
+//! up to one of them; `Answers` says nothing of it.
 #![tactic(auto)]
 
 mod arguments;
@@ -30,6 +31,7 @@ mod kinds;
 pub mod laws;
 mod lists;
 mod operators;
+mod owner;
 mod package_lists;
 mod packages;
 mod perform;
@@ -37,6 +39,7 @@ mod place;
 mod properties;
 mod readtables;
 mod symbols;
+mod taken;
 mod transaction;
 mod values;
 

@@ -1,18 +1,16 @@
 //! Arguments that are one of a kind or a list of such.
-ghost use Rattle.std.specs.Prelude.{◌≡◌, true, map, All, IfSome, option_map};
+ghost use Rattle.std.specs.Prelude.{◌≡◌, true, None, IsSome, map, All, IfErr, IfOk, IfSome, option_map};
 ghost use Rattle.lisp_object.specs.Datum.{object_of, is_proper};
-ghost use Rattle.plist_state.specs.Shown.{symbol_of};
 ghost use Rattle.form_eval.specs.Kinds.{a_symbol, a_name, one_or_each};
 ghost use Rattle.lisp_object.specs.declared.refusal.TheConstants.{ARGUMENT_KIND as KIND};
-ghost use Rattle.form_eval.specs.Members.{each_in, AreMembers};
-ghost use Rattle.form_eval.specs.Evaluated.{MayFind};
+ghost use Rattle.form_eval.specs.declared.error.EvaluationError.TheVariants.{Refused};
+ghost use Rattle.form_eval.specs.Members.{each_in, AreMembers, symbol_in, name_in};
+ghost use Rattle.form_eval.specs.Evaluated.{AreEach, IsOfKind};
 
 use crate::EvaluationError::Refused;
 use crate::{EvaluationError, kinds};
+use lisp_object::Datum;
 use lisp_object::refusal::ARGUMENT_KIND;
-use lisp_object::{Bytes, Datum};
-use plist_state::Symbol;
-use std::alloc::Global;
 use std::slice;
 
 // The members of a list, or the one argument; nothing where a list ends in another object.
@@ -43,49 +41,81 @@ fn members(datum: &Datum) -> Option<&[Datum]>
     }
 }
 
-// The symbols that these are, where all are symbols.
-fn each_symbol(alloc: Global, members: &[Datum]) -> Result<Vec<Symbol>, EvaluationError>
+// That each of these is an interned symbol.
+fn check_symbols(members: &[Datum]) -> Result<(), EvaluationError>
     requires { All (λ d. is_proper d ≡ true) members.now }
-    ensures { MayFind KIND (λ v. map symbol_of v.items) result (each_in a_symbol (map object_of members.now)) }
+    ensures each { IfOk result (λ _. All (λ d. IsSome (a_symbol (object_of d))) members.now) }
+    ensures none { IfErr result (λ e. (e ≡ Refused KIND) × (None ≡ each_in a_symbol (map object_of members.now))) }
 {
-    let mut symbols = Vec::new(alloc);
     for member in members {
-        let (home, name) = kinds::symbol(member)?;
-        symbols.push(Symbol::from_bytes(alloc, home, name)?)?;
+        match kinds::symbol(member) {
+            Ok(_) => {}
+            Err(error) => return Err(error),
+        }
     }
-    Ok(symbols)
+    Ok(())
 }
 
-// The names that these are designators of, where all are such.
-fn each_name(alloc: Global, members: &[Datum]) -> Result<Vec<Bytes>, EvaluationError>
+// That each of these is a designator of a name.
+fn check_names(members: &[Datum]) -> Result<(), EvaluationError>
     requires { All (λ d. is_proper d ≡ true) members.now }
-    ensures { MayFind KIND (λ v. v.items) result (each_in a_name (map object_of members.now)) }
+    ensures each { IfOk result (λ _. All (λ d. IsSome (a_name (object_of d))) members.now) }
+    ensures none { IfErr result (λ e. (e ≡ Refused KIND) × (None ≡ each_in a_name (map object_of members.now))) }
 {
-    let mut names = Vec::new(alloc);
     for member in members {
-        names.push(Bytes::from_slice(alloc, kinds::name(member)?)?)?;
+        match kinds::name(member) {
+            Ok(_) => {}
+            Err(error) => return Err(error),
+        }
     }
-    Ok(names)
+    Ok(())
 }
 
-/// The symbol that an argument is, or the symbols of a list.
-pub(crate) fn symbols(alloc: Global, datum: &Datum) -> Result<Vec<Symbol>, EvaluationError>
+/// The members of a list, or the one argument, where each is an interned symbol. Takes no memory.
+pub(crate) fn symbols(datum: &Datum) -> Result<&[Datum], EvaluationError>
     requires { is_proper datum.now ≡ true }
-    ensures { MayFind KIND (λ v. map symbol_of v.items) result (one_or_each a_symbol (object_of datum.now)) }
+    ensures value { IsOfKind (λ m. map symbol_in m.now) result (one_or_each a_symbol (object_of datum.now)) }
+    ensures each { IfOk result (λ m. AreEach a_symbol m.now (object_of datum.now)) }
 {
     match members(datum) {
-        Some(members) => each_symbol(alloc, members),
+        Some(members) => match check_symbols(members) {
+            Ok(()) => Ok(members),
+            Err(error) => Err(error),
+        },
         None => Err(Refused(ARGUMENT_KIND)),
     }
 }
 
-/// The name that an argument designates, or the names of a list.
-pub(crate) fn names(alloc: Global, datum: &Datum) -> Result<Vec<Bytes>, EvaluationError>
+/// The members of a list, or the one argument, where each is a designator of a name. Takes no memory.
+pub(crate) fn names(datum: &Datum) -> Result<&[Datum], EvaluationError>
     requires { is_proper datum.now ≡ true }
-    ensures { MayFind KIND (λ v. v.items) result (one_or_each a_name (object_of datum.now)) }
+    ensures value { IsOfKind (λ m. map name_in m.now) result (one_or_each a_name (object_of datum.now)) }
+    ensures each { IfOk result (λ m. AreEach a_name m.now (object_of datum.now)) }
 {
     match members(datum) {
-        Some(members) => each_name(alloc, members),
+        Some(members) => match check_names(members) {
+            Ok(()) => Ok(members),
+            Err(error) => Err(error),
+        },
         None => Err(Refused(ARGUMENT_KIND)),
     }
+}
+
+/// The home and the name of a member that is a symbol.
+pub(crate) fn symbol_in(member: &Datum) -> (&[u8], &[u8])
+    requires { is_proper member.now ≡ true }
+    ensures { (result.0.now, result.1.now) ≡ symbol_in member.now }
+{
+    match kinds::symbol(member) {
+        Ok(symbol) => symbol,
+        Err(_) => (&[], &[]),
+    }
+}
+
+/// The name of which a member is a designator.
+pub(crate) fn name_in(member: &Datum) -> &[u8]
+    requires { is_proper member.now ≡ true }
+    ensures { result.now ≡ name_in member.now }
+{
+    kinds::name(member).unwrap_or(&[])
 }

@@ -1,7 +1,7 @@
 //! The operators on packages (standard 11.2).
 ghost use Rattle.std.specs.Prelude.{◌≡◌, true, map, All, IfOk};
 ghost use Rattle.lisp_object.specs.Datum.{object_of, is_proper};
-ghost use Rattle.package_table.specs.Table.{IsPackage, package_named};
+ghost use Rattle.package_table.specs.Table.{IsPackage, package_named, full_name};
 ghost use Rattle.form_eval.specs.Packages.{make, enter, intern};
 ghost use Rattle.form_eval.specs.Evaluated.{IsArgument, IsPackageOr, Gives, done};
 
@@ -11,6 +11,7 @@ use crate::symbols::check_intern;
 use crate::{Evaluated, EvaluationError, kinds, values};
 use lisp_object::Datum;
 use lisp_object::refusal::NO_SUCH_PACKAGE;
+use package_table::standardized::{CL, CL_USER, COMMON_LISP, COMMON_LISP_USER};
 use plist_state::World;
 use std::alloc::Global;
 
@@ -20,6 +21,19 @@ pub(crate) fn package_named<'a>(world: &'a World, name: &[u8]) -> Result<&'a [u8
     ensures there { IfOk result (λ p. IsPackage world.now.0.packages p.now) }
 {
     world.packages().find(name).ok_or(Refused(NO_SUCH_PACKAGE))
+}
+
+/// The name for which a nickname stands; any other name is itself.
+pub(crate) fn full_name(name: &[u8]) -> &[u8]
+    ensures { result.now ≡ full_name name.now }
+{
+    if name == CL {
+        return COMMON_LISP;
+    }
+    if name == CL_USER {
+        return COMMON_LISP_USER;
+    }
+    name
 }
 
 /// MAKE-PACKAGE: the name.

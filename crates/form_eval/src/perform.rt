@@ -58,12 +58,12 @@ fn carry_out(
     match operation {
         Operation::Progn => last(alloc, values),
         Operation::MakeList => values::list(alloc, values),
-        Operation::Get => properties::get(alloc, world, values.as_slice()),
-        Operation::Setf => put(alloc, world, is_case, values.as_slice()),
-        Operation::Remprop => properties::remove(alloc, world, values.as_slice()),
-        Operation::SymbolPlist => properties::symbol_plist(alloc, world, values.as_slice()),
-        Operation::Incf => properties::increment(alloc, world, values.as_slice()),
-        Operation::Push => properties::push(alloc, world, values.as_slice()),
+        Operation::Get => properties::get(alloc, world, values),
+        Operation::Setf => put(alloc, world, is_case, values),
+        Operation::Remprop => properties::remove(alloc, world, values),
+        Operation::SymbolPlist => properties::symbol_plist(alloc, world, values),
+        Operation::Incf => properties::increment(alloc, world, values),
+        Operation::Push => properties::push(alloc, world, values),
         Operation::MakePackage => packages::make(alloc, world, values.as_slice()),
         Operation::Export => package_lists::export(alloc, world, values.as_slice()),
         Operation::Import => package_lists::import(alloc, world, values.as_slice()),
@@ -107,15 +107,15 @@ fn put(
     alloc: Global,
     world: &mut World,
     is_case: bool,
-    values: &[Datum],
+    values: Vec<Datum>,
 ) -> Result<Evaluated, EvaluationError>
-    requires { All (IsArgument world.old.0.packages) values.now }
-    ensures gives { Answers done result world.new.0 (if is_case then set_case (map object_of values.now) world.old.0 else set (map object_of values.now) world.old.0) }
+    requires { All (IsArgument world.old.0.packages) values.items }
+    ensures gives { Answers done result world.new.0 (if is_case then set_case (map object_of values.items) world.old.0 else set (map object_of values.items) world.old.0) }
     ensures proper { IfOk result (λ e. is_proper e.value ≡ true) }
     ensures marked { world.new.1 ≡ world.old.1 }
 {
     if is_case {
-        readtables::set_case(alloc, world, values)
+        readtables::set_case(alloc, world, values.as_slice())
     } else {
         properties::set(alloc, world, values)
     }

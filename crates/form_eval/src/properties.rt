@@ -1,55 +1,66 @@
 //! The operators on property lists (standard 10.2, 14.2), of the values of their arguments.
-ghost use Rattle.std.specs.Prelude.{◌≡◌, true, [], ◌∷◌, map, unwrap_or, All, IfOk};
+ghost use Rattle.std.specs.Prelude.{◌≡◌, true, [], ◌∷◌, nat_lt, map, option_map, All, IfOk, IfSome};
 ghost use Rattle.std.specs.List.{list_all};
-ghost use Rattle.lisp_object.specs.Object.{IsSound, pair, nil};
+ghost use Rattle.lisp_object.specs.Object.{IsSound, pair, list_of, object_depth, object_size};
 ghost use Rattle.lisp_object.specs.Datum.{object_of, is_proper};
-ghost use Rattle.plist_state.specs.Changes.{property};
 ghost use Rattle.plist_state.specs.Shown.{symbol_of, property_of};
 ghost use Rattle.form_eval.specs.Kinds.{a_symbol};
 ghost use Rattle.form_eval.specs.Properties.{get, set, remove, in_turn, symbol_plist, amount, increment, push};
-ghost use Rattle.form_eval.specs.Evaluated.{IsArgument, IsOfKind, IsPlace, Answers, Gives, done, object_of_symbol};
+ghost use Rattle.form_eval.specs.Evaluated.{IsArgument, IsOfKind, IsPlace, Gives, done, object_of_symbol, or_nil};
 
 use crate::EvaluationError::Refused;
-use crate::arguments::{given_or_nil, one, three, two, two_and_rest};
+use crate::arguments::given_or_nil;
+use crate::taken::{one, three, two, two_and_rest};
 use crate::{Evaluated, EvaluationError, kinds, values};
 use lisp_object::Datum;
 use lisp_object::refusal::{ARGUMENT_KIND, INTEGER_RANGE, LIMIT, VALUE_TOO_DEEP};
 use plist_state::{Property, Symbol, World};
 use std::alloc::{AllocError, Global};
 
-// The symbol and the indicator of a property.
-fn place(
-    alloc: Global,
-    symbol: &Datum,
-    indicator: &Datum,
-) -> Result<(Symbol, Symbol), EvaluationError>
-    requires symbol { is_proper symbol.now ≡ true }
-    requires indicator { is_proper indicator.now ≡ true }
-    ensures { IsPlace result (a_symbol (object_of symbol.now)) (a_symbol (object_of indicator.now)) }
+// The symbol that an argument is.
+fn symbol(datum: Datum) -> Result<Symbol, EvaluationError>
+    requires { is_proper datum ≡ true }
+    ensures { IsOfKind symbol_of result (a_symbol (object_of datum)) }
 {
-    let (home, name) = kinds::symbol(symbol)?;
-    let (indicator_home, indicator_name) = kinds::symbol(indicator)?;
-    Ok((
-        Symbol::from_bytes(alloc, home, name)?,
-        Symbol::from_bytes(alloc, indicator_home, indicator_name)?,
-    ))
+    match datum {
+        Datum::Symbol { package, name } => Ok(Symbol {
+            home: package.into_vec(),
+            name: name.into_vec(),
+        }),
+        Datum::Integer(_) => Err(Refused(ARGUMENT_KIND)),
+        Datum::Rational(_) => Err(Refused(ARGUMENT_KIND)),
+        Datum::Char(_) => Err(Refused(ARGUMENT_KIND)),
+        Datum::Text(_) => Err(Refused(ARGUMENT_KIND)),
+        Datum::Uninterned(_) => Err(Refused(ARGUMENT_KIND)),
+        Datum::List { .. } => Err(Refused(ARGUMENT_KIND)),
+        Datum::Vector(_) => Err(Refused(ARGUMENT_KIND)),
+    }
+}
+
+// The symbol and the indicator of a property. Takes no memory, as both names are kept.
+fn place(key: Datum, indicator: Datum) -> Result<(Symbol, Symbol), EvaluationError>
+    requires symbol { is_proper key ≡ true }
+    requires indicator { is_proper indicator ≡ true }
+    ensures { IsPlace result (a_symbol (object_of key)) (a_symbol (object_of indicator)) }
+{
+    Ok((symbol(key)?, symbol(indicator)?))
 }
 
 /// GET: the value of a property, or what is given where there is no such property.
 pub(crate) fn get(
     alloc: Global,
     world: &World,
-    values: &[Datum],
+    values: Vec<Datum>,
 ) -> Result<Evaluated, EvaluationError>
-    requires { All (IsArgument world.now.0.packages) values.now }
-    ensures gives { Gives done result world.now.0 (get (map object_of values.now) world.now.0) }
+    requires { All (IsArgument world.now.0.packages) values.items }
+    ensures gives { Gives done result world.now.0 (get (map object_of values.items) world.now.0) }
     ensures proper { IfOk result (λ e. is_proper e.value ≡ true) }
 {
     let (symbol, indicator, rest) = two_and_rest(values)?;
-    let (symbol, indicator) = place(alloc, symbol, indicator)?;
+    let (symbol, indicator) = place(symbol, indicator)?;
     let value = match world.get(&symbol, &indicator) {
         Some(value) => value.copy(alloc)?,
-        None => given_or_nil(alloc, rest)?,
+        None => given_or_nil(alloc, rest.as_slice())?,
     };
     Ok(Evaluated {
         value,
@@ -61,17 +72,16 @@ pub(crate) fn get(
 pub(crate) fn set(
     alloc: Global,
     world: &mut World,
-    values: &[Datum],
+    values: Vec<Datum>,
 ) -> Result<Evaluated, EvaluationError>
-    requires { All (IsArgument world.old.0.packages) values.now }
-    ensures gives { Gives done result world.new.0 (set (map object_of values.now) world.old.0) }
+    requires { All (IsArgument world.old.0.packages) values.items }
+    ensures gives { Gives done result world.new.0 (set (map object_of values.items) world.old.0) }
     ensures proper { IfOk result (λ e. is_proper e.value ≡ true) }
     ensures marked { world.new.1 ≡ world.old.1 }
 {
     let (symbol, indicator, value) = three(values)?;
-    let (symbol, indicator) = place(alloc, symbol, indicator)?;
+    let (symbol, indicator) = place(symbol, indicator)?;
     let stored = value.copy(alloc)?;
-    let value = value.copy(alloc)?;
     world.put(&symbol, indicator, stored)?;
     Ok(Evaluated { value, wrote: true })
 }
@@ -80,15 +90,15 @@ pub(crate) fn set(
 pub(crate) fn remove(
     alloc: Global,
     world: &mut World,
-    values: &[Datum],
+    values: Vec<Datum>,
 ) -> Result<Evaluated, EvaluationError>
-    requires { All (IsArgument world.old.0.packages) values.now }
-    ensures gives { Gives done result world.new.0 (remove (map object_of values.now) world.old.0) }
+    requires { All (IsArgument world.old.0.packages) values.items }
+    ensures gives { Gives done result world.new.0 (remove (map object_of values.items) world.old.0) }
     ensures proper { IfOk result (λ e. is_proper e.value ≡ true) }
     ensures marked { world.new.1 ≡ world.old.1 }
 {
     let (symbol, indicator) = two(values)?;
-    let (symbol, indicator) = place(alloc, symbol, indicator)?;
+    let (symbol, indicator) = place(symbol, indicator)?;
     if world.get(&symbol, &indicator).is_none() {
         return Ok(Evaluated {
             value: values::empty_list(alloc)?,
@@ -118,21 +128,52 @@ fn in_turn(alloc: Global, row: &[Property]) -> Result<Vec<Datum>, AllocError>
     Ok(values)
 }
 
+// Whether the list of indicators and values in turn has more levels than a value that is built may have.
+fn is_row_too_deep(row: &[Property]) -> bool
+    requires { All (λ p. is_proper p.value ≡ true) row.now }
+    ensures { result ≡ nat_lt 100 (object_depth (list_of (in_turn (map property_of row.now)))) }
+{
+    let mut depth = 0u64;
+    for property in row {
+        depth = depth.max(property.value().depth());
+    }
+    depth >= values::MOST_LEVELS
+}
+
+// Whether that list is larger than a value that is built may be.
+fn is_row_too_large(row: &[Property]) -> bool
+    requires { All (λ p. is_proper p.value ≡ true) row.now }
+    ensures { result ≡ nat_lt 1000000 (object_size (list_of (in_turn (map property_of row.now)))) }
+{
+    let mut size = 0u64;
+    for property in row {
+        size = size
+            .saturating_add(property.value().size())
+            .saturating_add(1);
+    }
+    size >= values::LARGEST_SIZE
+}
+
 /// SYMBOL-PLIST: the indicators and the values of a symbol in turn.
 pub(crate) fn symbol_plist(
     alloc: Global,
     world: &World,
-    values: &[Datum],
+    values: Vec<Datum>,
 ) -> Result<Evaluated, EvaluationError>
-    requires { All (IsArgument world.now.0.packages) values.now }
-    ensures gives { Answers done result world.now.0 (symbol_plist (map object_of values.now) world.now.0) }
+    requires { All (IsArgument world.now.0.packages) values.items }
+    ensures gives { Gives done result world.now.0 (symbol_plist (map object_of values.items) world.now.0) }
     ensures proper { IfOk result (λ e. is_proper e.value ≡ true) }
 {
-    let (home, name) = kinds::symbol(one(values)?)?;
+    let symbol = symbol(one(values)?)?;
     world.soundness();
-    let symbol = Symbol::from_bytes(alloc, home, name)?;
-    let values = in_turn(alloc, world.plist(&symbol))?;
-    values::list(alloc, values)
+    let row = world.plist(&symbol);
+    if is_row_too_deep(row) {
+        return Err(Refused(VALUE_TOO_DEEP));
+    }
+    if is_row_too_large(row) {
+        return Err(Refused(LIMIT));
+    }
+    values::list(alloc, in_turn(alloc, row)?)
 }
 
 // By how much INCF adds: 1 where it is not given.
@@ -150,16 +191,16 @@ fn amount(rest: &[Datum]) -> Result<i128, EvaluationError>
 pub(crate) fn increment(
     alloc: Global,
     world: &mut World,
-    values: &[Datum],
+    values: Vec<Datum>,
 ) -> Result<Evaluated, EvaluationError>
-    requires { All (IsArgument world.old.0.packages) values.now }
-    ensures gives { Answers done result world.new.0 (increment (map object_of values.now) world.old.0) }
+    requires { All (IsArgument world.old.0.packages) values.items }
+    ensures gives { Gives done result world.new.0 (increment (map object_of values.items) world.old.0) }
     ensures proper { IfOk result (λ e. is_proper e.value ≡ true) }
     ensures marked { world.new.1 ≡ world.old.1 }
 {
     let (symbol, indicator, rest) = two_and_rest(values)?;
-    let amount = amount(rest)?;
-    let (symbol, indicator) = place(alloc, symbol, indicator)?;
+    let amount = amount(rest.as_slice())?;
+    let (symbol, indicator) = place(symbol, indicator)?;
     let Some(value) = world.get(&symbol, &indicator) else {
         return Err(Refused(ARGUMENT_KIND));
     };
@@ -173,19 +214,14 @@ pub(crate) fn increment(
     })
 }
 
-// The pair of a value and the property, or NIL where there is none.
-fn pushed(
-    alloc: Global,
-    world: &World,
-    value: &Datum,
-    symbol: &Symbol,
-    indicator: &Symbol,
-) -> Result<Datum, AllocError>
-    requires { is_proper value.now ≡ true }
-    ensures value { IfOk result (λ d. object_of d ≡ pair (object_of value.now) (unwrap_or (property world.now.0 (symbol_of symbol.now) (symbol_of indicator.now)) nil)) }
+// The pair of a value and a property, or NIL where there is none.
+fn pushed(alloc: Global, value: &Datum, old: Option<&Datum>) -> Result<Datum, AllocError>
+    requires value { is_proper value.now ≡ true }
+    requires old { IfSome old (λ d. is_proper d.now ≡ true) }
+    ensures value { IfOk result (λ d. object_of d ≡ pair (object_of value.now) (or_nil (option_map (λ d. object_of d.now) old.entry))) }
     ensures proper { IfOk result (λ d. is_proper d ≡ true) }
 {
-    let old = match world.get(symbol, indicator) {
+    let old = match old {
         Some(old) => old.copy(alloc)?,
         None => values::empty_list(alloc)?,
     };
@@ -198,22 +234,23 @@ fn pushed(
 pub(crate) fn push(
     alloc: Global,
     world: &mut World,
-    values: &[Datum],
+    values: Vec<Datum>,
 ) -> Result<Evaluated, EvaluationError>
-    requires { All (IsArgument world.old.0.packages) values.now }
-    ensures gives { Answers done result world.new.0 (push (map object_of values.now) world.old.0) }
+    requires { All (IsArgument world.old.0.packages) values.items }
+    ensures gives { Gives done result world.new.0 (push (map object_of values.items) world.old.0) }
     ensures proper { IfOk result (λ e. is_proper e.value ≡ true) }
     ensures marked { world.new.1 ≡ world.old.1 }
 {
     let (value, symbol, indicator) = three(values)?;
-    let (symbol, indicator) = place(alloc, symbol, indicator)?;
-    let value = pushed(alloc, world, value, &symbol, &indicator)?;
-    if values::is_too_deep(&value) {
+    let (symbol, indicator) = place(symbol, indicator)?;
+    let old = world.get(&symbol, &indicator);
+    if values::is_pair_too_deep(&value, old) {
         return Err(Refused(VALUE_TOO_DEEP));
     }
-    if values::is_too_large(&value) {
+    if values::is_pair_too_large(&value, old) {
         return Err(Refused(LIMIT));
     }
+    let value = pushed(alloc, &value, old)?;
     world.soundness();
     let stored = value.copy(alloc)?;
     world.put(&symbol, indicator, stored)?;

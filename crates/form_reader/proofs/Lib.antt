@@ -25,6 +25,7 @@ pub mod ObjectTokens
 pub mod Following
 pub mod Readiness
 pub mod TurnsTaken
+pub mod Spaces
 pub mod Endings
 pub mod EndSpending
 pub mod ReaderSteps

@@ -1,5 +1,5 @@
 -- What a step and the end of the text are to a reader, from what a turn is to the outcome.
-use Rattle.std.proofs.Common.{◌≡◌, ℕ, ◌+◌, ◌≤◌, true, List, [], ◌∷◌, ◌++◌, length, Result, Ok, Err, IfOk, take, drop, sym, ap, subst, ◌∙◌, append_assoc, append-nil, length-append, arith}
+use Rattle.std.proofs.Common.{◌≡◌, ℕ, ◌+◌, ◌≤◌, true, false, List, [], ◌∷◌, ◌++◌, length, Result, Ok, Err, IfOk, take, drop, sym, ap, subst, ◌∙◌, append_assoc, append-nil, length-append, arith}
 use Rattle.std.proofs.lemmas.List.{take-append-drop}
 use Rattle.lisp_object.specs.declared.datum.Datum.{Datum}
 use Rattle.lisp_object.specs.Object.{Object, IsSound}
@@ -26,11 +26,11 @@ use Rattle.form_reader.specs.Resuming.{stage_gives}
 use Rattle.form_reader.specs.Setting.{Setting}
 use Rattle.form_reader.specs.Reading.{form, refused, reads}
 use Rattle.form_reader.specs.declared.in_place.InPlace.{InPlace}
-use Rattle.form_reader.specs.declared.in_place.InPlace.TheVariants.{Taken as InPlaceTaken, Left as InPlaceLeft, Refused as InPlaceRefused}
+use Rattle.form_reader.specs.declared.in_place.InPlace.TheVariants.{Taken as InPlaceTaken, Passed as InPlacePassed, Left as InPlaceLeft, Refused as InPlaceRefused}
 use Rattle.form_reader.specs.InPlace.{FeedsInPlace, IsReadyInPlace}
 use Rattle.form_reader.specs.Turning.{outcome_of, rest_of, TurnsTo, IsStanding, IsReadyTurn, BeginsFrom}
 use Rattle.form_reader.specs.Reader.{fed, begun, MayGoOn, DecideNothing, IsNew, IsAfter, IsAfterIn, Steps, BeginsLater, IsSoundStep, Takes, NeedsMemory, undecided, token_ends, call_ends, MayRunOutIn, MayRunOut}
-use Rattle.form_reader.specs.Memory.{RunsOut, with_it, before_it, goes_on, comes_to}
+use Rattle.form_reader.specs.Memory.{is_space, RunsOut, with_it, before_it, goes_on, comes_to}
 use Rattle.form_reader.proofs.Deciding.{may_go_on, decide_nothing}
 use Rattle.form_reader.proofs.Forms.{reads_is, stood}
 
@@ -51,21 +51,37 @@ module _ (setting : Setting) (old mid new : FormReader) (stage : Stage) (bytes :
   one_more : IsAfterIn setting old (Open stage) bytes → (cs : List ℕ) → reads setting (fed_now ++ cs) ≡ rest_of setting old.frames stage old.start old.at (byte ∷ cs)
   one_more a cs = ap (reads setting) (append_assoc bytes (byte ∷ []) cs) ∙ a.1 (byte ∷ cs)
 
+  -- it is taken, and what is read of the text after it is this
+  went_to : (next : Stage) (start at : ℕ) → start + at ≡ old.start + old.at + 1 → IsAfterIn setting old (Open stage) bytes
+      → ((cs : List ℕ) → rest_of setting old.frames stage old.start old.at (byte ∷ cs) ≡ rest_of setting old.frames next start at cs)
+      → IsStanding setting.limits old.frames next at
+      → ((start + at ≡ length fed_now) × ((cs : List ℕ) → reads setting (fed_now ++ cs) ≡ rest_of setting old.frames next start at cs))
+      × (start + at ≡ length fed_now) × MayGoOn fed_now (reads setting fed_now) × DecideNothing setting fed_now
+  went_to next start at more a same ready =
+      let many : length fed_now ≡ length bytes + 1 = length-append bytes (byte ∷ []) in
+      let count : start + at ≡ length fed_now = omega (arith, many, more, a.0) in
+      let rest : (cs : List ℕ) → reads setting (fed_now ++ cs) ≡ rest_of setting old.frames next start at cs = λ cs. one_more a cs ∙ same cs in (
+        (count, rest),
+        count,
+        may_go_on setting old.frames next start at fed_now ready.levels ready.place count rest,
+        decide_nothing setting old.frames next start at fed_now ready.levels ready.place count rest,
+      )
+
   -- it is taken where the reader is
   pub went_on : (next : Stage) → IsAfterIn setting old (Open stage) bytes
       → ((cs : List ℕ) → rest_of setting old.frames stage old.start old.at (byte ∷ cs) ≡ rest_of setting old.frames next old.start (old.at + 1) cs)
       → IsStanding setting.limits old.frames next (old.at + 1)
       → ((old.start + (old.at + 1) ≡ length fed_now) × ((cs : List ℕ) → reads setting (fed_now ++ cs) ≡ rest_of setting old.frames next old.start (old.at + 1) cs))
       × (old.start + (old.at + 1) ≡ length fed_now) × MayGoOn fed_now (reads setting fed_now) × DecideNothing setting fed_now
-  went_on next a same ready =
-      let many : length fed_now ≡ length bytes + 1 = length-append bytes (byte ∷ []) in
-      let count : old.start + (old.at + 1) ≡ length fed_now = omega (arith, many, a.0) in
-      let rest : (cs : List ℕ) → reads setting (fed_now ++ cs) ≡ rest_of setting old.frames next old.start (old.at + 1) cs = λ cs. one_more a cs ∙ same cs in (
-        (count, rest),
-        count,
-        may_go_on setting old.frames next old.start (old.at + 1) fed_now ready.levels ready.place count rest,
-        decide_nothing setting old.frames next old.start (old.at + 1) fed_now ready.levels ready.place count rest,
-      )
+  went_on next a same ready = went_to next old.start (old.at + 1) (omega arith) a same ready
+
+  -- it is passed over, where nothing is open
+  pub went_past : (next : Stage) → IsAfterIn setting old (Open stage) bytes
+      → ((cs : List ℕ) → rest_of setting old.frames stage old.start old.at (byte ∷ cs) ≡ rest_of setting old.frames next (old.start + (old.at + 1)) 0 cs)
+      → IsStanding setting.limits old.frames next 0
+      → ((old.start + (old.at + 1) + 0 ≡ length fed_now) × ((cs : List ℕ) → reads setting (fed_now ++ cs) ≡ rest_of setting old.frames next (old.start + (old.at + 1)) 0 cs))
+      × (old.start + (old.at + 1) + 0 ≡ length fed_now) × MayGoOn fed_now (reads setting fed_now) × DecideNothing setting fed_now
+  went_past next a same ready = went_to next (old.start + (old.at + 1)) 0 (omega arith) a same ready
 
   -- it is refused where the reader is
   pub gave_up : (code place : ℕ) → IsAfterIn setting old (Open stage) bytes
@@ -107,6 +123,10 @@ module _ (setting : Setting) (frames : List Frame) (start at c : ℕ) (old new :
       → rest_of setting frames old start at (c ∷ cs) ≡ rest_of setting frames new start (at + 1) cs
   taken_there cs is feeds = ap (outcome_of setting start) (subst (λ (f : InPlace). FeedsInPlace setting frames at c cs old new f) is feeds)
 
+  pub passed_there : (cs : List ℕ) → fed ≡ InPlacePassed → FeedsInPlace setting frames at c cs old new fed
+      → rest_of setting frames old start at (c ∷ cs) ≡ rest_of setting frames new (start + (at + 1)) 0 cs
+  passed_there cs is feeds = (subst (λ (f : InPlace). FeedsInPlace setting frames at c cs old new f) is feeds) start
+
   pub left_there : (cs : List ℕ) → fed ≡ InPlaceLeft → FeedsInPlace setting frames at c cs old new fed → new ≡ old
   left_there cs is feeds = subst (λ (f : InPlace). FeedsInPlace setting frames at c cs old new f) is feeds
 
@@ -118,6 +138,10 @@ module _ (setting : Setting) (frames : List Frame) (start at c : ℕ) (old new :
   ready_there limits is ready standing =
       let r = subst (λ (f : InPlace). IsReadyInPlace limits at new f) is ready in
       record { place = omega (arith, r.0); nesting = standing.nesting; levels = r.1 }
+
+  pub ready_past : (limits : Limits) → fed ≡ InPlacePassed → IsReadyInPlace limits at new fed → IsStanding limits frames old at → IsStanding limits frames new 0
+  ready_past limits is ready standing =
+      record { place = omega arith; nesting = standing.nesting; levels = subst (λ (f : InPlace). IsReadyInPlace limits at new f) is ready }
 
 -- at most one byte more was fed
 pub fed_taking : (mid new : FormReader) (after : List Frame) (limits : Limits) (count : ℕ) (turn : Turn) (step : Step) → Takes turn mid new step → IsReadyTurn limits after count turn
@@ -210,10 +234,10 @@ needs setting old stage bytes byte a (with_it (comes_to inner round is plan cost
     call_ends inner round is plan cost (λ cs. a.1 (byte ∷ cs) ∙ ap (outcome_of setting old.start) (same cs))
 
 pub runs_out : (setting : Setting) (old : FormReader) (stage : Stage) (bytes : List ℕ) (byte : ℕ) → old.state ≡ Open stage → IsAfter setting old bytes
-    → RunsOut setting old.frames stage old.at byte → MayRunOut setting old bytes byte
-runs_out setting old stage bytes byte e after h =
+    → RunsOut setting old.frames stage old.at byte → is_space setting old.frames stage old.at byte ≡ false → MayRunOut setting old bytes byte
+runs_out setting old stage bytes byte e after h space =
     subst (λ (s : State). MayRunOutIn setting old s bytes byte) (sym e)
-    (needs setting old stage bytes byte (subst (λ (s : State). IsAfterIn setting old s bytes) e after) h)
+    (needs setting old stage bytes byte (subst (λ (s : State). IsAfterIn setting old s bytes) e after) h, space)
 
 pub ran_out : (setting : Setting) (old : FormReader) (bytes : List ℕ) (byte : ℕ) → old.state ≡ OutOfMemory → MayRunOut setting old bytes byte
 ran_out setting old bytes byte e = subst (λ (s : State). MayRunOutIn setting old s bytes byte) (sym e) tt

@@ -1,6 +1,7 @@
 -- Where memory may run out in reading a whole text: its first byte is not refused where it stands.
-use Rattle.std.proofs.Common.{◌≡◌, ℕ, zero, suc, ◌+◌, ◌-◌, ◌<◌, Bool, true, false, List, [], ◌∷◌, ◌++◌, Result, Ok, Err, take, refl, sym, ap, subst, ◌∙◌, arith}
+use Rattle.std.proofs.Common.{◌≡◌, ℕ, zero, suc, ◌+◌, ◌-◌, ◌<◌, Bool, true, false, List, [], ◌∷◌, ◌++◌, Result, Ok, Err, take, drop, refl, sym, ap, subst, ◌∙◌, append_assoc, arith}
 use Rattle.std.proofs.lemmas.Bool.{eqb-true}
+use Rattle.std.proofs.lemmas.List.{take-append-drop}
 use Rattle.std.specs.Prelude.{◌==◌, ◌&&◌, OnErr}
 use Rattle.std.specs.declared.alloc.AllocError.{AllocError}
 use Rattle.form_reader.specs.declared.found.Found.{Found}
@@ -16,7 +17,7 @@ use Rattle.form_reader.specs.Reading.{refused, reads}
 use Rattle.form_reader.specs.Frames.{given, plan_gives}
 use Rattle.form_reader.specs.Memory.{may_cost}
 use Rattle.form_reader.specs.Turning.{outcome_of}
-use Rattle.form_reader.specs.Reader.{DecideNothing, IsNew, IsAfter, NeedsMemory, undecided, token_ends, call_ends, MayRunOutIn, MayRunOut, EndMayRunOutIn, EndMayRunOut, ReadMayRunOut}
+use Rattle.form_reader.specs.Reader.{DecideNothing, IsNew, IsAfter, NeedsMemory, undecided, token_ends, call_ends, MayRunOutIn, MayRunOut, EndMayRunOutIn, EndMayRunOut, ReadMayRunOut, ReadNeedsMemory, at_byte, at_end}
 use Rattle.form_reader.proofs.Deciding.{refusal_stays}
 use Rattle.form_reader.proofs.Endings.{nothing_last}
 
@@ -68,7 +69,7 @@ needing_stands setting c (call_ends inner round is plan cost read) = λ code e.
 
 new_stands : (setting : Setting) (reader : FormReader) (c : ℕ) → IsNew reader → MayRunOut setting reader [] c → Stands setting c
 new_stands setting reader c n h =
-    let there : NeedsMemory setting reader.frames AtObject reader.start reader.at [] c = subst (λ (s : State). MayRunOutIn setting reader s [] c) n.state h in
+    let there : NeedsMemory setting reader.frames AtObject reader.start reader.at [] c = (subst (λ (s : State). MayRunOutIn setting reader s [] c) n.state h).0 in
     let none : NeedsMemory setting [] AtObject reader.start reader.at [] c = subst (λ (fs : List Frame). NeedsMemory setting fs AtObject reader.start reader.at [] c) n.frames there in
     let begun : NeedsMemory setting [] AtObject 0 reader.at [] c = subst (λ (k : ℕ). NeedsMemory setting [] AtObject k reader.at [] c) n.start none in
     needing_stands setting c (subst (λ (k : ℕ). NeedsMemory setting [] AtObject 0 k [] c) n.at begun)
@@ -104,3 +105,17 @@ module _ (under : Limits → Setting) (held handed : Limits) (old new : FormRead
   pub byte_ran_out : (k ≡ 0 → IsNew old) → (IsAfter (under held) old (take k bytes) → MayRunOut (under held) old (take k bytes) c) → ReadMayRunOut (under handed) bytes
   byte_ran_out fresh needs =
       ran_out (under handed) old bytes k c is fresh later (subst (λ (l : Limits). MayRunOut (under l) old (take k bytes) c) limits (needs then_after))
+
+  -- it ran out at a byte
+  pub byte_needed : (IsAfter (under held) old (take k bytes) → MayRunOut (under held) old (take k bytes) c) → ReadNeedsMemory (under handed) bytes
+  byte_needed needs =
+      at_byte old (take k bytes) (drop (k + 1) bytes) c
+      (sym (take-append-drop (k + 1) bytes) ∙ ap (λ (t : List ℕ). t ++ drop (k + 1) bytes) is ∙ append_assoc (take k bytes) (c ∷ []) (drop (k + 1) bytes)) after
+      (subst (λ (l : Limits). MayRunOut (under l) old (take k bytes) c) limits (needs then_after))
+
+-- it ran out at the end
+pub end_needed : {A : Type 0} (under : Limits → Setting) (held handed : Limits) (reader : FormReader) (bytes : List ℕ) (k : ℕ) (result : Result A AllocError) → held ≡ handed
+    → take k bytes ≡ bytes → IsAfter (under handed) reader (take k bytes) → OnErr result (EndMayRunOut (under held) reader) → OnErr result (ReadNeedsMemory (under handed) bytes)
+end_needed under held handed reader bytes k (Ok x) limits whole after h = tt
+end_needed under held handed reader bytes k (Err e) limits whole after h =
+    at_end reader (subst (λ (b : List ℕ). IsAfter (under handed) reader b) whole after) (subst (λ (l : Limits). EndMayRunOut (under l) reader) limits h)

@@ -1,6 +1,6 @@
 -- What a reader that takes one byte at a time stands for: its open calls, innermost first, and where it is in the innermost.
 -- By recursion on the open calls alone, over the definition of reading.
-use Rattle.std.specs.Prelude.{ℕ, ◌+◌, ◌-◌, Bool, false, List, [], ◌∷◌, length, Option, Some, None, Ok, Err}
+use Rattle.std.specs.Prelude.{ℕ, ◌+◌, ◌-◌, ◌==◌, Bool, false, List, [], ◌∷◌, length, Option, Some, None, Ok, Err}
 use Rattle.token_scan.specs.declared.mark.Mark.{Mark}
 use Rattle.std_macros.specs.Values.{one as one_object}
 use Rattle.form_reader.specs.declared.found.Found.{Found}
@@ -23,6 +23,11 @@ close_of (InTailed xs tail) = Some 41
 abbrev pub close_of_frames : List Frame → Option ℕ
 close_of_frames [] = None
 close_of_frames (f ∷ fs) = close_of f.part
+
+-- this character is the one
+abbrev pub is_closed_by : Option ℕ → ℕ → Bool
+is_closed_by None c = false
+is_closed_by (Some close) c = c == close
 
 -- What the call gives if this piece comes next, where so many calls are open round it, and attempts inside it are these.
 abbrev pub part_gives : Setting → ℕ → Plan Found → InvokedCall → Part → Piece → Plan Found

@@ -1,8 +1,9 @@
 -- What a byte is to where a reader is, where it may be taken in its place: what is open stays open.
 use Rattle.std.specs.Prelude.{ℕ, ◌≡◌, ◌+◌, ◌<◌, List, ◌∷◌}
+use Rattle.form_reader.specs.Turning.{rest_of}
 use Rattle.form_reader.specs.declared.frame.Frame.{Frame}
 use Rattle.form_reader.specs.declared.in_place.InPlace.{InPlace}
-use Rattle.form_reader.specs.declared.in_place.InPlace.TheVariants.{Taken, Left, Refused}
+use Rattle.form_reader.specs.declared.in_place.InPlace.TheVariants.{Taken, Passed, Left, Refused}
 use Rattle.form_reader.specs.declared.limits.Limits.{Limits}
 use Rattle.form_reader.specs.declared.stage.Stage.{Stage}
 use Rattle.form_reader.specs.declared.stage.Stage.TheVariants.{Object as AtObject, Token as AtToken}
@@ -11,10 +12,12 @@ use Rattle.form_reader.specs.Plans.{fault}
 use Rattle.form_reader.specs.Setting.{Setting}
 use Rattle.form_reader.specs.Resuming.{IsStageAt, stage_gives}
 
--- the byte at this place is taken, and what is given is what the new stage gives after it; or nothing has changed; or the byte
--- is refused where it is
+-- the byte at this place is taken, and what is given is what the new stage gives after it; or it is passed over, and what is
+-- read is what is read of a new attempt after it; or nothing has changed; or the byte is refused where it is
 abbrev pub FeedsInPlace : Setting → List Frame → ℕ → ℕ → List ℕ → Stage → Stage → InPlace → Type 0
 FeedsInPlace setting frames at c cs old new Taken = stage_gives setting frames old at (c ∷ cs) ≡ stage_gives setting frames new (at + 1) cs
+FeedsInPlace setting frames at c cs old new Passed =
+    (start : ℕ) → rest_of setting frames old start at (c ∷ cs) ≡ rest_of setting frames new (start + (at + 1)) 0 cs
 FeedsInPlace setting frames at c cs old new Left = new ≡ old
 FeedsInPlace setting frames at c cs old new (Refused code) = stage_gives setting frames old at (c ∷ cs) ≡ fault code at
 
@@ -29,5 +32,6 @@ Stays setting frames at c cs = stage_gives setting frames AtObject at (c ∷ cs)
 -- where the reader may be after it
 abbrev pub IsReadyInPlace : Limits → ℕ → Stage → InPlace → Type 0
 IsReadyInPlace limits at new Taken = (at < limits.text) × IsStageAt (at + 1) new
+IsReadyInPlace limits at new Passed = IsStageAt 0 new
 IsReadyInPlace limits at new Left = Unit {0}
 IsReadyInPlace limits at new (Refused code) = Unit {0}

@@ -1,5 +1,5 @@
 -- Where memory may run out: where reading goes on, or where something was found.
-use Rattle.std.specs.Prelude.{ℕ, ◌≡◌, ◌+◌, ◌≤◌, ◌==◌, ◌&&◌, ◌||◌, Bool, true, false, List, ◌∷◌, ◌++◌, length, Result, Ok, Err, IsOk}
+use Rattle.std.specs.Prelude.{ℕ, ◌≡◌, ◌+◌, ◌≤◌, ◌==◌, ◌&&◌, ◌||◌, nat_lt, not, Bool, true, false, List, ◌∷◌, ◌++◌, length, Result, Ok, Err, IsOk}
 use Rattle.std.specs.declared.alloc.AllocError.{AllocError}
 use Rattle.lisp_object.specs.declared.refusal.TheConstants.{MACRO_REFUSED, MACRO_ANSWER}
 use Rattle.std_macros.specs.Values.{marked}
@@ -19,12 +19,12 @@ use Rattle.form_reader.specs.declared.objects.Passed.TheVariants.{Taken as Passe
 use Rattle.form_reader.specs.declared.stage.Event.{Event}
 use Rattle.form_reader.specs.declared.stage.Event.TheVariants.{Gives as IsGiven}
 use Rattle.form_reader.specs.declared.stage.Stage.{Stage}
-use Rattle.form_reader.specs.declared.stage.Stage.TheVariants.{Token as AtToken, CallToken as AtCallToken}
+use Rattle.form_reader.specs.declared.stage.Stage.TheVariants.{Object as AtObject, Token as AtToken, CallToken as AtCallToken}
 use Rattle.form_reader.specs.Plans.{Plan, gives, refuses, Read}
 use Rattle.form_reader.specs.Setting.{Setting}
-use Rattle.form_reader.specs.Reading.{completed}
+use Rattle.form_reader.specs.Reading.{completed, is_whitespace}
 use Rattle.form_reader.specs.Feeding.{token_read}
-use Rattle.form_reader.specs.Frames.{plan_gives}
+use Rattle.form_reader.specs.Frames.{close_of_frames, is_closed_by, plan_gives}
 use Rattle.form_reader.specs.Resuming.{IsStageAt, stage_gives}
 
 -- What a call comes to where memory may run out: it gives something, or a function of a user refuses it, at its end.
@@ -93,6 +93,13 @@ EndsToken setting frames (AtToken scan) at c = (marks : List Mark) × TokenEnds 
 EndsToken setting frames (AtCallToken call scan) at c =
     (marks : List Mark) × TokenEnds setting scan marks at c × (may_cost (completed setting (length frames) call true false (marked marks)) ≡ true)
 EndsToken setting frames _ at c = ⊥
+
+-- The byte at this place is whitespace that is discarded where an object may begin: it is below the limit of the text, and not
+-- the closing character that is looked for.
+abbrev pub is_space : Setting → List Frame → Stage → ℕ → ℕ → Bool
+is_space setting frames AtObject at c =
+    nat_lt at setting.limits.text && (is_whitespace setting.table c && not (is_closed_by (close_of_frames frames) c))
+is_space setting frames _ at c = false
 
 -- What the byte at this place is, where memory may run out.
 pub data RunsOut (setting : Setting) (frames : List Frame) (stage : Stage) (at c : ℕ) : Type 0 where

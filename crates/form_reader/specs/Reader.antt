@@ -1,5 +1,5 @@
 -- A reader that takes a text one byte at a time: what it is after, and what it answers.
-use Rattle.std.specs.Prelude.{ℕ, ◌≡◌, ◌+◌, ◌≤◌, true, List, [], ◌∷◌, ◌++◌, length}
+use Rattle.std.specs.Prelude.{ℕ, ◌≡◌, ◌+◌, ◌≤◌, true, false, List, [], ◌∷◌, ◌++◌, length}
 use Rattle.lisp_object.specs.Object.{IsSound}
 use Rattle.lisp_object.specs.Datum.{object_of, is_proper}
 use Rattle.form_reader.specs.declared.limits.Limits.{Limits}
@@ -20,7 +20,7 @@ use Rattle.form_reader.specs.Setting.{Setting}
 use Rattle.form_reader.specs.Reading.{Outcome, form, empty, refused, reads}
 use Rattle.form_reader.specs.Plans.{Plan}
 use Rattle.form_reader.specs.Frames.{plan_gives}
-use Rattle.form_reader.specs.Memory.{may_cost, EndsToken}
+use Rattle.form_reader.specs.Memory.{may_cost, is_space, EndsToken}
 use Rattle.form_reader.specs.Ending.{EndNeedsMemory}
 use Rattle.form_reader.specs.Turning.{outcome_of, rest_of}
 
@@ -104,9 +104,10 @@ pub data NeedsMemory (setting : Setting) (frames : List Frame) (stage : Stage) (
       → ((cs : List ℕ) → reads setting (bytes ++ c ∷ cs) ≡ outcome_of setting start (plan_gives setting round plan (at + 1) cs))
       → NeedsMemory setting frames stage start at bytes c
 
--- The same of a reader. A byte needs none after a refusal.
+-- The same of a reader. A byte needs none after a refusal, and none where it is whitespace that is discarded.
 abbrev pub MayRunOutIn : Setting → FormReader → State → List ℕ → ℕ → Type 0
-MayRunOutIn setting reader (Open stage) bytes c = NeedsMemory setting reader.frames stage reader.start reader.at bytes c
+MayRunOutIn setting reader (Open stage) bytes c =
+    NeedsMemory setting reader.frames stage reader.start reader.at bytes c × (is_space setting reader.frames stage reader.at c ≡ false)
 MayRunOutIn setting reader (Refused code place) bytes c = ⊥
 MayRunOutIn setting reader OutOfMemory bytes c = Unit {0}
 
@@ -126,6 +127,13 @@ EndMayRunOut setting reader = EndMayRunOutIn setting reader reader.state
 abbrev pub ReadMayRunOut : Setting → List ℕ → Type 0
 ReadMayRunOut setting [] = ⊥
 ReadMayRunOut setting (c ∷ cs) = (code : ℕ) → reads setting (c ∷ []) ≡ refused code 0 → ⊥
+
+-- The same by a reader that takes the text one byte at a time: it is after the bytes before some byte of the text, or after all
+-- of them, and memory may run out there.
+pub data ReadNeedsMemory (setting : Setting) (bytes : List ℕ) : Type 0 where
+  at_byte : (reader : FormReader) (front rest : List ℕ) (c : ℕ) → bytes ≡ front ++ c ∷ rest → IsAfter setting reader front
+      → MayRunOut setting reader front c → ReadNeedsMemory setting bytes
+  at_end : (reader : FormReader) → IsAfter setting reader bytes → EndMayRunOut setting reader → ReadNeedsMemory setting bytes
 
 -- What is answered is the outcome, and the object of a form is sound.
 abbrev pub IsOutcome : ReadOutcome → Outcome → Type 0

@@ -1,6 +1,6 @@
 //! Open calls.
 ghost use Rattle.std.specs.Prelude.{◌≡◌, ◌==◌, ℕ, Some, false, [], ◌∷◌, length, MatchOption, OnOk};
-ghost use Rattle.form_reader.specs.Frames.{close_of, close_of_frames};
+ghost use Rattle.form_reader.specs.Frames.{close_of, close_of_frames, is_closed_by};
 
 use crate::call::Invoked;
 use crate::held::{HeldObject, HeldObjects};
@@ -92,7 +92,8 @@ impl Frames {
 
     /// Whether `c` is the closing character that the innermost call looks for.
     pub(crate) fn is_closed_by(&self, c: u8) -> bool
-        ensures { result ≡ false → (close : ℕ) → close_of_frames self.now ≡ Some close → (c == close) ≡ false }
+        ensures value { result ≡ is_closed_by (close_of_frames self.now) c }
+        ensures other { result ≡ false → (close : ℕ) → close_of_frames self.now ≡ Some close → (c == close) ≡ false }
     {
         self.close() == Some(c)
     }

@@ -1,18 +1,21 @@
-//! One byte that begins a token, goes on one, or is whitespace in an open call, taken where the reader is.
-ghost use Rattle.std.specs.Prelude.{◌≡◌, ◌≤◌, ◌<◌, ◌+◌, ℕ, List, ◌∷◌, length, true, IfOk, IfSome, OnErr, IsTrue};
+//! One byte that begins a token, goes on one, or is whitespace where an object may begin, taken where the reader is.
+ghost use Rattle.std.specs.Prelude.{◌≡◌, ◌≤◌, ◌<◌, ◌+◌, ℕ, List, [], ◌∷◌, length, true, false, Ok, IfOk, IfSome, OnErr, IsTrue};
 ghost use Rattle.form_reader.specs.Feeding.{is_going};
 ghost use Rattle.form_reader.specs.Surrounding.{setting_with};
 ghost use Rattle.form_reader.specs.declared.stage.Stage.TheVariants.{Object as AtObject};
-ghost use Rattle.form_reader.specs.Memory.{Costs, RunsOut};
+ghost use Rattle.form_reader.specs.Memory.{Costs, RunsOut, is_space};
 ghost use Rattle.form_reader.specs.Resuming.{stage_gives};
 ghost use Rattle.form_reader.specs.InPlace.{Begins, FeedsInPlace, IsReadyInPlace, Stays};
+ghost use Rattle.form_reader.specs.declared.in_place.InPlace.TheVariants.{Left as IsLeft};
+ghost use Rattle.form_reader.specs.Reading.{is_whitespace};
+ghost use Rattle.form_reader.specs.Turning.{rest_of};
 
 use crate::attempt::stands_alone;
 use crate::bytes::LineByte;
 use crate::frame::Frames;
+use crate::objects::is_blank;
 use crate::stage::{BegunScan, FirstByte, Stage, first_byte};
 use crate::surroundings::Surroundings;
-use readtable_core::Syntax;
 use std::alloc::AllocError;
 use user_macros::MacroFunctions;
 
@@ -21,14 +24,16 @@ use user_macros::MacroFunctions;
 pub enum InPlace {
     /// It is taken, and the reader goes on there.
     Taken,
+    /// It is whitespace where nothing is open: an attempt begins after it.
+    Passed,
     /// Something begins or ends at it. Nothing has changed.
     Left,
     /// It is refused.
     Refused(u16),
 }
 
-/// The byte `c` at `at`, where the reader is at `stage`: it is taken there if it begins a token or goes on one, or is discarded
-/// in an open call.
+/// The byte `c` at `at`, where the reader is at `stage`: it is taken there if it begins a token or goes on one, or is whitespace
+/// that is discarded.
 pub(crate) fn in_place<R: MacroFunctions>(
     with: &Surroundings<'_, R>,
     frames: &Frames,
@@ -43,6 +48,10 @@ pub(crate) fn in_place<R: MacroFunctions>(
     ensures ready { IfOk result (IsReadyInPlace with.now.limits at stage.new) }
     ensures memory { let setting = setting_with (R.registered with.now.macros.now) R.Meaning.way R.Meaning.answer with.now in
         OnErr result (RunsOut setting frames.now stage.old at c) }
+    ensures space { let setting = setting_with (R.registered with.now.macros.now) R.Meaning.way R.Meaning.answer with.now in
+        OnErr result (is_space setting frames.now stage.old at c ≡ false) }
+    ensures left { let setting = setting_with (R.registered with.now.macros.now) R.Meaning.way R.Meaning.answer with.now in
+        result ≡ Ok IsLeft → is_space setting frames.now stage.old at c ≡ false }
 {
     match stage {
         Stage::Object => match begun_at(with, frames, at, c)? {
@@ -50,12 +59,7 @@ pub(crate) fn in_place<R: MacroFunctions>(
                 *stage = Stage::Token(scan);
                 Ok(InPlace::Taken)
             }
-            None => {
-                if is_discarded(with, frames, at, c) {
-                    return Ok(InPlace::Taken);
-                }
-                Ok(InPlace::Left)
-            }
+            None => Ok(discarded(with, frames, at, c)),
         },
         Stage::Token(scan) => match scan.feed(with.readtable, &with.limits, at, c)? {
             LineByte::More => Ok(InPlace::Taken),
@@ -81,6 +85,8 @@ fn begun_at<R: MacroFunctions>(
     ensures ready { IfOk result (λ begun. IfSome begun (λ scan. (at < with.now.limits.text) × IsTrue (is_going scan.stage))) }
     ensures memory { let setting = setting_with (R.registered with.now.macros.now) R.Meaning.way R.Meaning.answer with.now in
         OnErr result (Costs setting frames.now (at + 1) (λ cs. stage_gives setting frames.now AtObject at (c ∷ cs))) }
+    ensures space { let setting = setting_with (R.registered with.now.macros.now) R.Meaning.way R.Meaning.answer with.now in
+        OnErr result (is_space setting frames.now AtObject at c ≡ false) }
 {
     if frames.is_closed_by(c) {
         return Ok(None);
@@ -94,7 +100,30 @@ fn begun_at<R: MacroFunctions>(
     }
 }
 
-/// Whether the byte `c` at `at`, where an object may begin in an open call, is whitespace that is discarded.
+/// The byte `c` at `at`, where an object may begin, if it begins no token.
+fn discarded<R: MacroFunctions>(
+    with: &Surroundings<'_, R>,
+    frames: &Frames,
+    at: usize,
+    c: u8,
+) -> InPlace
+    requires nesting { length frames.now ≤ with.now.limits.nesting }
+    ensures feeds { let setting = setting_with (R.registered with.now.macros.now) R.Meaning.way R.Meaning.answer with.now in
+        (cs : List ℕ) → FeedsInPlace setting frames.now at c cs AtObject AtObject result }
+    ensures ready { IsReadyInPlace with.now.limits at AtObject result }
+    ensures left { let setting = setting_with (R.registered with.now.macros.now) R.Meaning.way R.Meaning.answer with.now in
+        result ≡ IsLeft → is_space setting frames.now AtObject at c ≡ false }
+{
+    if !is_discarded(with, frames, at, c) {
+        return InPlace::Left;
+    }
+    if frames.len() == 0 {
+        return InPlace::Passed;
+    }
+    InPlace::Taken
+}
+
+/// Whether the byte `c` at `at`, where an object may begin, is whitespace that is discarded.
 fn is_discarded<R: MacroFunctions>(
     with: &Surroundings<'_, R>,
     frames: &Frames,
@@ -103,17 +132,19 @@ fn is_discarded<R: MacroFunctions>(
 ) -> bool
     requires nesting { length frames.now ≤ with.now.limits.nesting }
     ensures stays { let setting = setting_with (R.registered with.now.macros.now) R.Meaning.way R.Meaning.answer with.now in
-        (cs : List ℕ) → result ≡ true → Stays setting frames.now at c cs }
+        (cs : List ℕ) → result ≡ true → 0 < length frames.now → Stays setting frames.now at c cs }
+    ensures passes { let setting = setting_with (R.registered with.now.macros.now) R.Meaning.way R.Meaning.answer with.now in
+        (start : ℕ) (cs : List ℕ) → result ≡ true → frames.now ≡ []
+        → rest_of setting frames.now AtObject start at (c ∷ cs) ≡ rest_of setting frames.now AtObject (start + (at + 1)) 0 cs }
     ensures below { result ≡ true → at < with.now.limits.text }
+    ensures space { let setting = setting_with (R.registered with.now.macros.now) R.Meaning.way R.Meaning.answer with.now in
+        result ≡ is_space setting frames.now AtObject at c }
 {
-    if at >= with.limits.text || frames.len() == 0 {
+    if at >= with.limits.text {
         return false;
     }
     if frames.is_closed_by(c) {
         return false;
     }
-    match with.readtable.syntax(c) {
-        Syntax::Whitespace => true,
-        _ => false,
-    }
+    is_blank(with.readtable.syntax(c))
 }

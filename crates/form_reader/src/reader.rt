@@ -100,7 +100,8 @@ impl FormReader {
 
     /// One more byte of the text, under the same readtable, packages, current package and functions as the bytes before it.
     /// After a refusal, and after it ran out of memory, it answers the same again. It runs out of memory only where the bytes
-    /// with this one decide nothing, where the byte ends a token that is not refused, or where a call ends with it.
+    /// with this one decide nothing, where the byte ends a token that is not refused, or where a call ends with it, and never at
+    /// whitespace that is discarded where an object may begin.
     pub fn step<R: MacroFunctions>(
         &mut self,
         byte: u8,
@@ -147,6 +148,11 @@ impl FormReader {
             State::Open(stage) => match in_place(&with, &self.frames, stage, self.at, byte) {
                 Ok(InPlace::Taken) => {
                     self.at += 1;
+                    Ok(Step::More)
+                }
+                Ok(InPlace::Passed) => {
+                    self.start += self.at + 1;
+                    self.at = 0;
                     Ok(Step::More)
                 }
                 Ok(InPlace::Left) => {

@@ -3,7 +3,7 @@ ghost use Rattle.std.specs.Prelude.{◌≡◌, ℕ, List, length, IfOk, OnErr};
 ghost use Rattle.package_table.specs.Table.{IsPackage};
 ghost use Rattle.form_reader.specs.Setting.{setting_of};
 ghost use Rattle.form_reader.specs.Reading.{reads};
-ghost use Rattle.form_reader.specs.Reader.{IsOutcome, ReadMayRunOut};
+ghost use Rattle.form_reader.specs.Reader.{IsOutcome, ReadMayRunOut, ReadNeedsMemory};
 
 use crate::Limits;
 use crate::ending::ReadOutcome;
@@ -13,8 +13,8 @@ use readtable_core::Readtable;
 use std::alloc::{AllocError, Global};
 use user_macros::MacroFunctions;
 
-/// What the text `bytes` begins with. It runs out of memory only where the text has a first byte that is not refused where it
-/// stands.
+/// What the text `bytes` begins with. It runs out of memory only where a reader that takes the text one byte at a time may, at
+/// one of its bytes or at its end; so only where it has a first byte, which is not refused where it is.
 pub fn read_one<R: MacroFunctions>(
     alloc: Global,
     limits: Limits,
@@ -31,6 +31,10 @@ pub fn read_one<R: MacroFunctions>(
         (R.registered macros.now) R.Meaning.way R.Meaning.answer)
         bytes.now)) }
     ensures needs { OnErr result (ReadMayRunOut
+        (setting_of limits readtable.now packages.now.0 current.now
+        (R.registered macros.now) R.Meaning.way R.Meaning.answer)
+        bytes.now) }
+    ensures reader { OnErr result (ReadNeedsMemory
         (setting_of limits readtable.now packages.now.0 current.now
         (R.registered macros.now) R.Meaning.way R.Meaning.answer)
         bytes.now) }

@@ -196,6 +196,17 @@ fn put_readtables(world: &mut World, readtables: &Datum) -> Result<(), BuildErro
     Ok(())
 }
 
+// Sets what is current, in a world that has its packages and readtables.
+fn put_current(world: &mut World, home: &Datum, table: &Datum) -> Result<(), BuildError>
+    ensures { (s : State) → IsSoundState s → is_proper home.now ≡ true → object_of home.now ≡ text s.current_package
+        → is_proper table.now ≡ true → object_of table.now ≡ text s.current_readtable → world.old.0 ≡ with_readtables_of s
+        → MatchResult result (λ _. world.new.0 ≡ s) (λ e. e ≡ BuildError.OutOfMemory) }
+{
+    world.set_current_package(text_in(home)?.as_slice())?;
+    world.set_current_readtable(text_in(table)?.as_slice())?;
+    Ok(())
+}
+
 /// Makes the readtables of the third object of a snapshot, and what is current, in a world that has its packages.
 pub(crate) fn put_tables(world: &mut World, tables: &Datum) -> Result<(), BuildError>
     ensures { (s : State) → IsSoundState s → is_proper tables.now ≡ true → object_of tables.now ≡ tables_object s
@@ -206,7 +217,5 @@ pub(crate) fn put_tables(world: &mut World, tables: &Datum) -> Result<(), BuildE
         return Err(BuildError::Damaged);
     };
     put_readtables(world, readtables)?;
-    world.set_current_package(text_in(package)?.as_slice())?;
-    world.set_current_readtable(text_in(readtable)?.as_slice())?;
-    Ok(())
+    put_current(world, package, readtable)
 }

@@ -175,6 +175,15 @@ fn entry_rows(alloc: Global, table: &Readtable, first: &Readtable) -> Result<Vec
     entries_below(alloc, table, first, 128)
 }
 
+// The same as one object.
+fn entries_of(alloc: Global, table: &Readtable, first: &Readtable) -> Result<Datum, AllocError>
+    requires { first.now ≡ standard }
+    ensures object { IfOk result (λ d. object_of d ≡ list_of (entry_objects table.now)) }
+    ensures proper { IfOk result (λ d. is_proper d ≡ true) }
+{
+    Datum::list(alloc, entry_rows(alloc, table, first)?, None)
+}
+
 // The name of a case as a text.
 fn case_of(alloc: Global, letters: Case) -> Result<Datum, AllocError>
     ensures object { IfOk result (λ d. object_of d ≡ text (case_name letters)) }
@@ -194,9 +203,10 @@ fn readtable_of(
     ensures object { IfOk result (λ d. object_of d ≡ readtable_object name.now table.now) }
     ensures proper { list_all is_ascii name.now ≡ true → IfOk result (λ d. is_proper d ≡ true) }
 {
+    let name = text_of(alloc, name)?;
     let letters = case_of(alloc, table.case())?;
-    let entries = Datum::list(alloc, entry_rows(alloc, table, first)?, None)?;
-    list_of_three(alloc, text_of(alloc, name)?, letters, entries)
+    let entries = entries_of(alloc, table, first)?;
+    list_of_three(alloc, name, letters, entries)
 }
 
 // The readtable of a name, or the standard one where there is none.

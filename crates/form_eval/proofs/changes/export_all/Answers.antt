@@ -1,41 +1,32 @@
-use Rattle.std.proofs.Common.{◌≡◌, Bool, ◌+◌, Ok, Err, map, drop, sym, ap, subst, ◌∙◌, arith}
+use Rattle.std.proofs.Common.{◌≡◌, Bool, Ok, Err, sym, ap, subst, ◌∙◌, arith}
 use Rattle.package_table.specs.Changes.{after_export, export_changes, Gives}
 use Rattle.plist_state.specs.State.{Worlds}
 use Rattle.plist_state.specs.Changes.{with_packages}
-use Rattle.plist_state.specs.Shown.{symbol_of}
-use Rattle.form_eval.specs.Packages.{one_by_one}
-use Rattle.form_eval.proofs.PackageSteps.{one_step, one_refused, from_place, at_the_end, both}
+use Rattle.form_eval.specs.Members.{symbol_in}
+use Rattle.form_eval.proofs.PackageSteps.{goes_on, stops, is_over}
 use Rattle.form_eval.proofs.changes.export_all.Goals as goal
 
 pub loop-symbol-preserved : goal.loop-symbol-preserved
 loop-symbol-preserved c =
     let owner = c.args.owner.now in
-    let x = c.symbol-item.result in
     let u = c.loop-symbol.world.0.packages in
     let v = c.export.new.self.0.packages in
-    let i = c.loop-symbol.symbol-index in
-    let same = both c.home.result.now c.name.result.now (symbol_of x) c.home.ensures c.name.ensures in
     record {
-      same = c.loop-symbol.invariant.same
-          ∙ one_step (λ t y. after_export t owner y.0 y.1) (λ t y. export_changes t owner y.1) u v c.loop-symbol.wrote c.in-Ok.changed (map symbol_of (drop i c.args.symbols.now)) (map symbol_of (drop (i + 1) c.args.symbols.now)) (symbol_of x)
-          (from_place symbol_of c.args.symbols.now i x c.loop-symbol-test.true c.symbol-item.is)
-          (subst (λ y. after_export u owner y.0 y.1 ≡ Ok v) same c.in-Ok.ensures.gives) (subst (λ y. c.in-Ok.changed ≡ export_changes u owner y.1) same c.in-Ok.ensures.changed)
-          ∙ ap (λ w. one_by_one (λ t y. after_export t owner y.0 y.1) (λ t y. export_changes t owner y.1) v w (map symbol_of (drop (i + 1) c.args.symbols.now))) (sym c.either-wrote.ensures);
+      so_far = goes_on (λ t y. after_export t owner y.0 y.1) (λ t y. export_changes t owner y.1) symbol_in c.args.world.now.0.packages u v c.loop-symbol.wrote c.in-Ok.changed c.args.symbols.now c.loop-symbol.symbol-index c.symbol-item.result c.loop-symbol-test.true c.symbol-item.is c.loop-symbol.invariant.so_far
+          (subst (λ y. after_export u owner y.0 y.1 ≡ Ok v) c.symbol_in.ensures c.in-Ok.ensures.gives) (subst (λ y. c.in-Ok.changed ≡ export_changes u owner y.1) c.symbol_in.ensures c.in-Ok.ensures.changed)
+          ∙ ap (λ b. Ok (v, b)) (sym c.either-wrote.ensures);
       rest = c.in-Ok.ensures.rest ∙ ap (λ (k : Worlds). (with_packages k.0 v, k.1)) c.loop-symbol.invariant.rest;
     }
 
 pub returns-in-Err-clause-gives : goal.returns-in-Err-clause-gives
 returns-in-Err-clause-gives c =
     let owner = c.args.owner.now in
-    let x = c.symbol-item.result in
     let u = c.loop-symbol.world.0.packages in
     let v = c.export.new.self.0.packages in
-    let i = c.loop-symbol.symbol-index in
-    let same = both c.home.result.now c.name.result.now (symbol_of x) c.home.ensures c.name.ensures in
-    one_refused (λ t y. after_export t owner y.0 y.1) (λ t y. export_changes t owner y.1) {B = Bool} (λ _. v) c.in-Err.error u v c.loop-symbol.wrote (map symbol_of (drop i c.args.symbols.now)) (map symbol_of (drop (i + 1) c.args.symbols.now)) (symbol_of x) _
-    c.loop-symbol.invariant.same (from_place symbol_of c.args.symbols.now i x c.loop-symbol-test.true c.symbol-item.is) (subst (λ y. Gives {A = Bool} (λ _. v) (Err c.in-Err.error) (after_export u owner y.0 y.1)) same c.in-Err.ensures.gives)
+    stops (λ t y. after_export t owner y.0 y.1) (λ t y. export_changes t owner y.1) symbol_in {B = Bool} (λ _. v) c.in-Err.error c.args.world.now.0.packages u v c.loop-symbol.wrote c.args.symbols.now c.loop-symbol.symbol-index c.symbol-item.result c.loop-symbol-test.true c.symbol-item.is c.loop-symbol.invariant.so_far
+    (subst (λ y. Gives {A = Bool} (λ _. v) (Err c.in-Err.error) (after_export u owner y.0 y.1)) c.symbol_in.ensures c.in-Err.ensures.gives) (ap (λ (k : Worlds). k.0.packages) c.in-Err.ensures.unchanged)
 
 pub returns-clause-gives : goal.returns-clause-gives
 returns-clause-gives c =
-    c.loop-symbol.invariant.same
-    ∙ ap (one_by_one (λ t y. after_export t c.args.owner.now y.0 y.1) (λ t y. export_changes t c.args.owner.now y.1) c.loop-symbol.world.0.packages c.loop-symbol.wrote) (at_the_end symbol_of c.args.symbols.now c.loop-symbol.symbol-index (omega arith))
+    let owner = c.args.owner.now in
+    is_over (λ t y. after_export t owner y.0 y.1) (λ t y. export_changes t owner y.1) symbol_in c.args.world.now.0.packages c.loop-symbol.world.0.packages c.loop-symbol.wrote c.args.symbols.now c.loop-symbol.symbol-index (omega arith) c.loop-symbol.invariant.so_far

@@ -1,13 +1,21 @@
-use Rattle.std.proofs.Common.{Some, None, map, refl, sym}
+use Rattle.std.proofs.Common.{Some, None, [], map, refl, sym, ◌∙◌}
 use Rattle.lisp_object.specs.Datum.{object_of}
 use Rattle.form_eval.specs.Kinds.{a_symbol}
 use Rattle.form_eval.proofs.MemberLists.{members_or_each}
+use Rattle.form_eval.proofs.MemberSteps.{each_found}
 use Rattle.form_eval.proofs.lists.symbols.Goals as goal
 
-pub returns-in-Some : goal.returns-in-Some
-returns-in-Some c =
-    let same = members_or_each a_symbol (object_of c.args.datum.now) (Some (map object_of c.in-Some.members.now)) c.in-Some.ensures.value in
-    rw same c.each_symbol.ensures
+pub returns-in-Ok-clause-value : goal.returns-in-Ok-clause-value
+returns-in-Ok-clause-value c =
+    let ms = c.in-Some.members.now in
+    sym (members_or_each a_symbol (object_of c.args.datum.now) (Some (map object_of ms)) c.in-Some.ensures.value ∙ each_found a_symbol ([], []) ms c.in-Ok.ensures.each)
 
-pub returns-in-None : goal.returns-in-None
-returns-in-None c = (refl, sym (members_or_each a_symbol (object_of c.args.datum.now) None c.in-None.ensures.value))
+pub returns-in-Ok-clause-each : goal.returns-in-Ok-clause-each
+returns-in-Ok-clause-each c = record { members = c.in-Some.ensures.value; proper = c.in-Some.ensures.proper; kinds = c.in-Ok.ensures.each }
+
+pub returns-in-Err-clause-value : goal.returns-in-Err-clause-value
+returns-in-Err-clause-value c =
+    (c.in-Err.ensures.none.0, c.in-Err.ensures.none.1 ∙ sym (members_or_each a_symbol (object_of c.args.datum.now) (Some (map object_of c.in-Some.members.now)) c.in-Some.ensures.value))
+
+pub returns-in-None-clause-value : goal.returns-in-None-clause-value
+returns-in-None-clause-value c = (refl, sym (members_or_each a_symbol (object_of c.args.datum.now) None c.in-None.ensures.value))

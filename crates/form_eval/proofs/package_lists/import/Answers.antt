@@ -1,40 +1,40 @@
-use Rattle.std.proofs.Common.{◌≡◌, false, Some, All, Err, map, sym, ap, subst, ◌∙◌}
+use Rattle.std.proofs.Common.{◌≡◌, ℕ, Some, [], ◌∷◌, map, take, sym, ap, subst, ◌∙◌}
+use Rattle.lisp_object.specs.Object.{list_of}
 use Rattle.lisp_object.specs.Datum.{object_of}
-use Rattle.lisp_object.specs.declared.refusal.TheConstants.{NO_SUCH_PACKAGE, PACKAGE_IS_LOCKED}
 use Rattle.package_table.specs.Table.{package_named, is_locked}
-use Rattle.package_table.specs.Changes.{after_import, import_changes}
 use Rattle.plist_state.specs.State.{Worlds}
 use Rattle.plist_state.specs.Sound.{IsSymbol}
-use Rattle.plist_state.specs.Shown.{symbol_of}
-use Rattle.form_eval.specs.Kinds.{a_symbol, a_name, one_or_each, given_or}
-use Rattle.form_eval.specs.Outcomes.{of_kind}
-use Rattle.form_eval.specs.Packages.{import, in_package, unlocked, changed, one_by_one}
-use Rattle.form_eval.specs.Evaluated.{Makes, Answers, done}
-use Rattle.form_eval.proofs.KindSteps.{kind_is, option_is, not_refused}
+use Rattle.form_eval.specs.Kinds.{a_symbol, a_name, given_or}
+use Rattle.form_eval.specs.Members.{symbol_in}
+use Rattle.form_eval.specs.Packages.{import, changed}
+use Rattle.form_eval.specs.Evaluated.{GivesSoFar}
 use Rattle.form_eval.proofs.MemberLists.{all_of_map}
+use Rattle.form_eval.proofs.MemberSteps.{front_found}
+use Rattle.form_eval.proofs.ListSteps.{imports, import_is, so_far}
 use Rattle.form_eval.proofs.Storable.{symbols_kind}
 use Rattle.form_eval.proofs.package_lists.import.Goals as goal
 
-pub import_all-made-requires : goal.import_all-made-requires
-import_all-made-requires c =
-    subst (λ l. All (λ x. IsSymbol c.args.world.now.0.packages (symbol_of x)) l) (sym c.as_slice.ensures.value)
-    (all_of_map (IsSymbol c.args.world.now.0.packages) symbol_of c.in_ok-symbols-2.symbols.items
-    (symbols_kind c.args.world.now.0.packages (object_of c.in_ok-symbols.symbols.now) (map symbol_of c.in_ok-symbols-2.symbols.items) (sym c.in_ok-symbols-2.ensures) (c.in_ok-symbols.ensures.arguments c.args.world.now.0.packages c.requires).0.value))
+pub import_all-made-requires-clause-there : goal.import_all-made-requires-clause-there
+import_all-made-requires-clause-there c =
+    let u = c.args.world.now.0.packages in
+    let ms = c.in_ok-symbols-2.symbols.now in
+    all_of_map (IsSymbol u) symbol_in ms (symbols_kind u (object_of c.in_ok-symbols.symbols.now) (map symbol_in ms) (sym c.in_ok-symbols-2.ensures.value) (c.in_ok-symbols.ensures.arguments u c.requires).0.value)
 
 pub returns-clause-gives : goal.returns-clause-gives
 returns-clause-gives c =
     let s = c.args.world.now.0 in
-    let r = c.changed.result in
     let u = c.import_all-made.new.world.0 in
     let rest = map object_of c.in_ok-symbols.rest.now in
-    let ys = map symbol_of c.in_ok-symbols-2.symbols.items in
-    let p = c.as_slice-package.result.now in
+    let x = object_of c.in_ok-symbols.symbols.now in
+    let ms = c.in_ok-symbols-2.symbols.now in
     let q = c.in_ok-name_or.field-0.now in
-    subst (λ vs. Answers done r u (import (map object_of vs) s)) (sym c.in_ok-symbols.ensures.value)
-    (kind_is (Answers done r u) (one_or_each a_symbol (object_of c.in_ok-symbols.symbols.now)) ys (λ xs. of_kind (given_or a_name s.current_package rest) (λ k. in_package s k (λ o. unlocked o (changed s (one_by_one (λ k y. after_import k o y.0 y.1) (λ k y. import_changes k o y.1) s.packages false xs))))) c.in_ok-symbols-2.ensures
-    (kind_is (Answers done r u) (given_or a_name s.current_package rest) q (λ k. in_package s k (λ o. unlocked o (changed s (one_by_one (λ k y. after_import k o y.0 y.1) (λ k y. import_changes k o y.1) s.packages false ys)))) (subst (λ k. Some q ≡ given_or a_name k rest) c.current_package.ensures c.in_ok-name_or.ensures)
-    (option_is (Answers done r u) (package_named s.packages q) p (λ o. unlocked o (changed s (one_by_one (λ k y. after_import k o y.0 y.1) (λ k y. import_changes k o y.1) s.packages false ys))) (Err NO_SUCH_PACKAGE) (ap Some c.as_slice-package.ensures.value ∙ c.in_ok-package.ensures.unlocked.0)
-    (not_refused (Answers done r u) (is_locked p) (Err PACKAGE_IS_LOCKED) _ (ap is_locked c.as_slice-package.ensures.value ∙ c.in_ok-package.ensures.unlocked.1)
-    (c.changed.ensures.gives s (one_by_one (λ k y. after_import k p y.0 y.1) (λ k y. import_changes k p y.1) s.packages false ys)
-    (subst (λ l. Makes c.import_all-made.result u.packages (one_by_one (λ k y. after_import k p y.0 y.1) (λ k y. import_changes k p y.1) s.packages false (map symbol_of l))) c.as_slice.ensures.value c.import_all-made.ensures.gives)
-    (ap (λ (k : Worlds). k.0) c.import_all-made.ensures.rest))))))
+    let p = c.name.result.now in
+    let ys = map symbol_in ms in
+    let given : given_or a_name s.current_package rest ≡ Some q = sym (subst (λ k. Some q ≡ given_or a_name k rest) c.current_package.ensures c.in_ok-name_or.ensures) in
+    let named : package_named s.packages q ≡ Some p = sym (ap Some c.name.ensures ∙ c.in_ok-package.ensures.unlocked.0) in
+    let free = ap is_locked c.name.ensures ∙ c.in_ok-package.ensures.unlocked.1 in
+    let front : (k : ℕ) → import (list_of (take k (map object_of ms)) ∷ rest) s ≡ changed s (imports s p (take k ys)) =
+    λ k. import_is s (list_of (take k (map object_of ms))) rest (take k ys) q p (front_found a_symbol ([], []) k ms c.in_ok-symbols-2.ensures.each.kinds) given named free in
+    subst (λ vs. GivesSoFar import (map object_of vs) s c.changed.result u) (sym c.in_ok-symbols.ensures.value)
+    (so_far import x rest s u (map object_of ms) (imports s p) ys c.in_ok-symbols-2.ensures.each.members (import_is s x rest ys q p (sym c.in_ok-symbols-2.ensures.value) given named free) front
+    (ap (λ (k : Worlds). k.0) c.import_all-made.ensures.rest) c.import_all-made.result c.changed.result c.import_all-made.ensures.gives c.changed.ensures.gives)

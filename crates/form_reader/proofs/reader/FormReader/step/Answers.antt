@@ -1,10 +1,11 @@
-use Rattle.std.proofs.Common.{◌+◌, [], refl, sym, ap, subst, ◌∙◌}
+use Rattle.std.proofs.Common.{◌+◌, [], Ok, refl, sym, ap, subst, ◌∙◌}
 use Rattle.form_reader.specs.declared.reader.State.{State}
 use Rattle.form_reader.specs.declared.reader.State.TheVariants.{Open}
 use Rattle.form_reader.specs.Setting.{setting_of}
 use Rattle.form_reader.specs.Reader.{IsAfterIn}
-use Rattle.form_reader.proofs.ReaderSteps.{went_on, gave_up, stepped, taken_there, left_there, refused_there, ready_there, runs_out, ran_out}
+use Rattle.form_reader.proofs.ReaderSteps.{went_on, went_past, gave_up, stepped, taken_there, passed_there, left_there, refused_there, ready_there, ready_past, runs_out, ran_out}
 use Rattle.token_scan.proofs.Forwards.{held}
+use Rattle.form_reader.proofs.Spaces.{stage_space}
 use Rattle.form_reader.proofs.Standings.{standing_of}
 use Rattle.form_reader.proofs.reader.FormReader.step.Goals as goal
 
@@ -16,6 +17,16 @@ returns-in-Ok-Taken-clause-steps g c = λ bytes after.
     (subst (λ (s : State). IsAfterIn setting c.args.self.now s bytes) c.in-Open.is after)
     (λ cs. taken_there setting c.args.self.now.frames c.args.self.now.start c.args.self.now.at c.args.byte c.in-Open.stage c.in_place.new.stage c.in-Ok-Taken.field-0 cs c.in-Ok-Taken.field-0-is (c.in-Ok-Taken.ensures.feeds cs))
     (ready_there setting c.args.self.now.frames c.args.self.now.start c.args.self.now.at c.args.byte c.in-Open.stage c.in_place.new.stage c.in-Ok-Taken.field-0 c.args.self.now.limits c.in-Ok-Taken.field-0-is c.in-Ok-Taken.ensures.ready
+    (standing_of c.args.self.now.limits c.args.self.now.frames c.args.self.now.at c.args.self.now.state c.in-Open.stage c.in-Open.is c.args.self.now.standing))
+
+pub returns-in-Ok-Passed-clause-steps : goal.returns-in-Ok-Passed-clause-steps
+returns-in-Ok-Passed-clause-steps g c = λ bytes after.
+    let setting = setting_of c.args.self.now.limits c.args.readtable.now c.args.packages.now.0 c.args.current.now
+    (g.R.MacroFunctions.registered c.args.macros.now) g.R.Meaning.Meaning.way g.R.Meaning.Meaning.answer in
+    went_past setting c.args.self.now c.args.self.now c.args.self.now c.in-Open.stage bytes c.args.byte c.args.self.now.frames c.in_place.new.stage
+    (subst (λ (s : State). IsAfterIn setting c.args.self.now s bytes) c.in-Open.is after)
+    (λ cs. passed_there setting c.args.self.now.frames c.args.self.now.start c.args.self.now.at c.args.byte c.in-Open.stage c.in_place.new.stage c.in-Ok-Passed.field-0 cs c.in-Ok-Passed.field-0-is (c.in-Ok-Passed.ensures.feeds cs))
+    (ready_past setting c.args.self.now.frames c.args.self.now.start c.args.self.now.at c.args.byte c.in-Open.stage c.in_place.new.stage c.in-Ok-Passed.field-0 c.args.self.now.limits c.in-Ok-Passed.field-0-is c.in-Ok-Passed.ensures.ready
     (standing_of c.args.self.now.limits c.args.self.now.frames c.args.self.now.at c.args.self.now.state c.in-Open.stage c.in-Open.is c.args.self.now.standing))
 
 pub returns-in-Ok-Refused-clause-steps : goal.returns-in-Ok-Refused-clause-steps
@@ -49,7 +60,7 @@ pub returns-in-Err-clause-needs : goal.returns-in-Err-clause-needs
 returns-in-Err-clause-needs g c = λ bytes after.
     let setting = setting_of c.args.self.now.limits c.args.readtable.now c.args.packages.now.0 c.args.current.now
     (g.R.MacroFunctions.registered c.args.macros.now) g.R.Meaning.Meaning.way g.R.Meaning.Meaning.answer in
-    runs_out setting c.args.self.now c.in-Open.stage bytes c.args.byte c.in-Open.is after c.in-Err.ensures.memory
+    runs_out setting c.args.self.now c.in-Open.stage bytes c.args.byte c.in-Open.is after c.in-Err.ensures.memory c.in-Err.ensures.space
 
 pub returns-in_err-next-in-Ok-Left-clause-needs : goal.returns-in_err-next-in-Ok-Left-clause-needs
 returns-in_err-next-in-Ok-Left-clause-needs g c = λ bytes after.
@@ -57,7 +68,10 @@ returns-in_err-next-in-Ok-Left-clause-needs g c = λ bytes after.
     (g.R.MacroFunctions.registered c.args.macros.now) g.R.Meaning.Meaning.way g.R.Meaning.Meaning.answer in
     held c.from_residual.result _ (runs_out setting c.args.self.now c.replace-stage.result bytes c.args.byte
     (c.in-Open.is ∙ ap Open (sym (c.replace-stage.ensures.value ∙ left_there setting c.args.self.now.frames c.args.self.now.start c.args.self.now.at c.args.byte c.in-Open.stage c.in_place.new.stage c.in-Ok-Left.field-0 [] c.in-Ok-Left.field-0-is (c.in-Ok-Left.ensures.feeds []))))
-    after c.in_err-next-in-Ok-Left.ensures.memory)
+    after c.in_err-next-in-Ok-Left.ensures.memory
+    (stage_space setting c.args.self.now.frames c.args.self.now.at c.args.byte c.replace-stage.result c.in-Open.stage
+    (c.replace-stage.ensures.value ∙ left_there setting c.args.self.now.frames c.args.self.now.start c.args.self.now.at c.args.byte c.in-Open.stage c.in_place.new.stage c.in-Ok-Left.field-0 [] c.in-Ok-Left.field-0-is (c.in-Ok-Left.ensures.feeds []))
+    (c.in-Ok-Left.ensures.left (ap Ok c.in-Ok-Left.field-0-is))))
 
 pub returns-in-OutOfMemory-clause-needs : goal.returns-in-OutOfMemory-clause-needs
 returns-in-OutOfMemory-clause-needs g c = λ bytes after.
