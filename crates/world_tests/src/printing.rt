@@ -51,6 +51,34 @@ fn import(packages: &mut Packages, owner: &str, home: &str, name: &str) -> Resul
     Ok(())
 }
 
+/// The text of a symbol in the package of this name.
+fn symbol_in(
+    alloc: Global,
+    packages: &Packages,
+    current: &str,
+    home: &str,
+    name: &str,
+) -> Result<Vec<u8>, Fail> {
+    let symbol = Datum::Symbol {
+        package: bytes(alloc, home)?,
+        name: bytes(alloc, name)?,
+    };
+    text_in(alloc, &symbol, packages, current)
+}
+
+/// A package P with an external symbol X, and a package q with an external symbol Z that P imports.
+fn link(packages: &mut Packages) -> Result<(), Fail> {
+    packages.export(b"P", b"P", b"X")?;
+    packages.export(b"q", b"q", b"Z")?;
+    import(packages, "P", "q", "Z")
+}
+
+/// The text of an object of this kind in COMMON-LISP-USER.
+fn text_of(alloc: Global, packages: &Packages, kind: &str) -> Result<Vec<u8>, Fail> {
+    let datum = made(alloc, kind)?;
+    text_in(alloc, &datum, packages, "CL-USER")
+}
+
 #[test]
 fn symbols(rt: HostRuntime) -> Result<(), Fail> {
     let alloc = rt.alloc();
@@ -81,17 +109,13 @@ fn symbols(rt: HostRuntime) -> Result<(), Fail> {
     for (_, home, name, _) in rows {
         intern(alloc, &mut packages, home, name)?;
     }
-    for (home, name) in [("P", "X"), ("q", "Z")] {
-        packages.export(home.as_bytes(), home.as_bytes(), name.as_bytes())?;
-    }
-    import(&mut packages, "P", "q", "Z")?;
+    link(&mut packages)?;
     for (current, home, name, text) in rows {
-        let symbol = Datum::Symbol {
-            package: bytes(alloc, home)?,
-            name: bytes(alloc, name)?,
-        };
-        let printed = text_in(alloc, &symbol, &packages, current)?;
-        assert_eq!(rt; printed.as_slice(), text.as_bytes(), "{name} in {current}");
+        let printed = symbol_in(alloc, &packages, current, home, name)?;
+        assert!(rt;
+            printed.as_slice() == text.as_bytes(),
+            "{name} in {current}"
+        );
     }
     Ok(())
 }
@@ -138,8 +162,8 @@ fn objects(rt: HostRuntime) -> Result<(), Fail> {
         ("list", r"((1 . 2) #(#\a) NIL #())"),
         ("nested", NESTED),
     ] {
-        let printed = text_in(alloc, &made(alloc, kind)?, &packages, "CL-USER")?;
-        assert_eq!(rt; printed.as_slice(), text.as_bytes(), "{kind}");
+        let printed = text_of(alloc, &packages, kind)?;
+        assert!(rt; printed.as_slice() == text.as_bytes(), "{kind}");
     }
     for (c, text) in [
         (8, r"#\Backspace"),
@@ -152,7 +176,7 @@ fn objects(rt: HostRuntime) -> Result<(), Fail> {
         (b'a', r"#\a"),
     ] {
         let printed = text_in(alloc, &Datum::Char(c), &packages, "CL-USER")?;
-        assert_eq!(rt; printed.as_slice(), text.as_bytes());
+        assert!(rt; printed.as_slice() == text.as_bytes());
     }
     Ok(())
 }

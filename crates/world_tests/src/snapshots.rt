@@ -49,62 +49,76 @@ fn add_packages(world: &mut World) -> Result<(), PackageError> {
     Ok(())
 }
 
+const FIRST_WORLD: &[u8] =
+    b"((\"COMMON-LISP-USER\" (\"COMMON-LISP\") NIL NIL NIL) (\"KEYWORD\" NIL NIL NIL NIL))\nNIL\n(\"COMMON-LISP-USER\" \"USER\" ((\"USER\" \"UPCASE\" NIL)))\n";
+
+const WITH_PROPERTY: &[u8] =
+    b"((\"COMMON-LISP-USER\" (\"COMMON-LISP\") (\"A\" \"B\") NIL NIL) (\"KEYWORD\" NIL NIL NIL NIL))\n((A B 7))\n(\"COMMON-LISP-USER\" \"USER\" ((\"USER\" \"UPCASE\" NIL)))\n";
+
+const WITH_MACRO: &[u8] =
+    b"((\"COMMON-LISP-USER\" (\"COMMON-LISP\") NIL NIL NIL) (\"KEYWORD\" NIL (\"SQUARE\") NIL NIL))\nNIL\n(\"COMMON-LISP-USER\" \"USER\" ((\"USER\" \"UPCASE\" ((91 2 \"SQUARE\" NIL)))))\n";
+
+const WITH_PACKAGES: &[u8] =
+    b"((\"COMMON-LISP-USER\" (\"COMMON-LISP\") NIL NIL ((\"X\" \"P\"))) (\"KEYWORD\" NIL NIL NIL NIL) (\"P\" NIL (\"X\") (\"X\") NIL) (\"Q\" (\"P\") NIL NIL NIL))\nNIL\n(\"Q\" \"USER\" ((\"USER\" \"INVERT\" ((33 3 \"STD-DISPATCH\" NIL)))))\n";
+
+// Whether this is the text of the world.
+fn is_text_of(alloc: Global, world: &World, text: &[u8]) -> Result<bool, Fail> {
+    Ok(write(alloc, world)?.as_slice() == text)
+}
+
 #[test]
 fn the_first_world(rt: HostRuntime) -> Result<(), Fail> {
-    let alloc = rt.alloc();
-    let text = write(alloc, &World::new(alloc)?)?;
-    assert_eq!(rt; text.len(), 135);
-    assert!(rt;
-        text.as_slice()
-            == b"((\"COMMON-LISP-USER\" (\"COMMON-LISP\") NIL NIL NIL) (\"KEYWORD\" NIL NIL NIL NIL))\nNIL\n(\"COMMON-LISP-USER\" \"USER\" ((\"USER\" \"UPCASE\" NIL)))\n".as_slice()
-    );
+    let world = World::new(rt.alloc())?;
+    assert!(rt; is_text_of(rt.alloc(), &world, FIRST_WORLD)? && FIRST_WORLD.len() == 135);
     Ok(())
+}
+
+fn with_property(alloc: Global) -> Result<World, Fail> {
+    let mut world = World::new(alloc)?;
+    world.intern(COMMON_LISP_USER, b"A")?;
+    world.intern(COMMON_LISP_USER, b"B")?;
+    if put_seven(alloc, &mut world, b"A", b"B").is_none() {
+        return Err(Fail::from("not put"));
+    }
+    Ok(world)
 }
 
 #[test]
 fn a_property(rt: HostRuntime) -> Result<(), Fail> {
-    let alloc = rt.alloc();
-    let mut world = World::new(alloc)?;
-    world.intern(COMMON_LISP_USER, b"A")?;
-    world.intern(COMMON_LISP_USER, b"B")?;
-    assert!(rt; put_seven(alloc, &mut world, b"A", b"B").is_some());
-    let text = write(alloc, &world)?;
-    assert_eq!(rt; text.len(), 147);
-    assert!(rt;
-        text.as_slice()
-            == b"((\"COMMON-LISP-USER\" (\"COMMON-LISP\") (\"A\" \"B\") NIL NIL) (\"KEYWORD\" NIL NIL NIL NIL))\n((A B 7))\n(\"COMMON-LISP-USER\" \"USER\" ((\"USER\" \"UPCASE\" NIL)))\n".as_slice()
-    );
+    let world = with_property(rt.alloc())?;
+    assert!(rt; is_text_of(rt.alloc(), &world, WITH_PROPERTY)? && WITH_PROPERTY.len() == 147);
     Ok(())
+}
+
+fn with_macro(alloc: Global) -> Result<World, Fail> {
+    let mut world = World::new(alloc)?;
+    world.intern(KEYWORD, b"SQUARE")?;
+    if set_bracket(&mut world, b"SQUARE").is_none() {
+        return Err(Fail::from("not set"));
+    }
+    Ok(world)
 }
 
 #[test]
 fn a_macro_character(rt: HostRuntime) -> Result<(), Fail> {
-    let alloc = rt.alloc();
-    let mut world = World::new(alloc)?;
-    world.intern(KEYWORD, b"SQUARE")?;
-    assert!(rt; set_bracket(&mut world, b"SQUARE").is_some());
-    let text = write(alloc, &world)?;
-    assert_eq!(rt; text.len(), 160);
-    assert!(rt;
-        text.as_slice()
-            == b"((\"COMMON-LISP-USER\" (\"COMMON-LISP\") NIL NIL NIL) (\"KEYWORD\" NIL (\"SQUARE\") NIL NIL))\nNIL\n(\"COMMON-LISP-USER\" \"USER\" ((\"USER\" \"UPCASE\" ((91 2 \"SQUARE\" NIL)))))\n".as_slice()
-    );
+    let world = with_macro(rt.alloc())?;
+    assert!(rt; is_text_of(rt.alloc(), &world, WITH_MACRO)? && WITH_MACRO.len() == 160);
     Ok(())
 }
 
-#[test]
-fn packages_and_dispatch(rt: HostRuntime) -> Result<(), Fail> {
-    let alloc = rt.alloc();
+fn with_packages(alloc: Global) -> Result<World, Fail> {
     let mut world = World::new(alloc)?;
     add_packages(&mut world)?;
     world.make_dispatch(USER, b'!', true)?;
     world.set_case(USER, Case::Invert)?;
     world.set_current_package(b"Q")?;
-    let text = write(alloc, &world)?;
-    assert!(rt;
-        text.as_slice()
-            == b"((\"COMMON-LISP-USER\" (\"COMMON-LISP\") NIL NIL ((\"X\" \"P\"))) (\"KEYWORD\" NIL NIL NIL NIL) (\"P\" NIL (\"X\") (\"X\") NIL) (\"Q\" (\"P\") NIL NIL NIL))\nNIL\n(\"Q\" \"USER\" ((\"USER\" \"INVERT\" ((33 3 \"STD-DISPATCH\" NIL)))))\n".as_slice()
-    );
+    Ok(world)
+}
+
+#[test]
+fn packages_and_dispatch(rt: HostRuntime) -> Result<(), Fail> {
+    let world = with_packages(rt.alloc())?;
+    assert!(rt; is_text_of(rt.alloc(), &world, WITH_PACKAGES)?);
     Ok(())
 }
 
@@ -163,28 +177,18 @@ fn world_of_tables(alloc: Global) -> Result<World, Fail> {
     Ok(world)
 }
 
+// Whether the text of a world is read.
+fn is_read_back(alloc: Global, world: &World) -> Result<bool, Fail> {
+    is_read(alloc, write(alloc, world)?.as_slice())
+}
+
 #[test]
 fn worlds_are_read_back(rt: HostRuntime) -> Result<(), Fail> {
     let alloc = rt.alloc();
-    let worlds = [
-        World::new(alloc)?,
-        full_world(alloc)?,
-        world_of_tables(alloc)?,
-    ];
-    for world in &worlds {
-        assert!(rt; is_read(alloc, write(alloc, world)?.as_slice())?);
-    }
+    assert!(rt; is_read_back(alloc, &World::new(alloc)?)?);
+    assert!(rt; is_read_back(alloc, &full_world(alloc)?)?);
+    assert!(rt; is_read_back(alloc, &world_of_tables(alloc)?)?);
     Ok(())
-}
-
-// The text of three lines.
-fn text_of_lines(alloc: Global, lines: [&[u8]; 3]) -> Result<Vec<u8>, AllocError> {
-    let mut text = Vec::new(alloc);
-    for line in lines {
-        text.extend_from_slice(line)?;
-        text.push(b'\n')?;
-    }
-    Ok(text)
 }
 
 // The lines of the first world, and what they may not be.
@@ -211,100 +215,85 @@ const NOT_PRESENT: &[u8] =
 
 const TABLES: &[u8] = b"(\"COMMON-LISP-USER\" \"USER\" ((\"USER\" \"UPCASE\" NIL)))";
 
+// A number, and the lines of a text that is refused so; the words are those of `line_of`. Two texts have an empty line more.
+const REFUSED: &str = r#"62|||
+62|NIL|NIL|NIL
+62|FIRST|NIL|("COMMON-LISP-USER" "USER" (("USER" "UPCASE"  NIL)))
+62|FIRST|NIL|("COMMON-LISP-USER" "USER" (("USER" "UPCASE" NIL)))|
+62|FIRST|NIL|("P" "USER" (("USER" "UPCASE" NIL)))
+62|FIRST|NIL|("COMMON-LISP-USER" "STANDARD" NIL)
+62|FIRST|NIL|("COMMON-LISP-USER" "USER" (("USER" "UPCASE" ((40 2 "STD-LIST" NIL)))))
+62|FIRST|NIL|("COMMON-LISP-USER" "USER" (("USER" "UPCASE" ((91 2 "SQUARE" NIL)))))
+62|FIRST|NIL|("COMMON-LISP-USER" "USER" (("USER" "UPCASE" ((33 3 "STD-DISPATCH" ((53 "STD-LIST")))))))
+63|KEYWORDS|NIL|("COMMON-LISP-USER" "USER" (("USER" "UPCASE" ((91 2 "SQUARE" NIL)))))
+63|KEYWORDS|NIL|("COMMON-LISP-USER" "USER" (("USER" "UPCASE" ((33 3 "STD-DISPATCH" ((91 "STD-FOO")))))))
+62|KEYWORDS|NIL|("COMMON-LISP-USER" "USER" (("USER" "UPCASE" ((91 2 "SQUARE" NIL)))))|
+62|FIRST|((T T))|TABLES
+62|NO_NAME|NIL|TABLES
+62|NICKNAME|NIL|TABLES
+62|USES_NOTHING|NIL|TABLES
+62|USES_ITSELF|NIL|TABLES
+62|NOT_PRESENT|NIL|TABLES"#;
+
+// The line of a word, and else the word.
+fn line_of(word: &str) -> &[u8] {
+    match word {
+        "FIRST" => FIRST,
+        "KEYWORDS" => KEYWORDS,
+        "NO_NAME" => NO_NAME,
+        "NICKNAME" => NICKNAME,
+        "USES_NOTHING" => USES_NOTHING,
+        "USES_ITSELF" => USES_ITSELF,
+        "NOT_PRESENT" => NOT_PRESENT,
+        "TABLES" => TABLES,
+        line => line.as_bytes(),
+    }
+}
+
+fn text_of_lines(alloc: Global, words: &str) -> Result<Vec<u8>, AllocError> {
+    let mut text = Vec::new(alloc);
+    for word in words.split('|') {
+        text.extend_from_slice(line_of(word))?;
+        text.push(b'\n')?;
+    }
+    Ok(text)
+}
+
+// Whether the text of a row is refused as the row says.
+fn is_refused(alloc: Global, row: &str) -> Result<bool, Fail> {
+    let (number, words) = row.split_once('|').unwrap_or((row, ""));
+    let text = text_of_lines(alloc, words)?;
+    Ok(match read_back(alloc, text.as_slice())? {
+        Ok(_) => false,
+        Err(found) => number.parse() == Ok(found),
+    })
+}
+
 #[test]
 fn other_texts_are_refused(rt: HostRuntime) -> Result<(), Fail> {
-    let rows: [([&[u8]; 3], u16); 18] = [
-        ([b"", b"", b""], 62),
-        ([b"NIL", b"NIL", b"NIL"], 62),
-        (
-            [
-                FIRST,
-                b"NIL",
-                b"(\"COMMON-LISP-USER\" \"USER\" ((\"USER\" \"UPCASE\"  NIL)))",
-            ],
-            62,
-        ),
-        (
-            [
-                FIRST,
-                b"NIL",
-                b"(\"COMMON-LISP-USER\" \"USER\" ((\"USER\" \"UPCASE\" NIL)))\n",
-            ],
-            62,
-        ),
-        (
-            [
-                FIRST,
-                b"NIL",
-                b"(\"P\" \"USER\" ((\"USER\" \"UPCASE\" NIL)))",
-            ],
-            62,
-        ),
-        (
-            [FIRST, b"NIL", b"(\"COMMON-LISP-USER\" \"STANDARD\" NIL)"],
-            62,
-        ),
-        (
-            [
-                FIRST,
-                b"NIL",
-                b"(\"COMMON-LISP-USER\" \"USER\" ((\"USER\" \"UPCASE\" ((40 2 \"STD-LIST\" NIL)))))",
-            ],
-            62,
-        ),
-        (
-            [
-                FIRST,
-                b"NIL",
-                b"(\"COMMON-LISP-USER\" \"USER\" ((\"USER\" \"UPCASE\" ((91 2 \"SQUARE\" NIL)))))",
-            ],
-            62,
-        ),
-        (
-            [
-                FIRST,
-                b"NIL",
-                b"(\"COMMON-LISP-USER\" \"USER\" ((\"USER\" \"UPCASE\" ((33 3 \"STD-DISPATCH\" ((53 \"STD-LIST\")))))))",
-            ],
-            62,
-        ),
-        (
-            [
-                KEYWORDS,
-                b"NIL",
-                b"(\"COMMON-LISP-USER\" \"USER\" ((\"USER\" \"UPCASE\" ((91 2 \"SQUARE\" NIL)))))",
-            ],
-            63,
-        ),
-        (
-            [
-                KEYWORDS,
-                b"NIL",
-                b"(\"COMMON-LISP-USER\" \"USER\" ((\"USER\" \"UPCASE\" ((33 3 \"STD-DISPATCH\" ((91 \"STD-FOO\")))))))",
-            ],
-            63,
-        ),
-        (
-            [
-                KEYWORDS,
-                b"NIL",
-                b"(\"COMMON-LISP-USER\" \"USER\" ((\"USER\" \"UPCASE\" ((91 2 \"SQUARE\" NIL)))))\n",
-            ],
-            62,
-        ),
-        ([FIRST, b"((T T))", TABLES], 62),
-        ([NO_NAME, b"NIL", TABLES], 62),
-        ([NICKNAME, b"NIL", TABLES], 62),
-        ([USES_NOTHING, b"NIL", TABLES], 62),
-        ([USES_ITSELF, b"NIL", TABLES], 62),
-        ([NOT_PRESENT, b"NIL", TABLES], 62),
-    ];
-    for (lines, number) in rows {
-        let text = text_of_lines(rt.alloc(), lines)?;
-        assert!(rt; matches!(read_back(rt.alloc(), text.as_slice())?, Err(n) if n == number));
+    for row in REFUSED.split('\n') {
+        assert!(rt; is_refused(rt.alloc(), row)?, "{row}");
     }
     assert_eq!(rt; SnapshotError::OutOfMemory.number(), 90);
     Ok(())
+}
+
+// Whether an altered text is that of a world; nothing where it is neither that nor refused.
+fn is_another(alloc: Global, altered: &[u8]) -> Result<Option<bool>, Fail> {
+    Ok(match read_back(alloc, altered)? {
+        Ok(again) if again.as_slice() == altered => Some(true),
+        Err(62) | Err(63) => Some(false),
+        _ => None,
+    })
+}
+
+// A text with one byte altered in this way.
+fn altered_at(alloc: Global, text: &[u8], place: usize, bits: u8) -> Result<Vec<u8>, AllocError> {
+    let mut altered = Vec::from_slice(alloc, text)?;
+    if let Some(byte) = altered.get_mut(place) {
+        *byte ^= bits;
+    }
+    Ok(altered)
 }
 
 // The number of texts that are read among those where one byte is altered in this way. Each is refused, or is the text of a
@@ -312,27 +301,34 @@ fn other_texts_are_refused(rt: HostRuntime) -> Result<(), Fail> {
 fn read_altered(alloc: Global, text: &[u8], bits: u8) -> Result<Option<usize>, Fail> {
     let mut count = 0usize;
     for place in 0..text.len() {
-        let mut altered = Vec::from_slice(alloc, text)?;
-        altered[place] ^= bits;
-        match read_back(alloc, altered.as_slice())? {
-            Ok(again) if again.as_slice() == altered.as_slice() => {
-                count = count.saturating_add(1);
-            }
-            Err(62) | Err(63) => {}
-            _ => return Ok(None),
+        let altered = altered_at(alloc, text, place, bits)?;
+        match is_another(alloc, altered.as_slice())? {
+            Some(true) => count = count.saturating_add(1),
+            Some(false) => {}
+            None => return Ok(None),
         }
     }
     Ok(Some(count))
+}
+
+// The text of a world with something in each part, and with other current ones than the first.
+fn full_text(alloc: Global) -> Result<Vec<u8>, Fail> {
+    let mut world = full_world(alloc)?;
+    world.set_current_package(b"P")?;
+    world.set_current_readtable(STANDARD)?;
+    Ok(write(alloc, &world)?)
+}
+
+// Whether the text is damaged.
+fn is_damaged(alloc: Global, text: &[u8]) -> Result<bool, Fail> {
+    Ok(matches!(read_back(alloc, text)?, Err(62)))
 }
 
 // With each byte altered the text is refused, or is that of another world. Cut anywhere, it is refused.
 #[test]
 fn altered_texts(rt: HostRuntime) -> Result<(), Fail> {
     let alloc = rt.alloc();
-    let mut world = full_world(alloc)?;
-    world.set_current_package(b"P")?;
-    world.set_current_readtable(STANDARD)?;
-    let text = write(alloc, &world)?;
+    let text = full_text(alloc)?;
     let text = text.as_slice();
     assert!(rt; is_read(alloc, text)?);
     for bits in [1, 2, 16, 128] {
@@ -340,7 +336,7 @@ fn altered_texts(rt: HostRuntime) -> Result<(), Fail> {
         assert!(rt; matches!(count, Some(n) if n > 0 || bits > 1));
     }
     for length in 0..text.len() {
-        assert!(rt; matches!(read_back(alloc, &text[..length])?, Err(62)));
+        assert!(rt; is_damaged(alloc, &text[..length])?);
     }
     Ok(())
 }
@@ -350,11 +346,6 @@ fn laws(rt: HostRuntime) -> Result<(), Fail> {
     printed_objects_read_back();
     one_text_one_state();
     snapshot_lines_are_read();
-    assert!(rt;
-        is_read(
-            rt.alloc(),
-            write(rt.alloc(), &full_world(rt.alloc())?)?.as_slice()
-        )?
-    );
+    assert!(rt; is_read_back(rt.alloc(), &full_world(rt.alloc())?)?);
     Ok(())
 }

@@ -153,17 +153,21 @@ fn is_changed(world: &World) -> bool {
         && table.dispatch_of(b'!', b'S').is_some()
 }
 
+fn has_readtables(alloc: Global, world: &World, names: &[&[u8]]) -> Result<bool, Fail> {
+    Ok(lists(&world.readtable_names(alloc)?, names))
+}
+
 #[test]
 fn readtables(rt: HostRuntime) -> Result<(), Fail> {
     let alloc = rt.alloc();
     let mut world = World::new(alloc)?;
-    assert!(rt; lists(&world.readtable_names(alloc)?, &[STANDARD, USER]));
+    assert!(rt; has_readtables(alloc, &world, &[STANDARD, USER])?);
     assert!(rt; world.current_readtable() == USER);
     for row in CALLS.split('\n') {
         assert!(rt; answers(&mut world, row), "{row}");
     }
     assert!(rt; is_changed(&world) && world.current_readtable() == STANDARD);
-    assert!(rt; lists(&world.readtable_names(alloc)?, &[STANDARD, b"UPCASE", USER]));
+    assert!(rt; has_readtables(alloc, &world, &[STANDARD, b"UPCASE", USER])?);
     Ok(())
 }
 
@@ -206,22 +210,33 @@ fn has(world: &World, symbol: &Symbol, first: i128, second: i128) -> bool {
     }
 }
 
+// How many symbols have properties, and how many packages they are of.
+fn counts(alloc: Global, world: &World) -> Result<(usize, usize), Fail> {
+    let symbols = world.with_properties(alloc)?.len();
+    let owners = world.owners(alloc)?.len();
+    Ok((symbols, owners))
+}
+
+// Sets a property of LIST, whose indicator has this name, to a number.
+fn put_to_list(alloc: Global, world: &mut World, name: &[u8], number: i128) -> Option<()> {
+    let list = Symbol::from_bytes(alloc, COMMON_LISP, b"LIST").ok()?;
+    let indicator = Symbol::from_bytes(alloc, COMMON_LISP, name).ok()?;
+    put(world, &list, indicator, number)
+}
+
 #[test]
 fn properties(rt: HostRuntime) -> Result<(), Fail> {
     let alloc = rt.alloc();
     let mut world = World::new(alloc)?;
-    assert!(rt; world.with_properties(alloc)?.is_empty());
-    assert!(rt; world.owners(alloc)?.is_empty());
+    assert!(rt; counts(alloc, &world)? == (0, 0));
     let list = Symbol::from_bytes(alloc, COMMON_LISP, b"LIST")?;
     let get = Symbol::from_bytes(alloc, COMMON_LISP, b"GET")?;
     assert!(rt; remove(&mut world, &list, &get) == Some(false));
     for (name, number) in [(b"GET".as_slice(), 1), (b"IF", 2), (b"GET", 3)] {
-        let indicator = Symbol::from_bytes(alloc, COMMON_LISP, name)?;
-        assert!(rt; put(&mut world, &list, indicator, number).is_some());
+        assert!(rt; put_to_list(alloc, &mut world, name, number).is_some());
     }
     assert!(rt; is_number(world.get(&list, &get), 3) && has(&world, &list, 3, 2));
-    assert_eq!(rt; world.with_properties(alloc)?.len(), 1);
-    assert_eq!(rt; world.owners(alloc)?.len(), 1);
+    assert!(rt; counts(alloc, &world)? == (1, 1));
     assert!(rt; remove(&mut world, &list, &get) == Some(true) && world.get(&list, &get).is_none());
     Ok(())
 }
