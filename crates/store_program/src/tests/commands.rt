@@ -5,7 +5,7 @@ use super::{BrokenReader, FullWriter};
 use crate::meaning::SixFunctions;
 use crate::program::program;
 use readtable_core::FnName;
-use std::alloc::Global;
+use std::alloc::{AllocError, Global};
 use std::test::Fail;
 use std::{env, fs, process};
 use user_macros::Macros;
@@ -42,6 +42,12 @@ fn unwritten(rt: &HostRuntime, words: &[&str]) -> (u8, Vec<u8>) {
     let macros = ByName::new(rt.alloc(), SixFunctions::new());
     let status = program(rt, macros, words, &mut reader, &mut FullWriter, &mut faults).code();
     (status, faults)
+}
+
+/// Whether this is a fault of the output.
+fn is_unwritten(rt: &HostRuntime, words: &[&str]) -> bool {
+    let (status, faults) = unwritten(rt, words);
+    status == 3 && faults.as_slice() == b"! 68 OUTPUT\n".as_slice()
 }
 
 /// A place for files of a test.
@@ -113,83 +119,144 @@ Options:
 
 DIR holds";
 
+/// A status, and the words after the program's name; a status of 3 is of a folder that can't be opened.
+const JUDGED: &str = "\
+2
+2 walk /dev/null
+2 run
+2 run -store
+2 run --rescue
+2 run /dev/null --rescue=no
+2 run /dev/null --rescue --rescue
+2 run /dev/null --every 5
+2 run /dev/null more
+2 run /dev/null --snapshot-every
+2 run /dev/null --snapshot-every 0
+2 run /dev/null --snapshot-every 1000001
+2 run /dev/null --snapshot-every x
+2 run /dev/null --snapshot-every -1
+2 run /dev/null --snapshot-every 1 --snapshot-every 1
+2 dump
+2 dump /dev/null more
+2 dump /dev/null --snapshot-every 1
+2 verify
+2 verify /dev/null more
+2 verify /dev/null --rescue
+2 help walk
+3 run /dev/null
+3 run /dev/null --snapshot-every 1
+3 run /dev/null --snapshot-every 1000000
+3 run --snapshot-every=5 --rescue /dev/null
+3 dump /dev/null
+3 verify /dev/null
+0 --help
+0 help
+0 run --help
+0 dump /dev/null --help
+0 help verify";
+
+/// The words of a text, after the program's name.
+fn words_of(alloc: Global, text: &'static str) -> Result<Vec<&'static str>, AllocError> {
+    let mut words = Vec::new(alloc);
+    words.push("store_program")?;
+    for word in text.split(' ') {
+        if !word.is_empty() {
+            words.push(word)?;
+        }
+    }
+    Ok(words)
+}
+
+/// Whether these are the faults that are told of with a status, and nothing is written but where it is 0.
+fn is_told(found: &Ran) -> bool {
+    let told = found.faults.as_slice();
+    let is_told = match found.status {
+        0 => told.is_empty(),
+        2 => told.starts_with(b"error: "),
+        _ => told == b"! 60 DEVICE\n".as_slice(),
+    };
+    is_told && found.output.is_empty() == (found.status != 0)
+}
+
+/// Whether the words of a row are judged as it says.
+fn is_judged(rt: &HostRuntime, row: &'static str) -> Result<bool, AllocError> {
+    let (status, text) = row.split_once(' ').unwrap_or((row, ""));
+    let words = words_of(rt.alloc(), text)?;
+    let found = run(rt, words.as_slice(), b"7");
+    Ok(status.parse() == Ok(found.status) && is_told(&found))
+}
+
+/// Whether the words are judged with this status, and nothing is written.
+fn is_silent(rt: &HostRuntime, words: &[&str], status: u8) -> bool {
+    let found = run(rt, words, b"7");
+    found.status == status && found.output.is_empty()
+}
+
+/// What is written for these words.
+fn output_of(rt: &HostRuntime, words: &[&str]) -> Vec<u8> {
+    run(rt, words, b"7").output
+}
+
 #[test]
 fn words_are_judged_first(rt: HostRuntime) -> Result<(), Fail> {
-    // the words after the program's name, in one text; a status of 3 is of a folder that can't be opened
-    let cases: [(&str, u8); 33] = [
-        ("", 2),
-        ("walk /dev/null", 2),
-        ("run", 2),
-        ("run -store", 2),
-        ("run --rescue", 2),
-        ("run /dev/null --rescue=no", 2),
-        ("run /dev/null --rescue --rescue", 2),
-        ("run /dev/null --every 5", 2),
-        ("run /dev/null more", 2),
-        ("run /dev/null --snapshot-every", 2),
-        ("run /dev/null --snapshot-every 0", 2),
-        ("run /dev/null --snapshot-every 1000001", 2),
-        ("run /dev/null --snapshot-every x", 2),
-        ("run /dev/null --snapshot-every -1", 2),
-        ("run /dev/null --snapshot-every 1 --snapshot-every 1", 2),
-        ("dump", 2),
-        ("dump /dev/null more", 2),
-        ("dump /dev/null --snapshot-every 1", 2),
-        ("verify", 2),
-        ("verify /dev/null more", 2),
-        ("verify /dev/null --rescue", 2),
-        ("help walk", 2),
-        ("run /dev/null", 3),
-        ("run /dev/null --snapshot-every 1", 3),
-        ("run /dev/null --snapshot-every 1000000", 3),
-        ("run --snapshot-every=5 --rescue /dev/null", 3),
-        ("dump /dev/null", 3),
-        ("verify /dev/null", 3),
-        ("--help", 0),
-        ("help", 0),
-        ("run --help", 0),
-        ("dump /dev/null --help", 0),
-        ("help verify", 0),
-    ];
-    for (text, status) in cases {
-        let mut words = Vec::new(rt.alloc());
-        words.push("store_program")?;
-        for word in text.split(' ') {
-            if !word.is_empty() {
-                words.push(word)?;
-            }
-        }
-        let found = run(&rt, words.as_slice(), b"7");
-        assert_eq!(rt; found.status, status, "{text}");
-        let told = found.faults.as_slice();
-        let is_told = match status {
-            0 => told.is_empty(),
-            2 => told.starts_with(b"error: "),
-            _ => told == b"! 60 DEVICE\n".as_slice(),
-        };
-        assert!(rt; is_told, "{text}");
-        assert_eq!(rt; found.output.is_empty(), status != 0, "{text}");
+    for row in JUDGED.split('\n') {
+        assert!(rt; is_judged(&rt, row)?, "{row}");
     }
     // no words at all, and folders without a name
-    let cases: [(&[&str], u8); 4] = [
-        (&[], 2),
-        (&["store_program", "run", ""], 3),
-        (&["store_program", "dump", ""], 3),
-        (&["store_program", "verify", ""], 3),
-    ];
-    for (words, status) in cases {
-        let found = run(&rt, words, b"7");
-        assert_eq!(rt; (found.status, found.output.len()), (status, 0));
+    assert!(rt; is_silent(&rt, &[], 2));
+    for command in ["run", "dump", "verify"] {
+        assert!(rt;
+            is_silent(&rt, &["store_program", command, ""], 3),
+            "{command}"
+        );
     }
     assert!(rt;
         fs::metadata(&rt, "half-a").is_err(),
         "no folder is the present one"
     );
-    let found = run(&rt, &["store_program", "--help"], b"7");
-    assert_eq!(rt; found.output.as_slice(), HELP.as_bytes());
-    let found = run(&rt, &["store_program", "run", "--help"], b"7");
-    assert!(rt; found.output.starts_with(RUN_HELP.as_bytes()));
+    assert!(rt; output_of(&rt, &["store_program", "--help"]).as_slice() == HELP.as_bytes());
+    let help = output_of(&rt, &["store_program", "run", "--help"]);
+    assert!(rt; help.starts_with(RUN_HELP.as_bytes()));
     Ok(())
+}
+
+/// Whether the program ends with this status and output, and tells of no fault.
+fn answers(rt: &HostRuntime, words: &[&str], input: &[u8], status: u8, output: &[u8]) -> bool {
+    let found = run(rt, words, input);
+    found.status == status && found.output.as_slice() == output && found.faults.is_empty()
+}
+
+/// Whether the file has so many bytes.
+fn has_length(rt: &HostRuntime, file: &str, length: usize) -> Result<bool, Fail> {
+    Ok(fs::read(rt, file)?.len() == length)
+}
+
+/// Whether the program is refused over a file of these bytes with this fault, writes nothing, and leaves the file as it is.
+fn is_refused(
+    rt: &HostRuntime,
+    words: &[&str],
+    file: &str,
+    bytes: &[u8],
+    fault: &[u8],
+) -> Result<bool, Fail> {
+    fs::write(rt, file, bytes)?;
+    let found = run(rt, words, b"(GET 'A 'B)\n");
+    let left = fs::read(rt, file)?;
+    Ok(
+        found.status == 3
+            && found.output.is_empty()
+            && found.faults.as_slice() == fault
+            && left.as_slice() == bytes,
+    )
+}
+
+/// A file with another version in its header.
+fn of_another_version(whole: &[u8], alloc: Global) -> Result<Vec<u8>, AllocError> {
+    let mut other = Vec::from_slice(alloc, whole)?;
+    if let Some(version) = other.get_mut(2) {
+        *version = 9;
+    }
+    Ok(other)
 }
 
 #[test]
@@ -209,30 +276,25 @@ fn files_stay_between_runs(rt: HostRuntime) -> Result<(), Fail> {
         ),
     ];
     for (input, status, output, length) in cases {
-        let found = run(&rt, words.as_slice(), input);
-        assert_eq!(rt; found.status, status);
-        assert_eq!(rt; found.output.as_slice(), output);
-        assert_eq!(rt; found.faults.len(), 0);
-        assert_eq!(rt; fs::read(&rt, file.as_str())?.len(), length);
+        assert!(rt; answers(&rt, &words, input, status, output));
+        assert!(rt; has_length(&rt, file.as_str(), length)?);
     }
     let whole = fs::read(&rt, file.as_str())?;
-    let mut cut = whole.clone()?;
-    cut.truncate(100);
-    let mut other = whole.clone()?;
-    assert_eq!(rt; (whole.len(), other.len()), (177, 177));
-    assert_eq!(rt; whole[151], 0, "the mode is Current");
-    other[2] = 9;
-    let cases: [(&[u8], &[u8]); 2] = [
-        (cut.as_slice(), b"! 62 DAMAGED\n"),
-        (other.as_slice(), b"! 66 VERSION\n"),
-    ];
-    for (bytes, faults) in cases {
-        fs::write(&rt, file.as_str(), bytes)?;
-        let found = run(&rt, words.as_slice(), b"(GET 'A 'B)\n");
-        assert_eq!(rt; (found.status, found.output.len()), (3, 0));
-        assert_eq!(rt; found.faults.as_slice(), faults);
-        assert_eq!(rt; fs::read(&rt, file.as_str())?.as_slice(), bytes);
-    }
+    let whole = whole.as_slice();
+    // the mode is Current
+    assert!(rt; whole.get(151) == Some(&0));
+    let cut = whole.get(..100).unwrap_or(b"");
+    assert!(rt; is_refused(&rt, &words, file.as_str(), cut, b"! 62 DAMAGED\n")?);
+    let other = of_another_version(whole, rt.alloc())?;
+    assert!(rt;
+        is_refused(
+            &rt,
+            &words,
+            file.as_str(),
+            other.as_slice(),
+            b"! 66 VERSION\n"
+        )?
+    );
     fs::remove_dir_all(&rt, place.as_str())?;
     Ok(())
 }
@@ -274,10 +336,7 @@ fn a_store_is_rescued(rt: HostRuntime) -> Result<(), Fail> {
         ),
     ];
     for (words, input, status, output) in cases {
-        let found = run(&rt, words, input);
-        assert_eq!(rt; found.status, status);
-        assert_eq!(rt; found.output.as_slice(), output);
-        assert_eq!(rt; found.faults.len(), 0);
+        assert!(rt; answers(&rt, words, input, status, output));
     }
     fs::remove_dir_all(&rt, place.as_str())?;
     Ok(())
@@ -318,18 +377,10 @@ fn a_store_is_dumped_and_verified(rt: HostRuntime) -> Result<(), Fail> {
         (&verify, b"", b"half B generation 2 records 1\n"),
     ];
     for (words, input, output) in cases {
-        let found = run(&rt, words, input);
-        assert_eq!(rt; found.status, 0);
-        assert_eq!(rt; found.output.as_slice(), output);
-        assert_eq!(rt; found.faults.len(), 0);
+        assert!(rt; answers(&rt, words, input, 0, output));
     }
     // an output that takes nothing
-    let commands: [&[&str]; 2] = [&dump, &verify];
-    for words in commands {
-        let (status, faults) = unwritten(&rt, words);
-        assert_eq!(rt; status, 3);
-        assert_eq!(rt; faults.as_slice(), b"! 68 OUTPUT\n".as_slice());
-    }
+    assert!(rt; is_unwritten(&rt, &dump) && is_unwritten(&rt, &verify));
     fs::remove_dir_all(&rt, place.as_str())?;
     Ok(())
 }
@@ -340,58 +391,53 @@ fn a_file_is_no_folder(rt: HostRuntime) -> Result<(), Fail> {
     fs::write(&rt, place.as_str(), "")?;
     let found = run(&rt, &["store_program", "run", place.as_str()], b"7");
     fs::remove_file(&rt, place.as_str())?;
-    assert_eq!(rt; found.status, 3);
-    assert_eq!(rt; found.output.len(), 0);
-    assert_eq!(rt; found.faults.as_slice(), b"! 60 DEVICE\n".as_slice());
+    assert!(rt; found.status == 3 && is_told(&found));
     Ok(())
+}
+
+/// The program where its input is not read.
+fn unread(rt: &HostRuntime, words: &[&str]) -> Ran {
+    let mut reader = BrokenReader { has_begun: false };
+    let mut output = Vec::new(rt.alloc());
+    let mut faults = Vec::new(rt.alloc());
+    // the borrow checker has to be told of the type of a name, which the macro functions hold
+    let _name = FnName::new(b"SQUARE");
+    let macros = ByName::new(rt.alloc(), SixFunctions::new());
+    let status = program(rt, macros, words, &mut reader, &mut output, &mut faults).code();
+    Ran {
+        status,
+        output,
+        faults,
+    }
+}
+
+/// The program where no macro functions are registered.
+fn helpless(rt: &HostRuntime, words: &[&str]) -> Ran {
+    let mut reader: &[u8] = b"7";
+    let mut output = Vec::new(rt.alloc());
+    let mut faults = Vec::new(rt.alloc());
+    let none = Macros::new(rt.alloc(), SixFunctions::new());
+    let status = program(rt, none, words, &mut reader, &mut output, &mut faults).code();
+    Ran {
+        status,
+        output,
+        faults,
+    }
+}
+
+/// Whether the program ended with a fault, told of it so, and wrote nothing.
+fn is_fault(found: &Ran, fault: &[u8]) -> bool {
+    found.status == 3 && found.output.is_empty() && found.faults.as_slice() == fault
 }
 
 #[test]
 fn broken_streams_and_missing_functions_are_faults(rt: HostRuntime) -> Result<(), Fail> {
     let place = place(&rt, "streams")?;
     let words = ["store_program", "run", place.as_str()];
-    let mut faults = Vec::new(rt.alloc());
-    let mut output = Vec::new(rt.alloc());
-    let mut reader = BrokenReader { has_begun: false };
-    let macros = ByName::new(rt.alloc(), SixFunctions::new());
-    let unread = program(&rt, macros, &words, &mut reader, &mut output, &mut faults);
-    let mut reader: &[u8] = b"7";
-    let macros = ByName::new(rt.alloc(), SixFunctions::new());
-    let unwritten = program(
-        &rt,
-        macros,
-        &words,
-        &mut reader,
-        &mut FullWriter,
-        &mut faults,
-    );
-    let mut reader: &[u8] = b"7";
-    let none = Macros::new(rt.alloc(), SixFunctions::new());
-    let missing = program(&rt, none, &words, &mut reader, &mut output, &mut faults);
-    let mut reader: &[u8] = b"7";
-    let macros = ByName::new(rt.alloc(), SixFunctions::new());
-    let helpless = program(
-        &rt,
-        macros,
-        &["store_program", "--help"],
-        &mut reader,
-        &mut FullWriter,
-        &mut faults,
-    );
+    assert!(rt; is_fault(&unread(&rt, &words), b"! 67 INPUT\n"));
+    assert!(rt; is_unwritten(&rt, &words));
+    assert!(rt; is_fault(&helpless(&rt, &words), b"! 63 MISSING-MACRO\n"));
+    assert!(rt; is_unwritten(&rt, &["store_program", "--help"]));
     fs::remove_dir_all(&rt, place.as_str())?;
-    assert_eq!(rt;
-        (
-            unread.code(),
-            unwritten.code(),
-            missing.code(),
-            helpless.code()
-        ),
-        (3, 3, 3, 3)
-    );
-    assert_eq!(rt; output.len(), 0);
-    assert_eq!(rt;
-        faults.as_slice(),
-        b"! 67 INPUT\n! 68 OUTPUT\n! 63 MISSING-MACRO\n! 68 OUTPUT\n".as_slice()
-    );
     Ok(())
 }

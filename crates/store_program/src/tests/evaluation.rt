@@ -1,8 +1,7 @@
 //! Every operator and every refusal of evaluation: forms, and what a session answers to the last of them.
 
-use super::{AMPLE, Trouble, opened};
+use super::{AMPLE, Trouble, closed, opened, serve_bytes};
 use disk_trait::MemoryDisk;
-use prevalence_store::Mode;
 use std::alloc::{AllocError, Global};
 use std::io::Write;
 use std::mem;
@@ -283,14 +282,11 @@ fn lines_of(alloc: Global, forms: &[u8]) -> Result<(Vec<u8>, Vec<u8>), AllocErro
 /// What a session over fresh files answers to a form after others, and whether it was logged.
 fn answered(alloc: Global, before: &[u8], last: &[u8]) -> Result<(Vec<u8>, bool), Trouble> {
     let mut store = opened(alloc, MemoryDisk::new(alloc), AMPLE)?;
-    let mut reader = before;
-    let _ending = store.serve(&mut reader, &mut Vec::new(alloc), Mode::Current, 0);
+    let _served = serve_bytes(alloc, &mut store, before);
     let count = store.record_count();
-    let mut reader = last;
-    let mut answer = Vec::new(alloc);
-    let _ending = store.serve(&mut reader, &mut answer, Mode::Current, 0);
+    let (answer, _ending) = serve_bytes(alloc, &mut store, last);
     let is_logged = store.record_count() > count;
-    let _closed = store.close();
+    let _disk = closed(store);
     Ok((answer, is_logged))
 }
 
@@ -334,20 +330,25 @@ fn failing(alloc: Global, rows: &[u8]) -> Result<Option<Vec<u8>>, Trouble> {
     Ok(None)
 }
 
+/// Forms that make so many readtables beside the first two.
+fn readtables(alloc: Global, count: usize) -> Result<Vec<u8>, Fail> {
+    let mut forms = Vec::new(alloc);
+    for number in 0..count {
+        writeln!(forms, "(COPY-READTABLE NIL :R{number})")?;
+    }
+    Ok(forms)
+}
+
 #[test]
 fn forms_and_their_answers(rt: HostRuntime) -> Result<(), Fail> {
     let alloc = rt.alloc();
     if let Some(forms) = failing(alloc, ROWS.as_bytes())? {
         assert_eq!(rt; forms.as_slice(), b"none".as_slice());
     }
-    // 62 readtables beside the first two, and one more
-    let mut forms = Vec::new(alloc);
-    for number in 0..62 {
-        writeln!(forms, "(COPY-READTABLE NIL :R{number})")?;
-    }
-    let last = b"(COPY-READTABLE NIL :R)\n".as_slice();
-    let (answer, is_logged) = answered(alloc, forms.as_slice(), last)?;
-    assert_eq!(rt; answer.as_slice(), b"! 46 LIMIT\n".as_slice());
+    // one readtable more than there may be
+    let forms = readtables(alloc, 62)?;
+    let (answer, is_logged) = answered(alloc, forms.as_slice(), b"(COPY-READTABLE NIL :R)\n")?;
+    assert!(rt; answer.as_slice() == b"! 46 LIMIT\n".as_slice());
     assert!(rt; !is_logged);
     Ok(())
 }

@@ -1,8 +1,11 @@
 //! Refusals that a session answers.
 
-use super::{AMPLE, BrokenReader, FullWriter, Trouble, fresh_session, opened};
+use super::by_name::ByName;
+use super::{
+    AMPLE, BrokenReader, FullWriter, Trouble, answers_over, closed, left_over, opened, serve,
+};
 use disk_trait::MemoryDisk;
-use prevalence_store::{Ending, Mode};
+use prevalence_store::{Ending, Mode, Store};
 use std::alloc::{AllocError, Global};
 use std::test::Fail;
 
@@ -18,6 +21,14 @@ fn composed(alloc: Global, parts: &[Part]) -> Result<Vec<u8>, AllocError> {
         }
     }
     Ok(text)
+}
+
+/// Whether this text is answered so.
+fn is_answered(alloc: Global, input: &[Part], answers: &[Part]) -> Result<bool, Trouble> {
+    let text = composed(alloc, input)?;
+    let wanted = composed(alloc, answers)?;
+    let found = answers_over(alloc, MemoryDisk::new(alloc), text.as_slice())?;
+    Ok(found == wanted)
 }
 
 #[test]
@@ -46,46 +57,55 @@ fn long_and_deep_texts_are_refused(rt: HostRuntime) -> Result<(), Fail> {
         ),
     ];
     for (input, answers) in cases {
-        let text = composed(alloc, input)?;
-        let wanted = composed(alloc, answers)?;
-        let found = fresh_session(alloc, text.as_slice())?;
-        assert_eq!(rt; found.answers.as_slice(), wanted.as_slice());
+        assert!(rt; is_answered(alloc, input, answers)?, "{input:?}");
     }
     Ok(())
+}
+
+/// NIL in one list, in two and so on up to a hundred, each on a line, and the line of the refusal.
+fn levels(alloc: Global) -> Result<Vec<u8>, AllocError> {
+    let mut lines = Vec::new(alloc);
+    for depth in 1..101 {
+        let line = composed(
+            alloc,
+            &[(b"(", depth), (b"NIL", 1), (b")", depth), (b"\n", 1)],
+        )?;
+        lines.extend_from_slice(line.as_slice())?;
+    }
+    lines.extend_from_slice(b"! 45 VALUE-TOO-DEEP\n")?;
+    Ok(lines)
 }
 
 #[test]
 fn a_value_has_at_most_a_hundred_levels(rt: HostRuntime) -> Result<(), Fail> {
     let alloc = rt.alloc();
     let input = composed(alloc, &[(b"(SETF (GET 'A 'B) (LIST (GET 'A 'B)))\n", 101)])?;
-    let mut wanted = Vec::new(alloc);
-    for depth in 1..101 {
-        let line = composed(
-            alloc,
-            &[(b"(", depth), (b"NIL", 1), (b")", depth), (b"\n", 1)],
-        )?;
-        wanted.extend_from_slice(line.as_slice())?;
-    }
-    wanted.extend_from_slice(b"! 45 VALUE-TOO-DEEP\n")?;
-    let found = fresh_session(alloc, input.as_slice())?;
-    assert_eq!(rt; found.answers.as_slice(), wanted.as_slice());
-    assert_eq!(rt; found.ending, Ending::End);
+    let wanted = levels(alloc)?;
+    let found = left_over(alloc, MemoryDisk::new(alloc), input.as_slice())?;
+    assert!(rt; found.answers == wanted);
+    assert!(rt; found.ending == Ending::End);
     Ok(())
 }
 
-/// How a session over broken streams ends: one whose input is not read, one whose output takes nothing.
+/// How a session ends whose input is not read.
+fn unread(alloc: Global, store: &mut Store<MemoryDisk, ByName>) -> Ending {
+    let mut reader = BrokenReader { has_begun: false };
+    let (_answers, ending) = serve(alloc, store, Mode::Current, &mut reader);
+    ending
+}
+
+/// How a session ends whose output takes nothing.
+fn unwritten(store: &mut Store<MemoryDisk, ByName>) -> Ending {
+    let mut reader: &[u8] = b"7";
+    store.serve(&mut reader, &mut FullWriter, Mode::Current, 0)
+}
+
+/// How these two end, one after the other.
 fn broken_endings(alloc: Global) -> Result<(Ending, Ending), Trouble> {
     let mut store = opened(alloc, MemoryDisk::new(alloc), AMPLE)?;
-    let mut answers = Vec::new(alloc);
-    let unread = store.serve(
-        &mut BrokenReader { has_begun: false },
-        &mut answers,
-        Mode::Current,
-        0,
-    );
-    let mut reader: &[u8] = b"7";
-    let unwritten = store.serve(&mut reader, &mut FullWriter, Mode::Current, 0);
-    let _disk = store.close();
+    let unread = unread(alloc, &mut store);
+    let unwritten = unwritten(&mut store);
+    let _disk = closed(store);
     Ok((unread, unwritten))
 }
 

@@ -1,8 +1,8 @@
 //! Worked sessions: what is read, and what is answered.
 
 use super::turns::Pieces;
-use super::{Session, Trouble, bytes_of, session_of};
-use disk_trait::{Half, MemoryDisk};
+use super::{Session, Trouble, left_over, session_of};
+use disk_trait::MemoryDisk;
 use prevalence_store::{Ending, Mode};
 use std::alloc::Global;
 use std::test::Fail;
@@ -268,30 +268,27 @@ const REFUSED: &[(&[u8], &[u8], u16)] = &[
     (b"\xc3", b"! 2 INVALID-CHARACTER\n", 2),
 ];
 
-/// What differs: the place of a row, and what was answered there.
-type Difference = (usize, Vec<u8>, Ending);
+/// What a row's session leaves over a disk, where its input comes in pieces of at most so many bytes.
+fn left_by(alloc: Global, disk: MemoryDisk, row: &Row, most: usize) -> Result<Session, Trouble> {
+    let mut reader = Pieces {
+        rest: row.input,
+        most,
+    };
+    session_of(alloc, disk, row.mode, &mut reader)
+}
 
-/// The first of these sessions that answers otherwise or ends otherwise, where its input comes in pieces of at most so many
-/// bytes.
-fn difference(alloc: Global, rows: &[Row], most: usize) -> Result<Option<Difference>, Trouble> {
+/// The place of the first of these sessions that answers otherwise or ends otherwise.
+fn difference(alloc: Global, rows: &[Row], most: usize) -> Result<Option<usize>, Trouble> {
     let mut disk = MemoryDisk::new(alloc);
     for (place, row) in rows.iter().enumerate() {
         if row.is_fresh {
             disk = MemoryDisk::new(alloc);
         }
-        let mut reader = Pieces {
-            rest: row.input,
-            most,
-        };
-        let Session {
-            ending,
-            answers,
-            disk: after,
-        } = session_of(alloc, disk, row.mode, &mut reader)?;
-        if answers.as_slice() != row.answers || ending != row.ending {
-            return Ok(Some((place, answers, ending)));
+        let left = left_by(alloc, disk, row, most)?;
+        if left.answers.as_slice() != row.answers || left.ending != row.ending {
+            return Ok(Some(place));
         }
-        disk = after;
+        disk = left.disk;
     }
     Ok(None)
 }
@@ -300,26 +297,31 @@ fn difference(alloc: Global, rows: &[Row], most: usize) -> Result<Option<Differe
 fn sessions_answer_as_worked_out(rt: HostRuntime) -> Result<(), Fail> {
     let alloc = rt.alloc();
     for most in [1, 4_096] {
-        assert_eq!(rt; difference(alloc, READ, most)?, None);
-        assert_eq!(rt; difference(alloc, MACROS, most)?, None);
-        assert_eq!(rt; difference(alloc, WORLDS, most)?, None);
+        for rows in [READ, MACROS, WORLDS] {
+            let place = difference(alloc, rows, most)?;
+            assert!(rt; place.is_none(), "{place:?}");
+        }
     }
     Ok(())
 }
 
+/// Whether the session is answered so and ends so, and nothing is logged.
+fn is_refused(alloc: Global, input: &[u8], answers: &[u8], number: u16) -> Result<bool, Trouble> {
+    let left = left_over(alloc, MemoryDisk::new(alloc), input)?;
+    Ok(
+        left.answers.as_slice() == answers
+            && left.ending == Ending::Reader(number)
+            && left.files.a.len() == 151,
+    )
+}
+
 #[test]
 fn what_the_reader_refuses_ends_a_session(rt: HostRuntime) -> Result<(), Fail> {
-    let alloc = rt.alloc();
     for (input, answers, number) in REFUSED {
-        let mut reader = Pieces {
-            rest: input,
-            most: 4_096,
-        };
-        let mut found = session_of(alloc, MemoryDisk::new(alloc), Mode::Current, &mut reader)?;
-        assert_eq!(rt; found.answers.as_slice(), *answers);
-        assert_eq!(rt; found.ending, Ending::Reader(*number));
-        // nothing was logged
-        assert_eq!(rt; bytes_of(alloc, &mut found.disk, Half::A)?.len(), 151);
+        assert!(rt;
+            is_refused(rt.alloc(), input, answers, *number)?,
+            "{input:?}"
+        );
     }
     Ok(())
 }

@@ -1,9 +1,13 @@
 //! Snapshots that stop, and what a crash then leaves.
 
+use super::by_name::ByName;
 use super::calls::refused;
-use super::{AMPLE, Trouble, bytes_of, disk_of, fresh_session, opened, session_over};
+use super::{
+    AMPLE, Files, Place, Trouble, answers_over, closed, disk_with, files_of, fresh_session, opened,
+    place_of,
+};
 use disk_trait::{Crash, Disk, FuseDisk, Half, MemoryDisk};
-use prevalence_store::Outcome;
+use prevalence_store::{Outcome, Store};
 use std::alloc::Global;
 use std::test::Fail;
 
@@ -11,26 +15,8 @@ const SET: &[u8] = b"(SETF (GET 'A 'B) 8)";
 
 const GET: &[u8] = b"(GET 'A 'B)";
 
-/// The bytes of both halves.
-#[derive(Drop)]
-struct Files {
-    a: Vec<u8>,
-    b: Vec<u8>,
-}
-
-fn files_of(alloc: Global, disk: MemoryDisk) -> Result<Files, Trouble> {
-    let mut disk = disk;
-    let a = bytes_of(alloc, &mut disk, Half::A)?;
-    let b = bytes_of(alloc, &mut disk, Half::B)?;
-    Ok(Files { a, b })
-}
-
-fn disk_with(alloc: Global, files: &Files) -> Result<MemoryDisk, Trouble> {
-    disk_of(alloc, files.a.as_slice(), files.b.as_slice())
-}
-
 /// What an open store tells: the text of its world, the half in use, its generation, and how many records it holds.
-#[derive(Debug, PartialEq, Eq, Drop)]
+#[derive(Drop)]
 struct Look {
     text: Vec<u8>,
     half: Half,
@@ -38,27 +24,37 @@ struct Look {
     records: u64,
 }
 
-/// What a store tells that is opened over a disk, and the disk after one more form.
-fn looked_at(alloc: Global, disk: MemoryDisk) -> Result<(Look, MemoryDisk), Trouble> {
-    let mut store = opened(alloc, disk, AMPLE)?;
-    let written = match store.world() {
-        Some(world) => snapshot_text::write(alloc, world).ok(),
-        None => None,
-    };
-    let (half, generation) = (store.half(), store.generation());
-    let records = store.record_count();
-    let _number = refused(&mut store, SET);
-    let (disk, _macros) = store.close();
-    let Some(text) = written else {
-        return Err(Trouble::Memory);
-    };
-    let look = Look {
+/// What an open store tells.
+fn told_by(alloc: Global, store: &Store<MemoryDisk, ByName>) -> Option<Look> {
+    let text = snapshot_text::write(alloc, store.world()?).ok()?;
+    let (half, generation, records) = place_of(store);
+    Some(Look {
         text,
         half,
         generation,
         records,
-    };
-    Ok((look, disk))
+    })
+}
+
+/// What a store tells that is opened over a disk, and the disk after one more form.
+fn looked_at(alloc: Global, disk: MemoryDisk) -> Result<(Look, MemoryDisk), Trouble> {
+    let mut store = opened(alloc, disk, AMPLE)?;
+    let told = told_by(alloc, &store);
+    let _number = refused(&mut store, SET);
+    let disk = closed(store);
+    match told {
+        Some(look) => Ok((look, disk)),
+        None => Err(Trouble::Memory),
+    }
+}
+
+/// What a snapshot is answered, as the number of its refusal; 0 where it is taken.
+fn snapshot_of<D: Disk>(store: &mut Store<D, ByName>) -> u16 {
+    match store.snapshot() {
+        Outcome::Snapshotted => 0,
+        Outcome::Refused(number) => number,
+        Outcome::Accepted(_) => 1,
+    }
 }
 
 /// What a snapshot and then a form are answered over a device that passes so many calls, as numbers of refusals; 0 where there is
@@ -74,24 +70,24 @@ fn stopped(
         Err(Trouble::Unopened(60)) => return Ok(None),
         Err(trouble) => return Err(trouble),
     };
-    let first = match store.snapshot() {
-        Outcome::Snapshotted => 0,
-        Outcome::Refused(number) => number,
-        Outcome::Accepted(_) => 1,
-    };
+    let first = snapshot_of(&mut store);
     let next = refused(&mut store, GET).unwrap_or(0);
-    let (disk, _macros) = store.close();
-    Ok(Some((first, next, disk.into_inner())))
+    Ok(Some((first, next, closed(store).into_inner())))
+}
+
+/// The disk after a snapshot and one more form.
+fn with_older(alloc: Global, disk: MemoryDisk) -> Result<MemoryDisk, Trouble> {
+    let mut store = opened(alloc, disk, AMPLE)?;
+    let _number = snapshot_of(&mut store);
+    let _number = refused(&mut store, b"(SETF (GET 'A 'C) 7)");
+    Ok(closed(store))
 }
 
 /// Files whose half A is in use, and half B fresh; or half B in use, and half A older.
 fn start(alloc: Global, has_older: bool) -> Result<Files, Trouble> {
     let mut disk = fresh_session(alloc, b"(SETF (GET 'A 'B) 7)")?.disk;
     if has_older {
-        let mut store = opened(alloc, disk, AMPLE)?;
-        let _outcome = store.snapshot();
-        let _number = refused(&mut store, b"(SETF (GET 'A 'C) 7)");
-        disk = store.close().0;
+        disk = with_older(alloc, disk)?;
     }
     files_of(alloc, disk)
 }
@@ -104,18 +100,21 @@ fn left_by(alloc: Global, files: &Files, calls: u64) -> Result<Files, Trouble> {
     }
 }
 
+/// What a snapshot is answered over a device that passes so many calls; `None` where the store is not opened.
+fn answer_of(alloc: Global, files: &Files, calls: u64) -> Result<Option<u16>, Trouble> {
+    Ok(stopped(alloc, files, calls)?.map(|(first, _, _)| first))
+}
+
 /// How many device calls an opening takes, and how many it takes with a snapshot.
 fn calls_of(alloc: Global, files: &Files) -> Result<(u64, u64), Trouble> {
     let mut opening = None;
     for calls in 0..64 {
-        match stopped(alloc, files, calls)? {
-            None => {}
-            Some((0, _, _)) => return Ok((opening.unwrap_or(calls), calls)),
-            Some(_) => {
-                if opening.is_none() {
-                    opening = Some(calls);
-                }
-            }
+        let answer = answer_of(alloc, files, calls)?;
+        if answer.is_some() && opening.is_none() {
+            opening = Some(calls);
+        }
+        if answer == Some(0) {
+            return Ok((opening.unwrap_or(calls), calls));
         }
     }
     Err(Trouble::Device)
@@ -129,35 +128,84 @@ fn crash(disk: &mut MemoryDisk, kind: Crash) -> Result<(), Trouble> {
     Ok(())
 }
 
-/// The answers to a snapshot that stops and to a form after it, what is found after a crash, and what is found in the property
-/// after one more form and another crash.
+/// The answers to a snapshot that stops and to a form after it, and the disk after a crash.
 fn crashed(
     alloc: Global,
     files: &Files,
     calls: u64,
     kind: Crash,
-) -> Result<((u16, u16), Look, Vec<u8>), Trouble> {
+) -> Result<(u16, u16, MemoryDisk), Trouble> {
     let Some((first, next, mut disk)) = stopped(alloc, files, calls)? else {
         return Err(Trouble::Device);
     };
     crash(&mut disk, kind)?;
-    let (found, mut disk) = looked_at(alloc, disk)?;
-    crash(&mut disk, Crash::Lost)?;
-    let answers = session_over(alloc, disk, GET)?.answers;
-    Ok(((first, next), found, answers))
+    Ok((first, next, disk))
 }
 
-/// The first stop of a snapshot that leaves something else than it should: the half in use as it was, but where the last write had
+/// What is found on a disk, and what is in the property after one more form and a crash.
+fn found_on(alloc: Global, disk: MemoryDisk) -> Result<(Look, Vec<u8>), Trouble> {
+    let (found, mut disk) = looked_at(alloc, disk)?;
+    crash(&mut disk, Crash::Lost)?;
+    let answers = answers_over(alloc, disk, GET)?;
+    Ok((found, answers))
+}
+
+/// Whether the world of this text is found on a disk, and this half in use; and then one more form is kept.
+fn is_found(alloc: Global, disk: MemoryDisk, text: &[u8], place: Place) -> Result<bool, Trouble> {
+    let (found, answers) = found_on(alloc, disk)?;
+    Ok(
+        found.text.as_slice() == text
+            && (found.half, found.generation, found.records) == place
+            && answers.as_slice() == b"8\n".as_slice(),
+    )
+}
+
+/// The half in use of these files, and the one after a snapshot, where no text of a world is changed.
+#[derive(Clone, Copy)]
+struct Turn<'a> {
+    text: &'a [u8],
+    old: Place,
+    new: Place,
+    end: u64,
+}
+
+/// Whether a snapshot of which so many calls pass leaves what it should: the half in use as it was, but where the last write had
 /// passed and the crash kept it, or all calls had.
+fn leaves(
+    alloc: Global,
+    files: &Files,
+    turn: &Turn<'_>,
+    calls: u64,
+    kind: Crash,
+) -> Result<bool, Trouble> {
+    let is_kept = matches!(kind, Crash::Kept | Crash::Filled(0xa5));
+    let is_taken = calls == turn.end || (is_kept && calls.saturating_add(1) == turn.end);
+    let (first, next, disk) = crashed(alloc, files, calls, kind)?;
+    if (first, next) != (if calls == turn.end { (0, 0) } else { (60, 61) }) {
+        return Ok(false);
+    }
+    is_found(
+        alloc,
+        disk,
+        turn.text,
+        if is_taken { turn.new } else { turn.old },
+    )
+}
+
+/// The first stop of a snapshot that leaves something else than it should.
 fn difference(alloc: Global, files: &Files) -> Result<Option<(u64, Crash)>, Trouble> {
     let (before, _) = looked_at(alloc, disk_with(alloc, files)?)?;
-    let old = (before.half, before.generation, before.records);
-    let new = (
-        before.half.opposite(),
-        before.generation.saturating_add(1),
-        0,
-    );
     let (opening, end) = calls_of(alloc, files)?;
+    let turn = Turn {
+        text: before.text.as_slice(),
+        old: (before.half, before.generation, before.records),
+        new: (
+            before.half.opposite(),
+            before.generation.saturating_add(1),
+            0,
+        ),
+        end,
+    };
     for calls in opening..end.saturating_add(1) {
         for kind in [
             Crash::Kept,
@@ -165,15 +213,7 @@ fn difference(alloc: Global, files: &Files) -> Result<Option<(u64, Crash)>, Trou
             Crash::Filled(0xa5),
             Crash::Filled(0),
         ] {
-            let is_kept = matches!(kind, Crash::Kept | Crash::Filled(0xa5));
-            let is_taken = calls == end || (is_kept && calls.saturating_add(1) == end);
-            let (outcome, found, answers) = crashed(alloc, files, calls, kind)?;
-            let place = (found.half, found.generation, found.records);
-            if found.text != before.text
-                || place != (if is_taken { new } else { old })
-                || outcome != (if calls == end { (0, 0) } else { (60, 61) })
-                || answers.as_slice() != b"8\n".as_slice()
-            {
+            if !leaves(alloc, files, &turn, calls, kind)? {
                 return Ok(Some((calls, kind)));
             }
         }
@@ -190,7 +230,8 @@ fn a_snapshot_that_stops_changes_no_world(rt: HostRuntime) -> Result<(), Fail> {
     // a half with the whole text of a world, whose gate was not opened
     let stopped = left_by(alloc, &fresh, end.saturating_sub(2))?;
     for files in [fresh, start(alloc, true)?, stopped] {
-        assert_eq!(rt; difference(alloc, &files)?, None);
+        let found = difference(alloc, &files)?;
+        assert!(rt; found.is_none(), "{found:?}");
     }
     Ok(())
 }

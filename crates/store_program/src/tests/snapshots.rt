@@ -1,9 +1,13 @@
 //! Snapshots: when a session takes them, what they leave, and steps one after the other.
 
-use super::{AMPLE, Trouble, bytes_of, opened, session_of};
+use super::by_name::ByName;
+use super::{
+    AMPLE, Files, Left, Place, Trouble, closed, disk_with, files_of, left_of, opened, place_of,
+    session_of,
+};
 use disk_trait::{Half, MemoryDisk};
-use prevalence_store::{Ending, Mode, Outcome, Step};
-use std::alloc::Global;
+use prevalence_store::{Ending, Mode, Outcome, Step, Store};
+use std::alloc::{AllocError, Global};
 use std::test::Fail;
 
 /// A session over fresh files of this limit: what it answers, how it ends, and the half in use then.
@@ -13,7 +17,7 @@ struct Case {
     input: &'static [u8],
     answers: &'static [u8],
     ending: Ending,
-    state: (Half, u64, u64),
+    state: Place,
 }
 
 const CASES: &[Case] = &[
@@ -90,7 +94,7 @@ const CASES: &[Case] = &[
 ];
 
 /// What a session answers, how it ends, and the half in use then.
-fn served(alloc: Global, case: &Case) -> Result<(Vec<u8>, Ending, (Half, u64, u64)), Trouble> {
+fn served(alloc: Global, case: &Case) -> Result<(Vec<u8>, Ending, Place), Trouble> {
     let mut store = opened(alloc, MemoryDisk::new(alloc), case.limit)?;
     let mut reader = case.input;
     let mut answers = Vec::new(alloc);
@@ -100,9 +104,15 @@ fn served(alloc: Global, case: &Case) -> Result<(Vec<u8>, Ending, (Half, u64, u6
         Mode::Current,
         case.snapshot_every,
     );
-    let state = (store.half(), store.generation(), store.record_count());
-    let _closed = store.close();
+    let state = place_of(&store);
+    let _disk = closed(store);
     Ok((answers, ending, state))
+}
+
+/// Whether the session of a case does what the case wants.
+fn is_as_wanted(alloc: Global, case: &Case) -> Result<bool, Trouble> {
+    let (answers, ending, state) = served(alloc, case)?;
+    Ok(answers.as_slice() == case.answers && ending == case.ending && state == case.state)
 }
 
 const SEVEN: Step<'static> = Step::Form(Mode::Current, b"(SETF (GET 'A 'B) 7)");
@@ -112,21 +122,40 @@ const EIGHT: Step<'static> = Step::Form(Mode::Current, b"(SETF (GET 'A 'B) 8)");
 const GET: Step<'static> = Step::Form(Mode::Current, b"(GET 'A 'B)");
 
 /// The outcomes of steps over fresh files, as numbers: 0 where a form is accepted with a value other than 7, 7 where with 7, 1
-/// where a snapshot was taken, and else that of the refusal; and the bytes of the halves after them.
-fn ran(alloc: Global, limit: u64, steps: &[Step<'_>]) -> Result<(Vec<u16>, [usize; 2]), Trouble> {
+/// where a snapshot was taken, and else that of the refusal; and the files after them.
+fn ran(alloc: Global, limit: u64, steps: &[Step<'_>]) -> Result<(Vec<u16>, Files), Trouble> {
     let mut store = opened(alloc, MemoryDisk::new(alloc), limit)?;
-    let outcomes = store.run(steps);
-    let (mut disk, _macros) = store.close();
+    let numbers = numbers_of(alloc, &mut store, steps);
+    let files = files_of(alloc, closed(store))?;
+    Ok((numbers?, files))
+}
+
+fn numbers_of(
+    alloc: Global,
+    store: &mut Store<MemoryDisk, ByName>,
+    steps: &[Step<'_>],
+) -> Result<Vec<u16>, AllocError> {
+    let outcomes = store.run(steps)?;
     let mut numbers = Vec::new(alloc);
-    for outcome in &outcomes? {
-        let number = number_of(outcome);
-        if numbers.push(number).is_err() {
-            return Err(Trouble::Memory);
-        }
+    for outcome in &outcomes {
+        numbers.push(number_of(outcome))?;
     }
-    let a = bytes_of(alloc, &mut disk, Half::A)?.len();
-    let b = bytes_of(alloc, &mut disk, Half::B)?.len();
-    Ok((numbers, [a, b]))
+    Ok(numbers)
+}
+
+/// Whether the first of five steps, so many, have these outcomes, and leave halves of these sizes.
+fn run_so(
+    alloc: Global,
+    count: usize,
+    numbers: &[u16],
+    sizes: [usize; 2],
+) -> Result<bool, Trouble> {
+    let steps = [SEVEN, EIGHT, GET, Step::Snapshot, EIGHT];
+    let Some(steps) = steps.get(..count) else {
+        return Ok(false);
+    };
+    let (found, files) = ran(alloc, 202, steps)?;
+    Ok(found.as_slice() == numbers && [files.a.len(), files.b.len()] == sizes)
 }
 
 fn number_of(outcome: &Outcome) -> u16 {
@@ -146,12 +175,9 @@ fn number_of(outcome: &Outcome) -> u16 {
 #[test]
 fn snapshots_are_taken_in_turn_and_for_room(rt: HostRuntime) -> Result<(), Fail> {
     let alloc = rt.alloc();
-    for case in CASES {
-        let (answers, ending, state) = served(alloc, case)?;
-        assert_eq!(rt; answers.as_slice(), case.answers);
-        assert_eq!(rt; (ending, state), (case.ending, case.state));
+    for (place, case) in CASES.iter().enumerate() {
+        assert!(rt; is_as_wanted(alloc, case)?, "{place}");
     }
-    let steps = [SEVEN, EIGHT, GET, Step::Snapshot, EIGHT];
     let cases: [(usize, &[u16], [usize; 2]); 5] = [
         (0, &[], [151, 0]),
         (1, &[7], [177, 0]),
@@ -160,42 +186,42 @@ fn snapshots_are_taken_in_turn_and_for_room(rt: HostRuntime) -> Result<(), Fail>
         (5, &[7, 64, 7, 1, 0], [177, 189]),
     ];
     for (count, numbers, sizes) in cases {
-        let (found, left) = ran(alloc, 202, &steps[..count])?;
-        assert_eq!(rt; found.as_slice(), numbers);
-        assert_eq!(rt; left, sizes);
+        assert!(rt; run_so(alloc, count, numbers, sizes)?, "{count}");
     }
     Ok(())
+}
+
+/// Files after a form that makes `(` whitespace, and a snapshot; and the number of its outcome.
+fn snapshotted(alloc: Global) -> Result<(Option<u16>, Files), Trouble> {
+    let form = Step::Form(Mode::Current, b"(SET-SYNTAX-FROM-CHAR #\\( #\\Space)");
+    let (numbers, files) = ran(alloc, AMPLE, &[form, Step::Snapshot])?;
+    Ok((numbers.get(1).copied(), files))
+}
+
+/// What a session over these files leaves, in a mode.
+fn left_in(alloc: Global, files: &Files, mode: Mode, input: &[u8]) -> Result<Left, Trouble> {
+    let mut reader = input;
+    let found = session_of(alloc, disk_with(alloc, files)?, mode, &mut reader)?;
+    left_of(alloc, found)
 }
 
 #[test]
 fn a_snapshot_is_read_as_it_was_written(rt: HostRuntime) -> Result<(), Fail> {
     let alloc = rt.alloc();
-    let mut store = opened(alloc, MemoryDisk::new(alloc), AMPLE)?;
-    let form = Step::Form(Mode::Current, b"(SET-SYNTAX-FROM-CHAR #\\( #\\Space)");
-    let outcomes = store.run(&[form, Step::Snapshot]);
-    let (mut disk, _macros) = store.close();
-    let taken = outcomes?.get(1).map(number_of);
-    assert_eq!(rt; taken, Some(1));
-    let cases: [(Mode, &[u8], &[u8], Ending); 2] = [
-        (
-            Mode::Current,
-            b"(GET 'A 'B)\n",
-            b"! 30 NOT-A-FORM\nA\nB\n! 4 STRAY-CLOSE\n",
-            Ending::Reader(4),
-        ),
-        (
-            Mode::Rescue,
-            b"(COPY-READTABLE NIL :USER)\n",
-            b":USER\n",
-            Ending::End,
-        ),
-    ];
-    for (mode, input, answers, ending) in cases {
-        let mut reader = input;
-        let found = session_of(alloc, disk, mode, &mut reader)?;
-        assert_eq!(rt; found.answers.as_slice(), answers);
-        assert_eq!(rt; found.ending, ending);
-        disk = found.disk;
-    }
+    let (taken, files) = snapshotted(alloc)?;
+    assert!(rt; taken == Some(1));
+    let current = left_in(alloc, &files, Mode::Current, b"(GET 'A 'B)\n")?;
+    assert!(rt;
+        current.answers.as_slice() == b"! 30 NOT-A-FORM\nA\nB\n! 4 STRAY-CLOSE\n".as_slice()
+    );
+    assert!(rt; current.ending == Ending::Reader(4));
+    let rescue = left_in(
+        alloc,
+        &current.files,
+        Mode::Rescue,
+        b"(COPY-READTABLE NIL :USER)\n",
+    )?;
+    assert!(rt; rescue.answers.as_slice() == b":USER\n".as_slice());
+    assert!(rt; rescue.ending == Ending::End);
     Ok(())
 }

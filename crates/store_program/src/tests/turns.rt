@@ -1,11 +1,11 @@
 //! How a session takes its input.
 
 use super::by_name::ByName;
-use super::{bytes_of, session_of};
+use super::{Trouble, left_of, session_of};
 use crate::meaning::SixFunctions;
 use crate::program::{report_on, serve_on};
 use crate::words::Report;
-use disk_trait::{Half, MemoryDisk};
+use disk_trait::MemoryDisk;
 use prevalence_store::{Ending, Mode};
 use std::alloc::Global;
 use std::cell::Cell;
@@ -142,19 +142,26 @@ fn a_form_is_answered_before_the_next_read(rt: HostRuntime) -> Result<(), Fail> 
 const BRACKETS: &[u8] =
     b"(SET-MACRO-CHARACTER #\\[ :SQUARE)\n(SET-MACRO-CHARACTER #\\] :CLOSE)\n(SETF (GET 'A 'V) [1 2])\n";
 
+/// Whether the text is answered in pieces of at most so many bytes.
+fn is_answered(alloc: Global, most: usize) -> Result<bool, Trouble> {
+    let mut reader = Pieces {
+        rest: BRACKETS,
+        most,
+    };
+    let session = session_of(alloc, MemoryDisk::new(alloc), Mode::Current, &mut reader)?;
+    let left = left_of(alloc, session)?;
+    // 151 bytes, and 6 with the text of each form
+    Ok(
+        left.answers.as_slice() == b"T\nT\n#(1 2)\n".as_slice()
+            && left.ending == Ending::End
+            && left.files.a.len() == 258,
+    )
+}
+
 #[test]
 fn pieces_make_no_difference(rt: HostRuntime) -> Result<(), Fail> {
-    let alloc = rt.alloc();
     for most in [1, 7, 4_096] {
-        let mut reader = Pieces {
-            rest: BRACKETS,
-            most,
-        };
-        let mut found = session_of(alloc, MemoryDisk::new(alloc), Mode::Current, &mut reader)?;
-        assert_eq!(rt; found.answers.as_slice(), b"T\nT\n#(1 2)\n".as_slice());
-        assert_eq!(rt; found.ending, Ending::End);
-        // 151 bytes, and 6 with the text of each form
-        assert_eq!(rt; bytes_of(alloc, &mut found.disk, Half::A)?.len(), 258);
+        assert!(rt; is_answered(rt.alloc(), most)?, "{most}");
     }
     Ok(())
 }
