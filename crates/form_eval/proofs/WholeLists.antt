@@ -1,6 +1,6 @@
 -- Changes of the packages by a list that was looked at before are refused for nothing but a name conflict.
 --     export_whole, import_whole, use_whole      for each of the three operators
-use Rattle.std.proofs.Common.{◌≡◌, ◌≢◌, Bool, true, false, cond, not, ◌||◌, List, [], ◌∷◌, All, Option, Some, None, map, Result, Ok, Err, bytes_eq, refl, sym, ap, subst, ◌∙◌}
+use Rattle.std.proofs.Common.{◌≡◌, Bool, true, false, cond, not, ◌||◌, List, [], ◌∷◌, All, Some, None, map, Result, Ok, Err, bytes_eq, refl, sym, ap, subst, ◌∙◌}
 use Rattle.std.specs.List.{list_all, list_any}
 use Rattle.std.specs.Option.{option_map_or}
 use Rattle.std.specs.FinMap as finite
