@@ -1,6 +1,7 @@
 -- EXPORT, IMPORT and USE-PACKAGE of arguments of their kinds.
 --     export_is, import_is, use_is      they are changes, one after the other
 --     export_not_found      what is refused before any change
+--     IsConflictAtMost      changes that are refused for nothing but a name conflict
 --     so_far      what a call tells where memory ran out among the changes
 use Rattle.std.proofs.Common.{◌≡◌, ◌+◌, ℕ, Bool, true, false, ◌||◌, cond, not, List, ◌∷◌, Result, Ok, Err, Option, Some, IsOk, take, length, bytes_eq, refl, sym, ap, subst, ◌∙◌, arith}
 use Rattle.std.specs.List.{list_all, list_any}
@@ -18,14 +19,14 @@ use Rattle.plist_state.specs.Properties.{Symbol}
 use Rattle.plist_state.specs.State.{State}
 use Rattle.plist_state.specs.Changes.{with_packages}
 use Rattle.form_eval.specs.declared.error.EvaluationError.{EvaluationError}
-use Rattle.form_eval.specs.declared.error.EvaluationError.TheVariants.{Refused}
+use Rattle.form_eval.specs.declared.error.EvaluationError.TheVariants.{Refused, OutOfMemory as NoMemory}
 use Rattle.form_eval.specs.declared.evaluated.Evaluated.{Evaluated}
 use Rattle.form_eval.specs.Kinds.{a_symbol, a_name, one_or_each, given_or}
 use Rattle.form_eval.specs.Members.{AreMembers}
 use Rattle.form_eval.specs.Outcomes.{Outcome, of_kind}
 use Rattle.form_eval.specs.Properties.{t}
 use Rattle.form_eval.specs.Packages.{export, import, use_package, use_all, in_package, unlocked, changed, one_by_one, packages_named}
-use Rattle.form_eval.specs.Evaluated.{Makes, TellsChange, Leaves, GivesSoFar}
+use Rattle.form_eval.specs.Evaluated.{Makes, TellsChange, Leaves, MayConflict, RanOutAmong, GivesSoFar}
 
 -- the first argument is of its kind, and the package is there
 opened : {A : Type 0} (on : A → Name → Outcome Object) (s : State) (rest : List Object) (o : Option A) (ys : A) (q p : Name) → o ≡ Some ys → given_or a_name s.current_package rest ≡ Some q → package_named s.packages q ≡ Some p
@@ -79,6 +80,10 @@ pub use_is : (s : State) (x : Object) (rest : List Object) (ns qs : List Name) (
 use_is s x rest ns qs q p kind given each named free others =
     use_open s x rest ns qs q p kind given each named free ∙ ap (λ b. cond b (Err PACKAGE_IS_LOCKED) (changed s (uses s p qs))) others
 
+abbrev pub IsConflictAtMost : {A : Type 0} → Result A PackageError → Type 0
+IsConflictAtMost (Ok x) = Unit {0}
+IsConflictAtMost (Err e) = e ≡ NameConflict
+
 -- ---- what such a call tells
 tells_value : (s u : State) (v : Table) (wrote : Bool) (e : Evaluated) → object_of e.value ≡ t → e.wrote ≡ wrote → u ≡ with_packages s v → changed s (Ok (v, wrote)) ≡ Ok (record { value = object_of e.value; state = u; wrote = e.wrote })
 tells_value s u v wrote e value is left =
@@ -89,7 +94,7 @@ refused : (f : List Object → State → Outcome Object) (xs : List Object) (s u
 refused f xs s u number error said is = subst (λ e. GivesSoFar f xs s (Err e) u) (sym is) said
 
 module _ {A : Type 0} (f : List Object → State → Outcome Object) (x : Object) (rest : List Object) (s u : State) (members : List Object) (said : List A → Result (Table × Bool) PackageError) (ys : List A)
-    (are : AreMembers x (Some members)) (whole : f (x ∷ rest) s ≡ changed s (said ys)) (front : (k : ℕ) → f (list_of (take k members) ∷ rest) s ≡ changed s (said (take k ys))) (left : u ≡ with_packages s u.packages) where
+    (are : AreMembers x (Some members)) (whole : f (x ∷ rest) s ≡ changed s (said ys)) (front : (k : ℕ) → f (list_of (take k members) ∷ rest) s ≡ changed s (said (take k ys))) (conflict : IsConflictAtMost (said ys)) (left : u ≡ with_packages s u.packages) where
   leaves : (k : ℕ) (wrote : Bool) → said (take k ys) ≡ Ok (u.packages, wrote) → Leaves (f (list_of (take k members) ∷ rest) s) u
   leaves k wrote e = subst (λ o. Leaves o u) (sym (front k ∙ ap (changed s) e)) (sym left)
 
@@ -100,6 +105,13 @@ module _ {A : Type 0} (f : List Object → State → Outcome Object) (x : Object
   next : (k : ℕ) → IsOk (said (take k ys)) → IsOk (f (list_of (take k members) ∷ rest) s)
   next k h = subst IsOk (sym (front k)) (good (said (take k ys)) h)
 
+  only : (r : Result (Table × Bool) PackageError) → IsConflictAtMost r → MayConflict (changed s r)
+  only (Ok p) h = tt
+  only (Err e) h = ap number_of h
+
+  ran_out : (error : EvaluationError) → RanOutAmong f (x ∷ rest) s u → error ≡ NoMemory → GivesSoFar f (x ∷ rest) s (Err error) u
+  ran_out error among is = subst (λ e. GivesSoFar f (x ∷ rest) s (Err e) u) (sym is) (subst MayConflict (sym whole) (only (said ys) conflict), among)
+
   refused_by : (e : PackageError) (error : EvaluationError) → said ys ≡ Err e → error ≡ Refused (number_of e) → GivesSoFar f (x ∷ rest) s (Err error) u
   refused_by e error h is = refused f (x ∷ rest) s u (number_of e) error (whole ∙ ap (changed s) h) is
 
@@ -108,10 +120,9 @@ module _ {A : Type 0} (f : List Object → State → Outcome Object) (x : Object
   so_far (Ok wrote) (Err error) done tells =
       let all : said (take (length ys) ys) ≡ Ok (u.packages, wrote) = ap said (take_all (length ys) ys (omega arith)) ∙ done in
       let more : said (take (length ys + 1) ys) ≡ Ok (u.packages, wrote) = ap said (take_all (length ys + 1) ys (omega arith)) ∙ done in
-      subst (λ e. GivesSoFar f (x ∷ rest) s (Err e) u) (sym tells)
-      (members, are, record { count = length ys; left = leaves (length ys) wrote all; next = next (length ys + 1) (subst IsOk (sym more) refl) })
+      ran_out error (members, are, record { count = length ys; left = leaves (length ys) wrote all; next = next (length ys + 1) (subst IsOk (sym more) refl) }) tells
   so_far (Err NoRoom) (Err error) ran tells =
-      subst (λ e. GivesSoFar f (x ∷ rest) s (Err e) u) (sym tells) (members, are, record { count = ran.0; left = leaves ran.0 ran.1 ran.2; next = next (ran.0 + 1) ran.3 })
+      ran_out error (members, are, record { count = ran.0; left = leaves ran.0 ran.1 ran.2; next = next (ran.0 + 1) ran.3 }) tells
   so_far (Err NoPackage) (Err error) h tells = refused_by NoPackage error h tells
   so_far (Err NotExternal) (Err error) h tells = refused_by NotExternal error h tells
   so_far (Err LockedPackage) (Err error) h tells = refused_by LockedPackage error h tells

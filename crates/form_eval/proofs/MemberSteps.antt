@@ -1,6 +1,7 @@
 -- Members of a list of arguments, each of a kind.
 --     each_found, front_found      what they are, all of them and those of a front
 --     no_member      one is not of the kind
+--     neither      no part of a disjunction
 --     all_front, any_front      what holds of a list holds of a front of it
 --     packages_found, packages_front, no_package      packages by their names
 use Rattle.std.proofs.Common.{◌≡◌, ◌<◌, ℕ, Bool, true, false, cond, ◌||◌, List, [], ◌∷◌, Option, Some, None, option_map, option_and_then, unwrap_or, map, take, length, get_or, All, refl, sym, ap, ◌∙◌, suc, zero, arith}
@@ -55,7 +56,7 @@ all_front test (suc k) [] all = refl
 all_front test (suc k) (x ∷ xs) all =
     let both = and_parts (test x) (list_all test xs) all in and_from (test x) (list_all test (take k xs)) both.0 (all_front test k xs both.1)
 
-neither : (a b : Bool) → (a || b) ≡ false → (a ≡ false) × (b ≡ false)
+pub neither : (a b : Bool) → (a || b) ≡ false → (a ≡ false) × (b ≡ false)
 neither true b h = absurd (false≢true (sym h))
 neither false b h = (refl, h)
 

@@ -29,7 +29,7 @@ use Rattle.form_eval.proofs.Storable.{symbol_is_value, t_value, text_value, symb
 use Rattle.form_eval.proofs.SoundProperties.{IsSafe, refused, first_of}
 
 -- the package that a name stands for is there
-named_there : (u : Table) (n p : Name) → package_named u n ≡ Some p → IsPackage u p
+pub named_there : (u : Table) (n p : Name) → package_named u n ≡ Some p → IsPackage u p
 named_there u n p e =
     elim (finite.contains_key u (full_name n)) as (λ b. finite.contains_key u (full_name n) ≡ b → cond b (Some (full_name n)) None ≡ Some p → IsPackage u p) [
       | true ↦ λ there same. subst (IsPackage u) (same_some (full_name n) p same) there

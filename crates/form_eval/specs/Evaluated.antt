@@ -1,7 +1,7 @@
 -- What the calls of the evaluator answer.
 use Rattle.std.specs.Prelude.{◌≡◌, ◌⊎◌, ℕ, ◌+◌, Bool, true, false, List, [], ◌∷◌, map, take, All, Option, Some, None, IsSome, unwrap_or, Result, Ok, Err, IsOk}
 use Rattle.lisp_object.specs.Object.{Object, symbol, nil, list_of}
-use Rattle.lisp_object.specs.declared.refusal.TheConstants.{ARGUMENT_KIND, NO_SUCH_PACKAGE, PACKAGE_IS_LOCKED, NO_READTABLE, NO_MACRO}
+use Rattle.lisp_object.specs.declared.refusal.TheConstants.{ARGUMENT_KIND, NO_SUCH_PACKAGE, PACKAGE_IS_LOCKED, NAME_CONFLICT, NO_READTABLE, NO_MACRO}
 use Rattle.lisp_object.specs.declared.datum.Datum.{Datum}
 use Rattle.lisp_object.specs.Datum.{object_of, is_proper}
 use Rattle.package_table.specs.declared.error.PackageError.{PackageError}
@@ -99,12 +99,18 @@ abbrev pub RanOutAmong : (List Object → State → Outcome Object) → List Obj
 RanOutAmong f [] old new = ⊥
 RanOutAmong f (x ∷ rest) old new = (members : List Object) × AreMembers x (Some members) × RanOut (λ xs. f (list_of xs ∷ rest) old) members new
 
--- Such an operator answers what the definition says. It changes the packages for one member after the other, and memory runs
--- out only where the definition refuses nothing of the members up to the one at which it ran out.
+-- an outcome that is refused for nothing but a name conflict
+abbrev pub MayConflict : Outcome Object → Type 0
+MayConflict (Ok d) = Unit {0}
+MayConflict (Err code) = code ≡ NAME_CONFLICT
+
+-- Such an operator answers what the definition says. It changes the packages for one member after the other. Memory runs out
+-- only where the definition refuses the whole list for nothing but a name conflict, and refuses nothing of the members up to the
+-- one at which it ran out.
 abbrev pub GivesSoFar : (List Object → State → Outcome Object) → List Object → State → Result Evaluated EvaluationError → State → Type 0
 GivesSoFar f xs old (Ok e) new = f xs old ≡ Ok (done e new)
 GivesSoFar f xs old (Err (Refused code)) new = f xs old ≡ Err code
-GivesSoFar f xs old (Err OutOfMemory) new = RanOutAmong f xs old new
+GivesSoFar f xs old (Err OutOfMemory) new = MayConflict (f xs old) × RanOutAmong f xs old new
 
 -- what was found; or where there is nothing, the refusal of this number
 abbrev pub FoundOr : {A B : Type 0} → ℕ → (A → B) → Result A EvaluationError → Option B → Type 0

@@ -16,8 +16,8 @@
 //!   are built; `changes`: changes of the packages, one after the other; `owner`: the name of a package that changes
 //!
 //! Each operator answers its definition of the values of its arguments. `Gives` (specs/Evaluated.antt) also says that memory
-//! runs out only where nothing is refused; `GivesSoFar`, that it runs out only where nothing is refused of the members of a list
-//! up to one of them; `Answers` says nothing of it.
+//! runs out only where nothing is refused; `GivesSoFar`, that it runs out only where a list is refused for nothing but a name
+//! conflict, and nothing of its members up to one of them; `Answers` says nothing of it.
 #![tactic(auto)]
 
 mod arguments;

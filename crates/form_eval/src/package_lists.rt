@@ -67,6 +67,7 @@ pub(crate) fn export(
     if !finds_all(world.packages(), package, symbols) {
         return Err(Refused(NOT_ACCESSIBLE));
     }
+    world.soundness();
     let made = export_all(world, package, symbols);
     changed(alloc, made)
 }
@@ -82,10 +83,11 @@ pub(crate) fn import(
     ensures proper { IfOk result (λ e. is_proper e.value ≡ true) }
     ensures marked { world.new.1 ≡ world.old.1 }
 {
-    let (symbols, rest) = one_and_rest(values)?;
-    let symbols = lists::symbols(symbols)?;
+    let (imported, rest) = one_and_rest(values)?;
+    let imported = lists::symbols(imported)?;
     let package = unlocked(world, name_or(rest, world.current_package())?)?;
-    let made = import_all(world, package.name(), symbols);
+    world.soundness();
+    let made = import_all(world, package.name(), imported);
     changed(alloc, made)
 }
 
@@ -136,6 +138,7 @@ pub(crate) fn use_package(
     if has_keyword(used) {
         return Err(Refused(PACKAGE_IS_LOCKED));
     }
+    world.soundness();
     let made = use_each(world, package.name(), used);
     changed(alloc, made)
 }

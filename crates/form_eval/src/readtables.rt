@@ -1,10 +1,13 @@
 //! The operators on readtables (standard 23.2), of the values of their arguments.
-ghost use Rattle.std.specs.Prelude.{◌≡◌, true, false, map, All, IfOk};
+ghost use Rattle.std.specs.Prelude.{◌≡◌, true, false, map, All, IfOk, Result};
 ghost use Rattle.std.specs.FinMap as finite;
 ghost use Rattle.lisp_object.specs.Datum.{object_of, is_proper};
 ghost use Rattle.readtable_core.specs.Names.{is_among};
-ghost use Rattle.plist_state.specs.Changes.{writable};
-ghost use Rattle.form_eval.specs.Readtables.{name_or_nil, is_function, readtable_case, set_case, copy_readtable, enter_readtable, set_syntax, set_macro, get_macro, make_dispatch, set_dispatch, get_dispatch};
+ghost use Rattle.plist_state.specs.State.{State};
+ghost use Rattle.plist_state.specs.declared.error.ReadtableError.{ReadtableError};
+ghost use Rattle.plist_state.specs.Changes.{writable, Gives as Tells};
+ghost use Rattle.form_eval.specs.Properties.{t};
+ghost use Rattle.form_eval.specs.Readtables.{after, name_or_nil, is_function, readtable_case, set_case, copy_readtable, enter_readtable, set_syntax, set_macro, get_macro, make_dispatch, set_dispatch, get_dispatch};
 ghost use Rattle.form_eval.specs.Laws.{AreFunctionNames};
 ghost use Rattle.form_eval.specs.Evaluated.{IsArgument, IsReadtableOr, IsFunctionOr, IsWritableOr, Gives, done};
 
@@ -18,7 +21,7 @@ use lisp_object::Datum;
 use lisp_object::refusal::{
     DIGIT_SUBCHARACTER, NO_MACRO, NO_READTABLE, NOT_DISPATCHING, STANDARD_READTABLE,
 };
-use plist_state::{STANDARD, World};
+use plist_state::{ReadtableError, STANDARD, World};
 use readtable_core::{FnName, Readtable};
 use std::alloc::{AllocError, Global};
 
@@ -69,6 +72,20 @@ fn is_among(names: &[FnName], function: FnName) -> bool
     ensures { result ≡ is_among names.now function }
 {
     names.iter().any(|name| *name == function)
+}
+
+// What a change of the readtables gives: T.
+fn changed(alloc: Global, made: Result<(), ReadtableError>) -> Result<Evaluated, EvaluationError>
+    ensures gives { (s later : State) (said : Result State ReadtableError) → Tells (λ _. later) made said → Gives done result later (after s t said) }
+    ensures proper { IfOk result (λ e. is_proper e.value ≡ true) }
+{
+    match made {
+        Ok(()) => Ok(Evaluated {
+            value: values::truth(alloc)?,
+            wrote: true,
+        }),
+        Err(error) => Err(EvaluationError::from(error)),
+    }
 }
 
 /// READTABLE-CASE: the case of a readtable.
@@ -164,11 +181,8 @@ pub(crate) fn set_syntax(
     readtable(world, source)?;
     writable(world, name)?;
     let name = Vec::from_slice(alloc, name)?;
-    world.set_syntax_from_char(name.as_slice(), to, source, from)?;
-    Ok(Evaluated {
-        value: values::truth(alloc)?,
-        wrote: true,
-    })
+    let made = world.set_syntax_from_char(name.as_slice(), to, source, from);
+    changed(alloc, made)
 }
 
 /// SET-MACRO-CHARACTER, in the current readtable where no other is given.
@@ -191,11 +205,8 @@ pub(crate) fn set_macro(
     writable(world, name)?;
     let function = function_named(names, function)?;
     let name = Vec::from_slice(alloc, name)?;
-    world.set_macro(name.as_slice(), c, function, is_given(rest))?;
-    Ok(Evaluated {
-        value: values::truth(alloc)?,
-        wrote: true,
-    })
+    let made = world.set_macro(name.as_slice(), c, function, is_given(rest));
+    changed(alloc, made)
 }
 
 // The name of a function as a keyword, or NIL where there is none.
@@ -244,11 +255,8 @@ pub(crate) fn make_dispatch(
     let name = keyword_or(after_first(rest), world.current_readtable())?;
     writable(world, name)?;
     let name = Vec::from_slice(alloc, name)?;
-    world.make_dispatch(name.as_slice(), c, is_given(rest))?;
-    Ok(Evaluated {
-        value: values::truth(alloc)?,
-        wrote: true,
-    })
+    let made = world.make_dispatch(name.as_slice(), c, is_given(rest));
+    changed(alloc, made)
 }
 
 /// SET-DISPATCH-MACRO-CHARACTER, in the current readtable where no other is given.
@@ -278,11 +286,8 @@ pub(crate) fn set_dispatch(
         return Err(Refused(DIGIT_SUBCHARACTER));
     }
     let name = Vec::from_slice(alloc, name)?;
-    world.set_dispatch(name.as_slice(), c, d, function)?;
-    Ok(Evaluated {
-        value: values::truth(alloc)?,
-        wrote: true,
-    })
+    let made = world.set_dispatch(name.as_slice(), c, d, function);
+    changed(alloc, made)
 }
 
 /// GET-DISPATCH-MACRO-CHARACTER: the name of the function of a sub-character, or NIL.

@@ -11,6 +11,8 @@ use Rattle.form_eval.specs.Packages.{export, changed}
 use Rattle.form_eval.specs.Evaluated.{GivesSoFar}
 use Rattle.form_eval.proofs.MemberSteps.{front_found, all_front}
 use Rattle.form_eval.proofs.ListSteps.{exports, export_is, export_not_found, so_far}
+use Rattle.form_eval.proofs.WholeLists.{export_whole}
+use Rattle.form_eval.proofs.SoundPackages.{named_there}
 use Rattle.form_eval.proofs.package_lists.export.Goals as goal
 
 pub returns-then-not-finds_all-clause-gives : goal.returns-then-not-finds_all-clause-gives
@@ -39,8 +41,9 @@ returns-clause-gives c =
     let named : package_named s.packages q ≡ Some p = sym (ap Some c.name-package.ensures ∙ c.in_ok-package.ensures.unlocked.0) in
     let free = ap is_locked c.name-package.ensures ∙ c.in_ok-package.ensures.unlocked.1 in
     let found : list_all (λ y. finds_this s.packages p y.0 y.1) ys ≡ true = ap (λ u. list_all (λ y. finds_this u p y.0 y.1) ys) (sym c.packages.ensures) ∙ sym c.finds_all.ensures ∙ c.if-not-finds_all.false in
+    let conflict = export_whole s p ys c.soundness.ensures.present.packages (named_there s.packages q p named) free found in
     let front : (k : ℕ) → export (list_of (take k (map object_of ms)) ∷ rest) s ≡ changed s (exports s p (take k ys)) =
     λ k. export_is s (list_of (take k (map object_of ms))) rest (take k ys) q p (front_found a_symbol ([], []) k ms c.in_ok-symbols-2.ensures.each.kinds) given named free (all_front (λ y. finds_this s.packages p y.0 y.1) k ys found) in
     subst (λ vs. GivesSoFar export (map object_of vs) s c.changed.result u) (sym c.in_ok-symbols.ensures.value)
-    (so_far export x rest s u (map object_of ms) (exports s p) ys c.in_ok-symbols-2.ensures.each.members (export_is s x rest ys q p (sym c.in_ok-symbols-2.ensures.value) given named free found) front
+    (so_far export x rest s u (map object_of ms) (exports s p) ys c.in_ok-symbols-2.ensures.each.members (export_is s x rest ys q p (sym c.in_ok-symbols-2.ensures.value) given named free found) front conflict
     (ap (λ (k : Worlds). k.0) c.export_all-made.ensures.rest) c.export_all-made.result c.changed.result c.export_all-made.ensures.gives c.changed.ensures.gives)

@@ -12,7 +12,7 @@ seen p = (p.0.now, p.1.now)
 pub add-returns-in_ok-push-in-Symbol : goal.add-returns-in_ok-push-in-Symbol
 add-returns-in_ok-push-in-Symbol t c =
     let before = c.args.found.now.items in
-    ap (map seen) c.in_ok-push-in-Symbol.ensures.items
+    ap (map seen) {y = before ++ (c.as_slice.result, c.as_slice-in-Symbol.result) ∷ []} c.in_ok-push-in-Symbol.ensures.items
     ∙ map-append seen before ((c.as_slice.result, c.as_slice-in-Symbol.result) ∷ [])
     ∙ (λ i. map seen before ++ (c.as_slice.ensures i, c.as_slice-in-Symbol.ensures i) ∷ [])
     ∙ ap (λ x. map seen before ++ symbols x) (sym (ap object_of c.in-Symbol.is ∙ object_of-Symbol c.in-Symbol.package c.in-Symbol.name))
