@@ -1,6 +1,8 @@
 -- Where memory may run out: a byte that a token takes, and the calls of users.
 use Rattle.std.proofs.Common.{◌≡◌, ℕ, ◌+◌, ◌-◌, ◌<◌, Bool, true, false, List, [], ◌∷◌, ◌++◌, Ok, Err, refl, sym, ap, subst, ◌∙◌, append_assoc, arith}
-use Rattle.std.specs.Prelude.{◌==◌, ◌&&◌, ◌||◌, nat_le, if◌then◌else◌, IsTrue}
+use Rattle.std.specs.Prelude.{◌==◌, ◌&&◌, ◌||◌, nat_le, if◌then◌else◌, IsTrue, OnErr, Option, Result}
+use Rattle.std.specs.declared.alloc.AllocError.{AllocError}
+use Rattle.readtable_core.specs.declared.table.Case.{Case}
 use Rattle.readtable_core.specs.Characters.{has_invalid_trait}
 use Rattle.readtable_core.specs.Tables.{Table, entry_at}
 use Rattle.readtable_core.specs.declared.characters.Syntax.{Syntax}
@@ -17,19 +19,21 @@ use Rattle.token_scan.specs.Tokens.{TypedByte, met, kind, is_character, Scanned,
 use Rattle.token_scan.specs.Spelling.{is_plain, ends_tokens}
 use Rattle.token_scan.specs.Scans.{Scan, from_stage, token_from, GoesPast}
 use Rattle.token_scan.proofs.Steps.{outside_ends, outside_plain, outside_escape, outside_bar, outside_invalid, inside_between, inside_escape, inside_bar, inside_invalid}
-use Rattle.std_macros.specs.Values.{Material}
+use Rattle.std_macros.specs.declared.kind.Standard.{Standard}
+use Rattle.std_macros.specs.Results.{takes_memory}
+use Rattle.std_macros.specs.Values.{Material, value_of}
 use Rattle.user_macros.specs.Calls.{MacroAnswer, value, no_value, improper, refused}
 use Rattle.form_reader.specs.declared.limits.Limits.{Limits}
 use Rattle.form_reader.specs.declared.found.Found.TheVariants.{One as one}
 use Rattle.form_reader.specs.declared.way.Function.{Function}
-use Rattle.form_reader.specs.declared.way.Function.TheVariants.{User}
+use Rattle.form_reader.specs.declared.way.Function.TheVariants.{Standard as AStandard, User}
 use Rattle.form_reader.specs.Answering.{may_be_answered}
 use Rattle.form_reader.specs.Calls.{InvokedCall}
 use Rattle.form_reader.specs.Plans.{gives, refuses}
 use Rattle.form_reader.specs.Setting.{Setting, macro_call}
-use Rattle.form_reader.specs.Reading.{answered, completed_by, completed}
+use Rattle.form_reader.specs.Reading.{answered, finished, completed_by, completed}
 use Rattle.form_reader.specs.Feeding.{GoesOn, is_going}
-use Rattle.form_reader.specs.Memory.{may_cost, call_may_cost}
+use Rattle.form_reader.specs.Memory.{may_cost, gives_object, call_may_cost}
 use Rattle.form_reader.proofs.FedTokens.{cut}
 use Rattle.lisp_object.specs.declared.refusal.TheConstants.{MACRO_ANSWER}
 
@@ -51,11 +55,29 @@ user_costs setting round call name token spaced material e =
     ap (λ (f : Function). may_cost (completed_by setting round call f token spaced material)) e
     ∙ answer_costs setting.packages setting.limits.nesting round token spaced (setting.answer name (macro_call call material))
 
-pub user_call_costs : (setting : Setting) (round : ℕ) (call : InvokedCall) (name : List ℕ) (token spaced : Bool) (material : Material) → call.function ≡ User name
-    → call_may_cost call.function (completed setting round call token spaced material) ≡ true
-user_call_costs setting round call name token spaced material e =
-    ap (λ (f : Function). call_may_cost f (completed_by setting round call f token spaced material)) e
+pub user_call_costs : (needs : Bool) (setting : Setting) (round : ℕ) (call : InvokedCall) (name : List ℕ) (token spaced : Bool) (material : Material) → call.function ≡ User name
+    → call_may_cost needs call.function (completed setting round call token spaced material) ≡ true
+user_call_costs needs setting round call name token spaced material e =
+    ap (λ (f : Function). call_may_cost needs f (completed_by setting round call f token spaced material)) e
     ∙ answer_costs setting.packages setting.limits.nesting round token spaced (setting.answer name (macro_call call material))
+
+-- a standard function gives an object, for which it needs memory
+pub standard_call_costs : (needs : Bool) (setting : Setting) (round : ℕ) (call : InvokedCall) (kind : Standard) (token spaced : Bool) (material : Material) → call.function ≡ AStandard kind
+    → gives_object (finished token (value_of kind setting.table.letters call.number material)) ≡ true → takes_memory kind ≡ true
+    → call_may_cost needs call.function (completed setting round call token spaced material) ≡ true
+standard_call_costs needs setting round call kind token spaced material e some takes =
+    ap (λ (f : Function). call_may_cost needs f (completed_by setting round call f token spaced material)) e
+    ∙ ap (λ (b : Bool). b && (takes_memory kind || needs)) some ∙ ap (λ (b : Bool). b || needs) takes
+
+pub standard_runs_out : {T : Type 0} (result : Result T AllocError) (needs : Bool) (setting : Setting) (round : ℕ) (call : InvokedCall) (kind : Standard) (token spaced : Bool) (material : Material) (letters : Case) (number : Option ℕ)
+    → call.function ≡ AStandard kind → letters ≡ setting.table.letters → number ≡ call.number
+    → OnErr result (gives_object (finished token (value_of kind letters number material)) ≡ true) → OnErr result (takes_memory kind ≡ true)
+    → OnErr result (call_may_cost needs call.function (completed setting round call token spaced material) ≡ true)
+standard_runs_out (Ok x) needs setting round call kind token spaced material letters number e same_letters same_number some takes = tt
+standard_runs_out (Err x) needs setting round call kind token spaced material letters number e same_letters same_number some takes =
+    standard_call_costs needs setting round call kind token spaced material e
+    (subst (λ (n : Option ℕ). gives_object (finished token (value_of kind setting.table.letters n material)) ≡ true) same_number
+    (subst (λ (l : Case). gives_object (finished token (value_of kind l number material)) ≡ true) same_letters some)) takes
 
 -- ---- a byte that a token takes
 

@@ -1,5 +1,6 @@
 -- What an open call makes of what is found in it.
-use Rattle.std.proofs.Common.{◌≡◌, ℕ, ◌-◌, ◌<◌, ◌≤◌, Bool, true, false, List, [], ◌∷◌, ◌++◌, length, Some, Ok, refl, sym, ap, subst, ◌∙◌, arith}
+use Rattle.std.proofs.Common.{◌≡◌, ℕ, ◌-◌, ◌<◌, ◌≤◌, Bool, true, false, List, [], ◌∷◌, ◌++◌, length, Option, Some, None, Ok, refl, sym, ap, subst, ◌∙◌, arith}
+use Rattle.std.specs.Prelude.{option_map}
 use Rattle.lisp_object.specs.Object.{Object}
 use Rattle.lisp_object.specs.declared.refusal.TheConstants.{DOT_CONTEXT, END_OF_FILE}
 use Rattle.std_macros.specs.Values.{one as one_object}
@@ -7,6 +8,7 @@ use Rattle.form_reader.specs.declared.complete.Completed.{Completed}
 use Rattle.form_reader.specs.declared.deliver.Delivered.{Delivered}
 use Rattle.form_reader.specs.declared.deliver.Delivered.TheVariants.{Done}
 use Rattle.form_reader.specs.declared.deliver.Taken.{Taken}
+use Rattle.form_reader.specs.declared.deliver.Taken.TheVariants.{Stays, Refused as TakenRefused}
 use Rattle.form_reader.specs.declared.found.Found.{Found}
 use Rattle.form_reader.specs.declared.found.Found.TheVariants.{Nothing as nothing, One as one, LoneDot as lone_dot, TheEnd as the_end}
 use Rattle.form_reader.specs.declared.frame.Frame.{Frame}
@@ -17,8 +19,8 @@ use Rattle.form_reader.specs.Calls.{InvokedCall}
 use Rattle.form_reader.specs.Setting.{Setting}
 use Rattle.form_reader.specs.Reading.{place, without_space, items_after, undotted, after_tail, list_end, completed}
 use Rattle.form_reader.specs.Completing.{plan_of}
-use Rattle.form_reader.specs.Delivering.{Takes, Delivers}
-use Rattle.form_reader.specs.Frames.{attempt_in, place_in, call_in, given, between}
+use Rattle.form_reader.specs.Delivering.{Takes, TakesFrom, Delivers}
+use Rattle.form_reader.specs.Frames.{attempt_in, place_in, call_in, given, between, place_gives, with_object, with_dot, with_found, calls_with, is_next, is_waiting}
 use Rattle.form_reader.proofs.Opened.{space_given, list_is, until_is}
 use Rattle.form_reader.proofs.Turns.{space_same}
 use Rattle.form_reader.proofs.Beginnings.{given_refused}
@@ -122,42 +124,147 @@ module _ (setting : Setting) (frames : List Frame) (call : InvokedCall) (at : �
       (λ at2 cs2 le. until_is setting frames call close (xs ++ x ∷ []) at2 cs2 le)
       ∙ ap (λ (ys : List Object). waiting token (InUntil close ys)) (sym e)
 
-  -- ---- the same, where it is known which part it is
+  -- ---- what the call makes of it
 
-  pub known : (part p : Part) (found : Found) (r : Read Found) → part ≡ p → delivered p found ≡ r → delivered part found ≡ r
-  known part p found r e same = ap (λ (q : Part). delivered q found) e ∙ same
+  pub object_taken : (token : Bool) (x : Object) (part new : Part) → at ≤ setting.limits.text → with_object part x ≡ Some new → delivered part (one token x) ≡ waiting token new
+  object_taken token x InNext new h e = cc
+  object_taken token x (InList xs) new h e =
+      one_in_list token xs (xs ++ x ∷ []) x h refl ∙ (let same : InList (xs ++ x ∷ []) ≡ new = cc in ap (waiting token) same)
+  object_taken token x (InUntil close xs) new h e =
+      one_in_until token close xs (xs ++ x ∷ []) x h refl ∙ (let same : InUntil close (xs ++ x ∷ []) ≡ new = cc in ap (waiting token) same)
+  object_taken token x (InDotted xs) new h e = one_in_dotted token xs x ∙ (let same : InTailed xs x ≡ new = cc in ap (waiting token) same)
+  object_taken token x (InTailed xs tail) new h e = cc
 
-  pub empty_dot : (part : Part) (xs : List Object) → part ≡ InList xs → xs ≡ [] → delivered part lone_dot ≡ fault DOT_CONTEXT at
-  empty_dot part xs e none =
-      known part (InList xs) lone_dot _ e (ap (λ (xs : List Object). delivered (InList xs) lone_dot) none ∙ dot_in_empty)
+  pub object_refused : (token : Bool) (x : Object) (part : Part) → with_object part x ≡ None → is_next part ≡ false → delivered part (one token x) ≡ fault DOT_CONTEXT at
+  object_refused token x InNext e other = cc
+  object_refused token x (InList xs) e other = cc
+  object_refused token x (InUntil close xs) e other = cc
+  object_refused token x (InDotted xs) e other = cc
+  object_refused token x (InTailed xs tail) e other = one_in_tailed token xs tail x
 
-  pub next_comes : (part : Part) (token : Bool) (x y : Object) (round : ℕ) (done : Completed) (taken : Taken) → part ≡ InNext → round ≡ length frames → y ≡ x
-      → completed setting round call token token (one_object y) ≡ plan_of done
+  pub dot_taken : (part new : Part) → with_dot part ≡ Some new → delivered part lone_dot ≡ waiting false new
+  dot_taken InNext new e = cc
+  dot_taken (InList []) new e = cc
+  dot_taken (InList (x ∷ xs)) new e = dot_in_list (x ∷ xs) (omega arith) ∙ (let same : InDotted (x ∷ xs) ≡ new = cc in ap (waiting false) same)
+  dot_taken (InUntil close xs) new e = cc
+  dot_taken (InDotted xs) new e = cc
+  dot_taken (InTailed xs tail) new e = cc
+
+  pub dot_refused : (part : Part) → with_dot part ≡ None → delivered part lone_dot ≡ fault DOT_CONTEXT at
+  dot_refused InNext e = dot_in_next
+  dot_refused (InList []) e = dot_in_empty
+  dot_refused (InList (x ∷ xs)) e = cc
+  dot_refused (InUntil close xs) e = dot_in_until close xs
+  dot_refused (InDotted xs) e = dot_in_dotted xs
+  dot_refused (InTailed xs tail) e = dot_in_tailed xs tail
+
+-- ---- the innermost of the open calls
+
+some_same : {A : Type 0} (x y : A) → Some x ≡ Some y → x ≡ y
+some_same x y e = cc
+
+module _ (setting : Setting) (at : ℕ) (cs : List ℕ) where
+  abbrev found_in : List Frame → Found → Read Found
+  found_in frames found = run setting.table setting.limits (given setting frames (gives found)) at cs
+
+  -- discarded text changes nothing
+  pub nothing_there : (frames : List Frame) (token : Bool) (found : Found) → found ≡ nothing token → 0 < length frames → found_in frames found ≡ place_gives setting token frames at cs
+  nothing_there [] token found e some = absurd (omega (arith, some))
+  nothing_there (f ∷ fs) token found e some = ap (found_in (f ∷ fs)) e ∙ nothing_stays setting fs f.call at cs token f.part
+
+  pub end_there : (frames : List Frame) (found : Found) → found ≡ the_end → 0 < length frames → found_in frames found ≡ fault END_OF_FILE at
+  end_there [] found e some = absurd (omega (arith, some))
+  end_there (f ∷ fs) found e some = ap (found_in (f ∷ fs)) e ∙ end_fails setting fs f.call at cs f.part
+
+  pub object_goes_on : (frames after : List Frame) (token : Bool) (x : Object) → at ≤ setting.limits.text → calls_with frames (one token x) ≡ Some after
+      → found_in frames (one token x) ≡ place_gives setting token after at cs
+  object_goes_on [] after token x h e = cc
+  object_goes_on (f ∷ fs) after token x h e = by (with_object f.part x) refl
+    where
+      calls : Part → List Frame
+      calls part = record { call = f.call; part = part } ∷ fs
+
+      by : (o : Option Part) → with_object f.part x ≡ o → found_in (f ∷ fs) (one token x) ≡ place_gives setting token after at cs
+      by None n = let never : None ≡ Some after = sym (ap (option_map calls) n) ∙ e in cc
+      by (Some new) n =
+          object_taken setting fs f.call at cs token x f.part new h n
+          ∙ ap (λ (gs : List Frame). place_gives setting token gs at cs) (some_same (calls new) after (sym (ap (option_map calls) n) ∙ e))
+
+  pub object_stops : (frames : List Frame) (token : Bool) (x : Object) → 0 < length frames → calls_with frames (one token x) ≡ None → is_waiting frames ≡ false
+      → found_in frames (one token x) ≡ fault DOT_CONTEXT at
+  object_stops [] token x some e other = absurd (omega (arith, some))
+  object_stops (f ∷ fs) token x some e other = by (with_object f.part x) refl
+    where
+      calls : Part → List Frame
+      calls part = record { call = f.call; part = part } ∷ fs
+
+      by : (o : Option Part) → with_object f.part x ≡ o → found_in (f ∷ fs) (one token x) ≡ fault DOT_CONTEXT at
+      by None n = object_refused setting fs f.call at cs token x f.part n other
+      by (Some new) n = let never : Some (calls new) ≡ None = sym (ap (option_map calls) n) ∙ e in cc
+
+  pub dot_goes_on : (frames after : List Frame) → calls_with frames lone_dot ≡ Some after → found_in frames lone_dot ≡ place_gives setting false after at cs
+  dot_goes_on [] after e = cc
+  dot_goes_on (f ∷ fs) after e = by (with_dot f.part) refl
+    where
+      calls : Part → List Frame
+      calls part = record { call = f.call; part = part } ∷ fs
+
+      by : (o : Option Part) → with_dot f.part ≡ o → found_in (f ∷ fs) lone_dot ≡ place_gives setting false after at cs
+      by None n = let never : None ≡ Some after = sym (ap (option_map calls) n) ∙ e in cc
+      by (Some new) n =
+          dot_taken setting fs f.call at cs f.part new n
+          ∙ ap (λ (gs : List Frame). place_gives setting false gs at cs) (some_same (calls new) after (sym (ap (option_map calls) n) ∙ e))
+
+  pub dot_stops : (frames : List Frame) → 0 < length frames → calls_with frames lone_dot ≡ None → found_in frames lone_dot ≡ fault DOT_CONTEXT at
+  dot_stops [] some e = absurd (omega (arith, some))
+  dot_stops (f ∷ fs) some e = by (with_dot f.part) refl
+    where
+      calls : Part → List Frame
+      calls part = record { call = f.call; part = part } ∷ fs
+
+      by : (o : Option Part) → with_dot f.part ≡ o → found_in (f ∷ fs) lone_dot ≡ fault DOT_CONTEXT at
+      by None n = dot_refused setting fs f.call at cs f.part n
+      by (Some new) n = let never : Some (calls new) ≡ None = sym (ap (option_map calls) n) ∙ e in cc
+
+  -- it waited for its one object
+  pub next_comes : (old frames : List Frame) (call : InvokedCall) (token : Bool) (x y : Object) (round : ℕ) (done : Completed) (taken : Taken) → old ≡ record { call = call; part = InNext } ∷ frames
+      → round ≡ length frames → y ≡ x → completed setting round call token token (one_object y) ≡ plan_of done
       → Takes setting frames at cs taken (run setting.table setting.limits (given setting frames (plan_of done)) at cs)
-      → Takes setting frames at cs taken (delivered part (one token x))
-  next_comes part token x y round done taken e open_calls same comes takes =
-      let whole : delivered part (one token x) ≡ run setting.table setting.limits (given setting frames (plan_of done)) at cs =
-      known part InNext (one token x) _ e (one_in_next token x)
+      → Takes setting frames at cs taken (found_in old (one token x))
+  next_comes old frames call token x y round done taken is open_calls same comes takes =
+      let whole : found_in old (one token x) ≡ run setting.table setting.limits (given setting frames (plan_of done)) at cs =
+      ap (λ (fs : List Frame). found_in fs (one token x)) is ∙ one_in_next setting frames call at cs token x
       ∙ ap (λ (plan : Plan Found). run setting.table setting.limits (given setting frames plan) at cs)
       ((λ i. completed setting (sym open_calls i) call token token (one_object (sym same i))) ∙ comes) in
       subst (λ (r : Read Found). Takes setting frames at cs taken r) (sym whole) takes
 
-  pub found_dot : (part : Part) (found : Found) (taken : Taken) → found ≡ lone_dot → Takes setting frames at cs taken (delivered part lone_dot)
-      → Takes setting frames at cs taken (delivered part found)
-  found_dot part found taken e takes = subst (λ (f : Found). Takes setting frames at cs taken (delivered part f)) (sym e) takes
+  pub found_dot : (frames after : List Frame) (found : Found) (taken : Taken) → found ≡ lone_dot → Takes setting after at cs taken (found_in frames lone_dot)
+      → Takes setting after at cs taken (found_in frames found)
+  found_dot frames after found taken e takes = subst (λ (f : Found). Takes setting after at cs taken (found_in frames f)) (sym e) takes
+
+-- as many calls are open
+pub as_many : (frames after : List Frame) (found : Found) → calls_with frames found ≡ Some after → length after ≡ length frames
+as_many [] after found e = cc
+as_many (f ∷ fs) after found e = by (with_found f.part found) refl
+  where
+    calls : Part → List Frame
+    calls part = record { call = f.call; part = part } ∷ fs
+
+    by : (o : Option Part) → with_found f.part found ≡ o → length after ≡ length (f ∷ fs)
+    by None n = let never : None ≡ Some after = sym (ap (option_map calls) n) ∙ e in cc
+    by (Some new) n = ap length (sym (some_same (calls new) after (sym (ap (option_map calls) n) ∙ e)))
+
+pub stays_from : (frames after : List Frame) (found : Found) (token : Bool) → calls_with frames found ≡ Some after → TakesFrom frames found after (Stays token)
+stays_from frames after found token e = let many : length after ≡ length frames = as_many frames after found e in (e, omega (arith, many))
+
+pub nothing_from : (frames : List Frame) (found : Found) (token : Bool) → found ≡ nothing token → 0 < length frames → TakesFrom frames found frames (Stays token)
+nothing_from [] found token e some = absurd (omega (arith, some))
+nothing_from (f ∷ fs) found token e some = (ap (calls_with (f ∷ fs)) e, omega arith)
+
+pub refused_from : (frames after : List Frame) (found : Found) (code place : ℕ) → after ≡ frames → TakesFrom frames found after (TakenRefused code place)
+refused_from frames after found code place e = let many : length after ≡ length frames = ap length e in omega (arith, many)
 
 -- ---- call after call
-
-pub taken_then : (setting : Setting) (old frames new : List Frame) (x found : Found) (frame : Frame) (taken known : Taken) (at round : ℕ) (cs : List ℕ)
-    → ((cs : List ℕ) → run setting.table setting.limits (given setting old (gives x)) at cs ≡ run setting.table setting.limits (given setting frames (gives found)) at cs)
-    → frames ≡ frame ∷ new → round ≡ length new
-    → ((fs : List Frame) (cs : List ℕ) → round ≡ length fs → Takes setting fs at cs taken (run setting.table setting.limits (given setting (frame ∷ fs) (gives found)) at cs))
-    → taken ≡ known → Takes setting new at cs known (run setting.table setting.limits (given setting old (gives x)) at cs)
-taken_then setting old frames new x found frame taken known at round cs before is open_calls takes e =
-    let whole : run setting.table setting.limits (given setting old (gives x)) at cs ≡ run setting.table setting.limits (given setting (frame ∷ new) (gives found)) at cs =
-    before cs ∙ ap (λ (fs : List Frame). run setting.table setting.limits (given setting fs (gives found)) at cs) is in
-    subst (λ (r : Read Found). Takes setting new at cs known r) (sym whole)
-    (subst (λ (t : Taken). Takes setting new at cs t (run setting.table setting.limits (given setting (frame ∷ new) (gives found)) at cs)) e (takes new cs open_calls))
 
 pub none_left : (setting : Setting) (old frames : List Frame) (x found : Found) (at : ℕ) (cs : List ℕ)
     → ((cs : List ℕ) → run setting.table setting.limits (given setting old (gives x)) at cs ≡ run setting.table setting.limits (given setting frames (gives found)) at cs)

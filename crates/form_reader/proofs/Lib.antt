@@ -15,6 +15,7 @@ pub mod Costing
 pub mod Beginnings
 pub mod Goings
 pub mod Spending
+pub mod Taking
 pub mod Deliveries
 pub mod Closings
 pub mod Functions
@@ -24,6 +25,7 @@ pub mod Attempts
 pub mod ObjectTokens
 pub mod Following
 pub mod Readiness
+pub mod Passing
 pub mod TurnsTaken
 pub mod Spaces
 pub mod Endings

@@ -103,13 +103,13 @@ module _ (setting : Setting) (frames : List Frame) (at c : ℕ) (cs : List ℕ) 
   pub space_over : setting.limits.text ≤ at → is_whitespace setting.table c ≡ true → after ≡ fault FORM_TOO_LONG at
   space_over le e = takes_over setting.table setting.limits (between setting frames) (is_whitespace setting.table) (λ c. between setting frames) at c cs le e
 
-  pub no_space : is_whitespace setting.table c ≡ false → after ≡ run setting.table setting.limits (between setting frames) at (c ∷ cs)
-  no_space e = passes_is setting.table setting.limits (between setting frames) (is_whitespace setting.table) (λ c. between setting frames) at c cs e
+  pub no_space_there : is_whitespace setting.table c ≡ false → after ≡ run setting.table setting.limits (between setting frames) at (c ∷ cs)
+  no_space_there e = passes_is setting.table setting.limits (between setting frames) (is_whitespace setting.table) (λ c. between setting frames) at c cs e
 
   pub space_passed : (after_it : List Frame) (result : Result Event AllocError) → is_whitespace setting.table c ≡ false
       → IfOk result (λ event. Brings setting after_it (at + 1) cs event (run setting.table setting.limits (between setting frames) at (c ∷ cs)))
       → IfOk result (λ event. Brings setting after_it (at + 1) cs event after)
-  space_passed after_it result e brings = subst (λ (r : Read Found). IfOk result (λ event. Brings setting after_it (at + 1) cs event r)) (sym (no_space e)) brings
+  space_passed after_it result e brings = subst (λ (r : Read Found). IfOk result (λ event. Brings setting after_it (at + 1) cs event r)) (sym (no_space_there e)) brings
 
 -- ---- where an object may begin
 

@@ -8,7 +8,6 @@ use Rattle.form_reader.specs.declared.stage.Event.TheVariants.{Stage as IsAt, Gi
 use Rattle.form_reader.specs.declared.deliver.Taken.{Taken}
 use Rattle.form_reader.specs.declared.deliver.Taken.TheVariants.{Stays, Gives, Refused}
 use Rattle.form_reader.specs.declared.found.Found.{Found}
-use Rattle.form_reader.specs.declared.frame.Frame.{Frame}
 use Rattle.form_reader.specs.Ready.{space, lookahead, IsReady, IsEnd, IsTakenAt}
 
 -- a call that ends with a byte, and no token in it
@@ -45,8 +44,8 @@ or_space false false = omega arith
 -- ---- what one open call makes of it
 
 module _ (less most at : ℕ) (taken : Taken) where
-  pub stays_within : (token : Bool) (frame : Frame) → taken ≡ Stays token frame → IsTakenAt less at taken → less ≤ most → space token ≤ most
-  stays_within token frame e h le = let here : space token ≤ less = subst (λ (t : Taken). IsTakenAt less at t) e h in omega (arith, here, le)
+  pub stays_within : (token : Bool) → taken ≡ Stays token → IsTakenAt less at taken → less ≤ most → space token ≤ most
+  stays_within token e h le = let here : space token ≤ less = subst (λ (t : Taken). IsTakenAt less at t) e h in omega (arith, here, le)
 
   pub gives_within : (found : Found) → taken ≡ Gives found → IsTakenAt less at taken → less ≤ most → lookahead found ≤ most
   gives_within found e h le = let here : lookahead found ≤ less = subst (λ (t : Taken). IsTakenAt less at t) e h in omega (arith, here, le)

@@ -1,7 +1,7 @@
 -- Whitespace that is discarded where an object may begin.
-use Rattle.std.proofs.Common.{◌≡◌, ℕ, ◌+◌, ◌<◌, ◌≤◌, Bool, true, false, List, [], ◌∷◌, ◌++◌, length, Option, Some, None, Ok, refl, sym, ap, subst, ◌∙◌, arith}
+use Rattle.std.proofs.Common.{◌≡◌, ℕ, ◌+◌, ◌<◌, ◌≤◌, Bool, true, false, List, [], ◌∷◌, length, refl, sym, ap, subst, ◌∙◌, arith}
 use Rattle.std.proofs.lemmas.Bool.{ltb-true, ltb-false}
-use Rattle.std.specs.Prelude.{nat_lt, ◌==◌, ◌&&◌, not}
+use Rattle.std.specs.Prelude.{nat_lt, ◌&&◌, not}
 use Rattle.readtable_core.specs.declared.characters.Syntax.{Syntax}
 use Rattle.readtable_core.specs.declared.characters.Syntax.TheVariants.{Whitespace, Constituent, TerminatingMacro, NonTerminatingMacro, SingleEscape, MultipleEscape, Invalid}
 use Rattle.readtable_core.specs.Tables.{entry_at}

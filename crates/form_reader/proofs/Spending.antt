@@ -1,20 +1,26 @@
 -- Where memory may run out: from what a call comes to, up to what a byte is.
-use Rattle.std.proofs.Common.{◌≡◌, ℕ, ◌+◌, ◌<◌, ◌≤◌, true, false, List, [], ◌∷◌, length, Option, Some, Result, Ok, Err, refl, sym, ap, subst, ◌∙◌, arith}
-use Rattle.std.specs.Prelude.{IsOk, OnErr}
+use Rattle.std.proofs.Common.{◌≡◌, ℕ, ◌+◌, ◌<◌, ◌≤◌, Bool, true, false, List, [], ◌∷◌, length, Option, Some, Result, Ok, Err, refl, sym, ap, subst, ◌∙◌, arith}
+use Rattle.std.specs.Prelude.{IfOk, OnErr}
+use Rattle.lisp_object.specs.Object.{Object}
 use Rattle.std.specs.declared.alloc.AllocError.{AllocError}
 use Rattle.readtable_core.specs.declared.table.Case.{Case}
 use Rattle.package_table.specs.Table.{Name, Table as Packages}
 use Rattle.token_meaning.specs.declared.refusal.MeaningRefusal.{MeaningRefusal}
 use Rattle.token_meaning.specs.Folding.{folded}
-use Rattle.token_meaning.specs.Meanings.{Meaning, meaning_of}
+use Rattle.token_meaning.specs.Meanings.{Meaning, number, dot, name, meaning_of}
 use Rattle.token_scan.specs.declared.mark.Mark.{Mark}
 use Rattle.token_scan.specs.Scans.{Scan}
 use Rattle.std_macros.specs.Values.{Material, marked, nothing as no_material}
 use Rattle.form_reader.specs.declared.told.Told.{Told}
-use Rattle.form_reader.specs.Naming.{told_of}
+use Rattle.form_reader.specs.declared.told.Told.TheVariants.{Object as told_object, Dot as dot_alone}
+use Rattle.form_reader.specs.Naming.{IsNameMeaning, told_of}
+use Rattle.form_reader.specs.declared.deliver.Delivered.{Delivered}
+use Rattle.form_reader.specs.declared.deliver.Delivered.TheVariants.{Waits}
+use Rattle.form_reader.specs.Delivering.{Delivers, DeliversFrom}
 use Rattle.form_reader.specs.declared.bytes.LineByte.{LineByte}
 use Rattle.form_reader.specs.declared.bytes.LineByte.TheVariants.{Ended as LineEnded}
 use Rattle.form_reader.specs.declared.found.Found.{Found}
+use Rattle.form_reader.specs.declared.found.Found.TheVariants.{Nothing as nothing, One as one, LoneDot as lone_dot, TheEnd as the_end}
 use Rattle.form_reader.specs.declared.frame.Frame.{Frame}
 use Rattle.form_reader.specs.declared.frame.Part.TheVariants.{Next as InNext, List as InList, Until as InUntil}
 use Rattle.form_reader.specs.declared.macros.Moved.{Moved}
@@ -24,62 +30,69 @@ use Rattle.form_reader.specs.declared.objects.Passed.TheVariants.{Taken as Passe
 use Rattle.form_reader.specs.declared.stage.Event.{Event}
 use Rattle.form_reader.specs.declared.stage.Event.TheVariants.{Stage as IsAt, Gives as IsGiven, Refused as IsRefused}
 use Rattle.form_reader.specs.declared.stage.Stage.{Stage}
-use Rattle.form_reader.specs.declared.stage.Stage.TheVariants.{Object as AtObject, Token as AtToken, CallToken as AtCallToken}
+use Rattle.form_reader.specs.declared.stage.Stage.TheVariants.{Object as AtObject, Token as AtToken, CallToken as AtCallToken, Text as AtText, Escaped as AtEscaped, Line as AtLine, Block as AtBlock, Number as AtNumber}
 use Rattle.form_reader.specs.declared.way.Way.{Way}
 use Rattle.form_reader.specs.declared.way.Way.TheVariants.{Nothing, Next, List as AList, Until}
 use Rattle.form_reader.specs.Calls.{InvokedCall}
-use Rattle.form_reader.specs.Plans.{Plan, then_plan, Read, run}
+use Rattle.form_reader.specs.Plans.{Plan, gives, then_plan, Read, run}
 use Rattle.form_reader.specs.Setting.{Setting, way_in}
-use Rattle.form_reader.specs.Reading.{completed, gathered_by, called, token_found}
+use Rattle.form_reader.specs.Reading.{completed, gathered_by, called, told_found, token_found}
 use Rattle.form_reader.specs.Feeding.{TokenFeeds, token_read}
-use Rattle.form_reader.specs.Frames.{given, plan_gives, token_goes_on}
-use Rattle.form_reader.specs.Resuming.{IsStageAt, inner_at, stage_gives}
-use Rattle.form_reader.specs.Memory.{may_cost, Costs, goes_on, comes_to, Spends, SpendsMove, SpendsPass, is_given, HasMeaning, RunsOut, with_it, before_it}
+use Rattle.form_reader.specs.Frames.{given, needs_memory, needs_to_take, plan_gives, place_gives, token_goes_on}
+use Rattle.form_reader.specs.Resuming.{IsStageAt, Moves, inner_at, stage_gives}
+use Rattle.form_reader.specs.Memory.{may_cost, call_may_cost, meaning_may_cost, token_may_cost, is_nothing, event_needs, Costs, goes_on, comes_to, Spends, SpendsGiven, SpendsToken, SpendsMove, SpendsPass, EndsToken, EndsWith, GivesBefore, StaysOpen, as_they_were, after_token, RunsOut, with_it, before_it, FoundCosts, taking, passing, with_byte}
 use Rattle.form_reader.proofs.Opened.{gathering_ends, gathering_moves}
 use Rattle.form_reader.proofs.Beginnings.{OpensWith, next_at, list_at, until_at}
 
-pub spent : (result : Result Event AllocError) (P : Type 0) → P → Spends result P
-spent (Ok (IsAt stage)) P h = tt
-spent (Ok (IsGiven found)) P h = h
-spent (Ok (IsRefused code place)) P h = tt
-spent (Err e) P h = h
+pub spent : (needs : Bool) (result : Result Event AllocError) (P : Type 0) → P → Spends needs result P
+spent needs (Ok (IsAt stage)) P h = tt
+spent needs (Ok (IsGiven (nothing token))) P h = tt
+spent needs (Ok (IsGiven (one token x))) P h = λ e. h
+spent needs (Ok (IsGiven lone_dot)) P h = tt
+spent needs (Ok (IsGiven the_end)) P h = tt
+spent needs (Ok (IsRefused code place)) P h = tt
+spent needs (Err e) P h = h
 
-pub spent_so : (result : Result Event AllocError) (P Q : Type 0) → (P → Q) → Spends result P → Spends result Q
-spent_so (Ok (IsAt stage)) P Q on h = tt
-spent_so (Ok (IsGiven found)) P Q on h = on h
-spent_so (Ok (IsRefused code place)) P Q on h = tt
-spent_so (Err e) P Q on h = on h
+pub spent_so : (needs : Bool) (result : Result Event AllocError) (P Q : Type 0) → (P → Q) → Spends needs result P → Spends needs result Q
+spent_so needs (Ok (IsAt stage)) P Q on h = tt
+spent_so needs (Ok (IsGiven (nothing token))) P Q on h = tt
+spent_so needs (Ok (IsGiven (one token x))) P Q on h = λ e. on (h e)
+spent_so needs (Ok (IsGiven lone_dot)) P Q on h = tt
+spent_so needs (Ok (IsGiven the_end)) P Q on h = tt
+spent_so needs (Ok (IsRefused code place)) P Q on h = tt
+spent_so needs (Err e) P Q on h = on h
 
-pub moved : (result : Result Moved AllocError) (P : Type 0) → P → SpendsMove result P
-moved (Ok (IsTaken event)) P h = spent (Ok event) P h
-moved (Ok (IsBefore event)) P h = spent (Ok event) P h
-moved (Err e) P h = h
+pub moved : (needs : Bool) (result : Result Moved AllocError) (P : Type 0) → P → SpendsMove needs result P
+moved needs (Ok (IsTaken event)) P h = spent needs (Ok event) P h
+moved needs (Ok (IsBefore event)) P h = tt
+moved needs (Err e) P h = h
 
 -- ---- what is read is the same
 
 pub costs_same : (setting : Setting) (frames : List Frame) (at : ℕ) (read other : List ℕ → Read Found) → ((cs : List ℕ) → other cs ≡ read cs)
     → Costs setting frames at read → Costs setting frames at other
 costs_same setting frames at read other e (goes_on after stage le stands same) = goes_on after stage le stands (λ cs. e cs ∙ same cs)
-costs_same setting frames at read other e (comes_to inner round is plan cost same) = comes_to inner round is plan cost (λ cs. e cs ∙ same cs)
+costs_same setting frames at read other e (comes_to inner round is call material cost same) = comes_to inner round is call material cost (λ cs. e cs ∙ same cs)
 
-pub spends_same : (setting : Setting) (frames : List Frame) (at : ℕ) (read other : List ℕ → Read Found) (result : Result Event AllocError) → ((cs : List ℕ) → other cs ≡ read cs)
-    → Spends result (Costs setting frames at read) → Spends result (Costs setting frames at other)
-spends_same setting frames at read other result e h = spent_so result _ _ (costs_same setting frames at read other e) h
+pub spends_same : (needs : Bool) (setting : Setting) (frames : List Frame) (at : ℕ) (read other : List ℕ → Read Found) (result : Result Event AllocError) → ((cs : List ℕ) → other cs ≡ read cs)
+    → Spends needs result (Costs setting frames at read) → Spends needs result (Costs setting frames at other)
+spends_same needs setting frames at read other result e h = spent_so needs result _ _ (costs_same setting frames at read other e) h
 
 -- ---- what a call comes to
 
 pub call_costs : (setting : Setting) (frames : List Frame) (at round : ℕ) (call : InvokedCall) (material : Material) (read : List ℕ → Read Found) (result : Result Event AllocError)
     → round ≡ length frames → ((cs : List ℕ) → read cs ≡ plan_gives setting frames (completed setting (length frames) call false false material) at cs)
-    → Spends result (may_cost (completed setting round call false false material) ≡ true) → Spends result (Costs setting frames at read)
+    → ((needs : Bool) → Spends needs result (call_may_cost needs call.function (completed setting round call false false material) ≡ true))
+    → Spends (needs_memory frames) result (Costs setting frames at read)
 call_costs setting frames at round call material read result open_calls same h =
-    spent_so result _ _ (λ cost. comes_to [] frames refl (completed setting (length frames) call false false material)
-    (subst (λ (n : ℕ). may_cost (completed setting n call false false material) ≡ true) open_calls cost) same) h
+    spent_so (needs_memory frames) result _ _ (λ cost. comes_to [] frames refl call material
+    (subst (λ (n : ℕ). call_may_cost (needs_memory frames) call.function (completed setting n call false false material) ≡ true) open_calls cost) same) (h (needs_memory frames))
 
 -- what was gathered has ended
 pub ends_cost : {A : Type 0} (setting : Setting) (frames : List Frame) (p : Plan A) (m : A → Material) (x y : A) (at c round : ℕ) (call : InvokedCall) (result : Result Event AllocError)
     → round ≡ length frames → ((cs : List ℕ) → run setting.table setting.limits p at (c ∷ cs) ≡ Ok (x, at + 1, cs)) → y ≡ x
-    → Spends result (may_cost (completed setting round call false false (m y)) ≡ true)
-    → Spends result (Costs setting frames (at + 1) (λ cs. plan_gives setting frames (then_plan p (λ z. completed setting (length frames) call false false (m z))) at (c ∷ cs)))
+    → ((needs : Bool) → Spends needs result (call_may_cost needs call.function (completed setting round call false false (m y)) ≡ true))
+    → Spends (needs_memory frames) result (Costs setting frames (at + 1) (λ cs. plan_gives setting frames (then_plan p (λ z. completed setting (length frames) call false false (m z))) at (c ∷ cs)))
 ends_cost {A} setting frames p m x y at c round call result open_calls e same h =
     let on : A → Plan Found = λ z. completed setting (length frames) call false false (m z) in
     call_costs setting frames (at + 1) round call (m y) (λ cs. plan_gives setting frames (then_plan p on) at (c ∷ cs)) result open_calls
@@ -107,15 +120,15 @@ module _ (setting : Setting) (frames : List Frame) (call : InvokedCall) (way : W
       goes_on after AtObject le tt (λ cs. until_at setting frames call way at cs after close [] e lt le refl refl)
 
   pub nothing_costs : (round : ℕ) (result : Result Event AllocError) → way ≡ Nothing → round ≡ length frames
-      → Spends result (may_cost (completed setting round call false false no_material) ≡ true) → Spends result Opens
+      → ((needs : Bool) → Spends needs result (call_may_cost needs call.function (completed setting round call false false no_material) ≡ true)) → Spends (needs_memory frames) result Opens
   nothing_costs round result e open_calls h =
       call_costs setting frames at round call no_material (λ cs. OpensWith setting frames call way (inner_at setting (length frames)) at cs) result open_calls
       (λ cs. ap (λ (w : Way). OpensWith setting frames call w (inner_at setting (length frames)) at cs) e) h
 
-  pub some_costs : (result : Result Event AllocError) → way_in setting call ≡ Some way → Spends result Opens
-      → Spends result (Costs setting frames at (λ cs. plan_gives setting frames (called setting (length frames) (inner_at setting (length frames)) call) at cs))
-  some_costs result e h =
-      spends_same setting frames at (λ cs. OpensWith setting frames call way (inner_at setting (length frames)) at cs) _ result
+  pub some_costs : (needs : Bool) (result : Result Event AllocError) → way_in setting call ≡ Some way → Spends needs result Opens
+      → Spends needs result (Costs setting frames at (λ cs. plan_gives setting frames (called setting (length frames) (inner_at setting (length frames)) call) at cs))
+  some_costs needs result e h =
+      spends_same needs setting frames at (λ cs. OpensWith setting frames call way (inner_at setting (length frames)) at cs) _ result
       (λ cs. ap (λ (o : Option Way). plan_gives setting frames (gathered_by setting (length frames) (inner_at setting (length frames)) call o) at cs) e) h
 
 -- ---- tokens
@@ -126,7 +139,7 @@ pub token_taken : (setting : Setting) (frames : List Frame) (stage later : Stage
     → ((cs : List ℕ) → token_read setting.table setting.limits scan at (c ∷ cs) ≡ token_read setting.table setting.limits new (at + 1) cs)
     → RunsOut setting frames stage at c
 token_taken setting frames stage later on scan new at c stands lt first then read =
-    with_it (goes_on frames later (omega (arith, lt)) stands (λ cs. first cs ∙ ap (token_goes_on setting frames on) (read cs) ∙ sym (then cs)))
+    with_it frames (as_they_were refl) (goes_on frames later (omega (arith, lt)) stands (λ cs. first cs ∙ ap (token_goes_on setting frames on) (read cs) ∙ sym (then cs)))
 
 -- the same where it is known where the reader is
 pub token_taken_at : (setting : Setting) (frames : List Frame) (stage : Stage) (scan new : Scan) (at c : ℕ) → stage ≡ AtToken scan → IsStageAt (at + 1) (AtToken new) → at < setting.limits.text
@@ -135,55 +148,113 @@ token_taken_at setting frames stage scan new at c e stands lt read =
     subst (λ (s : Stage). RunsOut setting frames s at c) (sym e)
     (token_taken setting frames (AtToken scan) (AtToken new) (token_found setting) scan new at c stands lt (λ cs. refl) (λ cs. refl) read)
 
--- and then its call
+-- a token of a call has ended
 pub call_token_costs : (setting : Setting) (frames : List Frame) (call : InvokedCall) (old new : Scan) (marks : List Mark) (fed : LineByte) (at c round : ℕ) → fed ≡ LineEnded
     → ((cs : List ℕ) → TokenFeeds setting.table setting.limits new at c cs fed (token_read setting.table setting.limits old at (c ∷ cs))) → marks ≡ new.marks → round ≡ length frames
-    → may_cost (completed setting round call true false (marked marks)) ≡ true → RunsOut setting frames (AtCallToken call old) at c
-call_token_costs setting frames call old new marks fed at c round e feeds same open_calls cost =
-    before_it (
-      marks,
-      λ cs. subst (λ (f : LineByte). TokenFeeds setting.table setting.limits new at c cs f (token_read setting.table setting.limits old at (c ∷ cs))) e (feeds cs)
-          ∙ ap (λ (ms : List Mark). Ok (ms, at, c ∷ cs)) (sym same),
-      subst (λ (n : ℕ). may_cost (completed setting n call true false (marked marks)) ≡ true) open_calls cost,
-    )
+    → may_cost (completed setting round call true false (marked marks)) ≡ true → EndsToken setting frames (AtCallToken call old) at c
+call_token_costs setting frames call old new marks fed at c round e feeds same open_calls cost = (
+  marks,
+  λ cs. subst (λ (f : LineByte). TokenFeeds setting.table setting.limits new at c cs f (token_read setting.table setting.limits old at (c ∷ cs))) e (feeds cs)
+      ∙ ap (λ (ms : List Mark). Ok (ms, at, c ∷ cs)) (sym same),
+  subst (λ (n : ℕ). may_cost (completed setting n call true false (marked marks)) ≡ true) open_calls cost,
+)
 
--- and then the object that it is
-pub object_token_costs : (setting : Setting) (frames : List Frame) (scan : Scan) (marks : List Mark) (at c : ℕ)
-    → ((cs : List ℕ) → token_read setting.table setting.limits scan at (c ∷ cs) ≡ Ok (marks, at, c ∷ cs)) → HasMeaning setting marks → RunsOut setting frames (AtToken scan) at c
-object_token_costs setting frames scan marks at c ends meant = before_it (marks, ends, meant)
+-- what it gives, where memory may run out for it
+pub call_token_gives : (setting : Setting) (frames : List Frame) (call : InvokedCall) (scan : Scan) (at c : ℕ) (event : Event) (P : Type 0) → (P → EndsToken setting frames (AtCallToken call scan) at c)
+    → SpendsGiven (Ok event) P → GivesBefore setting frames (AtCallToken call scan) at c (IsBefore event)
+call_token_gives setting frames call scan at c (IsAt stage) P on h = tt
+call_token_gives setting frames call scan at c (IsGiven found) P on h = on h
+call_token_gives setting frames call scan at c (IsRefused code place) P on h = tt
 
--- what is told of a token has a meaning
-pub told_means : (packages : Packages) (current : Name) (meaning : Result Meaning MeaningRefusal) (answer : Told) → told_of packages current meaning ≡ Ok answer → IsOk meaning
-told_means packages current (Ok m) answer e = refl
-told_means packages current (Err refusal) answer e = cc
+-- a name needs memory whatever is open
+name_costs : (needs : Bool) (meaning : Result Meaning MeaningRefusal) → IsNameMeaning meaning → meaning_may_cost needs meaning ≡ true
+name_costs needs meaning (own, e) = ap (meaning_may_cost needs) e
 
-pub means_so : (setting : Setting) (letters : Case) (marks : List Mark) → letters ≡ setting.table.letters → IsOk (meaning_of setting.base (folded letters marks)) → HasMeaning setting marks
-means_so setting letters marks e h = subst (λ (l : Case). IsOk (meaning_of setting.base (folded l marks))) e h
+-- a token that is an object is a name or a number
+object_means : (packages : Packages) (current : Name) (meaning : Result Meaning MeaningRefusal) (token : Bool) (x : Object) → told_found (told_of packages current meaning) ≡ gives (one token x)
+    → meaning_may_cost true meaning ≡ true
+object_means packages current (Ok (number y)) token x e = refl
+object_means packages current (Ok dot) token x e = cc
+object_means packages current (Ok (name own)) token x e = refl
+object_means packages current (Err refusal) token x e = cc
+
+object_may_cost : (setting : Setting) (marks : List Mark) (token : Bool) (x : Object) → token_found setting marks ≡ gives (one token x) → token_may_cost setting true marks ≡ true
+object_may_cost setting [] token x e = cc
+object_may_cost setting (m ∷ ms) token x e = object_means setting.packages setting.current (meaning_of setting.base (folded setting.table.letters (m ∷ ms))) token x e
+
+-- what is given at the end of a token is what it means
+pub token_spends : (setting : Setting) (marks : List Mark) (needs : Bool) (result : Result Event AllocError) → SpendsToken setting marks result
+    → Spends needs result (token_may_cost setting needs marks ≡ true)
+token_spends setting marks needs (Ok (IsAt stage)) h = tt
+token_spends setting marks needs (Ok (IsGiven (nothing token))) h = tt
+token_spends setting marks needs (Ok (IsGiven (one token x))) h = λ e. ap (λ (b : Bool). token_may_cost setting b marks) e ∙ object_may_cost setting marks token x h
+token_spends setting marks needs (Ok (IsGiven lone_dot)) h = tt
+token_spends setting marks needs (Ok (IsGiven the_end)) h = tt
+token_spends setting marks needs (Ok (IsRefused code place)) h = tt
+token_spends setting marks needs (Err e) h = name_costs needs (meaning_of setting.base (folded setting.table.letters marks)) h
+
+-- a name has ended
+pub name_token_costs : (setting : Setting) (frames : List Frame) (scan : Scan) (marks : List Mark) (at c : ℕ)
+    → ((cs : List ℕ) → token_read setting.table setting.limits scan at (c ∷ cs) ≡ Ok (marks, at, c ∷ cs)) → IsNameMeaning (meaning_of setting.base (folded setting.table.letters marks))
+    → RunsOut setting frames (AtToken scan) at c
+name_token_costs setting frames scan marks at c ends own =
+    before_it (marks, ends, name_costs (needs_memory frames) (meaning_of setting.base (folded setting.table.letters marks)) own)
+
+-- what an object token gives
+pub object_token_gives : (setting : Setting) (frames : List Frame) (scan : Scan) (marks : List Mark) (at c : ℕ) (event : Event)
+    → ((cs : List ℕ) → token_read setting.table setting.limits scan at (c ∷ cs) ≡ Ok (marks, at, c ∷ cs)) → SpendsToken setting marks (Ok event)
+    → GivesBefore setting frames (AtToken scan) at c (IsBefore event)
+object_token_gives setting frames scan marks at c (IsAt stage) ends h = tt
+object_token_gives setting frames scan marks at c (IsGiven found) ends h = (marks, ends, h)
+object_token_gives setting frames scan marks at c (IsRefused code place) ends h = tt
+
+-- where memory ran out for what a token means, it is a name
+pub name_so : (letters other : Case) (base : ℕ) (marks : List Mark) → letters ≡ other → IsNameMeaning (meaning_of base (folded letters marks)) → IsNameMeaning (meaning_of base (folded other marks))
+name_so letters other base marks e h = subst (λ (l : Case). IsNameMeaning (meaning_of base (folded l marks))) e h
+
+-- what was told of a token is what it is
+pub told_gives : (setting : Setting) (letters : Case) (marks : List Mark) (answer : Told) → 0 < length marks → letters ≡ setting.table.letters
+    → told_of setting.packages setting.current (meaning_of setting.base (folded letters marks)) ≡ Ok answer → token_found setting marks ≡ told_found (Ok answer)
+told_gives setting letters [] answer some same e = absurd (omega (arith, some))
+told_gives setting letters (m ∷ ms) answer some same e =
+    ap (λ (l : Case). told_found (told_of setting.packages setting.current (meaning_of setting.base (folded l (m ∷ ms))))) (sym same) ∙ ap told_found e
 
 -- ---- where the reader is
 
 pub stage_costs : (setting : Setting) (frames : List Frame) (stage known : Stage) (at c : ℕ) → stage ≡ known
     → Costs setting frames (at + 1) (λ cs. stage_gives setting frames known at (c ∷ cs)) → RunsOut setting frames stage at c
-stage_costs setting frames stage known at c e h = subst (λ (s : Stage). RunsOut setting frames s at c) (sym e) (with_it h)
+stage_costs setting frames stage known at c e h = subst (λ (s : Stage). RunsOut setting frames s at c) (sym e) (with_it frames (as_they_were refl) h)
 
-pub stage_spends : (setting : Setting) (frames : List Frame) (stage known : Stage) (at c : ℕ) (result : Result Event AllocError) → stage ≡ known
-    → Spends result (Costs setting frames (at + 1) (λ cs. stage_gives setting frames known at (c ∷ cs))) → Spends result (RunsOut setting frames stage at c)
-stage_spends setting frames stage known at c result e h = spent_so result _ _ (stage_costs setting frames stage known at c e) h
+pub stage_spends : (needs : Bool) (setting : Setting) (frames : List Frame) (stage known : Stage) (at c : ℕ) (result : Result Event AllocError) → stage ≡ known
+    → Spends needs result (Costs setting frames (at + 1) (λ cs. stage_gives setting frames known at (c ∷ cs))) → Spends needs result (RunsOut setting frames stage at c)
+stage_spends needs setting frames stage known at c result e h = spent_so needs result _ _ (stage_costs setting frames stage known at c e) h
 
-pub stage_moves_spend : (setting : Setting) (frames : List Frame) (stage known : Stage) (at c : ℕ) (result : Result Moved AllocError) → stage ≡ known
-    → SpendsMove result (RunsOut setting frames known at c) → SpendsMove result (RunsOut setting frames stage at c)
-stage_moves_spend setting frames stage known at c result e h = subst (λ (s : Stage). SpendsMove result (RunsOut setting frames s at c)) (sym e) h
+pub stage_moves_spend : (needs : Bool) (setting : Setting) (frames : List Frame) (stage known : Stage) (at c : ℕ) (result : Result Moved AllocError) → stage ≡ known
+    → SpendsMove needs result (RunsOut setting frames known at c) → SpendsMove needs result (RunsOut setting frames stage at c)
+stage_moves_spend needs setting frames stage known at c result e h = subst (λ (s : Stage). SpendsMove needs result (RunsOut setting frames s at c)) (sym e) h
 
-pub passed : (result : Result Passed AllocError) (P : Type 0) → P → SpendsPass result P
-passed (Ok (PassedTaken event)) P h = spent (Ok event) P h
-passed (Ok (PassedDone found)) P h = h
-passed (Err e) P h = h
+pub stage_gives_before : (setting : Setting) (frames : List Frame) (stage known : Stage) (at c : ℕ) (result : Result Moved AllocError) → stage ≡ known
+    → IfOk result (GivesBefore setting frames known at c) → IfOk result (GivesBefore setting frames stage at c)
+stage_gives_before setting frames stage known at c result e h = subst (λ (s : Stage). IfOk result (GivesBefore setting frames s at c)) (sym e) h
 
--- what is given was found
-pub given_spends : (event : Event) (P : Type 0) → is_given event ≡ true → Spends (Ok event) P → P
-given_spends (IsAt stage) P e h = cc
-given_spends (IsGiven found) P e h = h
-given_spends (IsRefused code place) P e h = cc
+pub passed : (needs : Bool) (result : Result Passed AllocError) (P : Type 0) → P → SpendsPass needs result P
+passed needs (Ok (PassedTaken event)) P h = spent needs (Ok event) P h
+passed needs (Ok (PassedDone found)) P h = λ e. h
+passed needs (Err e) P h = h
+
+pub passed_so : (needs : Bool) (result : Result Passed AllocError) (P Q : Type 0) → (P → Q) → SpendsPass needs result P → SpendsPass needs result Q
+passed_so needs (Ok (PassedTaken event)) P Q on h = spent_so needs (Ok event) P Q on h
+passed_so needs (Ok (PassedDone found)) P Q on h = λ e. on (h e)
+passed_so needs (Err e) P Q on h = on h
+
+-- what is given was found, and needs memory to be taken
+pub given_spends : (frames : List Frame) (event : Event) (P : Type 0) → event_needs frames event ≡ true → Spends (needs_memory frames) (Ok event) P → P
+given_spends frames (IsAt stage) P e h = cc
+given_spends frames (IsGiven (nothing token)) P e h = cc
+given_spends frames (IsGiven (one token x)) P e h = h e
+given_spends frames (IsGiven lone_dot) P e h = cc
+given_spends frames (IsGiven the_end) P e h = cc
+given_spends frames (IsRefused code place) P e h = cc
 
 -- ---- a byte of what is gathered
 
@@ -198,21 +269,93 @@ taken_costs setting frames p q on later at c lt stands moves is =
 
 deeper : (setting : Setting) (f : Frame) (fs frames : List Frame) (at : ℕ) (read : List ℕ → Read Found) → frames ≡ f ∷ fs → Costs setting fs at read → Costs setting frames at read
 deeper setting f fs frames at read e (goes_on after stage le stands same) = goes_on after stage le stands same
-deeper setting f fs frames at read e (comes_to inner round is plan cost same) = comes_to (f ∷ inner) round (e ∙ ap (λ (gs : List Frame). f ∷ gs) is) plan cost same
+deeper setting f fs frames at read e (comes_to inner round is call material cost same) = comes_to (f ∷ inner) round (e ∙ ap (λ (gs : List Frame). f ∷ gs) is) call material cost same
 
-pub deeper_spends : (setting : Setting) (f : Frame) (fs frames : List Frame) (at : ℕ) (read : List ℕ → Read Found) (result : Result Event AllocError) → frames ≡ f ∷ fs
-    → Spends result (Costs setting fs at read) → Spends result (Costs setting frames at read)
-deeper_spends setting f fs frames at read result e h = spent_so result _ _ (deeper setting f fs frames at read e) h
+pub deeper_spends : (needs : Bool) (setting : Setting) (f : Frame) (fs frames : List Frame) (at : ℕ) (read : List ℕ → Read Found) (result : Result Event AllocError) → frames ≡ f ∷ fs
+    → Spends needs result (Costs setting fs at read) → Spends needs result (Costs setting frames at read)
+deeper_spends needs setting f fs frames at read result e h = spent_so needs result _ _ (deeper setting f fs frames at read e) h
 
-pub same_frames_spend : (setting : Setting) (now frames : List Frame) (at : ℕ) (read : List ℕ → Read Found) (result : Result Event AllocError) → now ≡ frames
-    → Spends result (Costs setting now at read) → Spends result (Costs setting frames at read)
-same_frames_spend setting now frames at read result e h = subst (λ (fs : List Frame). Spends result (Costs setting fs at read)) e h
+pub same_frames_spend : (needs : Bool) (setting : Setting) (now frames : List Frame) (at : ℕ) (read : List ℕ → Read Found) (result : Result Event AllocError) → now ≡ frames
+    → Spends needs result (Costs setting now at read) → Spends needs result (Costs setting frames at read)
+same_frames_spend needs setting now frames at read result e h = subst (λ (fs : List Frame). Spends needs result (Costs setting fs at read)) e h
+
+-- ---- after what was found
+
+module _ (setting : Setting) (old there : List Frame) (found : Found) (delivered : Delivered) (at c : ℕ) where
+  -- the byte needs memory, after the open calls took what was found
+  pub waits_cost : (token known : Bool) → delivered ≡ Waits token → token ≡ known → DeliversFrom old found there delivered
+      → ((cs : List ℕ) → Delivers setting there at cs delivered (plan_gives setting old (gives found) at cs))
+      → Costs setting there (at + 1) (λ cs. place_gives setting known there at (c ∷ cs)) → FoundCosts setting old found at c
+  waits_cost token known is same from delivers cost = by (needs_to_take old found) refl
+    where
+      e : delivered ≡ Waits known
+      e = is ∙ ap (λ (b : Bool). Waits b) same
+
+      by : (b : Bool) → needs_to_take old found ≡ b → FoundCosts setting old found at c
+      by true needs = taking needs
+      by false needs =
+          with_byte there (subst (λ (d : Delivered). DeliversFrom old found there d) e from needs)
+          (costs_same setting there (at + 1) (λ cs. place_gives setting known there at (c ∷ cs)) (λ cs. plan_gives setting old (gives found) at (c ∷ cs))
+          (λ cs. subst (λ (d : Delivered). Delivers setting there at (c ∷ cs) d (plan_gives setting old (gives found) at (c ∷ cs))) e (delivers (c ∷ cs))) cost)
+
+-- no token is no value
+something : (packages : Packages) (current : Name) (meaning : Result Meaning MeaningRefusal) (found : Found) → told_found (told_of packages current meaning) ≡ gives found → is_nothing found ≡ true → ⊥
+something packages current meaning (one token x) e none = cc
+something packages current meaning lone_dot e none = cc
+something packages current meaning the_end e none = cc
+something packages current meaning (nothing token) e none = by (told_of packages current meaning) e
+  where
+    by : (r : Result Told ℕ) → told_found r ≡ gives (nothing token) → ⊥
+    by (Ok (told_object x)) e = cc
+    by (Ok dot_alone) e = cc
+    by (Err code) e = cc
+
+token_is_something : (setting : Setting) (marks : List Mark) (found : Found) → token_found setting marks ≡ gives found → is_nothing found ≡ true → ⊥
+token_is_something setting [] found e none = let same : the_end ≡ found = cc in cc
+token_is_something setting (m ∷ ms) found e none = something setting.packages setting.current (meaning_of setting.base (folded setting.table.letters (m ∷ ms))) found e none
+
+-- A byte ended a token, which is this.
+pub found_runs_out : (setting : Setting) (frames : List Frame) (stage : Stage) (at c : ℕ) (found : Found) → EndsWith setting frames stage at c found
+    → ((cs : List ℕ) → stage_gives setting frames stage at (c ∷ cs) ≡ plan_gives setting frames (gives found) at (c ∷ cs))
+    → FoundCosts setting frames found at c → RunsOut setting frames stage at c
+found_runs_out setting frames (AtToken scan) at c found (marks, ends, is) same (passing none) = absurd (token_is_something setting marks found is none)
+found_runs_out setting frames (AtToken scan) at c found (marks, ends, is) same (with_byte there takes cost) =
+    with_it there (after_token scan refl marks ends found is takes)
+    (costs_same setting there (at + 1) (λ cs. plan_gives setting frames (gives found) at (c ∷ cs)) (λ cs. stage_gives setting frames (AtToken scan) at (c ∷ cs)) same cost)
+found_runs_out setting frames (AtToken scan) at c (one token x) (marks, ends, is) same (taking needs) =
+    before_it (marks, ends, ap (λ (b : Bool). token_may_cost setting b marks) needs ∙ object_may_cost setting marks token x is)
+found_runs_out setting frames (AtToken scan) at c (nothing token) (marks, ends, is) same (taking needs) = cc
+found_runs_out setting frames (AtToken scan) at c lone_dot (marks, ends, is) same (taking needs) = cc
+found_runs_out setting frames (AtToken scan) at c the_end (marks, ends, is) same (taking needs) = cc
+found_runs_out setting frames (AtCallToken call scan) at c found ends same cost = before_it ends
+found_runs_out setting frames AtObject at c found ends same cost = absurd ends
+found_runs_out setting frames (AtText call terminator text) at c found ends same cost = absurd ends
+found_runs_out setting frames (AtEscaped call terminator text) at c found ends same cost = absurd ends
+found_runs_out setting frames (AtLine call keep text) at c found ends same cost = absurd ends
+found_runs_out setting frames (AtBlock call levels) at c found ends same cost = absurd ends
+found_runs_out setting frames (AtNumber character n) at c found ends same cost = absurd ends
+
+-- the same of a byte, where it is known what was found before it, and that the calls that were open are open
+pub before_runs_out : (setting : Setting) (frames after : List Frame) (stage : Stage) (at c : ℕ) (moved : Moved) (event : Event) (found : Found) → moved ≡ IsBefore event → event ≡ IsGiven found
+    → GivesBefore setting frames stage at c moved → StaysOpen frames after moved
+    → ((cs : List ℕ) → Moves setting after at c cs moved (stage_gives setting frames stage at (c ∷ cs)))
+    → FoundCosts setting after found at c → RunsOut setting frames stage at c
+before_runs_out setting frames after stage at c moved event found e is gives_it stays moves cost =
+    let before : moved ≡ IsBefore (IsGiven found) = e ∙ ap (λ (ev : Event). IsBefore ev) is in
+    let open_there : after ≡ frames = subst (λ (m : Moved). StaysOpen frames after m) before stays in
+    found_runs_out setting frames stage at c found (subst (λ (m : Moved). GivesBefore setting frames stage at c m) before gives_it)
+    (λ cs. subst (λ (m : Moved). Moves setting after at c cs m (stage_gives setting frames stage at (c ∷ cs))) before (moves cs)
+    ∙ ap (λ (fs : List Frame). plan_gives setting fs (gives found) at (c ∷ cs)) open_there)
+    (subst (λ (fs : List Frame). FoundCosts setting fs found at c) open_there cost)
 
 -- ---- turns
 
-pub turn_spends : {T : Type 0} (result : Result T AllocError) (event : Event) (P : Type 0) → OnErr result (is_given event ≡ true) → Spends (Ok event) P → OnErr result P
-turn_spends (Ok t) event P given h = tt
-turn_spends (Err e) event P given h = given_spends event P given h
+pub turn_spends : {T : Type 0} (result : Result T AllocError) (frames : List Frame) (event : Event) (P : Type 0) → OnErr result (event_needs frames event ≡ true)
+    → Spends (needs_memory frames) (Ok event) P → OnErr result P
+turn_spends (Ok t) frames event P given h = tt
+turn_spends (Err e) frames event P given h = given_spends frames event P given h
 
-pub done_spends : (passed : Passed) (found : Found) (P : Type 0) → passed ≡ PassedDone found → SpendsPass (Ok passed) P → P
-done_spends passed found P e h = subst (λ (p : Passed). SpendsPass (Ok p) P) e h
+pub done_spends : {T : Type 0} (needs : Bool) (result : Result T AllocError) (passed : Passed) (found : Found) (P : Type 0) → passed ≡ PassedDone found → OnErr result (is_nothing found ≡ true)
+    → SpendsPass needs (Ok passed) P → OnErr result P
+done_spends needs (Ok t) passed found P e none h = tt
+done_spends needs (Err x) passed found P e none h = subst (λ (p : Passed). SpendsPass needs (Ok p) P) e h none

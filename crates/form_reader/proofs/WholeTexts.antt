@@ -1,5 +1,5 @@
 -- Where memory may run out in reading a whole text: its first byte is not refused where it stands.
-use Rattle.std.proofs.Common.{◌≡◌, ℕ, zero, suc, ◌+◌, ◌-◌, ◌<◌, Bool, true, false, List, [], ◌∷◌, ◌++◌, Result, Ok, Err, take, drop, refl, sym, ap, subst, ◌∙◌, append_assoc, arith}
+use Rattle.std.proofs.Common.{◌≡◌, ℕ, zero, suc, ◌+◌, ◌-◌, ◌<◌, Bool, true, false, List, [], ◌∷◌, ◌++◌, length, Result, Ok, Err, take, drop, refl, sym, ap, subst, ◌∙◌, append_assoc, arith}
 use Rattle.std.proofs.lemmas.Bool.{eqb-true}
 use Rattle.std.proofs.lemmas.List.{take-append-drop}
 use Rattle.std.specs.Prelude.{◌==◌, ◌&&◌, OnErr}
@@ -13,9 +13,11 @@ use Rattle.form_reader.specs.declared.reader.State.{State}
 use Rattle.form_reader.specs.declared.stage.Stage.TheVariants.{Object as AtObject}
 use Rattle.form_reader.specs.Plans.{Plan, gives, refuses, takes, scans, run}
 use Rattle.form_reader.specs.Setting.{Setting}
-use Rattle.form_reader.specs.Reading.{refused, reads}
-use Rattle.form_reader.specs.Frames.{given, plan_gives}
-use Rattle.form_reader.specs.Memory.{may_cost}
+use Rattle.form_reader.specs.Reading.{completed, refused, reads}
+use Rattle.form_reader.specs.Frames.{given, needs_memory, plan_gives}
+use Rattle.form_reader.specs.declared.way.Function.{Function}
+use Rattle.form_reader.specs.declared.way.Function.TheVariants.{Standard as AStandard, User}
+use Rattle.form_reader.specs.Memory.{may_cost, call_may_cost, AreOpen, as_they_were, after_token}
 use Rattle.form_reader.specs.Turning.{outcome_of}
 use Rattle.form_reader.specs.Reader.{DecideNothing, IsNew, IsAfter, NeedsMemory, undecided, token_ends, call_ends, MayRunOutIn, MayRunOut, EndMayRunOutIn, EndMayRunOut, ReadMayRunOut, ReadNeedsMemory, at_byte, at_end}
 use Rattle.form_reader.proofs.Deciding.{refusal_stays}
@@ -58,14 +60,26 @@ plan_stands setting (refuses number back) code cost e =
 plan_stands setting (takes other test on) code cost e = cc
 plan_stands setting (scans escaped limit on) code cost e = cc
 
+may_cost_so : (needs : Bool) (function : Function) (plan : Plan Found) → call_may_cost needs function plan ≡ true → may_cost plan ≡ true
+may_cost_so needs (User function) plan e = e
+may_cost_so needs (AStandard kind) (gives found) e = refl
+may_cost_so needs (AStandard kind) (refuses number back) e = cc
+may_cost_so needs (AStandard kind) (takes other test on) e = cc
+may_cost_so needs (AStandard kind) (scans escaped limit on) e = cc
+
 -- ---- the reader, which was fed nothing
+
+still_none : (setting : Setting) (there : List Frame) (at c : ℕ) → AreOpen setting [] AtObject at c there → there ≡ []
+still_none setting there at c (as_they_were e) = e
+still_none setting there at c (after_token scan e marks ends found is never) = cc
 
 needing_stands : (setting : Setting) (c : ℕ) → NeedsMemory setting [] AtObject 0 0 [] c → Stands setting c
 needing_stands setting c (undecided h) = undecided_stands setting c h
 needing_stands setting c (token_ends h) = absurd h
-needing_stands setting c (call_ends inner round is plan cost read) = λ code e.
-    plan_stands setting plan code cost
-    (ap (λ (fs : List Frame). outcome_of setting 0 (plan_gives setting fs plan 1 [])) (sym (none_round inner round is)) ∙ sym (read []) ∙ e)
+needing_stands setting c (call_ends there inner round calls is call material cost read) = λ code e.
+    let plan : Plan Found = completed setting (length round) call false false material in
+    plan_stands setting plan code (may_cost_so (needs_memory round) call.function plan cost)
+    (ap (λ (fs : List Frame). outcome_of setting 0 (plan_gives setting fs plan 1 [])) (sym (none_round inner round (sym (still_none setting there 0 c calls) ∙ is))) ∙ sym (read []) ∙ e)
 
 new_stands : (setting : Setting) (reader : FormReader) (c : ℕ) → IsNew reader → MayRunOut setting reader [] c → Stands setting c
 new_stands setting reader c n h =

@@ -1,9 +1,11 @@
 -- What a reader that takes one byte at a time stands for: its open calls, innermost first, and where it is in the innermost.
 -- By recursion on the open calls alone, over the definition of reading.
-use Rattle.std.specs.Prelude.{ℕ, ◌+◌, ◌-◌, ◌==◌, Bool, false, List, [], ◌∷◌, length, Option, Some, None, Ok, Err}
+use Rattle.std.specs.Prelude.{ℕ, ◌+◌, ◌-◌, ◌==◌, ◌||◌, Bool, true, false, List, [], ◌∷◌, ◌++◌, length, Option, Some, None, option_map, Ok, Err}
+use Rattle.lisp_object.specs.Object.{Object}
 use Rattle.token_scan.specs.declared.mark.Mark.{Mark}
 use Rattle.std_macros.specs.Values.{one as one_object}
 use Rattle.form_reader.specs.declared.found.Found.{Found}
+use Rattle.form_reader.specs.declared.found.Found.TheVariants.{Nothing as nothing, One as one, LoneDot as lone_dot, TheEnd as the_end}
 use Rattle.form_reader.specs.declared.frame.Frame.{Frame}
 use Rattle.form_reader.specs.declared.frame.Part.{Part}
 use Rattle.form_reader.specs.declared.frame.Part.TheVariants.{Next as InNext, List as InList, Until as InUntil, Dotted as InDotted, Tailed as InTailed}
@@ -28,6 +30,77 @@ close_of_frames (f ∷ fs) = close_of f.part
 abbrev pub is_closed_by : Option ℕ → ℕ → Bool
 is_closed_by None c = false
 is_closed_by (Some close) c = c == close
+
+-- ---- what the innermost call takes, where it goes on as the same call
+
+-- what it has gathered after it takes an object; None where it ends with the object, or refuses it
+abbrev pub with_object : Part → Object → Option Part
+with_object InNext x = None
+with_object (InList xs) x = Some (InList (xs ++ x ∷ []))
+with_object (InUntil close xs) x = Some (InUntil close (xs ++ x ∷ []))
+with_object (InDotted xs) x = Some (InTailed xs x)
+with_object (InTailed xs tail) x = None
+
+-- after it takes a dot; None where it refuses it
+abbrev pub with_dot : Part → Option Part
+with_dot InNext = None
+with_dot (InList []) = None
+with_dot (InList (x ∷ xs)) = Some (InDotted (x ∷ xs))
+with_dot (InUntil close xs) = None
+with_dot (InDotted xs) = None
+with_dot (InTailed xs tail) = None
+
+-- after it takes what was found
+abbrev pub with_found : Part → Found → Option Part
+with_found part (nothing token) = Some part
+with_found part (one token x) = with_object part x
+with_found part lone_dot = with_dot part
+with_found part the_end = None
+
+-- the open calls then
+abbrev pub calls_with : List Frame → Found → Option (List Frame)
+calls_with [] found = None
+calls_with (f ∷ fs) found = option_map (λ part. record { call = f.call; part = part } ∷ fs) (with_found f.part found)
+
+-- it waits for its one object, with which it ends
+abbrev pub is_next : Part → Bool
+is_next InNext = true
+is_next (InList xs) = false
+is_next (InUntil close xs) = false
+is_next (InDotted xs) = false
+is_next (InTailed xs tail) = false
+
+abbrev pub is_waiting : List Frame → Bool
+is_waiting [] = false
+is_waiting (f ∷ fs) = is_next f.part
+
+-- it keeps an object among others
+abbrev pub is_keeping : Part → Bool
+is_keeping InNext = false
+is_keeping (InList xs) = true
+is_keeping (InUntil close xs) = true
+is_keeping (InDotted xs) = false
+is_keeping (InTailed xs tail) = false
+
+abbrev pub keeps_objects : List Frame → Bool
+keeps_objects [] = false
+keeps_objects (f ∷ fs) = is_keeping f.part
+
+-- It needs memory to take an object: it ends with it, or keeps it among others. A list needs none for the object after its dot,
+-- nor to refuse one more.
+abbrev pub part_needs_memory : Part → Bool
+part_needs_memory part = is_next part || is_keeping part
+
+abbrev pub needs_memory : List Frame → Bool
+needs_memory [] = false
+needs_memory (f ∷ fs) = part_needs_memory f.part
+
+-- the same to take what was found, which is an object then
+abbrev pub needs_to_take : List Frame → Found → Bool
+needs_to_take frames (one token x) = needs_memory frames
+needs_to_take frames (nothing token) = false
+needs_to_take frames lone_dot = false
+needs_to_take frames the_end = false
 
 -- What the call gives if this piece comes next, where so many calls are open round it, and attempts inside it are these.
 abbrev pub part_gives : Setting → ℕ → Plan Found → InvokedCall → Part → Piece → Plan Found

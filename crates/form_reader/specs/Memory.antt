@@ -1,14 +1,16 @@
 -- Where memory may run out: where reading goes on, or where something was found.
-use Rattle.std.specs.Prelude.{ℕ, ◌≡◌, ◌+◌, ◌≤◌, ◌==◌, ◌&&◌, ◌||◌, nat_lt, not, Bool, true, false, List, ◌∷◌, ◌++◌, length, Result, Ok, Err, IsOk}
+use Rattle.std.specs.Prelude.{ℕ, ◌≡◌, ◌+◌, ◌≤◌, ◌==◌, ◌&&◌, ◌||◌, nat_lt, not, Bool, true, false, List, ◌∷◌, ◌++◌, length, Some, Result, Ok, Err}
 use Rattle.std.specs.declared.alloc.AllocError.{AllocError}
 use Rattle.lisp_object.specs.declared.refusal.TheConstants.{MACRO_REFUSED, MACRO_ANSWER}
-use Rattle.std_macros.specs.Values.{marked}
+use Rattle.std_macros.specs.Results.{takes_memory}
+use Rattle.std_macros.specs.Values.{Material, marked}
+use Rattle.token_meaning.specs.declared.refusal.MeaningRefusal.{MeaningRefusal}
 use Rattle.token_meaning.specs.Folding.{folded}
-use Rattle.token_meaning.specs.Meanings.{meaning_of}
+use Rattle.token_meaning.specs.Meanings.{Meaning, number, dot, name, meaning_of}
 use Rattle.token_scan.specs.declared.mark.Mark.{Mark}
 use Rattle.token_scan.specs.Scans.{Scan}
 use Rattle.form_reader.specs.declared.found.Found.{Found}
-use Rattle.form_reader.specs.declared.found.Found.TheVariants.{Nothing as nothing}
+use Rattle.form_reader.specs.declared.found.Found.TheVariants.{Nothing as nothing, One as one}
 use Rattle.form_reader.specs.declared.way.Function.{Function}
 use Rattle.form_reader.specs.declared.way.Function.TheVariants.{Standard as AStandard, User}
 use Rattle.form_reader.specs.declared.frame.Frame.{Frame}
@@ -20,11 +22,13 @@ use Rattle.form_reader.specs.declared.stage.Event.{Event}
 use Rattle.form_reader.specs.declared.stage.Event.TheVariants.{Gives as IsGiven}
 use Rattle.form_reader.specs.declared.stage.Stage.{Stage}
 use Rattle.form_reader.specs.declared.stage.Stage.TheVariants.{Object as AtObject, Token as AtToken, CallToken as AtCallToken}
+use Rattle.form_reader.specs.Calls.{InvokedCall}
 use Rattle.form_reader.specs.Plans.{Plan, gives, refuses, Read}
 use Rattle.form_reader.specs.Setting.{Setting}
-use Rattle.form_reader.specs.Reading.{completed, is_whitespace}
+use Rattle.form_reader.specs.Reading.{completed, is_whitespace, token_found}
+use Rattle.form_reader.specs.Naming.{IsNameMeaning}
 use Rattle.form_reader.specs.Feeding.{token_read}
-use Rattle.form_reader.specs.Frames.{close_of_frames, is_closed_by, plan_gives}
+use Rattle.form_reader.specs.Frames.{close_of_frames, is_closed_by, plan_gives, calls_with, needs_memory, needs_to_take}
 use Rattle.form_reader.specs.Resuming.{IsStageAt, stage_gives}
 
 -- What a call comes to where memory may run out: it gives something, or a function of a user refuses it, at its end.
@@ -33,66 +37,100 @@ may_cost (gives found) = true
 may_cost (refuses code back) = back == 0 && (code == MACRO_REFUSED || code == MACRO_ANSWER)
 may_cost _ = false
 
--- It gives something else than no value.
-abbrev pub gives_some : Plan Found → Bool
-gives_some (gives (nothing token)) = false
-gives_some (gives found) = true
-gives_some _ = false
+-- It gives an object.
+abbrev pub gives_object : Plan Found → Bool
+gives_object (gives (one token x)) = true
+gives_object _ = false
 
--- The same of a call of this function, where no open call takes what it gives: of a standard function, it gives an object.
-abbrev pub call_may_cost : Function → Plan Found → Bool
-call_may_cost (AStandard kind) plan = gives_some plan
-call_may_cost (User name) plan = may_cost plan
+-- The same of a call of this function, where the innermost call round it needs memory to take an object, or none: a standard
+-- function gives an object, for which it or the call round it needs memory; a function of a user is called, for which it may.
+abbrev pub call_may_cost : Bool → Function → Plan Found → Bool
+call_may_cost needs (AStandard kind) plan = gives_object plan && (takes_memory kind || needs)
+call_may_cost needs (User function) plan = may_cost plan
 
 -- What is read from this place on, after a byte that was taken in these open calls: reading goes on, in some open calls at some
--- stage; or some of the calls have come to their end, and in those round them this is found.
+-- stage; or some of the calls have come to their end, and in those round them a call comes to something for which memory may
+-- run out.
 pub data Costs (setting : Setting) (frames : List Frame) (at : ℕ) (read : List ℕ → Read Found) : Type 0 where
   goes_on : (after : List Frame) (stage : Stage) → at ≤ setting.limits.text → IsStageAt at stage
       → ((cs : List ℕ) → read cs ≡ stage_gives setting after stage at cs) → Costs setting frames at read
-  comes_to : (inner round : List Frame) → frames ≡ inner ++ round → (plan : Plan Found) → may_cost plan ≡ true
-      → ((cs : List ℕ) → read cs ≡ plan_gives setting round plan at cs) → Costs setting frames at read
+  comes_to : (inner round : List Frame) → frames ≡ inner ++ round → (call : InvokedCall) (material : Material)
+      → call_may_cost (needs_memory round) call.function (completed setting (length round) call false false material) ≡ true
+      → ((cs : List ℕ) → read cs ≡ plan_gives setting round (completed setting (length round) call false false material) at cs) → Costs setting frames at read
 
--- Where memory ran out, or something is given, which open calls may need memory to take.
-abbrev pub Spends : Result Event AllocError → Type 0 → Type 0
-Spends (Ok (IsGiven found)) P = P
-Spends (Ok _) P = Unit {0}
-Spends (Err e) P = P
+-- Where memory ran out, or an object is given to open calls that need memory to take one, if they do.
+abbrev pub Spends : Bool → Result Event AllocError → Type 0 → Type 0
+Spends needs (Ok (IsGiven (one token x))) P = needs ≡ true → P
+Spends needs (Ok _) P = Unit {0}
+Spends needs (Err e) P = P
 
--- The same where no value needs no memory to be taken.
-abbrev pub SpendsSome : Result Event AllocError → Type 0 → Type 0
-SpendsSome (Ok (IsGiven (nothing token))) P = Unit {0}
-SpendsSome (Ok (IsGiven found)) P = P
-SpendsSome (Ok _) P = Unit {0}
-SpendsSome (Err e) P = P
-
-abbrev pub SpendsMove : Result Moved AllocError → Type 0 → Type 0
-SpendsMove (Ok (IsTaken event)) P = Spends (Ok event) P
-SpendsMove (Ok (IsBefore event)) P = Spends (Ok event) P
-SpendsMove (Err e) P = P
-
-abbrev pub SpendsPass : Result Passed AllocError → Type 0 → Type 0
-SpendsPass (Ok (PassedTaken event)) P = Spends (Ok event) P
-SpendsPass (Ok (PassedDone found)) P = P
-SpendsPass (Err e) P = P
+-- memory ran out, or something is given
+abbrev pub SpendsGiven : Result Event AllocError → Type 0 → Type 0
+SpendsGiven (Ok (IsGiven found)) P = P
+SpendsGiven (Ok _) P = Unit {0}
+SpendsGiven (Err e) P = P
 
 abbrev pub is_given : Event → Bool
 is_given (IsGiven found) = true
 is_given _ = false
 
+-- an object is given to open calls that need memory to take one
+abbrev pub event_needs : List Frame → Event → Bool
+event_needs frames (IsGiven found) = needs_to_take frames found
+event_needs frames _ = false
+
+-- no value is given
+abbrev pub is_nothing : Found → Bool
+is_nothing (nothing token) = true
+is_nothing _ = false
+
+abbrev pub SpendsPass : Bool → Result Passed AllocError → Type 0 → Type 0
+SpendsPass needs (Ok (PassedTaken event)) P = Spends needs (Ok event) P
+SpendsPass needs (Ok (PassedDone found)) P = is_nothing found ≡ true → P
+SpendsPass needs (Err e) P = P
+
+-- ---- tokens
+
 -- the byte at this place ends the token, which has these marks, and is not taken
 abbrev pub TokenEnds : Setting → Scan → List Mark → ℕ → ℕ → Type 0
 TokenEnds setting scan marks at c = (cs : List ℕ) → token_read setting.table setting.limits scan at (c ∷ cs) ≡ Ok (marks, at, c ∷ cs)
 
--- the token means a number, a dot or a name; packages may refuse the name
-abbrev pub HasMeaning : Setting → List Mark → Type 0
-HasMeaning setting marks = IsOk (meaning_of setting.base (folded setting.table.letters marks))
+-- A token means something for which memory may run out: a name, which packages may refuse; or a number, where the innermost call
+-- needs memory to take it. A dot needs none.
+abbrev pub meaning_may_cost : Bool → Result Meaning MeaningRefusal → Bool
+meaning_may_cost needs (Ok (name own)) = true
+meaning_may_cost needs (Ok (number x)) = needs
+meaning_may_cost needs (Ok dot) = false
+meaning_may_cost needs (Err refusal) = false
 
--- A token is open that the byte at this place ends, and neither its meaning nor its call is refused.
+abbrev pub token_may_cost : Setting → Bool → List Mark → Bool
+token_may_cost setting needs marks = meaning_may_cost needs (meaning_of setting.base (folded setting.table.letters marks))
+
+-- Where memory runs out at the end of a token, it is a name. What is given there is what the token means.
+abbrev pub SpendsToken : Setting → List Mark → Result Event AllocError → Type 0
+SpendsToken setting marks (Ok (IsGiven found)) = token_found setting marks ≡ gives found
+SpendsToken setting marks (Ok _) = Unit {0}
+SpendsToken setting marks (Err e) = IsNameMeaning (meaning_of setting.base (folded setting.table.letters marks))
+
+-- A token is open that the byte at this place ends, and memory may run out for what it means, or for its call.
 abbrev pub EndsToken : Setting → List Frame → Stage → ℕ → ℕ → Type 0
-EndsToken setting frames (AtToken scan) at c = (marks : List Mark) × TokenEnds setting scan marks at c × HasMeaning setting marks
+EndsToken setting frames (AtToken scan) at c =
+    (marks : List Mark) × TokenEnds setting scan marks at c × (token_may_cost setting (needs_memory frames) marks ≡ true)
 EndsToken setting frames (AtCallToken call scan) at c =
     (marks : List Mark) × TokenEnds setting scan marks at c × (may_cost (completed setting (length frames) call true false (marked marks)) ≡ true)
 EndsToken setting frames _ at c = ⊥
+
+-- A token is open that the byte at this place ends, and this is what it is; of the token of a call, memory may run out for it.
+abbrev pub EndsWith : Setting → List Frame → Stage → ℕ → ℕ → Found → Type 0
+EndsWith setting frames (AtToken scan) at c found = (marks : List Mark) × TokenEnds setting scan marks at c × (token_found setting marks ≡ gives found)
+EndsWith setting frames stage at c found = EndsToken setting frames stage at c
+
+-- The open calls where the byte at this place is looked at: those that were open; or the byte ends a token, which the innermost
+-- call takes before.
+pub data AreOpen (setting : Setting) (frames : List Frame) (stage : Stage) (at c : ℕ) (there : List Frame) : Type 0 where
+  as_they_were : there ≡ frames → AreOpen setting frames stage at c there
+  after_token : (scan : Scan) → stage ≡ AtToken scan → (marks : List Mark) → TokenEnds setting scan marks at c
+      → (found : Found) → token_found setting marks ≡ gives found → calls_with frames found ≡ Some there → AreOpen setting frames stage at c there
 
 -- The byte at this place is whitespace that is discarded where an object may begin: it is below the limit of the text, and not
 -- the closing character that is looked for.
@@ -103,5 +141,31 @@ is_space setting frames _ at c = false
 
 -- What the byte at this place is, where memory may run out.
 pub data RunsOut (setting : Setting) (frames : List Frame) (stage : Stage) (at c : ℕ) : Type 0 where
-  with_it : Costs setting frames (at + 1) (λ cs. stage_gives setting frames stage at (c ∷ cs)) → RunsOut setting frames stage at c
+  with_it : (there : List Frame) → AreOpen setting frames stage at c there
+      → Costs setting there (at + 1) (λ cs. stage_gives setting frames stage at (c ∷ cs)) → RunsOut setting frames stage at c
   before_it : EndsToken setting frames stage at c → RunsOut setting frames stage at c
+
+-- before a byte that ended a token the same calls are open
+abbrev pub StaysOpen : List Frame → List Frame → Moved → Type 0
+StaysOpen frames after (IsTaken event) = Unit {0}
+StaysOpen frames after (IsBefore event) = after ≡ frames
+
+-- what is given there is what the token is
+abbrev pub GivesBefore : Setting → List Frame → Stage → ℕ → ℕ → Moved → Type 0
+GivesBefore setting frames stage at c (IsTaken event) = Unit {0}
+GivesBefore setting frames stage at c (IsBefore (IsGiven found)) = EndsWith setting frames stage at c found
+GivesBefore setting frames stage at c (IsBefore _) = Unit {0}
+
+abbrev pub SpendsMove : Bool → Result Moved AllocError → Type 0 → Type 0
+SpendsMove needs (Ok (IsTaken event)) P = Spends needs (Ok event) P
+SpendsMove needs (Ok (IsBefore event)) P = Unit {0}
+SpendsMove needs (Err e) P = P
+
+-- Where memory may run out for what was found before the byte at this place and for this byte: open calls need memory to take
+-- it; or it is no value, after which a new attempt may begin with the byte; or the byte needs memory, after the innermost call
+-- took what was found.
+pub data FoundCosts (setting : Setting) (frames : List Frame) (found : Found) (at c : ℕ) : Type 0 where
+  taking : needs_to_take frames found ≡ true → FoundCosts setting frames found at c
+  passing : is_nothing found ≡ true → FoundCosts setting frames found at c
+  with_byte : (there : List Frame) → calls_with frames found ≡ Some there
+      → Costs setting there (at + 1) (λ cs. plan_gives setting frames (gives found) at (c ∷ cs)) → FoundCosts setting frames found at c

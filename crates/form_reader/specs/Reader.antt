@@ -3,7 +3,6 @@ use Rattle.std.specs.Prelude.{ℕ, ◌≡◌, ◌+◌, ◌≤◌, true, false, L
 use Rattle.lisp_object.specs.Object.{IsSound}
 use Rattle.lisp_object.specs.Datum.{object_of, is_proper}
 use Rattle.form_reader.specs.declared.limits.Limits.{Limits}
-use Rattle.form_reader.specs.declared.found.Found.{Found}
 use Rattle.form_reader.specs.declared.frame.Frame.{Frame}
 use Rattle.form_reader.specs.declared.stage.Stage.{Stage}
 use Rattle.form_reader.specs.declared.stage.Stage.TheVariants.{Object as AtObject}
@@ -16,11 +15,12 @@ use Rattle.form_reader.specs.declared.ending.ReadOutcome.{ReadOutcome}
 use Rattle.form_reader.specs.declared.ending.ReadOutcome.TheVariants.{Form as ReadForm, Empty as ReadEmpty, Refused as ReadRefused}
 use Rattle.form_reader.specs.declared.turn.Turn.{Turn}
 use Rattle.form_reader.specs.declared.turn.Turn.TheVariants.{Goes, Form as TurnForm, Refused as TurnRefused}
+use Rattle.std_macros.specs.Values.{Material}
+use Rattle.form_reader.specs.Calls.{InvokedCall}
 use Rattle.form_reader.specs.Setting.{Setting}
-use Rattle.form_reader.specs.Reading.{Outcome, form, empty, refused, reads}
-use Rattle.form_reader.specs.Plans.{Plan}
-use Rattle.form_reader.specs.Frames.{plan_gives}
-use Rattle.form_reader.specs.Memory.{may_cost, is_space, EndsToken}
+use Rattle.form_reader.specs.Reading.{completed, Outcome, form, empty, refused, reads}
+use Rattle.form_reader.specs.Frames.{plan_gives, needs_memory}
+use Rattle.form_reader.specs.Memory.{call_may_cost, is_space, AreOpen, EndsToken}
 use Rattle.form_reader.specs.Ending.{EndNeedsMemory}
 use Rattle.form_reader.specs.Turning.{outcome_of, rest_of}
 
@@ -95,13 +95,17 @@ BeginsLater old new (StepForm datum start «end» next) = (begun old ≤ start) 
 BeginsLater old new (StepRefused code place) = begun new ≡ begun old
 
 -- Where memory may run out at a byte that comes after these bytes, where the reader is at this stage. The bytes with this one
--- decide nothing. Or the byte ends an open token, and neither the token's meaning nor its call is refused. Or none or some of the
--- open calls end with the byte, and in those round them something is found, or a function of a user refuses its call.
+-- decide nothing. Or the byte ends an open token, and the token is a name, or a number that the innermost call needs memory to
+-- take, or memory may run out for its call. Or none or some of the calls that are open where the byte is looked at end with it,
+-- and in those round them memory may run out for a call that ends with it.
 pub data NeedsMemory (setting : Setting) (frames : List Frame) (stage : Stage) (start at : ℕ) (bytes : List ℕ) (c : ℕ) : Type 0 where
   undecided : DecideNothing setting (bytes ++ c ∷ []) → NeedsMemory setting frames stage start at bytes c
   token_ends : EndsToken setting frames stage at c → NeedsMemory setting frames stage start at bytes c
-  call_ends : (inner round : List Frame) → frames ≡ inner ++ round → (plan : Plan Found) → may_cost plan ≡ true
-      → ((cs : List ℕ) → reads setting (bytes ++ c ∷ cs) ≡ outcome_of setting start (plan_gives setting round plan (at + 1) cs))
+  call_ends : (there inner round : List Frame) → AreOpen setting frames stage at c there → there ≡ inner ++ round
+      → (call : InvokedCall) (material : Material)
+      → call_may_cost (needs_memory round) call.function (completed setting (length round) call false false material) ≡ true
+      → ((cs : List ℕ) → reads setting (bytes ++ c ∷ cs)
+      ≡ outcome_of setting start (plan_gives setting round (completed setting (length round) call false false material) (at + 1) cs))
       → NeedsMemory setting frames stage start at bytes c
 
 -- The same of a reader. A byte needs none after a refusal, and none where it is whitespace that is discarded.

@@ -58,7 +58,7 @@ IsReadyPass limits at (PassedDone found) = lookahead found ≤ 1
 
 -- What open calls make of what is found at this place: no more of the text matters to it.
 abbrev pub IsTakenAt : ℕ → ℕ → Taken → Type 0
-IsTakenAt most at (Stays token frame) = space token ≤ most
+IsTakenAt most at (Stays token) = space token ≤ most
 IsTakenAt most at (TakenGives found) = lookahead found ≤ most
 IsTakenAt most at (TakenRefused code place) = place ≤ at
 

@@ -1,16 +1,16 @@
 //! What a call gives for what was gathered.
-ghost use Rattle.std.specs.Prelude.{◌≡◌, ◌+◌, true, nat_le, IfOk, OnErr, ◌≤◌, ◌||◌};
+ghost use Rattle.std.specs.Prelude.{◌≡◌, ◌+◌, Bool, true, nat_le, IfOk, OnErr, ◌≤◌, ◌||◌};
 ghost use Rattle.lisp_object.specs.Object.{object_depth};
 ghost use Rattle.lisp_object.specs.Datum.{object_of, is_proper};
 ghost use Rattle.user_macros.specs.Calls.{call_of, answer_of, material_of};
 ghost use Rattle.user_macros.specs.Sound.{IsSoundCall, IsProperMaterial};
 ghost use Rattle.std_macros.specs.Values.{value_of};
-ghost use Rattle.std_macros.specs.Results.{view_gathered, IsProperGathered};
+ghost use Rattle.std_macros.specs.Results.{takes_memory, view_gathered, IsProperGathered};
 ghost use Rattle.form_reader.specs.Setting.{macro_call, user_material};
 ghost use Rattle.form_reader.specs.Surrounding.{setting_with};
 ghost use Rattle.form_reader.specs.Reading.{bytes_back, finished, answered, completed};
 ghost use Rattle.form_reader.specs.Completing.{plan_of};
-ghost use Rattle.form_reader.specs.Memory.{may_cost, gives_some, call_may_cost};
+ghost use Rattle.form_reader.specs.Memory.{may_cost, gives_object, call_may_cost};
 ghost use Rattle.form_reader.specs.Ready.{space, completed_lookahead};
 
 use crate::call::Invoked;
@@ -56,7 +56,7 @@ pub(crate) fn complete<R: MacroFunctions>(
     ensures memory { let setting = setting_with (R.registered with.now.macros.now) R.Meaning.way R.Meaning.answer with.now in
         OnErr result (may_cost (completed setting round call.now token spaced (view_gathered gathered)) ≡ true) }
     ensures some { let setting = setting_with (R.registered with.now.macros.now) R.Meaning.way R.Meaning.answer with.now in
-        OnErr result (call_may_cost call.now.function (completed setting round call.now token spaced (view_gathered gathered)) ≡ true) }
+        (needs : Bool) → OnErr result (call_may_cost needs call.now.function (completed setting round call.now token spaced (view_gathered gathered)) ≡ true) }
 {
     match call.function() {
         Function::Standard(kind) => {
@@ -94,7 +94,8 @@ fn finished(
     ensures gives { IfOk result (λ r. finished token (value_of kind case number (view_gathered gathered)) ≡ plan_of r) }
     ensures ends { IfOk result (λ r. completed_lookahead r ≤ space token) }
     ensures memory { OnErr result (may_cost (finished token (value_of kind case number (view_gathered gathered))) ≡ true) }
-    ensures some { OnErr result (gives_some (finished token (value_of kind case number (view_gathered gathered))) ≡ true) }
+    ensures some { OnErr result (gives_object (finished token (value_of kind case number (view_gathered gathered))) ≡ true) }
+    ensures kind { OnErr result (takes_memory kind ≡ true) }
 {
     match finish(alloc, kind, case, number, gathered) {
         Ok(Finished::One(datum)) => {

@@ -8,11 +8,11 @@ ghost use Rattle.form_reader.specs.declared.stage.Stage.TheVariants.{Object as A
 ghost use Rattle.form_reader.specs.declared.way.Keep.{Keep};
 ghost use Rattle.form_reader.specs.Resuming.{Brings, stage_gives};
 ghost use Rattle.form_reader.specs.Turning.{outcome_of, rest_of, Settles, IsStanding};
-ghost use Rattle.form_reader.specs.Ending.{TokenStops, IsLastEvent, IsLastSettled, EndNeedsMemory};
-ghost use Rattle.form_reader.specs.Memory.{gives_some, SpendsSome};
+ghost use Rattle.form_reader.specs.Ending.{ends_call, is_kept, TokenStops, IsLastEvent, IsLastSettled, EndNeedsMemory};
+ghost use Rattle.form_reader.specs.Memory.{Spends};
 ghost use Rattle.form_reader.specs.Reader.{IsOutcome};
 ghost use Rattle.form_reader.specs.Plans.{gives};
-ghost use Rattle.form_reader.specs.Frames.{plan_gives};
+ghost use Rattle.form_reader.specs.Frames.{is_waiting, plan_gives};
 
 use crate::call::Invoked;
 use crate::deliver::{Delivered, deliver};
@@ -77,7 +77,7 @@ fn last_token<R: MacroFunctions>(
         (stage_gives setting frames (AtToken scan) at [])) }
     ensures last { IfOk result (IsLastEvent at) }
     ensures memory { let setting = setting_with (R.registered with.now.macros.now) R.Meaning.way R.Meaning.answer with.now in
-        (frames : List OpenCall) → SpendsSome result (EndNeedsMemory setting frames (AtToken scan) at) }
+        (frames : List OpenCall) → Spends (is_waiting frames) result (EndNeedsMemory setting frames (AtToken scan) at) }
 {
     let mut scan = scan.into_scan();
     match token_stop(&with.limits, &mut scan, at) {
@@ -101,7 +101,7 @@ fn last_call_token<R: MacroFunctions>(
         (stage_gives setting frames (AtCallToken call scan) at [])) }
     ensures last { IfOk result (IsLastEvent at) }
     ensures memory { let setting = setting_with (R.registered with.now.macros.now) R.Meaning.way R.Meaning.answer with.now in
-        (frames : List OpenCall) → round ≡ length frames → SpendsSome result (EndNeedsMemory setting frames (AtCallToken call scan) at) }
+        (frames : List OpenCall) → round ≡ length frames → Spends (is_waiting frames) result (EndNeedsMemory setting frames (AtCallToken call scan) at) }
 {
     match token_stop(&with.limits, &mut scan, at) {
         None => {
@@ -129,7 +129,7 @@ fn last_line<R: MacroFunctions>(
     ensures last { IfOk result (IsLastEvent at) }
     ensures memory { let setting = setting_with (R.registered with.now.macros.now) R.Meaning.way R.Meaning.answer with.now in
         (frames : List OpenCall) (keep : Keep) → round ≡ length frames
-        → SpendsSome result (EndNeedsMemory setting frames (AtLine call keep text) at) }
+        → Spends (is_waiting frames) result (EndNeedsMemory setting frames (AtLine call keep text) at) }
 {
     let gathered = StdGathered::Text(text.into_bytes());
     ended(with, round, &call, false, gathered, at)
@@ -149,7 +149,7 @@ fn last<R: MacroFunctions>(
         (stage_gives setting frames stage at [])) }
     ensures last { IfOk result (IsLastEvent at) }
     ensures memory { let setting = setting_with (R.registered with.now.macros.now) R.Meaning.way R.Meaning.answer with.now in
-        (frames : List OpenCall) → round ≡ length frames → SpendsSome result (EndNeedsMemory setting frames stage at) }
+        (frames : List OpenCall) → round ≡ length frames → Spends (is_waiting frames) result (EndNeedsMemory setting frames stage at) }
 {
     match stage {
         Stage::Object => Ok(Event::Stage(Stage::Object)),
@@ -187,7 +187,18 @@ fn nothing_last(calls: usize, token: bool, at: usize) -> Settled
     waited(calls, at)
 }
 
-/// What is found in the innermost call at the end of the text, which is at `at`, comes to.
+/// Whether the innermost call keeps what is found among others.
+fn is_kept(frames: &Frames, found: &Found) -> bool
+    ensures { result ≡ is_kept frames.now found.now }
+{
+    match found {
+        Found::One(..) => frames.keeps_objects(),
+        Found::Nothing(_) | Found::LoneDot | Found::TheEnd => false,
+    }
+}
+
+/// What is found in the innermost call at the end of the text, which is at `at`, comes to. A call that keeps an object among
+/// others stays open, so it is not handed the object.
 fn give_last<R: MacroFunctions>(
     with: &Surroundings<'_, R>,
     frames: &mut Frames,
@@ -199,10 +210,13 @@ fn give_last<R: MacroFunctions>(
     ensures settles { let setting = setting_with (R.registered with.now.macros.now) R.Meaning.way R.Meaning.answer with.now in
         IfOk result (λ settled. Settles setting frames.new at [] settled (plan_gives setting frames.old (gives found) at [])) }
     ensures last { IfOk result (IsLastSettled at) }
-    ensures some { OnErr result (gives_some (gives found) ≡ true) }
+    ensures memory { OnErr result (ends_call frames.old found ≡ true) }
 {
     if let Found::Nothing(token) = &found {
         return Ok(nothing_last(frames.len(), *token, at));
+    }
+    if is_kept(frames, &found) {
+        return Ok(waited(frames.len(), at));
     }
     match deliver(with, frames, found, at)? {
         Delivered::Waits(_) => Ok(waited(frames.len(), at)),

@@ -1,11 +1,14 @@
 //! Open calls.
-ghost use Rattle.std.specs.Prelude.{◌≡◌, ◌==◌, ℕ, Some, false, [], ◌∷◌, length, MatchOption, OnOk};
-ghost use Rattle.form_reader.specs.Frames.{close_of, close_of_frames, is_closed_by};
+ghost use Rattle.std.specs.Prelude.{◌≡◌, ◌==◌, ℕ, Bool, Some, None, true, false, [], ◌∷◌, length, MatchOption, OnOk, OnErr, IfOk};
+ghost use Rattle.form_reader.specs.declared.frame.Part.TheVariants.{Next as InNext};
+ghost use Rattle.form_reader.specs.declared.found.Found.TheVariants.{One as one, LoneDot as lone_dot};
+ghost use Rattle.form_reader.specs.Frames.{close_of, close_of_frames, is_closed_by, with_object, with_dot, calls_with, is_next, is_waiting, is_keeping, keeps_objects, part_needs_memory, needs_memory};
 
 use crate::call::Invoked;
 use crate::held::{HeldObject, HeldObjects};
 use std::alloc::{AllocError, Global};
 use std::marker::Model;
+use std::mem;
 
 /// An open call that reads objects, and what it has gathered.
 #[derive(Drop)]
@@ -107,6 +110,127 @@ impl Frames {
             return self.pop();
         }
         None
+    }
+
+    /// Whether the innermost call waits for its one object.
+    pub(crate) fn is_waiting(&self) -> bool
+        ensures { result ≡ is_waiting self.now }
+    {
+        match self.frames.last() {
+            None => false,
+            Some(frame) => frame.part.is_next(),
+        }
+    }
+
+    /// Whether the innermost call keeps an object among others.
+    pub(crate) fn keeps_objects(&self) -> bool
+        ensures { result ≡ keeps_objects self.now }
+    {
+        match self.frames.last() {
+            None => false,
+            Some(frame) => frame.part.is_keeping(),
+        }
+    }
+
+    /// Takes the innermost call where it waits for its one object.
+    pub(crate) fn pop_waiting(&mut self) -> Option<Invoked>
+        ensures { MatchOption result ((self.new ≡ self.old) × (is_waiting self.old ≡ false))
+            (λ call. self.old ≡ record { call = call; part = InNext } ∷ self.new) }
+    {
+        if self.is_waiting() {
+            return match self.pop() {
+                None => None,
+                Some(frame) => Some(frame.call),
+            };
+        }
+        None
+    }
+
+    /// Hands an object to the innermost call: whether it takes it and goes on. A call that waits for its one object does not.
+    pub(crate) fn take_object(&mut self, x: HeldObject) -> Result<bool, AllocError>
+        ensures takes { (token : Bool) → IfOk result (λ taken. taken ≡ true → calls_with self.old (one token x) ≡ Some self.new) }
+        ensures refuses { (token : Bool) → IfOk result (λ taken. taken ≡ false → (calls_with self.old (one token x) ≡ None) × (self.new ≡ self.old)) }
+        ensures memory { OnErr result (needs_memory self.old ≡ true) }
+    {
+        if let Some(frame) = self.frames.last_mut() {
+            return frame.part.take_object(x);
+        }
+        Ok(false)
+    }
+
+    /// Hands a dot to the innermost call: whether it takes it and goes on.
+    pub(crate) fn take_dot(&mut self) -> bool
+        ensures takes { result ≡ true → calls_with self.old lone_dot ≡ Some self.new }
+        ensures refuses { result ≡ false → (calls_with self.old lone_dot ≡ None) × (self.new ≡ self.old) }
+    {
+        if let Some(frame) = self.frames.last_mut() {
+            return frame.part.take_dot();
+        }
+        false
+    }
+}
+
+impl Part {
+    fn is_next(&self) -> bool
+        ensures { result ≡ is_next self.now }
+    {
+        match self {
+            Part::Next => true,
+            Part::List(_) | Part::Until(..) | Part::Dotted(_) | Part::Tailed(..) => false,
+        }
+    }
+
+    fn is_keeping(&self) -> bool
+        ensures { result ≡ is_keeping self.now }
+    {
+        match self {
+            Part::List(_) | Part::Until(..) => true,
+            Part::Next | Part::Dotted(_) | Part::Tailed(..) => false,
+        }
+    }
+
+    /// Takes an object: whether it goes on.
+    fn take_object(&mut self, x: HeldObject) -> Result<bool, AllocError>
+        ensures takes { IfOk result (λ taken. taken ≡ true → with_object self.old x ≡ Some self.new) }
+        ensures refuses { IfOk result (λ taken. taken ≡ false → (with_object self.old x ≡ None) × (self.new ≡ self.old)) }
+        ensures memory { OnErr result (part_needs_memory self.old ≡ true) }
+    {
+        match self {
+            Part::List(items) => {
+                items.push(x)?;
+                Ok(true)
+            }
+            Part::Until(_, items) => {
+                items.push(x)?;
+                Ok(true)
+            }
+            Part::Dotted(_) => {
+                if let Part::Dotted(items) = mem::replace(self, Part::Next) {
+                    *self = Part::Tailed(items, x);
+                }
+                Ok(true)
+            }
+            Part::Next | Part::Tailed(..) => Ok(false),
+        }
+    }
+
+    /// Takes a dot: whether it goes on.
+    fn take_dot(&mut self) -> bool
+        ensures takes { result ≡ true → with_dot self.old ≡ Some self.new }
+        ensures refuses { result ≡ false → (with_dot self.old ≡ None) × (self.new ≡ self.old) }
+    {
+        match self {
+            Part::List(items) => {
+                if items.is_empty() {
+                    return false;
+                }
+            }
+            Part::Next | Part::Until(..) | Part::Dotted(_) | Part::Tailed(..) => return false,
+        }
+        if let Part::List(items) = mem::replace(self, Part::Next) {
+            *self = Part::Dotted(items);
+        }
+        true
     }
 }
 

@@ -4,8 +4,8 @@ ghost use Rattle.readtable_core.specs.Tables.{entry_at, dispatch_at};
 ghost use Rattle.form_reader.specs.Setting.{function_of};
 ghost use Rattle.form_reader.specs.Surrounding.{setting_with};
 ghost use Rattle.form_reader.specs.Reading.{macro_called, sub_there};
-ghost use Rattle.form_reader.specs.Frames.{plan_gives};
-ghost use Rattle.form_reader.specs.Memory.{Costs, RunsOut, Spends, SpendsMove};
+ghost use Rattle.form_reader.specs.Frames.{needs_memory, plan_gives};
+ghost use Rattle.form_reader.specs.Memory.{Costs, GivesBefore, RunsOut, Spends, SpendsMove};
 ghost use Rattle.form_reader.specs.Resuming.{inner_at, Brings, Moves, stage_gives};
 ghost use Rattle.form_reader.specs.declared.frame.Frame.{Frame as OpenCall};
 ghost use Rattle.form_reader.specs.declared.stage.Stage.TheVariants.{CallToken as AtCallToken, Number as AtNumber};
@@ -63,7 +63,7 @@ pub(crate) fn begin_macro<R: MacroFunctions>(
     ensures ready { IfOk result (IsReady with.now.limits at) }
     ensures nesting { IfOk result (λ _. length frames.new ≤ with.now.limits.nesting) }
     ensures memory { let setting = setting_with (R.registered with.now.macros.now) R.Meaning.way R.Meaning.answer with.now in
-        Spends result (Costs setting frames.old at (λ cs. plan_gives setting frames.old
+        Spends (needs_memory frames.new) result (Costs setting frames.old at (λ cs. plan_gives setting frames.old
         (macro_called setting (length frames.old) (inner_at setting (length frames.old)) c (entry_at setting.table c).function) at cs)) }
 {
     match with.readtable.macro_of(c) {
@@ -95,7 +95,9 @@ pub(crate) fn in_call_token<R: MacroFunctions>(
         (stage_gives setting frames (AtCallToken call scan) at (c ∷ cs))) }
     ensures ready { IfOk result (IsReadyMove with.now.limits at) }
     ensures memory { let setting = setting_with (R.registered with.now.macros.now) R.Meaning.way R.Meaning.answer with.now in
-        (frames : List OpenCall) → round ≡ length frames → SpendsMove result (RunsOut setting frames (AtCallToken call scan) at c) }
+        (frames : List OpenCall) → round ≡ length frames → SpendsMove (needs_memory frames) result (RunsOut setting frames (AtCallToken call scan) at c) }
+    ensures before { let setting = setting_with (R.registered with.now.macros.now) R.Meaning.way R.Meaning.answer with.now in
+        (frames : List OpenCall) → round ≡ length frames → IfOk result (GivesBefore setting frames (AtCallToken call scan) at c) }
 {
     match token_byte(with.readtable, &with.limits, &mut scan, at, c)? {
         LineByte::More => Ok(Moved::Taken(Event::Stage(Stage::CallToken(call, scan)))),
@@ -125,7 +127,7 @@ pub(crate) fn in_number<R: MacroFunctions>(
     ensures ready { IfOk result (IsReady with.now.limits (at + 1)) }
     ensures nesting { IfOk result (λ _. length frames.new ≤ with.now.limits.nesting) }
     ensures memory { let setting = setting_with (R.registered with.now.macros.now) R.Meaning.way R.Meaning.answer with.now in
-        Spends result (Costs setting frames.old (at + 1) (λ cs. stage_gives setting frames.old (AtNumber character number) at (c ∷ cs))) }
+        Spends (needs_memory frames.new) result (Costs setting frames.old (at + 1) (λ cs. stage_gives setting frames.old (AtNumber character number) at (c ∷ cs))) }
 {
     match number_byte(with.readtable, &with.limits, &mut number, at, c) {
         LineByte::More => Ok(Event::Stage(Stage::Number(character, number))),
@@ -154,7 +156,7 @@ fn sub_byte<R: MacroFunctions>(
     ensures ready { IfOk result (IsReady with.now.limits (at + 1)) }
     ensures nesting { IfOk result (λ _. length frames.new ≤ with.now.limits.nesting) }
     ensures memory { let setting = setting_with (R.registered with.now.macros.now) R.Meaning.way R.Meaning.answer with.now in
-        Spends result (Costs setting frames.old (at + 1) (λ cs. plan_gives setting frames.old
+        Spends (needs_memory frames.new) result (Costs setting frames.old (at + 1) (λ cs. plan_gives setting frames.old
         (sub_there setting (length frames.old) (inner_at setting (length frames.old)) character number) at (c ∷ cs))) }
 {
     if at >= with.limits.text {

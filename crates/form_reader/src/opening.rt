@@ -1,12 +1,12 @@
 //! How a call begins.
-ghost use Rattle.std.specs.Prelude.{◌≡◌, ◌≤◌, ℕ, true, false, List, IfOk, length, Ok};
+ghost use Rattle.std.specs.Prelude.{◌≡◌, ◌≤◌, ℕ, Bool, true, false, List, IfOk, length, Ok};
 ghost use Rattle.form_reader.specs.Setting.{Setting, is_baseless, standard_way, user_way, way_in};
 ghost use Rattle.form_reader.specs.Surrounding.{setting_with};
 ghost use Rattle.form_reader.specs.declared.frame.Frame.{Frame as OpenCall};
 ghost use Rattle.form_reader.specs.declared.way.Function.{Function as Called};
-ghost use Rattle.form_reader.specs.Frames.{plan_gives};
+ghost use Rattle.form_reader.specs.Frames.{needs_memory, plan_gives};
 ghost use Rattle.form_reader.specs.Completing.{plan_of};
-ghost use Rattle.form_reader.specs.Memory.{may_cost, is_given, call_may_cost, Costs, Spends, SpendsSome};
+ghost use Rattle.form_reader.specs.Memory.{may_cost, is_given, call_may_cost, Costs, Spends, SpendsGiven};
 ghost use Rattle.form_reader.specs.Reading.{called, completed, gathered};
 ghost use Rattle.form_reader.specs.Resuming.{inner_at, Begins, Brings, Gathers, ComesTo};
 ghost use Rattle.form_reader.specs.Opening.{reads_objects};
@@ -42,7 +42,7 @@ pub(crate) fn begin_call<R: MacroFunctions>(
     ensures ready { IfOk result (IsReady with.now.limits at) }
     ensures nesting { IfOk result (λ _. length frames.new ≤ with.now.limits.nesting) }
     ensures memory { let setting = setting_with (R.registered with.now.macros.now) R.Meaning.way R.Meaning.answer with.now in
-        Spends result (Costs setting frames.old at (λ cs. plan_gives setting frames.old
+        Spends (needs_memory frames.new) result (Costs setting frames.old at (λ cs. plan_gives setting frames.old
         (called setting (length frames.old) (inner_at setting (length frames.old)) call) at cs)) }
 {
     match way_of(with, &call) {
@@ -68,7 +68,7 @@ fn gather<R: MacroFunctions>(
     ensures ready { IfOk result (IsReady with.now.limits at) }
     ensures nesting { IfOk result (λ _. length frames.new ≤ with.now.limits.nesting) }
     ensures memory { let setting = setting_with (R.registered with.now.macros.now) R.Meaning.way R.Meaning.answer with.now in
-        Spends result (Costs setting frames.old at (λ cs. plan_gives setting frames.old
+        Spends (needs_memory frames.new) result (Costs setting frames.old at (λ cs. plan_gives setting frames.old
         (gathered setting (length frames.old) (inner_at setting (length frames.old)) call way) at cs)) }
 {
     match way {
@@ -113,7 +113,7 @@ fn gather_objects<R: MacroFunctions>(
     ensures ready { IfOk result (IsReady with.now.limits at) }
     ensures nesting { IfOk result (λ _. length frames.new ≤ with.now.limits.nesting) }
     ensures memory { let setting = setting_with (R.registered with.now.macros.now) R.Meaning.way R.Meaning.answer with.now in
-        Spends result (Costs setting frames.old at (λ cs. plan_gives setting frames.old
+        Spends (needs_memory frames.new) result (Costs setting frames.old at (λ cs. plan_gives setting frames.old
         (gathered setting (length frames.old) (inner_at setting (length frames.old)) call way) at cs)) }
 {
     let deep = frames.len() >= with.limits.nesting as usize;
@@ -153,7 +153,7 @@ pub(crate) fn event_of(completed: Completed, at: usize) -> Event
     ensures comes { (setting : Setting) (frames : List OpenCall) (cs : List ℕ) → ComesTo setting frames completed at cs result }
     ensures ends { IsEnd (completed_lookahead completed) at result }
     ensures gives { is_given result ≡ true → may_cost (plan_of completed) ≡ true }
-    ensures some { (function : Called) → SpendsSome (Ok result) (call_may_cost function (plan_of completed) ≡ true) }
+    ensures some { (needs : Bool) (function : Called) → Spends needs (Ok result) (call_may_cost needs function (plan_of completed) ≡ true) }
 {
     match completed {
         Completed::Gives(found) => Event::Gives(found),
@@ -178,9 +178,9 @@ pub(crate) fn ended<R: MacroFunctions>(
         (plan_gives setting frames (completed setting (length frames) call.now token false (view_gathered gathered)) at cs)) }
     ensures ends { IfOk result (IsEnd (space token) at) }
     ensures memory { let setting = setting_with (R.registered with.now.macros.now) R.Meaning.way R.Meaning.answer with.now in
-        Spends result (may_cost (completed setting round call.now token false (view_gathered gathered)) ≡ true) }
+        SpendsGiven result (may_cost (completed setting round call.now token false (view_gathered gathered)) ≡ true) }
     ensures some { let setting = setting_with (R.registered with.now.macros.now) R.Meaning.way R.Meaning.answer with.now in
-        SpendsSome result (call_may_cost call.now.function (completed setting round call.now token false (view_gathered gathered)) ≡ true) }
+        (needs : Bool) → Spends needs result (call_may_cost needs call.now.function (completed setting round call.now token false (view_gathered gathered)) ≡ true) }
 {
     Ok(event_of(complete(with, round, call, token, false, gathered)?, at))
 }

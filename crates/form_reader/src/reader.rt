@@ -100,8 +100,8 @@ impl FormReader {
 
     /// One more byte of the text, under the same readtable, packages, current package and functions as the bytes before it.
     /// After a refusal, and after it ran out of memory, it answers the same again. It runs out of memory only where the bytes
-    /// with this one decide nothing, where the byte ends a token that is not refused, or where a call ends with it, and never at
-    /// whitespace that is discarded where an object may begin.
+    /// with this one decide nothing, where the byte ends a name, a number that an open call needs memory to take, or the token of
+    /// a call, or where a call ends with it, and never at whitespace that is discarded where an object may begin.
     pub fn step<R: MacroFunctions>(
         &mut self,
         byte: u8,
@@ -219,7 +219,7 @@ impl FormReader {
     }
 
     /// The end of the text, under the same readtable, packages, current package and functions as its bytes. It runs out of
-    /// memory only where the end of the text ends a token that is not refused, or a line of a function of a user.
+    /// memory only where the end of the text ends a name, a number with which a call ends, or the token or the line of a call.
     pub fn finish<R: MacroFunctions>(
         self,
         readtable: &Readtable,

@@ -7,7 +7,8 @@ ghost use Rattle.form_reader.specs.declared.limits.Limits.{Limits as Bounds};
 ghost use Rattle.form_reader.specs.Setting.{Setting};
 ghost use Rattle.form_reader.specs.Surrounding.{setting_with};
 ghost use Rattle.form_reader.specs.Delivering.{Passes};
-ghost use Rattle.form_reader.specs.Memory.{is_given, RunsOut, SpendsPass};
+ghost use Rattle.form_reader.specs.Frames.{needs_memory};
+ghost use Rattle.form_reader.specs.Memory.{event_needs, is_nothing, RunsOut, SpendsPass};
 ghost use Rattle.form_reader.specs.Resuming.{Brings, stage_gives};
 ghost use Rattle.form_reader.specs.Ready.{lookahead, IsReady, IsReadyPass};
 ghost use Rattle.form_reader.specs.Turning.{outcome_of, rest_of, Settles, TurnsTo, IsStanding, IsReadySettled, IsReadyTurn, BeginsFrom};
@@ -64,7 +65,7 @@ pub(crate) fn feed<R: MacroFunctions>(
     ensures ready { IfOk result (IsReadyPass with.now.limits at) }
     ensures nesting { IfOk result (λ _. length frames.new ≤ with.now.limits.nesting) }
     ensures memory { let setting = setting_with (R.registered with.now.macros.now) R.Meaning.way R.Meaning.answer with.now in
-        SpendsPass result (RunsOut setting frames.old stage at c) }
+        SpendsPass (needs_memory frames.new) result (RunsOut setting frames.old stage at c) }
 {
     match advance(with, frames, stage, at, c)? {
         Moved::Taken(event) => Ok(Passed::Taken(event)),
@@ -90,7 +91,7 @@ fn settle<R: MacroFunctions>(
         (cs : List ℕ) (read : Read FoundThere) → Brings setting frames.old at cs event read
         → IfOk result (λ settled. Settles setting frames.new at cs settled read) }
     ensures ready { IfOk result (IsReadySettled with.now.limits frames.new at) }
-    ensures memory { OnErr result (is_given event ≡ true) }
+    ensures memory { OnErr result (event_needs frames.old event ≡ true) }
 {
     match event {
         Event::Stage(stage) => Ok(Settled::Open(stage)),
@@ -136,7 +137,7 @@ fn turn_of<R: MacroFunctions>(
         → IfOk result (λ turn. TurnsTo setting frames.new cs turn (outcome_of setting start read)) }
     ensures ready { IfOk result (IsReadyTurn with.now.limits frames.new (start + at)) }
     ensures begins { IfOk result (BeginsFrom start) }
-    ensures memory { OnErr result (is_given event ≡ true) }
+    ensures memory { OnErr result (event_needs frames.old event ≡ true) }
 {
     match settle(with, frames, event, at)? {
         Settled::Open(stage) => Ok(Turn::Goes(start, at, stage)),
@@ -163,6 +164,7 @@ fn done_before<R: MacroFunctions>(
         (outcome_of setting start (Ok (found, at, c ∷ cs)))) }
     ensures ready { IfOk result (IsReadyTurn with.now.limits frames.new (start + at + 1)) }
     ensures begins { IfOk result (BeginsFrom start) }
+    ensures memory { OnErr result (is_nothing found ≡ true) }
 {
     match found {
         Found::Nothing(_) => {

@@ -20,4 +20,4 @@ pub returns-in_err-scan-clause-memory : goal.returns-in_err-scan-clause-memory
 returns-in_err-scan-clause-memory g c =
     let setting = setting_with (g.R.MacroFunctions.registered c.args.with.now.macros.now) g.R.Meaning.Meaning.way g.R.Meaning.Meaning.answer c.args.with.now in
     λ frames le. let next = c.in_err-scan.ensures.next in
-    spent c.from_residual.result _ (goes_on frames (AtToken next.new) (omega (arith, next.below)) next.going (λ cs. token_goes setting c.args.at c.args.c cs frames _ le c.requires.begins (next.read cs)))
+    spent _ c.from_residual.result _ (goes_on frames (AtToken next.new) (omega (arith, next.below)) next.going (λ cs. token_goes setting c.args.at c.args.c cs frames _ le c.requires.begins (next.read cs)))

@@ -37,16 +37,16 @@ pub returns-in-List-clause-memory : goal.returns-in-List-clause-memory
 returns-in-List-clause-memory g c =
     let setting = setting_with (g.R.MacroFunctions.registered c.args.with.now.macros.now) g.R.Meaning.Meaning.way g.R.Meaning.Meaning.answer c.args.with.now in
     λ frames open_calls. call_costs setting frames c.args.at c.args.round c.args.frame.call (many (map object_of c.into_items.result)) _ c.ended.result open_calls
-    (λ cs. list_gathers setting frames c.args.frame.call c.args.at cs c.args.frame.part c.in-List.items _ c.in-List.is c.into_items.ensures.objects) c.ended.ensures.memory
+    (λ cs. list_gathers setting frames c.args.frame.call c.args.at cs c.args.frame.part c.in-List.items _ c.in-List.is c.into_items.ensures.objects) c.ended.ensures.some
 
 pub returns-in-Until-clause-memory : goal.returns-in-Until-clause-memory
 returns-in-Until-clause-memory g c =
     let setting = setting_with (g.R.MacroFunctions.registered c.args.with.now.macros.now) g.R.Meaning.Meaning.way g.R.Meaning.Meaning.answer c.args.with.now in
     λ frames open_calls. call_costs setting frames c.args.at c.args.round c.args.frame.call (many (map object_of c.into_items-in-Until.result)) _ c.ended-in-Until.result open_calls
-    (λ cs. until_gathers setting frames c.args.frame.call c.args.at cs c.args.frame.part _ _ _ c.in-Until.is c.into_items-in-Until.ensures.objects) c.ended-in-Until.ensures.memory
+    (λ cs. until_gathers setting frames c.args.frame.call c.args.at cs c.args.frame.part _ _ _ c.in-Until.is c.into_items-in-Until.ensures.objects) c.ended-in-Until.ensures.some
 
 pub returns-clause-memory : goal.returns-clause-memory
 returns-clause-memory g c =
     let setting = setting_with (g.R.MacroFunctions.registered c.args.with.now.macros.now) g.R.Meaning.Meaning.way g.R.Meaning.Meaning.answer c.args.with.now in
     λ frames open_calls. call_costs setting frames c.args.at c.args.round c.args.frame.call (dotted (map object_of c.into_items-items.result) (object_of c.into_datum-tail.result)) _ c.ended-in-Tailed.result open_calls
-    (λ cs. tailed_gathers setting frames c.args.frame.call c.args.at cs c.args.frame.part c.in-Tailed.items _ c.in-Tailed.tail _ c.in-Tailed.is c.into_items-items.ensures.objects c.into_datum-tail.ensures.object) c.ended-in-Tailed.ensures.memory
+    (λ cs. tailed_gathers setting frames c.args.frame.call c.args.at cs c.args.frame.part c.in-Tailed.items _ c.in-Tailed.tail _ c.in-Tailed.is c.into_items-items.ensures.objects c.into_datum-tail.ensures.object) c.ended-in-Tailed.ensures.some

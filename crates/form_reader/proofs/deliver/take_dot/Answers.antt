@@ -1,27 +1,18 @@
-use Rattle.form_reader.proofs.Deliveries.{known, empty_dot, dot_in_next, dot_in_until, dot_in_dotted, dot_in_tailed, dot_in_list}
+use Rattle.form_reader.proofs.Deliveries.{dot_goes_on, dot_stops, stays_from, refused_from}
+use Rattle.std.proofs.Common.{false}
+use Rattle.form_reader.specs.declared.found.Found.TheVariants.{LoneDot as lone_dot}
 use Rattle.form_reader.proofs.deliver.take_dot.Goals as goal
 
-pub returns-then-is_empty-clause-takes : goal.returns-then-is_empty-clause-takes
-returns-then-is_empty-clause-takes c = λ setting frames cs h.
-    empty_dot setting frames c.args.frame.call c.args.at cs c.args.frame.part c.in-List.items c.in-List.is (c.is_empty.ensures.empty c.if-is_empty.true)
+pub returns-then-take_dot-clause-takes : goal.returns-then-take_dot-clause-takes
+returns-then-take_dot-clause-takes c = λ setting cs h.
+    dot_goes_on setting c.args.at cs c.args.frames.now c.take_dot.new.self (c.take_dot.ensures.takes c.if-take_dot.true)
 
-pub returns-in-List-clause-takes : goal.returns-in-List-clause-takes
-returns-in-List-clause-takes c = λ setting frames cs h.
-    known setting frames c.args.frame.call c.args.at cs c.args.frame.part _ _ _ c.in-List.is
-    (dot_in_list setting frames c.args.frame.call c.args.at cs c.in-List.items (c.is_empty.ensures.some c.if-is_empty.false))
+pub returns-then-take_dot-clause-from : goal.returns-then-take_dot-clause-from
+returns-then-take_dot-clause-from c = stays_from c.args.frames.now c.take_dot.new.self lone_dot false (c.take_dot.ensures.takes c.if-take_dot.true)
 
-pub returns-in-Next-clause-takes : goal.returns-in-Next-clause-takes
-returns-in-Next-clause-takes c = λ setting frames cs h.
-    known setting frames c.args.frame.call c.args.at cs c.args.frame.part _ _ _ c.in-Next.is (dot_in_next setting frames c.args.frame.call c.args.at cs)
+pub returns-else-take_dot-clause-takes : goal.returns-else-take_dot-clause-takes
+returns-else-take_dot-clause-takes c = λ setting cs h.
+    dot_stops setting c.args.at cs c.args.frames.now c.requires.open (c.take_dot.ensures.refuses c.if-take_dot.false).0
 
-pub returns-in-Until-clause-takes : goal.returns-in-Until-clause-takes
-returns-in-Until-clause-takes c = λ setting frames cs h.
-    known setting frames c.args.frame.call c.args.at cs c.args.frame.part _ _ _ c.in-Until.is (dot_in_until setting frames c.args.frame.call c.args.at cs _ _)
-
-pub returns-in-Dotted-clause-takes : goal.returns-in-Dotted-clause-takes
-returns-in-Dotted-clause-takes c = λ setting frames cs h.
-    known setting frames c.args.frame.call c.args.at cs c.args.frame.part _ _ _ c.in-Dotted.is (dot_in_dotted setting frames c.args.frame.call c.args.at cs _)
-
-pub returns-clause-takes : goal.returns-clause-takes
-returns-clause-takes c = λ setting frames cs h.
-    known setting frames c.args.frame.call c.args.at cs c.args.frame.part _ _ _ c.in-Tailed.is (dot_in_tailed setting frames c.args.frame.call c.args.at cs _ _)
+pub returns-else-take_dot-clause-from : goal.returns-else-take_dot-clause-from
+returns-else-take_dot-clause-from c = refused_from c.args.frames.now c.take_dot.new.self lone_dot 0 0 (c.take_dot.ensures.refuses c.if-take_dot.false).1

@@ -1,29 +1,34 @@
+use Rattle.std.proofs.Common.{List, ap, ◌∙◌, sym}
+use Rattle.form_reader.specs.declared.frame.Frame.{Frame as OpenCall}
+use Rattle.form_reader.specs.declared.found.Found.TheVariants.{One as one}
+use Rattle.form_reader.specs.Frames.{calls_with}
 use Rattle.form_reader.specs.Surrounding.{setting_with}
-use Rattle.form_reader.proofs.Deliveries.{known, next_comes, one_in_list, one_in_until, one_in_dotted, one_in_tailed}
+use Rattle.form_reader.proofs.Deliveries.{next_comes, object_goes_on, object_stops, stays_from, refused_from}
 use Rattle.form_reader.proofs.deliver.take_one.Goals as goal
 
-pub returns-in_ok-complete-in-Next-clause-takes : goal.returns-in_ok-complete-in-Next-clause-takes
-returns-in_ok-complete-in-Next-clause-takes g c = λ frames cs open_calls.
+pub returns-in_ok-complete-in-Some-clause-takes : goal.returns-in_ok-complete-in-Some-clause-takes
+returns-in_ok-complete-in-Some-clause-takes g c = λ cs.
     let setting = setting_with (g.R.MacroFunctions.registered c.args.with.now.macros.now) g.R.Meaning.Meaning.way g.R.Meaning.Meaning.answer c.args.with.now in
-    next_comes setting frames c.args.frame.call c.args.at cs c.args.frame.part c.args.token c.args.x _ c.args.round c.in_ok-complete-in-Next.field-0 c.taken_of.result c.in-Next.is open_calls c.into_datum.ensures.object
-    c.in_ok-complete-in-Next.ensures.gives (c.taken_of.ensures.takes setting frames cs)
+    next_comes setting c.args.at cs c.args.frames.now c.pop_waiting.new.self c.in-Some.call c.args.token c.args.x _ c.len-round.result c.in_ok-complete-in-Some.field-0 c.taken_of.result
+    c.in-Some.ensures c.len-round.ensures c.into_datum.ensures.object c.in_ok-complete-in-Some.ensures.gives (c.taken_of.ensures.takes setting c.pop_waiting.new.self cs)
 
-pub returns-in_ok-push-in-List-clause-takes : goal.returns-in_ok-push-in-List-clause-takes
-returns-in_ok-push-in-List-clause-takes g c = λ frames cs open_calls.
+pub returns-then-branch-clause-takes : goal.returns-then-branch-clause-takes
+returns-then-branch-clause-takes g c = λ cs.
     let setting = setting_with (g.R.MacroFunctions.registered c.args.with.now.macros.now) g.R.Meaning.Meaning.way g.R.Meaning.Meaning.answer c.args.with.now in
-    known setting frames c.args.frame.call c.args.at cs c.args.frame.part _ _ _ c.in-List.is (one_in_list setting frames c.args.frame.call c.args.at cs c.args.token c.in-List.items _ c.args.x c.requires.place c.in_ok-push-in-List.ensures)
+    object_goes_on setting c.args.at cs c.args.frames.now c.take_object.new.self c.args.token c.args.x c.requires.place
+    (ap (λ (fs : List OpenCall). calls_with fs (one c.args.token c.args.x)) (sym c.in-None.ensures.0) ∙ c.in_ok-take_object-in-None.ensures.takes c.args.token c.if-branch.true)
 
-pub returns-in_ok-push-in-Until-clause-takes : goal.returns-in_ok-push-in-Until-clause-takes
-returns-in_ok-push-in-Until-clause-takes g c = λ frames cs open_calls.
-    let setting = setting_with (g.R.MacroFunctions.registered c.args.with.now.macros.now) g.R.Meaning.Meaning.way g.R.Meaning.Meaning.answer c.args.with.now in
-    known setting frames c.args.frame.call c.args.at cs c.args.frame.part _ _ _ c.in-Until.is (one_in_until setting frames c.args.frame.call c.args.at cs c.args.token c.in-Until.close c.in-Until.items _ c.args.x c.requires.place c.in_ok-push-in-Until.ensures)
+pub returns-then-branch-clause-from : goal.returns-then-branch-clause-from
+returns-then-branch-clause-from g c =
+    stays_from c.args.frames.now c.take_object.new.self (one c.args.token c.args.x) c.args.token
+    (ap (λ (fs : List OpenCall). calls_with fs (one c.args.token c.args.x)) (sym c.in-None.ensures.0) ∙ c.in_ok-take_object-in-None.ensures.takes c.args.token c.if-branch.true)
 
-pub returns-in-Dotted-clause-takes : goal.returns-in-Dotted-clause-takes
-returns-in-Dotted-clause-takes g c = λ frames cs open_calls.
+pub returns-else-branch-clause-takes : goal.returns-else-branch-clause-takes
+returns-else-branch-clause-takes g c = λ cs.
     let setting = setting_with (g.R.MacroFunctions.registered c.args.with.now.macros.now) g.R.Meaning.Meaning.way g.R.Meaning.Meaning.answer c.args.with.now in
-    known setting frames c.args.frame.call c.args.at cs c.args.frame.part _ _ _ c.in-Dotted.is (one_in_dotted setting frames c.args.frame.call c.args.at cs c.args.token c.in-Dotted.items c.args.x)
+    object_stops setting c.args.at cs c.args.frames.now c.args.token c.args.x c.requires.open
+    (ap (λ (fs : List OpenCall). calls_with fs (one c.args.token c.args.x)) (sym c.in-None.ensures.0) ∙ (c.in_ok-take_object-in-None.ensures.refuses c.args.token c.if-branch.false).0) c.in-None.ensures.1
 
-pub returns-in-Tailed-clause-takes : goal.returns-in-Tailed-clause-takes
-returns-in-Tailed-clause-takes g c = λ frames cs open_calls.
-    let setting = setting_with (g.R.MacroFunctions.registered c.args.with.now.macros.now) g.R.Meaning.Meaning.way g.R.Meaning.Meaning.answer c.args.with.now in
-    known setting frames c.args.frame.call c.args.at cs c.args.frame.part _ _ _ c.in-Tailed.is (one_in_tailed setting frames c.args.frame.call c.args.at cs c.args.token _ _ c.args.x)
+pub returns-else-branch-clause-from : goal.returns-else-branch-clause-from
+returns-else-branch-clause-from g c =
+    refused_from c.args.frames.now c.take_object.new.self (one c.args.token c.args.x) 0 0 ((c.in_ok-take_object-in-None.ensures.refuses c.args.token c.if-branch.false).1 ∙ c.in-None.ensures.0)

@@ -21,4 +21,4 @@ pub returns-in-None-clause-memory : goal.returns-in-None-clause-memory
 returns-in-None-clause-memory g c = λ frames open_calls.
     let setting = setting_with (g.R.MacroFunctions.registered c.args.with.now.macros.now) g.R.Meaning.Meaning.way g.R.Meaning.Meaning.answer c.args.with.now in
     call_token_ends setting frames c.args.at c.ended.result c.args.call c.args.scan c.into_marks.result.items c.args.round
-    (c.in-None.ensures.stops setting.table) (c.into_marks.ensures.value ∙ ap (λ (s : Scan). s.marks) (c.token_stop.ensures.same c.in-None.is)) open_calls c.ended.ensures.some
+    (c.in-None.ensures.stops setting.table) (c.into_marks.ensures.value ∙ ap (λ (s : Scan). s.marks) (c.token_stop.ensures.same c.in-None.is)) open_calls (c.ended.ensures.some _)

@@ -15,4 +15,4 @@ returns-clause-brings g c = λ frames keep open_calls.
 pub returns-clause-memory : goal.returns-clause-memory
 returns-clause-memory g c = λ frames keep open_calls.
     let setting = setting_with (g.R.MacroFunctions.registered c.args.with.now.macros.now) g.R.Meaning.Meaning.way g.R.Meaning.Meaning.answer c.args.with.now in
-    line_ends setting frames c.args.at c.ended.result c.args.call keep c.args.text c.into_bytes.result c.args.round c.into_bytes.ensures.value open_calls c.ended.ensures.some
+    line_ends setting frames c.args.at c.ended.result c.args.call keep c.args.text c.into_bytes.result c.args.round c.into_bytes.ensures.value open_calls (c.ended.ensures.some _)

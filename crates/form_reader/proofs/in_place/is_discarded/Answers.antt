@@ -2,7 +2,7 @@ use Rattle.std.proofs.Common.{sym, ap, ◌∙◌, arith}
 use Rattle.form_reader.specs.Reading.{is_blank}
 use Rattle.form_reader.specs.Surrounding.{setting_with}
 use Rattle.form_reader.proofs.ObjectTokens.{blank_stays}
-use Rattle.form_reader.proofs.Spaces.{blank_is, blank_passes, no_space_over, no_space_closed, space_is}
+use Rattle.form_reader.proofs.Spaces.{blank_is, blank_passes, space_is}
 use Rattle.form_reader.proofs.in_place.is_discarded.Goals as goal
 
 pub returns-clause-stays : goal.returns-clause-stays

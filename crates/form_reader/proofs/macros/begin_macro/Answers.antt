@@ -19,6 +19,6 @@ returns-else-is_dispatch-clause-brings g c = λ cs.
 pub returns-else-is_dispatch-clause-memory : goal.returns-else-is_dispatch-clause-memory
 returns-else-is_dispatch-clause-memory g c =
     let setting = setting_with (g.R.MacroFunctions.registered c.args.with.now.macros.now) g.R.Meaning.Meaning.way g.R.Meaning.Meaning.answer c.args.with.now in
-    spends_same setting c.args.frames.now c.args.at _ _ c.begin_call.result
+    spends_same _ setting c.args.frames.now c.args.at _ _ c.begin_call.result
     (λ cs. character_is setting c.args.frames.now c.args.c c.args.at cs _ c.in-Some.name c.function_of.result c.of_macro.result
     (sym c.macro_of.ensures ∙ c.in-Some.is) (sym c.is_dispatch.ensures ∙ c.if-is_dispatch.false) c.function_of.ensures c.of_macro.ensures) c.begin_call.ensures.memory

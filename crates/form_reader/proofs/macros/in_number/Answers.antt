@@ -24,5 +24,5 @@ returns-in-Refused-clause-brings g c = λ cs.
 pub returns-in-Ended-clause-memory : goal.returns-in-Ended-clause-memory
 returns-in-Ended-clause-memory g c =
     let setting = setting_with (g.R.MacroFunctions.registered c.args.with.now.macros.now) g.R.Meaning.Meaning.way g.R.Meaning.Meaning.answer c.args.with.now in
-    spends_same setting c.args.frames.now (c.args.at + 1) _ _ c.sub_byte.result
+    spends_same _ setting c.args.frames.now (c.args.at + 1) _ _ c.sub_byte.result
     (λ cs. number_is setting c.args.frames.now _ c.args.character c.args.at c.args.c c.args.number _ cs (c.in-Ended.ensures.feeds cs) c.get.ensures.value) c.sub_byte.ensures.memory

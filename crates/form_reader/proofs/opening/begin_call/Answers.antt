@@ -9,4 +9,4 @@ returns-in-None-clause-begins g c = λ cs.
 
 pub returns-in-Some-clause-memory : goal.returns-in-Some-clause-memory
 returns-in-Some-clause-memory g c =
-    some_costs _ c.args.frames.now c.args.call c.in-Some.way c.args.at c.gather.result (sym c.way_of.ensures ∙ c.in-Some.is) c.gather.ensures.memory
+    some_costs _ c.args.frames.now c.args.call c.in-Some.way c.args.at _ c.gather.result (sym c.way_of.ensures ∙ c.in-Some.is) c.gather.ensures.memory

@@ -14,5 +14,5 @@ pub returns-clause-ends : goal.returns-clause-ends
 returns-clause-ends g c = end_within _ _ c.args.at c.event_of.result c.event_of.ensures.ends (omega (arith, c.in_ok-complete.ensures.ends, or_none c.args.token))
 
 pub returns-clause-some : goal.returns-clause-some
-returns-clause-some g c =
-    called_costs c.event_of.result c.args.call.now.function _ _ c.in_ok-complete.ensures.gives (c.event_of.ensures.some c.args.call.now.function)
+returns-clause-some g c = λ needs.
+    called_costs needs c.event_of.result c.args.call.now.function _ _ c.in_ok-complete.ensures.gives (c.event_of.ensures.some needs c.args.call.now.function)

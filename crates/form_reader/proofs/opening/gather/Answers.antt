@@ -19,4 +19,4 @@ returns-in-EscapedToken-clause-gathers g c = λ cs.
 pub returns-in-Nothing-clause-memory : goal.returns-in-Nothing-clause-memory
 returns-in-Nothing-clause-memory g c =
     let setting = setting_with (g.R.MacroFunctions.registered c.args.with.now.macros.now) g.R.Meaning.Meaning.way g.R.Meaning.Meaning.answer c.args.with.now in
-    nothing_costs setting c.args.frames.now c.args.call c.args.way c.args.at c.len.result c.ended.result c.in-Nothing.is c.len.ensures c.ended.ensures.memory
+    nothing_costs setting c.args.frames.now c.args.call c.args.way c.args.at c.len.result c.ended.result c.in-Nothing.is c.len.ensures c.ended.ensures.some
