@@ -2,7 +2,7 @@
 
 use super::asked::{Ask, asked, form, session, told};
 use super::long::LongDisk;
-use super::{AMPLE, Files, Trouble, disk_of, disk_with, left_after};
+use super::{AMPLE, Files, Left, Trouble, disk_of, disk_with, left_after};
 use disk_trait::MemoryDisk;
 use std::alloc::Global;
 use std::test::Fail;
@@ -10,9 +10,10 @@ use std::test::Fail;
 /// Half A after one form, 177 bytes.
 fn half_a(alloc: Global) -> Result<Vec<u8>, Trouble> {
     let calls = [session(b"(SETF (GET 'A 'B) 7)\n")];
-    let left = left_after(alloc, MemoryDisk::new(alloc), AMPLE, &calls)?;
-    if left.files.a.len() == 177 {
-        Ok(left.files.a)
+    let Left { text: _, files } = left_after(alloc, MemoryDisk::new(alloc), AMPLE, &calls)?;
+    let Files { a, b: _ } = files;
+    if a.len() == 177 {
+        Ok(a)
     } else {
         Err(Trouble::Length)
     }
