@@ -12,7 +12,7 @@ use std::alloc::Global;
 use std::io::{Read, Result as IoResult, Write};
 
 /// A call of an open store, and the lines of it in the text.
-#[derive(Clone, Copy, Debug)]
+#[derive(Clone, Copy)]
 pub enum Ask<'a> {
     /// A session: its answers, and `end`, `reader N` or `store N`.
     Serve(Serving<'a>),
@@ -29,7 +29,7 @@ pub enum Ask<'a> {
 }
 
 /// A session: its mode, after how many forms it takes a snapshot, and its input, which comes in pieces of at most so many bytes.
-#[derive(Clone, Copy, Debug)]
+#[derive(Clone, Copy)]
 pub struct Serving<'a> {
     pub mode: Mode,
     pub every: u64,
