@@ -1,24 +1,19 @@
 //! Files that were altered while no store was open.
 
-use super::by_name::ByName;
-use super::calls::refused;
+use super::asked::{Ask, asked, form, session, told};
 use super::long::LongDisk;
-use super::{
-    AMPLE, Files, Left, Place, Trouble, answers_over, bytes_of, closed, disk_of, disk_with,
-    files_of, fresh_session, left_over, opened, place_of,
-};
-use crate::meaning::SixFunctions;
-use disk_trait::{Disk, Half};
-use prevalence_store::{Outcome, Store, Unopened};
+use super::{AMPLE, Files, Left, Trouble, disk_of, disk_with, left_after};
+use disk_trait::MemoryDisk;
 use std::alloc::Global;
 use std::test::Fail;
 
 /// Half A after one form, 177 bytes.
 fn half_a(alloc: Global) -> Result<Vec<u8>, Trouble> {
-    let mut first = fresh_session(alloc, b"(SETF (GET 'A 'B) 7)\n")?;
-    let bytes = bytes_of(alloc, &mut first.disk, Half::A)?;
-    if bytes.len() == 177 {
-        Ok(bytes)
+    let calls = [session(b"(SETF (GET 'A 'B) 7)\n")];
+    let Left { text: _, files } = left_after(alloc, MemoryDisk::new(alloc), AMPLE, &calls)?;
+    let Files { a, b: _ } = files;
+    if a.len() == 177 {
+        Ok(a)
     } else {
         Err(Trouble::Length)
     }
@@ -27,10 +22,10 @@ fn half_a(alloc: Global) -> Result<Vec<u8>, Trouble> {
 /// The same with another byte at a place.
 fn with_byte(alloc: Global, place: usize, byte: u8) -> Result<Vec<u8>, Trouble> {
     let mut bytes = half_a(alloc)?;
-    if place >= bytes.len() {
-        return Err(Trouble::Length);
+    match bytes.get_mut(place) {
+        Some(found) => *found = byte,
+        None => return Err(Trouble::Length),
     }
-    bytes[place] = byte;
     Ok(bytes)
 }
 
@@ -41,55 +36,69 @@ fn cut_to(alloc: Global, length: usize) -> Result<Vec<u8>, Trouble> {
     Ok(bytes)
 }
 
-/// The number of the refusal to open files with these bytes; 0 where they are opened.
-fn refusal_of(alloc: Global, a: &[u8], b: &[u8]) -> Result<u16, Trouble> {
-    match opened(alloc, disk_of(alloc, a, b)?, AMPLE) {
-        Ok(store) => {
-            let _disk = closed(store);
-            Ok(0)
-        }
-        Err(Trouble::Unopened(number)) => Ok(number),
-        Err(trouble) => Err(trouble),
-    }
+/// Whether the opening of these bytes has this text, which is empty where they are opened, and they are as they were then.
+fn opens_as(alloc: Global, a: &[u8], b: &[u8], limit: u64, wanted: &[u8]) -> Result<bool, Trouble> {
+    let left = left_after(alloc, disk_of(alloc, a, b)?, limit, &[])?;
+    Ok(
+        left.text.as_slice() == wanted
+            && left.files.a.as_slice() == a
+            && left.files.b.as_slice() == b,
+    )
 }
 
-fn refusal_with_byte(alloc: Global, place: usize, byte: u8) -> Result<u16, Trouble> {
-    refusal_of(alloc, with_byte(alloc, place, byte)?.as_slice(), b"")
-}
-
-fn refusal_cut_to(alloc: Global, length: usize) -> Result<u16, Trouble> {
-    refusal_of(alloc, cut_to(alloc, length)?.as_slice(), b"")
+/// Whether half A with another byte is opened so.
+fn opens_with_byte(alloc: Global, place: usize, byte: u8, wanted: &[u8]) -> Result<bool, Trouble> {
+    let bytes = with_byte(alloc, place, byte)?;
+    opens_as(alloc, bytes.as_slice(), b"", AMPLE, wanted)
 }
 
 #[test]
 fn an_altered_byte_is_found(rt: HostRuntime) -> Result<(), Fail> {
-    let cases = [
-        (0, 0xa5, 0),
-        (2, 9, 66),
-        (10, 0, 62),
-        (15, 0x20, 62),
-        (151, 2, 62),
-        (155, 0x15, 62),
-        (156, 0x29, 62),
-        (176, 0xa5, 62),
+    let cases: [(usize, u8, &[u8]); 7] = [
+        (2, 9, b"unopened 66\n"),
+        (10, 0, b"unopened 62\n"),
+        (15, 0x20, b"unopened 62\n"),
+        (151, 2, b"unopened 62\n"),
+        (155, 0x15, b"unopened 62\n"),
+        (156, 0x29, b"unopened 62\n"),
+        (176, 0xa5, b"unopened 62\n"),
     ];
-    for (place, byte, number) in cases {
+    // the byte that it has
+    assert!(rt; opens_with_byte(rt.alloc(), 0, 0xa5, b"")?);
+    for (place, byte, wanted) in cases {
         assert!(rt;
-            refusal_with_byte(rt.alloc(), place, byte)? == number,
+            opens_with_byte(rt.alloc(), place, byte, wanted)?,
             "at {place}"
         );
     }
     Ok(())
 }
 
+/// Whether half A is damaged that is cut to this length.
+fn is_damaged(alloc: Global, length: usize) -> Result<bool, Trouble> {
+    let bytes = cut_to(alloc, length)?;
+    opens_as(alloc, bytes.as_slice(), b"", AMPLE, b"unopened 62\n")
+}
+
+/// Whether two halves of one generation are damaged.
+fn is_damaged_twice(alloc: Global) -> Result<bool, Trouble> {
+    let bytes = half_a(alloc)?;
+    opens_as(
+        alloc,
+        bytes.as_slice(),
+        bytes.as_slice(),
+        AMPLE,
+        b"unopened 62\n",
+    )
+}
+
 #[test]
 fn a_cut_file_is_found(rt: HostRuntime) -> Result<(), Fail> {
     let alloc = rt.alloc();
     for length in [2, 3, 14, 15, 16, 100, 149, 150, 151, 155, 156, 170, 176] {
-        assert!(rt; refusal_cut_to(alloc, length)? == 62, "at {length}");
+        assert!(rt; is_damaged(alloc, length)?, "at {length}");
     }
-    let bytes = half_a(alloc)?;
-    assert!(rt; refusal_of(alloc, bytes.as_slice(), bytes.as_slice())? == 62);
+    assert!(rt; is_damaged_twice(alloc)?);
     Ok(())
 }
 
@@ -103,111 +112,63 @@ fn two_generations(alloc: Global) -> Result<Files, Trouble> {
     Ok(Files { a, b })
 }
 
-/// What a session that gets the property leaves over these files.
-fn get_over(alloc: Global, files: &Files) -> Result<Left, Trouble> {
-    left_over(alloc, disk_with(alloc, files)?, b"(GET 'A 'B)")
-}
-
-/// The half in use of these files.
-fn place_in(alloc: Global, files: &Files) -> Result<Place, Trouble> {
-    let store = opened(alloc, disk_with(alloc, files)?, AMPLE)?;
-    let place = place_of(&store);
-    let _disk = closed(store);
-    Ok(place)
+/// Whether the property of half B is found there, and half B is in use after that too.
+fn is_b_in_use(alloc: Global) -> Result<bool, Trouble> {
+    let files = two_generations(alloc)?;
+    let calls = [session(b"(GET 'A 'B)")];
+    let found = left_after(alloc, disk_with(alloc, &files)?, AMPLE, &calls)?;
+    let half = told(alloc, disk_with(alloc, &found.files)?, &[Ask::Half])?;
+    Ok(
+        found.text.as_slice() == b"9\nend\n".as_slice()
+            && found.files.a == files.a
+            && found.files.b.len() == 177
+            && half.as_slice() == b"half B generation 2 records 1\n".as_slice(),
+    )
 }
 
 /// Half A of the last generation: none is greater.
-fn last_generation(alloc: Global) -> Result<Files, Trouble> {
+fn last_generation(alloc: Global) -> Result<Vec<u8>, Trouble> {
     let mut a = half_a(alloc)?;
     for place in 3..11 {
         if let Some(byte) = a.get_mut(place) {
             *byte = 0xff;
         }
     }
-    Ok(Files {
-        a,
-        b: Vec::new(alloc),
-    })
+    Ok(a)
 }
 
-/// Whether a snapshot is refused there, what a form is refused as then, and the half in use after it.
-fn past_the_last(alloc: Global) -> Result<(bool, Option<u16>, Place), Trouble> {
-    let files = last_generation(alloc)?;
-    let mut store = opened(alloc, disk_with(alloc, &files)?, AMPLE)?;
-    let is_too_large = matches!(store.snapshot(), Outcome::Refused(65));
-    let number = refused(&mut store, b"(SETF (GET 'A 'B) 8)");
-    let place = place_of(&store);
-    let _disk = closed(store);
-    Ok((is_too_large, number, place))
+/// The text of a snapshot, a form and the half in use there.
+fn past_the_last(alloc: Global) -> Result<Vec<u8>, Trouble> {
+    let a = last_generation(alloc)?;
+    told(
+        alloc,
+        disk_of(alloc, a.as_slice(), b"")?,
+        &[Ask::Snapshot, form(b"(SETF (GET 'A 'B) 8)"), Ask::Half],
+    )
 }
 
 #[test]
 fn the_greater_generation_is_in_use(rt: HostRuntime) -> Result<(), Fail> {
     let alloc = rt.alloc();
-    let files = two_generations(alloc)?;
-    let found = get_over(alloc, &files)?;
-    assert!(rt; found.answers.as_slice() == b"9\n".as_slice());
-    assert!(rt; found.files.a == files.a && found.files.b.len() == 177);
-    assert!(rt; place_in(alloc, &found.files)? == (Half::B, 2, 1));
-    assert!(rt; past_the_last(alloc)? == (true, None, (Half::A, u64::MAX, 2)));
+    assert!(rt; is_b_in_use(alloc)?);
+    let text = past_the_last(alloc)?;
+    let wanted: &[u8] =
+        b"refused 65\naccepted 8\nhalf A generation 18446744073709551615 records 2\n";
+    assert!(rt; text.as_slice() == wanted);
     Ok(())
 }
 
-/// The number of a refusal to open a disk, and the bytes of the disk that is given back.
-fn given_back(alloc: Global, a: &[u8], b: &[u8], limit: u64) -> Result<(u16, Files), Trouble> {
-    let disk = disk_of(alloc, a, b)?;
-    if disk.failures() > 0 {
-        return Err(Trouble::Device);
-    }
-    match Store::open(alloc, disk, ByName::new(alloc, SixFunctions::new()), limit) {
-        Ok(store) => Ok((0, files_of(alloc, closed(store))?)),
-        Err(unopened) => {
-            let Unopened {
-                number,
-                disk,
-                macros: _,
-            } = unopened;
-            Ok((number, files_of(alloc, disk)?))
-        }
-    }
-}
-
-/// Whether the opening of these bytes is refused so, and gives them back.
-fn is_given_back(
-    alloc: Global,
-    a: &[u8],
-    b: &[u8],
-    limit: u64,
-    number: u16,
-) -> Result<bool, Trouble> {
-    let (found, files) = given_back(alloc, a, b, limit)?;
-    Ok(found == number && files.a.as_slice() == a && files.b.as_slice() == b)
-}
-
-/// The number of a refusal to open files that there is no memory for, and what the disk that is given back then answers.
-fn given_back_long(alloc: Global, a: &[u8]) -> Result<(u16, Vec<u8>), Trouble> {
+/// Whether half A is refused for memory where it tells of more bytes than there are, and the disk that is given back has the
+/// property.
+fn is_given_back_long(alloc: Global, a: &[u8]) -> Result<bool, Trouble> {
     let disk = LongDisk {
         disk: disk_of(alloc, a, b"")?,
         is_long: true,
     };
-    if disk.failures() > 0 {
-        return Err(Trouble::Device);
-    }
-    match Store::open(alloc, disk, ByName::new(alloc, SixFunctions::new()), AMPLE) {
-        Ok(store) => {
-            let _disk = closed(store);
-            Ok((0, Vec::new(alloc)))
-        }
-        Err(unopened) => {
-            let Unopened {
-                number,
-                disk,
-                macros: _,
-            } = unopened;
-            let LongDisk { disk, is_long: _ } = disk;
-            Ok((number, answers_over(alloc, disk, b"(GET 'A 'B)")?))
-        }
-    }
+    let (text, disk) = asked(alloc, disk, AMPLE, &[])?;
+    let LongDisk { disk, is_long: _ } = disk;
+    let left = told(alloc, disk, &[session(b"(GET 'A 'B)")])?;
+    Ok(text.as_slice() == b"unopened 90\n".as_slice() && left.as_slice() == b"7\nend\n".as_slice())
 }
 
 #[test]
@@ -216,33 +177,33 @@ fn a_disk_that_is_refused_is_as_it_was(rt: HostRuntime) -> Result<(), Fail> {
     let whole = half_a(alloc)?;
     let other = with_byte(alloc, 2, 9)?;
     let cut = cut_to(alloc, 100)?;
-    let cases: [(&[u8], &[u8], u64, u16); 5] = [
-        (whole.as_slice(), whole.as_slice(), AMPLE, 62),
-        (cut.as_slice(), b"", AMPLE, 62),
-        (other.as_slice(), b"", AMPLE, 66),
-        (b"", b"", 150, 65),
-        (whole.as_slice(), b"", 150, 0),
+    let cases: [(&[u8], &[u8], u64, &[u8]); 5] = [
+        (whole.as_slice(), whole.as_slice(), AMPLE, b"unopened 62\n"),
+        (cut.as_slice(), b"", AMPLE, b"unopened 62\n"),
+        (other.as_slice(), b"", AMPLE, b"unopened 66\n"),
+        (b"", b"", 150, b"unopened 65\n"),
+        (whole.as_slice(), b"", 150, b""),
     ];
-    for (a, b, limit, number) in cases {
-        assert!(rt; is_given_back(alloc, a, b, limit, number)?, "{number}");
+    for (a, b, limit, wanted) in cases {
+        assert!(rt; opens_as(alloc, a, b, limit, wanted)?, "{wanted:?}");
     }
-    let (number, answers) = given_back_long(alloc, whole.as_slice())?;
-    assert!(rt; number == 90 && answers.as_slice() == b"7\n".as_slice());
+    assert!(rt; is_given_back_long(alloc, whole.as_slice())?);
     Ok(())
 }
 
-/// What a session that gets the property answers where the gate of the record is closed.
+/// The text of a session that gets the property where the gate of the record is closed.
 fn get_behind_a_gate(alloc: Global) -> Result<Vec<u8>, Trouble> {
     let bytes = with_byte(alloc, 150, 0)?;
-    answers_over(
+    told(
         alloc,
         disk_of(alloc, bytes.as_slice(), b"")?,
-        b"(GET 'A 'B)",
+        &[session(b"(GET 'A 'B)")],
     )
 }
 
 #[test]
 fn a_closed_gate_hides_a_record(rt: HostRuntime) -> Result<(), Fail> {
-    assert!(rt; get_behind_a_gate(rt.alloc())?.as_slice() == b"NIL\n".as_slice());
+    let text = get_behind_a_gate(rt.alloc())?;
+    assert!(rt; text.as_slice() == b"NIL\nend\n".as_slice());
     Ok(())
 }

@@ -8,8 +8,9 @@ ghost use Rattle.prevalence_store.specs.Output.{Progress, after_forms};
 ghost use Rattle.prevalence_store.specs.Streams.{Writes};
 ghost use Rattle.prevalence_store.specs.Theorem.{IsAfterSome, Keeps};
 
+use super::asked::{asked, session};
 use super::by_name::ByName;
-use super::{AMPLE, Trouble, fresh_session};
+use super::{AMPLE, Trouble, crashed};
 use crate::meaning::SixFunctions;
 use disk_trait::{Crash, Disk, MemoryDisk};
 use prevalence_store::{Ending, Mode, Outcome, Store, Unopened, headline};
@@ -111,12 +112,9 @@ fn one_session<D: Disk + Drop, M: MacroFunctions + Drop, R: Read, W: Write>(
 
 /// Files with the property 7, on which a crash of this kind came.
 fn left(alloc: Global, kind: Crash) -> Result<MemoryDisk, Trouble> {
-    let mut disk = fresh_session(alloc, b"(SETF (GET 'A 'B) 7)")?.disk;
-    if disk.failures() > 0 {
-        return Err(Trouble::Device);
-    }
-    disk.crash(kind)?;
-    Ok(disk)
+    let calls = [session(b"(SETF (GET 'A 'B) 7)")];
+    let (_text, disk) = asked(alloc, MemoryDisk::new(alloc), AMPLE, &calls)?;
+    crashed(disk, kind)
 }
 
 /// Whether the other disk was opened too.

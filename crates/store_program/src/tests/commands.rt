@@ -4,11 +4,11 @@ use super::by_name::ByName;
 use super::{BrokenReader, FullWriter};
 use crate::meaning::SixFunctions;
 use crate::program::program;
-use readtable_core::FnName;
 use std::alloc::{AllocError, Global};
+use std::io::{Read, Write};
 use std::test::Fail;
 use std::{env, fs, process};
-use user_macros::Macros;
+use user_macros::{MacroFunctions, Macros};
 
 /// What the program wrote, and its status.
 #[derive(Drop)]
@@ -18,14 +18,34 @@ struct Ran {
     faults: Vec<u8>,
 }
 
-fn run(rt: &HostRuntime, words: &[&str], input: &[u8]) -> Ran {
-    let mut reader = input;
+/// The status of the program with these macro functions, words and streams.
+fn status<M, I, O>(
+    rt: &HostRuntime,
+    macros: M,
+    words: &[&str],
+    input: &mut I,
+    output: &mut O,
+    faults: &mut Vec<u8>,
+) -> u8
+where
+    M: MacroFunctions + Drop,
+    I: Read,
+    O: Write,
+    requires answers { M.answers macros }
+{
+    program(rt, macros, words, input, output, faults).code()
+}
+
+/// The program with these macro functions, words and input.
+fn run_with<M, I>(rt: &HostRuntime, macros: M, words: &[&str], input: &mut I) -> Ran
+where
+    M: MacroFunctions + Drop,
+    I: Read,
+    requires answers { M.answers macros }
+{
     let mut output = Vec::new(rt.alloc());
     let mut faults = Vec::new(rt.alloc());
-    // the borrow checker has to be told of the type of a name, which the macro functions hold
-    let _name = FnName::new(b"SQUARE");
-    let macros = ByName::new(rt.alloc(), SixFunctions::new());
-    let status = program(rt, macros, words, &mut reader, &mut output, &mut faults).code();
+    let status = status(rt, macros, words, input, &mut output, &mut faults);
     Ran {
         status,
         output,
@@ -33,14 +53,28 @@ fn run(rt: &HostRuntime, words: &[&str], input: &[u8]) -> Ran {
     }
 }
 
+/// All six functions.
+fn functions(rt: &HostRuntime) -> ByName {
+    ByName::new(rt.alloc(), SixFunctions::new())
+}
+
+fn run(rt: &HostRuntime, words: &[&str], input: &[u8]) -> Ran {
+    let mut reader = input;
+    run_with(rt, functions(rt), words, &mut reader)
+}
+
 /// The status and the faults of the program where its output takes nothing.
 fn unwritten(rt: &HostRuntime, words: &[&str]) -> (u8, Vec<u8>) {
     let mut reader: &[u8] = b"7";
     let mut faults = Vec::new(rt.alloc());
-    // the borrow checker has to be told of the type of a name, which the macro functions hold
-    let _name = FnName::new(b"SQUARE");
-    let macros = ByName::new(rt.alloc(), SixFunctions::new());
-    let status = program(rt, macros, words, &mut reader, &mut FullWriter, &mut faults).code();
+    let status = status(
+        rt,
+        functions(rt),
+        words,
+        &mut reader,
+        &mut FullWriter,
+        &mut faults,
+    );
     (status, faults)
 }
 
@@ -398,31 +432,14 @@ fn a_file_is_no_folder(rt: HostRuntime) -> Result<(), Fail> {
 /// The program where its input is not read.
 fn unread(rt: &HostRuntime, words: &[&str]) -> Ran {
     let mut reader = BrokenReader { has_begun: false };
-    let mut output = Vec::new(rt.alloc());
-    let mut faults = Vec::new(rt.alloc());
-    // the borrow checker has to be told of the type of a name, which the macro functions hold
-    let _name = FnName::new(b"SQUARE");
-    let macros = ByName::new(rt.alloc(), SixFunctions::new());
-    let status = program(rt, macros, words, &mut reader, &mut output, &mut faults).code();
-    Ran {
-        status,
-        output,
-        faults,
-    }
+    run_with(rt, functions(rt), words, &mut reader)
 }
 
 /// The program where no macro functions are registered.
 fn helpless(rt: &HostRuntime, words: &[&str]) -> Ran {
     let mut reader: &[u8] = b"7";
-    let mut output = Vec::new(rt.alloc());
-    let mut faults = Vec::new(rt.alloc());
     let none = Macros::new(rt.alloc(), SixFunctions::new());
-    let status = program(rt, none, words, &mut reader, &mut output, &mut faults).code();
-    Ran {
-        status,
-        output,
-        faults,
-    }
+    run_with(rt, none, words, &mut reader)
 }
 
 /// Whether the program ended with a fault, told of it so, and wrote nothing.

@@ -1,7 +1,10 @@
 //! Every operator and every refusal of evaluation: forms, and what a session answers to the last of them.
 
-use super::{AMPLE, Trouble, closed, opened, serve_bytes};
+use super::asked::{Opening, closed, open};
+use super::by_name::ByName;
+use super::{AMPLE, Trouble};
 use disk_trait::MemoryDisk;
+use prevalence_store::{Mode, Store};
 use std::alloc::{AllocError, Global};
 use std::io::Write;
 use std::mem;
@@ -279,15 +282,38 @@ fn lines_of(alloc: Global, forms: &[u8]) -> Result<(Vec<u8>, Vec<u8>), AllocErro
     Ok((before, last))
 }
 
-/// What a session over fresh files answers to a form after others, and whether it was logged.
-fn answered(alloc: Global, before: &[u8], last: &[u8]) -> Result<(Vec<u8>, bool), Trouble> {
-    let mut store = opened(alloc, MemoryDisk::new(alloc), AMPLE)?;
-    let _served = serve_bytes(alloc, &mut store, before);
+/// What a session answers, by itself.
+fn answers_of(alloc: Global, store: &mut Store<MemoryDisk, ByName>, input: &[u8]) -> Vec<u8> {
+    let mut reader = input;
+    let mut answers = Vec::new(alloc);
+    let _ending = store.serve(&mut reader, &mut answers, Mode::Current, 0);
+    answers
+}
+
+/// What a store answers to a form after others, and whether it was logged.
+fn answered_by(
+    alloc: Global,
+    store: &mut Store<MemoryDisk, ByName>,
+    before: &[u8],
+    last: &[u8],
+) -> (Vec<u8>, bool) {
+    let _answers = answers_of(alloc, store, before);
     let count = store.record_count();
-    let (answer, _ending) = serve_bytes(alloc, &mut store, last);
-    let is_logged = store.record_count() > count;
-    let _disk = closed(store);
-    Ok((answer, is_logged))
+    let answer = answers_of(alloc, store, last);
+    (answer, store.record_count() > count)
+}
+
+/// The same over fresh files.
+fn answered(alloc: Global, before: &[u8], last: &[u8]) -> Result<(Vec<u8>, bool), Trouble> {
+    match open(alloc, MemoryDisk::new(alloc), AMPLE)? {
+        Opening::Opened(store) => {
+            let mut store = store;
+            let answered = answered_by(alloc, &mut store, before, last);
+            let _disk = closed(store);
+            Ok(answered)
+        }
+        Opening::Refused(_, _) => Err(Trouble::Device),
+    }
 }
 
 /// Whether these forms are answered so.

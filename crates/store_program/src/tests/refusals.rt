@@ -1,9 +1,8 @@
 //! Refusals that a session answers.
 
+use super::asked::{Opening, closed, open, session, told};
 use super::by_name::ByName;
-use super::{
-    AMPLE, BrokenReader, FullWriter, Trouble, answers_over, closed, left_over, opened, serve,
-};
+use super::{AMPLE, BrokenReader, FullWriter, Trouble};
 use disk_trait::MemoryDisk;
 use prevalence_store::{Ending, Mode, Store};
 use std::alloc::{AllocError, Global};
@@ -23,11 +22,12 @@ fn composed(alloc: Global, parts: &[Part]) -> Result<Vec<u8>, AllocError> {
     Ok(text)
 }
 
-/// Whether this text is answered so.
-fn is_answered(alloc: Global, input: &[Part], answers: &[Part]) -> Result<bool, Trouble> {
-    let text = composed(alloc, input)?;
-    let wanted = composed(alloc, answers)?;
-    let found = answers_over(alloc, MemoryDisk::new(alloc), text.as_slice())?;
+/// Whether a session of this input has this text.
+fn is_answered(alloc: Global, input: &[Part], wanted: &[Part]) -> Result<bool, Trouble> {
+    let input = composed(alloc, input)?;
+    let wanted = composed(alloc, wanted)?;
+    let calls = [session(input.as_slice())];
+    let found = told(alloc, MemoryDisk::new(alloc), &calls)?;
     Ok(found == wanted)
 }
 
@@ -35,34 +35,40 @@ fn is_answered(alloc: Global, input: &[Part], answers: &[Part]) -> Result<bool, 
 fn long_and_deep_texts_are_refused(rt: HostRuntime) -> Result<(), Fail> {
     let alloc = rt.alloc();
     let cases: [(&[Part], &[Part]); 8] = [
-        (&[(b"(", 101)], &[(b"! 22 TOO-DEEP\n", 1)]),
-        (&[(b"(", 100)], &[(b"! 1 END-OF-FILE\n", 1)]),
+        (&[(b"(", 101)], &[(b"! 22 TOO-DEEP\nreader 22\n", 1)]),
+        (&[(b"(", 100)], &[(b"! 1 END-OF-FILE\nreader 1\n", 1)]),
         (
             &[(b"(QUOTE ", 1), (b"(", 99), (b")", 100)],
-            &[(b"(", 98), (b"NIL", 1), (b")", 98), (b"\n", 1)],
+            &[(b"(", 98), (b"NIL", 1), (b")", 98), (b"\nend\n", 1)],
         ),
         (
             &[(b"(QUOTE ", 1), (b"(", 100), (b")", 101)],
-            &[(b"! 22 TOO-DEEP\n", 1)],
+            &[(b"! 22 TOO-DEEP\nreader 22\n", 1)],
         ),
         (
             &[(b"(", 1), (b" ", 65_535), (b")", 1)],
-            &[(b"! 23 FORM-TOO-LONG\n", 1)],
+            &[(b"! 23 FORM-TOO-LONG\nreader 23\n", 1)],
         ),
-        (&[(b"(", 1), (b" ", 65_534), (b")", 1)], &[(b"NIL\n", 1)]),
-        (&[(b"'", 1), (b"A", 4_096)], &[(b"A", 4_096), (b"\n", 1)]),
+        (
+            &[(b"(", 1), (b" ", 65_534), (b")", 1)],
+            &[(b"NIL\nend\n", 1)],
+        ),
+        (
+            &[(b"'", 1), (b"A", 4_096)],
+            &[(b"A", 4_096), (b"\nend\n", 1)],
+        ),
         (
             &[(b"'", 1), (b"A", 4_097)],
-            &[(b"! 24 TOKEN-TOO-LONG\n", 1)],
+            &[(b"! 24 TOKEN-TOO-LONG\nreader 24\n", 1)],
         ),
     ];
-    for (input, answers) in cases {
-        assert!(rt; is_answered(alloc, input, answers)?, "{input:?}");
+    for (input, wanted) in cases {
+        assert!(rt; is_answered(alloc, input, wanted)?, "{input:?}");
     }
     Ok(())
 }
 
-/// NIL in one list, in two and so on up to a hundred, each on a line, and the line of the refusal.
+/// NIL in one list, in two and so on up to a hundred, each on a line, the line of the refusal, and the end.
 fn levels(alloc: Global) -> Result<Vec<u8>, AllocError> {
     let mut lines = Vec::new(alloc);
     for depth in 1..101 {
@@ -72,26 +78,30 @@ fn levels(alloc: Global) -> Result<Vec<u8>, AllocError> {
         )?;
         lines.extend_from_slice(line.as_slice())?;
     }
-    lines.extend_from_slice(b"! 45 VALUE-TOO-DEEP\n")?;
+    lines.extend_from_slice(b"! 45 VALUE-TOO-DEEP\nend\n")?;
     Ok(lines)
+}
+
+/// Whether a value gets as deep as it may, and no deeper.
+fn is_deep(alloc: Global) -> Result<bool, Trouble> {
+    let input = composed(alloc, &[(b"(SETF (GET 'A 'B) (LIST (GET 'A 'B)))\n", 101)])?;
+    let wanted = levels(alloc)?;
+    let calls = [session(input.as_slice())];
+    let found = told(alloc, MemoryDisk::new(alloc), &calls)?;
+    Ok(found == wanted)
 }
 
 #[test]
 fn a_value_has_at_most_a_hundred_levels(rt: HostRuntime) -> Result<(), Fail> {
-    let alloc = rt.alloc();
-    let input = composed(alloc, &[(b"(SETF (GET 'A 'B) (LIST (GET 'A 'B)))\n", 101)])?;
-    let wanted = levels(alloc)?;
-    let found = left_over(alloc, MemoryDisk::new(alloc), input.as_slice())?;
-    assert!(rt; found.answers == wanted);
-    assert!(rt; found.ending == Ending::End);
+    assert!(rt; is_deep(rt.alloc())?);
     Ok(())
 }
 
 /// How a session ends whose input is not read.
 fn unread(alloc: Global, store: &mut Store<MemoryDisk, ByName>) -> Ending {
     let mut reader = BrokenReader { has_begun: false };
-    let (_answers, ending) = serve(alloc, store, Mode::Current, &mut reader);
-    ending
+    let mut answers = Vec::new(alloc);
+    store.serve(&mut reader, &mut answers, Mode::Current, 0)
 }
 
 /// How a session ends whose output takes nothing.
@@ -102,7 +112,10 @@ fn unwritten(store: &mut Store<MemoryDisk, ByName>) -> Ending {
 
 /// How these two end, one after the other.
 fn broken_endings(alloc: Global) -> Result<(Ending, Ending), Trouble> {
-    let mut store = opened(alloc, MemoryDisk::new(alloc), AMPLE)?;
+    let mut store = match open(alloc, MemoryDisk::new(alloc), AMPLE)? {
+        Opening::Opened(store) => store,
+        Opening::Refused(_, _) => return Err(Trouble::Device),
+    };
     let unread = unread(alloc, &mut store);
     let unwritten = unwritten(&mut store);
     let _disk = closed(store);

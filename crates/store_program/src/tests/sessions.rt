@@ -1,24 +1,20 @@
 //! Sessions: what they write, and the bytes that they leave.
 
-use super::{Files, Left, Trouble, disk_with, left_over};
+use super::asked::session;
+use super::{AMPLE, Files, Left, Trouble, disk_with, left_after};
 use disk_trait::MemoryDisk;
-use prevalence_store::Ending;
 use std::alloc::Global;
 use std::test::Fail;
 
-/// What a session over fresh files leaves.
-fn left_fresh(alloc: Global, input: &[u8]) -> Result<Left, Trouble> {
-    left_over(alloc, MemoryDisk::new(alloc), input)
-}
-
-/// What a session over these files leaves.
-fn left_after(alloc: Global, files: &Files, input: &[u8]) -> Result<Left, Trouble> {
-    left_over(alloc, disk_with(alloc, files)?, input)
-}
-
-/// Whether a session was served to its end with these answers.
-fn answered(left: &Left, answers: &[u8]) -> bool {
-    left.ending == Ending::End && left.answers.as_slice() == answers
+/// A session over fresh files, or over those that the row before left: its input, its text, the length of half A, and the bytes
+/// there from a place on.
+struct Row {
+    is_fresh: bool,
+    input: &'static [u8],
+    text: &'static [u8],
+    length: usize,
+    place: usize,
+    bytes: &'static [u8],
 }
 
 /// Whether half A has so many bytes, and these ones from a place on.
@@ -27,49 +23,85 @@ fn has(files: &Files, length: usize, place: usize, bytes: &[u8]) -> bool {
     a.len() == length && a.get(place..).is_some_and(|rest| rest.starts_with(bytes))
 }
 
+/// What a session over a disk leaves.
+fn left_over(alloc: Global, disk: MemoryDisk, input: &[u8]) -> Result<Left, Trouble> {
+    left_after(alloc, disk, AMPLE, &[session(input)])
+}
+
+/// Whether each session leaves what its row says.
+fn are_left(alloc: Global, rows: &[Row]) -> Result<bool, Trouble> {
+    let mut disk = MemoryDisk::new(alloc);
+    for row in rows {
+        if row.is_fresh {
+            disk = MemoryDisk::new(alloc);
+        }
+        let left = left_over(alloc, disk, row.input)?;
+        if left.text.as_slice() != row.text || !has(&left.files, row.length, row.place, row.bytes) {
+            return Ok(false);
+        }
+        disk = disk_with(alloc, &left.files)?;
+    }
+    Ok(true)
+}
+
+/// The header of a half of generation 1, and the first byte of its snapshot's length.
+const HEADER: &[u8] = b"\xa5\0\x01\0\0\0\0\0\0\0\x01\0\0\0\x87";
+
+/// Whether two empty sessions leave half A as the first one started it, and half B empty.
+fn starts_half_a(alloc: Global) -> Result<bool, Trouble> {
+    let first = left_over(alloc, MemoryDisk::new(alloc), b"")?;
+    let second = left_over(alloc, disk_with(alloc, &first.files)?, b"")?;
+    Ok(
+        first.files.b.is_empty()
+            && has(&first.files, 151, 0, HEADER)
+            && second.files.a == first.files.a
+            && first.text.as_slice() == b"end\n".as_slice()
+            && second.text == first.text,
+    )
+}
+
 #[test]
 fn an_empty_session_starts_half_a(rt: HostRuntime) -> Result<(), Fail> {
-    let alloc = rt.alloc();
-    let first = left_fresh(alloc, b"")?;
-    assert!(rt; answered(&first, b""));
-    assert!(rt;
-        has(
-            &first.files,
-            151,
-            0,
-            b"\xa5\0\x01\0\0\0\0\0\0\0\x01\0\0\0\x87"
-        )
-    );
-    assert!(rt; first.files.b.is_empty());
-    let second = left_after(alloc, &first.files, b"")?;
-    assert!(rt; answered(&second, b""));
-    assert!(rt; second.files.a == first.files.a);
+    assert!(rt; starts_half_a(rt.alloc())?);
     Ok(())
 }
+
+const KEPT: &[Row] = &[
+    Row {
+        is_fresh: true,
+        input: b"(SETF (GET 'A 'B) 7)\n",
+        text: b"7\nend\n",
+        length: 177,
+        place: 150,
+        bytes: b"\xa5\0\0\0\0\x14(SETF (GET 'A 'B) 7)\0",
+    },
+    Row {
+        is_fresh: false,
+        input: b"(GET 'A 'B)\n",
+        text: b"7\nend\n",
+        length: 177,
+        place: 0,
+        bytes: HEADER,
+    },
+];
 
 #[test]
 fn a_property_stays(rt: HostRuntime) -> Result<(), Fail> {
-    let alloc = rt.alloc();
-    let first = left_fresh(alloc, b"(SETF (GET 'A 'B) 7)\n")?;
-    assert!(rt; answered(&first, b"7\n"));
-    assert!(rt;
-        has(
-            &first.files,
-            177,
-            150,
-            b"\xa5\0\0\0\0\x14(SETF (GET 'A 'B) 7)\0"
-        )
-    );
-    let second = left_after(alloc, &first.files, b"(GET 'A 'B)\n")?;
-    assert!(rt; answered(&second, b"7\n"));
-    assert!(rt; second.files.a.len() == 177);
+    assert!(rt; are_left(rt.alloc(), KEPT)?);
     Ok(())
 }
 
+const BOTH: &[Row] = &[Row {
+    is_fresh: true,
+    input: b"(SETF (GET 'A 'B) 7)\n(GET 'A 'B)\n",
+    text: b"7\n7\nend\n",
+    length: 177,
+    place: 0,
+    bytes: HEADER,
+}];
+
 #[test]
 fn two_forms_are_answered(rt: HostRuntime) -> Result<(), Fail> {
-    let both = left_fresh(rt.alloc(), b"(SETF (GET 'A 'B) 7)\n(GET 'A 'B)\n")?;
-    assert!(rt; answered(&both, b"7\n7\n"));
-    assert!(rt; both.files.a.len() == 177);
+    assert!(rt; are_left(rt.alloc(), BOTH)?);
     Ok(())
 }

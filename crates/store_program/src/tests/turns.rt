@@ -1,32 +1,17 @@
 //! How a session takes its input.
 
+use super::asked::{Ask, Serving};
 use super::by_name::ByName;
-use super::{Trouble, left_of, session_of};
+use super::{AMPLE, Trouble, left_after};
 use crate::meaning::SixFunctions;
 use crate::program::{report_on, serve_on};
 use crate::words::Report;
 use disk_trait::MemoryDisk;
-use prevalence_store::{Ending, Mode};
+use prevalence_store::Mode;
 use std::alloc::Global;
 use std::cell::Cell;
 use std::io::{Read, Result as IoResult, Write};
 use std::test::Fail;
-
-/// Gives its text in pieces of at most so many bytes.
-#[derive(Drop)]
-pub struct Pieces<'a> {
-    pub rest: &'a [u8],
-    pub most: usize,
-}
-
-impl Read for Pieces<'_> {
-    fn read(&mut self, buf: &mut [u8]) -> IoResult<usize> {
-        let count = buf.len().min(self.most).min(self.rest.len());
-        buf[..count].copy_from_slice(&self.rest[..count]);
-        self.rest = &self.rest[count..];
-        Ok(count)
-    }
-}
 
 /// What a reader and a writer know of one another.
 #[derive(Drop)]
@@ -144,18 +129,15 @@ const BRACKETS: &[u8] =
 
 /// Whether the text is answered in pieces of at most so many bytes.
 fn is_answered(alloc: Global, most: usize) -> Result<bool, Trouble> {
-    let mut reader = Pieces {
-        rest: BRACKETS,
+    let session = Serving {
+        mode: Mode::Current,
+        every: 0,
         most,
+        input: BRACKETS,
     };
-    let session = session_of(alloc, MemoryDisk::new(alloc), Mode::Current, &mut reader)?;
-    let left = left_of(alloc, session)?;
+    let left = left_after(alloc, MemoryDisk::new(alloc), AMPLE, &[Ask::Serve(session)])?;
     // 151 bytes, and 6 with the text of each form
-    Ok(
-        left.answers.as_slice() == b"T\nT\n#(1 2)\n".as_slice()
-            && left.ending == Ending::End
-            && left.files.a.len() == 258,
-    )
+    Ok(left.text.as_slice() == b"T\nT\n#(1 2)\nend\n".as_slice() && left.files.a.len() == 258)
 }
 
 #[test]
