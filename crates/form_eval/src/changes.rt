@@ -1,6 +1,7 @@
 //! Changes of the packages, one after the other.
-ghost use Rattle.std.specs.Prelude.{◌≡◌, ◌<◌, true, false, map, All, IfErr, IfOk};
-ghost use Rattle.package_table.specs.Changes.{after_export, after_import, after_use, finds_this, export_changes, import_changes, intern_changes, use_changes, Gives};
+ghost use Rattle.std.specs.Prelude.{◌≡◌, ◌<◌, true, false, not, map, All, IfErr, IfOk};
+ghost use Rattle.package_table.specs.Changes.{after_export, after_import, after_use, finds_this, export_changes, import_changes, intern_changes, use_changes, Gives, RunsOutOnlyIf};
+ghost use Rattle.package_table.specs.Lookup.{is_symbol};
 ghost use Rattle.package_table.specs.Table.{IsPackage, full_name};
 ghost use Rattle.std.specs.List.{list_all};
 ghost use Rattle.lisp_object.specs.Datum.{object_of, is_proper};
@@ -111,11 +112,12 @@ pub(crate) fn use_each(
     Ok(wrote)
 }
 
-// A symbol is interned in its home, and whether it is new. Takes no memory where it is there.
+// A symbol is interned in its home, and whether it is new. Runs out of memory only where it is not there.
 fn intern_one(world: &mut World, symbol: &(&[u8], &[u8])) -> Result<bool, PackageError>
     requires { All (λ b. b < 128) symbol.now.1.now }
     ensures gives { Gives (λ _. world.new.0.packages) result (after_symbol world.old.0.packages (symbol.now.0.now, symbol.now.1.now)) }
     ensures is_new { IfOk result (λ is_new. is_new ≡ intern_changes world.old.0.packages symbol.now.0.now symbol.now.1.now) }
+    ensures memory { IfErr result (RunsOutOnlyIf (not (is_symbol world.old.0.packages symbol.now.0.now symbol.now.1.now))) }
     ensures rest { world.new ≡ (with_packages world.old.0 world.new.0.packages, world.old.1) }
     ensures unchanged { IfErr result (λ _. world.new ≡ world.old) }
 {
