@@ -112,6 +112,12 @@ GivesSoFar f xs old (Ok e) new = f xs old ≡ Ok (done e new)
 GivesSoFar f xs old (Err (Refused code)) new = f xs old ≡ Err code
 GivesSoFar f xs old (Err OutOfMemory) new = MayConflict (f xs old) × RanOutAmong f xs old new
 
+-- memory ran out only where this holds
+abbrev pub RunsOutWhere : {A : Type 0} → Result A EvaluationError → Type 0 → Type 0
+RunsOutWhere (Ok x) here = Unit {0}
+RunsOutWhere (Err (Refused code)) here = Unit {0}
+RunsOutWhere (Err OutOfMemory) here = here
+
 -- what was found; or where there is nothing, the refusal of this number
 abbrev pub FoundOr : {A B : Type 0} → ℕ → (A → B) → Result A EvaluationError → Option B → Type 0
 FoundOr code view (Ok x) o = Some (view x) ≡ o
