@@ -10,7 +10,7 @@ ghost use Rattle.plist_state.specs.Sound.{IsSymbol};
 ghost use Rattle.form_eval.specs.Acceptance.{after_symbol, with_symbols};
 ghost use Rattle.form_eval.specs.Members.{symbol_in, name_in};
 ghost use Rattle.form_eval.specs.Packages.{one_by_one};
-ghost use Rattle.form_eval.specs.Evaluated.{Makes};
+ghost use Rattle.form_eval.specs.Evaluated.{Makes, MakesChanges};
 
 use crate::control::either;
 use crate::lists::{name_in, symbol_in};
@@ -56,12 +56,13 @@ pub(crate) fn export_all(
     symbols: &[Datum],
 ) -> Result<bool, PackageError>
     requires { All (λ d. is_proper d ≡ true) symbols.now }
-    ensures gives { Makes (one_by_one (λ u y. after_export u owner.now y.0 y.1) (λ u y. export_changes u owner.now y.1) world.old.0.packages false) (map symbol_in symbols.now) result world.new.0.packages }
+    ensures gives { MakesChanges (one_by_one (λ u y. after_export u owner.now y.0 y.1) (λ u y. export_changes u owner.now y.1) world.old.0.packages false) (map symbol_in symbols.now) result world.new.0.packages }
     ensures rest { world.new ≡ (with_packages world.old.0 world.new.0.packages, world.old.1) }
 {
     let mut wrote = false;
     for symbol in symbols {
         let (home, name) = symbol_in(symbol);
+        world.soundness();
         match world.export(owner, home, name) {
             Ok(changed) => wrote = either(wrote, changed),
             Err(error) => return Err(error),
@@ -78,12 +79,13 @@ pub(crate) fn import_all(
 ) -> Result<bool, PackageError>
     requires proper { All (λ d. is_proper d ≡ true) symbols.now }
     requires there { All (λ d. IsSymbol world.old.0.packages (symbol_in d)) symbols.now }
-    ensures gives { Makes (one_by_one (λ u y. after_import u owner.now y.0 y.1) (λ u y. import_changes u owner.now y.1) world.old.0.packages false) (map symbol_in symbols.now) result world.new.0.packages }
+    ensures gives { MakesChanges (one_by_one (λ u y. after_import u owner.now y.0 y.1) (λ u y. import_changes u owner.now y.1) world.old.0.packages false) (map symbol_in symbols.now) result world.new.0.packages }
     ensures rest { world.new ≡ (with_packages world.old.0 world.new.0.packages, world.old.1) }
 {
     let mut wrote = false;
     for symbol in symbols {
         let (home, name) = symbol_in(symbol);
+        world.soundness();
         match world.import(owner, home, name) {
             Ok(changed) => wrote = either(wrote, changed),
             Err(error) => return Err(error),
@@ -99,11 +101,12 @@ pub(crate) fn use_each(
     used: &[Datum],
 ) -> Result<bool, PackageError>
     requires { All (λ d. is_proper d ≡ true) used.now }
-    ensures gives { Makes (one_by_one (λ u q. after_use u owner.now q) (λ u q. use_changes u owner.now q) world.old.0.packages false) (map (λ d. full_name (name_in d)) used.now) result world.new.0.packages }
+    ensures gives { MakesChanges (one_by_one (λ u q. after_use u owner.now q) (λ u q. use_changes u owner.now q) world.old.0.packages false) (map (λ d. full_name (name_in d)) used.now) result world.new.0.packages }
     ensures rest { world.new ≡ (with_packages world.old.0 world.new.0.packages, world.old.1) }
 {
     let mut wrote = false;
     for package in used {
+        world.soundness();
         match world.use_package(owner, full_name(name_in(package))) {
             Ok(changed) => wrote = either(wrote, changed),
             Err(error) => return Err(error),
