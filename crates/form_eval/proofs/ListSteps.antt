@@ -3,7 +3,7 @@
 --     export_not_found      what is refused before any change
 --     IsConflictAtMost      changes that are refused for nothing but a name conflict
 --     so_far      what a call tells where memory ran out among the changes
-use Rattle.std.proofs.Common.{◌≡◌, ◌+◌, ℕ, Bool, true, false, ◌||◌, cond, not, List, ◌∷◌, Result, Ok, Err, Option, Some, inl, inr, take, length, bytes_eq, refl, sym, ap, subst, ◌∙◌, arith}
+use Rattle.std.proofs.Common.{◌≡◌, ◌+◌, ℕ, Bool, true, false, ◌||◌, cond, not, List, ◌∷◌, Result, Ok, Err, Option, Some, inl, inr, take, length, bytes_eq, sym, ap, subst, ◌∙◌, arith}
 use Rattle.std.specs.List.{list_all, list_any}
 use Rattle.std.specs.Option.{option_map_or}
 use Rattle.std.proofs.lemmas.List.{take_all}
