@@ -3,7 +3,7 @@
 --     export_not_found      what is refused before any change
 --     IsConflictAtMost      changes that are refused for nothing but a name conflict
 --     so_far      what a call tells where memory ran out among the changes
-use Rattle.std.proofs.Common.{◌≡◌, ◌+◌, ℕ, Bool, true, false, ◌||◌, cond, not, List, ◌∷◌, Result, Ok, Err, Option, Some, IsOk, take, length, bytes_eq, refl, sym, ap, subst, ◌∙◌, arith}
+use Rattle.std.proofs.Common.{◌≡◌, ◌+◌, ℕ, Bool, true, false, ◌||◌, cond, not, List, ◌∷◌, Result, Ok, Err, Option, Some, inl, inr, take, length, bytes_eq, sym, ap, subst, ◌∙◌, arith}
 use Rattle.std.specs.List.{list_all, list_any}
 use Rattle.std.specs.Option.{option_map_or}
 use Rattle.std.proofs.lemmas.List.{take_all}
@@ -26,7 +26,7 @@ use Rattle.form_eval.specs.Members.{AreMembers}
 use Rattle.form_eval.specs.Outcomes.{Outcome, of_kind}
 use Rattle.form_eval.specs.Properties.{t}
 use Rattle.form_eval.specs.Packages.{export, import, use_package, use_all, in_package, unlocked, changed, one_by_one, packages_named}
-use Rattle.form_eval.specs.Evaluated.{Makes, TellsChange, Leaves, MayConflict, RanOutAmong, GivesSoFar}
+use Rattle.form_eval.specs.Evaluated.{MakesChanges, AreOthers, TellsChange, Leaves, Changes, MayConflict, RanOutAmong, GivesSoFar}
 
 -- the first argument is of its kind, and the package is there
 opened : {A : Type 0} (on : A → Name → Outcome Object) (s : State) (rest : List Object) (o : Option A) (ys : A) (q p : Name) → o ≡ Some ys → given_or a_name s.current_package rest ≡ Some q → package_named s.packages q ≡ Some p
@@ -94,16 +94,16 @@ refused : (f : List Object → State → Outcome Object) (xs : List Object) (s u
 refused f xs s u number error said is = subst (λ e. GivesSoFar f xs s (Err e) u) (sym is) said
 
 module _ {A : Type 0} (f : List Object → State → Outcome Object) (x : Object) (rest : List Object) (s u : State) (members : List Object) (said : List A → Result (Table × Bool) PackageError) (ys : List A)
-    (are : AreMembers x (Some members)) (whole : f (x ∷ rest) s ≡ changed s (said ys)) (front : (k : ℕ) → f (list_of (take k members) ∷ rest) s ≡ changed s (said (take k ys))) (conflict : IsConflictAtMost (said ys)) (left : u ≡ with_packages s u.packages) where
+    (are : AreMembers x (Some members)) (same : length ys ≡ length members) (whole : f (x ∷ rest) s ≡ changed s (said ys)) (front : (k : ℕ) → f (list_of (take k members) ∷ rest) s ≡ changed s (said (take k ys))) (conflict : IsConflictAtMost (said ys)) (left : u ≡ with_packages s u.packages) where
   leaves : (k : ℕ) (wrote : Bool) → said (take k ys) ≡ Ok (u.packages, wrote) → Leaves (f (list_of (take k members) ∷ rest) s) u
   leaves k wrote e = subst (λ o. Leaves o u) (sym (front k ∙ ap (changed s) e)) (sym left)
 
-  good : (r : Result (Table × Bool) PackageError) → IsOk r → IsOk (changed s r)
-  good (Ok p) h = refl
-  good (Err e) h = h
+  others : (r : Result (Table × Bool) PackageError) → AreOthers r u.packages → Changes (changed s r) u
+  others (Ok p) h = λ is. h (ap (λ (k : State). k.packages) is)
+  others (Err e) h = h
 
-  next : (k : ℕ) → IsOk (said (take k ys)) → IsOk (f (list_of (take k members) ∷ rest) s)
-  next k h = subst IsOk (sym (front k)) (good (said (take k ys)) h)
+  next : (k : ℕ) → AreOthers (said (take k ys)) u.packages → Changes (f (list_of (take k members) ∷ rest) s) u
+  next k h = subst (λ o. Changes o u) (sym (front k)) (others (said (take k ys)) h)
 
   only : (r : Result (Table × Bool) PackageError) → IsConflictAtMost r → MayConflict (changed s r)
   only (Ok p) h = tt
@@ -115,14 +115,13 @@ module _ {A : Type 0} (f : List Object → State → Outcome Object) (x : Object
   refused_by : (e : PackageError) (error : EvaluationError) → said ys ≡ Err e → error ≡ Refused (number_of e) → GivesSoFar f (x ∷ rest) s (Err error) u
   refused_by e error h is = refused f (x ∷ rest) s u (number_of e) error (whole ∙ ap (changed s) h) is
 
-  pub so_far : (made : Result Bool PackageError) (r : Result Evaluated EvaluationError) → Makes said ys made u.packages → TellsChange made r → GivesSoFar f (x ∷ rest) s r u
+  pub so_far : (made : Result Bool PackageError) (r : Result Evaluated EvaluationError) → MakesChanges said ys made u.packages → TellsChange made r → GivesSoFar f (x ∷ rest) s r u
   so_far (Ok wrote) (Ok e) done tells = whole ∙ ap (changed s) done ∙ tells_value s u u.packages wrote e tells.0 tells.1 left
   so_far (Ok wrote) (Err error) done tells =
       let all : said (take (length ys) ys) ≡ Ok (u.packages, wrote) = ap said (take_all (length ys) ys (omega arith)) ∙ done in
-      let more : said (take (length ys + 1) ys) ≡ Ok (u.packages, wrote) = ap said (take_all (length ys + 1) ys (omega arith)) ∙ done in
-      ran_out error (members, are, record { count = length ys; left = leaves (length ys) wrote all; next = next (length ys + 1) (subst IsOk (sym more) refl) }) tells
+      ran_out error (members, are, record { count = length ys; left = leaves (length ys) wrote all; next = inl same }) tells
   so_far (Err NoRoom) (Err error) ran tells =
-      ran_out error (members, are, record { count = ran.0; left = leaves ran.0 ran.1 ran.2; next = next (ran.0 + 1) ran.3 }) tells
+      ran_out error (members, are, record { count = ran.0; left = leaves ran.0 ran.1 ran.2; next = inr (next (ran.0 + 1) ran.3) }) tells
   so_far (Err NoPackage) (Err error) h tells = refused_by NoPackage error h tells
   so_far (Err NotExternal) (Err error) h tells = refused_by NotExternal error h tells
   so_far (Err LockedPackage) (Err error) h tells = refused_by LockedPackage error h tells

@@ -1,15 +1,18 @@
 -- Changes of the packages one after the other.
 --     goes_on, is_over, stops      one more change, all of them, and one that is refused
+--     differs, next_good, next_changes      what holds of the next one where memory ran out
 --     handed_on      a refusal that `?` hands on
 --     intern_refused      INTERN of a name that may not be interned
-use Rattle.std.proofs.Common.{◌≡◌, ◌<◌, ◌+◌, ℕ, ◌≤◌, Bool, false, ◌||◌, List, [], ◌∷◌, ◌++◌, Result, Ok, Err, IsOk, Some, map, length, take, drop, get_or, refl, sym, ap, subst, ◌∙◌, add-one, suc}
+use Rattle.std.proofs.Common.{◌≡◌, ◌≢◌, ◌<◌, ◌+◌, ℕ, ◌≤◌, Bool, false, ◌||◌, List, [], ◌∷◌, ◌++◌, Result, Ok, Err, IsOk, Some, map, length, take, drop, get_or, refl, sym, ap, subst, ◌∙◌, add-one, suc}
 use Rattle.std.specs.Result.{IsErrAnd}
+use Rattle.std.proofs.lemmas.Bool.{false≢true}
 use Rattle.std.proofs.Math.Seq.{drop-cons}
 use Rattle.std.proofs.lemmas.List.{map_more, map-append, take-map, take_all, take-append-drop}
 use Rattle.package_table.specs.declared.error.PackageError.{PackageError}
 use Rattle.package_table.specs.declared.error.PackageError.TheVariants.{NoPackage, NotExternal, LockedPackage, EmptyName, NoSuchPackage, PackageExists, PackageIsLocked, NameConflict, NotAccessible, Limit, OutOfMemory}
 use Rattle.package_table.specs.Table.{Table}
-use Rattle.package_table.specs.Changes.{Gives}
+use Rattle.package_table.specs.Growth.{Tells}
+use Rattle.package_table.specs.Changes.{Gives, RunsOutOnlyIf}
 use Rattle.package_table.specs.Errors.{number_of}
 use Rattle.package_table.specs.Table.{package_named}
 use Rattle.package_table.specs.Changes.{after_intern, intern_changes}
@@ -22,10 +25,14 @@ use Rattle.form_eval.specs.declared.error.EvaluationError.TheVariants.{Refused, 
 use Rattle.form_eval.specs.Kinds.{a_text, a_name, given_or}
 use Rattle.form_eval.specs.Outcomes.{of_kind}
 use Rattle.form_eval.specs.Packages.{one_by_one, then_others, in_package, interned, intern}
-use Rattle.form_eval.specs.Evaluated.{Makes, Gives as Answered, done}
+use Rattle.form_eval.specs.Evaluated.{MakesWhere, AreOthers, Gives as Answered, done}
 use Rattle.form_eval.specs.Gathered.{IsRefusal}
 use Rattle.form_eval.specs.AtOnce.{intern_refusal}
 use Rattle.form_eval.proofs.KindSteps.{kind_is, option_is}
+
+-- a change for which memory ran out leaves other packages
+pub differs : (changes : Bool) (e : PackageError) (t u : Table) → RunsOutOnlyIf changes e → e ≡ OutOfMemory → Tells changes t u → u ≢ t
+differs changes e t u memory is told = subst (λ b. Tells b t u) (subst (RunsOutOnlyIf changes) is memory) told
 
 -- what is from a place on
 from_place : {X Y : Type 0} (f : X → Y) (xs : List X) (i : ℕ) (x : X) → i < length xs → x ≡ get_or xs i x → map f (drop i xs) ≡ f x ∷ map f (drop (i + 1) xs)
@@ -76,30 +83,36 @@ module _ {A : Type 0} (change : Table → A → Result Table PackageError) (chan
         ap (one_by_one change changes u false) (at_place xs i x within is) ∙ then_next u v w (map f (take i xs)) (map f (drop (i + 1) xs)) (f x) before
         ∙ ap (λ r. then_others r (λ later. one_by_one change changes later (w || changes v (f x)) (map f (drop (i + 1) xs)))) made
 
-    next_good : (v : Table) (w b : Bool) (r : Result Table PackageError) → IsOk r → IsOk (then_others r (λ later. one_by_one change changes later (w || b) []))
+    pub next_good : (v : Table) (w b : Bool) (r : Result Table PackageError) → IsOk r → IsOk (then_others r (λ later. one_by_one change changes later (w || b) []))
     next_good v w b (Ok z) h = refl
     next_good v w b (Err e) h = h
 
+    pub next_changes : (v : Table) (w b : Bool) (r : Result Table PackageError) → IsOk r → ((z : Table) → r ≡ Ok z → z ≢ v) → AreOthers (then_others r (λ later. one_by_one change changes later (w || b) [])) v
+    next_changes v w b (Ok z) h differs = differs z refl
+    next_changes v w b (Err e) h differs = absurd (false≢true h)
+
     -- one of them is refused, or memory runs out
-    pub stops : {B : Type 0} (view : B → Table) (e : PackageError) (u v z : Table) (w : Bool) (xs : List X) (i : ℕ) (x : X) → i < length xs → x ≡ get_or xs i x → one_by_one change changes u false (map f (take i xs)) ≡ Ok (v, w)
-        → Gives view (Err e) (change v (f x)) → z ≡ v → Makes (one_by_one change changes u false) (map f xs) (Err e) z
-    stops view NoPackage u v z w xs i x within is before h left = refused_at u v w xs i x NoPackage within is before h
-    stops view NotExternal u v z w xs i x within is before h left = refused_at u v w xs i x NotExternal within is before h
-    stops view LockedPackage u v z w xs i x within is before h left = refused_at u v w xs i x LockedPackage within is before h
-    stops view EmptyName u v z w xs i x within is before h left = refused_at u v w xs i x EmptyName within is before h
-    stops view NoSuchPackage u v z w xs i x within is before h left = refused_at u v w xs i x NoSuchPackage within is before h
-    stops view PackageExists u v z w xs i x within is before h left = refused_at u v w xs i x PackageExists within is before h
-    stops view PackageIsLocked u v z w xs i x within is before h left = refused_at u v w xs i x PackageIsLocked within is before h
-    stops view NameConflict u v z w xs i x within is before h left = refused_at u v w xs i x NameConflict within is before h
-    stops view NotAccessible u v z w xs i x within is before h left = refused_at u v w xs i x NotAccessible within is before h
-    stops view Limit u v z w xs i x within is before h left = refused_at u v w xs i x Limit within is before h
-    stops view OutOfMemory u v z w xs i x within is before h left = (
+    pub stops : {B : Type 0} (next : Result (Table × Bool) PackageError → Table → Type 0) (view : B → Table) (e : PackageError) (u v z : Table) (w : Bool) (xs : List X) (i : ℕ) (x : X) → i < length xs → x ≡ get_or xs i x → one_by_one change changes u false (map f (take i xs)) ≡ Ok (v, w)
+        → Gives view (Err e) (change v (f x)) → z ≡ v
+        → (e ≡ OutOfMemory → IsOk (change v (f x)) → next (then_others (change v (f x)) (λ later. one_by_one change changes later (w || changes v (f x)) [])) v)
+        → MakesWhere next (one_by_one change changes u false) (map f xs) (Err e) z
+    stops next view NoPackage u v z w xs i x within is before h left ran = refused_at u v w xs i x NoPackage within is before h
+    stops next view NotExternal u v z w xs i x within is before h left ran = refused_at u v w xs i x NotExternal within is before h
+    stops next view LockedPackage u v z w xs i x within is before h left ran = refused_at u v w xs i x LockedPackage within is before h
+    stops next view EmptyName u v z w xs i x within is before h left ran = refused_at u v w xs i x EmptyName within is before h
+    stops next view NoSuchPackage u v z w xs i x within is before h left ran = refused_at u v w xs i x NoSuchPackage within is before h
+    stops next view PackageExists u v z w xs i x within is before h left ran = refused_at u v w xs i x PackageExists within is before h
+    stops next view PackageIsLocked u v z w xs i x within is before h left ran = refused_at u v w xs i x PackageIsLocked within is before h
+    stops next view NameConflict u v z w xs i x within is before h left ran = refused_at u v w xs i x NameConflict within is before h
+    stops next view NotAccessible u v z w xs i x within is before h left ran = refused_at u v w xs i x NotAccessible within is before h
+    stops next view Limit u v z w xs i x within is before h left ran = refused_at u v w xs i x Limit within is before h
+    stops next view OutOfMemory u v z w xs i x within is before h left ran = (
       i,
       w,
       ap (one_by_one change changes u false) (take-map f i xs) ∙ before ∙ ap (λ t. Ok (t, w)) (sym left),
-      subst IsOk
+      subst (λ r. next r z)
           (sym (ap (one_by_one change changes u false) (take-map f (i + 1) xs ∙ front_more xs i x within is) ∙ then_next u v w (map f (take i xs)) [] (f x) before))
-          (next_good v w (changes v (f x)) (change v (f x)) h),
+          (subst (next (then_others (change v (f x)) (λ later. one_by_one change changes later (w || changes v (f x)) []))) (sym left) (ran refl h)),
     )
 
 -- a refusal that `?` hands on

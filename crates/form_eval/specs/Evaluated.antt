@@ -1,5 +1,5 @@
 -- What the calls of the evaluator answer.
-use Rattle.std.specs.Prelude.{◌≡◌, ◌⊎◌, ℕ, ◌+◌, Bool, true, false, List, [], ◌∷◌, map, take, All, Option, Some, None, IsSome, unwrap_or, Result, Ok, Err, IsOk}
+use Rattle.std.specs.Prelude.{◌≡◌, ◌≢◌, ◌⊎◌, ℕ, ◌+◌, Bool, true, false, List, [], ◌∷◌, map, take, length, All, Option, Some, None, IsSome, unwrap_or, Result, Ok, Err, IsOk}
 use Rattle.lisp_object.specs.Object.{Object, symbol, nil, list_of}
 use Rattle.lisp_object.specs.declared.refusal.TheConstants.{ARGUMENT_KIND, NO_SUCH_PACKAGE, PACKAGE_IS_LOCKED, NAME_CONFLICT, NO_READTABLE, NO_MACRO}
 use Rattle.lisp_object.specs.declared.datum.Datum.{Datum}
@@ -62,11 +62,24 @@ Gives view (Err (Refused code)) s said = said ≡ Err code
 Gives view (Err OutOfMemory) s said = IsOk said
 
 -- Changes of the packages for one after the other answer what the definition says of the list. Memory runs out only after some
--- of them, which left these packages, and only where these and the next one are not refused.
+-- of them, which left these packages, and only where `next` holds of what the definition says of these and the next one.
+abbrev pub MakesWhere : {A : Type 0} → (Result (Table × Bool) PackageError → Table → Type 0) → (List A → Result (Table × Bool) PackageError) → List A → Result Bool PackageError → Table → Type 0
+MakesWhere next said xs (Ok wrote) u = said xs ≡ Ok (u, wrote)
+MakesWhere next said xs (Err NoRoom) u = (count : ℕ) × (wrote : Bool) × (said (take count xs) ≡ Ok (u, wrote)) × next (said (take (count + 1) xs)) u
+MakesWhere next said xs (Err e) u = said xs ≡ Err e
+
+-- where these and the next one are not refused
 abbrev pub Makes : {A : Type 0} → (List A → Result (Table × Bool) PackageError) → List A → Result Bool PackageError → Table → Type 0
-Makes said xs (Ok wrote) u = said xs ≡ Ok (u, wrote)
-Makes said xs (Err NoRoom) u = (count : ℕ) × (wrote : Bool) × (said (take count xs) ≡ Ok (u, wrote)) × IsOk (said (take (count + 1) xs))
-Makes said xs (Err e) u = said xs ≡ Err e
+Makes said xs result u = MakesWhere (λ r v. IsOk r) said xs result u
+
+-- packages that are others than these
+abbrev pub AreOthers : Result (Table × Bool) PackageError → Table → Type 0
+AreOthers (Ok p) u = p.0 ≢ u
+AreOthers (Err e) u = ⊥
+
+-- where these and the next one are not refused, and the next one changes the packages
+abbrev pub MakesChanges : {A : Type 0} → (List A → Result (Table × Bool) PackageError) → List A → Result Bool PackageError → Table → Type 0
+MakesChanges said xs result u = MakesWhere AreOthers said xs result u
 
 -- The same of the symbols of a form, whose list takes memory before the first of them is looked at. So where memory ran out it
 -- says nothing: what may be said then, `RunsOutAfter` says of the form.
@@ -87,12 +100,17 @@ abbrev pub Leaves : Outcome Object → State → Type 0
 Leaves (Ok d) s = d.state ≡ s
 Leaves (Err code) s = ⊥
 
--- Memory ran out after so many members of a list: the definition of these leaves this state, and of these and the next one it
--- refuses nothing.
+-- an outcome that leaves another state than this
+abbrev pub Changes : Outcome Object → State → Type 0
+Changes (Ok d) s = d.state ≢ s
+Changes (Err code) s = ⊥
+
+-- Memory ran out after so many members of a list, the definition of which leaves this state. They are all of them, so that it was
+-- for the value; or of these and the next one the definition refuses nothing, and the next one changes the state.
 pub record RanOut (said : List Object → Outcome Object) (members : List Object) (s : State) : Type 0 where
   pub count : ℕ
   pub left : Leaves (said (take count members)) s
-  pub next : IsOk (said (take (count + 1) members))
+  pub next : (count ≡ length members) ⊎ Changes (said (take (count + 1) members)) s
 
 -- of an operator whose first argument is one object or a list of such
 abbrev pub RanOutAmong : (List Object → State → Outcome Object) → List Object → State → State → Type 0
@@ -105,12 +123,18 @@ MayConflict (Ok d) = Unit {0}
 MayConflict (Err code) = code ≡ NAME_CONFLICT
 
 -- Such an operator answers what the definition says. It changes the packages for one member after the other. Memory runs out
--- only where the definition refuses the whole list for nothing but a name conflict, and refuses nothing of the members up to the
--- one at which it ran out.
+-- only where the definition refuses the whole list for nothing but a name conflict: at a member that changes the packages, where
+-- nothing is refused up to it and of it, or after all of them.
 abbrev pub GivesSoFar : (List Object → State → Outcome Object) → List Object → State → Result Evaluated EvaluationError → State → Type 0
 GivesSoFar f xs old (Ok e) new = f xs old ≡ Ok (done e new)
 GivesSoFar f xs old (Err (Refused code)) new = f xs old ≡ Err code
 GivesSoFar f xs old (Err OutOfMemory) new = MayConflict (f xs old) × RanOutAmong f xs old new
+
+-- memory ran out only where this holds
+abbrev pub RunsOutWhere : {A : Type 0} → Result A EvaluationError → Type 0 → Type 0
+RunsOutWhere (Ok x) here = Unit {0}
+RunsOutWhere (Err (Refused code)) here = Unit {0}
+RunsOutWhere (Err OutOfMemory) here = here
 
 -- what was found; or where there is nothing, the refusal of this number
 abbrev pub FoundOr : {A B : Type 0} → ℕ → (A → B) → Result A EvaluationError → Option B → Type 0

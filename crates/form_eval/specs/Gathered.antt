@@ -1,5 +1,5 @@
 -- Forms that are evaluated one after the other, and what an operator makes of their values.
-use Rattle.std.specs.Prelude.{◌≡◌, ℕ, Bool, true, false, List, [], ◌∷◌, ◌++◌, Option, Some, None, Result, Ok, Err}
+use Rattle.std.specs.Prelude.{◌≡◌, ℕ, Bool, true, false, List, [], ◌∷◌, ◌++◌, Option, Some, None, Result, Ok, Err, IsOk}
 use Rattle.lisp_object.specs.Object.{Object, nil, list_of, is_proper_list, pair}
 use Rattle.package_table.specs.Table.{Name}
 use Rattle.plist_state.specs.State.{State}
@@ -7,10 +7,12 @@ use Rattle.form_eval.specs.declared.error.EvaluationError.{EvaluationError}
 use Rattle.form_eval.specs.declared.error.EvaluationError.TheVariants.{Refused, OutOfMemory}
 use Rattle.lisp_object.specs.declared.refusal.TheConstants.{ARGUMENT_KIND}
 use Rattle.form_eval.specs.declared.operators.Operation.{Operation}
-use Rattle.form_eval.specs.declared.operators.Operation.TheVariants.{Setf, Incf, Push}
+use Rattle.form_eval.specs.declared.operators.Operation.TheVariants.{Setf, Incf, Push, Export, Import, UsePackage}
 use Rattle.form_eval.specs.Outcomes.{Outcome, gives, also, and_then}
 use Rattle.form_eval.specs.Operators.{count, first}
-use Rattle.form_eval.specs.Operations.{action_of}
+use Rattle.form_eval.specs.Operations.{action_of, function_of}
+use Rattle.form_eval.specs.Packages.{export, import, use_package}
+use Rattle.form_eval.specs.Evaluated.{MayConflict, RanOutAmong}
 use Rattle.form_eval.specs.Value.{Parts, value, values, choice, values_at_place, values_before_place, action_value, place_refusal, get_place_refusal, is_case_place, rest}
 
 -- the arguments of a form, of the list of what is in it
@@ -69,3 +71,11 @@ IsHead names head n (Ok operation) = (s : State) (arguments : Object) → is_pro
 IsHead names head n (Err (Refused code)) = (s : State) (arguments : Object) → is_proper_list arguments ≡ true → count arguments ≡ n
     → value names s (pair head arguments) ≡ Err code
 IsHead names head n (Err OutOfMemory) = ⊥
+
+-- Where an operator may run out of memory, of the values of its arguments: on a list of members, as `GivesSoFar` says; any other,
+-- where the definition refuses nothing.
+abbrev pub MayRunOut : List Name → Operation → Bool → List Object → State → State → Type 0
+MayRunOut names Export is_case xs old new = MayConflict (export xs old) × RanOutAmong export xs old new
+MayRunOut names Import is_case xs old new = MayConflict (import xs old) × RanOutAmong import xs old new
+MayRunOut names UsePackage is_case xs old new = MayConflict (use_package xs old) × RanOutAmong use_package xs old new
+MayRunOut names operation is_case xs old new = IsOk (function_of names operation is_case xs old)

@@ -1,5 +1,5 @@
 //! The operators of control (standard 5.3), and the values of atoms.
-ghost use Rattle.std.specs.Prelude.{◌≡◌, ◌≤◌, ◌||◌, ◌&&◌, ℕ, List, Some, true, bytes_eq, map, length, All, IfOk};
+ghost use Rattle.std.specs.Prelude.{◌≡◌, ◌≤◌, ◌||◌, ◌&&◌, ℕ, List, Some, true, bytes_eq, map, length, All, IfOk, Err, IfErr, IsOk};
 ghost use Rattle.std.specs.List.{list_all};
 ghost use Rattle.lisp_object.specs.Object.{Object};
 ghost use Rattle.lisp_object.specs.Datum.{object_of, is_proper};
@@ -33,6 +33,8 @@ pub(crate) fn after(
     evaluated: Result<Evaluated, EvaluationError>,
 ) -> Result<Evaluated, EvaluationError>
     ensures gives { (s : State) (o : Outcome Object) → Answers done evaluated s o → Answers done result s (also wrote o) }
+    ensures value { IfOk evaluated (λ _. IsOk result) }
+    ensures error { IfErr evaluated (λ error. result ≡ Err error) }
     ensures proper { IfOk evaluated (λ e. is_proper e.value ≡ true) → IfOk result (λ e. is_proper e.value ≡ true) }
 {
     match evaluated {

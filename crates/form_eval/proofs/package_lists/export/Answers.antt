@@ -1,4 +1,5 @@
 use Rattle.std.proofs.Common.{◌≡◌, ℕ, true, Some, [], ◌∷◌, map, take, sym, ap, subst, ◌∙◌}
+use Rattle.std.proofs.lemmas.List.{length-map}
 use Rattle.std.specs.List.{list_all}
 use Rattle.lisp_object.specs.Object.{list_of}
 use Rattle.lisp_object.specs.Datum.{object_of}
@@ -45,5 +46,5 @@ returns-clause-gives c =
     let front : (k : ℕ) → export (list_of (take k (map object_of ms)) ∷ rest) s ≡ changed s (exports s p (take k ys)) =
     λ k. export_is s (list_of (take k (map object_of ms))) rest (take k ys) q p (front_found a_symbol ([], []) k ms c.in_ok-symbols-2.ensures.each.kinds) given named free (all_front (λ y. finds_this s.packages p y.0 y.1) k ys found) in
     subst (λ vs. GivesSoFar export (map object_of vs) s c.changed.result u) (sym c.in_ok-symbols.ensures.value)
-    (so_far export x rest s u (map object_of ms) (exports s p) ys c.in_ok-symbols-2.ensures.each.members (export_is s x rest ys q p (sym c.in_ok-symbols-2.ensures.value) given named free found) front conflict
+    (so_far export x rest s u (map object_of ms) (exports s p) ys c.in_ok-symbols-2.ensures.each.members (length-map ms symbol_in ∙ sym (length-map ms object_of)) (export_is s x rest ys q p (sym c.in_ok-symbols-2.ensures.value) given named free found) front conflict
     (ap (λ (k : Worlds). k.0) c.export_all-made.ensures.rest) c.export_all-made.result c.changed.result c.export_all-made.ensures.gives c.changed.ensures.gives)

@@ -1,4 +1,5 @@
 use Rattle.std.proofs.Common.{◌≡◌, ℕ, Some, [], ◌∷◌, map, take, sym, ap, subst, ◌∙◌}
+use Rattle.std.proofs.lemmas.List.{length-map}
 use Rattle.lisp_object.specs.Object.{list_of}
 use Rattle.lisp_object.specs.Datum.{object_of}
 use Rattle.package_table.specs.Table.{package_named, is_locked}
@@ -40,5 +41,5 @@ returns-clause-gives c =
     let front : (k : ℕ) → import (list_of (take k (map object_of ms)) ∷ rest) s ≡ changed s (imports s p (take k ys)) =
     λ k. import_is s (list_of (take k (map object_of ms))) rest (take k ys) q p (front_found a_symbol ([], []) k ms c.in_ok-imported-2.ensures.each.kinds) given named free in
     subst (λ vs. GivesSoFar import (map object_of vs) s c.changed.result u) (sym c.in_ok-imported.ensures.value)
-    (so_far import x rest s u (map object_of ms) (imports s p) ys c.in_ok-imported-2.ensures.each.members (import_is s x rest ys q p (sym c.in_ok-imported-2.ensures.value) given named free) front conflict
+    (so_far import x rest s u (map object_of ms) (imports s p) ys c.in_ok-imported-2.ensures.each.members (length-map ms symbol_in ∙ sym (length-map ms object_of)) (import_is s x rest ys q p (sym c.in_ok-imported-2.ensures.value) given named free) front conflict
     (ap (λ (k : Worlds). k.0) c.import_all-made.ensures.rest) c.import_all-made.result c.changed.result c.import_all-made.ensures.gives c.changed.ensures.gives)

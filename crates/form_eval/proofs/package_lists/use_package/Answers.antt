@@ -1,4 +1,5 @@
 use Rattle.std.proofs.Common.{◌≡◌, ℕ, Some, [], ◌∷◌, map, take, bytes_eq, sym, ap, subst, ◌∙◌}
+use Rattle.std.proofs.lemmas.List.{length-map}
 use Rattle.lisp_object.specs.Object.{list_of}
 use Rattle.lisp_object.specs.Datum.{object_of}
 use Rattle.package_table.specs.Table.{package_named, full_name, keyword, is_locked}
@@ -33,5 +34,5 @@ returns-clause-gives c =
     λ k. use_is s (list_of (take k (map object_of ms))) rest (take k ns) (take k qs) q p (front_found a_name [] k ms c.in_ok-used-2.ensures.each.kinds) given (packages_front s.packages k ms c.in_ok-check_packages.ensures.each) named free
     (any_front (bytes_eq keyword) k qs others) in
     subst (λ vs. GivesSoFar use_package (map object_of vs) s c.changed.result u) (sym c.in_ok-used.ensures.value)
-    (so_far use_package x rest s u (map object_of ms) (uses s p) qs c.in_ok-used-2.ensures.each.members (use_is s x rest ns qs q p (sym c.in_ok-used-2.ensures.value) given (sym c.in_ok-check_packages.ensures.found) named free others) front conflict
+    (so_far use_package x rest s u (map object_of ms) (uses s p) qs c.in_ok-used-2.ensures.each.members (length-map ms (λ d. full_name (name_in d)) ∙ sym (length-map ms object_of)) (use_is s x rest ns qs q p (sym c.in_ok-used-2.ensures.value) given (sym c.in_ok-check_packages.ensures.found) named free others) front conflict
     (ap (λ (k : Worlds). k.0) c.use_each-made.ensures.rest) c.use_each-made.result c.changed.result c.use_each-made.ensures.gives c.changed.ensures.gives)
