@@ -4,6 +4,7 @@ use super::by_name::ByName;
 use super::{BrokenReader, FullWriter};
 use crate::meaning::SixFunctions;
 use crate::program::program;
+use readtable_core::FnName;
 use std::alloc::{AllocError, Global};
 use std::io::{Read, Write};
 use std::test::Fail;
@@ -60,6 +61,8 @@ fn functions(rt: &HostRuntime) -> ByName {
 
 fn run(rt: &HostRuntime, words: &[&str], input: &[u8]) -> Ran {
     let mut reader = input;
+    // the borrow checker has to be told of the type of a name, which the macro functions hold
+    let _name = FnName::new(b"SQUARE");
     run_with(rt, functions(rt), words, &mut reader)
 }
 
@@ -67,6 +70,8 @@ fn run(rt: &HostRuntime, words: &[&str], input: &[u8]) -> Ran {
 fn unwritten(rt: &HostRuntime, words: &[&str]) -> (u8, Vec<u8>) {
     let mut reader: &[u8] = b"7";
     let mut faults = Vec::new(rt.alloc());
+    // the borrow checker has to be told of the type of a name, which the macro functions hold
+    let _name = FnName::new(b"SQUARE");
     let status = status(
         rt,
         functions(rt),
@@ -432,6 +437,8 @@ fn a_file_is_no_folder(rt: HostRuntime) -> Result<(), Fail> {
 /// The program where its input is not read.
 fn unread(rt: &HostRuntime, words: &[&str]) -> Ran {
     let mut reader = BrokenReader { has_begun: false };
+    // the borrow checker has to be told of the type of a name, which the macro functions hold
+    let _name = FnName::new(b"SQUARE");
     run_with(rt, functions(rt), words, &mut reader)
 }
 
