@@ -230,8 +230,8 @@ needs setting old stage bytes byte a (with_it there calls (goes_on after later l
     let count : old.start + (old.at + 1) ≡ length (bytes ++ byte ∷ []) = omega (arith, many, a.0) in
     undecided (decide_nothing setting after later old.start (old.at + 1) (bytes ++ byte ∷ []) stands le count
     (λ cs. ap (reads setting) (append_assoc bytes (byte ∷ []) cs) ∙ a.1 (byte ∷ cs) ∙ ap (outcome_of setting old.start) (same cs)))
-needs setting old stage bytes byte a (with_it there calls (comes_to inner round is call material cost same)) =
-    call_ends there inner round calls is call material cost (λ cs. a.1 (byte ∷ cs) ∙ ap (outcome_of setting old.start) (same cs))
+needs setting old stage bytes byte a (with_it there calls (comes_to inner round is call material own cost same)) =
+    call_ends there inner round calls is call material own cost (λ cs. a.1 (byte ∷ cs) ∙ ap (outcome_of setting old.start) (same cs))
 
 pub runs_out : (setting : Setting) (old : FormReader) (stage : Stage) (bytes : List ℕ) (byte : ℕ) → old.state ≡ Open stage → IsAfter setting old bytes
     → RunsOut setting old.frames stage old.at byte → is_space setting old.frames stage old.at byte ≡ false → MayRunOut setting old bytes byte

@@ -40,7 +40,7 @@ use Rattle.form_reader.specs.Reading.{completed, gathered_by, called, told_found
 use Rattle.form_reader.specs.Feeding.{TokenFeeds, token_read}
 use Rattle.form_reader.specs.Frames.{given, needs_memory, needs_to_take, plan_gives, place_gives, token_goes_on}
 use Rattle.form_reader.specs.Resuming.{IsStageAt, Moves, inner_at, stage_gives}
-use Rattle.form_reader.specs.Memory.{may_cost, call_may_cost, meaning_may_cost, token_may_cost, is_nothing, event_needs, Costs, goes_on, comes_to, Spends, SpendsGiven, SpendsToken, SpendsMove, SpendsPass, EndsToken, EndsWith, GivesBefore, StaysOpen, as_they_were, after_token, RunsOut, with_it, before_it, FoundCosts, taking, passing, with_byte}
+use Rattle.form_reader.specs.Memory.{may_cost, call_may_cost, meaning_may_cost, token_may_cost, is_nothing, event_needs, any_call, only_call, MayEndAt, CostsOf, Costs, goes_on, comes_to, Spends, SpendsGiven, SpendsToken, SpendsMove, SpendsPass, EndsToken, EndsWith, GivesBefore, StaysOpen, as_they_were, after_token, RunsOut, with_it, before_it, FoundCosts, taking, passing, with_byte}
 use Rattle.form_reader.proofs.Opened.{gathering_ends, gathering_moves}
 use Rattle.form_reader.proofs.Beginnings.{OpensWith, next_at, list_at, until_at}
 
@@ -72,7 +72,7 @@ moved needs (Err e) P h = h
 pub costs_same : (setting : Setting) (frames : List Frame) (at : ℕ) (read other : List ℕ → Read Found) → ((cs : List ℕ) → other cs ≡ read cs)
     → Costs setting frames at read → Costs setting frames at other
 costs_same setting frames at read other e (goes_on after stage le stands same) = goes_on after stage le stands (λ cs. e cs ∙ same cs)
-costs_same setting frames at read other e (comes_to inner round is call material cost same) = comes_to inner round is call material cost (λ cs. e cs ∙ same cs)
+costs_same setting frames at read other e (comes_to inner round is call material own cost same) = comes_to inner round is call material own cost (λ cs. e cs ∙ same cs)
 
 pub spends_same : (needs : Bool) (setting : Setting) (frames : List Frame) (at : ℕ) (read other : List ℕ → Read Found) (result : Result Event AllocError) → ((cs : List ℕ) → other cs ≡ read cs)
     → Spends needs result (Costs setting frames at read) → Spends needs result (Costs setting frames at other)
@@ -80,22 +80,30 @@ spends_same needs setting frames at read other result e h = spent_so needs resul
 
 -- ---- what a call comes to
 
+-- of a call that may end there, with no open call
+own_call_costs : (ends : List Frame → InvokedCall → Type 0) (setting : Setting) (frames : List Frame) (at round : ℕ) (call : InvokedCall) (material : Material) (read : List ℕ → Read Found) (result : Result Event AllocError)
+    → ends [] call → round ≡ length frames → ((cs : List ℕ) → read cs ≡ plan_gives setting frames (completed setting (length frames) call false false material) at cs)
+    → ((needs : Bool) → Spends needs result (call_may_cost needs call.function (completed setting round call false false material) ≡ true))
+    → Spends (needs_memory frames) result (CostsOf ends setting frames at read)
+own_call_costs ends setting frames at round call material read result own open_calls same h =
+    spent_so (needs_memory frames) result _ _ (λ cost. comes_to [] frames refl call material own
+    (subst (λ (n : ℕ). call_may_cost (needs_memory frames) call.function (completed setting n call false false material) ≡ true) open_calls cost) same) (h (needs_memory frames))
+
 pub call_costs : (setting : Setting) (frames : List Frame) (at round : ℕ) (call : InvokedCall) (material : Material) (read : List ℕ → Read Found) (result : Result Event AllocError)
     → round ≡ length frames → ((cs : List ℕ) → read cs ≡ plan_gives setting frames (completed setting (length frames) call false false material) at cs)
     → ((needs : Bool) → Spends needs result (call_may_cost needs call.function (completed setting round call false false material) ≡ true))
     → Spends (needs_memory frames) result (Costs setting frames at read)
 call_costs setting frames at round call material read result open_calls same h =
-    spent_so (needs_memory frames) result _ _ (λ cost. comes_to [] frames refl call material
-    (subst (λ (n : ℕ). call_may_cost (needs_memory frames) call.function (completed setting n call false false material) ≡ true) open_calls cost) same) (h (needs_memory frames))
+    own_call_costs any_call setting frames at round call material read result tt open_calls same h
 
 -- what was gathered has ended
 pub ends_cost : {A : Type 0} (setting : Setting) (frames : List Frame) (p : Plan A) (m : A → Material) (x y : A) (at c round : ℕ) (call : InvokedCall) (result : Result Event AllocError)
     → round ≡ length frames → ((cs : List ℕ) → run setting.table setting.limits p at (c ∷ cs) ≡ Ok (x, at + 1, cs)) → y ≡ x
     → ((needs : Bool) → Spends needs result (call_may_cost needs call.function (completed setting round call false false (m y)) ≡ true))
-    → Spends (needs_memory frames) result (Costs setting frames (at + 1) (λ cs. plan_gives setting frames (then_plan p (λ z. completed setting (length frames) call false false (m z))) at (c ∷ cs)))
+    → Spends (needs_memory frames) result (CostsOf (only_call call) setting frames (at + 1) (λ cs. plan_gives setting frames (then_plan p (λ z. completed setting (length frames) call false false (m z))) at (c ∷ cs)))
 ends_cost {A} setting frames p m x y at c round call result open_calls e same h =
     let on : A → Plan Found = λ z. completed setting (length frames) call false false (m z) in
-    call_costs setting frames (at + 1) round call (m y) (λ cs. plan_gives setting frames (then_plan p on) at (c ∷ cs)) result open_calls
+    own_call_costs (only_call call) setting frames (at + 1) round call (m y) (λ cs. plan_gives setting frames (then_plan p on) at (c ∷ cs)) result (refl, refl) open_calls
     (λ cs. gathering_ends setting frames p on x at (at + 1) (c ∷ cs) cs (e cs) ∙ ap (λ (z : A). plan_gives setting frames (on z) (at + 1) cs) (sym same)) h
 
 -- ---- how a call begins
@@ -222,11 +230,11 @@ told_gives setting letters (m ∷ ms) answer some same e =
 -- ---- where the reader is
 
 pub stage_costs : (setting : Setting) (frames : List Frame) (stage known : Stage) (at c : ℕ) → stage ≡ known
-    → Costs setting frames (at + 1) (λ cs. stage_gives setting frames known at (c ∷ cs)) → RunsOut setting frames stage at c
+    → CostsOf (MayEndAt known) setting frames (at + 1) (λ cs. stage_gives setting frames known at (c ∷ cs)) → RunsOut setting frames stage at c
 stage_costs setting frames stage known at c e h = subst (λ (s : Stage). RunsOut setting frames s at c) (sym e) (with_it frames (as_they_were refl) h)
 
 pub stage_spends : (needs : Bool) (setting : Setting) (frames : List Frame) (stage known : Stage) (at c : ℕ) (result : Result Event AllocError) → stage ≡ known
-    → Spends needs result (Costs setting frames (at + 1) (λ cs. stage_gives setting frames known at (c ∷ cs))) → Spends needs result (RunsOut setting frames stage at c)
+    → Spends needs result (CostsOf (MayEndAt known) setting frames (at + 1) (λ cs. stage_gives setting frames known at (c ∷ cs))) → Spends needs result (RunsOut setting frames stage at c)
 stage_spends needs setting frames stage known at c result e h = spent_so needs result _ _ (stage_costs setting frames stage known at c e) h
 
 pub stage_moves_spend : (needs : Bool) (setting : Setting) (frames : List Frame) (stage known : Stage) (at c : ℕ) (result : Result Moved AllocError) → stage ≡ known
@@ -258,10 +266,10 @@ given_spends frames (IsRefused code place) P e h = cc
 
 -- ---- a byte of what is gathered
 
-pub taken_costs : {A : Type 0} (setting : Setting) (frames : List Frame) (p q : Plan A) (on : A → Plan Found) (later : Stage) (at c : ℕ) → at < setting.limits.text → IsStageAt (at + 1) later
+pub taken_costs : {A : Type 0} {ends : List Frame → InvokedCall → Type 0} (setting : Setting) (frames : List Frame) (p q : Plan A) (on : A → Plan Found) (later : Stage) (at c : ℕ) → at < setting.limits.text → IsStageAt (at + 1) later
     → ((cs : List ℕ) → run setting.table setting.limits p at (c ∷ cs) ≡ run setting.table setting.limits q (at + 1) cs)
     → ((cs : List ℕ) → stage_gives setting frames later (at + 1) cs ≡ plan_gives setting frames (then_plan q on) (at + 1) cs)
-    → Costs setting frames (at + 1) (λ cs. plan_gives setting frames (then_plan p on) at (c ∷ cs))
+    → CostsOf ends setting frames (at + 1) (λ cs. plan_gives setting frames (then_plan p on) at (c ∷ cs))
 taken_costs setting frames p q on later at c lt stands moves is =
     goes_on frames later (omega (arith, lt)) stands (λ cs. gathering_moves setting frames p q on at (at + 1) (c ∷ cs) cs (moves cs) ∙ sym (is cs))
 
@@ -269,7 +277,7 @@ taken_costs setting frames p q on later at c lt stands moves is =
 
 deeper : (setting : Setting) (f : Frame) (fs frames : List Frame) (at : ℕ) (read : List ℕ → Read Found) → frames ≡ f ∷ fs → Costs setting fs at read → Costs setting frames at read
 deeper setting f fs frames at read e (goes_on after stage le stands same) = goes_on after stage le stands same
-deeper setting f fs frames at read e (comes_to inner round is call material cost same) = comes_to (f ∷ inner) round (e ∙ ap (λ (gs : List Frame). f ∷ gs) is) call material cost same
+deeper setting f fs frames at read e (comes_to inner round is call material own cost same) = comes_to (f ∷ inner) round (e ∙ ap (λ (gs : List Frame). f ∷ gs) is) call material tt cost same
 
 pub deeper_spends : (needs : Bool) (setting : Setting) (f : Frame) (fs frames : List Frame) (at : ℕ) (read : List ℕ → Read Found) (result : Result Event AllocError) → frames ≡ f ∷ fs
     → Spends needs result (Costs setting fs at read) → Spends needs result (Costs setting frames at read)

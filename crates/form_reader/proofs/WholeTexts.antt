@@ -76,7 +76,7 @@ still_none setting there at c (after_token scan e marks ends found is never) = c
 needing_stands : (setting : Setting) (c : ℕ) → NeedsMemory setting [] AtObject 0 0 [] c → Stands setting c
 needing_stands setting c (undecided h) = undecided_stands setting c h
 needing_stands setting c (token_ends h) = absurd h
-needing_stands setting c (call_ends there inner round calls is call material cost read) = λ code e.
+needing_stands setting c (call_ends there inner round calls is call material own cost read) = λ code e.
     let plan : Plan Found = completed setting (length round) call false false material in
     plan_stands setting plan code (may_cost_so (needs_memory round) call.function plan cost)
     (ap (λ (fs : List Frame). outcome_of setting 0 (plan_gives setting fs plan 1 [])) (sym (none_round inner round (sym (still_none setting there 0 c calls) ∙ is))) ∙ sym (read []) ∙ e)

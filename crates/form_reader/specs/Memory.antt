@@ -1,5 +1,5 @@
 -- Where memory may run out: where reading goes on, or where something was found.
-use Rattle.std.specs.Prelude.{ℕ, ◌≡◌, ◌+◌, ◌≤◌, ◌==◌, ◌&&◌, ◌||◌, nat_lt, not, Bool, true, false, List, ◌∷◌, ◌++◌, length, Some, Result, Ok, Err}
+use Rattle.std.specs.Prelude.{ℕ, ◌≡◌, ◌+◌, ◌≤◌, ◌==◌, ◌&&◌, ◌||◌, nat_lt, not, Bool, true, false, List, [], ◌∷◌, ◌++◌, length, Some, Result, Ok, Err}
 use Rattle.std.specs.declared.alloc.AllocError.{AllocError}
 use Rattle.lisp_object.specs.declared.refusal.TheConstants.{MACRO_REFUSED, MACRO_ANSWER}
 use Rattle.std_macros.specs.Results.{takes_memory}
@@ -21,7 +21,7 @@ use Rattle.form_reader.specs.declared.objects.Passed.TheVariants.{Taken as Passe
 use Rattle.form_reader.specs.declared.stage.Event.{Event}
 use Rattle.form_reader.specs.declared.stage.Event.TheVariants.{Gives as IsGiven}
 use Rattle.form_reader.specs.declared.stage.Stage.{Stage}
-use Rattle.form_reader.specs.declared.stage.Stage.TheVariants.{Object as AtObject, Token as AtToken, CallToken as AtCallToken}
+use Rattle.form_reader.specs.declared.stage.Stage.TheVariants.{Object as AtObject, Token as AtToken, CallToken as AtCallToken, Text as AtText, Escaped as AtEscaped, Line as AtLine, Block as AtBlock}
 use Rattle.form_reader.specs.Calls.{InvokedCall}
 use Rattle.form_reader.specs.Plans.{Plan, gives, refuses, Read}
 use Rattle.form_reader.specs.Setting.{Setting}
@@ -48,15 +48,36 @@ abbrev pub call_may_cost : Bool → Function → Plan Found → Bool
 call_may_cost needs (AStandard kind) plan = gives_object plan && (takes_memory kind || needs)
 call_may_cost needs (User function) plan = may_cost plan
 
+-- Any call may end, and any of the open calls with it.
+abbrev pub any_call : List Frame → InvokedCall → Type 0
+any_call = λ inner call. Unit {0}
+
+-- Only this call may end, and none of the open calls with it.
+abbrev pub only_call : InvokedCall → List Frame → InvokedCall → Type 0
+only_call own = λ inner call. (inner ≡ []) × (call ≡ own)
+
+-- What may end with a byte: in a text, a line or a block only its call, and none of the calls that are open round it.
+abbrev pub MayEndAt : Stage → List Frame → InvokedCall → Type 0
+MayEndAt (AtText own terminator text) = only_call own
+MayEndAt (AtEscaped own terminator text) = only_call own
+MayEndAt (AtLine own keep text) = only_call own
+MayEndAt (AtBlock own levels) = only_call own
+MayEndAt _ = any_call
+
 -- What is read from this place on, after a byte that was taken in these open calls: reading goes on, in some open calls at some
 -- stage; or some of the calls have come to their end, and in those round them a call comes to something for which memory may
--- run out.
-pub data Costs (setting : Setting) (frames : List Frame) (at : ℕ) (read : List ℕ → Read Found) : Type 0 where
+-- run out, which is one that may end there.
+pub data CostsOf (ends : List Frame → InvokedCall → Type 0) (setting : Setting) (frames : List Frame) (at : ℕ) (read : List ℕ → Read Found) : Type 0 where
   goes_on : (after : List Frame) (stage : Stage) → at ≤ setting.limits.text → IsStageAt at stage
-      → ((cs : List ℕ) → read cs ≡ stage_gives setting after stage at cs) → Costs setting frames at read
-  comes_to : (inner round : List Frame) → frames ≡ inner ++ round → (call : InvokedCall) (material : Material)
+      → ((cs : List ℕ) → read cs ≡ stage_gives setting after stage at cs) → CostsOf ends setting frames at read
+  comes_to : (inner round : List Frame) → frames ≡ inner ++ round → (call : InvokedCall) (material : Material) → ends inner call
       → call_may_cost (needs_memory round) call.function (completed setting (length round) call false false material) ≡ true
-      → ((cs : List ℕ) → read cs ≡ plan_gives setting round (completed setting (length round) call false false material) at cs) → Costs setting frames at read
+      → ((cs : List ℕ) → read cs ≡ plan_gives setting round (completed setting (length round) call false false material) at cs)
+      → CostsOf ends setting frames at read
+
+-- the same where any call may end
+abbrev pub Costs : Setting → List Frame → ℕ → (List ℕ → Read Found) → Type 0
+Costs setting frames at read = CostsOf any_call setting frames at read
 
 -- Where memory ran out, or an object is given to open calls that need memory to take one, if they do.
 abbrev pub Spends : Bool → Result Event AllocError → Type 0 → Type 0
@@ -142,7 +163,7 @@ is_space setting frames _ at c = false
 -- What the byte at this place is, where memory may run out.
 pub data RunsOut (setting : Setting) (frames : List Frame) (stage : Stage) (at c : ℕ) : Type 0 where
   with_it : (there : List Frame) → AreOpen setting frames stage at c there
-      → Costs setting there (at + 1) (λ cs. stage_gives setting frames stage at (c ∷ cs)) → RunsOut setting frames stage at c
+      → CostsOf (MayEndAt stage) setting there (at + 1) (λ cs. stage_gives setting frames stage at (c ∷ cs)) → RunsOut setting frames stage at c
   before_it : EndsToken setting frames stage at c → RunsOut setting frames stage at c
 
 -- before a byte that ended a token the same calls are open

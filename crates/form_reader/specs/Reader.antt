@@ -20,7 +20,7 @@ use Rattle.form_reader.specs.Calls.{InvokedCall}
 use Rattle.form_reader.specs.Setting.{Setting}
 use Rattle.form_reader.specs.Reading.{completed, Outcome, form, empty, refused, reads}
 use Rattle.form_reader.specs.Frames.{plan_gives, needs_memory}
-use Rattle.form_reader.specs.Memory.{call_may_cost, is_space, AreOpen, EndsToken}
+use Rattle.form_reader.specs.Memory.{call_may_cost, is_space, AreOpen, EndsToken, MayEndAt}
 use Rattle.form_reader.specs.Ending.{EndNeedsMemory}
 use Rattle.form_reader.specs.Turning.{outcome_of, rest_of}
 
@@ -97,12 +97,13 @@ BeginsLater old new (StepRefused code place) = begun new ≡ begun old
 -- Where memory may run out at a byte that comes after these bytes, where the reader is at this stage. The bytes with this one
 -- decide nothing. Or the byte ends an open token, and the token is a name, or a number that the innermost call needs memory to
 -- take, or memory may run out for its call. Or none or some of the calls that are open where the byte is looked at end with it,
--- and in those round them memory may run out for a call that ends with it.
+-- and in those round them memory may run out for a call that ends with it. In a text, a line or a block that is its call, and
+-- none of those that are open round it ends with it.
 pub data NeedsMemory (setting : Setting) (frames : List Frame) (stage : Stage) (start at : ℕ) (bytes : List ℕ) (c : ℕ) : Type 0 where
   undecided : DecideNothing setting (bytes ++ c ∷ []) → NeedsMemory setting frames stage start at bytes c
   token_ends : EndsToken setting frames stage at c → NeedsMemory setting frames stage start at bytes c
   call_ends : (there inner round : List Frame) → AreOpen setting frames stage at c there → there ≡ inner ++ round
-      → (call : InvokedCall) (material : Material)
+      → (call : InvokedCall) (material : Material) → MayEndAt stage inner call
       → call_may_cost (needs_memory round) call.function (completed setting (length round) call false false material) ≡ true
       → ((cs : List ℕ) → reads setting (bytes ++ c ∷ cs)
       ≡ outcome_of setting start (plan_gives setting round (completed setting (length round) call false false material) (at + 1) cs))
