@@ -1,6 +1,7 @@
 pub mod Orders
 pub mod Places
 pub mod Lists
+pub mod ListRows
 pub mod ByName
 pub mod Soundness
 pub mod KeptWorld

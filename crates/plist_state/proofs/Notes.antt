@@ -18,68 +18,66 @@ use Rattle.plist_state.specs.declared.note.Note.{Note}
 use Rattle.plist_state.specs.declared.note.Note.TheVariants.{Property as OfList}
 use Rattle.plist_state.specs.declared.note.PropertyChange.{PropertyChange}
 use Rattle.plist_state.specs.declared.property.Property.{Property}
-use Rattle.plist_state.specs.declared.symbol.Symbol.{Symbol}
-use Rattle.plist_state.specs.Properties as properties
-use Rattle.plist_state.specs.Properties.{Plist, Properties, list_at, with_list}
-use Rattle.plist_state.specs.State.{Rest}
-use Rattle.plist_state.specs.Shown.{Rows, lists_in, plist_of, property_of, row_at, room_at, symbol_of}
+use Rattle.plist_state.specs.Properties.{Plist}
+use Rattle.plist_state.specs.Lists.{NumberedLists, row_of, with_row}
+use Rattle.plist_state.specs.Shown.{Rows, lists_in, plist_of, property_of, row_at, room_at, NumberedRest}
 use Rattle.plist_state.specs.Kept.{IsProperChange, IsWider}
 use Rattle.plist_state.specs.Undoing.{list_before, undone, all_undone, undone_since, rests_at}
 use Rattle.plist_state.specs.Journal.{marks_of, has_room, IsNoted, Fits, LeadsBack, IsJournal, Continues}
-use Rattle.plist_state.proofs.Lists.{list-lists_in, property_back}
+use Rattle.plist_state.proofs.ListRows.{row-lists_in, property_back}
 
 -- ---- what is led back to
-pub all_push : (ns : List Note) (n : Note) (r : Rest) → all_undone (ns ++ n ∷ []) r ≡ all_undone ns (undone n r)
+pub all_push : (ns : List Note) (n : Note) (r : NumberedRest) → all_undone (ns ++ n ∷ []) r ≡ all_undone ns (undone n r)
 all_push [] n r = refl
 all_push (m ∷ ns) n r = ap (undone m) (all_push ns n r)
 
-since_push : (ms : List (List Note)) (m : List Note) (r : Rest) → undone_since (ms ++ m ∷ []) r ≡ undone_since ms (all_undone m r)
+since_push : (ms : List (List Note)) (m : List Note) (r : NumberedRest) → undone_since (ms ++ m ∷ []) r ≡ undone_since ms (all_undone m r)
 since_push [] m r = refl
 since_push (k ∷ ms) m r = ap (all_undone k) (since_push ms m r)
 
-pub rests_push : (ms : List (List Note)) (m : List Note) (r : Rest) → rests_at (ms ++ m ∷ []) r ≡ rests_at ms (all_undone m r) ++ all_undone m r ∷ []
+pub rests_push : (ms : List (List Note)) (m : List Note) (r : NumberedRest) → rests_at (ms ++ m ∷ []) r ≡ rests_at ms (all_undone m r) ++ all_undone m r ∷ []
 rests_push [] m r = refl
 rests_push (k ∷ ms) m r = λ i. all_undone k (since_push ms m r i) ∷ rests_push ms m r i
 
-pub length-rests : (ms : List (List Note)) (r : Rest) → length (rests_at ms r) ≡ length ms
+pub length-rests : (ms : List (List Note)) (r : NumberedRest) → length (rests_at ms r) ≡ length ms
 length-rests [] r = refl
 length-rests (m ∷ ms) r = ap (λ k. suc k) (length-rests ms r)
 
 -- ---- what holds of the way back
-fits_wider : (r : Rest) (rows later : Rows) → IsWider rows later → Fits rows r → Fits later r
+fits_wider : (r : NumberedRest) (rows later : Rows) → IsWider rows later → Fits rows r → Fits later r
 fits_wider r rows later wider fits x =
-    let held : length (list_at r.properties x) ≤ room_at rows x = fits x in
+    let held : length (row_of r.properties x) ≤ room_at rows x = fits x in
     let more : room_at rows x ≤ room_at later x = wider.rooms x in
     omega (arith, held, more)
 
-leads_push : (ns : List Note) (n : Note) (u : Rest) (rows : Rows) → IsNoted n → Fits rows (undone n u) → LeadsBack ns (undone n u) rows → LeadsBack (ns ++ n ∷ []) u rows
+leads_push : (ns : List Note) (n : Note) (u : NumberedRest) (rows : Rows) → IsNoted n → Fits rows (undone n u) → LeadsBack ns (undone n u) rows → LeadsBack (ns ++ n ∷ []) u rows
 leads_push [] n u rows noted fits leads = (noted, fits, tt)
 leads_push (m ∷ ns) n u rows noted fits leads =
     (leads.0, subst (Fits rows) (sym (ap (undone m) (all_push ns n u))) leads.1, leads_push ns n u rows noted fits leads.2)
 
-pub leads_pop : (ns : List Note) (n : Note) (u : Rest) (rows : Rows) → LeadsBack (ns ++ n ∷ []) u rows → IsNoted n × Fits rows (undone n u) × LeadsBack ns (undone n u) rows
+pub leads_pop : (ns : List Note) (n : Note) (u : NumberedRest) (rows : Rows) → LeadsBack (ns ++ n ∷ []) u rows → IsNoted n × Fits rows (undone n u) × LeadsBack ns (undone n u) rows
 leads_pop [] n u rows leads = (leads.0, leads.1, tt)
 leads_pop (m ∷ ns) n u rows leads =
     let left : IsNoted n × Fits rows (undone n u) × LeadsBack ns (undone n u) rows = leads_pop ns n u rows leads.2 in
     (left.0, left.1, (leads.0, subst (Fits rows) (ap (undone m) (all_push ns n u)) leads.1, left.2))
 
-pub leads_wider : (ns : List Note) (r : Rest) (rows later : Rows) → IsWider rows later → LeadsBack ns r rows → LeadsBack ns r later
+pub leads_wider : (ns : List Note) (r : NumberedRest) (rows later : Rows) → IsWider rows later → LeadsBack ns r rows → LeadsBack ns r later
 leads_wider [] r rows later wider leads = tt
 leads_wider (n ∷ ns) r rows later wider leads =
     (leads.0, fits_wider (all_undone (n ∷ ns) r) rows later wider leads.1, leads_wider ns r rows later wider leads.2)
 
-pub journal_put : (ms : List (List Note)) (m : List Note) (r : Rest) (rows : Rows) → LeadsBack m r rows → IsJournal ms (all_undone m r) rows → IsJournal (ms ++ m ∷ []) r rows
+pub journal_put : (ms : List (List Note)) (m : List Note) (r : NumberedRest) (rows : Rows) → LeadsBack m r rows → IsJournal ms (all_undone m r) rows → IsJournal (ms ++ m ∷ []) r rows
 journal_put [] m r rows leads journal = (leads, tt)
 journal_put (k ∷ ms) m r rows leads journal =
     (subst (λ s. LeadsBack k s rows) (sym (since_push ms m r)) journal.0, journal_put ms m r rows leads journal.1)
 
-pub journal_taken : (ms : List (List Note)) (m : List Note) (r : Rest) (rows : Rows) → IsJournal (ms ++ m ∷ []) r rows → LeadsBack m r rows × IsJournal ms (all_undone m r) rows
+pub journal_taken : (ms : List (List Note)) (m : List Note) (r : NumberedRest) (rows : Rows) → IsJournal (ms ++ m ∷ []) r rows → LeadsBack m r rows × IsJournal ms (all_undone m r) rows
 journal_taken [] m r rows journal = (journal.0, tt)
 journal_taken (k ∷ ms) m r rows journal =
     let left : LeadsBack m r rows × IsJournal ms (all_undone m r) rows = journal_taken ms m r rows journal.1 in
     (left.0, (subst (λ s. LeadsBack k s rows) (since_push ms m r) journal.0, left.1))
 
-pub journal_wider : (ms : List (List Note)) (r : Rest) (rows later : Rows) → IsWider rows later → IsJournal ms r rows → IsJournal ms r later
+pub journal_wider : (ms : List (List Note)) (r : NumberedRest) (rows later : Rows) → IsWider rows later → IsJournal ms r rows → IsJournal ms r later
 journal_wider [] r rows later wider journal = tt
 journal_wider (m ∷ ms) r rows later wider journal =
     (leads_wider m (undone_since ms r) rows later wider journal.0, journal_wider ms r rows later wider journal.1)
@@ -87,9 +85,9 @@ journal_wider (m ∷ ms) r rows later wider journal =
 row_fits : (row : Vec Property) → length (plist_of row) ≤ vec_capacity row
 row_fits row = omega (arith, row.ok, length-map row.items property_of)
 
-pub fits_now : (rows : Rows) (r : Rest) → r.properties ≡ lists_in rows → Fits rows r
+pub fits_now : (rows : Rows) (r : NumberedRest) → r.properties ≡ lists_in rows → Fits rows r
 fits_now rows r is x =
-    subst (λ ps. length ps ≤ room_at rows x) (sym (ap (λ (m : Properties). list_at m x) is ∙ list-lists_in rows x))
+    subst (λ ps. length ps ≤ room_at rows x) (sym (ap (λ (m : NumberedLists). row_of m x) is ∙ row-lists_in rows x))
     (elim (row_at rows x) as (λ o. length (option_map_or plist_of o []) ≤ option_map_or vec_capacity o 0) [
       | None ↦ omega arith
       | Some row ↦ row_fits row
@@ -109,28 +107,28 @@ room_of_end (n ∷ o ∷ ms) m room = room_of_end (o ∷ ms) m room
 abbrev pub notes_of : Vec Note → List Note
 notes_of m = m.items
 
-pub continues_same : (ms ns : List (List Note)) (t u : Rest) → ns ≡ ms → u ≡ t → Continues ms t ns u
+pub continues_same : (ms ns : List (List Note)) (t u : NumberedRest) → ns ≡ ms → u ≡ t → Continues ms t ns u
 continues_same ms ns t u marks rest = record {
   same = λ i. rests_at (marks i) (rest i);
   journal = λ rows _ journal. subst (λ r. IsJournal ns r rows) (sym rest) (subst (λ ks. IsJournal ks t rows) (sym marks) journal);
 }
 
 -- a note that was pushed where room for it was made
-pub continues_noted : (ms ks ns : List (List Note)) (note : Note) (t u : Rest) → ks ≡ ms → ((t u : Rest) → IsNoted note → undone note u ≡ t → Continues ks t ns u) → IsNoted note → undone note u ≡ t → Continues ms t ns u
+pub continues_noted : (ms ks ns : List (List Note)) (note : Note) (t u : NumberedRest) → ks ≡ ms → ((t u : NumberedRest) → IsNoted note → undone note u ≡ t → Continues ks t ns u) → IsNoted note → undone note u ≡ t → Continues ms t ns u
 continues_noted ms ks ns note t u same pushed proper undoes = subst (λ k. Continues k t ns u) same (pushed t u proper undoes)
 
--- the same of a change of a property list, under a copy of the symbol
-pub property_noted : (ms ks ns : List (List Note)) → ks ≡ ms → (copy : Symbol) (change : PropertyChange)
-    → ((t u : Rest) → IsNoted (OfList copy change) → undone (OfList copy change) u ≡ t → Continues ks t ns u) → IsProperChange change
-    → (t : Rest) (rows later : Rows) (x : properties.Symbol) (ps : Plist) → symbol_of copy ≡ x
-    → lists_in later ≡ with_list (lists_in rows) x ps → list_before change (list_at (lists_in later) x) ≡ list_at (lists_in rows) x
+-- the same of a change of the property list of a number
+pub property_noted : (ms ks ns : List (List Note)) → ks ≡ ms → (x : ℕ) (change : PropertyChange)
+    → ((t u : NumberedRest) → IsNoted (OfList x change) → undone (OfList x change) u ≡ t → Continues ks t ns u) → IsProperChange change
+    → (t : NumberedRest) (rows later : Rows) (ps : Plist)
+    → lists_in later ≡ with_row (lists_in rows) x ps → list_before change (row_of (lists_in later) x) ≡ row_of (lists_in rows) x
     → Continues ms (record t { properties = lists_in rows }) ns (record t { properties = lists_in later })
-property_noted ms ks ns same copy change pushed proper t rows later x ps named put back =
-    continues_noted ms ks ns (OfList copy change) (record t { properties = lists_in rows }) (record t { properties = lists_in later }) same pushed proper
-    (ap (λ (m : Properties). record t { properties = m }) (property_back rows later x ps (symbol_of copy) named change put back))
+property_noted ms ks ns same x change pushed proper t rows later ps put back =
+    continues_noted ms ks ns (OfList x change) (record t { properties = lists_in rows }) (record t { properties = lists_in later }) same pushed proper
+    (ap (λ (m : NumberedLists). record t { properties = m }) (property_back rows later x ps change put back))
 
 -- one note more under the newest mark
-continues_push : (ms : List (List Note)) (m : List Note) (n : Note) (t u : Rest) → IsNoted n → undone n u ≡ t → Continues (ms ++ m ∷ []) t (ms ++ (m ++ n ∷ []) ∷ []) u
+continues_push : (ms : List (List Note)) (m : List Note) (n : Note) (t u : NumberedRest) → IsNoted n → undone n u ≡ t → Continues (ms ++ m ∷ []) t (ms ++ (m ++ n ∷ []) ∷ []) u
 continues_push ms m n t u noted undoes =
     let back : all_undone (m ++ n ∷ []) u ≡ all_undone m t = all_push m n u ∙ ap (all_undone m) undoes in
     record {
@@ -162,18 +160,18 @@ module _ (ms : List (Vec Note)) (n : ℕ) (m w : Vec Note) (is_length : length m
   pub had_room : has_room ms → vec_len m < vec_capacity m
   had_room room = room_of_end last.0 m (subst has_room last.1 room)
 
-  pub noted : (note : Note) → w.items ≡ m.items ++ note ∷ [] → (t u : Rest) → IsNoted note → undone note u ≡ t → Continues (marks_of ms) t (marks_of (slice_set ms (n - 1) w)) u
+  pub noted : (note : Note) → w.items ≡ m.items ++ note ∷ [] → (t u : NumberedRest) → IsNoted note → undone note u ≡ t → Continues (marks_of ms) t (marks_of (slice_set ms (n - 1) w)) u
   noted note is t u proper undoes =
       subst (λ ks. Continues ks t (marks_of (slice_set ms (n - 1) w)) u) (sym marks_before)
       (subst (λ ks. Continues (marks_of last.0 ++ m.items ∷ []) t ks u) (sym (marks_after ∙ ap (λ x. marks_of last.0 ++ x ∷ []) is))
       (continues_push (marks_of last.0) m.items note t u proper undoes))
 
 -- ---- the newest mark taken away
-module _ (before : List (Vec Note)) (m : Vec Note) (ms : List (Vec Note)) (split : ms ≡ before ++ m ∷ []) (t u : Rest) (undoes : u ≡ all_undone m.items t) where
+module _ (before : List (Vec Note)) (m : Vec Note) (ms : List (Vec Note)) (split : ms ≡ before ++ m ∷ []) (t u : NumberedRest) (undoes : u ≡ all_undone m.items t) where
   marks_split : marks_of ms ≡ marks_of before ++ m.items ∷ []
   marks_split = ap marks_of split ∙ map_push notes_of before m
 
-  pub popped : (all rest : List Rest) → all ≡ rests_at (marks_of ms) t ++ rest → all ≡ rests_at (marks_of before) u ++ u ∷ rest
+  pub popped : (all rest : List NumberedRest) → all ≡ rests_at (marks_of ms) t ++ rest → all ≡ rests_at (marks_of before) u ++ u ∷ rest
   popped all rest is =
       is ∙ ap (λ xs. xs ++ rest) (ap (λ ks. rests_at ks t) marks_split ∙ rests_push (marks_of before) m.items t ∙ (λ i. rests_at (marks_of before) (sym undoes i) ++ sym undoes i ∷ []))
       ∙ append_assoc (rests_at (marks_of before) u) (u ∷ []) rest
@@ -184,7 +182,7 @@ module _ (before : List (Vec Note)) (m : Vec Note) (ms : List (Vec Note)) (split
       let left : LeadsBack m.items t rows × IsJournal (marks_of before) (all_undone m.items t) rows = journal_taken (marks_of before) m.items t rows (subst (λ ks. IsJournal ks t rows) marks_split journal) in
       (left.0, subst (λ r. IsJournal (marks_of before) r rows) (sym undoes) left.1)
 
-module _ (before : List (List Note)) (u : Rest) (all rest : List Rest) (mark : ℕ) (is : all ≡ rests_at before u ++ u ∷ rest) (here : length before ≡ mark) where
+module _ (before : List (List Note)) (u : NumberedRest) (all rest : List NumberedRest) (mark : ℕ) (is : all ≡ rests_at before u ++ u ∷ rest) (here : length before ≡ mark) where
   place : length (rests_at before u) ≡ mark
   place = length-rests before u ∙ here
 
@@ -195,8 +193,8 @@ module _ (before : List (List Note)) (u : Rest) (all rest : List Rest) (mark : �
   at_mark = ap (slice_get all) (sym place) ∙ ap (λ xs. slice_get xs (length (rests_at before u))) is ∙ get_seam (rests_at before u) u rest
 
 -- the mark that was to be gone back to
-module _ (before : List (Vec Note)) (m : Vec Note) (ms : List (Vec Note)) (split : ms ≡ before ++ m ∷ []) (t u : Rest) (undoes : u ≡ all_undone m.items t)
-    (all rest : List Rest) (is : all ≡ rests_at (marks_of ms) t ++ rest) (mark : ℕ) (here : length before ≡ mark) where
+module _ (before : List (Vec Note)) (m : Vec Note) (ms : List (Vec Note)) (split : ms ≡ before ++ m ∷ []) (t u : NumberedRest) (undoes : u ≡ all_undone m.items t)
+    (all rest : List NumberedRest) (is : all ≡ rests_at (marks_of ms) t ++ rest) (mark : ℕ) (here : length before ≡ mark) where
   pub gone_past : rests_at (marks_of before) u ≡ take mark all
   gone_past = past_marks (marks_of before) u all rest mark (popped before m ms split t u undoes all rest is) (length-map before notes_of ∙ here)
 

@@ -1,15 +1,13 @@
 -- What contracts see of the journal, and what holds of it.
-use Rattle.std.specs.Prelude.{◌≡◌, ◌<◌, ◌≤◌, List, [], ◌∷◌, length, map}
+use Rattle.std.specs.Prelude.{◌≡◌, ℕ, ◌<◌, ◌≤◌, List, [], ◌∷◌, length, map}
 use Rattle.std.specs.Global.{Vec}
 use Rattle.std.specs.Vec.{vec_len, vec_capacity}
 use Rattle.plist_state.specs.declared.note.TableChange.{TableChange}
 use Rattle.plist_state.specs.declared.note.TableChange.TheVariants.{Over, Letters, Character}
 use Rattle.plist_state.specs.declared.note.Note.{Note}
 use Rattle.plist_state.specs.declared.note.Note.TheVariants.{Property, Made, Changed, InPackage, InReadtable}
-use Rattle.plist_state.specs.Properties as properties
-use Rattle.plist_state.specs.Properties.{list_at}
-use Rattle.plist_state.specs.State.{Rest}
-use Rattle.plist_state.specs.Shown.{Rows, room_at}
+use Rattle.plist_state.specs.Lists.{row_of}
+use Rattle.plist_state.specs.Shown.{Rows, room_at, NumberedRest}
 use Rattle.plist_state.specs.Kept.{IsProperChange}
 use Rattle.plist_state.specs.Undoing.{all_undone, undone_since, rests_at}
 
@@ -31,27 +29,27 @@ IsTableChange (Character c entry) = c < 128
 
 -- what was overwritten can be put back
 abbrev pub IsNoted : Note → Type 0
-IsNoted (Property symbol change) = IsProperChange change
+IsNoted (Property number change) = IsProperChange change
 IsNoted (Made name) = Unit {0}
 IsNoted (Changed name change) = IsTableChange change
 IsNoted (InPackage name) = Unit {0}
 IsNoted (InReadtable name) = Unit {0}
 
 -- the rows have memory for these property lists
-abbrev pub Fits : Rows → Rest → Type 0
-Fits rows r = (x : properties.Symbol) → length (list_at r.properties x) ≤ room_at rows x
+abbrev pub Fits : Rows → NumberedRest → Type 0
+Fits rows r = (i : ℕ) → length (row_of r.properties i) ≤ room_at rows i
 
 -- each rest on the way back over these notes can be put back, and the rows have memory for it
-abbrev pub LeadsBack : List Note → Rest → Rows → Type 0
+abbrev pub LeadsBack : List Note → NumberedRest → Rows → Type 0
 LeadsBack [] r rows = Unit {0}
 LeadsBack (n ∷ ns) r rows = IsNoted n × Fits rows (all_undone (n ∷ ns) r) × LeadsBack ns r rows
 
 -- and so back over these marks
-abbrev pub IsJournal : List (List Note) → Rest → Rows → Type 0
+abbrev pub IsJournal : List (List Note) → NumberedRest → Rows → Type 0
 IsJournal [] r rows = Unit {0}
 IsJournal (m ∷ ms) r rows = LeadsBack m (undone_since ms r) rows × IsJournal ms r rows
 
 -- From the rest u one gets back with the notes ns to what one gets back to from t with the notes ms.
-pub record Continues (ms : List (List Note)) (t : Rest) (ns : List (List Note)) (u : Rest) : Type 0 where
+pub record Continues (ms : List (List Note)) (t : NumberedRest) (ns : List (List Note)) (u : NumberedRest) : Type 0 where
   pub same : rests_at ns u ≡ rests_at ms t
   pub journal : (rows : Rows) → Fits rows t → IsJournal ms t rows → IsJournal ns u rows

@@ -1,18 +1,17 @@
 -- What holds of the rows of properties.
-use Rattle.std.specs.Prelude.{◌≡◌, ◌≤◌, true, All, IfSome}
+use Rattle.std.specs.Prelude.{◌≡◌, ℕ, ◌≤◌, true, All, IfSome}
 use Rattle.std.specs.Global.{Vec}
 use Rattle.lisp_object.specs.Datum.{is_proper}
 use Rattle.plist_state.specs.declared.property.Property.{Property}
 use Rattle.plist_state.specs.declared.note.PropertyChange.{PropertyChange}
 use Rattle.plist_state.specs.declared.note.PropertyChange.TheVariants.{Set, Added, Removed}
-use Rattle.plist_state.specs.Properties as properties
 use Rattle.plist_state.specs.Shown.{Rows, row_at, room_at}
 
 abbrev pub IsProperRow : Vec Property → Type 0
 IsProperRow row = All (λ p. is_proper p.value ≡ true) row.items
 
 abbrev pub IsProperRows : Rows → Type 0
-IsProperRows rows = (x : properties.Symbol) → IfSome (row_at rows x) IsProperRow
+IsProperRows rows = (i : ℕ) → IfSome (row_at rows i) IsProperRow
 
 abbrev pub IsProperChange : PropertyChange → Type 0
 IsProperChange (Set place value) = is_proper value ≡ true
@@ -21,5 +20,5 @@ IsProperChange (Removed place property) = is_proper property.value ≡ true
 
 -- the rows of one hold what those of the other held, in as much memory
 pub record IsWider (rows later : Rows) : Type 0 where
-  pub rooms : (x : properties.Symbol) → room_at rows x ≤ room_at later x
+  pub rooms : (i : ℕ) → room_at rows i ≤ room_at later i
   pub values : IsProperRows rows → IsProperRows later

@@ -1,5 +1,6 @@
 pub mod Properties
 pub mod State
+pub mod Lists
 pub mod Codes
 pub mod Changes
 pub mod Readers

@@ -13,9 +13,10 @@ use Rattle.plist_state.specs.declared.note.TableChange.{TableChange}
 use Rattle.plist_state.specs.declared.note.TableChange.TheVariants.{Over, Letters, Character}
 use Rattle.plist_state.specs.declared.note.Note.{Note}
 use Rattle.plist_state.specs.declared.note.Note.TheVariants.{Property, Made, Changed, InPackage, InReadtable}
-use Rattle.plist_state.specs.Properties.{Symbol, Plist, list_at, with_list}
-use Rattle.plist_state.specs.State.{Readtables, Rest}
-use Rattle.plist_state.specs.Shown.{symbol_of, property_of}
+use Rattle.plist_state.specs.Properties.{Symbol, Plist}
+use Rattle.plist_state.specs.Lists.{row_of, with_row}
+use Rattle.plist_state.specs.State.{Readtables}
+use Rattle.plist_state.specs.Shown.{property_of, NumberedRest}
 
 -- with the value at a place, if there is such a place
 abbrev pub with_value_at : Plist → ℕ → Object → Plist
@@ -46,25 +47,24 @@ abbrev pub tables_before : Readtables → Name → TableChange → Readtables
 tables_before m n change = option_map_or (λ t. finite.insert m n (table_before change t)) (finite.get m n) m
 
 -- the rest before the change
-abbrev pub undone : Note → Rest → Rest
-undone (Property symbol change) r =
-    record r { properties = with_list r.properties (symbol_of symbol) (list_before change (list_at r.properties (symbol_of symbol))) }
+abbrev pub undone : Note → NumberedRest → NumberedRest
+undone (Property number change) r = record r { properties = with_row r.properties number (list_before change (row_of r.properties number)) }
 undone (Made name) r = record r { readtables = finite.remove r.readtables name.items }
 undone (Changed name change) r = record r { readtables = tables_before r.readtables name.items change }
 undone (InPackage name) r = record r { current_package = name.items }
 undone (InReadtable name) r = record r { current_readtable = name.items }
 
 -- the rest before all these changes: the last is undone first
-abbrev pub all_undone : List Note → Rest → Rest
+abbrev pub all_undone : List Note → NumberedRest → NumberedRest
 all_undone [] r = r
 all_undone (n ∷ ns) r = undone n (all_undone ns r)
 
 -- the rest at the first of these marks, each of which is the changes since, up to the next one
-abbrev pub undone_since : List (List Note) → Rest → Rest
+abbrev pub undone_since : List (List Note) → NumberedRest → NumberedRest
 undone_since [] r = r
 undone_since (m ∷ ms) r = all_undone m (undone_since ms r)
 
 -- the rest at each of these marks
-abbrev pub rests_at : List (List Note) → Rest → List Rest
+abbrev pub rests_at : List (List Note) → NumberedRest → List NumberedRest
 rests_at [] r = []
 rests_at (m ∷ ms) r = undone_since (m ∷ ms) r ∷ rests_at ms r

@@ -1,6 +1,6 @@
 //! The journal: what was changed since each mark, so that it can be undone.
 ghost use Rattle.std.specs.Prelude.{◌≡◌, OnOk, IfOk};
-ghost use Rattle.plist_state.specs.State.{Rest};
+ghost use Rattle.plist_state.specs.Shown.{NumberedRest};
 ghost use Rattle.plist_state.specs.Undoing.{undone};
 ghost use Rattle.plist_state.specs.Journal.{marks_of, has_room, IsNoted, Continues};
 
@@ -36,7 +36,7 @@ pub(crate) fn reserve_named(
 /// Notes a change under the newest mark, if there is one.
 pub(crate) fn push_note(marks: &mut Vec<Vec<Note>>, note: Note)
     requires { has_room marks.old.items }
-    ensures { (t u : Rest) → IsNoted note → undone note u ≡ t
+    ensures { (t u : NumberedRest) → IsNoted note → undone note u ≡ t
         → Continues (marks_of marks.old.items) t (marks_of marks.new.items) u }
 {
     if let Some(newest) = marks.last_mut() {

@@ -1,5 +1,5 @@
 //! Changes, each with what it overwrote.
-use crate::{Property, Symbol};
+use crate::Property;
 use lisp_object::Datum;
 use readtable_core::{Case, CharacterEntry, Readtable};
 
@@ -28,11 +28,8 @@ pub(crate) enum TableChange {
 /// One change of what a world keeps besides its packages.
 #[derive(Drop)]
 pub(crate) enum Note {
-    /// The property list of a symbol changed.
-    Property {
-        symbol: Symbol,
-        change: PropertyChange,
-    },
+    /// The property list of the symbol of this number changed.
+    Property { number: u32, change: PropertyChange },
     /// A readtable was made.
     Made(Vec<u8>),
     /// The readtable of this name changed.

@@ -1,9 +1,10 @@
-//! The rows of properties: look-ups, single changes, and how each is taken back.
+//! The rows of properties, by the numbers of their symbols: look-ups, single changes, and how each is taken back.
 ghost use Rattle.std.specs.Prelude.{◌≡◌, ◌≤◌, true, [], map, length, Some, None, is_some, unwrap_or, IfOk, OnOk, IfErr, OnErr, IfSome, MatchOption, All, IsSome, vec_capacity};
 ghost use Rattle.std.specs.List.{position};
 ghost use Rattle.std.specs.Option.{option_map};
 ghost use Rattle.lisp_object.specs.Datum.{object_of, is_proper};
-ghost use Rattle.plist_state.specs.Properties.{list_at, with_list, with_value, without_value, value_at, same_symbol};
+ghost use Rattle.plist_state.specs.Properties.{with_value, without_value, value_at, same_symbol};
+ghost use Rattle.plist_state.specs.Lists.{row_of, with_row};
 ghost use Rattle.plist_state.specs.Shown.{symbol_of, property_of, plist_of, lists_of, row_at, room_at};
 ghost use Rattle.plist_state.specs.Undoing.{list_before};
 ghost use Rattle.plist_state.specs.Kept.{IsProperRow, IsProperRows, IsProperChange, IsWider};
@@ -32,30 +33,30 @@ fn place_of(row: &[Property], indicator: &Symbol) -> Option<usize>
         .position(|property| is_same(indicator, &property.indicator))
 }
 
-/// The properties of a symbol.
-pub(crate) fn row<'a>(rows: &'a BTreeMap<Symbol, Vec<Property>>, symbol: &Symbol) -> &'a [Property]
+/// The properties of the symbol of a number.
+pub(crate) fn row<'a>(rows: &'a BTreeMap<u32, Vec<Property>>, number: u32) -> &'a [Property]
     requires { IsProperRows rows.now.entries }
-    ensures list { map property_of result.now ≡ list_at (lists_of rows.now) (symbol_of symbol.now) }
+    ensures list { map property_of result.now ≡ row_of (lists_of rows.now) number }
     ensures proper { All (λ p. is_proper p.value ≡ true) result.now }
 {
-    match rows.get(symbol) {
+    match rows.get(&number) {
         Some(row) => row.as_slice(),
         None => &[],
     }
 }
 
-/// The value beside an indicator in the property list of a symbol.
+/// The value beside an indicator in the property list of the symbol of a number.
 pub(crate) fn value<'a>(
-    rows: &'a BTreeMap<Symbol, Vec<Property>>,
-    symbol: &Symbol,
+    rows: &'a BTreeMap<u32, Vec<Property>>,
+    number: u32,
     indicator: &Symbol,
 ) -> Option<&'a Datum>
     requires { IsProperRows rows.now.entries }
     ensures value { option_map (λ d. object_of d.now) result
-        ≡ value_at (list_at (lists_of rows.now) (symbol_of symbol.now)) (symbol_of indicator.now) }
+        ≡ value_at (row_of (lists_of rows.now) number) (symbol_of indicator.now) }
     ensures proper { IfSome result (λ d. is_proper d.now ≡ true) }
 {
-    let row = row(rows, symbol);
+    let row = row(rows, number);
     match place_of(row, indicator) {
         Some(place) => Some(&row[place].value),
         None => None,
@@ -133,48 +134,44 @@ fn revert(row: &mut Vec<Property>, change: PropertyChange)
     }
 }
 
-// An empty row for a symbol that has none.
+// An empty row for a number that has none.
 fn add_row(
     alloc: Global,
-    rows: &mut BTreeMap<Symbol, Vec<Property>>,
-    symbol: &Symbol,
+    rows: &mut BTreeMap<u32, Vec<Property>>,
+    number: u32,
 ) -> Result<(), AllocError>
-    ensures there { OnOk result (IsSome (row_at rows.new.entries (symbol_of symbol.now))) }
+    ensures there { OnOk result (IsSome (row_at rows.new.entries number)) }
     ensures same { lists_of rows.new ≡ lists_of rows.old }
     ensures wider { IsWider rows.old.entries rows.new.entries }
 {
-    if rows.contains_key(symbol) {
+    if rows.contains_key(&number) {
         return Ok(());
     }
-    let symbol = symbol.copy(alloc)?;
     // Most symbols have one property.
     let row = Vec::with_capacity(alloc, 1)?;
-    match rows.insert(symbol, row) {
+    match rows.insert(number, row) {
         Ok(_) => Ok(()),
         Err(_) => Err(AllocError),
     }
 }
 
-// Sets the value beside an indicator of a symbol that has a row.
+// Sets the value beside an indicator in the row of a number, which is there.
 fn write_at(
-    rows: &mut BTreeMap<Symbol, Vec<Property>>,
-    symbol: &Symbol,
+    rows: &mut BTreeMap<u32, Vec<Property>>,
+    number: u32,
     indicator: Symbol,
     value: Datum,
 ) -> Result<PropertyChange, AllocError>
     requires proper { is_proper value ≡ true }
-    requires row { IsSome (row_at rows.old.entries (symbol_of symbol.now)) }
+    requires row { IsSome (row_at rows.old.entries number) }
     requires values { IsProperRows rows.old.entries }
-    ensures ok { let x = symbol_of symbol.now in
-        IfOk result (λ _. lists_of rows.new ≡ with_list (lists_of rows.old) x
-        (with_value (list_at (lists_of rows.old) x) (symbol_of indicator) (object_of value))) }
-    ensures back { let x = symbol_of symbol.now in
-        IfOk result (λ change. list_before change (list_at (lists_of rows.new) x) ≡ list_at (lists_of rows.old) x) }
+    ensures ok { IfOk result (λ _. lists_of rows.new ≡ with_row (lists_of rows.old) number (with_value (row_of (lists_of rows.old) number) (symbol_of indicator) (object_of value))) }
+    ensures back { IfOk result (λ change. list_before change (row_of (lists_of rows.new) number) ≡ row_of (lists_of rows.old) number) }
     ensures former { IfOk result IsProperChange }
     ensures wider { IsWider rows.old.entries rows.new.entries }
     ensures err { OnErr result (lists_of rows.new ≡ lists_of rows.old) }
 {
-    let Some(row) = rows.get_mut(symbol) else {
+    let Some(row) = rows.get_mut(&number) else {
         unreachable!()
     };
     match write(row, indicator, value) {
@@ -183,64 +180,57 @@ fn write_at(
     }
 }
 
-/// Sets the value beside an indicator of a symbol, in its place or last.
+/// Sets the value beside an indicator of the symbol of a number, in its place or last.
 pub(crate) fn put(
     alloc: Global,
-    rows: &mut BTreeMap<Symbol, Vec<Property>>,
-    symbol: &Symbol,
+    rows: &mut BTreeMap<u32, Vec<Property>>,
+    number: u32,
     indicator: Symbol,
     value: Datum,
 ) -> Result<PropertyChange, AllocError>
     requires proper { is_proper value ≡ true }
     requires values { IsProperRows rows.old.entries }
-    ensures ok { let x = symbol_of symbol.now in
-        IfOk result (λ _. lists_of rows.new ≡ with_list (lists_of rows.old) x
-        (with_value (list_at (lists_of rows.old) x) (symbol_of indicator) (object_of value))) }
-    ensures back { let x = symbol_of symbol.now in
-        IfOk result (λ change. list_before change (list_at (lists_of rows.new) x) ≡ list_at (lists_of rows.old) x) }
+    ensures ok { IfOk result (λ _. lists_of rows.new ≡ with_row (lists_of rows.old) number (with_value (row_of (lists_of rows.old) number) (symbol_of indicator) (object_of value))) }
+    ensures back { IfOk result (λ change. list_before change (row_of (lists_of rows.new) number) ≡ row_of (lists_of rows.old) number) }
     ensures former { IfOk result IsProperChange }
     ensures wider { IsWider rows.old.entries rows.new.entries }
     ensures err { OnErr result (lists_of rows.new ≡ lists_of rows.old) }
 {
-    add_row(alloc, rows, symbol)?;
-    write_at(rows, symbol, indicator, value)
+    add_row(alloc, rows, number)?;
+    write_at(rows, number, indicator, value)
 }
 
-/// Takes the property of an indicator out of the list of a symbol, if it is there.
+/// Takes the property of an indicator out of the list of the symbol of a number, if it is there.
 pub(crate) fn remove(
-    rows: &mut BTreeMap<Symbol, Vec<Property>>,
-    symbol: &Symbol,
+    rows: &mut BTreeMap<u32, Vec<Property>>,
+    number: u32,
     indicator: &Symbol,
 ) -> Option<PropertyChange>
     requires values { IsProperRows rows.old.entries }
-    ensures after { let x = symbol_of symbol.now in
-        lists_of rows.new ≡ with_list (lists_of rows.old) x (without_value (list_at (lists_of rows.old) x) (symbol_of indicator.now)) }
-    ensures had { is_some result ≡ is_some (value_at (list_at (lists_of rows.old) (symbol_of symbol.now)) (symbol_of indicator.now)) }
-    ensures back { let x = symbol_of symbol.now in
-        IfSome result (λ change. list_before change (list_at (lists_of rows.new) x) ≡ list_at (lists_of rows.old) x) }
+    ensures after { lists_of rows.new ≡ with_row (lists_of rows.old) number (without_value (row_of (lists_of rows.old) number) (symbol_of indicator.now)) }
+    ensures had { is_some result ≡ is_some (value_at (row_of (lists_of rows.old) number) (symbol_of indicator.now)) }
+    ensures back { IfSome result (λ change. list_before change (row_of (lists_of rows.new) number) ≡ row_of (lists_of rows.old) number) }
     ensures former { IfSome result IsProperChange }
     ensures wider { IsWider rows.old.entries rows.new.entries }
 {
-    match rows.get_mut(symbol) {
+    match rows.get_mut(&number) {
         Some(row) => cut(row, indicator),
         None => None,
     }
 }
 
-/// Takes a change of the property list of a symbol back. There is memory for what it was.
+/// Takes a change of the property list of the symbol of a number back. There is memory for what it was.
 pub(crate) fn take_back(
-    rows: &mut BTreeMap<Symbol, Vec<Property>>,
-    symbol: &Symbol,
+    rows: &mut BTreeMap<u32, Vec<Property>>,
+    number: u32,
     change: PropertyChange,
 )
     requires former { IsProperChange change }
-    requires room { let x = symbol_of symbol.now in
-        length (list_before change (list_at (lists_of rows.old) x)) ≤ room_at rows.old.entries x }
-    ensures after { let x = symbol_of symbol.now in
-        lists_of rows.new ≡ with_list (lists_of rows.old) x (list_before change (list_at (lists_of rows.old) x)) }
+    requires room { length (list_before change (row_of (lists_of rows.old) number)) ≤ room_at rows.old.entries number }
+    ensures after { lists_of rows.new ≡ with_row (lists_of rows.old) number (list_before change (row_of (lists_of rows.old) number)) }
     ensures wider { IsWider rows.old.entries rows.new.entries }
 {
-    if let Some(row) = rows.get_mut(symbol) {
+    if let Some(row) = rows.get_mut(&number) {
         revert(row, change);
     }
 }

@@ -2,9 +2,10 @@
 ghost use Rattle.std.specs.Prelude.{◌≡◌, ◌≢◌, ◌≤◌, true, Ok, Err, is_some, IfOk, IfErr, OnOk, OnErr};
 ghost use Rattle.std.specs.FinMap as finite;
 ghost use Rattle.lisp_object.specs.Datum.{object_of, is_proper};
-ghost use Rattle.plist_state.specs.Properties.{list_at, with_list, with_value, without_value, value_at};
-ghost use Rattle.plist_state.specs.State.{first_rest, first_readtables};
-ghost use Rattle.plist_state.specs.Shown.{symbol_of, rest_of, readtables_of};
+ghost use Rattle.plist_state.specs.Properties.{with_value, without_value, value_at};
+ghost use Rattle.plist_state.specs.State.{first_readtables};
+ghost use Rattle.plist_state.specs.Lists.{row_of, with_row};
+ghost use Rattle.plist_state.specs.Shown.{symbol_of, first_numbered, rest_of, readtables_of};
 ghost use Rattle.plist_state.specs.Kept.{IsProperRows, IsWider};
 ghost use Rattle.plist_state.specs.Journal.{marks_of, Continues};
 
@@ -18,11 +19,11 @@ use readtable_core::Readtable;
 use std::alloc::{AllocError, Global};
 use std::collections::BTreeMap;
 
-/// A row of properties for each symbol that ever had one, the readtables by name, and the two current names. A row that was
-/// emptied stays, so that to go back takes no memory: the symbol has no property list then.
+/// A row of properties for each symbol that ever had one, by its number, the readtables by name, and the two current names.
+/// A row that was emptied stays, so that to go back takes no memory: the symbol has no property list then.
 #[derive(Drop)]
 pub(crate) struct Stored {
-    pub(crate) properties: BTreeMap<Symbol, Vec<Property>>,
+    pub(crate) properties: BTreeMap<u32, Vec<Property>>,
     pub(crate) readtables: BTreeMap<Vec<u8>, Readtable>,
     pub(crate) current_package: Vec<u8>,
     pub(crate) current_readtable: Vec<u8>,
@@ -42,7 +43,7 @@ fn first_readtables(alloc: Global) -> Result<BTreeMap<Vec<u8>, Readtable>, Alloc
 
 /// What the first world has besides its packages.
 pub(crate) fn first_stored(alloc: Global) -> Result<Stored, AllocError>
-    ensures first { IfOk result (λ stored. rest_of stored ≡ first_rest) }
+    ensures first { IfOk result (λ stored. rest_of stored ≡ first_numbered) }
     ensures values { IfOk result (λ stored. IsProperRows stored.properties.entries) }
 {
     let readtables = first_readtables(alloc)?;
@@ -54,69 +55,60 @@ pub(crate) fn first_stored(alloc: Global) -> Result<Stored, AllocError>
     })
 }
 
-/// Sets a property, and notes what it overwrote.
+/// Sets a property of the symbol of a number, and notes what it overwrote.
 pub(crate) fn put(
     alloc: Global,
     stored: &mut Stored,
     marks: &mut Vec<Vec<Note>>,
-    symbol: &Symbol,
+    number: u32,
     indicator: Symbol,
     value: Datum,
 ) -> Result<(), AllocError>
     requires proper { is_proper value ≡ true }
     requires values { IsProperRows stored.old.properties.entries }
-    ensures ok { let r = rest_of stored.old in let x = symbol_of symbol.now in
-        OnOk result (rest_of stored.new ≡ record r { properties = with_list r.properties x (with_value (list_at r.properties x) (symbol_of indicator) (object_of value)) }) }
+    ensures ok { let r = rest_of stored.old in
+        OnOk result (rest_of stored.new ≡ record r { properties = with_row r.properties number (with_value (row_of r.properties number) (symbol_of indicator) (object_of value)) }) }
     ensures err { OnErr result (rest_of stored.new ≡ rest_of stored.old) }
     ensures wider { IsWider stored.old.properties.entries stored.new.properties.entries }
     ensures marked { Continues (marks_of marks.old.items) (rest_of stored.old) (marks_of marks.new.items) (rest_of stored.new) }
 {
-    let noted = symbol.copy(alloc)?;
     reserve_note(marks)?;
-    let Ok(change) = rows::put(alloc, &mut stored.properties, symbol, indicator, value) else {
+    let Ok(change) = rows::put(alloc, &mut stored.properties, number, indicator, value) else {
         return Err(AllocError);
     };
     push_note(
         marks,
-        Note::Property {
-            symbol: noted,
-            change,
-        },
+        Note::Property { number, change },
     );
     Ok(())
 }
 
-/// Removes a property, notes it, and answers whether it was there.
+/// Removes a property of the symbol of a number, notes it, and answers whether it was there.
 pub(crate) fn remove(
-    alloc: Global,
     stored: &mut Stored,
     marks: &mut Vec<Vec<Note>>,
-    symbol: &Symbol,
+    number: u32,
     indicator: &Symbol,
 ) -> Result<bool, AllocError>
     requires { IsProperRows stored.old.properties.entries }
-    ensures ok { let r = rest_of stored.old in let x = symbol_of symbol.now in
-        OnOk result (rest_of stored.new ≡ record r { properties = with_list r.properties x (without_value (list_at r.properties x) (symbol_of indicator.now)) }) }
-    ensures had { IfOk result (λ had. had ≡ is_some (value_at (list_at (rest_of stored.old).properties (symbol_of symbol.now)) (symbol_of indicator.now))) }
-    ensures absent { OnErr result (is_some (value_at (list_at (rest_of stored.old).properties (symbol_of symbol.now)) (symbol_of indicator.now)) ≡ true) }
+    ensures ok { let r = rest_of stored.old in
+        OnOk result (rest_of stored.new ≡ record r { properties = with_row r.properties number (without_value (row_of r.properties number) (symbol_of indicator.now)) }) }
+    ensures had { IfOk result (λ had. had ≡ is_some (value_at (row_of (rest_of stored.old).properties number) (symbol_of indicator.now))) }
+    ensures absent { OnErr result (is_some (value_at (row_of (rest_of stored.old).properties number) (symbol_of indicator.now)) ≡ true) }
     ensures err { OnErr result (rest_of stored.new ≡ rest_of stored.old) }
     ensures wider { IsWider stored.old.properties.entries stored.new.properties.entries }
     ensures marked { Continues (marks_of marks.old.items) (rest_of stored.old) (marks_of marks.new.items) (rest_of stored.new) }
 {
-    if rows::value(&stored.properties, symbol, indicator).is_none() {
+    if rows::value(&stored.properties, number, indicator).is_none() {
         return Ok(false);
     }
-    let noted = symbol.copy(alloc)?;
     reserve_note(marks)?;
-    let Some(change) = rows::remove(&mut stored.properties, symbol, indicator) else {
+    let Some(change) = rows::remove(&mut stored.properties, number, indicator) else {
         unreachable!()
     };
     push_note(
         marks,
-        Note::Property {
-            symbol: noted,
-            change,
-        },
+        Note::Property { number, change },
     );
     Ok(true)
 }

@@ -9,8 +9,7 @@ ghost use Rattle.plist_state.specs.declared.error.ReadtableError.TheVariants.{Ou
 ghost use Rattle.plist_state.specs.declared.note.TableChange.TheVariants.{Over, Character};
 ghost use Rattle.plist_state.specs.declared.note.Note.TheVariants.{Made, Changed};
 ghost use Rattle.plist_state.specs.Changes.{writable, with_case, with_macro, with_dispatching, with_dispatch, with_syntax, with_copy, refused_as, Gives};
-ghost use Rattle.plist_state.specs.State.{Rest};
-ghost use Rattle.plist_state.specs.Shown.{readtables_of};
+ghost use Rattle.plist_state.specs.Shown.{NumberedRest, readtables_of};
 ghost use Rattle.plist_state.specs.Undoing.{table_before, tables_before};
 ghost use Rattle.plist_state.specs.Journal.{marks_of, IsTableChange, Continues};
 
@@ -113,7 +112,7 @@ pub(crate) fn set_case(
 ) -> Result<(), ReadtableError>
     ensures gives { Gives (λ _. readtables_of tables.new) result (with_case (readtables_of tables.old) name.now letters) }
     ensures unchanged { IfErr result (λ _. readtables_of tables.new ≡ readtables_of tables.old) }
-    ensures marked { (r : Rest) → Continues (marks_of marks.old.items) (record r { readtables = readtables_of tables.old })
+    ensures marked { (r : NumberedRest) → Continues (marks_of marks.old.items) (record r { readtables = readtables_of tables.old })
         (marks_of marks.new.items) (record r { readtables = readtables_of tables.new }) }
 {
     check_writable(tables, name)?;
@@ -147,7 +146,7 @@ pub(crate) fn set_macro(
     requires name { IsFalse (is_dispatch_name function) }
     ensures gives { Gives (λ _. readtables_of tables.new) result (with_macro (readtables_of tables.old) name.now c function non_terminating) }
     ensures unchanged { IfErr result (λ _. readtables_of tables.new ≡ readtables_of tables.old) }
-    ensures marked { (r : Rest) → Continues (marks_of marks.old.items) (record r { readtables = readtables_of tables.old })
+    ensures marked { (r : NumberedRest) → Continues (marks_of marks.old.items) (record r { readtables = readtables_of tables.old })
         (marks_of marks.new.items) (record r { readtables = readtables_of tables.new }) }
 {
     check_writable(tables, name)?;
@@ -173,7 +172,7 @@ pub(crate) fn make_dispatch(
     requires { c < 128 }
     ensures gives { Gives (λ _. readtables_of tables.new) result (with_dispatching (readtables_of tables.old) name.now c non_terminating) }
     ensures unchanged { IfErr result (λ _. readtables_of tables.new ≡ readtables_of tables.old) }
-    ensures marked { (r : Rest) → Continues (marks_of marks.old.items) (record r { readtables = readtables_of tables.old })
+    ensures marked { (r : NumberedRest) → Continues (marks_of marks.old.items) (record r { readtables = readtables_of tables.old })
         (marks_of marks.new.items) (record r { readtables = readtables_of tables.new }) }
 {
     check_writable(tables, name)?;
@@ -204,7 +203,7 @@ pub(crate) fn set_dispatch(
     requires name { IsFalse (is_dispatch_name function) }
     ensures gives { Gives (λ _. readtables_of tables.new) result (with_dispatch (readtables_of tables.old) name.now c sub function) }
     ensures unchanged { IfErr result (λ _. readtables_of tables.new ≡ readtables_of tables.old) }
-    ensures marked { (r : Rest) → Continues (marks_of marks.old.items) (record r { readtables = readtables_of tables.old })
+    ensures marked { (r : NumberedRest) → Continues (marks_of marks.old.items) (record r { readtables = readtables_of tables.old })
         (marks_of marks.new.items) (record r { readtables = readtables_of tables.new }) }
 {
     check_writable(tables, name)?;
@@ -254,7 +253,7 @@ pub(crate) fn set_syntax(
     requires from { d < 128 }
     ensures gives { Gives (λ _. readtables_of tables.new) result (with_syntax (readtables_of tables.old) to.now c from.now d) }
     ensures unchanged { IfErr result (λ _. readtables_of tables.new ≡ readtables_of tables.old) }
-    ensures marked { (r : Rest) → Continues (marks_of marks.old.items) (record r { readtables = readtables_of tables.old })
+    ensures marked { (r : NumberedRest) → Continues (marks_of marks.old.items) (record r { readtables = readtables_of tables.old })
         (marks_of marks.new.items) (record r { readtables = readtables_of tables.new }) }
 {
     if table(tables, from).is_none() {
@@ -278,7 +277,7 @@ pub(crate) fn copy(
 ) -> Result<(), ReadtableError>
     ensures gives { Gives (λ _. readtables_of tables.new) result (with_copy (readtables_of tables.old) from.now to.now) }
     ensures unchanged { IfErr result (λ _. readtables_of tables.new ≡ readtables_of tables.old) }
-    ensures marked { (r : Rest) → Continues (marks_of marks.old.items) (record r { readtables = readtables_of tables.old })
+    ensures marked { (r : NumberedRest) → Continues (marks_of marks.old.items) (record r { readtables = readtables_of tables.old })
         (marks_of marks.new.items) (record r { readtables = readtables_of tables.new }) }
 {
     check_copy(tables, from, to)?;

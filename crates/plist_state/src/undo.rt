@@ -17,8 +17,8 @@ fn undo(stored: &mut Stored, note: Note)
     ensures wider { IsWider stored.old.properties.entries stored.new.properties.entries }
 {
     match note {
-        Note::Property { symbol, change } => {
-            rows::take_back(&mut stored.properties, &symbol, change);
+        Note::Property { number, change } => {
+            rows::take_back(&mut stored.properties, number, change);
         }
         Note::Made(name) => tables::remove(&mut stored.readtables, name.as_slice()),
         Note::Changed { name, change } => {

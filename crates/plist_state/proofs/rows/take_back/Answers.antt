@@ -1,40 +1,41 @@
 use Rattle.std.proofs.Common.{◌≡◌, ◌≤◌, [], ◌∷◌, length, refl, sym, ap, ◌∙◌, arith}
 use Rattle.std.specs.Prelude.{vec_capacity}
-use Rattle.plist_state.specs.Properties.{Plist, list_at}
-use Rattle.plist_state.specs.Shown.{symbol_of, plist_of, lists_of, lists_in, room_at}
+use Rattle.plist_state.specs.Properties.{Plist}
+use Rattle.plist_state.specs.Lists.{row_of}
+use Rattle.plist_state.specs.Shown.{plist_of, lists_of, lists_in, room_at}
 use Rattle.plist_state.specs.Undoing.{list_before}
-use Rattle.plist_state.proofs.Lists.{written, lists_made, row_shown, none_shown, room_shown, no_room, with_list_same, some_in}
+use Rattle.plist_state.proofs.ListRows.{written, lists_made, row_shown, none_shown, room_shown, no_room, with_row_same, some_in}
 use Rattle.plist_state.proofs.rows.take_back.Goals as goal
 
 pub revert-requires-clause-room : goal.revert-requires-clause-room
 revert-requires-clause-room c =
     let rows = c.args.rows.now.entries in
-    let x = c.args.symbol.now in
-    let list : length (list_before c.args.change (list_at (lists_in rows) (symbol_of x))) ≡ length (list_before c.args.change (plist_of c.in-Some.row.now)) =
+    let x = c.args.number in
+    let list : length (list_before c.args.change (row_of (lists_in rows) x)) ≡ length (list_before c.args.change (plist_of c.in-Some.row.now)) =
     ap (λ ps. length (list_before c.args.change ps)) (row_shown rows x c.in-Some.row.now c.in-Some.ensures.value) in
-    let room : room_at rows (symbol_of x) ≡ vec_capacity c.in-Some.row.now = room_shown rows x c.in-Some.row.now c.in-Some.ensures.value in
-    let fits : length (list_before c.args.change (list_at (lists_in rows) (symbol_of x))) ≤ room_at rows (symbol_of x) = c.requires.room in
+    let room : room_at rows x ≡ vec_capacity c.in-Some.row.now = room_shown rows x c.in-Some.row.now c.in-Some.ensures.value in
+    let fits : length (list_before c.args.change (row_of (lists_in rows) x)) ≤ room_at rows x = c.requires.room in
     omega (arith, list, room, fits)
 
 pub returns-in-Some-clause-after : goal.returns-in-Some-clause-after
 returns-in-Some-clause-after c =
-    lists_made c.args.rows.now.entries _ c.args.symbol.now c.in-Some.row.now c.revert.new.row c.in-Some.ensures.value (c.get_mut.follows.holds c.revert.new.row).0 c.revert.ensures.room c.revert.ensures.values
+    lists_made c.args.rows.now.entries _ c.args.number c.in-Some.row.now c.revert.new.row c.in-Some.ensures.value (c.get_mut.follows.holds c.revert.new.row).0 c.revert.ensures.room c.revert.ensures.values
     (list_before c.args.change) c.revert.ensures.after
 
 pub returns-in-Some-clause-wider : goal.returns-in-Some-clause-wider
 returns-in-Some-clause-wider c =
-    (written c.args.rows.now.entries _ c.args.symbol.now c.in-Some.row.now c.revert.new.row c.in-Some.ensures.value (c.get_mut.follows.holds c.revert.new.row).0 c.revert.ensures.room c.revert.ensures.values).wider
+    (written c.args.rows.now.entries _ c.args.number c.in-Some.row.now c.revert.new.row c.in-Some.ensures.value (c.get_mut.follows.holds c.revert.new.row).0 c.revert.ensures.room c.revert.ensures.values).wider
 
 pub returns-in_default-clause-after : goal.returns-in_default-clause-after
 returns-in_default-clause-after c =
     let rows = c.args.rows.now.entries in
-    let x = symbol_of c.args.symbol.now in
-    let none : list_at (lists_in rows) x ≡ [] = none_shown rows c.args.symbol.now c.in_default.ensures.value in
-    let room : room_at rows x ≡ 0 = no_room rows c.args.symbol.now c.in_default.ensures.value in
-    let fits : length (list_before c.args.change (list_at (lists_in rows) x)) ≤ room_at rows x = c.requires.room in
-    let empty : list_before c.args.change (list_at (lists_in rows) x) ≡ [] = no_items _ (omega (arith, room, fits)) in
+    let x = c.args.number in
+    let none : row_of (lists_in rows) x ≡ [] = none_shown rows c.args.number c.in_default.ensures.value in
+    let room : room_at rows x ≡ 0 = no_room rows c.args.number c.in_default.ensures.value in
+    let fits : length (list_before c.args.change (row_of (lists_in rows) x)) ≤ room_at rows x = c.requires.room in
+    let empty : list_before c.args.change (row_of (lists_in rows) x) ≡ [] = no_items _ (omega (arith, room, fits)) in
     ap lists_of c.get_mut.follows.holds-at-none
-    ∙ sym (with_list_same (lists_in rows) x _ (some_in rows) (empty ∙ sym none))
+    ∙ sym (with_row_same (lists_in rows) x _ (some_in rows) (empty ∙ sym none))
   where
     no_items : (ps : Plist) → length ps ≤ 0 → ps ≡ []
     no_items [] h = refl

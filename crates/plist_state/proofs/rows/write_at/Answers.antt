@@ -5,39 +5,39 @@ use Rattle.lisp_object.specs.Datum.{object_of}
 use Rattle.plist_state.specs.Properties.{with_value}
 use Rattle.plist_state.specs.Shown.{symbol_of, property_of, plist_of}
 use Rattle.plist_state.specs.Undoing.{list_before}
-use Rattle.plist_state.proofs.Lists.{written, lists_made, list_now, written_same, row_is, row_shown, proper_shown}
+use Rattle.plist_state.proofs.ListRows.{written, lists_made, list_now, written_same, row_shown, proper_shown}
 use Rattle.plist_state.proofs.rows.write_at.Goals as goal
 
 pub unreachable-requires : goal.unreachable-requires
 unreachable-requires c =
-    absurd (false≢true (subst (λ o. IsSome o) (row_is c.args.symbol.now c.args.rows.now.entries ∙ sym c.in_default.ensures.value) c.requires.row))
+    absurd (false≢true (subst (λ o. IsSome o) (sym c.in_default.ensures.value) c.requires.row))
 
 pub returns-in-Ok-clause-ok : goal.returns-in-Ok-clause-ok
 returns-in-Ok-clause-ok c =
-    lists_made c.args.rows.now.entries _ c.args.symbol.now c.in-Some.row.now c.write.new.row c.in-Some.ensures.value (c.get_mut.follows.holds c.write.new.row).0 c.write.ensures.room c.write.ensures.values
+    lists_made c.args.rows.now.entries _ c.args.number c.in-Some.row.now c.write.new.row c.in-Some.ensures.value (c.get_mut.follows.holds c.write.new.row).0 c.write.ensures.room c.write.ensures.values
     (λ ps. with_value ps (symbol_of c.args.indicator) (object_of c.args.value)) c.in-Ok.ensures.ok
 
 pub returns-in-Ok-clause-back : goal.returns-in-Ok-clause-back
 returns-in-Ok-clause-back c =
     ap (list_before c.in-Ok.change)
-    (list_now c.args.rows.now.entries _ c.args.symbol.now c.in-Some.row.now c.write.new.row c.in-Some.ensures.value (c.get_mut.follows.holds c.write.new.row).0 c.write.ensures.room c.write.ensures.values)
+    (list_now c.args.rows.now.entries _ c.args.number c.in-Some.row.now c.write.new.row c.in-Some.ensures.value (c.get_mut.follows.holds c.write.new.row).0 c.write.ensures.room c.write.ensures.values)
     ∙ c.in-Ok.ensures.back
-    ∙ sym (row_shown c.args.rows.now.entries c.args.symbol.now c.in-Some.row.now c.in-Some.ensures.value)
+    ∙ sym (row_shown c.args.rows.now.entries c.args.number c.in-Some.row.now c.in-Some.ensures.value)
 
 pub returns-in-Ok-clause-former : goal.returns-in-Ok-clause-former
 returns-in-Ok-clause-former c =
-    c.in-Ok.ensures.former (proper_shown c.args.rows.now.entries c.args.symbol.now c.in-Some.row.now c.in-Some.ensures.value c.requires.values)
+    c.in-Ok.ensures.former (proper_shown c.args.rows.now.entries c.args.number c.in-Some.row.now c.in-Some.ensures.value c.requires.values)
 
 pub returns-in-Ok-clause-wider : goal.returns-in-Ok-clause-wider
 returns-in-Ok-clause-wider c =
-    (written c.args.rows.now.entries _ c.args.symbol.now c.in-Some.row.now c.write.new.row c.in-Some.ensures.value (c.get_mut.follows.holds c.write.new.row).0 c.write.ensures.room c.write.ensures.values).wider
+    (written c.args.rows.now.entries _ c.args.number c.in-Some.row.now c.write.new.row c.in-Some.ensures.value (c.get_mut.follows.holds c.write.new.row).0 c.write.ensures.room c.write.ensures.values).wider
 
 pub returns-in-Err-clause-wider : goal.returns-in-Err-clause-wider
 returns-in-Err-clause-wider c =
-    (written c.args.rows.now.entries _ c.args.symbol.now c.in-Some.row.now c.write.new.row c.in-Some.ensures.value (c.get_mut.follows.holds c.write.new.row).0 c.write.ensures.room c.write.ensures.values).wider
+    (written c.args.rows.now.entries _ c.args.number c.in-Some.row.now c.write.new.row c.in-Some.ensures.value (c.get_mut.follows.holds c.write.new.row).0 c.write.ensures.room c.write.ensures.values).wider
 
 pub returns-in-Err-clause-err : goal.returns-in-Err-clause-err
 returns-in-Err-clause-err c =
-    written_same c.args.rows.now.entries _ (symbol_of c.args.symbol.now) (plist_of c.write.new.row)
-    (written c.args.rows.now.entries _ c.args.symbol.now c.in-Some.row.now c.write.new.row c.in-Some.ensures.value (c.get_mut.follows.holds c.write.new.row).0 c.write.ensures.room c.write.ensures.values)
-    (ap (λ xs. map property_of xs) c.in-Err.ensures.err ∙ sym (row_shown c.args.rows.now.entries c.args.symbol.now c.in-Some.row.now c.in-Some.ensures.value))
+    written_same c.args.rows.now.entries _ c.args.number (plist_of c.write.new.row)
+    (written c.args.rows.now.entries _ c.args.number c.in-Some.row.now c.write.new.row c.in-Some.ensures.value (c.get_mut.follows.holds c.write.new.row).0 c.write.ensures.room c.write.ensures.values)
+    (ap (λ xs. map property_of xs) c.in-Err.ensures.err ∙ sym (row_shown c.args.rows.now.entries c.args.number c.in-Some.row.now c.in-Some.ensures.value))

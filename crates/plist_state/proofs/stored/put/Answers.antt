@@ -1,4 +1,4 @@
-use Rattle.plist_state.specs.Shown.{symbol_of, rest_of}
+use Rattle.plist_state.specs.Shown.{rest_of}
 use Rattle.plist_state.specs.Journal.{marks_of}
 use Rattle.plist_state.proofs.Notes.{property_noted}
 use Rattle.plist_state.proofs.stored.put.Goals as goal
@@ -6,6 +6,6 @@ use Rattle.plist_state.proofs.stored.put.Goals as goal
 pub returns-clause-marked : goal.returns-clause-marked
 returns-clause-marked c =
     property_noted (marks_of c.args.marks.now.items) _ (marks_of c.push_note.new.marks.items) c.in_ok-reserve_note.ensures.same
-    c.in_ok-noted.noted c.in-Ok.change c.push_note.ensures c.in-Ok.ensures.former
-    (rest_of c.args.stored.now) c.args.stored.now.properties.entries c.put.new.rows.entries (symbol_of c.args.symbol.now) _
-    c.in_ok-noted.ensures c.in-Ok.ensures.ok c.in-Ok.ensures.back
+    c.args.number c.in-Ok.change c.push_note.ensures c.in-Ok.ensures.former
+    (rest_of c.args.stored.now) c.args.stored.now.properties.entries c.put.new.rows.entries _
+    c.in-Ok.ensures.ok c.in-Ok.ensures.back

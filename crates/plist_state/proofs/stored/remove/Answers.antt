@@ -1,25 +1,27 @@
-use Rattle.std.proofs.Common.{◌≡◌, false, is_some, rules, ap, sym}
+use Rattle.std.proofs.Common.{◌≡◌, ℕ, false, is_some, rules, ap, sym}
 use Rattle.plist_state.specs.Properties as properties
-use Rattle.plist_state.specs.Properties.{Properties, without_value, list_at}
+use Rattle.plist_state.specs.Properties.{without_value}
+use Rattle.plist_state.specs.Lists.{NumberedLists, row_of}
 use Rattle.plist_state.specs.Shown.{Rows, symbol_of, rest_of, lists_in}
 use Rattle.plist_state.specs.Journal.{marks_of}
 use Rattle.plist_state.proofs.Notes.{property_noted}
-use Rattle.plist_state.proofs.Lists.{without-absent, with_list_same, some_in, none_shown_as}
+use Rattle.plist_state.proofs.Lists.{without-absent, none_shown_as}
+use Rattle.plist_state.proofs.ListRows.{with_row_same, some_in}
 use Rattle.plist_state.proofs.stored.remove.Goals as goal
 
 pub returns-then-is_none-clause-ok : goal.returns-then-is_none-clause-ok
 returns-then-is_none-clause-ok c =
     let rows : Rows = c.args.stored.now.properties.entries in
-    let x : properties.Symbol = symbol_of c.args.symbol.now in
+    let x : ℕ = c.args.number in
     let i : properties.Symbol = symbol_of c.args.indicator.now in
     let none : is_some c.value.result ≡ false = search rules in
-    ap (λ (m : Properties). record (rest_of c.args.stored.now) { properties = m })
-    (sym (with_list_same (lists_in rows) x (without_value (list_at (lists_in rows) x) i) (some_in rows)
-    (without-absent (list_at (lists_in rows) x) i (none_shown_as _ c.value.result _ c.value.ensures.value none))))
+    ap (λ (m : NumberedLists). record (rest_of c.args.stored.now) { properties = m })
+    (sym (with_row_same (lists_in rows) x (without_value (row_of (lists_in rows) x) i) (some_in rows)
+    (without-absent (row_of (lists_in rows) x) i (none_shown_as _ c.value.result _ c.value.ensures.value none))))
 
 pub returns-clause-marked : goal.returns-clause-marked
 returns-clause-marked c =
     property_noted (marks_of c.args.marks.now.items) _ (marks_of c.push_note.new.marks.items) c.in_ok-reserve_note.ensures.same
-    c.in_ok-noted.noted c.in-Some.change c.push_note.ensures c.in-Some.ensures.former
-    (rest_of c.args.stored.now) c.args.stored.now.properties.entries c.remove.new.rows.entries (symbol_of c.args.symbol.now) _
-    c.in_ok-noted.ensures c.in-Some.ensures.after c.in-Some.ensures.back
+    c.args.number c.in-Some.change c.push_note.ensures c.in-Some.ensures.former
+    (rest_of c.args.stored.now) c.args.stored.now.properties.entries c.remove.new.rows.entries _
+    c.in-Some.ensures.after c.in-Some.ensures.back

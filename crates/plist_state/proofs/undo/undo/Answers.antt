@@ -1,14 +1,15 @@
 use Rattle.std.proofs.Common.{◌≤◌, length, subst}
-use Rattle.plist_state.specs.Properties.{Plist, list_at}
-use Rattle.plist_state.specs.Shown.{symbol_of, rest_of, lists_of, room_at}
+use Rattle.plist_state.specs.Properties.{Plist}
+use Rattle.plist_state.specs.Lists.{row_of}
+use Rattle.plist_state.specs.Shown.{rest_of, lists_of, room_at}
 use Rattle.plist_state.specs.Undoing.{list_before, undone}
 use Rattle.plist_state.specs.Journal.{Fits}
-use Rattle.plist_state.proofs.Lists.{list-with_list}
+use Rattle.plist_state.proofs.ListRows.{row-with_row}
 use Rattle.plist_state.proofs.undo.undo.Goals as goal
 
 pub take_back-requires-clause-room : goal.take_back-requires-clause-room
 take_back-requires-clause-room c =
     let rows = c.args.stored.now.properties in
-    let x = symbol_of c.in-Property.symbol in
-    subst (λ (ps : Plist). length ps ≤ room_at rows.entries x) (list-with_list (lists_of rows) x (list_before c.in-Property.change (list_at (lists_of rows) x)))
+    let x = c.in-Property.number in
+    subst (λ (ps : Plist). length ps ≤ room_at rows.entries x) (row-with_row (lists_of rows) x (list_before c.in-Property.change (row_of (lists_of rows) x)))
     (subst (λ note. Fits rows.entries (undone note (rest_of c.args.stored.now))) c.in-Property.is c.requires.room x)

@@ -1,27 +1,26 @@
 use Rattle.std.proofs.Common.{ap, sym, subst, ◌∙◌}
-use Rattle.plist_state.specs.Shown.{Rows, rest_of}
-use Rattle.plist_state.specs.State.{Rest}
+use Rattle.plist_state.specs.Shown.{NumberedRest, Rows, rest_of}
 use Rattle.plist_state.specs.Undoing.{undone, all_undone}
 use Rattle.plist_state.specs.Journal.{IsNoted, Fits, LeadsBack}
-use Rattle.plist_state.proofs.Lists.{wider_both}
+use Rattle.plist_state.proofs.ListRows.{wider_both}
 use Rattle.plist_state.proofs.Notes.{all_push, leads_pop, leads_wider}
 use Rattle.plist_state.proofs.undo.undo_all.Goals as goal
 
 pub undo-requires-clause-note : goal.undo-requires-clause-note
 undo-requires-clause-note c =
-    let r : Rest = rest_of c.loop-note.stored in
+    let r : NumberedRest = rest_of c.loop-note.stored in
     let rows : Rows = c.loop-note.stored.properties.entries in
     (leads_pop c.pop.new.self.items c.in-Some.note r rows (subst (λ ns. LeadsBack ns r rows) c.in-Some.ensures.items c.loop-note.invariant.1)).0
 
 pub undo-requires-clause-room : goal.undo-requires-clause-room
 undo-requires-clause-room c =
-    let r : Rest = rest_of c.loop-note.stored in
+    let r : NumberedRest = rest_of c.loop-note.stored in
     let rows : Rows = c.loop-note.stored.properties.entries in
     (leads_pop c.pop.new.self.items c.in-Some.note r rows (subst (λ ns. LeadsBack ns r rows) c.in-Some.ensures.items c.loop-note.invariant.1)).1
 
 pub loop-note-preserved : goal.loop-note-preserved
 loop-note-preserved c =
-    let r : Rest = rest_of c.loop-note.stored in
+    let r : NumberedRest = rest_of c.loop-note.stored in
     let rows : Rows = c.loop-note.stored.properties.entries in
     let left = c.pop.new.self.items in
     let n = c.in-Some.note in

@@ -2,17 +2,16 @@ use Rattle.std.proofs.Common.{◌≡◌, ◌∷◌, [], ◌+◌, List, length, r
 use Rattle.std.proofs.lemmas.List.{length-append}
 use Rattle.std.specs.Global.{Vec}
 use Rattle.plist_state.specs.declared.note.Note.{Note}
-use Rattle.plist_state.specs.State.{Rest}
-use Rattle.plist_state.specs.Shown.{Rows, rest_of}
+use Rattle.plist_state.specs.Shown.{NumberedRest, Rows, rest_of}
 use Rattle.plist_state.specs.Undoing.{all_undone}
 use Rattle.plist_state.specs.Journal.{marks_of}
-use Rattle.plist_state.proofs.Lists.{wider_both}
+use Rattle.plist_state.proofs.ListRows.{wider_both}
 use Rattle.plist_state.proofs.Notes.{popped, taken, gone_past, gone_to, journal_wider}
 use Rattle.plist_state.proofs.undo.undo_to.Goals as goal
 
 pub undo_all-requires : goal.undo_all-requires
 undo_all-requires c =
-    let t : Rest = rest_of c.loop-newest.stored in
+    let t : NumberedRest = rest_of c.loop-newest.stored in
     (taken c.pop.new.self.items c.in-Some.newest c.loop-newest.marks.items c.in-Some.ensures.items t (all_undone c.in-Some.newest.items t) refl c.loop-newest.stored.properties.entries c.loop-newest.invariant.3).0
 
 pub returns-then-len-mark-clause-past : goal.returns-then-len-mark-clause-past
@@ -28,7 +27,7 @@ returns-then-len-mark-clause-now c =
 pub returns-then-len-mark-clause-journal : goal.returns-then-len-mark-clause-journal
 returns-then-len-mark-clause-journal c =
     let left : List (Vec Note) = c.pop.new.self.items in
-    let u : Rest = rest_of c.undo_all.new.stored in
+    let u : NumberedRest = rest_of c.undo_all.new.stored in
     let rows : Rows = c.loop-newest.stored.properties.entries in
     journal_wider (marks_of left) u rows c.undo_all.new.stored.properties.entries c.undo_all.ensures.wider
     (taken left c.in-Some.newest c.loop-newest.marks.items c.in-Some.ensures.items (rest_of c.loop-newest.stored) u c.undo_all.ensures.after rows c.loop-newest.invariant.3).1
@@ -37,8 +36,8 @@ pub loop-newest-preserved : goal.loop-newest-preserved
 loop-newest-preserved c =
     let left : List (Vec Note) = c.pop.new.self.items in
     let m : Vec Note = c.in-Some.newest in
-    let u : Rest = rest_of c.undo_all.new.stored in
-    let t : Rest = rest_of c.loop-newest.stored in
+    let u : NumberedRest = rest_of c.undo_all.new.stored in
+    let t : NumberedRest = rest_of c.loop-newest.stored in
     let rows : Rows = c.loop-newest.stored.properties.entries in
     let later : Rows = c.undo_all.new.stored.properties.entries in
     let fewer : length c.loop-newest.marks.items ≡ length left + 1 = ap length c.in-Some.ensures.items ∙ length-append left (m ∷ []) in

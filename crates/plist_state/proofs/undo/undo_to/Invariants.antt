@@ -1,6 +1,5 @@
 use Rattle.std.proofs.Common.{◌≡◌, ◌<◌, ◌++◌, List, length}
-use Rattle.plist_state.specs.State.{Rest}
-use Rattle.plist_state.specs.Shown.{rest_of}
+use Rattle.plist_state.specs.Shown.{NumberedRest, rest_of}
 use Rattle.plist_state.specs.Kept.{IsWider}
 use Rattle.plist_state.specs.Undoing.{rests_at}
 use Rattle.plist_state.specs.Journal.{marks_of, IsJournal}
@@ -9,7 +8,7 @@ use Rattle.plist_state.proofs.undo.undo_to.Given as goal
 -- the marks that are left lead to the first of the rests
 abbrev pub invariant-loop-newest : goal.invariant-loop-newest
 invariant-loop-newest l =
-    (rest : List Rest) × (rests_at (marks_of l.initial.marks.items) (rest_of l.initial.stored) ≡ rests_at (marks_of l.marks.items) (rest_of l.stored) ++ rest)
+    (rest : List NumberedRest) × (rests_at (marks_of l.initial.marks.items) (rest_of l.initial.stored) ≡ rests_at (marks_of l.marks.items) (rest_of l.stored) ++ rest)
     × (l.mark < length l.marks.items)
     × IsJournal (marks_of l.marks.items) (rest_of l.stored) l.stored.properties.entries
     × IsWider l.initial.stored.properties.entries l.stored.properties.entries
