@@ -3,7 +3,7 @@
 --     numbers_put      after an entry of a symbol that was there
 --     numbers_new      after a new symbol, whose number is the count
 --     numbers_made, numbers_used      after a package, and after a used package
---     numbers_after, numbers_interned, same_tables      what an answer says
+--     numbers_after, keeps_after, numbers_interned, keeps_interned, same_tables      what an answer says
 use Rattle.std.proofs.Common.{◌≡◌, ◌≢◌, ◌⊎◌, ◌<◌, ◌+◌, ℕ, true, false, cond, Option, None, Some, is_some, bytes_eq, refl, sym, ap, subst, ◌∙◌, inl, inr, arith, Result, Ok, Err, IfOk, IfErr}
 use Rattle.std.proofs.lemmas.Bool.{false≢true}
 use Rattle.std.specs.Option.{option_map, option_map_or, option_and_then}
@@ -11,7 +11,7 @@ use Rattle.std.specs.FinMap as finite
 use Rattle.package_table.specs.Table.{Name, name_cmp, Entry, IsPackage, IsPresent, entry_at}
 use Rattle.package_table.specs.Lookup.{is_symbol}
 use Rattle.package_table.specs.Numbers.{Numbers, Numbered, number_at, number_or_none, with_numbers, with_numbered, with_package_made, with_use}
-use Rattle.package_table.specs.Numbering.{IsNumbered, KeepsNumbers}
+use Rattle.package_table.specs.Numbering.{IsNumbered, Keeps, KeepsNumbers}
 use Rattle.package_table.proofs.Names.{same_some, none_some}
 use Rattle.package_table.proofs.Frames.{name_cases, place_cases, get_inserted, get_kept, equal_itself, entry_with_used, entry_with_new}
 use Rattle.package_table.proofs.Keeping.{present_either}
@@ -170,6 +170,19 @@ pub numbers_after : {A E : Type 0} (s u : Numbered) (r : Result A E) → IfOk r 
     → (count : ℕ) → IsNumbered s count → IsNumbered u count
 numbers_after s u (Ok x) keeps unchanged count numbered = (keeps count numbered).0
 numbers_after s u (Err e) keeps unchanged count numbered = subst (λ (s : Numbered). IsNumbered s count) (sym unchanged) numbered
+
+keeps_same : (s u : Numbered) → u ≡ s → Keeps s u
+keeps_same s u same h n _ = ap (λ (s : Numbered). number_at s.1 h n) same
+
+pub keeps_after : {A E : Type 0} (s u : Numbered) (r : Result A E) → IfOk r (λ _. (count : ℕ) → KeepsNumbers s count u count) → IfErr r (λ _. u ≡ s)
+    → (count : ℕ) → IsNumbered s count → Keeps s u
+keeps_after s u (Ok x) keeps unchanged count numbered = (keeps count numbered).1
+keeps_after s u (Err e) keeps unchanged count numbered = keeps_same s u unchanged
+
+pub keeps_interned : {A E : Type 0} (s u : Numbered) (count later : ℕ) (r : Result A E) → IfOk r (λ _. KeepsNumbers s count u later) → IfErr r (λ _. u ≡ s)
+    → IsNumbered s count → Keeps s u
+keeps_interned s u count later (Ok x) keeps unchanged numbered = (keeps numbered).1
+keeps_interned s u count later (Err e) keeps unchanged numbered = keeps_same s u unchanged
 
 pub numbers_interned : {A E : Type 0} (s u : Numbered) (count later : ℕ) (r : Result A E) → IfOk r (λ _. KeepsNumbers s count u later) → IfErr r (λ _. u ≡ s) → IfErr r (λ _. later ≡ count)
     → IsNumbered s count → IsNumbered u later
