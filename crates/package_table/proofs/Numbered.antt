@@ -4,6 +4,8 @@
 --     number_apart      two symbols with one number are one
 --     number_kept      a symbol that was there, and is there, has the number that it had
 --     number_none      no symbol, no number
+--     at_symbol      the number of a symbol that is there
+--     keeps_same, keeps_both      numbers stay where nothing changes, and over two changes
 use Rattle.std.proofs.Common.{◌≡◌, ◌<◌, ℕ, true, false, cond, Bool, Option, None, Some, bytes_eq, refl, sym, ap, ◌∙◌}
 use Rattle.std.proofs.lemmas.Bool.{false≢true}
 use Rattle.std.specs.Option.{option_map, option_map_or}
@@ -11,6 +13,7 @@ use Rattle.package_table.specs.Table.{Name, Entry, IsPresent, entry_at}
 use Rattle.package_table.specs.Lookup.{is_symbol}
 use Rattle.package_table.specs.Numbers.{Numbered, number_at, number_of}
 use Rattle.package_table.specs.Numbering.{IsNumbered, Keeps}
+use Rattle.package_table.specs.Growth.{Grows}
 use Rattle.package_table.proofs.Names.{same_some, none_some}
 use Rattle.package_table.proofs.Frames.{equal_names, equal_itself}
 
@@ -22,8 +25,7 @@ there_symbol : (o : Option Entry) (h : Name) → option_map_or (λ (e : Entry). 
 there_symbol None h none = absurd (false≢true none)
 there_symbol (Some e) h same = ap Some (equal_names e.home h same)
 
--- the number of a symbol that is there
-at_symbol : (s : Numbered) (h n : Name) → IsPresent s.0 h n h → number_of s h n ≡ number_at s.1 h n
+pub at_symbol : (s : Numbered) (h n : Name) → IsPresent s.0 h n h → number_of s h n ≡ number_at s.1 h n
 at_symbol s h n there = ap (λ b. cond b (number_at s.1 h n) None) (symbol_there (entry_at s.0 h n) h there)
 
 pub number_some : (s : Numbered) (count : ℕ) → IsNumbered s count → (h n : Name) → IsPresent s.0 h n h → (i : ℕ) × (number_of s h n ≡ Some i) × (i < count)
@@ -49,3 +51,9 @@ number_kept s u keeps h n before after = at_symbol u h n after ∙ keeps h n bef
 
 pub number_none : (s : Numbered) (h n : Name) → is_symbol s.0 h n ≡ false → number_of s h n ≡ None
 number_none s h n none = ap (λ b. cond b (number_at s.1 h n) None) none
+
+pub keeps_same : (s u : Numbered) → u ≡ s → Keeps s u
+keeps_same s u same h n _ = ap (λ (s : Numbered). number_at s.1 h n) same
+
+pub keeps_both : (s u v : Numbered) → Grows s.0 u.0 → Keeps s u → Keeps u v → Keeps s v
+keeps_both s u v grows first then h n there = then h n (grows.homes h n h there) ∙ first h n there
