@@ -4,16 +4,15 @@
 --     numbers_new      after a new symbol, whose number is the count
 --     numbers_made, numbers_used      after a package, and after a used package
 --     numbers_after, keeps_after, numbers_interned, keeps_interned, same_tables      what an answer says
-use Rattle.std.proofs.Common.{◌≡◌, ◌≢◌, ◌⊎◌, ◌<◌, ◌+◌, ℕ, true, false, cond, Option, None, Some, is_some, bytes_eq, refl, sym, ap, subst, ◌∙◌, inl, inr, arith, Result, Ok, Err, IfOk, IfErr}
+use Rattle.std.proofs.Common.{◌≡◌, ◌≢◌, ◌⊎◌, ◌<◌, ◌+◌, ℕ, true, false, Option, None, Some, is_some, refl, sym, ap, subst, ◌∙◌, inl, inr, arith, Result, Ok, Err, IfOk, IfErr}
 use Rattle.std.proofs.lemmas.Bool.{false≢true}
 use Rattle.std.specs.Option.{option_map, option_map_or, option_and_then}
 use Rattle.std.specs.FinMap as finite
 use Rattle.package_table.specs.Table.{Name, name_cmp, Entry, IsPackage, IsPresent, entry_at}
-use Rattle.package_table.specs.Lookup.{is_symbol}
 use Rattle.package_table.specs.Numbers.{Numbers, Numbered, number_at, number_or_none, with_numbers, with_numbered, with_package_made, with_use}
 use Rattle.package_table.specs.Numbering.{IsNumbered, Keeps, KeepsNumbers}
 use Rattle.package_table.proofs.Names.{same_some, none_some}
-use Rattle.package_table.proofs.Frames.{name_cases, place_cases, get_inserted, get_kept, equal_itself, entry_with_used, entry_with_new}
+use Rattle.package_table.proofs.Frames.{name_cases, place_cases, get_inserted, get_kept, entry_with_used, entry_with_new}
 use Rattle.package_table.proofs.Keeping.{present_either}
 use Rattle.package_table.proofs.Numbered.{at_symbol, keeps_same}
 
