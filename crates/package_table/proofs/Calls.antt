@@ -1,24 +1,25 @@
 -- What a call leaves that makes no symbol, whether it is refused or not.
---     left_after      packages as they are kept, in which nothing is lost
+--     left_after      packages as they are kept, in which nothing is lost and each symbol keeps its number
 --     told_of      what its answer says of a change
 use Rattle.std.proofs.Common.{◌≡◌, ℕ, Bool, Result, Ok, IfOk, IfErr, All, sym, subst, ◌∙◌}
 use Rattle.std.specs.Global.{Vec}
 use Rattle.package_table.specs.declared.error.PackageError.{PackageError}
 use Rattle.package_table.specs.declared.journal.Mark.{Mark}
 use Rattle.package_table.specs.declared.packages.Packages.TheInside.{Inside}
-use Rattle.package_table.specs.Table.{Table, Tables, symbol_count}
+use Rattle.package_table.specs.Table.{Table, symbol_count}
 use Rattle.package_table.specs.Changes.{Gives}
 use Rattle.package_table.specs.Growth.{Grows, Tells}
-use Rattle.package_table.specs.Numbers.{Numbered}
-use Rattle.package_table.specs.Numbering.{KeepsNumbers}
+use Rattle.package_table.specs.Numbers.{Numbered, Tables, numbered}
+use Rattle.package_table.specs.Numbering.{Keeps, KeepsNumbers}
 use Rattle.package_table.specs.Shown.{IsCounted, IsKept, marked_tables, tables_of}
 use Rattle.package_table.proofs.Growing.{Kept}
 use Rattle.package_table.proofs.KeptChanges.{stays_after, told_after}
-use Rattle.package_table.proofs.KeptNumbers.{numbers_after, same_tables}
+use Rattle.package_table.proofs.KeptNumbers.{numbers_after, keeps_after, same_tables}
 
 pub record Left (ts : Tables) (b : Inside) : Type 0 where
   pub kept : IsKept b
   pub grows : Grows ts.0 b.table.0
+  pub numbers : Keeps (numbered ts) b.table
 
 pub left_after : {A : Type 0} (a : Inside) (ts : Tables) (u : Numbered) (marks : Vec Mark) (changes : Bool) (r : Result A PackageError) (said : Result Table PackageError)
     → (said ≡ Ok u.0 → Kept a.table.0 u.0 changes × (symbol_count u.0 ≡ symbol_count a.table.0)) → tables_of a ≡ ts → IsKept a
@@ -34,6 +35,7 @@ left_after a ts u marks changes r said kept seen before gives unchanged numbers 
         marked = subst (All IsCounted) (sym marked) before.marked;
       };
       grows = subst (λ (ts : Tables). Grows ts.0 u.0) seen stays.grows;
+      numbers = subst (λ (ts : Tables). Keeps (numbered ts) u) seen (keeps_after a.table u r numbers unchanged a.count before.numbered);
     }
 
 pub told_of : (a : Inside) (ts : Tables) (u : Numbered) (changes : Bool) (r : Result Bool PackageError) (said : Result Table PackageError)

@@ -3,18 +3,18 @@
 --     numbers_put      after an entry of a symbol that was there
 --     numbers_new      after a new symbol, whose number is the count
 --     numbers_made, numbers_used      after a package, and after a used package
---     numbers_after, numbers_interned, same_tables      what an answer says
-use Rattle.std.proofs.Common.{◌≡◌, ◌≢◌, ◌⊎◌, ◌<◌, ◌+◌, ℕ, true, false, cond, Option, None, Some, is_some, bytes_eq, refl, sym, ap, subst, ◌∙◌, inl, inr, arith, Result, Ok, Err, IfOk, IfErr}
+--     numbers_after, keeps_after, numbers_interned, keeps_interned, same_tables      what an answer says
+use Rattle.std.proofs.Common.{◌≡◌, ◌≢◌, ◌⊎◌, ◌<◌, ◌+◌, ℕ, true, false, Option, None, Some, is_some, refl, sym, ap, subst, ◌∙◌, inl, inr, arith, Result, Ok, Err, IfOk, IfErr}
 use Rattle.std.proofs.lemmas.Bool.{false≢true}
 use Rattle.std.specs.Option.{option_map, option_map_or, option_and_then}
 use Rattle.std.specs.FinMap as finite
 use Rattle.package_table.specs.Table.{Name, name_cmp, Entry, IsPackage, IsPresent, entry_at}
-use Rattle.package_table.specs.Lookup.{is_symbol}
 use Rattle.package_table.specs.Numbers.{Numbers, Numbered, number_at, number_or_none, with_numbers, with_numbered, with_package_made, with_use}
-use Rattle.package_table.specs.Numbering.{IsNumbered, KeepsNumbers}
+use Rattle.package_table.specs.Numbering.{IsNumbered, Keeps, KeepsNumbers}
 use Rattle.package_table.proofs.Names.{same_some, none_some}
-use Rattle.package_table.proofs.Frames.{name_cases, place_cases, get_inserted, get_kept, equal_itself, entry_with_used, entry_with_new}
+use Rattle.package_table.proofs.Frames.{name_cases, place_cases, get_inserted, get_kept, entry_with_used, entry_with_new}
 use Rattle.package_table.proofs.Keeping.{present_either}
+use Rattle.package_table.proofs.Numbered.{at_symbol, keeps_same}
 
 -- the number that is put, and the others
 module _ (ns : Numbers) (p n : Name) (i : ℕ) where
@@ -46,13 +46,7 @@ module _ (ns : Numbers) (p n : Name) (i : ℕ) where
 
 -- a symbol's number
 number_known : (s : Numbered) (h n : Name) (j : ℕ) → IsPresent s.0 h n h → number_at s.1 h n ≡ Some j → number_or_none s h n ≡ j
-number_known s h n j there is =
-    let there_is : is_symbol s.0 h n ≡ true = symbol_there (entry_at s.0 h n) there in
-    ap (λ b. option_map_or (λ i. i) (cond b (number_at s.1 h n) None) 0) there_is ∙ ap (λ o. option_map_or (λ i. i) o 0) is
-  where
-    symbol_there : (o : Option Entry) → option_map (λ (e : Entry). e.home) o ≡ Some h → option_map_or (λ (e : Entry). bytes_eq e.home h) o false ≡ true
-    symbol_there None none = absurd (none_some h none)
-    symbol_there (Some e) home = ap (λ x. bytes_eq x h) (same_some e.home h home) ∙ equal_itself h
+number_known s h n j there is = ap (λ o. option_map_or (λ i. i) o 0) (at_symbol s h n there ∙ is)
 
 pub numbers_alike : (s u : Numbered) → ((g m : Name) → IsPresent u.0 g m g → IsPresent s.0 g m g)
     → ((g m : Name) → IsPresent s.0 g m g → number_at u.1 g m ≡ number_at s.1 g m) → (count : ℕ) → KeepsNumbers s count u count
@@ -170,6 +164,16 @@ pub numbers_after : {A E : Type 0} (s u : Numbered) (r : Result A E) → IfOk r 
     → (count : ℕ) → IsNumbered s count → IsNumbered u count
 numbers_after s u (Ok x) keeps unchanged count numbered = (keeps count numbered).0
 numbers_after s u (Err e) keeps unchanged count numbered = subst (λ (s : Numbered). IsNumbered s count) (sym unchanged) numbered
+
+pub keeps_after : {A E : Type 0} (s u : Numbered) (r : Result A E) → IfOk r (λ _. (count : ℕ) → KeepsNumbers s count u count) → IfErr r (λ _. u ≡ s)
+    → (count : ℕ) → IsNumbered s count → Keeps s u
+keeps_after s u (Ok x) keeps unchanged count numbered = (keeps count numbered).1
+keeps_after s u (Err e) keeps unchanged count numbered = keeps_same s u unchanged
+
+pub keeps_interned : {A E : Type 0} (s u : Numbered) (count later : ℕ) (r : Result A E) → IfOk r (λ _. KeepsNumbers s count u later) → IfErr r (λ _. u ≡ s)
+    → IsNumbered s count → Keeps s u
+keeps_interned s u count later (Ok x) keeps unchanged numbered = (keeps numbered).1
+keeps_interned s u count later (Err e) keeps unchanged numbered = keeps_same s u unchanged
 
 pub numbers_interned : {A E : Type 0} (s u : Numbered) (count later : ℕ) (r : Result A E) → IfOk r (λ _. KeepsNumbers s count u later) → IfErr r (λ _. u ≡ s) → IfErr r (λ _. later ≡ count)
     → IsNumbered s count → IsNumbered u later

@@ -16,6 +16,7 @@ pub mod KeptChanges
 pub mod KeptNumbers
 pub mod KeptSound
 pub mod Names
+pub mod Numbered
 pub mod Places
 pub mod Reaching
 pub mod Rows

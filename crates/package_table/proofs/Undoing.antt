@@ -141,5 +141,5 @@ pub mark_tables : (ms : List Mark) (m : Mark) (t : Numbered) → m.notes.items �
 mark_tables ms m t empty =
     ap (λ xs. tables_at xs t) (map-push marked_of ms m ∙ ap (λ cs. marks_of ms ++ (map change_of cs, m.count) ∷ []) empty) ∙ tables_push (marks_of ms) ([], m.count) t
 
-pub length_marked : (ms : List Mark) (t : Numbered) → length (map (λ m. m.0.0) (marked_tables ms t)) ≡ length ms
-length_marked ms t = length-map (marked_tables ms t) (λ m. m.0.0) ∙ length-tables (marks_of ms) t ∙ length-map ms marked_of
+pub length_marked : (ms : List Mark) (t : Numbered) → length (map (λ m. m.0) (marked_tables ms t)) ≡ length ms
+length_marked ms t = length-map (marked_tables ms t) (λ m. m.0) ∙ length-tables (marks_of ms) t ∙ length-map ms marked_of

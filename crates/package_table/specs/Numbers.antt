@@ -1,8 +1,8 @@
 -- The numbers of symbols. They are beside the table and no part of it: packages with the same symbols are equal, whatever
 -- their numbers.
-use Rattle.std.specs.Prelude.{ℕ, Option, None, option_and_then, if◌then◌else◌}
+use Rattle.std.specs.Prelude.{ℕ, ◌++◌, List, [], ◌∷◌, Option, None, option_and_then, if◌then◌else◌, refl}
 use Rattle.std.specs.Option.{option_map_or}
-use Rattle.std.specs.Coded.{Coded, coded×, coded_ℕ}
+use Rattle.std.specs.Coded.{Coded, code_by, coded×, coded_list, coded_ℕ}
 use Rattle.std.specs.FinMap as finite
 use Rattle.package_table.specs.Table.{Name, name_cmp, name_code, Entry, Package, Table, package_code, table_code, with_entry, with_used, with_new_package}
 use Rattle.package_table.specs.Lookup.{is_symbol}
@@ -22,8 +22,41 @@ held_code = coded× package_code (finite.code name_code coded_ℕ)
 abbrev pub Numbered : Type 0
 Numbered = Table × Numbers
 
+abbrev pub numbers_code : Coded Numbers
+numbers_code = finite.code name_code (finite.code name_code coded_ℕ)
+
 abbrev pub numbered_code : Coded Numbered
-numbered_code = coded× table_code (finite.code name_code (finite.code name_code coded_ℕ))
+numbered_code = coded× table_code numbers_code
+
+-- what the packages have beside their table: the numbers of its symbols, and the tables that were marked, to which they can
+-- go back, with the numbers that their symbols had
+pub record Beside : Type 0 where
+  pub numbers : Numbers
+  pub marked : List Numbered
+
+abbrev pub beside_code : Coded Beside
+beside_code =
+    code_by (Numbers × List Numbered) (coded× numbers_code (coded_list numbered_code)) (λ b. (b.numbers, b.marked))
+    (λ p. record { numbers = p.0; marked = p.1 }) (λ _. refl)
+
+-- the packages: the table now, and what is beside it
+abbrev pub Tables : Type 0
+Tables = Table × Beside
+
+abbrev pub tables_code : Coded Tables
+tables_code = coded× table_code beside_code
+
+-- the table now, and the numbers of its symbols
+abbrev pub numbered : Tables → Numbered
+numbered ts = (ts.0, ts.1.numbers)
+
+-- the packages with one mark more, the last, at which they are as now
+abbrev pub with_mark : Tables → Tables
+with_mark ts = (ts.0, record ts.1 { marked = ts.1.marked ++ numbered ts ∷ [] })
+
+-- the packages with no marks
+abbrev pub without_marks : Tables → Tables
+without_marks ts = (ts.0, record ts.1 { marked = [] })
 
 -- the number of the symbol that is present in p by the name n
 abbrev pub number_at : Numbers → Name → Name → Option ℕ

@@ -5,8 +5,8 @@ use Rattle.package_table.specs.declared.journal.Note.{Note}
 use Rattle.package_table.specs.declared.journal.Note.TheVariants.{Made, Put, Used}
 use Rattle.package_table.specs.declared.journal.Mark.{Mark}
 use Rattle.package_table.specs.declared.packages.Packages.TheInside.{Inside}
-use Rattle.package_table.specs.Table.{Tables, IsSound, symbol_count}
-use Rattle.package_table.specs.Numbers.{Numbered}
+use Rattle.package_table.specs.Table.{IsSound, symbol_count}
+use Rattle.package_table.specs.Numbers.{Numbered, Tables}
 use Rattle.package_table.specs.Numbering.{IsNumbered}
 use Rattle.package_table.specs.Entries.{numbered_entry}
 pub use Rattle.package_table.specs.Kept.{as_map}
@@ -35,7 +35,7 @@ has_room (m ∷ []) = vec_len m.notes < vec_capacity m.notes
 has_room (m ∷ n ∷ ms) = has_room (n ∷ ms)
 
 abbrev pub tables_of : Inside → Tables
-tables_of a = (a.table.0, map (λ m. m.0.0) (marked_tables a.marks.items a.table))
+tables_of a = (a.table.0, record { numbers = a.table.1; marked = map (λ m. m.0) (marked_tables a.marks.items a.table) })
 
 -- sound packages, the number of their symbols, and the symbols numbered
 abbrev pub IsCounted : Numbered × ℕ → Type 0

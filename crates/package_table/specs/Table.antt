@@ -48,13 +48,6 @@ package_code =
 abbrev pub table_code : Coded Table
 table_code = finite.code name_code package_code
 
--- The table now, and after it the tables that were marked, to which the packages can go back.
-abbrev pub Tables : Type 0
-Tables = Table × List Table
-
-abbrev pub tables_code : Coded Tables
-tables_code = coded× table_code (coded_list table_code)
-
 abbrev pub common_lisp : Name
 common_lisp = COMMON_LISP.now
 

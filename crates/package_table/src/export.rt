@@ -3,7 +3,8 @@ ghost use Rattle.std.specs.Prelude.{◌≡◌, ℕ, IfErr, IfOk};
 ghost use Rattle.package_table.specs.Table.{IsSound};
 ghost use Rattle.package_table.specs.Changes.{after_export, export_changes, with_external, Gives, RunsOutOnlyIf};
 ghost use Rattle.package_table.specs.Growth.{Grows, Tells};
-ghost use Rattle.package_table.specs.Numbering.{KeepsNumbers};
+ghost use Rattle.package_table.specs.Numbers.{numbered};
+ghost use Rattle.package_table.specs.Numbering.{Keeps, KeepsNumbers};
 ghost use Rattle.package_table.specs.Shown.{marked_tables};
 
 use crate::find::is_locked;
@@ -83,7 +84,8 @@ impl Packages {
         ensures grows { Grows self.old.0 self.new.0 }
         ensures memory { IfErr result (RunsOutOnlyIf (export_changes self.old.0 owner.now name.now)) }
         ensures unchanged { IfErr result (λ _. self.new ≡ self.old) }
-        ensures marked { self.new.1 ≡ self.old.1 }
+        ensures numbers { Keeps (numbered self.old) (numbered self.new) }
+        ensures marked { self.new.1.marked ≡ self.old.1.marked }
     {
         export_symbol(
             self.alloc,

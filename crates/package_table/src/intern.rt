@@ -5,8 +5,8 @@ ghost use Rattle.package_table.specs.Table.{IsPackage, keyword, symbol_count};
 ghost use Rattle.package_table.specs.Lookup.{found};
 ghost use Rattle.package_table.specs.Changes.{after_intern, intern_changes, Gives};
 ghost use Rattle.package_table.specs.Growth.{Grows, IsSameBut, Tells};
-ghost use Rattle.package_table.specs.Numbers.{with_numbered};
-ghost use Rattle.package_table.specs.Numbering.{KeepsNumbers};
+ghost use Rattle.package_table.specs.Numbers.{numbered, with_numbered};
+ghost use Rattle.package_table.specs.Numbering.{Keeps, KeepsNumbers};
 ghost use Rattle.package_table.specs.Shown.{marked_tables};
 
 use crate::journal::Mark;
@@ -105,7 +105,8 @@ impl Packages {
         ensures others { IsSameBut self.old.0 self.new.0 owner.now name.now }
         ensures grows { Grows self.old.0 self.new.0 }
         ensures unchanged { IfErr result (λ _. self.new ≡ self.old) }
-        ensures marked { self.new.1 ≡ self.old.1 }
+        ensures numbers { Keeps (numbered self.old) (numbered self.new) }
+        ensures marked { self.new.1.marked ≡ self.old.1.marked }
     {
         intern_symbol(
             self.alloc,

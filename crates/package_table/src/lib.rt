@@ -15,12 +15,13 @@
 //! - `make`, `intern`, `export`, `import`, `use_package`: the calls that write, over `put` (single changes, noted where there
 //!   is a mark). `specs/Changes.antt` says what each makes of a table, or why it refuses, and whether it changes it.
 //! - `marks`: `mark`, `back_to` and `settle`, over `journal` (what was changed since each mark) and `undo` (the changes since
-//!   a mark undone). The value of `Packages` has the marked tables after the table of now: calls that write leave them alone.
+//!   a mark undone). The value of `Packages` has the marked tables beside the table of now: calls that write leave them alone.
 //! - `laws`: `look_up_laws`
 //! - `error`: `PackageError`
 //!
 //! Each symbol has a number (`specs/Numbers.antt`, `specs/Numbering.antt`), which `numbers` and `PackageTable::number_of` give.
-//! The numbers are beside the table: packages with the same symbols are equal whatever their numbers.
+//! The numbers are beside the table (`Beside`): tables with the same symbols are equal whatever their numbers. A symbol keeps
+//! its number over each call that writes (`Keeps`), and has the one of the mark after going back.
 //!
 //! Proofs of crates above may cite these lemmas; they keep their names. On look-ups (proofs/Found.antt): `found_is`,
 //! `found_finds`, `found_none`, `finds_none`, `present_found`, `external_shows`, `shows_external`, `used_shows`. On symbols at
@@ -30,7 +31,9 @@
 //! `equal_itself`, `entry_new`, `entry_other`, `package_with_entry`, `uses_with_entry`, `entry_with_used`, `uses_still`,
 //! `entry_with_new`. On the first packages (proofs/First.antt): `sound`, `first_count`, `lisp_is_package`,
 //! `user_is_package`. On lists that grow and shrink at their end, as journals do (proofs/Undoing.antt): `IsLast`, `at_last`,
-//! `no_more`, `take_seam`, `get_seam`, `on_ok`. On the order of names (proofs/Names.antt): `name_total`, `name_exact`.
+//! `no_more`, `take_seam`, `get_seam`, `on_ok`. On the order of names (proofs/Names.antt): `name_total`, `name_exact`. On numbers
+//! (proofs/Numbered.antt): `number_some`, `number_there`, `number_apart`, `number_kept`, `number_none`, `at_symbol`,
+//! `keeps_same`, `keeps_both`.
 #![tactic(auto)]
 
 mod entry;

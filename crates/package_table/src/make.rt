@@ -3,7 +3,8 @@ ghost use Rattle.std.specs.Prelude.{◌≡◌, ◌<◌, ℕ, All, IfErr, IfOk};
 ghost use Rattle.package_table.specs.Table.{IsSound, with_new_package};
 ghost use Rattle.package_table.specs.Changes.{after_make, Gives};
 ghost use Rattle.package_table.specs.Growth.{Grows};
-ghost use Rattle.package_table.specs.Numbering.{KeepsNumbers};
+ghost use Rattle.package_table.specs.Numbers.{numbered};
+ghost use Rattle.package_table.specs.Numbering.{Keeps, KeepsNumbers};
 ghost use Rattle.package_table.specs.Shown.{marked_tables};
 
 use crate::find::package_name;
@@ -62,7 +63,8 @@ impl Packages {
         ensures gives { Gives (λ _. self.new.0) result (after_make self.old.0 name.now) }
         ensures grows { Grows self.old.0 self.new.0 }
         ensures unchanged { IfErr result (λ _. self.new ≡ self.old) }
-        ensures marked { self.new.1 ≡ self.old.1 }
+        ensures numbers { Keeps (numbered self.old) (numbered self.new) }
+        ensures marked { self.new.1.marked ≡ self.old.1.marked }
     {
         make_package(self.alloc, &mut self.table, &mut self.marks, name)
     }

@@ -1,6 +1,7 @@
 //! Going back to the packages as they were: `mark`, `back_to`, `settle`.
-ghost use Rattle.std.specs.Prelude.{◌≡◌, ◌<◌, ◌++◌, [], ◌∷◌, length, take, Some, IfOk, IfErr};
+ghost use Rattle.std.specs.Prelude.{◌≡◌, ◌<◌, length, take, Some, IfOk, IfErr};
 ghost use Rattle.std.specs.List.{slice_get};
+ghost use Rattle.package_table.specs.Numbers.{numbered, with_mark, without_marks};
 
 use crate::Packages;
 use crate::journal::Mark;
@@ -14,8 +15,7 @@ impl Packages {
     /// # Errors
     /// `AllocError` where memory runs out. Nothing is changed then.
     pub fn mark(&mut self) -> Result<usize, AllocError>
-        ensures ok { IfOk result (λ place. (place ≡ length self.old.1)
-            × (self.new ≡ (self.old.0, self.old.1 ++ self.old.0 ∷ []))) }
+        ensures ok { IfOk result (λ place. (place ≡ length self.old.1.marked) × (self.new ≡ with_mark self.old)) }
         ensures err { IfErr result (λ _. self.new ≡ self.old) }
     {
         let place = self.marks.len();
@@ -29,23 +29,24 @@ impl Packages {
 
     /// How many marks there are; their places are the numbers below. Takes no memory.
     pub fn mark_count(&self) -> usize
-        ensures { result ≡ length self.now.1 }
+        ensures { result ≡ length self.now.1.marked }
     {
         self.marks.len()
     }
 
-    /// Goes back to the packages as they were at this mark, and takes it and all later marks away. Takes no memory.
+    /// Goes back to the packages as they were at this mark, each symbol with the number that it had, and takes this mark and
+    /// all later ones away. Takes no memory.
     pub fn back_to(&mut self, mark: usize)
-        requires { mark < length self.old.1 }
-        ensures past { self.new.1 ≡ take mark self.old.1 }
-        ensures now { slice_get self.old.1 mark ≡ Some self.new.0 }
+        requires { mark < length self.old.1.marked }
+        ensures past { self.new.1.marked ≡ take mark self.old.1.marked }
+        ensures now { slice_get self.old.1.marked mark ≡ Some (numbered self.new) }
     {
         self.count = undo_to(&mut self.table, &mut self.marks, mark);
     }
 
     /// Takes all marks away: the packages stay as they are. Takes no memory.
     pub fn settle(&mut self)
-        ensures { self.new ≡ (self.old.0, []) }
+        ensures { self.new ≡ without_marks self.old }
     {
         self.marks.clear();
     }

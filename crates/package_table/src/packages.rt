@@ -1,6 +1,8 @@
 //! The packages, and the calls on them.
 ghost use Rattle.std.specs.Prelude.{◌≡◌, [], Ok, Err, map, IfOk, IfErr, IfSome, All, MatchResult, option_map};
-ghost use Rattle.package_table.specs.Table.{initial, is_locked, package_named, IsPackage, IsSound};
+ghost use Rattle.package_table.specs.Table.{initial, is_locked, package_named, symbol_count, IsPackage, IsSound};
+ghost use Rattle.package_table.specs.Numbers.{numbered, without_marks};
+ghost use Rattle.package_table.specs.Numbering.{IsNumbered, IsNumberedSound};
 ghost use Rattle.package_table.specs.Resolving.{resolution, external_resolution, internal_resolution, resolution_of};
 ghost use Rattle.package_table.specs.Readers.{package_names, used_names, own_names, external_names, imports, ListRefused};
 
@@ -13,7 +15,8 @@ use lisp_object::{Bytes, Items};
 use std::alloc::{AllocError, Global};
 use std::marker::Model;
 
-/// Packages (standard 11.1). Contracts see them as a `Table`, and after it the list of the tables that were marked.
+/// Packages (standard 11.1). Contracts see them as a `Table`, and beside it the numbers of its symbols and the tables that
+/// were marked.
 #[derive(Drop)]
 pub struct Packages {
     pub(crate) alloc: Global,
@@ -24,7 +27,7 @@ pub struct Packages {
 }
 
 impl Model for Packages {
-    ghost use Rattle.package_table.specs.Table.{Tables, tables_code};
+    ghost use Rattle.package_table.specs.Numbers.{Tables, tables_code};
 
     ghost Value = { Tables };
 
@@ -40,7 +43,8 @@ impl Model for Packages {
 impl Packages {
     /// The first packages: COMMON-LISP, COMMON-LISP-USER, which uses it, and KEYWORD. They keep `alloc` for later changes.
     pub fn new(alloc: Global) -> Result<Packages, AllocError>
-        ensures { IfOk result (λ packages. packages ≡ (initial, [])) }
+        ensures table { IfOk result (λ packages. packages.0 ≡ initial) }
+        ensures marked { IfOk result (λ packages. packages.1.marked ≡ []) }
     {
         Ok(Packages {
             alloc,
@@ -50,9 +54,9 @@ impl Packages {
         })
     }
 
-    /// The same packages, on their own memory, and nothing marked.
+    /// The same packages with the same numbers, on their own memory, and nothing marked.
     pub fn copy(&self, alloc: Global) -> Result<Packages, AllocError>
-        ensures { IfOk result (λ packages. packages ≡ (self.now.0, [])) }
+        ensures { IfOk result (λ packages. packages ≡ without_marks self.now) }
     {
         Ok(Packages {
             alloc,
@@ -69,9 +73,16 @@ impl Packages {
         let _ = &self.table;
     }
 
-    /// The same of the packages as they were at each mark. For proofs: it does nothing.
+    /// Each symbol has a number, which is below how many there are, and two symbols have two. For proofs: it does nothing.
+    pub fn numbering(&self)
+        ensures { IsNumbered (numbered self.now) (symbol_count self.now.0) }
+    {
+        let _ = &self.table;
+    }
+
+    /// Both of the packages as they were at each mark. For proofs: it does nothing.
     pub fn marks_soundness(&self)
-        ensures { All IsSound self.now.1 }
+        ensures { All IsNumberedSound self.now.1.marked }
     {
         let _ = &self.table;
     }

@@ -2,6 +2,7 @@
 ghost use Rattle.std.specs.Prelude.{◌≡◌, ◌↔◌, IsTrue};
 ghost use Rattle.std.specs.FinMap as finite;
 ghost use Rattle.package_table.specs.Table.{IsExternal, IsPresent, Uses, symbol_count};
+ghost use Rattle.package_table.specs.Numbers.{numbered};
 ghost use Rattle.package_table.specs.Numbering.{IsNumbered};
 ghost use Rattle.package_table.specs.Changes.{is_full_of_packages, is_full_of_symbols};
 ghost use Rattle.package_table.specs.Lookup.{is_external, is_present, is_symbol, is_used};
@@ -28,7 +29,7 @@ impl Packages {
     /// The table with the numbers of its symbols. Each symbol has one number, which is below how many there are, and two
     /// symbols have two.
     pub fn numbers(&self) -> &PackageTable
-        ensures table { result.now.0 ≡ self.now.0 }
+        ensures table { result.now ≡ numbered self.now }
         ensures numbered { IsNumbered result.now (symbol_count self.now.0) }
     {
         &self.table

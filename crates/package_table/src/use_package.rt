@@ -3,7 +3,8 @@ ghost use Rattle.std.specs.Prelude.{◌≡◌, ℕ, if◌then◌else◌, IfErr, 
 ghost use Rattle.package_table.specs.Table.{with_used};
 ghost use Rattle.package_table.specs.Changes.{after_use, use_changes, Gives, RunsOutOnlyIf};
 ghost use Rattle.package_table.specs.Growth.{Grows, Tells};
-ghost use Rattle.package_table.specs.Numbering.{KeepsNumbers};
+ghost use Rattle.package_table.specs.Numbers.{numbered};
+ghost use Rattle.package_table.specs.Numbering.{Keeps, KeepsNumbers};
 ghost use Rattle.package_table.specs.Shown.{marked_tables};
 
 use crate::find::is_locked;
@@ -74,7 +75,8 @@ impl Packages {
         ensures grows { Grows self.old.0 self.new.0 }
         ensures memory { IfErr result (RunsOutOnlyIf (use_changes self.old.0 owner.now used.now)) }
         ensures unchanged { IfErr result (λ _. self.new ≡ self.old) }
-        ensures marked { self.new.1 ≡ self.old.1 }
+        ensures numbers { Keeps (numbered self.old) (numbered self.new) }
+        ensures marked { self.new.1.marked ≡ self.old.1.marked }
     {
         use_other(self.alloc, &mut self.table, &mut self.marks, owner, used)
     }

@@ -3,15 +3,14 @@ use Rattle.std.specs.List.{slice_get}
 use Rattle.std.proofs.lemmas.List.{take-map}
 use Rattle.std.proofs.lemmas.List.Elements.{All-take}
 use Rattle.std.proofs.lemmas.Option.{slice_get-map, slice_get_within, get_or_from_slice_get}
-use Rattle.package_table.specs.Table.{Tables}
-use Rattle.package_table.specs.Numbers.{Numbered}
+use Rattle.package_table.specs.Numbers.{Numbered, Tables}
 use Rattle.package_table.specs.Shown.{IsCounted, marked_tables}
 use Rattle.package_table.proofs.Undoing.{length_marked}
 use Rattle.package_table.proofs.packages.Packages.back_to.Goals as goal
 
 pub undo_to-self-inside-requires : goal.undo_to-self-inside-requires
 undo_to-self-inside-requires c =
-    let as_many : length c.self.inside.marks.items ≡ length c.args.self.now.1 = sym (length_marked c.self.inside.marks.items c.self.inside.table) ∙ ap (λ (ts : Tables). length ts.1) c.self.view_is in
+    let as_many : length c.self.inside.marks.items ≡ length c.args.self.now.1.marked = sym (length_marked c.self.inside.marks.items c.self.inside.table) ∙ ap (λ (ts : Tables). length ts.1.marked) c.self.view_is in
     omega (arith, as_many, c.requires)
 
 pub invariant_of-self : goal.invariant_of-self
@@ -29,12 +28,12 @@ invariant_of-self c =
 
 pub returns-clause-past : goal.returns-clause-past
 returns-clause-past c =
-    ap (map (λ m. m.0.0)) c.undo_to-self-inside.ensures.past
-    ∙ sym (take-map (λ m. m.0.0) c.args.mark (marked_tables c.self.inside.marks.items c.self.inside.table))
-    ∙ ap (λ (ts : Tables). take c.args.mark ts.1) c.self.view_is
+    ap (map (λ m. m.0)) c.undo_to-self-inside.ensures.past
+    ∙ sym (take-map (λ m. m.0) c.args.mark (marked_tables c.self.inside.marks.items c.self.inside.table))
+    ∙ ap (λ (ts : Tables). take c.args.mark ts.1.marked) c.self.view_is
 
 pub returns-clause-now : goal.returns-clause-now
 returns-clause-now c =
-    ap (λ (ts : Tables). slice_get ts.1 c.args.mark) (sym c.self.view_is)
-    ∙ slice_get-map (λ m. m.0.0) (marked_tables c.self.inside.marks.items c.self.inside.table) c.args.mark
-    ∙ ap (option_map (λ m. m.0.0)) c.undo_to-self-inside.ensures.now
+    ap (λ (ts : Tables). slice_get ts.1.marked c.args.mark) (sym c.self.view_is)
+    ∙ slice_get-map (λ m. m.0) (marked_tables c.self.inside.marks.items c.self.inside.table) c.args.mark
+    ∙ ap (option_map (λ m. m.0)) c.undo_to-self-inside.ensures.now

@@ -1,5 +1,6 @@
 use Rattle.std.proofs.Common.{sym, subst}
-use Rattle.package_table.specs.Table.{Tables, IsPresent}
+use Rattle.package_table.specs.Table.{IsPresent}
+use Rattle.package_table.specs.Numbers.{Tables}
 use Rattle.package_table.proofs.Calls.{left_after, told_of}
 use Rattle.package_table.proofs.KeptChanges.{kept_import}
 use Rattle.package_table.proofs.packages.Packages.import.Goals as goal
@@ -19,6 +20,14 @@ returns-clause-grows c =
     (left_after c.self.inside c.args.self.now c.import_symbol.new.table c.import_symbol.new.marks _ c.import_symbol.result _
     (kept_import c.self.inside.table.0 c.args.owner.now c.args.name.now c.self.invariant.sound c.args.home.now c.import_symbol.new.table.0 at_home)
     c.self.view_is c.self.invariant e.gives e.unchanged e.numbers e.marked).grows
+
+pub returns-clause-numbers : goal.returns-clause-numbers
+returns-clause-numbers c =
+    let at_home = subst (λ (ts : Tables). IsPresent ts.0 c.args.home.now c.args.name.now c.args.home.now) (sym c.self.view_is) c.requires in
+    let e = c.import_symbol.ensures in
+    (left_after c.self.inside c.args.self.now c.import_symbol.new.table c.import_symbol.new.marks _ c.import_symbol.result _
+    (kept_import c.self.inside.table.0 c.args.owner.now c.args.name.now c.self.invariant.sound c.args.home.now c.import_symbol.new.table.0 at_home)
+    c.self.view_is c.self.invariant e.gives e.unchanged e.numbers e.marked).numbers
 
 pub returns-clause-exactly : goal.returns-clause-exactly
 returns-clause-exactly c =

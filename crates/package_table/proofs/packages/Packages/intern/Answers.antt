@@ -1,11 +1,13 @@
 use Rattle.std.proofs.Common.{All, IfOk, sym, subst}
 use Rattle.package_table.specs.declared.intern.Interned.{Interned}
-use Rattle.package_table.specs.Table.{Table, Tables}
+use Rattle.package_table.specs.Table.{Table}
+use Rattle.package_table.specs.Numbers.{Tables, numbered}
+use Rattle.package_table.specs.Numbering.{Keeps}
 use Rattle.package_table.specs.Changes.{after_intern, intern_changes}
 use Rattle.package_table.specs.Growth.{Grows, IsSameBut, Tells}
 use Rattle.package_table.specs.Shown.{IsCounted}
 use Rattle.package_table.proofs.KeptChanges.{kept_intern, stays_but, found_after, told_after}
-use Rattle.package_table.proofs.KeptNumbers.{numbers_interned, same_tables}
+use Rattle.package_table.proofs.KeptNumbers.{numbers_interned, keeps_interned, same_tables}
 use Rattle.package_table.proofs.packages.Packages.intern.Goals as goal
 
 pub invariant_of-self : goal.invariant_of-self
@@ -26,6 +28,12 @@ returns-clause-grows c =
     let u : Table = c.intern_symbol.new.table.0 in
     subst (λ (ts : Tables). Grows ts.0 u) c.self.view_is
     (stays_but t u c.args.owner.now c.args.name.now (λ (x : Interned). x.home) c.intern_symbol.result c.self.invariant.sound c.requires c.intern_symbol.ensures.gives (same_tables c.self.inside.table c.intern_symbol.new.table c.intern_symbol.result c.intern_symbol.ensures.unchanged)).grows
+
+pub returns-clause-numbers : goal.returns-clause-numbers
+returns-clause-numbers c =
+    let e = c.intern_symbol.ensures in
+    subst (λ (ts : Tables). Keeps (numbered ts) c.intern_symbol.new.table) c.self.view_is
+    (keeps_interned c.self.inside.table c.intern_symbol.new.table c.self.inside.count c.intern_symbol.new.count c.intern_symbol.result e.numbers e.unchanged c.self.invariant.numbered)
 
 pub returns-clause-others : goal.returns-clause-others
 returns-clause-others c =

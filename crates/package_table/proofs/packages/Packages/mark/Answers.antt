@@ -1,8 +1,7 @@
 use Rattle.std.proofs.Common.{◌≡◌, ◌++◌, [], ◌∷◌, ℕ, All, length, map, slice_index_or, sym, ap, subst, ◌∙◌, arith}
 use Rattle.std.proofs.lemmas.List.Elements.{All-append}
 use Rattle.package_table.specs.declared.journal.Mark.{Mark}
-use Rattle.package_table.specs.Table.{Tables}
-use Rattle.package_table.specs.Numbers.{Numbered}
+use Rattle.package_table.specs.Numbers.{Numbered, Tables, with_mark}
 use Rattle.package_table.specs.Shown.{IsCounted, marked_tables}
 use Rattle.package_table.proofs.Undoing.{mark_tables, length_marked, map-push}
 use Rattle.package_table.proofs.packages.Packages.mark.Goals as goal
@@ -26,9 +25,9 @@ pub returns-clause-ok : goal.returns-clause-ok
 returns-clause-ok c =
     let s : Numbered = c.self.inside.table in
     let m : Mark = record { notes = c.new.result; count = c.self.inside.count } in
-    let marked : map (λ m. m.0.0) (marked_tables c.push_reserved.new.self.items s) ≡ map (λ m. m.0.0) (marked_tables c.self.inside.marks.items s) ++ s.0 ∷ [] =
-    ap (λ ms. map (λ m. m.0.0) (marked_tables ms s)) (c.push_reserved.ensures.items ∙ ap (λ ms. ms ++ m ∷ []) c.in_ok-reserve.ensures.items)
-    ∙ ap (map (λ m. m.0.0)) (mark_tables c.self.inside.marks.items m s c.new.ensures.items) ∙ map-push (λ (m : Numbered × ℕ). m.0.0) (marked_tables c.self.inside.marks.items s) (s, m.count) in (
-      c.len-place.ensures ∙ c.self.inside.marks.ok.0 ∙ sym (length_marked c.self.inside.marks.items s) ∙ ap (λ (ts : Tables). length ts.1) c.self.view_is,
-      (λ i. (s.0, marked i)) ∙ ap (λ (ts : Tables). (ts.0, ts.1 ++ ts.0 ∷ [])) c.self.view_is,
+    let marked : map (λ m. m.0) (marked_tables c.push_reserved.new.self.items s) ≡ map (λ m. m.0) (marked_tables c.self.inside.marks.items s) ++ s ∷ [] =
+    ap (λ ms. map (λ m. m.0) (marked_tables ms s)) (c.push_reserved.ensures.items ∙ ap (λ ms. ms ++ m ∷ []) c.in_ok-reserve.ensures.items)
+    ∙ ap (map (λ m. m.0)) (mark_tables c.self.inside.marks.items m s c.new.ensures.items) ∙ map-push (λ (m : Numbered × ℕ). m.0) (marked_tables c.self.inside.marks.items s) (s, m.count) in (
+      c.len-place.ensures ∙ c.self.inside.marks.ok.0 ∙ sym (length_marked c.self.inside.marks.items s) ∙ ap (λ (ts : Tables). length ts.1.marked) c.self.view_is,
+      (λ i. (s.0, record { numbers = s.1; marked = marked i })) ∙ ap with_mark c.self.view_is,
     )

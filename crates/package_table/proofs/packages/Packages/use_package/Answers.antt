@@ -16,6 +16,13 @@ returns-clause-grows c =
     (kept_use c.self.inside.table.0 c.args.owner.now c.args.used.now c.self.invariant.sound c.use_other.new.table.0)
     c.self.view_is c.self.invariant e.gives e.unchanged e.numbers e.marked).grows
 
+pub returns-clause-numbers : goal.returns-clause-numbers
+returns-clause-numbers c =
+    let e = c.use_other.ensures in
+    (left_after c.self.inside c.args.self.now c.use_other.new.table c.use_other.new.marks _ c.use_other.result _
+    (kept_use c.self.inside.table.0 c.args.owner.now c.args.used.now c.self.invariant.sound c.use_other.new.table.0)
+    c.self.view_is c.self.invariant e.gives e.unchanged e.numbers e.marked).numbers
+
 pub returns-clause-exactly : goal.returns-clause-exactly
 returns-clause-exactly c =
     let e = c.use_other.ensures in
