@@ -94,6 +94,13 @@ impl Packages {
         self.table.names(alloc)
     }
 
+    /// The same names in the same order, as the packages have them: no name is copied.
+    pub fn package_names(&self, alloc: Global) -> Result<Vec<&[u8]>, AllocError>
+        ensures { IfOk result (λ names. map (λ n. n.now) names.items ≡ package_names self.now.0) }
+    {
+        self.table.package_names(alloc)
+    }
+
     /// The names of the packages that `owner` uses, sorted by their bytes.
     ///
     /// # Errors

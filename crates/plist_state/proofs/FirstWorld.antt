@@ -1,4 +1,5 @@
 -- That the first world is sound.
+--     first_sound, first_state
 use Rattle.std.proofs.Common.{◌≡◌, Bool, true, false, cond, Option, None, Some, IsTrue, is_some, List, [], ◌∷◌, refl, sym, ap, subst, ◌∙◌, arith, ◌≤◌, ◌+◌}
 use Rattle.std.specs.Prelude.{ℕ, bytes_eq, unwrap_or}
 use Rattle.std.specs.List.{list_all, list_any}
@@ -14,10 +15,14 @@ use Rattle.package_table.specs.Table.{Name, name_cmp, keyword, keyword_names}
 use Rattle.package_table.specs.Lookup.{is_symbol}
 use Rattle.package_table.proofs.First.{sound, user_is_package}
 use Rattle.plist_state.specs.Properties.{Plist, symbol_cmp}
-use Rattle.plist_state.specs.State.{Readtables, initial, first_readtables, standard_name, user_name}
+use Rattle.package_table.specs.Numbers.{Numbered}
+use Rattle.plist_state.specs.State.{Readtables, initial, state_with, first_readtables, first_rest, standard_name, user_name}
+use Rattle.plist_state.specs.Shown.{NumberedRest, first_numbered}
+use Rattle.plist_state.specs.Marked.{state_in}
 use Rattle.plist_state.specs.Sound.{IsSymbol, IsNamed, IsSound}
 use Rattle.plist_state.proofs.Orders.{name_total, one_name}
 use Rattle.plist_state.proofs.Soundness.{symbol_from}
+use Rattle.plist_state.proofs.Listed.{lists_empty}
 
 -- each function of the standard readtable is named by one of the first keywords
 named_first : list_all (λ n. list_any (bytes_eq n) keyword_names) (functions_of readtable.standard) ≡ true
@@ -108,3 +113,8 @@ first_sound = record {
   current_package = user_is_package;
   current_readtable = ap is_some (at_first user_name);
 }
+
+-- what is kept first is the first state
+pub first_state : (s : Numbered) (r : NumberedRest) → s.0 ≡ packages.initial → r ≡ first_numbered → state_in s r ≡ initial
+first_state s r table rest =
+    ap (state_in s) rest ∙ (λ i. state_with (table i) (record first_rest { properties = lists_empty s i }))

@@ -25,15 +25,16 @@ use Rattle.package_table.specs.Lookup.{is_symbol}
 use Rattle.package_table.proofs.Frames.{equal_itself}
 use Rattle.plist_state.specs.declared.error.ReadtableError.{ReadtableError}
 use Rattle.plist_state.specs.declared.error.ReadtableError.TheVariants.{NoReadtable, StandardReadtable, Limit}
-use Rattle.plist_state.specs.State.{Readtables, Rest, State, state_with, standard_name}
+use Rattle.plist_state.specs.State.{Readtables, State, standard_name}
+use Rattle.plist_state.specs.Shown.{NumberedRest}
 use Rattle.plist_state.specs.Changes.{put_changed, with_changed, changed, dispatched, refused_as, with_copy, with_syntax, Gives}
 use Rattle.plist_state.specs.Sound.{IsSymbol, IsNamed, IsSound}
 use Rattle.plist_state.proofs.Orders.{name_total}
 use Rattle.plist_state.proofs.Soundness.{sound_table, symbol_from}
 
-pub kept_rest : {A E : Type 0} (res : Result A E) (t : packages.Table) (r u v : Rest) → OnOk res (v ≡ u) → OnErr res (v ≡ r) → IsSound (state_with t r) → IsSound (state_with t u) → IsSound (state_with t v)
-kept_rest (Ok x) t r u v ok err old new = subst (λ w. IsSound (state_with t w)) (sym ok) new
-kept_rest (Err e) t r u v ok err old new = subst (λ w. IsSound (state_with t w)) (sym err) old
+pub kept_rest : {A E : Type 0} (res : Result A E) (P : NumberedRest → Type 0) (r u v : NumberedRest) → OnOk res (v ≡ u) → OnErr res (v ≡ r) → P r → P u → P v
+kept_rest (Ok x) P r u v ok err old new = subst P (sym ok) new
+kept_rest (Err e) P r u v ok err old new = subst P (sym err) old
 
 pub kept_gives : (res : Result (Unit {0}) ReadtableError) (s : State) (m : Readtables) (said : Result Readtables ReadtableError)
     → Gives (λ _. m) res said → IfErr res (λ _. m ≡ s.readtables) → IsSound s → ((v : Readtables) → said ≡ Ok v → IsSound (record s { readtables = v })) → IsSound (record s { readtables = m })

@@ -9,14 +9,15 @@ use Rattle.readtable_core.specs.Tables.{Table}
 use Rattle.plist_state.specs.declared.error.ReadtableError.{ReadtableError}
 use Rattle.plist_state.specs.declared.note.Note.{Note}
 use Rattle.plist_state.specs.declared.world.World.TheInside.{Inside}
-use Rattle.plist_state.specs.State.{Readtables, Rest, Worlds, state_with}
-use Rattle.plist_state.specs.Shown.{readtables_of, rest_of}
+use Rattle.package_table.specs.Numbers.{numbered}
+use Rattle.plist_state.specs.State.{Readtables, Worlds}
+use Rattle.plist_state.specs.Shown.{NumberedRest, readtables_of, rest_of}
 use Rattle.plist_state.specs.Changes.{Gives}
 use Rattle.plist_state.specs.Journal.{Continues, marks_of}
-use Rattle.plist_state.specs.Marked.{IsKept, marked_states, worlds_of}
+use Rattle.plist_state.specs.Marked.{IsKept, state_in, marked_states, worlds_of}
 use Rattle.plist_state.specs.Sound.{IsSound}
 use Rattle.plist_state.proofs.KeptWorld.{kept_gives}
-use Rattle.plist_state.proofs.Lists.{wider_same}
+use Rattle.plist_state.proofs.ListRows.{wider_same}
 use Rattle.plist_state.proofs.Marking.{kept_continued, refused_same}
 use Rattle.plist_state.proofs.Notes.{fits_now}
 
@@ -26,21 +27,22 @@ with_tables a tables marks = record a { stored = record a.stored { readtables = 
 
 module _ (a : Inside) (tables : BTreeMap (Vec ℕ) Table) (marks : Vec (Vec Note)) (r : Result (Unit {0}) ReadtableError)
     (unchanged : IfErr r (λ _. readtables_of tables ≡ readtables_of a.stored.readtables))
-    (noted : (q : Rest) → Continues (marks_of a.marks.items) (record q { readtables = readtables_of a.stored.readtables }) (marks_of marks.items) (record q { readtables = readtables_of tables })) where
+    (noted : (q : NumberedRest) → Continues (marks_of a.marks.items) (record q { readtables = readtables_of a.stored.readtables }) (marks_of marks.items) (record q { readtables = readtables_of tables })) where
   pub left_kept : (said : Result Readtables ReadtableError) → Gives (λ _. readtables_of tables) r said → IsKept a
-      → ((v : Readtables) → said ≡ Ok v → IsSound (record (state_with a.packages.0 (rest_of a.stored)) { readtables = v })) → IsKept (with_tables a tables marks)
+      → ((v : Readtables) → said ≡ Ok v → IsSound (record (state_in (numbered a.packages) (rest_of a.stored)) { readtables = v })) → IsKept (with_tables a tables marks)
   left_kept said gives kept sound =
       let rows = a.stored.properties.entries in
       record {
         values = kept.values;
-        sound = kept_gives r (state_with a.packages.0 (rest_of a.stored)) (readtables_of tables) said gives unchanged kept.sound sound;
-        marked = kept_continued a.packages.1 (marks_of a.marks.items) (rest_of a.stored) rows kept.marked (marks_of marks.items) _ rows
+        owned = kept.owned;
+        sound = kept_gives r (state_in (numbered a.packages) (rest_of a.stored)) (readtables_of tables) said gives unchanged kept.sound sound;
+        marked = kept_continued a.packages.1.marked (marks_of a.marks.items) (rest_of a.stored) rows kept.marked (marks_of marks.items) _ rows
             (noted (rest_of a.stored)) (fits_now rows (rest_of a.stored) refl) (wider_same rows rows refl);
       }
 
   module _ (w : Worlds) (seen : worlds_of a ≡ w) where
     pub left_marked : (worlds_of (with_tables a tables marks)).1 ≡ w.1
-    left_marked = ap (marked_states a.packages.1) (noted (rest_of a.stored)).same ∙ ap (λ (w : Worlds). w.1) seen
+    left_marked = ap (marked_states a.packages.1.marked) (noted (rest_of a.stored)).same ∙ ap (λ (w : Worlds). w.1) seen
 
     pub left_refused : IfErr r (λ _. worlds_of (with_tables a tables marks) ≡ w)
     left_refused =

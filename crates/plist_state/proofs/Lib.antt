@@ -6,7 +6,8 @@ pub mod ByName
 pub mod Soundness
 pub mod KeptWorld
 pub mod FirstWorld
-pub mod InOrder
+pub mod Listed
+pub mod InState
 pub mod Notes
 pub mod Marking
 pub mod Left

@@ -2,55 +2,76 @@
 --     length_marked, marked_push, marked_take, marked_get      as many, one more, the first ones, one of them
 --     world_same, refused_same      a world that was left as it was
 --     kept_none, kept_continued, kept_push, kept_back      what is kept of the marks
---     state_at, sound_at, gone_back      the state that is gone back to, and the whole world
+--     state_at, sound_at, owned_at, gone_back      the state that is gone back to, and the whole world
 use Rattle.std.proofs.Common.{◌≡◌, ℕ, zero, suc, Some, List, [], ◌∷◌, ◌++◌, length, take, Result, Ok, Err, refl, sym, ap, subst, ◌∙◌, arith}
 use Rattle.std.specs.Prelude.{All, IfErr}
 use Rattle.std.specs.List.{slice_get}
 use Rattle.std.proofs.lemmas.Option.{slice_get_within, get_or_from_slice_get}
 use Rattle.std.proofs.lemmas.List.Elements.{All-nil, All-push, All-take}
-use Rattle.package_table.specs.Table as packages
+use Rattle.package_table.specs.Numbers.{Numbered, Tables, numbered}
 use Rattle.plist_state.specs.declared.note.Note.{Note}
-use Rattle.plist_state.specs.State.{Readtables, Rest, State, Worlds, state_with}
-use Rattle.plist_state.specs.Shown.{Rows}
+use Rattle.plist_state.specs.State.{Readtables, State, Worlds}
+use Rattle.plist_state.specs.Lists.{IsOwned}
+use Rattle.plist_state.specs.Shown.{NumberedRest, Rows}
 use Rattle.plist_state.specs.Kept.{IsWider}
 use Rattle.plist_state.specs.Undoing.{rests_at}
 use Rattle.plist_state.specs.Journal.{Fits, IsJournal, Continues}
-use Rattle.plist_state.specs.Marked.{marked_states, AreKept}
+use Rattle.plist_state.specs.Marked.{state_in, marked_states, AreOwned, AreKept}
 use Rattle.plist_state.specs.Sound.{IsSound}
 use Rattle.package_table.proofs.Names.{same_some}
 use Rattle.plist_state.proofs.Notes.{rests_push, length-rests, journal_put, journal_wider}
 
-pub length_marked : (ts : List packages.Table) (rs : List Rest) → length ts ≡ length rs → length (marked_states ts rs) ≡ length ts
+pub length_marked : (ts : List Numbered) (rs : List NumberedRest) → length ts ≡ length rs → length (marked_states ts rs) ≡ length ts
 length_marked [] rs e = refl
 length_marked (t ∷ ts) [] e = absurd (omega (arith, e))
 length_marked (t ∷ ts) (r ∷ rs) e = ap suc (length_marked ts rs (omega (arith, e)))
 
-pub marked_push : (ts : List packages.Table) (rs : List Rest) (t : packages.Table) (r : Rest) → length ts ≡ length rs → marked_states (ts ++ t ∷ []) (rs ++ r ∷ []) ≡ marked_states ts rs ++ state_with t r ∷ []
+pub marked_push : (ts : List Numbered) (rs : List NumberedRest) (t : Numbered) (r : NumberedRest) → length ts ≡ length rs → marked_states (ts ++ t ∷ []) (rs ++ r ∷ []) ≡ marked_states ts rs ++ state_in t r ∷ []
 marked_push [] [] t r e = refl
 marked_push [] (s ∷ rs) t r e = absurd (omega (arith, e))
 marked_push (u ∷ ts) [] t r e = absurd (omega (arith, e))
-marked_push (u ∷ ts) (s ∷ rs) t r e = ap (λ ss. state_with u s ∷ ss) (marked_push ts rs t r (omega (arith, e)))
+marked_push (u ∷ ts) (s ∷ rs) t r e = ap (λ ss. state_in u s ∷ ss) (marked_push ts rs t r (omega (arith, e)))
 
-pub marked_take : (m : ℕ) (ts : List packages.Table) (rs : List Rest) → marked_states (take m ts) (take m rs) ≡ take m (marked_states ts rs)
+pub marked_take : (m : ℕ) (ts : List Numbered) (rs : List NumberedRest) → marked_states (take m ts) (take m rs) ≡ take m (marked_states ts rs)
 marked_take zero ts rs = refl
 marked_take (suc m) [] rs = refl
 marked_take (suc m) (t ∷ ts) [] = refl
-marked_take (suc m) (t ∷ ts) (r ∷ rs) = ap (λ ss. state_with t r ∷ ss) (marked_take m ts rs)
+marked_take (suc m) (t ∷ ts) (r ∷ rs) = ap (λ ss. state_in t r ∷ ss) (marked_take m ts rs)
 
-pub marked_get : (m : ℕ) (ts : List packages.Table) (rs : List Rest) (t : packages.Table) (r : Rest) → slice_get ts m ≡ Some t → slice_get rs m ≡ Some r → slice_get (marked_states ts rs) m ≡ Some (state_with t r)
+pub marked_get : (m : ℕ) (ts : List Numbered) (rs : List NumberedRest) (t : Numbered) (r : NumberedRest) → slice_get ts m ≡ Some t → slice_get rs m ≡ Some r → slice_get (marked_states ts rs) m ≡ Some (state_in t r)
 marked_get m [] rs t r a b = absurd (cc)
 marked_get m (u ∷ ts) [] t r a b = absurd (cc)
 marked_get zero (u ∷ ts) (s ∷ rs) t r a b = cc
 marked_get (suc m) (u ∷ ts) (s ∷ rs) t r a b = marked_get m ts rs t r a b
 
--- ---- a world that was left as it was
-pub world_same : (ts : packages.Tables) (ms ns : List (List Note)) (r u : Rest) → u ≡ r → rests_at ns u ≡ rests_at ms r
-    → ◌≡◌ {A = Worlds} (state_with ts.0 u, marked_states ts.1 (rests_at ns u)) (state_with ts.0 r, marked_states ts.1 (rests_at ms r))
-world_same ts ms ns r u rest same = λ i. (state_with ts.0 (rest i), marked_states ts.1 (same i))
+-- ---- each number with a list is that of a symbol
+owned_push : (ts : List Numbered) (rs : List NumberedRest) (t : Numbered) (r : NumberedRest) → length ts ≡ length rs → AreOwned ts rs → IsOwned t r.properties → AreOwned (ts ++ t ∷ []) (rs ++ r ∷ [])
+owned_push [] [] t r e all one = (one, tt)
+owned_push [] (s ∷ rs) t r e all one = absurd (omega (arith, e))
+owned_push (u ∷ ts) [] t r e all one = absurd (omega (arith, e))
+owned_push (u ∷ ts) (s ∷ rs) t r e all one = (all.0, owned_push ts rs t r (omega (arith, e)) all.1 one)
 
-pub refused_same : {A E : Type 0} (res : Result A E) (ts : packages.Tables) (ms ns : List (List Note)) (r : Rest) (later : Readtables) (w : Worlds)
-    → IfErr res (λ _. later ≡ r.readtables) → rests_at ns (record r { readtables = later }) ≡ rests_at ms r → ◌≡◌ {A = Worlds} (state_with ts.0 r, marked_states ts.1 (rests_at ms r)) w
-    → IfErr res (λ _. ◌≡◌ {A = Worlds} (state_with ts.0 (record r { readtables = later }), marked_states ts.1 (rests_at ns (record r { readtables = later }))) w)
+owned_take : (m : ℕ) (ts : List Numbered) (rs : List NumberedRest) → AreOwned ts rs → AreOwned (take m ts) (take m rs)
+owned_take zero ts rs all = tt
+owned_take (suc m) [] rs all = tt
+owned_take (suc m) (t ∷ ts) [] all = tt
+owned_take (suc m) (t ∷ ts) (r ∷ rs) all = (all.0, owned_take m ts rs all.1)
+
+owned_get : (m : ℕ) (ts : List Numbered) (rs : List NumberedRest) (t : Numbered) (r : NumberedRest) → slice_get ts m ≡ Some t → slice_get rs m ≡ Some r → AreOwned ts rs → IsOwned t r.properties
+owned_get m [] rs t r a b all = absurd (cc)
+owned_get m (u ∷ ts) [] t r a b all = absurd (cc)
+owned_get zero (u ∷ ts) (s ∷ rs) t r a b all =
+    subst (λ (v : Numbered). IsOwned v r.properties) (same_some u t a) (subst (λ (q : NumberedRest). IsOwned u q.properties) (same_some s r b) all.0)
+owned_get (suc m) (u ∷ ts) (s ∷ rs) t r a b all = owned_get m ts rs t r a b all.1
+
+-- ---- a world that was left as it was
+pub world_same : (ts : Tables) (ms ns : List (List Note)) (r u : NumberedRest) → u ≡ r → rests_at ns u ≡ rests_at ms r
+    → ◌≡◌ {A = Worlds} (state_in (numbered ts) u, marked_states ts.1.marked (rests_at ns u)) (state_in (numbered ts) r, marked_states ts.1.marked (rests_at ms r))
+world_same ts ms ns r u rest same = λ i. (state_in (numbered ts) (rest i), marked_states ts.1.marked (same i))
+
+pub refused_same : {A E : Type 0} (res : Result A E) (ts : Tables) (ms ns : List (List Note)) (r : NumberedRest) (later : Readtables) (w : Worlds)
+    → IfErr res (λ _. later ≡ r.readtables) → rests_at ns (record r { readtables = later }) ≡ rests_at ms r → ◌≡◌ {A = Worlds} (state_in (numbered ts) r, marked_states ts.1.marked (rests_at ms r)) w
+    → IfErr res (λ _. ◌≡◌ {A = Worlds} (state_in (numbered ts) (record r { readtables = later }), marked_states ts.1.marked (rests_at ns (record r { readtables = later }))) w)
 refused_same (Ok x) ts ms ns r later w tables same is = tt
 refused_same (Err e) ts ms ns r later w tables same is =
     world_same ts ms ns r (record r { readtables = later }) (ap (λ (m : Readtables). record r { readtables = m }) tables) same ∙ is
@@ -70,14 +91,15 @@ as_many_take (suc m) (a ∷ xs) [] e = absurd (omega (arith, e))
 as_many_take (suc m) (a ∷ xs) (b ∷ ys) e = ap suc (as_many_take m xs ys (omega (arith, e)))
 
 -- no marks
-pub kept_none : (ts : List packages.Table) (ms : List (List Note)) (r : Rest) (rows : Rows) → ts ≡ [] → ms ≡ [] → AreKept ts ms r rows
+pub kept_none : (ts : List Numbered) (ms : List (List Note)) (r : NumberedRest) (rows : Rows) → ts ≡ [] → ms ≡ [] → AreKept ts ms r rows
 kept_none ts ms r rows no_table no_mark = subst (λ us. AreKept us ms r rows) (sym no_table) (subst (λ ks. AreKept [] ks r rows) (sym no_mark) (record {
   as_many = refl;
   journal = tt;
+  owned = tt;
   sound = All-nil IsSound;
 }))
 
-module _ (ts : List packages.Table) (ms : List (List Note)) (r : Rest) (rows : Rows) (kept : AreKept ts ms r rows) where
+module _ (ts : List Numbered) (ms : List (List Note)) (r : NumberedRest) (rows : Rows) (kept : AreKept ts ms r rows) where
   rests_many : length ts ≡ length (rests_at ms r)
   rests_many = kept.as_many ∙ sym (length-rests ms r)
 
@@ -86,26 +108,28 @@ module _ (ts : List packages.Table) (ms : List (List Note)) (r : Rest) (rows : R
   states_many = length_marked ts (rests_at ms r) rests_many ∙ kept.as_many
 
   -- a change that was noted
-  pub kept_continued : (ns : List (List Note)) (u : Rest) (later : Rows) → Continues ms r ns u → Fits rows r → IsWider rows later → AreKept ts ns u later
+  pub kept_continued : (ns : List (List Note)) (u : NumberedRest) (later : Rows) → Continues ms r ns u → Fits rows r → IsWider rows later → AreKept ts ns u later
   kept_continued ns u later continues fits wider = record {
     as_many = rests_many ∙ ap length (sym continues.same) ∙ length-rests ns u;
     journal = journal_wider ns u rows later wider (continues.journal rows fits kept.journal);
+    owned = subst (AreOwned ts) (sym continues.same) kept.owned;
     sound = subst (λ rs. All IsSound (marked_states ts rs)) (sym continues.same) kept.sound;
   }
 
   -- one mark more
-  pub states_push : (t : packages.Table) → marked_states (ts ++ t ∷ []) (rests_at (ms ++ [] ∷ []) r) ≡ marked_states ts (rests_at ms r) ++ state_with t r ∷ []
+  pub states_push : (t : Numbered) → marked_states (ts ++ t ∷ []) (rests_at (ms ++ [] ∷ []) r) ≡ marked_states ts (rests_at ms r) ++ state_in t r ∷ []
   states_push t = ap (marked_states (ts ++ t ∷ [])) (rests_push ms [] r) ∙ marked_push ts (rests_at ms r) t r rests_many
 
-  pub kept_push : (t : packages.Table) → IsSound (state_with t r) → AreKept (ts ++ t ∷ []) (ms ++ [] ∷ []) r rows
-  kept_push t sound = record {
+  pub kept_push : (t : Numbered) → IsOwned t r.properties → IsSound (state_in t r) → AreKept (ts ++ t ∷ []) (ms ++ [] ∷ []) r rows
+  kept_push t owned sound = record {
     as_many = as_many_push ts ms t [] kept.as_many;
     journal = journal_put ms [] r rows tt kept.journal;
-    sound = subst (All IsSound) (sym (states_push t)) (All-push IsSound (marked_states ts (rests_at ms r)) (state_with t r) kept.sound sound);
+    owned = subst (AreOwned (ts ++ t ∷ [])) (sym (rests_push ms [] r)) (owned_push ts (rests_at ms r) t r rests_many kept.owned owned);
+    sound = subst (All IsSound) (sym (states_push t)) (All-push IsSound (marked_states ts (rests_at ms r)) (state_in t r) kept.sound sound);
   }
 
   -- the first marks
-  module _ (n : ℕ) (ns : List (List Note)) (u : Rest) (past : rests_at ns u ≡ take n (rests_at ms r)) where
+  module _ (n : ℕ) (ns : List (List Note)) (u : NumberedRest) (past : rests_at ns u ≡ take n (rests_at ms r)) where
     pub states_take : marked_states (take n ts) (rests_at ns u) ≡ take n (marked_states ts (rests_at ms r))
     states_take = ap (marked_states (take n ts)) past ∙ marked_take n ts (rests_at ms r)
 
@@ -113,19 +137,23 @@ module _ (ts : List packages.Table) (ms : List (List Note)) (r : Rest) (rows : R
     kept_back later journal = record {
       as_many = as_many_take n ts (rests_at ms r) rests_many ∙ ap length (sym past) ∙ length-rests ns u;
       journal = journal;
+      owned = subst (AreOwned (take n ts)) (sym past) (owned_take n ts (rests_at ms r) kept.owned);
       sound = subst (All IsSound) (sym states_take) (All-take IsSound n (marked_states ts (rests_at ms r)) kept.sound);
     }
 
   -- one of the marks
-  module _ (n : ℕ) (t : packages.Table) (u : Rest) (table : slice_get ts n ≡ Some t) (rest : slice_get (rests_at ms r) n ≡ Some u) where
-    pub state_at : slice_get (marked_states ts (rests_at ms r)) n ≡ Some (state_with t u)
+  module _ (n : ℕ) (t : Numbered) (u : NumberedRest) (table : slice_get ts n ≡ Some t) (rest : slice_get (rests_at ms r) n ≡ Some u) where
+    pub state_at : slice_get (marked_states ts (rests_at ms r)) n ≡ Some (state_in t u)
     state_at = marked_get n ts (rests_at ms r) t u table rest
 
-    pub sound_at : IsSound (state_with t u)
+    pub sound_at : IsSound (state_in t u)
     sound_at =
         let all : List State = marked_states ts (rests_at ms r) in
-        let s : State = state_with t u in
+        let s : State = state_in t u in
         subst IsSound (get_or_from_slice_get all n s s state_at) (kept.sound n s (slice_get_within all n s state_at))
+
+    pub owned_at : IsOwned t u.properties
+    owned_at = owned_get n ts (rests_at ms r) t u table rest kept.owned
 
 -- the world that was marked
 module _ {X : Type 0} where

@@ -1,8 +1,12 @@
--- Property lists by the numbers of symbols.
-use Rattle.std.specs.Prelude.{ℕ, [], ◌∷◌, unwrap_or}
+-- Property lists by the numbers of symbols, and how they are those of the symbols.
+use Rattle.std.specs.Prelude.{◌≡◌, ℕ, IsTrue, List, [], ◌∷◌, map, Option, Some, option_map, option_and_then, unwrap_or}
+use Rattle.std.specs.List.{filter_map, flat_map}
 use Rattle.std.specs.Ordering.{nat_cmp}
 use Rattle.std.specs.FinMap as finite
-use Rattle.plist_state.specs.Properties.{Plist}
+use Rattle.package_table.specs.Table.{Table}
+use Rattle.package_table.specs.Numbers.{Numbered, number_of}
+use Rattle.package_table.specs.Readers.{package_names, own_names}
+use Rattle.plist_state.specs.Properties.{Symbol, Plist, Properties}
 
 -- the property lists of the symbols that have one, by their numbers, each with a property in it
 abbrev pub NumberedLists : Type 0
@@ -16,3 +20,19 @@ row_of m i = unwrap_or (finite.get m i) []
 abbrev pub with_row : NumberedLists → ℕ → Plist → NumberedLists
 with_row m i [] = finite.remove m i
 with_row m i (p ∷ ps) = finite.insert m i (p ∷ ps)
+
+-- all symbols, by the names of their homes and then by their own
+abbrev pub symbols : Table → List Symbol
+symbols t = flat_map (λ p. map (λ n. (p, n)) (own_names t p)) (package_names t)
+
+-- the property list of a symbol, if it has one
+abbrev pub list_of : Numbered → NumberedLists → Symbol → Option Plist
+list_of s m x = option_and_then (finite.get m) (number_of s x.0 x.1)
+
+-- the property lists by their symbols
+abbrev pub lists : Numbered → NumberedLists → Properties
+lists s m = finite.from_entries (filter_map (λ x. option_map (λ ps. (x, ps)) (list_of s m x)) (symbols s.0))
+
+-- each number that has a list is that of a symbol
+abbrev pub IsOwned : Numbered → NumberedLists → Type 0
+IsOwned s m = (i : ℕ) → IsTrue (finite.contains_key m i) → (x : Symbol) × (number_of s x.0 x.1 ≡ Some i)

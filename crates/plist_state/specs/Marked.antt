@@ -1,33 +1,57 @@
 -- What contracts see of a world, and what holds of it.
 use Rattle.std.specs.Prelude.{◌≡◌, List, [], ◌∷◌, length, All}
-use Rattle.package_table.specs.Table as packages
+use Rattle.package_table.specs.Numbers.{Numbered, numbered}
 use Rattle.plist_state.specs.declared.note.Note.{Note}
 use Rattle.plist_state.specs.declared.world.World.TheInside.{Inside}
 use Rattle.plist_state.specs.State.{Rest, State, Worlds, state_with}
 use Rattle.plist_state.specs.Sound.{IsSound}
-use Rattle.plist_state.specs.Shown.{Rows, rest_of}
+use Rattle.plist_state.specs.Lists.{lists, IsOwned}
+use Rattle.plist_state.specs.Shown.{NumberedRest, Rows, rest_of}
 use Rattle.plist_state.specs.Kept.{IsProperRows}
 use Rattle.plist_state.specs.Undoing.{rests_at}
 use Rattle.plist_state.specs.Journal.{marks_of, IsJournal}
 
+-- the same, with the property lists by their symbols
+abbrev pub rest_in : Numbered → NumberedRest → Rest
+rest_in s r =
+    record {
+      properties = lists s r.properties;
+      readtables = r.readtables;
+      current_package = r.current_package;
+      current_readtable = r.current_readtable;
+    }
+
+-- the state of these packages, and of what is kept besides
+abbrev pub state_in : Numbered → NumberedRest → State
+state_in s r = state_with s.0 (rest_in s r)
+
 -- the states that were marked: at each mark the packages, and the rest
-abbrev pub marked_states : List packages.Table → List Rest → List State
+abbrev pub marked_states : List Numbered → List NumberedRest → List State
 marked_states [] rests = []
-marked_states (t ∷ ts) [] = []
-marked_states (t ∷ ts) (r ∷ rests) = state_with t r ∷ marked_states ts rests
+marked_states (s ∷ ss) [] = []
+marked_states (s ∷ ss) (r ∷ rests) = state_in s r ∷ marked_states ss rests
 
 -- the state of a world, and the states that were marked
 abbrev pub worlds_of : Inside → Worlds
-worlds_of a = (state_with a.packages.0 (rest_of a.stored), marked_states a.packages.1 (rests_at (marks_of a.marks.items) (rest_of a.stored)))
+worlds_of a =
+    (state_in (numbered a.packages) (rest_of a.stored), marked_states a.packages.1.marked (rests_at (marks_of a.marks.items) (rest_of a.stored)))
+
+-- at each mark, each number that has a list is that of a symbol
+abbrev pub AreOwned : List Numbered → List NumberedRest → Type 0
+AreOwned [] rests = Unit {0}
+AreOwned (s ∷ ss) [] = Unit {0}
+AreOwned (s ∷ ss) (r ∷ rests) = IsOwned s r.properties × AreOwned ss rests
 
 -- The packages have as many marks as the rest. One can go back to each, and each marked state is sound.
-pub record AreKept (ts : List packages.Table) (ms : List (List Note)) (r : Rest) (rows : Rows) : Type 0 where
-  pub as_many : length ts ≡ length ms
+pub record AreKept (ss : List Numbered) (ms : List (List Note)) (r : NumberedRest) (rows : Rows) : Type 0 where
+  pub as_many : length ss ≡ length ms
   pub journal : IsJournal ms r rows
-  pub sound : All IsSound (marked_states ts (rests_at ms r))
+  pub owned : AreOwned ss (rests_at ms r)
+  pub sound : All IsSound (marked_states ss (rests_at ms r))
 
--- each value is proper, and the world is sound, now and at each mark
+-- each value is proper, each list has its symbol, and the world is sound, now and at each mark
 pub record IsKept (a : Inside) : Type 0 where
   pub values : IsProperRows a.stored.properties.entries
-  pub sound : IsSound (state_with a.packages.0 (rest_of a.stored))
-  pub marked : AreKept a.packages.1 (marks_of a.marks.items) (rest_of a.stored) a.stored.properties.entries
+  pub owned : IsOwned (numbered a.packages) (rest_of a.stored).properties
+  pub sound : IsSound (state_in (numbered a.packages) (rest_of a.stored))
+  pub marked : AreKept a.packages.1.marked (marks_of a.marks.items) (rest_of a.stored) a.stored.properties.entries

@@ -35,6 +35,7 @@ mod error;
 mod journal;
 mod marks;
 mod note;
+mod numbers;
 mod packages;
 mod properties;
 mod property;

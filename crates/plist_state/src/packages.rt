@@ -26,6 +26,7 @@ impl World {
     {
         let result = self.packages.make(name);
         self.packages.soundness();
+        self.packages.numbering();
         result
     }
 
@@ -48,6 +49,7 @@ impl World {
     {
         let result = self.packages.intern(owner, name);
         self.packages.soundness();
+        self.packages.numbering();
         result
     }
 
@@ -68,6 +70,7 @@ impl World {
     {
         let result = self.packages.export(owner, home, name);
         self.packages.soundness();
+        self.packages.numbering();
         result
     }
 
@@ -89,6 +92,7 @@ impl World {
     {
         let result = self.packages.import(owner, home, name);
         self.packages.soundness();
+        self.packages.numbering();
         result
     }
 
@@ -109,6 +113,7 @@ impl World {
     {
         let result = self.packages.use_package(owner, used);
         self.packages.soundness();
+        self.packages.numbering();
         result
     }
 

@@ -5,6 +5,7 @@ ghost use Rattle.plist_state.specs.Changes.{property, with_property, without_pro
 ghost use Rattle.plist_state.specs.Shown.{symbol_of};
 ghost use Rattle.plist_state.specs.Sound.{IsSymbol, IsValue};
 
+use crate::numbers::number;
 use crate::{Symbol, World, stored};
 use lisp_object::Datum;
 use std::alloc::AllocError;
@@ -26,11 +27,13 @@ impl World {
         ensures ok { OnOk result (self.new ≡ (with_property self.old.0 (symbol_of symbol.now) (symbol_of indicator) (object_of value), self.old.1)) }
         ensures err { OnErr result (self.new ≡ self.old) }
     {
+        self.packages.numbering();
+        let number = number(&self.packages, symbol);
         stored::put(
             self.alloc,
             &mut self.stored,
             &mut self.marks,
-            symbol,
+            number,
             indicator,
             value,
         )
@@ -46,12 +49,8 @@ impl World {
         ensures absent { OnErr result (is_some (property self.old.0 (symbol_of symbol.now) (symbol_of indicator.now)) ≡ true) }
         ensures err { OnErr result (self.new ≡ self.old) }
     {
-        stored::remove(
-            self.alloc,
-            &mut self.stored,
-            &mut self.marks,
-            symbol,
-            indicator,
-        )
+        self.packages.numbering();
+        let number = number(&self.packages, symbol);
+        stored::remove(&mut self.stored, &mut self.marks, number, indicator)
     }
 }

@@ -1,11 +1,16 @@
 //! The lists that a world gives, each sorted by bytes.
-ghost use Rattle.std.specs.Prelude.{◌≡◌, map, IfOk};
+ghost use Rattle.std.specs.Prelude.{◌≡◌, ◌++◌, map, filter, is_some, IfOk, OnOk};
 ghost use Rattle.std.specs.FinMap as finite;
+ghost use Rattle.package_table.specs.Numbers.{numbered};
+ghost use Rattle.package_table.specs.Readers.{own_names};
+ghost use Rattle.plist_state.specs.Lists.{list_of, lists};
 ghost use Rattle.plist_state.specs.Readers.{readtable_names, symbols_with_properties};
-ghost use Rattle.plist_state.specs.Shown.{symbol_of, lists_of, readtables_of};
+ghost use Rattle.plist_state.specs.Shown.{lists_of, readtables_of};
 
-use crate::{Property, Symbol, World};
+use crate::numbers::number_of;
+use crate::{Property, World, rows};
 use lisp_object::{Bytes, Items};
+use package_table::Packages;
 use readtable_core::Readtable;
 use std::alloc::{AllocError, Global};
 use std::collections::BTreeMap;
@@ -20,30 +25,66 @@ fn names(alloc: Global, tables: &BTreeMap<Vec<u8>, Readtable>) -> Result<Items<B
     Ok(names)
 }
 
+// Whether the symbol of this home and name has properties.
+fn has_properties(
+    packages: &Packages,
+    rows: &BTreeMap<u32, Vec<Property>>,
+    home: &[u8],
+    name: &[u8],
+) -> bool
+    ensures { result ≡ is_some (list_of (numbered packages.now) (lists_of rows.now) (home.now, name.now)) }
+{
+    match number_of(packages, home, name) {
+        Some(number) => rows::has_properties(rows, number),
+        None => false,
+    }
+}
+
+// Adds the symbols of a home that have properties. The home is a package, so that only memory can run out.
+fn push_owners<'a>(
+    alloc: Global,
+    packages: &'a Packages,
+    rows: &BTreeMap<u32, Vec<Property>>,
+    home: &'a [u8],
+    symbols: &mut Vec<(&'a [u8], &'a [u8])>,
+) -> Result<(), AllocError>
+    ensures { OnOk result (map (λ s. (s.0.now, s.1.now)) symbols.new.items ≡ map (λ s. (s.0.now, s.1.now)) symbols.old.items
+        ++ filter (λ x. is_some (list_of (numbered packages.now) (lists_of rows.now) x)) (map (λ n. (home.now, n)) (own_names packages.now.0 home.now))) }
+{
+    let Ok(names) = packages.own_names(alloc, home) else {
+        return Err(AllocError);
+    };
+    for name in names {
+        if has_properties(packages, rows, home, name) {
+            symbols.push((home, name))?;
+        }
+    }
+    Ok(())
+}
+
 // The symbols that have properties.
 fn owners<'a>(
     alloc: Global,
-    rows: &'a BTreeMap<Symbol, Vec<Property>>,
-) -> Result<Vec<&'a Symbol>, AllocError>
-    ensures { IfOk result (λ symbols. map (λ s. symbol_of s.now) symbols.items ≡ finite.keys (lists_of rows.now)) }
+    packages: &'a Packages,
+    rows: &BTreeMap<u32, Vec<Property>>,
+) -> Result<Vec<(&'a [u8], &'a [u8])>, AllocError>
+    ensures { IfOk result (λ symbols. map (λ s. (s.0.now, s.1.now)) symbols.items ≡ finite.keys (lists (numbered packages.now) (lists_of rows.now))) }
 {
-    let mut symbols = Vec::with_capacity(alloc, rows.len())?;
-    for (symbol, row) in rows {
-        if !row.is_empty() {
-            symbols.push(symbol)?;
-        }
+    let mut symbols = Vec::new(alloc);
+    for home in packages.package_names(alloc)? {
+        push_owners(alloc, packages, rows, home, &mut symbols)?;
     }
     Ok(symbols)
 }
 
 // The homes and the names of symbols.
-fn copies(alloc: Global, symbols: &[&Symbol]) -> Result<Items<(Bytes, Bytes)>, AllocError>
-    ensures { IfOk result (λ copies. copies ≡ map (λ s. symbol_of s.now) symbols.now) }
+fn copies(alloc: Global, symbols: &[(&[u8], &[u8])]) -> Result<Items<(Bytes, Bytes)>, AllocError>
+    ensures { IfOk result (λ copies. copies ≡ map (λ s. (s.0.now, s.1.now)) symbols.now) }
 {
     let mut copies = Items::new(alloc);
-    for symbol in symbols {
-        let home = Bytes::from_slice(alloc, symbol.home())?;
-        let name = Bytes::from_slice(alloc, symbol.name())?;
+    for (home, name) in symbols {
+        let home = Bytes::from_slice(alloc, home)?;
+        let name = Bytes::from_slice(alloc, name)?;
         copies.push((home, name))?;
     }
     Ok(copies)
@@ -61,13 +102,13 @@ impl World {
     pub fn with_properties(&self, alloc: Global) -> Result<Items<(Bytes, Bytes)>, AllocError>
         ensures { IfOk result (λ symbols. symbols ≡ symbols_with_properties self.now.0) }
     {
-        copies(alloc, owners(alloc, &self.stored.properties)?.as_slice())
+        copies(alloc, self.owners(alloc)?.as_slice())
     }
 
-    /// The same symbols in the same order, as the world has them: no name is copied.
-    pub fn owners(&self, alloc: Global) -> Result<Vec<&Symbol>, AllocError>
-        ensures { IfOk result (λ symbols. map (λ s. symbol_of s.now) symbols.items ≡ symbols_with_properties self.now.0) }
+    /// The same symbols in the same order, each as the world has its home and its name: no name is copied.
+    pub fn owners(&self, alloc: Global) -> Result<Vec<(&[u8], &[u8])>, AllocError>
+        ensures { IfOk result (λ symbols. map (λ s. (s.0.now, s.1.now)) symbols.items ≡ symbols_with_properties self.now.0) }
     {
-        owners(alloc, &self.stored.properties)
+        owners(alloc, &self.packages, &self.stored.properties)
     }
 }

@@ -2,6 +2,7 @@
 ghost use Rattle.std.specs.Prelude.{◌≡◌, ◌≤◌, true, [], map, length, Some, None, is_some, unwrap_or, IfOk, OnOk, IfErr, OnErr, IfSome, MatchOption, All, IsSome, vec_capacity};
 ghost use Rattle.std.specs.List.{position};
 ghost use Rattle.std.specs.Option.{option_map};
+ghost use Rattle.std.specs.FinMap as finite;
 ghost use Rattle.lisp_object.specs.Datum.{object_of, is_proper};
 ghost use Rattle.plist_state.specs.Properties.{with_value, without_value, value_at, same_symbol};
 ghost use Rattle.plist_state.specs.Lists.{row_of, with_row};
@@ -42,6 +43,16 @@ pub(crate) fn row<'a>(rows: &'a BTreeMap<u32, Vec<Property>>, number: u32) -> &'
     match rows.get(&number) {
         Some(row) => row.as_slice(),
         None => &[],
+    }
+}
+
+/// Whether the symbol of a number has properties.
+pub(crate) fn has_properties(rows: &BTreeMap<u32, Vec<Property>>, number: u32) -> bool
+    ensures { result ≡ finite.contains_key (lists_of rows.now) number }
+{
+    match rows.get(&number) {
+        Some(row) => !row.is_empty(),
+        None => false,
     }
 }
 

@@ -9,6 +9,7 @@ ghost use Rattle.plist_state.specs.Sound.{IsSoundWorld};
 ghost use Rattle.plist_state.specs.State.{initial};
 
 use crate::note::Note;
+use crate::numbers::number_of;
 use crate::stored::{Stored, first_stored};
 use crate::{Property, Symbol, rows, tables};
 use lisp_object::Datum;
@@ -100,7 +101,8 @@ impl World {
             ≡ property self.now.0 (symbol_of symbol.now) (symbol_of indicator.now) }
         ensures proper { IfSome result (λ d. is_proper d.now ≡ true) }
     {
-        rows::value(&self.stored.properties, symbol, indicator)
+        let number = number_of(&self.packages, symbol.home(), symbol.name())?;
+        rows::value(&self.stored.properties, number, indicator)
     }
 
     /// The property list of a symbol, the indicators in the order in which they were first set (standard 10.2,
@@ -109,6 +111,17 @@ impl World {
         ensures list { map property_of result.now ≡ plist self.now.0 (symbol_of symbol.now) }
         ensures proper { All (λ p. is_proper p.value ≡ true) result.now }
     {
-        rows::row(&self.stored.properties, symbol)
+        self.plist_of(symbol.home(), symbol.name())
+    }
+
+    /// The same of the symbol of this home and name. Takes no memory.
+    pub fn plist_of(&self, home: &[u8], name: &[u8]) -> &[Property]
+        ensures list { map property_of result.now ≡ plist self.now.0 (home.now, name.now) }
+        ensures proper { All (λ p. is_proper p.value ≡ true) result.now }
+    {
+        match number_of(&self.packages, home, name) {
+            Some(number) => rows::row(&self.stored.properties, number),
+            None => &[],
+        }
     }
 }

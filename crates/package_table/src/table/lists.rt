@@ -23,15 +23,22 @@ fn copies(alloc: Global, names: &[&[u8]]) -> Result<Items<Bytes>, AllocError>
 }
 
 impl PackageTable {
+    /// The names of the packages, as they are kept.
+    pub(crate) fn package_names(&self, alloc: Global) -> Result<Vec<&[u8]>, AllocError>
+        ensures { IfOk result (λ names. map (λ n. n.now) names.items ≡ package_names self.now.0) }
+    {
+        let mut names = Vec::with_capacity(alloc, self.packages.len())?;
+        for owner in self.packages.keys() {
+            names.push(owner.as_slice())?;
+        }
+        Ok(names)
+    }
+
     /// The names of the packages.
     pub(crate) fn names(&self, alloc: Global) -> Result<Items<Bytes>, AllocError>
         ensures { IfOk result (λ names. names ≡ package_names self.now.0) }
     {
-        let mut names = Items::new(alloc);
-        for owner in self.packages.keys() {
-            names.push(Bytes::from_slice(alloc, owner.as_slice())?)?;
-        }
-        Ok(names)
+        copies(alloc, self.package_names(alloc)?.as_slice())
     }
 
     // What the package of this name holds, of which a list is given.

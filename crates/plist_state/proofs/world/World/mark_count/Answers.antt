@@ -11,5 +11,5 @@ pub returns : goal.returns
 returns c =
     let a = c.self.inside in
     c.len.ensures ∙ a.marks.ok.0 ∙ sym (length-map a.marks.items notes_of)
-    ∙ sym (states_many a.packages.1 (marks_of a.marks.items) (rest_of a.stored) a.stored.properties.entries c.self.invariant.marked)
+    ∙ sym (states_many a.packages.1.marked (marks_of a.marks.items) (rest_of a.stored) a.stored.properties.entries c.self.invariant.marked)
     ∙ ap (λ (w : Worlds). length w.1) c.self.view_is

@@ -3,10 +3,12 @@ use Rattle.std.specs.Global.{Vec}
 use Rattle.package_table.specs.Table.{IsPackage}
 use Rattle.plist_state.specs.Sound.{IsSound}
 use Rattle.plist_state.specs.declared.note.Note.TheVariants.{InPackage}
-use Rattle.plist_state.specs.State.{Rest, State, state_with}
-use Rattle.plist_state.specs.Shown.{rest_of}
+use Rattle.package_table.specs.Numbers.{numbered}
+use Rattle.plist_state.specs.State.{State}
+use Rattle.plist_state.specs.Shown.{NumberedRest, rest_of}
+use Rattle.plist_state.specs.Marked.{state_in}
 use Rattle.plist_state.specs.Journal.{marks_of}
-use Rattle.plist_state.proofs.Lists.{wider_same}
+use Rattle.plist_state.proofs.ListRows.{wider_same}
 use Rattle.plist_state.proofs.Notes.{continues_noted, fits_now}
 use Rattle.plist_state.proofs.Marking.{kept_continued}
 use Rattle.plist_state.proofs.Soundness.{sound_in_package}
@@ -15,15 +17,16 @@ use Rattle.plist_state.proofs.world.World.set_current_package.Goals as goal
 pub invariant_of-self-2 : goal.invariant_of-self-2
 invariant_of-self-2 c =
     let a = c.self.inside in
-    let r : Rest = rest_of a.stored in
-    let u : Rest = record r { current_package = c.replace-before.new.dest.items } in
-    let s : State = state_with a.packages.0 r in
+    let r : NumberedRest = rest_of a.stored in
+    let u : NumberedRest = record r { current_package = c.replace-before.new.dest.items } in
+    let s : State = state_in (numbered a.packages) r in
     let there : IsPackage s.packages c.args.name.now = search rules in
     let named : c.replace-before.new.dest.items ≡ c.args.name.now = ap (λ (v : Vec ℕ). v.items) c.replace-before.ensures.after ∙ c.in_ok-name.ensures.name in
     record {
       values = c.self.invariant.values;
+      owned = c.self.invariant.owned;
       sound = subst (λ n. IsSound (record s { current_package = n })) (sym named) (sound_in_package s c.args.name.now c.self.invariant.sound there);
-      marked = kept_continued a.packages.1 (marks_of a.marks.items) r a.stored.properties.entries c.self.invariant.marked (marks_of c.push_note.new.marks.items) u a.stored.properties.entries
+      marked = kept_continued a.packages.1.marked (marks_of a.marks.items) r a.stored.properties.entries c.self.invariant.marked (marks_of c.push_note.new.marks.items) u a.stored.properties.entries
           (continues_noted (marks_of a.marks.items) _ (marks_of c.push_note.new.marks.items) (InPackage c.replace-before.result) r u c.in_ok-name.ensures.same c.push_note.ensures tt
           (λ i. record r { current_package = (c.replace-before.ensures.value i).items }))
           (fits_now a.stored.properties.entries r refl) (wider_same a.stored.properties.entries a.stored.properties.entries refl);

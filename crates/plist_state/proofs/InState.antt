@@ -1,0 +1,88 @@
+-- A state with the property lists by their symbols, from what is kept by their numbers.
+--     state_listed      one list is changed
+--     world_listed, world_same_err      the world after a change of a list, or after none
+--     packages_kept, packages_rest, packages_unchanged      the world with other packages, in which no symbol is lost and each keeps its number
+use Rattle.std.proofs.Common.{◌≡◌, ℕ, List, Option, Some, Result, Ok, Err, refl, sym, ap, subst, ◌∙◌}
+use Rattle.std.specs.Prelude.{OnOk, OnErr, IfErr}
+use Rattle.package_table.specs.Table as packages
+use Rattle.package_table.specs.Table.{symbol_count}
+use Rattle.package_table.specs.Numbers.{Numbered, Tables, numbered, number_of}
+use Rattle.package_table.specs.Numbering.{IsNumbered, Keeps}
+use Rattle.package_table.specs.Growth.{Grows}
+use Rattle.plist_state.specs.declared.note.Note.{Note}
+use Rattle.plist_state.specs.declared.world.World.TheInside.{Inside}
+use Rattle.plist_state.specs.Properties.{Symbol, Plist, Properties, list_at, with_list}
+use Rattle.plist_state.specs.State.{State, Worlds}
+use Rattle.plist_state.specs.Changes.{with_packages}
+use Rattle.plist_state.specs.Lists.{row_of, with_row, lists}
+use Rattle.plist_state.specs.Shown.{NumberedRest, rest_of}
+use Rattle.plist_state.specs.Undoing.{rests_at}
+use Rattle.plist_state.specs.Journal.{marks_of}
+use Rattle.plist_state.specs.Sound.{IsSound}
+use Rattle.plist_state.specs.Marked.{state_in, marked_states, worlds_of, AreKept, IsKept}
+use Rattle.plist_state.proofs.Listed.{lists_at, lists_put, lists_grown, owned_grown}
+use Rattle.plist_state.proofs.Marking.{world_same}
+use Rattle.plist_state.proofs.Soundness.{sound_packages}
+
+-- what is kept where the list of a number is changed
+abbrev pub with_changed_row : NumberedRest → ℕ → (Plist → Plist) → NumberedRest
+with_changed_row r n f = record r { properties = with_row r.properties n (f (row_of r.properties n)) }
+
+-- a state where the list of a symbol is changed
+abbrev pub with_changed_list : State → Symbol → (Plist → Plist) → State
+with_changed_list s x f = record s { properties = with_list s.properties x (f (list_at s.properties x)) }
+
+module _ (s : Numbered) (count : ℕ) (counted : IsNumbered s count) (x : Symbol) (n : ℕ) (is : number_of s x.0 x.1 ≡ Some n) where
+  pub state_listed : (r : NumberedRest) (f : Plist → Plist) → state_in s (with_changed_row r n f) ≡ with_changed_list (state_in s r) x f
+  state_listed r f =
+      ap (λ (m : Properties). record (state_in s r) { properties = m })
+      (lists_put s count counted r.properties x n (f (row_of r.properties n)) is
+      ∙ ap (λ ps. with_list (lists s r.properties) x (f ps)) (sym (lists_at s r.properties x n is)))
+
+module _ {A E : Type 0} (res : Result A E) (ts : Tables) (ms ns : List (List Note)) (r u : NumberedRest) (same : rests_at ns u ≡ rests_at ms r)
+    (w : Worlds) (seen : ◌≡◌ {A = Worlds} (state_in (numbered ts) r, marked_states ts.1.marked (rests_at ms r)) w) where
+  pub world_listed : (count : ℕ) → IsNumbered (numbered ts) count → (x : Symbol) (n : ℕ) → number_of (numbered ts) x.0 x.1 ≡ Some n → (f : Plist → Plist)
+      → OnOk res (u ≡ with_changed_row r n f)
+      → OnOk res (◌≡◌ {A = Worlds} (state_in (numbered ts) u, marked_states ts.1.marked (rests_at ns u)) (with_changed_list w.0 x f, w.1))
+  world_listed count counted x n is f = done res
+    where
+      done : (q : Result A E) → OnOk q (u ≡ with_changed_row r n f)
+          → OnOk q (◌≡◌ {A = Worlds} (state_in (numbered ts) u, marked_states ts.1.marked (rests_at ns u)) (with_changed_list w.0 x f, w.1))
+      done (Err e) ok = tt
+      done (Ok v) ok =
+          (λ i. (state_in (numbered ts) (ok i), marked_states ts.1.marked (same i)))
+          ∙ (λ i. (state_listed (numbered ts) count counted x n is r f i, marked_states ts.1.marked (rests_at ms r)))
+          ∙ ap (λ (v : Worlds). (with_changed_list v.0 x f, v.1)) seen
+
+  pub world_same_err : OnErr res (u ≡ r) → OnErr res (◌≡◌ {A = Worlds} (state_in (numbered ts) u, marked_states ts.1.marked (rests_at ns u)) w)
+  world_same_err = done res
+    where
+      done : (q : Result A E) → OnErr q (u ≡ r) → OnErr q (◌≡◌ {A = Worlds} (state_in (numbered ts) u, marked_states ts.1.marked (rests_at ns u)) w)
+      done (Ok v) err = tt
+      done (Err e) err = world_same ts ms ns r u err same ∙ seen
+
+-- ---- other packages
+module _ (a : Inside) (ts : Tables) (grows : Grows a.packages.0 ts.0) (keeps : Keeps (numbered a.packages) (numbered ts))
+    (counted : IsNumbered (numbered ts) (symbol_count ts.0)) (marked : ts.1.marked ≡ a.packages.1.marked) (kept : IsKept a) where
+  same_lists : lists (numbered ts) (rest_of a.stored).properties ≡ lists (numbered a.packages) (rest_of a.stored).properties
+  same_lists = lists_grown (numbered a.packages) (numbered ts) (symbol_count ts.0) counted grows keeps (rest_of a.stored).properties kept.owned
+
+  same_state : state_in (numbered ts) (rest_of a.stored) ≡ with_packages (state_in (numbered a.packages) (rest_of a.stored)) ts.0
+  same_state = ap (λ (m : Properties). record (state_in (numbered ts) (rest_of a.stored)) { properties = m }) same_lists
+
+  pub packages_rest : (w : Worlds) → worlds_of a ≡ w → worlds_of (record a { packages = ts }) ≡ (with_packages w.0 ts.0, w.1)
+  packages_rest w seen =
+      (λ i. (same_state i, marked_states (marked i) (rests_at (marks_of a.marks.items) (rest_of a.stored))))
+      ∙ ap (λ (v : Worlds). (with_packages v.0 ts.0, v.1)) seen
+
+  pub packages_kept : packages.IsSound ts.0 → IsKept (record a { packages = ts })
+  packages_kept sound = record {
+    values = kept.values;
+    owned = owned_grown (numbered a.packages) (numbered ts) grows keeps (rest_of a.stored).properties kept.owned;
+    sound = subst IsSound (sym same_state) (sound_packages (state_in (numbered a.packages) (rest_of a.stored)) ts.0 kept.sound sound grows);
+    marked = subst (λ ss. AreKept ss (marks_of a.marks.items) (rest_of a.stored) a.stored.properties.entries) (sym marked) kept.marked;
+  }
+
+pub packages_unchanged : {A E : Type 0} (res : Result A E) (a : Inside) (ts : Tables) → IfErr res (λ _. ts ≡ a.packages) → (w : Worlds) → worlds_of a ≡ w → IfErr res (λ _. worlds_of (record a { packages = ts }) ≡ w)
+packages_unchanged (Ok x) a ts same w seen = tt
+packages_unchanged (Err e) a ts same w seen = ap (λ (ts : Tables). worlds_of (record a { packages = ts })) same ∙ seen

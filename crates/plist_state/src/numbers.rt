@@ -1,0 +1,32 @@
+//! The numbers of symbols, under which their property lists are kept.
+ghost use Rattle.std.specs.Prelude.{◌≡◌, Some};
+ghost use Rattle.package_table.specs.Numbers as numbers;
+ghost use Rattle.package_table.specs.Numbers.{numbered};
+ghost use Rattle.plist_state.specs.Shown.{symbol_of};
+ghost use Rattle.plist_state.specs.Sound.{IsSymbol};
+
+use crate::Symbol;
+use package_table::Packages;
+
+/// The number of the symbol of this home and name, where there is one. Takes no memory.
+pub(crate) fn number_of(packages: &Packages, home: &[u8], name: &[u8]) -> Option<u32>
+    ensures { result ≡ numbers.number_of (numbered packages.now) home.now name.now }
+{
+    packages.soundness();
+    match packages.numbers().number_of(home, name) {
+        Some(number) => Some(number as u32),
+        None => None,
+    }
+}
+
+/// The number of a symbol that is there. Takes no memory.
+pub(crate) fn number(packages: &Packages, symbol: &Symbol) -> u32
+    requires { IsSymbol packages.now.0 (symbol_of symbol.now) }
+    ensures { numbers.number_of (numbered packages.now) (symbol_of symbol.now).0 (symbol_of symbol.now).1 ≡ Some result }
+{
+    packages.numbering();
+    match number_of(packages, symbol.home(), symbol.name()) {
+        Some(number) => number,
+        None => unreachable!(),
+    }
+}
