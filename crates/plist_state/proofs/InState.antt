@@ -1,8 +1,9 @@
 -- A state with the property lists by their symbols, from what is kept by their numbers.
 --     state_listed      one list is changed
 --     world_listed, world_same_err      the world after a change of a list, or after none
+--     row_seen, none_seen      what is seen of a symbol
 --     packages_kept, packages_rest, packages_unchanged      the world with other packages, in which no symbol is lost and each keeps its number
-use Rattle.std.proofs.Common.{◌≡◌, ℕ, List, Option, Some, Result, Ok, Err, refl, sym, ap, subst, ◌∙◌}
+use Rattle.std.proofs.Common.{◌≡◌, ℕ, List, [], None, Some, Result, Ok, Err, sym, ap, subst, ◌∙◌}
 use Rattle.std.specs.Prelude.{OnOk, OnErr, IfErr}
 use Rattle.package_table.specs.Table as packages
 use Rattle.package_table.specs.Table.{symbol_count}
@@ -13,14 +14,14 @@ use Rattle.plist_state.specs.declared.note.Note.{Note}
 use Rattle.plist_state.specs.declared.world.World.TheInside.{Inside}
 use Rattle.plist_state.specs.Properties.{Symbol, Plist, Properties, list_at, with_list}
 use Rattle.plist_state.specs.State.{State, Worlds}
-use Rattle.plist_state.specs.Changes.{with_packages}
+use Rattle.plist_state.specs.Changes.{plist, with_packages}
 use Rattle.plist_state.specs.Lists.{row_of, with_row, lists}
 use Rattle.plist_state.specs.Shown.{NumberedRest, rest_of}
 use Rattle.plist_state.specs.Undoing.{rests_at}
 use Rattle.plist_state.specs.Journal.{marks_of}
 use Rattle.plist_state.specs.Sound.{IsSound}
 use Rattle.plist_state.specs.Marked.{state_in, marked_states, worlds_of, AreKept, IsKept}
-use Rattle.plist_state.proofs.Listed.{lists_at, lists_put, lists_grown, owned_grown}
+use Rattle.plist_state.proofs.Listed.{lists_at, lists_none, lists_put, lists_grown, owned_grown}
 use Rattle.plist_state.proofs.Marking.{world_same}
 use Rattle.plist_state.proofs.Soundness.{sound_packages}
 
@@ -60,6 +61,14 @@ module _ {A E : Type 0} (res : Result A E) (ts : Tables) (ms ns : List (List Not
       done : (q : Result A E) → OnErr q (u ≡ r) → OnErr q (◌≡◌ {A = Worlds} (state_in (numbered ts) u, marked_states ts.1.marked (rests_at ns u)) w)
       done (Ok v) err = tt
       done (Err e) err = world_same ts ms ns r u err same ∙ seen
+
+-- ---- what is seen of a symbol
+module _ (a : Inside) (w : Worlds) (seen : worlds_of a ≡ w) (x : Symbol) where
+  pub row_seen : (n : ℕ) → number_of (numbered a.packages) x.0 x.1 ≡ Some n → row_of (rest_of a.stored).properties n ≡ plist w.0 x
+  row_seen n is = sym (lists_at (numbered a.packages) (rest_of a.stored).properties x n is) ∙ ap (λ (v : Worlds). plist v.0 x) seen
+
+  pub none_seen : number_of (numbered a.packages) x.0 x.1 ≡ None → [] ≡ plist w.0 x
+  none_seen is = sym (lists_none (numbered a.packages) (rest_of a.stored).properties x is) ∙ ap (λ (v : Worlds). plist v.0 x) seen
 
 -- ---- other packages
 module _ (a : Inside) (ts : Tables) (grows : Grows a.packages.0 ts.0) (keeps : Keeps (numbered a.packages) (numbered ts))

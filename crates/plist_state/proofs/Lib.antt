@@ -6,6 +6,7 @@ pub mod ByName
 pub mod Soundness
 pub mod KeptWorld
 pub mod FirstWorld
+pub mod AllSymbols
 pub mod Listed
 pub mod InState
 pub mod Notes

@@ -5,8 +5,9 @@
 --     lists-put, wider_put      what is shown then
 --     written, lists_made, list_now      after a write through `get_mut`
 --     property_back      a change taken back
-use Rattle.std.proofs.Common.{◌≡◌, ℕ, ◌≤◌, Bool, true, false, cond, Option, None, Some, unwrap_or, List, [], ◌∷◌, map, refl, sym, ap, subst, ◌∙◌, arith}
-use Rattle.std.specs.Prelude.{All, IfSome, is_some, vec_capacity}
+use Rattle.std.proofs.Common.{◌≡◌, ℕ, ◌≤◌, Bool, true, false, cond, Option, None, Some, unwrap_or, List, [], ◌∷◌, map, length, refl, sym, ap, subst, ◌∙◌, arith}
+use Rattle.std.proofs.lemmas.Bool.Decides.{nat_tests}
+use Rattle.std.specs.Prelude.{All, IfSome, is_some, not, ◌==◌, vec_capacity, vec_len}
 use Rattle.std.proofs.lemmas.List.Elements.{All-nil}
 use Rattle.std.proofs.lemmas.Cmp.{nat_cmp_total}
 use Rattle.std.proofs.lemmas.Map.Views.{tells_apart}
@@ -168,6 +169,19 @@ room_shown rows x row is = ap (λ o. option_map_or vec_capacity o 0) (sym is)
 
 pub proper_shown : (rows : Rows) (x : ℕ) (row : Vec Property) → Some row ≡ lookup (is_at (nat_cmp x)) rows → IsProperRows rows → IsProperRow row
 proper_shown rows x row is all = subst (λ o. IfSome o IsProperRow) (sym is) (all x)
+
+-- whether the row that is found has a property
+pub has_shown : (rows : Rows) (x : ℕ) (row : Vec Property) → Some row ≡ lookup (is_at (nat_cmp x)) rows → (b : Bool) → b ≡ (vec_len row == 0) → not b ≡ finite.contains_key (lists_in rows) x
+has_shown rows x row is b empty =
+    ap not empty ∙ some_items row.items (vec_len row) row.ok.0
+    ∙ sym (ap is_some (get-lists_in rows x ∙ ap (option_and_then (λ row. kept (plist_of row))) (sym is)))
+  where
+    some_items : (ps : List Property) (n : ℕ) → n ≡ length ps → not (n == 0) ≡ is_some (kept (map property_of ps))
+    some_items [] n e = ap (λ n. not (n == 0)) e
+    some_items (p ∷ ps) n e = (let some : (n == 0) ≡ false = grind (arith, nat_tests, e) in ap not some)
+
+pub none_has : (rows : Rows) (x : ℕ) → None ≡ lookup (is_at (nat_cmp x)) rows → false ≡ finite.contains_key (lists_in rows) x
+none_has rows x is = sym (ap is_some (get-lists_in rows x ∙ ap (option_and_then (λ row. kept (plist_of row))) (sym is)))
 
 -- one row is written
 pub record IsWritten (rows later : Rows) (x : ℕ) (ps : Plist) : Type 0 where

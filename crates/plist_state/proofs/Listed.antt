@@ -1,29 +1,48 @@
 -- The property lists of the symbols, from those of their numbers.
 --     lists_get, lists_at, lists_none      what a symbol has
+--     lists_keys      the symbols that have a list
 --     lists_put      a list that is put at the number of a symbol
 --     lists_grown      packages in which no symbol is lost and each keeps its number
 --     lists_empty      no lists
 --     owned_put, owned_grown, owned_empty      each number with a list is that of a symbol
-use Rattle.std.proofs.Common.{◌≡◌, ℕ, true, false, cond, Bool, Option, None, Some, IsTrue, is_some, unwrap_or, [], ◌∷◌, refl, sym, ap, subst, ◌∙◌}
+use Rattle.std.proofs.Common.{◌≡◌, ℕ, true, false, cond, Option, None, Some, IsTrue, is_some, unwrap_or, [], map, filter, refl, sym, ap, subst, ◌∙◌}
 use Rattle.std.specs.Option.{option_and_then}
 use Rattle.std.specs.Ordering.{nat_cmp, eq_by_cmp}
 use Rattle.std.proofs.lemmas.Bool.{false≢true}
 use Rattle.std.specs.FinMap as finite
-use Rattle.std.specs.FinMap.{get-empty, same_map}
-use Rattle.package_table.specs.Table.{Name}
-use Rattle.package_table.specs.Numbers.{Numbered, number_of}
+use Rattle.std.specs.FinMap.{get-empty, get-from_entries, same_map}
+use Rattle.std.specs.List.{list_any}
+use Rattle.lisp_object.proofs.TreeEntries.{entries_in_order}
+use Rattle.package_table.specs.Lookup.{is_symbol}
+use Rattle.package_table.specs.Numbers.{Numbered, number_at, number_of}
 use Rattle.package_table.specs.Numbering.{IsNumbered, Keeps}
 use Rattle.package_table.specs.Growth.{Grows}
-use Rattle.package_table.proofs.Names.{same_some}
 use Rattle.package_table.proofs.Numbered.{number_there, number_apart, number_kept}
 use Rattle.plist_state.specs.Properties.{Symbol, Plist, symbol_cmp, list_at, with_list}
-use Rattle.plist_state.specs.Lists.{NumberedLists, row_of, with_row, list_of, lists, IsOwned}
+use Rattle.plist_state.specs.Lists.{NumberedLists, row_of, with_row, symbols, list_of, lists, IsOwned}
 use Rattle.plist_state.proofs.Orders.{symbol_total, symbol_exact, one_symbol, symbol_tied}
 use Rattle.plist_state.proofs.Lists.{kept, get-with_list}
+use Rattle.plist_state.proofs.AllSymbols.{listed, symbol_among, found_listed, keys_listed, symbols_rise, listed_rise}
 use Rattle.plist_state.proofs.ListRows.{one_number, number_tied, get-with_row}
 
 pub lists_get : (s : Numbered) (m : NumberedLists) (x : Symbol) → finite.get (lists s m) x ≡ list_of s m x
-lists_get s m x = ?
+lists_get s m x =
+    get-from_entries symbol_total (listed (list_of s m) (symbols s.0)) x ∙ found_listed (list_of s m) x (symbols s.0)
+    ∙ elim (list_any (eq_by_cmp symbol_cmp x) (symbols s.0)) as (λ b. list_any (eq_by_cmp symbol_cmp x) (symbols s.0) ≡ b → cond b (list_of s m x) None ≡ list_of s m x) [
+      | true ↦ λ _. refl
+      | false ↦ λ absent.
+          elim (is_symbol s.0 x.0 x.1) as (λ b. is_symbol s.0 x.0 x.1 ≡ b → ◌≡◌ {A = Option Plist} None (option_and_then (finite.get m) (cond b (number_at s.1 x.0 x.1) None))) [
+            | true ↦ λ there. absurd (false≢true (sym absent ∙ symbol_among s.0 x there))
+            | false ↦ λ _. refl
+          ] refl
+    ] refl
+
+-- the symbols that have a list, in their order
+pub lists_keys : (s : Numbered) (m : NumberedLists) → finite.keys (lists s m) ≡ filter (λ x. is_some (list_of s m x)) (symbols s.0)
+lists_keys s m =
+    let es = listed (list_of s m) (symbols s.0) in
+    ap (map (λ (e : Symbol × Plist). e.0)) (entries_in_order (λ (x : Symbol). x) symbol_cmp symbol_total symbol_exact es (listed_rise (list_of s m) (symbols s.0) (symbols_rise s.0)))
+    ∙ keys_listed (list_of s m) (symbols s.0)
 
 pub lists_at : (s : Numbered) (m : NumberedLists) (x : Symbol) (i : ℕ) → number_of s x.0 x.1 ≡ Some i → list_at (lists s m) x ≡ row_of m i
 lists_at s m x i is = ap (λ o. unwrap_or o []) (lists_get s m x ∙ ap (option_and_then (finite.get m)) is)
@@ -89,7 +108,7 @@ lists_grown s u count numbered grows keeps m owned = same_map symbol_total symbo
 pub lists_empty : (s : Numbered) → lists s finite.empty ≡ finite.empty
 lists_empty s = same_map symbol_total symbol_exact _ _ (λ q.
     lists_get s finite.empty q
-    ∙ elim (number_of s q.0 q.1) as (λ o. option_and_then (finite.get finite.empty) o ≡ None) [ None ↦ refl | Some j ↦ get-empty nat_cmp j ]
+    ∙ elim (number_of s q.0 q.1) as (λ o. option_and_then (finite.get {R = nat_cmp} (finite.empty {X = Plist})) o ≡ None) [ None ↦ refl | Some j ↦ get-empty nat_cmp j ]
     ∙ sym (get-empty symbol_cmp q))
 
 pub owned_put : (s : Numbered) (m : NumberedLists) (x : Symbol) (i : ℕ) (ps : Plist) → number_of s x.0 x.1 ≡ Some i → IsOwned s m → IsOwned s (with_row m i ps)

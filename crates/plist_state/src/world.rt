@@ -101,8 +101,10 @@ impl World {
             ≡ property self.now.0 (symbol_of symbol.now) (symbol_of indicator.now) }
         ensures proper { IfSome result (λ d. is_proper d.now ≡ true) }
     {
-        let number = number_of(&self.packages, symbol.home(), symbol.name())?;
-        rows::value(&self.stored.properties, number, indicator)
+        match number_of(&self.packages, symbol.home(), symbol.name()) {
+            Some(number) => rows::value(&self.stored.properties, number, indicator),
+            None => None,
+        }
     }
 
     /// The property list of a symbol, the indicators in the order in which they were first set (standard 10.2,

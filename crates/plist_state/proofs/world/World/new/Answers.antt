@@ -1,7 +1,6 @@
-use Rattle.std.proofs.Common.{◌≡◌, List, [], sym, ap, subst, ◌∙◌}
-use Rattle.std.specs.FinMap as finite
+use Rattle.std.proofs.Common.{◌≡◌, List, [], sym, ap, subst}
 use Rattle.package_table.specs.Numbers.{Numbered, numbered}
-use Rattle.plist_state.specs.State.{Worlds, initial}
+use Rattle.plist_state.specs.State.{initial}
 use Rattle.plist_state.specs.Sound.{IsSound}
 use Rattle.plist_state.specs.Lists.{IsOwned}
 use Rattle.plist_state.specs.Shown.{NumberedRest, rest_of}

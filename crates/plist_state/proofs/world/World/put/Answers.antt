@@ -3,7 +3,7 @@ use Rattle.package_table.specs.Table.{symbol_count}
 use Rattle.package_table.specs.Numbers.{numbered}
 use Rattle.lisp_object.specs.Datum.{object_of}
 use Rattle.plist_state.specs.Properties.{with_value}
-use Rattle.plist_state.specs.State.{State, Worlds}
+use Rattle.plist_state.specs.State.{Worlds}
 use Rattle.plist_state.specs.Shown.{NumberedRest, symbol_of, rest_of}
 use Rattle.plist_state.specs.Sound.{IsSymbol, IsValue, IsSound}
 use Rattle.plist_state.specs.Lists.{IsOwned}
@@ -17,8 +17,8 @@ use Rattle.plist_state.proofs.Notes.{fits_now}
 use Rattle.plist_state.proofs.Soundness.{sound_put}
 use Rattle.plist_state.proofs.world.World.put.Goals as goal
 
-pub number-requires : goal.number-requires
-number-requires c = subst (λ (w : Worlds). IsSymbol w.0.packages (symbol_of c.args.symbol.now)) (sym c.self.view_is) c.requires.symbol
+pub number-number-requires : goal.number-number-requires
+number-number-requires c = subst (λ (w : Worlds). IsSymbol w.0.packages (symbol_of c.args.symbol.now)) (sym c.self.view_is) c.requires.symbol
 
 pub invariant_of-self : goal.invariant_of-self
 invariant_of-self c =
@@ -29,18 +29,18 @@ invariant_of-self c =
     let x = symbol_of c.args.symbol.now in
     let i = symbol_of c.args.indicator in
     let v = object_of c.args.value in
-    let made : NumberedRest = with_changed_row r c.number.result (λ ps. with_value ps i v) in
+    let made : NumberedRest = with_changed_row r c.number-number.result (λ ps. with_value ps i v) in
     let at_home : IsSymbol s.0 x = subst (λ (w : Worlds). IsSymbol w.0.packages x) (sym c.self.view_is) c.requires.symbol in
     let indicator : IsSymbol s.0 i = subst (λ (w : Worlds). IsSymbol w.0.packages i) (sym c.self.view_is) c.requires.indicator in
     let value : IsValue s.0 v = subst (λ (w : Worlds). IsValue w.0.packages v) (sym c.self.view_is) c.requires.value in
     record {
       values = c.put.ensures.wider.values c.self.invariant.values;
       owned = kept_rest c.put.result (λ q. IsOwned s q.properties) r made u c.put.ensures.ok c.put.ensures.err c.self.invariant.owned
-          (owned_put s r.properties x c.number.result _ c.number.ensures c.self.invariant.owned);
+          (owned_put s r.properties x c.number-number.result _ c.number-number.ensures c.self.invariant.owned);
       marked = kept_continued a.packages.1.marked (marks_of a.marks.items) r a.stored.properties.entries c.self.invariant.marked (marks_of c.put.new.marks.items) u c.put.new.stored.properties.entries
           c.put.ensures.marked (fits_now a.stored.properties.entries r refl) c.put.ensures.wider;
       sound = kept_rest c.put.result (λ q. IsSound (state_in s q)) r made u c.put.ensures.ok c.put.ensures.err c.self.invariant.sound
-          (subst IsSound (sym (state_listed s (symbol_count s.0) c.numbering.ensures x c.number.result c.number.ensures r (λ ps. with_value ps i v)))
+          (subst IsSound (sym (state_listed s (symbol_count s.0) c.numbering.ensures x c.number-number.result c.number-number.ensures r (λ ps. with_value ps i v)))
           (sound_put (state_in s r) x i v c.self.invariant.sound at_home indicator value));
     }
 
@@ -48,7 +48,7 @@ pub returns-clause-ok : goal.returns-clause-ok
 returns-clause-ok c =
     let a = c.self.inside in
     world_listed c.put.result a.packages (marks_of a.marks.items) (marks_of c.put.new.marks.items) (rest_of a.stored) (rest_of c.put.new.stored) c.put.ensures.marked.same
-    c.args.self.now c.self.view_is (symbol_count a.packages.0) c.numbering.ensures (symbol_of c.args.symbol.now) c.number.result c.number.ensures
+    c.args.self.now c.self.view_is (symbol_count a.packages.0) c.numbering.ensures (symbol_of c.args.symbol.now) c.number-number.result c.number-number.ensures
     (λ ps. with_value ps (symbol_of c.args.indicator) (object_of c.args.value)) c.put.ensures.ok
 
 pub returns-clause-err : goal.returns-clause-err
