@@ -69,7 +69,7 @@ among_homes t h n [] among own = among
 among_homes t h n (p ∷ ps) among own =
     list_any-append (eq_by_cmp symbol_cmp (h, n)) (map (λ m. (p, m)) (own_names t p)) (flat_map (λ p. map (λ m. (p, m)) (own_names t p)) ps)
     ∙ elim (eq_by_cmp name_cmp h p) as (λ b. eq_by_cmp name_cmp h p ≡ b → (b || list_any (eq_by_cmp name_cmp h) ps) ≡ true
-      → (list_any (eq_by_cmp symbol_cmp (h, n)) (map (λ m. (p, m)) (own_names t p)) || list_any (eq_by_cmp symbol_cmp (h, n)) (flat_map (λ p. map (λ m. (p, m)) (own_names t p)) ps)) ≡ true) [
+    → (list_any (eq_by_cmp symbol_cmp (h, n)) (map (λ m. (p, m)) (own_names t p)) || list_any (eq_by_cmp symbol_cmp (h, n)) (flat_map (λ p. map (λ m. (p, m)) (own_names t p)) ps)) ≡ true) [
       | true ↦ λ same _. any_first _ _
           (among_home h n p (own_names t p) (equal_of (name_cmp h p) same) (subst (λ (q : Name). list_any (eq_by_cmp name_cmp n) (own_names t q) ≡ true) (one_name h p same) own))
       | false ↦ λ _ rest. any_later _ _ (among_homes t h n ps rest own)

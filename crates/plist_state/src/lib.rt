@@ -13,14 +13,20 @@
 //! (`undo`), and takes no memory: a row that was emptied stays, with its memory, and the journal's invariant (`IsJournal`
 //! of specs/Journal.antt) says that each row has memory for what is put back. The packages have a journal of their own.
 //!
+//! Property lists are kept by the numbers that package_table gives to symbols. What is kept is a `NumberedRest`
+//! (specs/Shown.antt), of which the definitions of the journal speak; `lists` of specs/Lists.antt gives the lists of the
+//! symbols, by which contracts see a state (`state_in` of specs/Marked.antt).
+//!
 //! - `world`: `World`, and what is asked of it
 //! - `readers`: the lists that it gives
 //! - `properties`, `packages`, `readtables`: the calls that write
 //! - `marks`: `mark`, `mark_count`, `back_to`, `settle`, over `journal` (notes under marks) and `undo` (notes undone)
 //! - `note`: what is noted of a change
+//! - `numbers`: the numbers of symbols, as `rows` takes them
 //! - `symbol`, `property`: `Symbol`, `Property`
 //! - `error`: `ReadtableError`
-//! - `stored`: what a world keeps besides its packages, over `rows` (property lists) and `tables` (readtables by name)
+//! - `stored`: what a world keeps besides its packages, over `rows` (property lists by number) and `tables` (readtables by
+//!   name)
 //!
 //! Proofs of crates above may cite these lemmas; they keep their names. On soundness (proofs/Soundness.antt):
 //! `sound_packages`, `sound_put`, `sound_removed`, `sound_in_package`, `sound_in_readtable`, `sound_table`, `symbol_from`,

@@ -33,10 +33,7 @@ pub(crate) enum Note {
     /// A readtable was made.
     Made(Vec<u8>),
     /// The readtable of this name changed.
-    Changed {
-        name: Vec<u8>,
-        change: TableChange,
-    },
+    Changed { name: Vec<u8>, change: TableChange },
     /// Another package became current; before, it was this one.
     InPackage(Vec<u8>),
     /// Another readtable became current; before, it was this one.

@@ -76,10 +76,7 @@ pub(crate) fn put(
     let Ok(change) = rows::put(alloc, &mut stored.properties, number, indicator, value) else {
         return Err(AllocError);
     };
-    push_note(
-        marks,
-        Note::Property { number, change },
-    );
+    push_note(marks, Note::Property { number, change });
     Ok(())
 }
 
@@ -106,9 +103,6 @@ pub(crate) fn remove(
     let Some(change) = rows::remove(&mut stored.properties, number, indicator) else {
         unreachable!()
     };
-    push_note(
-        marks,
-        Note::Property { number, change },
-    );
+    push_note(marks, Note::Property { number, change });
     Ok(true)
 }

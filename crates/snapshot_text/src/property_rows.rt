@@ -6,48 +6,54 @@ ghost use Rattle.lisp_object.specs.Ascii.{is_ascii};
 ghost use Rattle.package_table.specs.Table.{common_lisp_user};
 ghost use Rattle.canon_printer.specs.Printed.{printed};
 ghost use Rattle.plist_state.specs.Changes.{plist};
-ghost use Rattle.plist_state.specs.Shown.{symbol_of, property_of};
+ghost use Rattle.plist_state.specs.Shown.{property_of};
 ghost use Rattle.snapshot_text.specs.Snapshot.{symbol_object, plist_object, properties_object};
 
 use crate::printing::push_printed;
 use lisp_object::{Bytes, Datum};
-use plist_state::{Property, Symbol, World};
+use plist_state::{Property, World};
 use std::alloc::{AllocError, Global};
 
-// A symbol as a datum.
-fn symbol_datum(alloc: Global, symbol: &Symbol) -> Result<Datum, AllocError>
-    ensures { IfOk result (λ d. d ≡ Datum.Symbol (symbol_of symbol.now).0 (symbol_of symbol.now).1) }
+// The symbol of this home and name as a datum.
+fn symbol_datum(alloc: Global, home: &[u8], name: &[u8]) -> Result<Datum, AllocError>
+    ensures { IfOk result (λ d. d ≡ Datum.Symbol home.now name.now) }
 {
-    let package = Bytes::from_slice(alloc, symbol.home())?;
-    let name = Bytes::from_slice(alloc, symbol.name())?;
+    let package = Bytes::from_slice(alloc, home)?;
+    let name = Bytes::from_slice(alloc, name)?;
     Ok(Datum::Symbol { package, name })
 }
 
 // A symbol, and its indicators and values in turn.
-fn plist_of(alloc: Global, symbol: &Symbol, properties: &[Property]) -> Result<Datum, AllocError>
+fn plist_datum(
+    alloc: Global,
+    home: &[u8],
+    name: &[u8],
+    properties: &[Property],
+) -> Result<Datum, AllocError>
     ensures object { IfOk result
-        (λ d. object_of d ≡ plist_object (symbol_of symbol.now) (map property_of properties.now)) }
-    ensures proper { list_all is_ascii (symbol_of symbol.now).0 && list_all is_ascii (symbol_of symbol.now).1 ≡ true
+        (λ d. object_of d ≡ plist_object (home.now, name.now) (map property_of properties.now)) }
+    ensures proper { list_all is_ascii home.now && list_all is_ascii name.now ≡ true
         → list_all (λ p. list_all is_ascii (property_of p).0.0 && list_all is_ascii (property_of p).0.1) properties.now ≡ true
         → All (λ p. is_proper p.value ≡ true) properties.now
         → IfOk result (λ d. is_proper d ≡ true) }
 {
     let mut items = Vec::new(alloc);
-    items.push(symbol_datum(alloc, symbol)?)?;
+    items.push(symbol_datum(alloc, home, name)?)?;
     for property in properties {
-        items.push(symbol_datum(alloc, property.indicator())?)?;
+        let indicator = property.indicator();
+        items.push(symbol_datum(alloc, indicator.home(), indicator.name())?)?;
         items.push(property.value().copy(alloc)?)?;
     }
     Datum::list(alloc, items, None)
 }
 
 // A symbol and its property list.
-fn row_of(alloc: Global, world: &World, symbol: &Symbol) -> Result<Datum, AllocError>
-    ensures object { let x = symbol_of symbol.now in IfOk result (λ d. object_of d ≡ plist_object x (plist world.now.0 x)) }
-    ensures proper { list_all is_ascii (symbol_of symbol.now).0 && list_all is_ascii (symbol_of symbol.now).1 ≡ true → IfOk result (λ d. is_proper d ≡ true) }
+fn row_of(alloc: Global, world: &World, home: &[u8], name: &[u8]) -> Result<Datum, AllocError>
+    ensures object { let x = (home.now, name.now) in IfOk result (λ d. object_of d ≡ plist_object x (plist world.now.0 x)) }
+    ensures proper { list_all is_ascii home.now && list_all is_ascii name.now ≡ true → IfOk result (λ d. is_proper d ≡ true) }
 {
     world.soundness();
-    plist_of(alloc, symbol, world.plist(symbol))
+    plist_datum(alloc, home, name, world.plist_of(home, name))
 }
 
 // Adds the printed row of a symbol.
@@ -55,13 +61,14 @@ fn push_row(
     alloc: Global,
     text: &mut Vec<u8>,
     world: &World,
-    symbol: &Symbol,
+    home: &[u8],
+    name: &[u8],
 ) -> Result<(), AllocError>
-    requires { list_all is_ascii (symbol_of symbol.now).0 && list_all is_ascii (symbol_of symbol.now).1 ≡ true }
-    ensures { let x = symbol_of symbol.now in OnOk result (text.new.items
+    requires { list_all is_ascii home.now && list_all is_ascii name.now ≡ true }
+    ensures { let x = (home.now, name.now) in OnOk result (text.new.items
         ≡ text.old.items ++ printed world.now.0.packages common_lisp_user (plist_object x (plist world.now.0 x))) }
 {
-    let row = row_of(alloc, world, symbol)?;
+    let row = row_of(alloc, world, home, name)?;
     push_printed(alloc, text, row, world.packages())
 }
 
@@ -70,15 +77,15 @@ fn push_others(
     alloc: Global,
     text: &mut Vec<u8>,
     world: &World,
-    symbols: &[&Symbol],
+    symbols: &[(&[u8], &[u8])],
 ) -> Result<(), AllocError>
-    requires { list_all (λ s. list_all is_ascii (symbol_of s.now).0 && list_all is_ascii (symbol_of s.now).1) symbols.now ≡ true }
+    requires { list_all (λ s. list_all is_ascii s.0.now && list_all is_ascii s.1.now) symbols.now ≡ true }
     ensures { OnOk result (text.new.items ≡ text.old.items
-        ++ flat_map (λ s. codes " " ++ printed world.now.0.packages common_lisp_user (plist_object (symbol_of s.now) (plist world.now.0 (symbol_of s.now)))) symbols.now) }
+        ++ flat_map (λ s. codes " " ++ printed world.now.0.packages common_lisp_user (plist_object (s.0.now, s.1.now) (plist world.now.0 (s.0.now, s.1.now)))) symbols.now) }
 {
-    for symbol in symbols {
+    for (home, name) in symbols {
         text.push(b' ')?;
-        push_row(alloc, text, world, symbol)?;
+        push_row(alloc, text, world, home, name)?;
     }
     Ok(())
 }
@@ -97,7 +104,7 @@ pub(crate) fn push_properties(
         return push_printed(alloc, text, Datum::nil(alloc)?, world.packages());
     };
     text.push(b'(')?;
-    push_row(alloc, text, world, first)?;
+    push_row(alloc, text, world, first.0, first.1)?;
     push_others(alloc, text, world, others)?;
     text.push(b')')?;
     Ok(())
