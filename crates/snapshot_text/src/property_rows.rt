@@ -49,7 +49,7 @@ fn plist_datum(
 
 // A symbol and its property list.
 fn row_of(alloc: Global, world: &World, home: &[u8], name: &[u8]) -> Result<Datum, AllocError>
-    ensures object { let x = (home.now, name.now) in IfOk result (λ d. object_of d ≡ plist_object x (plist world.now.0 x)) }
+    ensures object { IfOk result (λ d. object_of d ≡ plist_object (home.now, name.now) (plist world.now.0 (home.now, name.now))) }
     ensures proper { list_all is_ascii home.now && list_all is_ascii name.now ≡ true → IfOk result (λ d. is_proper d ≡ true) }
 {
     world.soundness();
@@ -61,13 +61,13 @@ fn push_row(
     alloc: Global,
     text: &mut Vec<u8>,
     world: &World,
-    home: &[u8],
-    name: &[u8],
+    symbol: &(&[u8], &[u8]),
 ) -> Result<(), AllocError>
-    requires { list_all is_ascii home.now && list_all is_ascii name.now ≡ true }
-    ensures { let x = (home.now, name.now) in OnOk result (text.new.items
-        ≡ text.old.items ++ printed world.now.0.packages common_lisp_user (plist_object x (plist world.now.0 x))) }
+    requires { list_all is_ascii symbol.now.0.now && list_all is_ascii symbol.now.1.now ≡ true }
+    ensures { OnOk result (text.new.items ≡ text.old.items
+        ++ printed world.now.0.packages common_lisp_user (plist_object (symbol.now.0.now, symbol.now.1.now) (plist world.now.0 (symbol.now.0.now, symbol.now.1.now)))) }
 {
+    let (home, name) = symbol;
     let row = row_of(alloc, world, home, name)?;
     push_printed(alloc, text, row, world.packages())
 }
@@ -83,9 +83,9 @@ fn push_others(
     ensures { OnOk result (text.new.items ≡ text.old.items
         ++ flat_map (λ s. codes " " ++ printed world.now.0.packages common_lisp_user (plist_object (s.0.now, s.1.now) (plist world.now.0 (s.0.now, s.1.now)))) symbols.now) }
 {
-    for (home, name) in symbols {
+    for symbol in symbols {
         text.push(b' ')?;
-        push_row(alloc, text, world, home, name)?;
+        push_row(alloc, text, world, symbol)?;
     }
     Ok(())
 }
@@ -104,7 +104,7 @@ pub(crate) fn push_properties(
         return push_printed(alloc, text, Datum::nil(alloc)?, world.packages());
     };
     text.push(b'(')?;
-    push_row(alloc, text, world, first.0, first.1)?;
+    push_row(alloc, text, world, first)?;
     push_others(alloc, text, world, others)?;
     text.push(b')')?;
     Ok(())

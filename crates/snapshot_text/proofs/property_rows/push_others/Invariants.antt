@@ -7,6 +7,6 @@ use Rattle.snapshot_text.specs.Snapshot.{plist_object}
 use Rattle.snapshot_text.proofs.property_rows.push_others.Given as goal
 
 -- the rows of the symbols so far
-abbrev pub invariant-loop-home : goal.invariant-loop-home
-invariant-loop-home l = l.text.items
-    ≡ l.fn.text.items ++ flat_map (λ s. codes " " ++ printed l.world.0.packages common_lisp_user (plist_object (s.0.now, s.1.now) (plist l.world.0 (s.0.now, s.1.now)))) (take l.home-index l.symbols)
+abbrev pub invariant-loop-symbol : goal.invariant-loop-symbol
+invariant-loop-symbol l = l.text.items
+    ≡ l.fn.text.items ++ flat_map (λ s. codes " " ++ printed l.world.0.packages common_lisp_user (plist_object (s.0.now, s.1.now) (plist l.world.0 (s.0.now, s.1.now)))) (take l.symbol-index l.symbols)
