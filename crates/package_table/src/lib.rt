@@ -31,8 +31,8 @@
 //! `equal_itself`, `entry_new`, `entry_other`, `package_with_entry`, `uses_with_entry`, `entry_with_used`, `uses_still`,
 //! `entry_with_new`. On the first packages (proofs/First.antt): `sound`, `first_count`, `lisp_is_package`,
 //! `user_is_package`. On lists that grow and shrink at their end, as journals do (proofs/Undoing.antt): `IsLast`, `at_last`,
-//! `no_more`, `take_seam`, `get_seam`, `on_ok`. On the order of names (proofs/Names.antt): `name_total`, `name_exact`. On numbers
-//! (proofs/Numbered.antt): `number_some`, `number_there`, `number_apart`, `number_kept`, `number_none`, `at_symbol`,
+//! `no_more`, `take_seam`, `get_seam`, `on_ok`. On the order of names (proofs/Names.antt): `name_total`, `name_exact`. On
+//! numbers (proofs/Numbered.antt): `number_some`, `number_there`, `number_apart`, `number_kept`, `number_none`, `at_symbol`,
 //! `keeps_same`, `keeps_both`.
 #![tactic(auto)]
 
