@@ -81,12 +81,9 @@ AreOthers (Err e) u = ⊥
 abbrev pub MakesChanges : {A : Type 0} → (List A → Result (Table × Bool) PackageError) → List A → Result Bool PackageError → Table → Type 0
 MakesChanges said xs result u = MakesWhere AreOthers said xs result u
 
--- The same of the symbols of a form, whose list takes memory before the first of them is looked at. So where memory ran out it
--- says nothing: what may be said then, `RunsOutAfter` says of the form.
-abbrev pub MayMake : Result Bool PackageError → Table → Result (Table × Bool) PackageError → Type 0
-MayMake (Ok wrote) u said = said ≡ Ok (u, wrote)
-MayMake (Err NoRoom) u said = Unit {0}
-MayMake (Err e) u said = said ≡ Err e
+-- The same of the symbols of a form, whose list takes memory too, before the first of them is interned.
+abbrev pub MayMake : Table → (List Symbol → Result (Table × Bool) PackageError) → List Symbol → Result Bool PackageError → Table → Type 0
+MayMake old said xs result u = MakesWhere (λ r v. (v ≡ old) ⊎ IsOk r) said xs result u
 
 -- T, and whether the packages changed; or the refusal of the changes. T takes memory.
 abbrev pub TellsChange : Result Bool PackageError → Result Evaluated EvaluationError → Type 0
