@@ -66,7 +66,7 @@ module _ (names : List Name) (s end : State) (arguments : Object) (code : ℕ) w
       → action_refusal s (action_of names operation) arguments (firsts names s arguments) ≡ Some code → OperationRunsOut names s operation arguments end → ⊥
   operator_never Quote forms place before test is h = none_some code is
   operator_never If forms place before test is h = test is h
-  operator_never InPackage forms place before test is h = value_never (enter (first arguments) s) code is h
+  operator_never InPackage forms place before test is h = value_never (enter (first arguments) s) code is h.0
   operator_never Setf forms place before test is h =
       let later : place_at_once names s arguments ≡ Some code = second_refusal (refusal_of_place Setf arguments) (place_at_once names s arguments) code h.0 is in
       or_never _ _ (place later) (then_never (values_at_place names s arguments) code _ (by_number (place_at_once names s arguments) (values_at_place names s arguments) code (place_met names s arguments) later)) h.1

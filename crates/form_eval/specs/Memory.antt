@@ -47,7 +47,7 @@ InBranch false first second = second
 abbrev pub InForm : List Name → State → Operation → Object → State → Type 0 → Type 0 → Type 0
 InForm names s Quote arguments end forms branch = end ≡ s
 InForm names s If arguments end forms branch = branch
-InForm names s InPackage arguments end forms branch = IsOk (enter (first arguments) s)
+InForm names s InPackage arguments end forms branch = IsOk (enter (first arguments) s) × (end ≡ s)
 InForm names s operation arguments end forms branch = (refusal_of_place operation arguments ≡ None)
     × (forms ⊎ Then (gathered names s operation arguments) (λ xs later. MayRunOut names operation (is_case operation arguments) xs later end))
 
