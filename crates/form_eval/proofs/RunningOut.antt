@@ -339,11 +339,11 @@ other_runs names s t end items x z d r some more is at given test h =
 
 -- ---- a whole form
 pub listing_runs : (u : Table) (xs : List Symbol) (e : PackageError) → e ≡ NoRoom → MayMake u (with_symbols u) xs (Err e) u
-listing_runs u xs e is = subst (λ k. MayMake u (with_symbols u) xs (Err k) u) (sym is) (0, false, refl, inl refl)
+listing_runs u xs e is = subst (λ k. MayMake u (with_symbols u) xs (Err k) u) (sym is) (inl refl)
 
 pub makes_may : (old u : Table) (said : List Symbol → Result (Table × Bool) PackageError) (xs : List Symbol) (r : Result Bool PackageError) → Makes said xs r u → MayMake old said xs r u
 makes_may old u said xs (Ok wrote) h = h
-makes_may old u said xs (Err NoRoom) h = (h.0, h.1, h.2, inr h.3)
+makes_may old u said xs (Err NoRoom) h = inr h
 makes_may old u said xs (Err e) h = h
 
 pub not_known : (known : Bool) (e : PackageError) → (known ≡ true → IsOk {T = Bool} (Err e)) → known ≡ false
