@@ -1,6 +1,6 @@
 -- A form that is refused at once does not run out of memory.
 --     refused_first, not_refused      of a form
-use Rattle.std.proofs.Common.{◌≡◌, ◌⊎◌, inl, inr, ℕ, Bool, true, false, not, cond, List, Option, Some, None, Ok, Err, IsOk, refl, sym, ap, subst, ◌∙◌}
+use Rattle.std.proofs.Common.{◌≡◌, ◌⊎◌, inl, inr, ℕ, true, false, not, cond, List, Option, Some, None, Ok, Err, IsOk, refl, sym, ap, subst, ◌∙◌}
 use Rattle.std.specs.Option.{option_or}
 use Rattle.std.proofs.lemmas.Bool.{false≢true}
 use Rattle.package_table.proofs.Names.{same_some, none_some}
@@ -12,10 +12,10 @@ use Rattle.form_eval.specs.declared.operators.Operation.{Operation}
 use Rattle.form_eval.specs.declared.operators.Operation.TheVariants.{Quote, If, Setf, Incf, Push, InPackage}
 use Rattle.form_eval.specs.Outcomes.{Outcome}
 use Rattle.form_eval.specs.Packages.{enter}
-use Rattle.form_eval.specs.Operators.{Operator, operator_of, is_interned, count, counts, first}
+use Rattle.form_eval.specs.Operators.{Operator, operator_of, is_interned, count, first}
 use Rattle.form_eval.specs.Operations.{operator, action_of}
-use Rattle.form_eval.specs.Value.{value, values, choice, values_at_place, values_before_place, symbol_value}
-use Rattle.form_eval.specs.Gathered.{gathered, refusal_of_place}
+use Rattle.form_eval.specs.Value.{value, values, values_at_place, values_before_place, symbol_value}
+use Rattle.form_eval.specs.Gathered.{refusal_of_place}
 use Rattle.form_eval.specs.AtOnce.{refusal_of, at_once, first_at_once, test_at_once, place_at_once, before_place_at_once, action_refusal, form_refusal, firsts}
 use Rattle.form_eval.specs.Memory.{Then, IsOperator, RunsOut, FormsRunOut, ChoiceRunsOut, PlaceRunsOut, BeforePlaceRunsOut, OperationRunsOut}
 use Rattle.form_eval.proofs.AtOnceHeads.{first_head}

@@ -1,18 +1,18 @@
 -- Where memory ran out, by the steps of an evaluation.
---     where_more, where_error, where_gives, where_after      what carries such a clause on
+--     where_more, where_error, where_holds, where_gives, where_after      what carries such a clause on
 --     symbol_runs, constant_runs      atoms
 --     operator_at, head_runs, head_never      a list by its head
---     quote_runs, if_runs, enter_runs, place_never, taking_runs, performed_runs      operators
---     plain_runs, forms_first, forms_value, forms_later      what operators take
---     subforms_run, place_runs, place_later, before_first, before_value, before_later      places
---     test_runs, branch_runs, none_runs, other_runs      IF
+--     place_never, taking_runs, performed_runs      operators
+--     plain_runs, forms_first, forms_after      what operators take
+--     place_runs, place_later, before_first, before_after, subforms_run      places
+--     test_runs, true_runs, none_runs, other_runs      IF
 --     listing_runs, makes_may, not_known, interning_runs, evaluating_runs      a whole form
-use Rattle.std.proofs.Common.{◌≡◌, ◌<◌, ◌≤◌, ◌+◌, ◌-◌, ◌⊎◌, ◌||◌, inl, inr, ℕ, Bool, true, false, cond, List, [], ◌∷◌, Result, Ok, Err, IsOk, IfOk, IfErr, Option, Some, None, map, length, drop, get_or, refl, sym, ap, subst, ◌∙◌, arith, bytes_eq}
+use Rattle.std.proofs.Common.{◌≡◌, ◌<◌, ◌≤◌, ◌+◌, ◌-◌, ◌⊎◌, inl, inr, ℕ, Bool, true, false, cond, List, [], ◌∷◌, Result, Ok, Err, IsOk, IfOk, IfErr, Option, Some, None, map, length, drop, get_or, refl, sym, ap, subst, ◌∙◌, arith, bytes_eq}
 use Rattle.std.proofs.lemmas.Bool.{false≢true}
 use Rattle.lisp_object.specs.declared.datum.Datum
 use Rattle.lisp_object.specs.declared.datum.Datum.{Datum}
-use Rattle.lisp_object.specs.Object.{Object, integer, rational, character, text, vector, symbol, uninterned, pair, nil, pairs, list_of, is_proper_list}
-use Rattle.lisp_object.specs.Datum.{object_of, is_proper}
+use Rattle.lisp_object.specs.Object.{Object, integer, rational, character, text, vector, symbol, uninterned, pair, pairs, list_of, is_proper_list}
+use Rattle.lisp_object.specs.Datum.{object_of}
 use Rattle.lisp_object.proofs.Objects.{object_of-Symbol, object_of-List, object_of-dotted}
 use Rattle.package_table.specs.Table.{Name, Table, common_lisp}
 use Rattle.package_table.specs.declared.error.PackageError.{PackageError}
@@ -25,10 +25,10 @@ use Rattle.form_eval.specs.declared.error.EvaluationError.TheVariants.{Refused, 
 use Rattle.form_eval.specs.declared.evaluated.Evaluated.{Evaluated}
 use Rattle.form_eval.specs.declared.evaluated.Values.{Values}
 use Rattle.form_eval.specs.declared.operators.Operation.{Operation}
-use Rattle.form_eval.specs.declared.operators.Operation.TheVariants.{Quote, Progn, If, MakeList, Get, Setf, Remprop, SymbolPlist, Incf, Push, MakePackage, InPackage, Export, Import, UsePackage, Intern, CopyReadtable, InReadtable, SetSyntaxFromChar, SetMacroCharacter, GetMacroCharacter, MakeDispatchMacroCharacter, SetDispatchMacroCharacter, GetDispatchMacroCharacter, ReadtableCase}
+use Rattle.form_eval.specs.declared.operators.Operation.TheVariants.{Quote, If, Setf, Incf, Push, InPackage}
 use Rattle.form_eval.specs.Errors.{of_package}
 use Rattle.form_eval.specs.Kinds.{a_symbol, is_pair, is_true}
-use Rattle.form_eval.specs.Outcomes.{Done, Outcome, gives}
+use Rattle.form_eval.specs.Outcomes.{Done, Outcome}
 use Rattle.form_eval.specs.Operators.{operator_of, operator_named, count, counts}
 use Rattle.form_eval.specs.Operations.{operator, is_ordinary}
 use Rattle.form_eval.specs.Acceptance.{symbols, with_symbols}
@@ -38,7 +38,7 @@ use Rattle.form_eval.specs.Evaluated.{Gives, RunsOutWhere, Makes, MayMake, done,
 use Rattle.form_eval.specs.Gathered.{arguments_of, gathered, subforms, refusal_of_place, is_case, IsRefusal, IsHead, MayRunOut}
 use Rattle.form_eval.specs.Memory.{Then, IsOperator, InOrder, InBranch, InForm, RunsOut, FormsRunOut, ChoiceRunsOut, OtherRunsOut, PlaceRunsOut, BeforePlaceRunsOut, GatheredRunsOut, OperationRunsOut, SubformsRunOut, AfterSymbols, TransactionRunsOut}
 use Rattle.form_eval.proofs.Heads.{symbol_of_some}
-use Rattle.form_eval.proofs.Steps.{value_symbol, value_constant, is_constant, forms_from, followed_start}
+use Rattle.form_eval.proofs.Steps.{is_constant, forms_from, followed_start}
 use Rattle.form_eval.proofs.Forms.{head_at, arguments_proper, arguments_count, arguments_from, one_argument, two_arguments, none_before}
 
 -- ---- what carries such a clause on

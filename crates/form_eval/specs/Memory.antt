@@ -1,7 +1,7 @@
 -- Where memory ran out in the evaluation of a form, and the state in which it left the world: in one of the forms that are
 -- evaluated for it, or at the value of one of these, which is kept, and then those before it had values; or in its own step, and
 -- then all of them had. So nothing that was evaluated before is refused.
-use Rattle.std.specs.Prelude.{◌≡◌, ◌⊎◌, ℕ, Bool, true, false, List, Option, Some, None, Result, Ok, Err, IsOk}
+use Rattle.std.specs.Prelude.{◌≡◌, ◌⊎◌, ℕ, Bool, true, false, List, Some, None, Result, Ok, Err, IsOk}
 use Rattle.lisp_object.specs.Object.{Object, pair, is_proper_list}
 use Rattle.package_table.specs.Table.{Name, Table}
 use Rattle.package_table.specs.declared.error.PackageError.{PackageError}

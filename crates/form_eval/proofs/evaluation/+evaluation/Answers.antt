@@ -20,7 +20,7 @@ use Rattle.form_eval.specs.Memory.{OperationRunsOut}
 use Rattle.form_eval.proofs.Steps.{gives_answers, is_constant, value_dotted, items_arguments, good_value, followed_step, followed_stops, followed_at_end, argument_grown, all_more}
 use Rattle.form_eval.proofs.Shapes.{some_items}
 use Rattle.form_eval.proofs.Forms.{symbol_form, constant_form, uninterned_form, head_form, head_refused, quote_left, place_first, place_given, push_no_place, push_refused, push_given, choice_refused, choice_true, choice_none, choice_other, same_item, subforms_given}
-use Rattle.form_eval.proofs.RunningOut.{where_error, where_holds, where_gives, where_after, symbol_runs, constant_runs, head_runs, head_never, place_never, taking_runs, performed_runs, plain_runs, forms_first, forms_after, place_runs, place_later, before_first, before_after, subforms_run, test_runs, true_runs, none_runs, other_runs, where_more}
+use Rattle.form_eval.proofs.RunningOut.{where_error, where_holds, where_after, symbol_runs, constant_runs, head_runs, head_never, forms_first, forms_after, place_runs, place_later, before_first, before_after, subforms_run, test_runs, true_runs, none_runs, other_runs, where_more}
 use Rattle.form_eval.proofs.evaluation.+evaluation.Goals as goal
 
 pub act-quoted-requires : goal.act-quoted-requires

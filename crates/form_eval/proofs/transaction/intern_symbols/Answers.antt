@@ -4,7 +4,7 @@ use Rattle.plist_state.specs.Properties.{Symbol}
 use Rattle.form_eval.specs.Acceptance.{symbols, with_symbols}
 use Rattle.form_eval.specs.Evaluated.{MayMake}
 use Rattle.form_eval.proofs.Known.{known_symbols}
-use Rattle.form_eval.proofs.RunningOut.{listing_runs, makes_may}
+use Rattle.form_eval.proofs.RunningOut.{makes_may}
 use Rattle.form_eval.proofs.SoundSymbols.{symbols_can, ascii_of, all_of_mapped}
 use Rattle.form_eval.proofs.transaction.intern_symbols.Goals as goal
 
