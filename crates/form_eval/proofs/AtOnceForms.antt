@@ -1,5 +1,5 @@
 -- That what is refused at once is refused.
---     at_once_met      of a form
+--     at_once_met, first_met, place_met, before_met      of a form, and of what an operator takes
 --     once_known, once_new, known_answers, new_answers, same_refusal, once_number      of a whole form
 use Rattle.std.proofs.Common.{◌≡◌, ℕ, Bool, true, false, not, ◌&&◌, cond, List, ◌∷◌, ◌++◌, Option, Some, None, is_none, Ok, Err, refl, sym, ap, ◌∙◌}
 use Rattle.std.specs.Option.{option_or, option_map_or}
@@ -92,7 +92,7 @@ mutual
   at_once_met names s (text characters) = tt
   at_once_met names s (vector xs) = tt
 
-  first_met : (names : List Name) (s : State) (x : Object) → Meets (first_at_once names s x) (values names s x)
+  pub first_met : (names : List Name) (s : State) (x : Object) → Meets (first_at_once names s x) (values names s x)
   first_met names s (pair x xs) =
       meets_then (at_once names s x) (value names s x) (λ y later. and_then (values names later xs) (λ ys end'. gives (y ∷ ys) end')) (at_once_met names s x)
   first_met names s (symbol home name) = tt
@@ -108,12 +108,12 @@ mutual
       meets_then (at_once names s test) (value names s test) (λ x later. cond (is_true x) (value names later then') (other_value names later others)) (at_once_met names s test)
   test_met names s _ = refl
 
-  place_met : (names : List Name) (s : State) (x : Object) → Meets (place_at_once names s x) (values_at_place names s x)
+  pub place_met : (names : List Name) (s : State) (x : Object) → Meets (place_at_once names s x) (values_at_place names s x)
   place_met names s (pair (pair operator subforms) forms) =
       meets_then (first_at_once names s subforms) (values names s subforms) (λ xs later. and_then (values names later forms) (λ ys end'. gives (xs ++ ys) end')) (first_met names s subforms)
   place_met names s _ = refl
 
-  before_met : (names : List Name) (s : State) (x : Object) → Meets (before_place_at_once names s x) (values_before_place names s x)
+  pub before_met : (names : List Name) (s : State) (x : Object) → Meets (before_place_at_once names s x) (values_before_place names s x)
   before_met names s (pair x (pair (pair operator subforms) forms)) =
       meets_then (at_once names s x) (value names s x) (λ y later. and_then (values names later subforms) (λ ys end'. gives (y ∷ ys) end')) (at_once_met names s x)
   before_met names s _ = refl

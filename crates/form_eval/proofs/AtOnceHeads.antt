@@ -14,7 +14,7 @@ use Rattle.form_eval.specs.Operations.{operator, action_of}
 use Rattle.form_eval.specs.AtOnce.{at_once, form_refusal, action_refusal, firsts}
 use Rattle.form_eval.proofs.Heads.{symbol_of_some}
 
-first_head : (names : List Name) (s : State) (head arguments : Object) → is_interned head ≡ true → is_proper_list arguments ≡ true
+pub first_head : (names : List Name) (s : State) (head arguments : Object) → is_interned head ≡ true → is_proper_list arguments ≡ true
     → at_once names s (pair head arguments) ≡ form_refusal s (operator_of names head) arguments (firsts names s arguments)
 unfolding at_once
 first_head names s head arguments interned proper = rw (interned, proper) refl

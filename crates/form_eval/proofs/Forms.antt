@@ -217,7 +217,7 @@ at_place_of names s (character c) f = refl
 at_place_of names s (text b) f = refl
 at_place_of names s (vector xs) f = refl
 
-none_before : (names : List Name) (s : State) (p : Object) (vs : List Datum) (w : Bool) → vs ≡ [] → w ≡ false → subforms names (map object_of vs) w s p ≡ subforms names [] false s p
+pub none_before : (names : List Name) (s : State) (p : Object) (vs : List Datum) (w : Bool) → vs ≡ [] → w ≡ false → subforms names (map object_of vs) w s p ≡ subforms names [] false s p
 none_before names s p vs w none nothing = ap (λ l. subforms names (map object_of l) w s p) none ∙ ap (λ b. subforms names [] b s p) nothing
 
 pub place_first : (names : List Name) (s t u : State) (items : List Datum) (x : Datum) (vs : List Datum) (w : Bool) (e : EvaluationError) → 2 ≤ length items → x ≡ get_or items 1 x → vs ≡ [] → w ≡ false

@@ -7,7 +7,7 @@ use Rattle.std.proofs.Common.{◌≡◌, ◌≢◌, ◌<◌, ◌+◌, ℕ, ◌�
 use Rattle.std.specs.Result.{IsErrAnd}
 use Rattle.std.proofs.lemmas.Bool.{false≢true}
 use Rattle.std.proofs.Math.Seq.{drop-cons}
-use Rattle.std.proofs.lemmas.List.{map_more, map-append, take-map, take_all, take-append-drop}
+use Rattle.std.proofs.lemmas.List.{map_more, map-append, length-map, take-map, take_all, take-append-drop}
 use Rattle.package_table.specs.declared.error.PackageError.{PackageError}
 use Rattle.package_table.specs.declared.error.PackageError.TheVariants.{NoPackage, NotExternal, LockedPackage, EmptyName, NoSuchPackage, PackageExists, PackageIsLocked, NameConflict, NotAccessible, Limit, OutOfMemory}
 use Rattle.package_table.specs.Table.{Table}
@@ -113,6 +113,7 @@ module _ {A : Type 0} (change : Table → A → Result Table PackageError) (chan
       subst (λ r. next r z)
           (sym (ap (one_by_one change changes u false) (take-map f (i + 1) xs ∙ front_more xs i x within is) ∙ then_next u v w (map f (take i xs)) [] (f x) before))
           (subst (next (then_others (change v (f x)) (λ later. one_by_one change changes later (w || changes v (f x)) []))) (sym left) (ran refl h)),
+      subst (λ n. i < n) (sym (length-map xs f)) within,
     )
 
 -- a refusal that `?` hands on

@@ -138,7 +138,7 @@ next xs w y v (Ok d) = ap (λ l. Ok (record { value = l; state = d.state; wrote 
     ors false false true = refl
     ors false false false = refl
 
-forms_from : (forms : List Datum) (i : ℕ) (f : Datum) → i < length forms → f ≡ get_or forms i f → list_of (map object_of (drop i forms)) ≡ pair (object_of f) (list_of (map object_of (drop (i + 1) forms)))
+pub forms_from : (forms : List Datum) (i : ℕ) (f : Datum) → i < length forms → f ≡ get_or forms i f → list_of (map object_of (drop i forms)) ≡ pair (object_of f) (list_of (map object_of (drop (i + 1) forms)))
 forms_from forms i f within is =
     ap (λ l. list_of (map object_of l)) (drop-cons forms i f within) ∙ ap (λ d. pair (object_of d) (list_of (map object_of (drop (suc i) forms)))) (sym is)
     ∙ ap (λ n. pair (object_of f) (list_of (map object_of (drop n forms)))) (sym (add-one i))

@@ -1,5 +1,5 @@
 -- What the calls of the evaluator answer.
-use Rattle.std.specs.Prelude.{◌≡◌, ◌≢◌, ◌⊎◌, ℕ, ◌+◌, Bool, true, false, List, [], ◌∷◌, map, take, length, All, Option, Some, None, IsSome, unwrap_or, Result, Ok, Err, IsOk}
+use Rattle.std.specs.Prelude.{◌≡◌, ◌≢◌, ◌<◌, ◌⊎◌, ℕ, ◌+◌, Bool, true, false, List, [], ◌∷◌, map, take, length, All, Option, Some, None, IsSome, unwrap_or, Result, Ok, Err, IsOk}
 use Rattle.lisp_object.specs.Object.{Object, symbol, nil, list_of}
 use Rattle.lisp_object.specs.declared.refusal.TheConstants.{ARGUMENT_KIND, NO_SUCH_PACKAGE, PACKAGE_IS_LOCKED, NAME_CONFLICT, NO_READTABLE, NO_MACRO}
 use Rattle.lisp_object.specs.declared.datum.Datum.{Datum}
@@ -62,10 +62,11 @@ Gives view (Err (Refused code)) s said = said ≡ Err code
 Gives view (Err OutOfMemory) s said = IsOk said
 
 -- Changes of the packages for one after the other answer what the definition says of the list. Memory runs out only after some
--- of them, which left these packages, and only where `next` holds of what the definition says of these and the next one.
+-- of them, which left these packages, and only where there is a next one and `next` holds of what the definition says of these
+-- and it.
 abbrev pub MakesWhere : {A : Type 0} → (Result (Table × Bool) PackageError → Table → Type 0) → (List A → Result (Table × Bool) PackageError) → List A → Result Bool PackageError → Table → Type 0
 MakesWhere next said xs (Ok wrote) u = said xs ≡ Ok (u, wrote)
-MakesWhere next said xs (Err NoRoom) u = (count : ℕ) × (wrote : Bool) × (said (take count xs) ≡ Ok (u, wrote)) × next (said (take (count + 1) xs)) u
+MakesWhere next said xs (Err NoRoom) u = (count : ℕ) × (wrote : Bool) × (said (take count xs) ≡ Ok (u, wrote)) × next (said (take (count + 1) xs)) u × (count < length xs)
 MakesWhere next said xs (Err e) u = said xs ≡ Err e
 
 -- where these and the next one are not refused
@@ -81,12 +82,10 @@ AreOthers (Err e) u = ⊥
 abbrev pub MakesChanges : {A : Type 0} → (List A → Result (Table × Bool) PackageError) → List A → Result Bool PackageError → Table → Type 0
 MakesChanges said xs result u = MakesWhere AreOthers said xs result u
 
--- The same of the symbols of a form, whose list takes memory before the first of them is looked at. So where memory ran out it
--- says nothing: what may be said then, `RunsOutAfter` says of the form.
-abbrev pub MayMake : Result Bool PackageError → Table → Result (Table × Bool) PackageError → Type 0
-MayMake (Ok wrote) u said = said ≡ Ok (u, wrote)
-MayMake (Err NoRoom) u said = Unit {0}
-MayMake (Err e) u said = said ≡ Err e
+-- The same of the symbols of a form, whose list takes memory too, before the first of them is interned.
+abbrev pub MayMake : Table → (List Symbol → Result (Table × Bool) PackageError) → List Symbol → Result Bool PackageError → Table → Type 0
+MayMake old said xs (Err NoRoom) u = (u ≡ old) ⊎ Makes said xs (Err NoRoom) u
+MayMake old said xs result u = Makes said xs result u
 
 -- T, and whether the packages changed; or the refusal of the changes. T takes memory.
 abbrev pub TellsChange : Result Bool PackageError → Result Evaluated EvaluationError → Type 0

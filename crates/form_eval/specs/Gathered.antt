@@ -7,7 +7,7 @@ use Rattle.form_eval.specs.declared.error.EvaluationError.{EvaluationError}
 use Rattle.form_eval.specs.declared.error.EvaluationError.TheVariants.{Refused, OutOfMemory}
 use Rattle.lisp_object.specs.declared.refusal.TheConstants.{ARGUMENT_KIND}
 use Rattle.form_eval.specs.declared.operators.Operation.{Operation}
-use Rattle.form_eval.specs.declared.operators.Operation.TheVariants.{Setf, Incf, Push, Export, Import, UsePackage}
+use Rattle.form_eval.specs.declared.operators.Operation.TheVariants.{Progn, MakeList, Setf, Incf, Push, Export, Import, UsePackage}
 use Rattle.form_eval.specs.Outcomes.{Outcome, gives, also, and_then}
 use Rattle.form_eval.specs.Operators.{count, first}
 use Rattle.form_eval.specs.Operations.{action_of, function_of}
@@ -73,8 +73,10 @@ IsHead names head n (Err (Refused code)) = (s : State) (arguments : Object) → 
 IsHead names head n (Err OutOfMemory) = ⊥
 
 -- Where an operator may run out of memory, of the values of its arguments: on a list of members, as `GivesSoFar` says; any other,
--- where the definition refuses nothing.
+-- where the definition refuses nothing. PROGN and LIST keep these values, so that only NIL of none takes memory.
 abbrev pub MayRunOut : List Name → Operation → Bool → List Object → State → State → Type 0
+MayRunOut names Progn is_case xs old new = xs ≡ []
+MayRunOut names MakeList is_case xs old new = xs ≡ []
 MayRunOut names Export is_case xs old new = MayConflict (export xs old) × RanOutAmong export xs old new
 MayRunOut names Import is_case xs old new = MayConflict (import xs old) × RanOutAmong import xs old new
 MayRunOut names UsePackage is_case xs old new = MayConflict (use_package xs old) × RanOutAmong use_package xs old new

@@ -13,3 +13,4 @@ pub mod Operations
 pub mod Gathered
 pub mod Members
 pub mod AtOnce
+pub mod Memory

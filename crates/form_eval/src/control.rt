@@ -1,5 +1,5 @@
 //! The operators of control (standard 5.3), and the values of atoms.
-ghost use Rattle.std.specs.Prelude.{◌≡◌, ◌≤◌, ◌||◌, ◌&&◌, ℕ, List, Some, true, bytes_eq, map, length, All, IfOk, Err, IfErr, IsOk};
+ghost use Rattle.std.specs.Prelude.{◌≡◌, ◌≤◌, ◌||◌, ◌&&◌, ℕ, List, [], Some, true, bytes_eq, map, length, All, IfOk, Err, IfErr, IsOk};
 ghost use Rattle.std.specs.List.{list_all};
 ghost use Rattle.lisp_object.specs.Object.{Object};
 ghost use Rattle.lisp_object.specs.Datum.{object_of, is_proper};
@@ -10,7 +10,7 @@ ghost use Rattle.form_eval.specs.Outcomes.{Outcome, gives, also};
 ghost use Rattle.form_eval.specs.Operators.{first};
 ghost use Rattle.form_eval.specs.Value.{last, symbol_value};
 ghost use Rattle.form_eval.specs.Gathered.{arguments_of};
-ghost use Rattle.form_eval.specs.Evaluated.{Answers, Gives, done};
+ghost use Rattle.form_eval.specs.Evaluated.{Answers, Gives, RunsOutWhere, done};
 
 use crate::EvaluationError::Refused;
 use crate::{Evaluated, EvaluationError, kinds, values};
@@ -68,10 +68,11 @@ pub(crate) fn quoted(alloc: Global, items: &[Datum]) -> Result<Evaluated, Evalua
     itself(alloc, &items[1])
 }
 
-/// PROGN: the last of these values; NIL where there is none.
+/// PROGN: the last of these values; NIL where there is none, which alone takes memory.
 pub(crate) fn last(alloc: Global, mut values: Vec<Datum>) -> Result<Evaluated, EvaluationError>
     requires { list_all is_proper values.items ≡ true }
     ensures gives { (s : State) → Gives done result s (gives (last (map object_of values.items)) s) }
+    ensures memory { RunsOutWhere result (map object_of values.items ≡ []) }
     ensures proper { IfOk result (λ e. is_proper e.value ≡ true) }
 {
     match values.pop() {

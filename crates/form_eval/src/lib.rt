@@ -17,7 +17,8 @@
 //!
 //! Each operator answers its definition of the values of its arguments. `Gives` (specs/Evaluated.antt) also says that memory
 //! runs out only where nothing is refused; `GivesSoFar`, that it runs out only where a list is refused for nothing but a name
-//! conflict, and nothing of its members up to one of them; `Answers` says nothing of it.
+//! conflict, and nothing of its members up to one of them; `Answers` says nothing of it. Where memory ran out in an evaluation,
+//! and after what, `RunsOut` (specs/Memory.antt) says.
 #![tactic(auto)]
 
 mod arguments;

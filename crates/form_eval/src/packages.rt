@@ -1,5 +1,5 @@
 //! The operators on packages (standard 11.2).
-ghost use Rattle.std.specs.Prelude.{◌≡◌, true, map, All, IfOk};
+ghost use Rattle.std.specs.Prelude.{◌≡◌, true, map, All, IfErr, IfOk};
 ghost use Rattle.lisp_object.specs.Datum.{object_of, is_proper};
 ghost use Rattle.package_table.specs.Table.{IsPackage, package_named, full_name};
 ghost use Rattle.form_eval.specs.Packages.{make, enter, intern};
@@ -64,6 +64,7 @@ pub(crate) fn enter(
     requires { IsArgument world.old.0.packages name.now }
     ensures gives { Gives done result world.new.0 (enter (object_of name.now) world.old.0) }
     ensures proper { IfOk result (λ e. is_proper e.value ≡ true) }
+    ensures unchanged { IfErr result (λ _. world.new ≡ world.old) }
     ensures marked { world.new.1 ≡ world.old.1 }
 {
     world.soundness();

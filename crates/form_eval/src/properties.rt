@@ -1,5 +1,5 @@
 //! The operators on property lists (standard 10.2, 14.2), of the values of their arguments.
-ghost use Rattle.std.specs.Prelude.{◌≡◌, true, [], ◌∷◌, nat_lt, map, option_map, All, IfOk, IfSome};
+ghost use Rattle.std.specs.Prelude.{◌≡◌, true, [], ◌∷◌, nat_lt, map, option_map, All, IfErr, IfOk, IfSome};
 ghost use Rattle.std.specs.List.{list_all};
 ghost use Rattle.lisp_object.specs.Object.{IsSound, pair, list_of, object_depth, object_size};
 ghost use Rattle.lisp_object.specs.Datum.{object_of, is_proper};
@@ -77,6 +77,7 @@ pub(crate) fn set(
     requires { All (IsArgument world.old.0.packages) values.items }
     ensures gives { Gives done result world.new.0 (set (map object_of values.items) world.old.0) }
     ensures proper { IfOk result (λ e. is_proper e.value ≡ true) }
+    ensures unchanged { IfErr result (λ _. world.new ≡ world.old) }
     ensures marked { world.new.1 ≡ world.old.1 }
 {
     let (symbol, indicator, value) = three(values)?;
@@ -196,6 +197,7 @@ pub(crate) fn increment(
     requires { All (IsArgument world.old.0.packages) values.items }
     ensures gives { Gives done result world.new.0 (increment (map object_of values.items) world.old.0) }
     ensures proper { IfOk result (λ e. is_proper e.value ≡ true) }
+    ensures unchanged { IfErr result (λ _. world.new ≡ world.old) }
     ensures marked { world.new.1 ≡ world.old.1 }
 {
     let (symbol, indicator, rest) = two_and_rest(values)?;
@@ -239,6 +241,7 @@ pub(crate) fn push(
     requires { All (IsArgument world.old.0.packages) values.items }
     ensures gives { Gives done result world.new.0 (push (map object_of values.items) world.old.0) }
     ensures proper { IfOk result (λ e. is_proper e.value ≡ true) }
+    ensures unchanged { IfErr result (λ _. world.new ≡ world.old) }
     ensures marked { world.new.1 ≡ world.old.1 }
 {
     let (value, symbol, indicator) = three(values)?;

@@ -1,5 +1,5 @@
 //! Values that the operators build.
-ghost use Rattle.std.specs.Prelude.{◌≡◌, ◌^◌, true, nat_lt, min, map, option_map, IfOk, IfSome};
+ghost use Rattle.std.specs.Prelude.{◌≡◌, ◌^◌, [], true, nat_lt, min, map, option_map, IfOk, IfSome};
 ghost use Rattle.std.specs.List.{list_all};
 ghost use Rattle.lisp_object.specs.Ascii.{is_ascii};
 ghost use Rattle.lisp_object.specs.Object.{Object, nil, pair, object_depth, object_size, depth_along, size_along};
@@ -7,7 +7,7 @@ ghost use Rattle.lisp_object.specs.Datum.{object_of, is_proper};
 ghost use Rattle.package_table.specs.Table.{keyword};
 ghost use Rattle.plist_state.specs.State.{State};
 ghost use Rattle.form_eval.specs.Properties.{t, list};
-ghost use Rattle.form_eval.specs.Evaluated.{Gives, done, or_nil};
+ghost use Rattle.form_eval.specs.Evaluated.{Gives, RunsOutWhere, done, or_nil};
 
 use crate::EvaluationError::Refused;
 use crate::{Evaluated, EvaluationError};
@@ -137,10 +137,11 @@ pub(crate) fn is_pair_too_large(value: &Datum, tail: Option<&Datum>) -> bool
     value.size().saturating_add(size_along(tail)) >= LARGEST_SIZE
 }
 
-/// LIST: the list of these values.
+/// LIST: the list of these values. Takes memory for NIL alone, where there is none.
 pub(crate) fn list(alloc: Global, values: Vec<Datum>) -> Result<Evaluated, EvaluationError>
     requires { list_all is_proper values.items ≡ true }
     ensures gives { (s : State) → Gives done result s (list (map object_of values.items) s) }
+    ensures memory { RunsOutWhere result (map object_of values.items ≡ []) }
     ensures proper { IfOk result (λ e. is_proper e.value ≡ true) }
 {
     let items = Items::from_vec(values);

@@ -3,6 +3,7 @@ use Rattle.lisp_object.specs.Datum.{object_of}
 use Rattle.form_eval.specs.Operators.{operator_named}
 use Rattle.form_eval.proofs.Heads.{head_other, head_unknown, head_count, head_acts}
 use Rattle.form_eval.proofs.AtOnceHeads.{first_other, first_unknown, first_count, first_acts}
+use Rattle.form_eval.proofs.RunningOut.{operator_at}
 use Rattle.form_eval.proofs.operators.operation_of.Goals as goal
 
 pub returns-in_default-clause-head : goal.returns-in_default-clause-head
@@ -50,3 +51,8 @@ pub returns-clause-at_once : goal.returns-clause-at_once
 returns-clause-at_once c = λ names s arguments proper counted.
     first_acts names s (object_of c.args.head.now) arguments c.in-Ok.home.now c.in-Ok.name.now c.in-Some.operation c.args.number c.in-Ok.ensures proper
     (sym c.is_name.ensures ∙ c.if-not-is_name.false) (c.in-Some.ensures names) counted (sym (c.counts.ensures.value names) ∙ c.if-not-counts.false)
+
+pub returns-clause-operator : goal.returns-clause-operator
+returns-clause-operator c = λ names.
+    operator_at names (object_of c.args.head.now) c.in-Ok.home.now c.in-Ok.name.now c.in-Some.operation c.args.number c.in-Ok.ensures
+    (sym c.is_name.ensures ∙ c.if-not-is_name.false) (c.in-Some.ensures names) (sym (c.counts.ensures.value names) ∙ c.if-not-counts.false)
