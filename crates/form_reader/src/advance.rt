@@ -17,6 +17,7 @@ use std::alloc::AllocError;
 use user_macros::MacroFunctions;
 
 /// The byte `c` at `at`, where the reader is at `stage` in its innermost call.
+#[inline(always)]
 pub(crate) fn advance<R: MacroFunctions>(
     with: &Surroundings<'_, R>,
     frames: &mut Frames,

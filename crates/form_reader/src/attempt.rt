@@ -20,6 +20,7 @@ use std::alloc::AllocError;
 use user_macros::MacroFunctions;
 
 /// Whether a character of this syntax type begins no token.
+#[inline(always)]
 pub(crate) fn stands_alone(syntax: Syntax) -> bool
     ensures { result ≡ stands_alone syntax }
 {
@@ -35,6 +36,7 @@ pub(crate) fn stands_alone(syntax: Syntax) -> bool
 }
 
 /// What an attempt comes to where its first byte `c`, at `at`, begins no token.
+#[inline(always)]
 pub(crate) fn alone<R: MacroFunctions>(
     with: &Surroundings<'_, R>,
     frames: &mut Frames,
@@ -70,6 +72,7 @@ pub(crate) fn alone<R: MacroFunctions>(
 
 /// What an attempt comes to where its first byte `c`, at `at`, begins a token.
 #[tactic(auto, using(crate::proofs::ObjectTokens::begins_token))]
+#[inline(always)]
 pub(crate) fn begin_token<R: MacroFunctions>(
     with: &Surroundings<'_, R>,
     at: usize,

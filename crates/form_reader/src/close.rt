@@ -19,6 +19,7 @@ use user_macros::MacroFunctions;
 
 /// What an open call gives, with so many calls round it, where its closing character is the byte before `at`.
 #[tactic(auto, using(crate::proofs::Readiness::all_ready))]
+#[inline(always)]
 pub(crate) fn close<R: MacroFunctions>(
     with: &Surroundings<'_, R>,
     round: usize,

@@ -36,6 +36,7 @@ pub enum Moved {
 
 /// The function of a name.
 #[tactic(auto, using(crate::proofs::Functions::known_so, crate::proofs::Functions::known_none))]
+#[inline(always)]
 fn function_of(name: FnName) -> Function
     ensures { result ≡ function_of name }
 {
@@ -46,6 +47,7 @@ fn function_of(name: FnName) -> Function
 }
 
 /// Begins the call of the macro character `c`, which is the byte before `at`.
+#[inline(always)]
 pub(crate) fn begin_macro<R: MacroFunctions>(
     with: &Surroundings<'_, R>,
     frames: &mut Frames,

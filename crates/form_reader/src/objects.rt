@@ -28,6 +28,7 @@ use token_scan::Marks;
 use user_macros::MacroFunctions;
 
 /// The byte `c` at `at`, where an object may begin.
+#[inline(always)]
 pub(crate) fn at_object<R: MacroFunctions>(
     with: &Surroundings<'_, R>,
     frames: &mut Frames,
@@ -59,6 +60,7 @@ pub(crate) fn at_object<R: MacroFunctions>(
 }
 
 /// The byte `c` at `at`, where an object may begin after a token that this byte ended.
+#[inline(always)]
 pub(crate) fn after_token<R: MacroFunctions>(
     with: &Surroundings<'_, R>,
     frames: &mut Frames,
@@ -86,6 +88,7 @@ pub(crate) fn after_token<R: MacroFunctions>(
 }
 
 /// Whether it is the syntax type of whitespace.
+#[inline(always)]
 pub(crate) fn is_blank(syntax: Syntax) -> bool
     ensures { result ≡ is_blank syntax }
 {
@@ -110,6 +113,7 @@ pub enum Passed {
 }
 
 /// The byte `c` at `at`, where this was found before it in the innermost call.
+#[inline(always)]
 pub(crate) fn after_found<R: MacroFunctions>(
     with: &Surroundings<'_, R>,
     frames: &mut Frames,
@@ -143,6 +147,7 @@ pub(crate) fn after_found<R: MacroFunctions>(
 }
 
 /// The byte `c` at `at`, in a token that is an object.
+#[inline(always)]
 pub(crate) fn in_token<R: MacroFunctions>(
     with: &Surroundings<'_, R>,
     scan: BegunScan,
@@ -167,6 +172,7 @@ pub(crate) fn in_token<R: MacroFunctions>(
 }
 
 /// What a token comes to where it ends, at `at`. Only a name needs memory.
+#[inline(always)]
 pub(crate) fn token_end<R: MacroFunctions>(
     with: &Surroundings<'_, R>,
     marks: Marks,

@@ -28,6 +28,7 @@ use user_macros::{Gather, MacroFunctions};
 
 /// Begins a call whose last byte is the one before `at`.
 #[tactic(auto, using(crate::proofs::Beginnings::refused_is))]
+#[inline(always)]
 pub(crate) fn begin_call<R: MacroFunctions>(
     with: &Surroundings<'_, R>,
     frames: &mut Frames,
@@ -53,6 +54,7 @@ pub(crate) fn begin_call<R: MacroFunctions>(
 
 /// Begins to gather in this way.
 #[tactic(auto, using(crate::proofs::Beginnings::next_opens, crate::proofs::Beginnings::list_opens, crate::proofs::Beginnings::until_opens, crate::proofs::Beginnings::next_deep, crate::proofs::Beginnings::list_deep, crate::proofs::Beginnings::until_deep, crate::proofs::Beginnings::token_begins, crate::proofs::Beginnings::escaped_begins, crate::proofs::Readiness::all_ready))]
+#[inline(always)]
 fn gather<R: MacroFunctions>(
     with: &Surroundings<'_, R>,
     frames: &mut Frames,
@@ -98,6 +100,7 @@ fn gather<R: MacroFunctions>(
 
 /// Begins to gather in a way that reads objects, unless as many calls are open as may be.
 #[tactic(auto, using(crate::proofs::Beginnings::next_opens, crate::proofs::Beginnings::list_opens, crate::proofs::Beginnings::until_opens, crate::proofs::Beginnings::next_deep, crate::proofs::Beginnings::list_deep, crate::proofs::Beginnings::until_deep))]
+#[inline(always)]
 fn gather_objects<R: MacroFunctions>(
     with: &Surroundings<'_, R>,
     frames: &mut Frames,
@@ -149,6 +152,7 @@ fn gather_objects<R: MacroFunctions>(
 
 /// What a call that ends at `at` brings.
 #[tactic(auto, using(crate::proofs::Beginnings::refused_is))]
+#[inline(always)]
 pub(crate) fn event_of(completed: Completed, at: usize) -> Event
     ensures comes { (setting : Setting) (frames : List OpenCall) (cs : List ℕ) → ComesTo setting frames completed at cs result }
     ensures ends { IsEnd (completed_lookahead completed) at result }
@@ -162,6 +166,7 @@ pub(crate) fn event_of(completed: Completed, at: usize) -> Event
 }
 
 /// What a call brings that ends at `at`, with so many open calls round it, and whether a token ends it.
+#[inline(always)]
 pub(crate) fn ended<R: MacroFunctions>(
     with: &Surroundings<'_, R>,
     round: usize,
@@ -186,6 +191,7 @@ pub(crate) fn ended<R: MacroFunctions>(
 }
 
 /// The way in which the function of a call gathers.
+#[inline(always)]
 fn way_of<R: MacroFunctions>(with: &Surroundings<'_, R>, call: &Invoked) -> Option<Way>
     ensures { let setting = setting_with (R.registered with.now.macros.now) R.Meaning.way R.Meaning.answer with.now in
         result ≡ way_in setting call.now }
@@ -204,6 +210,7 @@ fn way_of<R: MacroFunctions>(with: &Surroundings<'_, R>, call: &Invoked) -> Opti
     }
 }
 
+#[inline(always)]
 fn is_baseless(kind: Standard, number: Option<u32>) -> bool
     ensures { result ≡ is_baseless kind number }
 {
@@ -213,6 +220,7 @@ fn is_baseless(kind: Standard, number: Option<u32>) -> bool
     }
 }
 
+#[inline(always)]
 fn standard_way(same: u8, gather: StdGather) -> Way
     ensures { result ≡ standard_way same gather }
 {

@@ -118,6 +118,7 @@ impl BegunScan {
 
     /// The byte `c` at `at`.
     #[tactic(auto, using(token_scan::proofs::Forwards::begun_has_mark))]
+    #[inline(always)]
     pub(crate) fn byte(
         self,
         readtable: &Readtable,

@@ -19,6 +19,7 @@ use token_scan::{Fed, ScanRefusal, TokenScan};
 
 /// The byte `c` at `at`, after what was fed to `scan`. Only a byte that is taken needs memory.
 #[tactic(auto, using(crate::proofs::FedTokens::token_more, crate::proofs::FedTokens::token_ended, crate::proofs::FedTokens::token_over, crate::proofs::FedTokens::token_refused, crate::proofs::FedTokens::token_beyond, crate::proofs::Costing::token_goes_on))]
+#[inline(always)]
 pub(crate) fn token_byte(
     readtable: &Readtable,
     limits: &Limits,

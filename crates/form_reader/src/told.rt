@@ -48,6 +48,7 @@ impl From<AllocError> for TellError {
 }
 
 /// The meaning of a token with at least one mark, in this base and this package.
+#[inline(always)]
 pub(crate) fn tell(
     alloc: Global,
     case: Case,
@@ -72,6 +73,7 @@ pub(crate) fn tell(
     }
 }
 
+#[inline(always)]
 fn tell_meaning(
     alloc: Global,
     packages: &Packages,
@@ -93,6 +95,7 @@ fn tell_meaning(
 
 /// The symbol of a name (standard 2.3.5).
 #[tactic(auto, using(crate::proofs::Homes::in_seen, crate::proofs::Homes::at_seen))]
+#[inline(always)]
 fn named(
     alloc: Global,
     packages: &Packages,
@@ -122,6 +125,7 @@ fn named(
 }
 
 /// The symbol of this name in the package that was found.
+#[inline(always)]
 fn symbol_in(
     alloc: Global,
     resolved: Result<Resolved<'_>, PackageError>,
@@ -139,6 +143,7 @@ fn symbol_in(
 }
 
 /// The symbol of this name at the home that was found.
+#[inline(always)]
 fn symbol_at(
     alloc: Global,
     found: Result<&[u8], PackageError>,
@@ -155,6 +160,7 @@ fn symbol_at(
 }
 
 #[tactic(auto, using(lisp_object::proofs::Objects::object_laws, lisp_object::proofs::Properness::proper_laws))]
+#[inline(always)]
 fn symbol(alloc: Global, home: &[u8], name: Bytes) -> Result<HeldObject, AllocError>
     requires home { list_all is_ascii home.now ≡ true }
     requires name { list_all is_ascii name ≡ true }

@@ -49,6 +49,7 @@ pub enum Turn {
 }
 
 /// The byte `c` at `at`, also where it ends a token first.
+#[inline(always)]
 pub(crate) fn feed<R: MacroFunctions>(
     with: &Surroundings<'_, R>,
     frames: &mut Frames,
@@ -78,6 +79,7 @@ pub(crate) fn feed<R: MacroFunctions>(
 }
 
 /// What the open calls make of what a byte brings, at the place `at` after it.
+#[inline(always)]
 fn settle<R: MacroFunctions>(
     with: &Surroundings<'_, R>,
     frames: &mut Frames,
@@ -105,6 +107,7 @@ fn settle<R: MacroFunctions>(
 }
 
 /// What the attempt that began at `start` came to with the byte before the place `at` in it.
+#[inline(always)]
 fn done_after(found: Found, start: usize, at: usize) -> Turn
     requires found { lookahead found ≡ 0 }
     requires count { start + at ≤ 2 ^ 63 }
@@ -121,6 +124,7 @@ fn done_after(found: Found, start: usize, at: usize) -> Turn
 }
 
 /// What the attempt that began at `start` comes to after what a byte brings, at the place `at` after it.
+#[inline(always)]
 fn turn_of<R: MacroFunctions>(
     with: &Surroundings<'_, R>,
     frames: &mut Frames,
@@ -147,6 +151,7 @@ fn turn_of<R: MacroFunctions>(
 }
 
 /// What the attempt that began at `start` came to before the byte `c`, at the place `at` in it, with no open call.
+#[inline(always)]
 fn done_before<R: MacroFunctions>(
     with: &Surroundings<'_, R>,
     frames: &mut Frames,

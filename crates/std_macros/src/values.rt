@@ -94,6 +94,7 @@ fn text(gathered: StdGathered) -> Result<Finished, FinishError>
 
 // ---- one object, headed by a symbol
 
+#[inline(always)]
 fn headed(alloc: Global, name: &[u8], gathered: StdGathered) -> Result<Finished, FinishError>
     requires proper { IsProperGathered gathered }
     requires name { list_all is_ascii name.now ≡ true }
@@ -107,6 +108,7 @@ fn headed(alloc: Global, name: &[u8], gathered: StdGathered) -> Result<Finished,
 }
 
 /// The list of the symbol of COMMON-LISP of this name, and of `x`.
+#[inline(always)]
 fn headed_list(alloc: Global, name: &[u8], x: Datum) -> Result<Datum, AllocError>
     requires name { list_all is_ascii name.now ≡ true }
     ensures object { IfOk result (λ d. object_of d ≡ headed name.now (object_of x)) }
