@@ -201,12 +201,20 @@ fn prefixed(
     external.map_err(PackageError::number) == one && internal.map_err(PackageError::number) == two
 }
 
+// Whether the packages have these names.
+fn are_named(alloc: Global, packages: &Packages, names: &[&[u8]]) -> bool {
+    match packages.package_names(alloc) {
+        Ok(found) => found.as_slice() == names,
+        Err(_) => false,
+    }
+}
+
 #[test]
 fn first_packages(rt: HostRuntime) -> Result<(), Fail> {
     let alloc = rt.alloc();
     let packages = Packages::new(alloc)?.copy(alloc)?;
     let all: [&[u8]; 3] = [COMMON_LISP, COMMON_LISP_USER, KEYWORD];
-    assert!(rt; lists(Ok(packages.names(alloc)?), &all));
+    assert!(rt; lists(Ok(packages.names(alloc)?), &all) && are_named(alloc, &packages, &all));
     assert!(rt; is_user_first(alloc, &packages) && are_numbered(&packages));
     assert!(rt; uses_nothing(alloc, &packages, COMMON_LISP) && !uses_nothing(alloc, &packages, CL));
     assert_eq!(rt; packages.externals(alloc, COMMON_LISP)?.len(), 31);

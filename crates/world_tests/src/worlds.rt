@@ -1,5 +1,6 @@
 //! The first world, and calls on its readtables, properties and packages.
 mod marks;
+mod owners;
 
 use lisp_object::{Bytes, Datum, Items};
 use package_table::PackageError;

@@ -1,0 +1,87 @@
+//! The symbols that have properties, in the order of their homes and then of their names, whatever the order in which they came.
+use super::{put, remove};
+use package_table::PackageError;
+use package_table::standardized::{COMMON_LISP, COMMON_LISP_USER, KEYWORD};
+use plist_state::{Symbol, World};
+use std::alloc::Global;
+use std::test::Fail;
+
+// A world where the later names were interned first, and COMMON-LISP-USER has a symbol of another home.
+fn world_of(alloc: Global) -> Result<World, PackageError> {
+    let mut world = World::new(alloc)?;
+    world.make(b"P")?;
+    for (home, name) in [
+        (b"P".as_slice(), b"Y".as_slice()),
+        (b"P", b"X"),
+        (KEYWORD, b"K"),
+        (COMMON_LISP_USER, b"B"),
+        (COMMON_LISP_USER, b"A"),
+    ] {
+        let _interned = world.intern(home, name)?;
+    }
+    let _changed = world.import(COMMON_LISP_USER, b"P", b"X")?;
+    Ok(world)
+}
+
+// Sets the property LIST of a symbol to a number.
+fn put_at(alloc: Global, world: &mut World, home: &[u8], name: &[u8], number: i128) -> Option<()> {
+    let symbol = Symbol::from_bytes(alloc, home, name).ok()?;
+    let list = Symbol::from_bytes(alloc, COMMON_LISP, b"LIST").ok()?;
+    put(world, &symbol, list, number)
+}
+
+// Removes it, and tells whether it was there.
+fn remove_at(alloc: Global, world: &mut World, home: &[u8], name: &[u8]) -> Option<bool> {
+    let symbol = Symbol::from_bytes(alloc, home, name).ok()?;
+    let list = Symbol::from_bytes(alloc, COMMON_LISP, b"LIST").ok()?;
+    remove(world, &symbol, &list)
+}
+
+// Whether these symbols have properties, in this order, and no others.
+fn are_owners(alloc: Global, world: &World, wanted: &[(&[u8], &[u8])]) -> bool {
+    match world.owners(alloc) {
+        Ok(owners) => owners.as_slice() == wanted,
+        Err(_) => false,
+    }
+}
+
+const PUT: [(&[u8], &[u8]); 5] = [
+    (b"P", b"Y"),
+    (b"P", b"X"),
+    (b"KEYWORD", b"K"),
+    (b"COMMON-LISP-USER", b"A"),
+    (b"COMMON-LISP", b"LIST"),
+];
+
+const OWNERS: [(&[u8], &[u8]); 5] = [
+    (b"COMMON-LISP", b"LIST"),
+    (b"COMMON-LISP-USER", b"A"),
+    (b"KEYWORD", b"K"),
+    (b"P", b"X"),
+    (b"P", b"Y"),
+];
+
+// Whether each symbol has the number that was put at it.
+fn have_their_own(world: &World) -> bool {
+    PUT.iter().enumerate().all(|(place, (home, name))| {
+        matches!(world.plist_of(home, name), [property] if super::is_number(Some(property.value()), place as i128))
+    })
+}
+
+#[test]
+fn symbols_that_have_properties_are_in_order(rt: HostRuntime) -> Result<(), Fail> {
+    let alloc = rt.alloc();
+    let mut world = world_of(alloc)?;
+    assert!(rt; are_owners(alloc, &world, &[]));
+    for (place, (home, name)) in PUT.iter().enumerate() {
+        assert!(rt; put_at(alloc, &mut world, home, name, place as i128).is_some());
+    }
+    assert!(rt; are_owners(alloc, &world, &OWNERS) && have_their_own(&world));
+    // a symbol without properties, and names of no symbol
+    for (home, name) in [(COMMON_LISP_USER, b"B".as_slice()), (b"P", b"A"), (b"NO", b"X")] {
+        assert!(rt; world.plist_of(home, name).is_empty());
+    }
+    assert!(rt; remove_at(alloc, &mut world, b"KEYWORD", b"K") == Some(true));
+    assert!(rt; are_owners(alloc, &world, &[OWNERS[0], OWNERS[1], OWNERS[3], OWNERS[4]]));
+    Ok(())
+}
