@@ -78,7 +78,11 @@ fn symbols_that_have_properties_are_in_order(rt: HostRuntime) -> Result<(), Fail
     }
     assert!(rt; are_owners(alloc, &world, &OWNERS) && have_their_own(&world));
     // a symbol without properties, and names of no symbol
-    for (home, name) in [(COMMON_LISP_USER, b"B".as_slice()), (b"P", b"A"), (b"NO", b"X")] {
+    for (home, name) in [
+        (COMMON_LISP_USER, b"B".as_slice()),
+        (b"P", b"A"),
+        (b"NO", b"X"),
+    ] {
         assert!(rt; world.plist_of(home, name).is_empty());
     }
     assert!(rt; remove_at(alloc, &mut world, b"KEYWORD", b"K") == Some(true));
