@@ -19,6 +19,9 @@ fn world_of(alloc: Global) -> Result<World, PackageError> {
     ] {
         let _interned = world.intern(home, name)?;
     }
+    if !world.packages().is_symbol(b"P", b"X") {
+        return Err(PackageError::NotAccessible);
+    }
     let _changed = world.import(COMMON_LISP_USER, b"P", b"X")?;
     Ok(world)
 }
