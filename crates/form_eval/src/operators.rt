@@ -50,7 +50,13 @@ impl Operation {
     pub(crate) fn named(name: &[u8]) -> Option<Operation>
         ensures { (names : List Name) → option_map (operator names) result ≡ operator_named names name.now }
     {
-        on_data(name).or(on_packages(name).or(on_readtables(name)))
+        match on_data(name) {
+            Some(operation) => Some(operation),
+            None => match on_packages(name) {
+                Some(operation) => Some(operation),
+                None => on_readtables(name),
+            },
+        }
     }
 
     // How many arguments it takes at least.

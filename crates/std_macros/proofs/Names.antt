@@ -1,19 +1,11 @@
 -- The standard function of a name.
-use Rattle.std.proofs.Common.{◌≡◌, ℕ, Bool, true, false, ◌||◌, List, [], ◌∷◌, ◌++◌, Some, IfSome, is_some, refl}
+use Rattle.std.proofs.Common.{◌≡◌, ℕ, Bool, true, false, ◌||◌, List, [], ◌∷◌, Some, IfSome, is_some, refl}
 use Rattle.std.specs.Prelude.{if◌then◌else◌}
 use Rattle.std.specs.List.{list_any}
-use Rattle.std.specs.Option.{option_or}
 use Rattle.std.specs.Cmp.Lexicographic.{bytes_decides}
 use Rattle.readtable_core.specs.Names.{is_standard, same_name}
 use Rattle.std_macros.specs.declared.kind.Standard.{Standard}
 use Rattle.std_macros.specs.Kinds.{name_of, kinds, kind_among}
-
-pub among_joined : (xs ys : List Standard) (name : List ℕ) → kind_among (xs ++ ys) name ≡ option_or (kind_among xs name) (kind_among ys name)
-among_joined [] ys name = refl
-among_joined (k ∷ xs) ys name =
-    elim (same_name (name_of k) name)
-    as (λ b. (if b then Some k else kind_among (xs ++ ys) name) ≡ option_or (if b then Some k else kind_among xs name) (kind_among ys name))
-    [ true ↦ refl | false ↦ among_joined xs ys name ]
 
 among_some : (ks : List Standard) (name : List ℕ) → IfSome (kind_among ks name) (λ k. name_of k ≡ name)
 among_some [] name = tt

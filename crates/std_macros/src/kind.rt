@@ -79,7 +79,10 @@ pub fn standard_of(name: FnName) -> Option<Standard>
 fn known(name: &[u8]) -> Option<Standard>
     ensures { result ≡ kind_among kinds name.now }
 {
-    kind_of_macro_character(name).or(kind_of_sub_character(name))
+    match kind_of_macro_character(name) {
+        Some(kind) => Some(kind),
+        None => kind_of_sub_character(name),
+    }
 }
 
 fn kind_of_macro_character(name: &[u8]) -> Option<Standard>
