@@ -49,12 +49,6 @@ answer_costs packages nesting round token spaced no_value = refl
 answer_costs packages nesting round token spaced improper = refl
 answer_costs packages nesting round token spaced (refused code) = refl
 
-pub user_costs : (setting : Setting) (round : ℕ) (call : InvokedCall) (name : List ℕ) (token spaced : Bool) (material : Material) → call.function ≡ User name
-    → may_cost (completed setting round call token spaced material) ≡ true
-user_costs setting round call name token spaced material e =
-    ap (λ (f : Function). may_cost (completed_by setting round call f token spaced material)) e
-    ∙ answer_costs setting.packages setting.limits.nesting round token spaced (setting.answer name (macro_call call material))
-
 pub user_call_costs : (needs : Bool) (setting : Setting) (round : ℕ) (call : InvokedCall) (name : List ℕ) (token spaced : Bool) (material : Material) → call.function ≡ User name
     → call_may_cost needs call.function (completed setting round call token spaced material) ≡ true
 user_call_costs needs setting round call name token spaced material e =

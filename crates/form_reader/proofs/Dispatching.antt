@@ -4,6 +4,7 @@ use Rattle.std.specs.declared.alloc.AllocError.{AllocError}
 use Rattle.lisp_object.specs.declared.refusal.TheConstants.{FORM_TOO_LONG, INVALID_CHARACTER, NO_DISPATCH}
 use Rattle.readtable_core.specs.Characters.{upper_case}
 use Rattle.readtable_core.specs.Tables.{dispatch_at}
+use Rattle.std_macros.specs.Values.{Material}
 use Rattle.form_reader.specs.declared.found.Found.{Found}
 use Rattle.form_reader.specs.declared.frame.Frame.{Frame}
 use Rattle.form_reader.specs.declared.stage.Event.{Event}
@@ -13,6 +14,7 @@ use Rattle.form_reader.specs.Calls.{InvokedCall}
 use Rattle.form_reader.specs.Setting.{Setting, function_of}
 use Rattle.form_reader.specs.Reading.{called, sub_called, sub_there, dispatched, number_after}
 use Rattle.form_reader.specs.Frames.{given}
+use Rattle.form_reader.specs.Memory.{call_at_once, EndsAtSub}
 use Rattle.form_reader.specs.Resuming.{inner_at, Brings, Begins}
 use Rattle.form_reader.proofs.Opened.{given_moves, given_fault, gathering_ends}
 use Rattle.form_reader.proofs.Beginnings.{given_refused}
@@ -62,6 +64,19 @@ module _ (setting : Setting) (frames : List Frame) (character at c : ℕ) (numbe
       → f ≡ function_of name → sub ≡ upper_case c → n ≡ number → call ≡ of_sub f sub n → sub_gives ≡ call_gives call
   sub_is name f sub n call lt ascii e same upper digits is =
       sub_taken lt ascii ∙ ap sub_found e ∙ sym (ap call_gives (is ∙ (λ i. of_sub (same i) (upper i) (digits i))))
+
+-- its call ends at once, where its function gathers nothing
+pub sub_ends : (setting : Setting) (character c : ℕ) (digits : Option ℕ) (name : List ℕ) (f : Function) (sub : ℕ) (n : Option ℕ) (own : InvokedCall) → dispatch_at setting.table character c ≡ Some name
+    → f ≡ function_of name → sub ≡ upper_case c → n ≡ digits → own ≡ record { function = f; character = character; sub = Some sub; number = n }
+    → (inner : List Frame) (call : InvokedCall) (material : Material) → call_at_once setting own inner call material → EndsAtSub setting character digits c inner call material
+sub_ends setting character c digits name f sub n own e same upper counts is inner call material h =
+    (name, e, subst (λ (o : InvokedCall). call_at_once setting o inner call material) (is ∙ (λ i. record { function = same i; character = character; sub = Some (upper i); number = counts i })) h)
+
+-- the same of a character and a number that are held
+pub held_ends : (setting : Setting) (held character c : ℕ) (old new : Option ℕ) → held ≡ character → new ≡ old → (inner : List Frame) (call : InvokedCall) (material : Material)
+    → EndsAtSub setting held new c inner call material → EndsAtSub setting character old c inner call material
+held_ends setting held character c old new same kept inner call material h =
+    subst (λ (n : ℕ). EndsAtSub setting n old c inner call material) same (subst (λ (digits : Option ℕ). EndsAtSub setting held digits c inner call material) kept h)
 
 -- where the number has ended, it is what the sub-character gives
 pub number_is : (setting : Setting) (frames : List Frame) (held character at c : ℕ) (old new : Option ℕ) (cs : List ℕ)

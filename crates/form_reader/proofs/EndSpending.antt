@@ -1,8 +1,7 @@
 -- Where memory may run out at the end of the text: from what it ends, up to what it is to the reader.
 use Rattle.std.proofs.Common.{◌≡◌, ℕ, true, false, List, length, None, Result, Ok, refl, sym, subst}
-use Rattle.std.specs.Prelude.{OnErr, Bool, ◌||◌}
+use Rattle.std.specs.Prelude.{OnErr, Bool}
 use Rattle.std.specs.declared.alloc.AllocError.{AllocError}
-use Rattle.std_macros.specs.Results.{takes_memory}
 use Rattle.std_macros.specs.Values.{letters, marked}
 use Rattle.token_scan.specs.declared.mark.Mark.{Mark}
 use Rattle.token_scan.specs.Scans.{Scan}
@@ -15,7 +14,6 @@ use Rattle.form_reader.specs.declared.stage.Event.TheVariants.{Gives as IsGiven}
 use Rattle.form_reader.specs.declared.found.Found.{Found}
 use Rattle.form_reader.specs.declared.found.Found.TheVariants.{Nothing as nothing, One as one, LoneDot as lone_dot, TheEnd as the_end}
 use Rattle.form_reader.specs.declared.way.Function.{Function}
-use Rattle.form_reader.specs.declared.way.Function.TheVariants.{Standard as AStandard, User}
 use Rattle.form_reader.specs.Plans.{Plan, gives}
 use Rattle.form_reader.specs.declared.stage.Stage.{Stage}
 use Rattle.form_reader.specs.declared.stage.Stage.TheVariants.{Token as AtToken, CallToken as AtCallToken, Line as AtLine}
@@ -24,22 +22,22 @@ use Rattle.form_reader.specs.Calls.{InvokedCall}
 use Rattle.form_reader.specs.Setting.{Setting}
 use Rattle.form_reader.specs.Reading.{completed}
 use Rattle.form_reader.specs.Frames.{is_waiting}
-use Rattle.form_reader.specs.Memory.{call_may_cost, token_may_cost, Spends, SpendsToken}
+use Rattle.form_reader.specs.Memory.{call_may_cost, token_may_cost, IsWhatIsGiven, Spends, SpendsToken}
 use Rattle.form_reader.specs.Ending.{TokenStops, EndNeedsMemory}
+use Rattle.form_reader.proofs.TokenCalls.{object_costs}
 use Rattle.form_reader.proofs.Spending.{spent_so, token_spends}
 use Rattle.form_reader.specs.Reader.{EndMayRunOutIn, EndMayRunOut}
 
 -- what is given of a call is an object, which the calls round it need memory to take
-pub object_costs : (needs : Bool) (function : Function) (found : Found) → Spends needs (Ok (IsGiven found)) (call_may_cost needs function (gives found) ≡ true)
-object_costs needs function (nothing token) = tt
-object_costs needs (AStandard kind) (one token x) = λ e. by (takes_memory kind) needs e
-  where
-    by : (a b : Bool) → b ≡ true → (a || b) ≡ true
-    by true b e = refl
-    by false b e = e
-object_costs needs (User name) (one token x) = λ e. refl
-object_costs needs function lone_dot = tt
-object_costs needs function the_end = tt
+pub found_costs : (needs : Bool) (function : Function) (found : Found) → Spends needs (Ok (IsGiven found)) (call_may_cost needs function (gives found) ≡ true)
+found_costs needs function (nothing token) = tt
+found_costs needs function (one token x) = object_costs needs function (gives (one token x)) token x refl
+found_costs needs function lone_dot = tt
+found_costs needs function the_end = tt
+
+-- what is given is what the call comes to
+pub what_is_given : (event : Event) (other plan : Plan Found) → other ≡ plan → IsWhatIsGiven plan event → IsWhatIsGiven other event
+what_is_given event other plan e h = subst (λ (p : Plan Found). IsWhatIsGiven p event) (sym e) h
 
 pub called_costs : (needs : Bool) (event : Event) (function : Function) (other plan : Plan Found) → other ≡ plan → Spends needs (Ok event) (call_may_cost needs function plan ≡ true)
     → Spends needs (Ok event) (call_may_cost needs function other ≡ true)

@@ -12,6 +12,7 @@ pub mod Fed
 pub mod FedTokens
 pub mod TakenTokens
 pub mod Costing
+pub mod TokenCalls
 pub mod Beginnings
 pub mod Goings
 pub mod Spending

@@ -1,6 +1,7 @@
 -- Where memory may run out: from what a call comes to, up to what a byte is.
 use Rattle.std.proofs.Common.{◌≡◌, ℕ, ◌+◌, ◌<◌, ◌≤◌, Bool, true, false, List, [], ◌∷◌, length, Option, Some, Result, Ok, Err, refl, sym, ap, subst, ◌∙◌, arith}
 use Rattle.std.specs.Prelude.{IfOk, OnErr}
+use Rattle.std.proofs.lemmas.Bool.{eq-eqb}
 use Rattle.lisp_object.specs.Object.{Object}
 use Rattle.std.specs.declared.alloc.AllocError.{AllocError}
 use Rattle.readtable_core.specs.declared.table.Case.{Case}
@@ -33,14 +34,15 @@ use Rattle.form_reader.specs.declared.stage.Stage.{Stage}
 use Rattle.form_reader.specs.declared.stage.Stage.TheVariants.{Object as AtObject, Token as AtToken, CallToken as AtCallToken, Text as AtText, Escaped as AtEscaped, Line as AtLine, Block as AtBlock, Number as AtNumber}
 use Rattle.form_reader.specs.declared.way.Way.{Way}
 use Rattle.form_reader.specs.declared.way.Way.TheVariants.{Nothing, Next, List as AList, Until}
-use Rattle.form_reader.specs.Calls.{InvokedCall}
+use Rattle.form_reader.specs.Calls.{InvokedCall, may_gather_token}
 use Rattle.form_reader.specs.Plans.{Plan, gives, then_plan, Read, run}
 use Rattle.form_reader.specs.Setting.{Setting, way_in}
 use Rattle.form_reader.specs.Reading.{completed, gathered_by, called, told_found, token_found}
 use Rattle.form_reader.specs.Feeding.{TokenFeeds, token_read}
-use Rattle.form_reader.specs.Frames.{given, needs_memory, needs_to_take, plan_gives, place_gives, token_goes_on}
+use Rattle.form_reader.specs.Frames.{close_of, is_closed_by, given, needs_memory, needs_to_take, plan_gives, place_gives, token_goes_on}
 use Rattle.form_reader.specs.Resuming.{IsStageAt, Moves, inner_at, stage_gives}
-use Rattle.form_reader.specs.Memory.{may_cost, call_may_cost, meaning_may_cost, token_may_cost, is_nothing, event_needs, any_call, only_call, MayEndAt, CostsOf, Costs, goes_on, comes_to, Spends, SpendsGiven, SpendsToken, SpendsMove, SpendsPass, EndsToken, EndsWith, GivesBefore, StaysOpen, as_they_were, after_token, RunsOut, with_it, before_it, FoundCosts, taking, passing, with_byte}
+use Rattle.form_reader.specs.Memory.{call_may_cost, meaning_may_cost, token_may_cost, is_nothing, event_needs, only_call, call_at_once, closed_call, closes, MayEndAt, CostsOf, Costs, goes_on, comes_to, Spends, IsWhatIsGiven, SpendsToken, SpendsMove, SpendsPass, EndsToken, EndsWith, GivesBefore, StaysOpen, as_they_were, after_token, after_call, RunsOut, with_it, before_it, FoundCosts, taking, passing, with_byte}
+use Rattle.form_reader.proofs.TokenCalls.{token_gives_nothing, object_costs}
 use Rattle.form_reader.proofs.Opened.{gathering_ends, gathering_moves}
 use Rattle.form_reader.proofs.Beginnings.{OpensWith, next_at, list_at, until_at}
 
@@ -69,48 +71,51 @@ moved needs (Err e) P h = h
 
 -- ---- what is read is the same
 
-pub costs_same : (setting : Setting) (frames : List Frame) (at : ℕ) (read other : List ℕ → Read Found) → ((cs : List ℕ) → other cs ≡ read cs)
-    → Costs setting frames at read → Costs setting frames at other
-costs_same setting frames at read other e (goes_on after stage le stands same) = goes_on after stage le stands (λ cs. e cs ∙ same cs)
-costs_same setting frames at read other e (comes_to inner round is call material own cost same) = comes_to inner round is call material own cost (λ cs. e cs ∙ same cs)
+module _ {ends : List Frame → InvokedCall → Material → Type 0} (setting : Setting) (frames : List Frame) (at : ℕ) (read other : List ℕ → Read Found) (e : (cs : List ℕ) → other cs ≡ read cs) where
+  pub costs_same : CostsOf ends setting frames at read → CostsOf ends setting frames at other
+  costs_same (goes_on after stage le stands same) = goes_on after stage le stands (λ cs. e cs ∙ same cs)
+  costs_same (comes_to inner round is call material own cost same) = comes_to inner round is call material own cost (λ cs. e cs ∙ same cs)
 
-pub spends_same : (needs : Bool) (setting : Setting) (frames : List Frame) (at : ℕ) (read other : List ℕ → Read Found) (result : Result Event AllocError) → ((cs : List ℕ) → other cs ≡ read cs)
-    → Spends needs result (Costs setting frames at read) → Spends needs result (Costs setting frames at other)
-spends_same needs setting frames at read other result e h = spent_so needs result _ _ (costs_same setting frames at read other e) h
+pub spends_same : (ends : List Frame → InvokedCall → Material → Type 0) (needs : Bool) (setting : Setting) (frames : List Frame) (at : ℕ) (read other : List ℕ → Read Found) (result : Result Event AllocError) → ((cs : List ℕ) → other cs ≡ read cs)
+    → Spends needs result (CostsOf ends setting frames at read) → Spends needs result (CostsOf ends setting frames at other)
+spends_same ends needs setting frames at read other result e h = spent_so needs result _ _ (costs_same setting frames at read other e) h
+
+-- the call that ends is one that may end
+pub ends_so : (ends other : List Frame → InvokedCall → Material → Type 0) (needs : Bool) (setting : Setting) (frames : List Frame) (at : ℕ) (read : List ℕ → Read Found) (result : Result Event AllocError)
+    → ((inner : List Frame) (call : InvokedCall) (material : Material) → ends inner call material → other inner call material)
+    → Spends needs result (CostsOf ends setting frames at read) → Spends needs result (CostsOf other setting frames at read)
+ends_so ends other needs setting frames at read result on h = spent_so needs result _ _ by h
+  where
+    by : CostsOf ends setting frames at read → CostsOf other setting frames at read
+    by (goes_on after stage le stands same) = goes_on after stage le stands same
+    by (comes_to inner round is call material own cost same) = comes_to inner round is call material (on inner call material own) cost same
 
 -- ---- what a call comes to
 
 -- of a call that may end there, with no open call
-own_call_costs : (ends : List Frame → InvokedCall → Type 0) (setting : Setting) (frames : List Frame) (at round : ℕ) (call : InvokedCall) (material : Material) (read : List ℕ → Read Found) (result : Result Event AllocError)
-    → ends [] call → round ≡ length frames → ((cs : List ℕ) → read cs ≡ plan_gives setting frames (completed setting (length frames) call false false material) at cs)
+pub own_call_costs : (ends : List Frame → InvokedCall → Material → Type 0) (setting : Setting) (frames : List Frame) (at round : ℕ) (call : InvokedCall) (material : Material) (read : List ℕ → Read Found) (result : Result Event AllocError)
+    → ends [] call material → round ≡ length frames → ((cs : List ℕ) → read cs ≡ plan_gives setting frames (completed setting (length frames) call false false material) at cs)
     → ((needs : Bool) → Spends needs result (call_may_cost needs call.function (completed setting round call false false material) ≡ true))
     → Spends (needs_memory frames) result (CostsOf ends setting frames at read)
 own_call_costs ends setting frames at round call material read result own open_calls same h =
     spent_so (needs_memory frames) result _ _ (λ cost. comes_to [] frames refl call material own
     (subst (λ (n : ℕ). call_may_cost (needs_memory frames) call.function (completed setting n call false false material) ≡ true) open_calls cost) same) (h (needs_memory frames))
 
-pub call_costs : (setting : Setting) (frames : List Frame) (at round : ℕ) (call : InvokedCall) (material : Material) (read : List ℕ → Read Found) (result : Result Event AllocError)
-    → round ≡ length frames → ((cs : List ℕ) → read cs ≡ plan_gives setting frames (completed setting (length frames) call false false material) at cs)
-    → ((needs : Bool) → Spends needs result (call_may_cost needs call.function (completed setting round call false false material) ≡ true))
-    → Spends (needs_memory frames) result (Costs setting frames at read)
-call_costs setting frames at round call material read result open_calls same h =
-    own_call_costs any_call setting frames at round call material read result tt open_calls same h
-
 -- what was gathered has ended
-pub ends_cost : {A : Type 0} (setting : Setting) (frames : List Frame) (p : Plan A) (m : A → Material) (x y : A) (at c round : ℕ) (call : InvokedCall) (result : Result Event AllocError)
-    → round ≡ length frames → ((cs : List ℕ) → run setting.table setting.limits p at (c ∷ cs) ≡ Ok (x, at + 1, cs)) → y ≡ x
+pub ends_cost : {A : Type 0} (setting : Setting) (frames : List Frame) (p : Plan A) (m : A → Material) (held x y : A) (at c round : ℕ) (call : InvokedCall) (result : Result Event AllocError)
+    → round ≡ length frames → ((cs : List ℕ) → run setting.table setting.limits p at (c ∷ cs) ≡ Ok (x, at + 1, cs)) → y ≡ x → x ≡ held
     → ((needs : Bool) → Spends needs result (call_may_cost needs call.function (completed setting round call false false (m y)) ≡ true))
-    → Spends (needs_memory frames) result (CostsOf (only_call call) setting frames (at + 1) (λ cs. plan_gives setting frames (then_plan p (λ z. completed setting (length frames) call false false (m z))) at (c ∷ cs)))
-ends_cost {A} setting frames p m x y at c round call result open_calls e same h =
+    → Spends (needs_memory frames) result (CostsOf (only_call call (m held)) setting frames (at + 1) (λ cs. plan_gives setting frames (then_plan p (λ z. completed setting (length frames) call false false (m z))) at (c ∷ cs)))
+ends_cost {A} setting frames p m held x y at c round call result open_calls e same kept h =
     let on : A → Plan Found = λ z. completed setting (length frames) call false false (m z) in
-    own_call_costs (only_call call) setting frames (at + 1) round call (m y) (λ cs. plan_gives setting frames (then_plan p on) at (c ∷ cs)) result (refl, refl) open_calls
+    own_call_costs (only_call call (m held)) setting frames (at + 1) round call (m y) (λ cs. plan_gives setting frames (then_plan p on) at (c ∷ cs)) result (refl, refl, ap m (same ∙ kept)) open_calls
     (λ cs. gathering_ends setting frames p on x at (at + 1) (c ∷ cs) cs (e cs) ∙ ap (λ (z : A). plan_gives setting frames (on z) (at + 1) cs) (sym same)) h
 
 -- ---- how a call begins
 
 module _ (setting : Setting) (frames : List Frame) (call : InvokedCall) (way : Way) (at : ℕ) where
   abbrev Opens : Type 0
-  Opens = Costs setting frames at (λ cs. OpensWith setting frames call way (inner_at setting (length frames)) at cs)
+  Opens = CostsOf (call_at_once setting call) setting frames at (λ cs. OpensWith setting frames call way (inner_at setting (length frames)) at cs)
 
   pub next_costs : way ≡ Next → length frames < setting.limits.nesting → at ≤ setting.limits.text → Opens
   next_costs e lt le =
@@ -127,16 +132,17 @@ module _ (setting : Setting) (frames : List Frame) (call : InvokedCall) (way : W
       let after = record { call = call; part = InUntil close [] } ∷ frames in
       goes_on after AtObject le tt (λ cs. until_at setting frames call way at cs after close [] e lt le refl refl)
 
-  pub nothing_costs : (round : ℕ) (result : Result Event AllocError) → way ≡ Nothing → round ≡ length frames
+  pub nothing_costs : (round : ℕ) (result : Result Event AllocError) → way_in setting call ≡ Some way → way ≡ Nothing → round ≡ length frames
       → ((needs : Bool) → Spends needs result (call_may_cost needs call.function (completed setting round call false false no_material) ≡ true)) → Spends (needs_memory frames) result Opens
-  nothing_costs round result e open_calls h =
-      call_costs setting frames at round call no_material (λ cs. OpensWith setting frames call way (inner_at setting (length frames)) at cs) result open_calls
+  nothing_costs round result is e open_calls h =
+      own_call_costs (call_at_once setting call) setting frames at round call no_material (λ cs. OpensWith setting frames call way (inner_at setting (length frames)) at cs) result
+      (is ∙ ap (λ (w : Way). Some w) e, (refl, refl, refl)) open_calls
       (λ cs. ap (λ (w : Way). OpensWith setting frames call w (inner_at setting (length frames)) at cs) e) h
 
   pub some_costs : (needs : Bool) (result : Result Event AllocError) → way_in setting call ≡ Some way → Spends needs result Opens
-      → Spends needs result (Costs setting frames at (λ cs. plan_gives setting frames (called setting (length frames) (inner_at setting (length frames)) call) at cs))
+      → Spends needs result (CostsOf (call_at_once setting call) setting frames at (λ cs. plan_gives setting frames (called setting (length frames) (inner_at setting (length frames)) call) at cs))
   some_costs needs result e h =
-      spends_same needs setting frames at (λ cs. OpensWith setting frames call way (inner_at setting (length frames)) at cs) _ result
+      spends_same (call_at_once setting call) needs setting frames at (λ cs. OpensWith setting frames call way (inner_at setting (length frames)) at cs) _ result
       (λ cs. ap (λ (o : Option Way). plan_gives setting frames (gathered_by setting (length frames) (inner_at setting (length frames)) call o) at cs) e) h
 
 -- ---- tokens
@@ -157,22 +163,24 @@ token_taken_at setting frames stage scan new at c e stands lt read =
     (token_taken setting frames (AtToken scan) (AtToken new) (token_found setting) scan new at c stands lt (λ cs. refl) (λ cs. refl) read)
 
 -- a token of a call has ended
-pub call_token_costs : (setting : Setting) (frames : List Frame) (call : InvokedCall) (old new : Scan) (marks : List Mark) (fed : LineByte) (at c round : ℕ) → fed ≡ LineEnded
-    → ((cs : List ℕ) → TokenFeeds setting.table setting.limits new at c cs fed (token_read setting.table setting.limits old at (c ∷ cs))) → marks ≡ new.marks → round ≡ length frames
-    → may_cost (completed setting round call true false (marked marks)) ≡ true → EndsToken setting frames (AtCallToken call old) at c
-call_token_costs setting frames call old new marks fed at c round e feeds same open_calls cost = (
-  marks,
-  λ cs. subst (λ (f : LineByte). TokenFeeds setting.table setting.limits new at c cs f (token_read setting.table setting.limits old at (c ∷ cs))) e (feeds cs)
-      ∙ ap (λ (ms : List Mark). Ok (ms, at, c ∷ cs)) (sym same),
-  subst (λ (n : ℕ). may_cost (completed setting n call true false (marked marks)) ≡ true) open_calls cost,
-)
+module _ (setting : Setting) (frames : List Frame) (call : InvokedCall) (old new : Scan) (marks : List Mark) (fed : LineByte) (at c round : ℕ) (e : fed ≡ LineEnded)
+    (feeds : (cs : List ℕ) → TokenFeeds setting.table setting.limits new at c cs fed (token_read setting.table setting.limits old at (c ∷ cs))) (same : marks ≡ new.marks) (open_calls : round ≡ length frames) where
+  token_stops : (cs : List ℕ) → token_read setting.table setting.limits old at (c ∷ cs) ≡ Ok (marks, at, c ∷ cs)
+  token_stops cs =
+      subst (λ (f : LineByte). TokenFeeds setting.table setting.limits new at c cs f (token_read setting.table setting.limits old at (c ∷ cs))) e (feeds cs)
+      ∙ ap (λ (ms : List Mark). Ok (ms, at, c ∷ cs)) (sym same)
 
--- what it gives, where memory may run out for it
-pub call_token_gives : (setting : Setting) (frames : List Frame) (call : InvokedCall) (scan : Scan) (at c : ℕ) (event : Event) (P : Type 0) → (P → EndsToken setting frames (AtCallToken call scan) at c)
-    → SpendsGiven (Ok event) P → GivesBefore setting frames (AtCallToken call scan) at c (IsBefore event)
-call_token_gives setting frames call scan at c (IsAt stage) P on h = tt
-call_token_gives setting frames call scan at c (IsGiven found) P on h = on h
-call_token_gives setting frames call scan at c (IsRefused code place) P on h = tt
+  pub call_token_costs : ((needs : Bool) → call_may_cost needs call.function (completed setting round call true false (marked marks)) ≡ true) → EndsToken setting frames (AtCallToken call old) at c
+  call_token_costs cost =
+      (marks, token_stops, subst (λ (n : ℕ). call_may_cost (needs_memory frames) call.function (completed setting n call true false (marked marks)) ≡ true) open_calls (cost (needs_memory frames)))
+
+  -- what it gives
+  pub call_token_gives : (event : Event) → may_gather_token call.function ≡ true → IsWhatIsGiven (completed setting round call true false (marked marks)) event
+      → GivesBefore setting frames (AtCallToken call old) at c (IsBefore event)
+  call_token_gives (IsAt stage) gathers is = tt
+  call_token_gives (IsGiven found) gathers is =
+      (marks, token_stops, subst (λ (n : ℕ). completed setting n call true false (marked marks) ≡ gives found) open_calls is, gathers)
+  call_token_gives (IsRefused code place) gathers is = tt
 
 -- a name needs memory whatever is open
 name_costs : (needs : Bool) (meaning : Result Meaning MeaningRefusal) → IsNameMeaning meaning → meaning_may_cost needs meaning ≡ true
@@ -230,11 +238,11 @@ told_gives setting letters (m ∷ ms) answer some same e =
 -- ---- where the reader is
 
 pub stage_costs : (setting : Setting) (frames : List Frame) (stage known : Stage) (at c : ℕ) → stage ≡ known
-    → CostsOf (MayEndAt known) setting frames (at + 1) (λ cs. stage_gives setting frames known at (c ∷ cs)) → RunsOut setting frames stage at c
+    → CostsOf (MayEndAt setting known c) setting frames (at + 1) (λ cs. stage_gives setting frames known at (c ∷ cs)) → RunsOut setting frames stage at c
 stage_costs setting frames stage known at c e h = subst (λ (s : Stage). RunsOut setting frames s at c) (sym e) (with_it frames (as_they_were refl) h)
 
 pub stage_spends : (needs : Bool) (setting : Setting) (frames : List Frame) (stage known : Stage) (at c : ℕ) (result : Result Event AllocError) → stage ≡ known
-    → Spends needs result (CostsOf (MayEndAt known) setting frames (at + 1) (λ cs. stage_gives setting frames known at (c ∷ cs))) → Spends needs result (RunsOut setting frames stage at c)
+    → Spends needs result (CostsOf (MayEndAt setting known c) setting frames (at + 1) (λ cs. stage_gives setting frames known at (c ∷ cs))) → Spends needs result (RunsOut setting frames stage at c)
 stage_spends needs setting frames stage known at c result e h = spent_so needs result _ _ (stage_costs setting frames stage known at c e) h
 
 pub stage_moves_spend : (needs : Bool) (setting : Setting) (frames : List Frame) (stage known : Stage) (at c : ℕ) (result : Result Moved AllocError) → stage ≡ known
@@ -266,7 +274,7 @@ given_spends frames (IsRefused code place) P e h = cc
 
 -- ---- a byte of what is gathered
 
-pub taken_costs : {A : Type 0} {ends : List Frame → InvokedCall → Type 0} (setting : Setting) (frames : List Frame) (p q : Plan A) (on : A → Plan Found) (later : Stage) (at c : ℕ) → at < setting.limits.text → IsStageAt (at + 1) later
+pub taken_costs : {A : Type 0} {ends : List Frame → InvokedCall → Material → Type 0} (setting : Setting) (frames : List Frame) (p q : Plan A) (on : A → Plan Found) (later : Stage) (at c : ℕ) → at < setting.limits.text → IsStageAt (at + 1) later
     → ((cs : List ℕ) → run setting.table setting.limits p at (c ∷ cs) ≡ run setting.table setting.limits q (at + 1) cs)
     → ((cs : List ℕ) → stage_gives setting frames later (at + 1) cs ≡ plan_gives setting frames (then_plan q on) (at + 1) cs)
     → CostsOf ends setting frames (at + 1) (λ cs. plan_gives setting frames (then_plan p on) at (c ∷ cs))
@@ -275,17 +283,20 @@ taken_costs setting frames p q on later at c lt stands moves is =
 
 -- ---- in the open calls
 
-deeper : (setting : Setting) (f : Frame) (fs frames : List Frame) (at : ℕ) (read : List ℕ → Read Found) → frames ≡ f ∷ fs → Costs setting fs at read → Costs setting frames at read
-deeper setting f fs frames at read e (goes_on after stage le stands same) = goes_on after stage le stands same
-deeper setting f fs frames at read e (comes_to inner round is call material own cost same) = comes_to (f ∷ inner) round (e ∙ ap (λ (gs : List Frame). f ∷ gs) is) call material tt cost same
+-- the innermost is closed
+pub closed_spends : (needs : Bool) (setting : Setting) (f : Frame) (fs frames : List Frame) (at c : ℕ) (read : List ℕ → Read Found) (result : Result Event AllocError) → frames ≡ f ∷ fs → close_of f.part ≡ Some c
+    → Spends needs result (CostsOf (closed_call f) setting fs at read) → Spends needs result (Costs setting frames c at read)
+closed_spends needs setting f fs frames at c read result e close h = spent_so needs result _ _ by h
+  where
+    by : CostsOf (closed_call f) setting fs at read → Costs setting frames c at read
+    by (goes_on after stage le stands same) = goes_on after stage le stands same
+    by (comes_to inner round is call material (none, own, gathered) cost same) =
+        comes_to (f ∷ inner) round (e ∙ ap (λ (gs : List Frame). f ∷ gs) is) call material
+        (closes f (ap (λ (o : Option ℕ). is_closed_by o c) close ∙ eq-eqb c c refl) (ap (λ (gs : List Frame). f ∷ gs) none) own gathered) cost same
 
-pub deeper_spends : (needs : Bool) (setting : Setting) (f : Frame) (fs frames : List Frame) (at : ℕ) (read : List ℕ → Read Found) (result : Result Event AllocError) → frames ≡ f ∷ fs
-    → Spends needs result (Costs setting fs at read) → Spends needs result (Costs setting frames at read)
-deeper_spends needs setting f fs frames at read result e h = spent_so needs result _ _ (deeper setting f fs frames at read e) h
-
-pub same_frames_spend : (needs : Bool) (setting : Setting) (now frames : List Frame) (at : ℕ) (read : List ℕ → Read Found) (result : Result Event AllocError) → now ≡ frames
-    → Spends needs result (Costs setting now at read) → Spends needs result (Costs setting frames at read)
-same_frames_spend needs setting now frames at read result e h = subst (λ (fs : List Frame). Spends needs result (Costs setting fs at read)) e h
+pub same_frames_spend : (needs : Bool) (setting : Setting) (now frames : List Frame) (at c : ℕ) (read : List ℕ → Read Found) (result : Result Event AllocError) → now ≡ frames
+    → Spends needs result (Costs setting now c at read) → Spends needs result (Costs setting frames c at read)
+same_frames_spend needs setting now frames at c read result e h = subst (λ (fs : List Frame). Spends needs result (Costs setting fs c at read)) e h
 
 -- ---- after what was found
 
@@ -293,7 +304,7 @@ module _ (setting : Setting) (old there : List Frame) (found : Found) (delivered
   -- the byte needs memory, after the open calls took what was found
   pub waits_cost : (token known : Bool) → delivered ≡ Waits token → token ≡ known → DeliversFrom old found there delivered
       → ((cs : List ℕ) → Delivers setting there at cs delivered (plan_gives setting old (gives found) at cs))
-      → Costs setting there (at + 1) (λ cs. place_gives setting known there at (c ∷ cs)) → FoundCosts setting old found at c
+      → Costs setting there c (at + 1) (λ cs. place_gives setting known there at (c ∷ cs)) → FoundCosts setting old found at c
   waits_cost token known is same from delivers cost = by (needs_to_take old found) refl
     where
       e : delivered ≡ Waits known
@@ -335,7 +346,16 @@ found_runs_out setting frames (AtToken scan) at c (one token x) (marks, ends, is
 found_runs_out setting frames (AtToken scan) at c (nothing token) (marks, ends, is) same (taking needs) = cc
 found_runs_out setting frames (AtToken scan) at c lone_dot (marks, ends, is) same (taking needs) = cc
 found_runs_out setting frames (AtToken scan) at c the_end (marks, ends, is) same (taking needs) = cc
-found_runs_out setting frames (AtCallToken call scan) at c found ends same cost = before_it ends
+found_runs_out setting frames (AtCallToken call scan) at c found (marks, ends, is, gathers) same (passing none) =
+    before_it (marks, ends, token_gives_nothing (needs_memory frames) setting (length frames) call marks found gathers is none)
+found_runs_out setting frames (AtCallToken call scan) at c found (marks, ends, is, gathers) same (with_byte there takes cost) =
+    with_it there (after_call call scan refl marks ends found is takes)
+    (costs_same setting there (at + 1) (λ cs. plan_gives setting frames (gives found) at (c ∷ cs)) (λ cs. stage_gives setting frames (AtCallToken call scan) at (c ∷ cs)) same cost)
+found_runs_out setting frames (AtCallToken call scan) at c (one token x) (marks, ends, is, gathers) same (taking needs) =
+    before_it (marks, ends, object_costs (needs_memory frames) call.function (completed setting (length frames) call true false (marked marks)) token x is needs)
+found_runs_out setting frames (AtCallToken call scan) at c (nothing token) (marks, ends, is, gathers) same (taking needs) = cc
+found_runs_out setting frames (AtCallToken call scan) at c lone_dot (marks, ends, is, gathers) same (taking needs) = cc
+found_runs_out setting frames (AtCallToken call scan) at c the_end (marks, ends, is, gathers) same (taking needs) = cc
 found_runs_out setting frames AtObject at c found ends same cost = absurd ends
 found_runs_out setting frames (AtText call terminator text) at c found ends same cost = absurd ends
 found_runs_out setting frames (AtEscaped call terminator text) at c found ends same cost = absurd ends

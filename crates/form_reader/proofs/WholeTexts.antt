@@ -17,7 +17,7 @@ use Rattle.form_reader.specs.Reading.{completed, refused, reads}
 use Rattle.form_reader.specs.Frames.{given, needs_memory, plan_gives}
 use Rattle.form_reader.specs.declared.way.Function.{Function}
 use Rattle.form_reader.specs.declared.way.Function.TheVariants.{Standard as AStandard, User}
-use Rattle.form_reader.specs.Memory.{may_cost, call_may_cost, AreOpen, as_they_were, after_token}
+use Rattle.form_reader.specs.Memory.{may_cost, call_may_cost, AreOpen, as_they_were, after_token, after_call}
 use Rattle.form_reader.specs.Turning.{outcome_of}
 use Rattle.form_reader.specs.Reader.{DecideNothing, IsNew, IsAfter, NeedsMemory, undecided, token_ends, call_ends, MayRunOutIn, MayRunOut, EndMayRunOutIn, EndMayRunOut, ReadMayRunOut, ReadNeedsMemory, at_byte, at_end}
 use Rattle.form_reader.proofs.Deciding.{refusal_stays}
@@ -72,6 +72,7 @@ may_cost_so needs (AStandard kind) (scans escaped limit on) e = cc
 still_none : (setting : Setting) (there : List Frame) (at c : ℕ) → AreOpen setting [] AtObject at c there → there ≡ []
 still_none setting there at c (as_they_were e) = e
 still_none setting there at c (after_token scan e marks ends found is never) = cc
+still_none setting there at c (after_call call scan e marks ends found is never) = cc
 
 needing_stands : (setting : Setting) (c : ℕ) → NeedsMemory setting [] AtObject 0 0 [] c → Stands setting c
 needing_stands setting c (undecided h) = undecided_stands setting c h

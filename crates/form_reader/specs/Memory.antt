@@ -1,9 +1,12 @@
 -- Where memory may run out: where reading goes on, or where something was found.
-use Rattle.std.specs.Prelude.{ℕ, ◌≡◌, ◌+◌, ◌≤◌, ◌==◌, ◌&&◌, ◌||◌, nat_lt, not, Bool, true, false, List, [], ◌∷◌, ◌++◌, length, Some, Result, Ok, Err}
+use Rattle.std.specs.Prelude.{ℕ, ◌≡◌, ◌+◌, ◌≤◌, ◌==◌, ◌&&◌, ◌||◌, nat_lt, not, Bool, true, false, List, [], ◌∷◌, ◌++◌, length, Option, Some, None, Result, Ok, Err}
 use Rattle.std.specs.declared.alloc.AllocError.{AllocError}
 use Rattle.lisp_object.specs.declared.refusal.TheConstants.{MACRO_REFUSED, MACRO_ANSWER}
+use Rattle.readtable_core.specs.Characters.{upper_case}
+use Rattle.readtable_core.specs.Names.{is_dispatch_name}
+use Rattle.readtable_core.specs.Tables.{entry_at, dispatch_at}
 use Rattle.std_macros.specs.Results.{takes_memory}
-use Rattle.std_macros.specs.Values.{Material, marked}
+use Rattle.std_macros.specs.Values.{Material, nothing as no_material, many, dotted, letters, marked}
 use Rattle.token_meaning.specs.declared.refusal.MeaningRefusal.{MeaningRefusal}
 use Rattle.token_meaning.specs.Folding.{folded}
 use Rattle.token_meaning.specs.Meanings.{Meaning, number, dot, name, meaning_of}
@@ -13,7 +16,10 @@ use Rattle.form_reader.specs.declared.found.Found.{Found}
 use Rattle.form_reader.specs.declared.found.Found.TheVariants.{Nothing as nothing, One as one}
 use Rattle.form_reader.specs.declared.way.Function.{Function}
 use Rattle.form_reader.specs.declared.way.Function.TheVariants.{Standard as AStandard, User}
+use Rattle.form_reader.specs.declared.way.Way.TheVariants.{Nothing}
 use Rattle.form_reader.specs.declared.frame.Frame.{Frame}
+use Rattle.form_reader.specs.declared.frame.Part.{Part}
+use Rattle.form_reader.specs.declared.frame.Part.TheVariants.{Next as InNext, List as InList, Until as InUntil, Dotted as InDotted, Tailed as InTailed}
 use Rattle.form_reader.specs.declared.macros.Moved.{Moved}
 use Rattle.form_reader.specs.declared.macros.Moved.TheVariants.{Taken as IsTaken, Before as IsBefore}
 use Rattle.form_reader.specs.declared.objects.Passed.{Passed}
@@ -21,14 +27,14 @@ use Rattle.form_reader.specs.declared.objects.Passed.TheVariants.{Taken as Passe
 use Rattle.form_reader.specs.declared.stage.Event.{Event}
 use Rattle.form_reader.specs.declared.stage.Event.TheVariants.{Gives as IsGiven}
 use Rattle.form_reader.specs.declared.stage.Stage.{Stage}
-use Rattle.form_reader.specs.declared.stage.Stage.TheVariants.{Object as AtObject, Token as AtToken, CallToken as AtCallToken, Text as AtText, Escaped as AtEscaped, Line as AtLine, Block as AtBlock}
-use Rattle.form_reader.specs.Calls.{InvokedCall}
+use Rattle.form_reader.specs.declared.stage.Stage.TheVariants.{Object as AtObject, Token as AtToken, CallToken as AtCallToken, Text as AtText, Escaped as AtEscaped, Line as AtLine, Block as AtBlock, Number as AtNumber}
+use Rattle.form_reader.specs.Calls.{InvokedCall, may_gather_token}
 use Rattle.form_reader.specs.Plans.{Plan, gives, refuses, Read}
-use Rattle.form_reader.specs.Setting.{Setting}
+use Rattle.form_reader.specs.Setting.{Setting, function_of, way_in}
 use Rattle.form_reader.specs.Reading.{completed, is_whitespace, token_found}
 use Rattle.form_reader.specs.Naming.{IsNameMeaning}
 use Rattle.form_reader.specs.Feeding.{token_read}
-use Rattle.form_reader.specs.Frames.{close_of_frames, is_closed_by, plan_gives, calls_with, needs_memory, needs_to_take}
+use Rattle.form_reader.specs.Frames.{close_of, close_of_frames, is_closed_by, plan_gives, calls_with, needs_memory, needs_to_take}
 use Rattle.form_reader.specs.Resuming.{IsStageAt, stage_gives}
 
 -- What a call comes to where memory may run out: it gives something, or a function of a user refuses it, at its end.
@@ -48,36 +54,72 @@ abbrev pub call_may_cost : Bool → Function → Plan Found → Bool
 call_may_cost needs (AStandard kind) plan = gives_object plan && (takes_memory kind || needs)
 call_may_cost needs (User function) plan = may_cost plan
 
--- Any call may end, and any of the open calls with it.
-abbrev pub any_call : List Frame → InvokedCall → Type 0
-any_call = λ inner call. Unit {0}
+-- ---- the call that ends with a byte: which of the open calls end with it, the call, and what it has gathered
 
--- Only this call may end, and none of the open calls with it.
-abbrev pub only_call : InvokedCall → List Frame → InvokedCall → Type 0
-only_call own = λ inner call. (inner ≡ []) × (call ≡ own)
+-- none
+abbrev pub no_call : List Frame → InvokedCall → Material → Type 0
+no_call = λ inner call material. ⊥
 
--- What may end with a byte: in a text, a line or a block only its call, and none of the calls that are open round it.
-abbrev pub MayEndAt : Stage → List Frame → InvokedCall → Type 0
-MayEndAt (AtText own terminator text) = only_call own
-MayEndAt (AtEscaped own terminator text) = only_call own
-MayEndAt (AtLine own keep text) = only_call own
-MayEndAt (AtBlock own levels) = only_call own
-MayEndAt _ = any_call
+-- only this one, which has gathered this, and none of the open calls
+abbrev pub only_call : InvokedCall → Material → List Frame → InvokedCall → Material → Type 0
+only_call own gathered = λ inner call material. (inner ≡ []) × (call ≡ own) × (material ≡ gathered)
+
+-- only this one, as its function gathers nothing
+abbrev pub call_at_once : Setting → InvokedCall → List Frame → InvokedCall → Material → Type 0
+call_at_once setting own = λ inner call material. (way_in setting own ≡ Some Nothing) × only_call own no_material inner call material
+
+-- what a call has gathered where its closing character comes; None where that is refused
+abbrev pub gathered_at_close : Part → Option Material
+gathered_at_close InNext = None
+gathered_at_close (InList xs) = Some (many xs)
+gathered_at_close (InUntil close xs) = Some (many xs)
+gathered_at_close (InDotted xs) = None
+gathered_at_close (InTailed xs tail) = Some (dotted xs tail)
+
+-- the call of this frame, which is open no more
+abbrev pub closed_call : Frame → List Frame → InvokedCall → Material → Type 0
+closed_call frame = λ inner call material. (inner ≡ []) × (call ≡ frame.call) × (gathered_at_close frame.part ≡ Some material)
+
+-- Where an object may begin: the byte is the closing character of the innermost open call, which ends; or it is a macro
+-- character, and its function gathers nothing.
+pub data EndsAtPlace (setting : Setting) (c : ℕ) (inner : List Frame) (call : InvokedCall) (material : Material) : Type 0 where
+  closes : (frame : Frame) → is_closed_by (close_of frame.part) c ≡ true → inner ≡ frame ∷ [] → call ≡ frame.call
+      → gathered_at_close frame.part ≡ Some material → EndsAtPlace setting c inner call material
+  calls : (name : List ℕ) → (entry_at setting.table c).function ≡ Some name → is_dispatch_name name ≡ false
+      → call_at_once setting (record { function = function_of name; character = c; sub = None; number = None }) inner call material
+      → EndsAtPlace setting c inner call material
+
+-- After a dispatching macro character and this number: the byte is a sub-character, and its function gathers nothing.
+abbrev pub EndsAtSub : Setting → ℕ → Option ℕ → ℕ → List Frame → InvokedCall → Material → Type 0
+EndsAtSub setting character digits c inner call material =
+    (name : List ℕ) × (dispatch_at setting.table character c ≡ Some name)
+    × call_at_once setting (record { function = function_of name; character = character; sub = Some (upper_case c); number = digits }) inner call material
+
+-- What may end with this byte. In a text, a line or a block it is its call, and none of those that are open round it. Where the
+-- byte ended a token, it is looked at where an object may begin.
+abbrev pub MayEndAt : Setting → Stage → ℕ → List Frame → InvokedCall → Material → Type 0
+MayEndAt setting AtObject c = EndsAtPlace setting c
+MayEndAt setting (AtToken scan) c = EndsAtPlace setting c
+MayEndAt setting (AtCallToken call scan) c = EndsAtPlace setting c
+MayEndAt setting (AtText own terminator text) c = only_call own (letters text)
+MayEndAt setting (AtEscaped own terminator text) c = no_call
+MayEndAt setting (AtLine own keep text) c = only_call own (letters text)
+MayEndAt setting (AtBlock own levels) c = only_call own no_material
+MayEndAt setting (AtNumber character digits) c = EndsAtSub setting character digits c
 
 -- What is read from this place on, after a byte that was taken in these open calls: reading goes on, in some open calls at some
--- stage; or some of the calls have come to their end, and in those round them a call comes to something for which memory may
--- run out, which is one that may end there.
-pub data CostsOf (ends : List Frame → InvokedCall → Type 0) (setting : Setting) (frames : List Frame) (at : ℕ) (read : List ℕ → Read Found) : Type 0 where
+-- stage; or a call that ends there comes to something for which memory may run out, in the open calls that do not end with it.
+pub data CostsOf (ends : List Frame → InvokedCall → Material → Type 0) (setting : Setting) (frames : List Frame) (at : ℕ) (read : List ℕ → Read Found) : Type 0 where
   goes_on : (after : List Frame) (stage : Stage) → at ≤ setting.limits.text → IsStageAt at stage
       → ((cs : List ℕ) → read cs ≡ stage_gives setting after stage at cs) → CostsOf ends setting frames at read
-  comes_to : (inner round : List Frame) → frames ≡ inner ++ round → (call : InvokedCall) (material : Material) → ends inner call
+  comes_to : (inner round : List Frame) → frames ≡ inner ++ round → (call : InvokedCall) (material : Material) → ends inner call material
       → call_may_cost (needs_memory round) call.function (completed setting (length round) call false false material) ≡ true
       → ((cs : List ℕ) → read cs ≡ plan_gives setting round (completed setting (length round) call false false material) at cs)
       → CostsOf ends setting frames at read
 
--- the same where any call may end
-abbrev pub Costs : Setting → List Frame → ℕ → (List ℕ → Read Found) → Type 0
-Costs setting frames at read = CostsOf any_call setting frames at read
+-- the same of this byte, where an object may begin
+abbrev pub Costs : Setting → List Frame → ℕ → ℕ → (List ℕ → Read Found) → Type 0
+Costs setting frames c at read = CostsOf (EndsAtPlace setting c) setting frames at read
 
 -- Where memory ran out, or an object is given to open calls that need memory to take one, if they do.
 abbrev pub Spends : Bool → Result Event AllocError → Type 0 → Type 0
@@ -85,15 +127,10 @@ Spends needs (Ok (IsGiven (one token x))) P = needs ≡ true → P
 Spends needs (Ok _) P = Unit {0}
 Spends needs (Err e) P = P
 
--- memory ran out, or something is given
-abbrev pub SpendsGiven : Result Event AllocError → Type 0 → Type 0
-SpendsGiven (Ok (IsGiven found)) P = P
-SpendsGiven (Ok _) P = Unit {0}
-SpendsGiven (Err e) P = P
-
-abbrev pub is_given : Event → Bool
-is_given (IsGiven found) = true
-is_given _ = false
+-- what is given is what the call comes to
+abbrev pub IsWhatIsGiven : Plan Found → Event → Type 0
+IsWhatIsGiven plan (IsGiven found) = plan ≡ gives found
+IsWhatIsGiven plan _ = Unit {0}
 
 -- an object is given to open calls that need memory to take one
 abbrev pub event_needs : List Frame → Event → Bool
@@ -138,20 +175,27 @@ abbrev pub EndsToken : Setting → List Frame → Stage → ℕ → ℕ → Type
 EndsToken setting frames (AtToken scan) at c =
     (marks : List Mark) × TokenEnds setting scan marks at c × (token_may_cost setting (needs_memory frames) marks ≡ true)
 EndsToken setting frames (AtCallToken call scan) at c =
-    (marks : List Mark) × TokenEnds setting scan marks at c × (may_cost (completed setting (length frames) call true false (marked marks)) ≡ true)
+    (marks : List Mark) × TokenEnds setting scan marks at c
+    × (call_may_cost (needs_memory frames) call.function (completed setting (length frames) call true false (marked marks)) ≡ true)
 EndsToken setting frames _ at c = ⊥
 
--- A token is open that the byte at this place ends, and this is what it is; of the token of a call, memory may run out for it.
+-- A token is open that the byte at this place ends, and this is what it is, or what its call gives.
 abbrev pub EndsWith : Setting → List Frame → Stage → ℕ → ℕ → Found → Type 0
 EndsWith setting frames (AtToken scan) at c found = (marks : List Mark) × TokenEnds setting scan marks at c × (token_found setting marks ≡ gives found)
-EndsWith setting frames stage at c found = EndsToken setting frames stage at c
+EndsWith setting frames (AtCallToken call scan) at c found =
+    (marks : List Mark) × TokenEnds setting scan marks at c
+    × (completed setting (length frames) call true false (marked marks) ≡ gives found) × (may_gather_token call.function ≡ true)
+EndsWith setting frames _ at c found = ⊥
 
--- The open calls where the byte at this place is looked at: those that were open; or the byte ends a token, which the innermost
--- call takes before.
+-- The open calls where the byte at this place is looked at: those that were open; or the byte ends a token, or that of a call,
+-- and the innermost call takes before it what the token is, or what its call gives.
 pub data AreOpen (setting : Setting) (frames : List Frame) (stage : Stage) (at c : ℕ) (there : List Frame) : Type 0 where
   as_they_were : there ≡ frames → AreOpen setting frames stage at c there
   after_token : (scan : Scan) → stage ≡ AtToken scan → (marks : List Mark) → TokenEnds setting scan marks at c
       → (found : Found) → token_found setting marks ≡ gives found → calls_with frames found ≡ Some there → AreOpen setting frames stage at c there
+  after_call : (call : InvokedCall) (scan : Scan) → stage ≡ AtCallToken call scan → (marks : List Mark) → TokenEnds setting scan marks at c
+      → (found : Found) → completed setting (length frames) call true false (marked marks) ≡ gives found → calls_with frames found ≡ Some there
+      → AreOpen setting frames stage at c there
 
 -- The byte at this place is whitespace that is discarded where an object may begin: it is below the limit of the text, and not
 -- the closing character that is looked for.
@@ -163,7 +207,7 @@ is_space setting frames _ at c = false
 -- What the byte at this place is, where memory may run out.
 pub data RunsOut (setting : Setting) (frames : List Frame) (stage : Stage) (at c : ℕ) : Type 0 where
   with_it : (there : List Frame) → AreOpen setting frames stage at c there
-      → CostsOf (MayEndAt stage) setting there (at + 1) (λ cs. stage_gives setting frames stage at (c ∷ cs)) → RunsOut setting frames stage at c
+      → CostsOf (MayEndAt setting stage c) setting there (at + 1) (λ cs. stage_gives setting frames stage at (c ∷ cs)) → RunsOut setting frames stage at c
   before_it : EndsToken setting frames stage at c → RunsOut setting frames stage at c
 
 -- before a byte that ended a token the same calls are open
@@ -189,4 +233,4 @@ pub data FoundCosts (setting : Setting) (frames : List Frame) (found : Found) (a
   taking : needs_to_take frames found ≡ true → FoundCosts setting frames found at c
   passing : is_nothing found ≡ true → FoundCosts setting frames found at c
   with_byte : (there : List Frame) → calls_with frames found ≡ Some there
-      → Costs setting there (at + 1) (λ cs. plan_gives setting frames (gives found) at (c ∷ cs)) → FoundCosts setting frames found at c
+      → Costs setting there c (at + 1) (λ cs. plan_gives setting frames (gives found) at (c ∷ cs)) → FoundCosts setting frames found at c

@@ -55,6 +55,7 @@ pub(crate) fn text_byte(
     ensures more { result ≡ Ok TextMore → at < limits.now.text }
     ensures escape { result ≡ Ok TextEscape → at < limits.now.text }
     ensures ended { result ≡ Ok TextEnded → at < limits.now.text }
+    ensures same { result ≡ Ok TextEnded → text.new ≡ text.old }
     ensures calm { OnErr result ((at < limits.now.text) × (c < 128)) }
     ensures goes { (cs : List ℕ) → OnErr result
         (run readtable.now limits.now (loop limits.now (text_turn readtable.now terminator) text.old) at (c ∷ cs)
@@ -121,6 +122,7 @@ pub(crate) fn line_byte(
         (run readtable.now limits.now (loop limits.now (line_turn keep) text.old) at (c ∷ cs))) }
     ensures more { result ≡ Ok LineMore → at < limits.now.text }
     ensures ended { result ≡ Ok LineEnded → at < limits.now.text }
+    ensures same { result ≡ Ok LineEnded → text.new ≡ text.old }
     ensures calm { OnErr result ((at < limits.now.text) × (c < 128)) }
     ensures goes { (cs : List ℕ) → OnErr result
         (run readtable.now limits.now (loop limits.now (line_turn keep) text.old) at (c ∷ cs)
@@ -205,6 +207,7 @@ pub(crate) fn number_byte(
     ensures feeds { (cs : List ℕ) → NumberFeeds readtable.now limits.now number.new at c cs result
         (run readtable.now limits.now (loop limits.now number_turn number.old) at (c ∷ cs)) }
     ensures more { result ≡ LineMore → at < limits.now.text }
+    ensures same { result ≡ LineEnded → number.new ≡ number.old }
 {
     if !c.is_ascii_digit() {
         return LineByte::Ended;

@@ -10,7 +10,7 @@ ghost use Rattle.form_reader.specs.Setting.{macro_call, user_material};
 ghost use Rattle.form_reader.specs.Surrounding.{setting_with};
 ghost use Rattle.form_reader.specs.Reading.{bytes_back, finished, answered, completed};
 ghost use Rattle.form_reader.specs.Completing.{plan_of};
-ghost use Rattle.form_reader.specs.Memory.{may_cost, gives_object, call_may_cost};
+ghost use Rattle.form_reader.specs.Memory.{gives_object, call_may_cost};
 ghost use Rattle.form_reader.specs.Ready.{space, completed_lookahead};
 
 use crate::call::Invoked;
@@ -39,7 +39,7 @@ pub enum Completed {
 
 /// What the function of a call gives for what was gathered, with so many open calls round it: whether a token ends the call,
 /// and whether a token ends an object in it.
-#[tactic(auto, using(crate::proofs::Readiness::space_or, crate::proofs::Costing::user_costs, crate::proofs::Costing::user_call_costs))]
+#[tactic(auto, using(crate::proofs::Readiness::space_or, crate::proofs::Costing::user_call_costs))]
 pub(crate) fn complete<R: MacroFunctions>(
     with: &Surroundings<'_, R>,
     round: usize,
@@ -53,8 +53,6 @@ pub(crate) fn complete<R: MacroFunctions>(
     ensures gives { let setting = setting_with (R.registered with.now.macros.now) R.Meaning.way R.Meaning.answer with.now in
         IfOk result (λ r. completed setting round call.now token spaced (view_gathered gathered) ≡ plan_of r) }
     ensures ends { IfOk result (λ r. completed_lookahead r ≤ space (token || spaced)) }
-    ensures memory { let setting = setting_with (R.registered with.now.macros.now) R.Meaning.way R.Meaning.answer with.now in
-        OnErr result (may_cost (completed setting round call.now token spaced (view_gathered gathered)) ≡ true) }
     ensures some { let setting = setting_with (R.registered with.now.macros.now) R.Meaning.way R.Meaning.answer with.now in
         (needs : Bool) → OnErr result (call_may_cost needs call.now.function (completed setting round call.now token spaced (view_gathered gathered)) ≡ true) }
 {
@@ -93,7 +91,6 @@ fn finished(
     requires { IsProperGathered gathered }
     ensures gives { IfOk result (λ r. finished token (value_of kind case number (view_gathered gathered)) ≡ plan_of r) }
     ensures ends { IfOk result (λ r. completed_lookahead r ≤ space token) }
-    ensures memory { OnErr result (may_cost (finished token (value_of kind case number (view_gathered gathered))) ≡ true) }
     ensures some { OnErr result (gives_object (finished token (value_of kind case number (view_gathered gathered))) ≡ true) }
     ensures kind { OnErr result (takes_memory kind ≡ true) }
 {

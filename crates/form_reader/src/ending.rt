@@ -14,7 +14,7 @@ ghost use Rattle.form_reader.specs.Reader.{IsOutcome};
 ghost use Rattle.form_reader.specs.Plans.{gives};
 ghost use Rattle.form_reader.specs.Frames.{is_waiting, plan_gives};
 
-use crate::call::Invoked;
+use crate::call::{Invoked, TokenCall};
 use crate::deliver::{Delivered, deliver};
 use crate::found::Found;
 use crate::frame::Frames;
@@ -90,7 +90,7 @@ fn last_token<R: MacroFunctions>(
 fn last_call_token<R: MacroFunctions>(
     with: &Surroundings<'_, R>,
     round: usize,
-    call: Invoked,
+    call: TokenCall,
     mut scan: TokenScan,
     at: usize,
 ) -> Result<Event, AllocError>
@@ -105,6 +105,7 @@ fn last_call_token<R: MacroFunctions>(
 {
     match token_stop(&with.limits, &mut scan, at) {
         None => {
+            let call = call.into_call();
             let gathered = StdGathered::Marks(scan.into_marks());
             ended(with, round, &call, true, gathered, at)
         }

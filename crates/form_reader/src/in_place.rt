@@ -84,7 +84,7 @@ fn begun_at<R: MacroFunctions>(
         (cs : List ℕ) → IfOk result (λ begun. IfSome begun (λ scan. Begins setting frames.now at c cs scan)) }
     ensures ready { IfOk result (λ begun. IfSome begun (λ scan. (at < with.now.limits.text) × IsTrue (is_going scan.stage))) }
     ensures memory { let setting = setting_with (R.registered with.now.macros.now) R.Meaning.way R.Meaning.answer with.now in
-        OnErr result (Costs setting frames.now (at + 1) (λ cs. stage_gives setting frames.now AtObject at (c ∷ cs))) }
+        OnErr result (Costs setting frames.now c (at + 1) (λ cs. stage_gives setting frames.now AtObject at (c ∷ cs))) }
     ensures space { let setting = setting_with (R.registered with.now.macros.now) R.Meaning.way R.Meaning.answer with.now in
         OnErr result (is_space setting frames.now AtObject at c ≡ false) }
 {

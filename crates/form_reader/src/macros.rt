@@ -5,14 +5,14 @@ ghost use Rattle.form_reader.specs.Setting.{function_of};
 ghost use Rattle.form_reader.specs.Surrounding.{setting_with};
 ghost use Rattle.form_reader.specs.Reading.{macro_called, sub_there};
 ghost use Rattle.form_reader.specs.Frames.{needs_memory, plan_gives};
-ghost use Rattle.form_reader.specs.Memory.{Costs, GivesBefore, RunsOut, Spends, SpendsMove};
+ghost use Rattle.form_reader.specs.Memory.{Costs, CostsOf, EndsAtSub, GivesBefore, MayEndAt, RunsOut, Spends, SpendsMove};
 ghost use Rattle.form_reader.specs.Resuming.{inner_at, Brings, Moves, stage_gives};
 ghost use Rattle.form_reader.specs.declared.frame.Frame.{Frame as OpenCall};
 ghost use Rattle.form_reader.specs.declared.stage.Stage.TheVariants.{CallToken as AtCallToken, Number as AtNumber};
 ghost use Rattle.form_reader.specs.Ready.{IsReady, IsReadyMove};
 
 use crate::bytes::{LineByte, number_byte};
-use crate::call::Invoked;
+use crate::call::{Invoked, TokenCall};
 use crate::frame::Frames;
 use crate::held::{HeldCharacter, HeldNumber};
 use crate::opening::{begin_call, ended};
@@ -65,7 +65,7 @@ pub(crate) fn begin_macro<R: MacroFunctions>(
     ensures ready { IfOk result (IsReady with.now.limits at) }
     ensures nesting { IfOk result (λ _. length frames.new ≤ with.now.limits.nesting) }
     ensures memory { let setting = setting_with (R.registered with.now.macros.now) R.Meaning.way R.Meaning.answer with.now in
-        Spends (needs_memory frames.new) result (Costs setting frames.old at (λ cs. plan_gives setting frames.old
+        Spends (needs_memory frames.new) result (Costs setting frames.old c at (λ cs. plan_gives setting frames.old
         (macro_called setting (length frames.old) (inner_at setting (length frames.old)) c (entry_at setting.table c).function) at cs)) }
 {
     match with.readtable.macro_of(c) {
@@ -84,7 +84,7 @@ pub(crate) fn begin_macro<R: MacroFunctions>(
 pub(crate) fn in_call_token<R: MacroFunctions>(
     with: &Surroundings<'_, R>,
     round: usize,
-    call: Invoked,
+    call: TokenCall,
     mut scan: TokenScan,
     at: usize,
     c: u8,
@@ -104,6 +104,7 @@ pub(crate) fn in_call_token<R: MacroFunctions>(
     match token_byte(with.readtable, &with.limits, &mut scan, at, c)? {
         LineByte::More => Ok(Moved::Taken(Event::Stage(Stage::CallToken(call, scan)))),
         LineByte::Ended => {
+            let call = call.into_call();
             let gathered = StdGathered::Marks(scan.into_marks());
             Ok(Moved::Before(ended(with, round, &call, true, gathered, at)?))
         }
@@ -129,7 +130,7 @@ pub(crate) fn in_number<R: MacroFunctions>(
     ensures ready { IfOk result (IsReady with.now.limits (at + 1)) }
     ensures nesting { IfOk result (λ _. length frames.new ≤ with.now.limits.nesting) }
     ensures memory { let setting = setting_with (R.registered with.now.macros.now) R.Meaning.way R.Meaning.answer with.now in
-        Spends (needs_memory frames.new) result (Costs setting frames.old (at + 1) (λ cs. stage_gives setting frames.old (AtNumber character number) at (c ∷ cs))) }
+        Spends (needs_memory frames.new) result (CostsOf (MayEndAt setting (AtNumber character number) c) setting frames.old (at + 1) (λ cs. stage_gives setting frames.old (AtNumber character number) at (c ∷ cs))) }
 {
     match number_byte(with.readtable, &with.limits, &mut number, at, c) {
         LineByte::More => Ok(Event::Stage(Stage::Number(character, number))),
@@ -158,7 +159,7 @@ fn sub_byte<R: MacroFunctions>(
     ensures ready { IfOk result (IsReady with.now.limits (at + 1)) }
     ensures nesting { IfOk result (λ _. length frames.new ≤ with.now.limits.nesting) }
     ensures memory { let setting = setting_with (R.registered with.now.macros.now) R.Meaning.way R.Meaning.answer with.now in
-        Spends (needs_memory frames.new) result (Costs setting frames.old (at + 1) (λ cs. plan_gives setting frames.old
+        Spends (needs_memory frames.new) result (CostsOf (EndsAtSub setting character number c) setting frames.old (at + 1) (λ cs. plan_gives setting frames.old
         (sub_there setting (length frames.old) (inner_at setting (length frames.old)) character number) at (c ∷ cs))) }
 {
     if at >= with.limits.text {

@@ -44,7 +44,7 @@ pub(crate) fn at_object<R: MacroFunctions>(
     ensures ready { IfOk result (IsReady with.now.limits (at + 1)) }
     ensures nesting { IfOk result (λ _. length frames.new ≤ with.now.limits.nesting) }
     ensures memory { let setting = setting_with (R.registered with.now.macros.now) R.Meaning.way R.Meaning.answer with.now in
-        Spends (needs_memory frames.new) result (Costs setting frames.old (at + 1) (λ cs. stage_gives setting frames.old AtObject at (c ∷ cs))) }
+        Spends (needs_memory frames.new) result (Costs setting frames.old c (at + 1) (λ cs. stage_gives setting frames.old AtObject at (c ∷ cs))) }
 {
     if let Some(frame) = frames.pop_closed_by(c) {
         if at >= with.limits.text {
@@ -76,7 +76,7 @@ pub(crate) fn after_token<R: MacroFunctions>(
     ensures ready { IfOk result (IsReady with.now.limits (at + 1)) }
     ensures nesting { IfOk result (λ _. length frames.new ≤ with.now.limits.nesting) }
     ensures memory { let setting = setting_with (R.registered with.now.macros.now) R.Meaning.way R.Meaning.answer with.now in
-        Spends (needs_memory frames.new) result (Costs setting frames.old (at + 1) (λ cs. place_gives setting true frames.old at (c ∷ cs))) }
+        Spends (needs_memory frames.new) result (Costs setting frames.old c (at + 1) (λ cs. place_gives setting true frames.old at (c ∷ cs))) }
 {
     if is_blank(with.readtable.syntax(c)) {
         if at >= with.limits.text {

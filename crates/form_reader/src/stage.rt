@@ -10,7 +10,7 @@ ghost use Rattle.form_reader.specs.declared.stage.BegunByte.TheVariants.{More as
 ghost use Rattle.form_reader.specs.declared.stage.FirstByte.TheVariants.{More as FirstMore};
 
 use crate::bytes::LineByte;
-use crate::call::Invoked;
+use crate::call::{Invoked, TokenCall};
 use crate::found::Found;
 use crate::held::{HeldCharacter, HeldNumber, HeldText};
 use crate::limits::Limits;
@@ -154,7 +154,7 @@ pub enum Stage {
     /// In a token that is an object.
     Token(BegunScan),
     /// In the token of a call.
-    CallToken(Invoked, TokenScan),
+    CallToken(TokenCall, TokenScan),
     /// In a text up to this character.
     Text(Invoked, u8, HeldText),
     /// After an escape in such a text.

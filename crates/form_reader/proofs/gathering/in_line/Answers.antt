@@ -1,7 +1,7 @@
 use Rattle.std.proofs.Common.{◌+◌, ◌∷◌}
 use Rattle.form_reader.specs.Surrounding.{setting_with}
 use Rattle.form_reader.proofs.Goings.{goes_on, fails, ends}
-use Rattle.std.proofs.Common.{refl}
+use Rattle.std.proofs.Common.{refl, Ok, ap}
 use Rattle.std_macros.specs.Values.{letters}
 use Rattle.form_reader.specs.Gathering.{kept}
 use Rattle.form_reader.specs.declared.stage.Stage.TheVariants.{Line as AtLine}
@@ -32,5 +32,5 @@ returns-in_err-line_byte-clause-memory g c =
 pub returns-in-Ended-clause-memory : goal.returns-in-Ended-clause-memory
 returns-in-Ended-clause-memory g c =
     let setting = setting_with (g.R.MacroFunctions.registered c.args.with.now.macros.now) g.R.Meaning.Meaning.way g.R.Meaning.Meaning.answer c.args.with.now in
-    λ frames open_calls. ends_cost setting frames _ letters _ c.into_bytes.result c.args.at c.args.c c.args.round c.args.call c.ended.result open_calls
-    (λ cs. rw c.in-Ended.is at (c.in_ok-line_byte.ensures.feeds cs)) c.into_bytes.ensures.value c.ended.ensures.some
+    λ frames open_calls. ends_cost setting frames _ letters c.args.text _ c.into_bytes.result c.args.at c.args.c c.args.round c.args.call c.ended.result open_calls
+    (λ cs. rw c.in-Ended.is at (c.in_ok-line_byte.ensures.feeds cs)) c.into_bytes.ensures.value (c.in_ok-line_byte.ensures.same (ap Ok c.in-Ended.is)) c.ended.ensures.some

@@ -2,7 +2,7 @@ use Rattle.std.proofs.Common.{arith}
 use Rattle.form_reader.specs.Surrounding.{setting_with}
 use Rattle.form_reader.proofs.Closings.{call_ends}
 use Rattle.form_reader.proofs.Readiness.{end_within, or_none}
-use Rattle.form_reader.proofs.EndSpending.{called_costs}
+use Rattle.form_reader.proofs.EndSpending.{called_costs, what_is_given}
 use Rattle.form_reader.proofs.opening.ended.Goals as goal
 
 pub returns-clause-brings : goal.returns-clause-brings
@@ -16,3 +16,6 @@ returns-clause-ends g c = end_within _ _ c.args.at c.event_of.result c.event_of.
 pub returns-clause-some : goal.returns-clause-some
 returns-clause-some g c = λ needs.
     called_costs needs c.event_of.result c.args.call.now.function _ _ c.in_ok-complete.ensures.gives (c.event_of.ensures.some needs c.args.call.now.function)
+
+pub returns-clause-found : goal.returns-clause-found
+returns-clause-found g c = what_is_given c.event_of.result _ _ c.in_ok-complete.ensures.gives c.event_of.ensures.found
