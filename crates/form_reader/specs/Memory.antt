@@ -37,7 +37,8 @@ use Rattle.form_reader.specs.Feeding.{token_read}
 use Rattle.form_reader.specs.Frames.{close_of, close_of_frames, is_closed_by, plan_gives, calls_with, needs_memory, needs_to_take}
 use Rattle.form_reader.specs.Resuming.{IsStageAt, stage_gives}
 
--- What a call comes to where memory may run out: it gives something, or a function of a user refuses it, at its end.
+-- What a call of a function of a user comes to where memory may run out: it gives something, or the function refuses it, at
+-- its end.
 abbrev pub may_cost : Plan Found → Bool
 may_cost (gives found) = true
 may_cost (refuses code back) = back == 0 && (code == MACRO_REFUSED || code == MACRO_ANSWER)
@@ -48,8 +49,8 @@ abbrev pub gives_object : Plan Found → Bool
 gives_object (gives (one token x)) = true
 gives_object _ = false
 
--- The same of a call of this function, where the innermost call round it needs memory to take an object, or none: a standard
--- function gives an object, for which it or the call round it needs memory; a function of a user is called, for which it may.
+-- Of a call of this function, where the innermost call round it needs memory to take an object, or none: a standard function
+-- gives an object, for which it or the call round it needs memory; a function of a user is called, for which it may.
 abbrev pub call_may_cost : Bool → Function → Plan Found → Bool
 call_may_cost needs (AStandard kind) plan = gives_object plan && (takes_memory kind || needs)
 call_may_cost needs (User function) plan = may_cost plan

@@ -96,9 +96,10 @@ BeginsLater old new (StepRefused code place) = begun new ≡ begun old
 
 -- Where memory may run out at a byte that comes after these bytes, where the reader is at this stage. The bytes with this one
 -- decide nothing. Or the byte ends an open token, and the token is a name, or a number that the innermost call needs memory to
--- take, or memory may run out for its call. Or none or some of the calls that are open where the byte is looked at end with it,
--- and in those round them memory may run out for a call that ends with it. In a text, a line or a block that is its call, and
--- none of those that are open round it ends with it.
+-- take, or memory may run out for its call. Or a call ends with the byte, in the calls that are open where the byte is looked
+-- at, and memory may run out for it, among those round it. Where an object may begin, it is the innermost open call, whose
+-- closing character the byte is, or the call of a macro character whose function gathers nothing; after a dispatching macro
+-- character and its number, that of a sub-character whose function gathers nothing; in a text, a line or a block, its own.
 pub data NeedsMemory (setting : Setting) (frames : List Frame) (stage : Stage) (start at : ℕ) (bytes : List ℕ) (c : ℕ) : Type 0 where
   undecided : DecideNothing setting (bytes ++ c ∷ []) → NeedsMemory setting frames stage start at bytes c
   token_ends : EndsToken setting frames stage at c → NeedsMemory setting frames stage start at bytes c
