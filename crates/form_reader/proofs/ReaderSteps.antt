@@ -29,7 +29,7 @@ use Rattle.form_reader.specs.declared.in_place.InPlace.{InPlace}
 use Rattle.form_reader.specs.declared.in_place.InPlace.TheVariants.{Taken as InPlaceTaken, Passed as InPlacePassed, Left as InPlaceLeft, Refused as InPlaceRefused}
 use Rattle.form_reader.specs.InPlace.{FeedsInPlace, IsReadyInPlace}
 use Rattle.form_reader.specs.Turning.{outcome_of, rest_of, TurnsTo, IsStanding, IsReadyTurn, BeginsFrom}
-use Rattle.form_reader.specs.Reader.{fed, begun, MayGoOn, DecideNothing, IsNew, IsAfter, IsAfterIn, Steps, BeginsLater, IsSoundStep, Takes, NeedsMemory, undecided, token_ends, call_ends, MayRunOutIn, MayRunOut}
+use Rattle.form_reader.specs.Reader.{fed, begun, MayGoOn, DecideNothing, IsNew, IsAfter, IsAfterIn, Steps, BeginsLater, IsLeftAt, IsSoundStep, Takes, NeedsMemory, undecided, token_ends, call_ends, MayRunOutIn, MayRunOut}
 use Rattle.form_reader.specs.Memory.{is_space, RunsOut, with_it, before_it, goes_on, comes_to}
 use Rattle.form_reader.proofs.Deciding.{may_go_on, decide_nothing}
 use Rattle.form_reader.proofs.Forms.{reads_is, stood}
@@ -241,6 +241,13 @@ runs_out setting old stage bytes byte e after h space =
 
 pub ran_out : (setting : Setting) (old : FormReader) (bytes : List ℕ) (byte : ℕ) → old.state ≡ OutOfMemory → MayRunOut setting old bytes byte
 ran_out setting old bytes byte e = subst (λ (s : State). MayRunOutIn setting old s bytes byte) (sym e) tt
+
+-- the byte that is left is no whitespace that is discarded
+pub left_space : (setting : Setting) (reader : FormReader) (c : ℕ) (stage : Stage) → reader.state ≡ Open stage → IsLeftAt setting reader c → is_space setting reader.frames stage reader.at c ≡ false
+left_space setting reader c stage e left =
+    let same : Open left.0 ≡ Open stage = sym left.1 ∙ e in
+    let there : left.0 ≡ stage = cc in
+    subst (λ (s : Stage). is_space setting reader.frames s reader.at c ≡ false) there left.2
 
 -- ---- a turn
 

@@ -120,6 +120,10 @@ MayRunOutIn setting reader OutOfMemory bytes c = Unit {0}
 abbrev pub MayRunOut : Setting → FormReader → List ℕ → ℕ → Type 0
 MayRunOut setting reader bytes c = MayRunOutIn setting reader reader.state bytes c
 
+-- The reader is in a form, and the byte is no whitespace that is discarded there.
+abbrev pub IsLeftAt : Setting → FormReader → ℕ → Type 0
+IsLeftAt setting reader c = (stage : Stage) × (reader.state ≡ Open stage) × (is_space setting reader.frames stage reader.at c ≡ false)
+
 -- Where memory may run out at the end of the text. After a refusal it needs none.
 abbrev pub EndMayRunOutIn : Setting → FormReader → State → Type 0
 EndMayRunOutIn setting reader (Open stage) = EndNeedsMemory setting reader.frames stage reader.at

@@ -34,6 +34,7 @@ pub enum InPlace {
 
 /// The byte `c` at `at`, where the reader is at `stage`: it is taken there if it begins a token or goes on one, or is whitespace
 /// that is discarded.
+#[inline(always)]
 pub(crate) fn in_place<R: MacroFunctions>(
     with: &Surroundings<'_, R>,
     frames: &Frames,
@@ -54,19 +55,44 @@ pub(crate) fn in_place<R: MacroFunctions>(
         result ≡ Ok IsLeft → is_space setting frames.now stage.old at c ≡ false }
 {
     match stage {
-        Stage::Object => match begun_at(with, frames, at, c)? {
-            Some(scan) => {
-                *stage = Stage::Token(scan);
-                Ok(InPlace::Taken)
-            }
-            None => Ok(discarded(with, frames, at, c)),
-        },
+        Stage::Object => begin_in_place(with, frames, stage, at, c),
         Stage::Token(scan) => match scan.feed(with.readtable, &with.limits, at, c)? {
             LineByte::More => Ok(InPlace::Taken),
             LineByte::Ended => Ok(InPlace::Left),
             LineByte::Refused(code) => Ok(InPlace::Refused(code)),
         },
         _ => Ok(InPlace::Left),
+    }
+}
+
+/// The same where an object may begin.
+#[inline(never)]
+fn begin_in_place<R: MacroFunctions>(
+    with: &Surroundings<'_, R>,
+    frames: &Frames,
+    stage: &mut Stage,
+    at: usize,
+    c: u8,
+) -> Result<InPlace, AllocError>
+    requires place { at ≤ with.now.limits.text }
+    requires nesting { length frames.now ≤ with.now.limits.nesting }
+    requires object { stage.old ≡ AtObject }
+    ensures feeds { let setting = setting_with (R.registered with.now.macros.now) R.Meaning.way R.Meaning.answer with.now in
+        (cs : List ℕ) → IfOk result (FeedsInPlace setting frames.now at c cs stage.old stage.new) }
+    ensures ready { IfOk result (IsReadyInPlace with.now.limits at stage.new) }
+    ensures memory { let setting = setting_with (R.registered with.now.macros.now) R.Meaning.way R.Meaning.answer with.now in
+        OnErr result (RunsOut setting frames.now stage.old at c) }
+    ensures space { let setting = setting_with (R.registered with.now.macros.now) R.Meaning.way R.Meaning.answer with.now in
+        OnErr result (is_space setting frames.now stage.old at c ≡ false) }
+    ensures left { let setting = setting_with (R.registered with.now.macros.now) R.Meaning.way R.Meaning.answer with.now in
+        result ≡ Ok IsLeft → is_space setting frames.now stage.old at c ≡ false }
+{
+    match begun_at(with, frames, at, c)? {
+        Some(scan) => {
+            *stage = Stage::Token(scan);
+            Ok(InPlace::Taken)
+        }
+        None => Ok(discarded(with, frames, at, c)),
     }
 }
 

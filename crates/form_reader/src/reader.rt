@@ -1,6 +1,7 @@
 //! A reader that takes a text one byte at a time.
-ghost use Rattle.std.specs.Prelude.{IsTrue};
+ghost use Rattle.std.specs.Prelude.{◌≡◌, IsTrue};
 ghost use Rattle.form_reader.specs.Standing.{is_standing};
+ghost use Rattle.form_reader.specs.declared.reader.State.TheVariants.{Refused, OutOfMemory};
 
 use crate::Limits;
 use crate::ending::{ReadOutcome, last_outcome};
@@ -62,12 +63,13 @@ impl FormReader {
     ghost use Rattle.std.specs.Prelude.{◌≡◌, ◌<◌, ◌≤◌, ◌+◌, ◌^◌, ℕ, List, [], ◌∷◌, ◌++◌, length, Ok, IfOk, IsErr, OnErr};
     ghost use Rattle.package_table.specs.Table.{IsPackage};
     ghost use Rattle.form_reader.specs.Setting.{Setting, setting_of};
+    ghost use Rattle.form_reader.specs.Surrounding.{setting_with};
     ghost use Rattle.lisp_object.specs.Object.{Object};
     ghost use Rattle.form_reader.specs.Reading.{form, reads};
     ghost use Rattle.form_reader.specs.declared.reader.Step.TheVariants.{Refused as StepRefused};
     ghost use Rattle.form_reader.specs.declared.ending.ReadOutcome.TheVariants.{Refused as ReadRefused};
     ghost use Rattle.form_reader.specs.Turning.{IsReadyTurn, BeginsFrom};
-    ghost use Rattle.form_reader.specs.Reader.{limits_of, fed, begun, HasRefused, HasNoMemory, IsNew, IsAfter, Steps, BeginsLater, IsSoundStep, Takes, MayRunOut, EndMayRunOut, IsOutcome};
+    ghost use Rattle.form_reader.specs.Reader.{limits_of, fed, begun, HasRefused, HasNoMemory, IsNew, IsAfter, IsLeftAt, Steps, BeginsLater, IsSoundStep, Takes, MayRunOut, EndMayRunOut, IsOutcome};
 
     /// A reader that was fed nothing. It keeps `alloc` for what it gathers.
     pub fn new(alloc: Global, limits: Limits) -> FormReader
@@ -155,26 +157,14 @@ impl FormReader {
                     self.at = 0;
                     Ok(Step::More)
                 }
-                Ok(InPlace::Left) => {
-                    let stage = mem::replace(stage, Stage::Object);
-                    self.state = State::OutOfMemory;
-                    let next = take_byte(
-                        &with,
-                        &mut self.frames,
-                        stage,
-                        self.start,
-                        self.at,
-                        byte,
-                    )?;
-                    Ok(self.take(next))
-                }
+                Ok(InPlace::Left) => self.leave(&with, byte),
                 Ok(InPlace::Refused(code)) => {
                     let place = self.start + self.at;
-                    self.state = State::Refused(code, place);
+                    refuse(&mut self.state, code, place);
                     Ok(Step::Refused { code, at: place })
                 }
                 Err(error) => {
-                    self.state = State::OutOfMemory;
+                    run_out(&mut self.state);
                     Err(error)
                 }
             },
@@ -186,7 +176,40 @@ impl FormReader {
         }
     }
 
+    /// The byte, where the reader is in a form, and it is no whitespace that is discarded there. Apart from `step`, whose way
+    /// is short where a byte is taken in its place.
+    #[inline(never)]
+    fn leave<R: MacroFunctions>(
+        &mut self,
+        with: &Surroundings<'_, R>,
+        byte: u8,
+    ) -> Result<Step, AllocError>
+        requires answers { R.answers with.now.macros.now }
+        requires limits { with.now.limits ≡ limits_of self.old }
+        requires count { fed self.old < 2 ^ 63 }
+        requires left { IsLeftAt (setting_with (R.registered with.now.macros.now) R.Meaning.way R.Meaning.answer with.now) self.old byte }
+        ensures steps { let setting = setting_with (R.registered with.now.macros.now) R.Meaning.way R.Meaning.answer with.now in
+            (bytes : List ℕ) → IsAfter setting self.old bytes → IfOk result (Steps setting self.new (bytes ++ byte ∷ [])) }
+        ensures limits { limits_of self.new ≡ limits_of self.old }
+        ensures fed { fed self.new ≤ fed self.old + 1 }
+        ensures begun { IfOk result (BeginsLater self.old self.new) }
+        ensures sound { IfOk result IsSoundStep }
+        ensures memory { OnErr result (HasNoMemory self.new) }
+        ensures needs { let setting = setting_with (R.registered with.now.macros.now) R.Meaning.way R.Meaning.answer with.now in
+            (bytes : List ℕ) → IsAfter setting self.old bytes → OnErr result (MayRunOut setting self.old bytes byte) }
+    {
+        match mem::replace(&mut self.state, State::OutOfMemory) {
+            State::Open(stage) => {
+                let next = take_byte(with, &mut self.frames, stage, self.start, self.at, byte)?;
+                Ok(self.take(next))
+            }
+            State::Refused(..) => unreachable!(),
+            State::OutOfMemory => unreachable!(),
+        }
+    }
+
     /// Takes what a byte is to the text.
+    #[inline(always)]
     fn take(&mut self, turn: Turn) -> Step
         requires ready { IsReadyTurn (limits_of self.old) self.old.frames (fed self.old + 1) turn }
         ensures limits { limits_of self.new ≡ limits_of self.old }
@@ -268,4 +291,20 @@ impl FormReader {
             State::OutOfMemory => Err(AllocError),
         }
     }
+}
+
+/// The reader refused the text here.
+#[inline(never)]
+fn refuse(state: &mut State, code: u16, place: usize)
+    ensures { state.new ≡ Refused code place }
+{
+    *state = State::Refused(code, place);
+}
+
+/// The reader ran out of memory.
+#[inline(never)]
+fn run_out(state: &mut State)
+    ensures { state.new ≡ OutOfMemory }
+{
+    *state = State::OutOfMemory;
 }

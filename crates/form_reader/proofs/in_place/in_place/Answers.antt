@@ -1,28 +1,10 @@
 use Rattle.form_reader.specs.Surrounding.{setting_with}
-use Rattle.form_reader.proofs.ObjectTokens.{begun_there}
-use Rattle.form_reader.specs.declared.stage.Stage.TheVariants.{Object as AtObject}
 use Rattle.token_scan.proofs.Forwards.{held}
-use Rattle.form_reader.proofs.Spending.{stage_costs, token_taken_at}
-use Rattle.form_reader.proofs.Spaces.{discarded_there}
+use Rattle.form_reader.proofs.Spending.{token_taken_at}
 use Rattle.form_reader.proofs.in_place.in_place.Goals as goal
-
-pub returns-in-Some-clause-feeds : goal.returns-in-Some-clause-feeds
-returns-in-Some-clause-feeds g c = λ cs.
-    let setting = setting_with (g.R.MacroFunctions.registered c.args.with.now.macros.now) g.R.Meaning.Meaning.way g.R.Meaning.Meaning.answer c.args.with.now in
-    begun_there setting c.args.frames.now c.args.at c.args.c cs c.args.stage.now c.in-Some.scan c.in_ok-scan-in-Object.field-0 c.in-Object.is c.in-Some.is (c.in_ok-scan-in-Object.ensures.begins cs)
-
-pub returns-in_err-scan-in-Object-clause-memory : goal.returns-in_err-scan-in-Object-clause-memory
-returns-in_err-scan-in-Object-clause-memory g c =
-    let setting = setting_with (g.R.MacroFunctions.registered c.args.with.now.macros.now) g.R.Meaning.Meaning.way g.R.Meaning.Meaning.answer c.args.with.now in
-    held c.from_residual.result _ (stage_costs setting c.args.frames.now c.args.stage.now AtObject c.args.at c.args.c c.in-Object.is c.in_err-scan-in-Object.ensures.memory)
 
 pub returns-in_err-feed-in-Token-clause-memory : goal.returns-in_err-feed-in-Token-clause-memory
 returns-in_err-feed-in-Token-clause-memory g c =
     let setting = setting_with (g.R.MacroFunctions.registered c.args.with.now.macros.now) g.R.Meaning.Meaning.way g.R.Meaning.Meaning.answer c.args.with.now in
     let next = c.in_err-feed-in-Token.ensures.next in
-    held c.from_residual-in_err-feed-in-Token.result _ (token_taken_at setting c.args.frames.now c.args.stage.now c.in-Token.scan next.new c.args.at c.args.c c.in-Token.is next.going next.below next.read)
-
-pub returns-in-None-clause-feeds : goal.returns-in-None-clause-feeds
-returns-in-None-clause-feeds g c = λ cs.
-    let setting = setting_with (g.R.MacroFunctions.registered c.args.with.now.macros.now) g.R.Meaning.Meaning.way g.R.Meaning.Meaning.answer c.args.with.now in
-    discarded_there setting c.args.frames.now c.args.at c.args.c cs c.args.stage.now c.discarded.result c.in-Object.is (c.discarded.ensures.feeds cs)
+    held c.from_residual.result _ (token_taken_at setting c.args.frames.now c.args.stage.now c.in-Token.scan next.new c.args.at c.args.c c.in-Token.is next.going next.below next.read)

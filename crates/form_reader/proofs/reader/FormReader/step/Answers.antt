@@ -1,10 +1,11 @@
-use Rattle.std.proofs.Common.{◌+◌, [], Ok, refl, sym, ap, subst, ◌∙◌}
+use Rattle.std.proofs.Common.{◌+◌, [], Ok, OnErr, refl, sym, ap, subst, ◌∙◌}
+use Rattle.std.specs.Prelude.{IsTrue}
+use Rattle.form_reader.specs.Standing.{is_standing}
 use Rattle.form_reader.specs.declared.reader.State.{State}
 use Rattle.form_reader.specs.declared.reader.State.TheVariants.{Open}
 use Rattle.form_reader.specs.Setting.{setting_of}
-use Rattle.form_reader.specs.Reader.{IsAfterIn}
-use Rattle.form_reader.proofs.ReaderSteps.{went_on, went_past, gave_up, stepped, taken_there, passed_there, left_there, refused_there, ready_there, ready_past, runs_out, ran_out}
-use Rattle.token_scan.proofs.Forwards.{held}
+use Rattle.form_reader.specs.Reader.{IsAfterIn, MayRunOutIn}
+use Rattle.form_reader.proofs.ReaderSteps.{went_on, went_past, gave_up, taken_there, passed_there, left_there, refused_there, ready_there, ready_past, runs_out, ran_out}
 use Rattle.form_reader.proofs.Spaces.{stage_space}
 use Rattle.form_reader.proofs.Standings.{standing_of}
 use Rattle.form_reader.proofs.reader.FormReader.step.Goals as goal
@@ -36,25 +37,8 @@ returns-in-Ok-Refused-clause-steps g c = λ bytes after.
       gave_up setting c.args.self.now c.args.self.now c.args.self.now c.in-Open.stage bytes c.args.byte c.args.self.now.frames c.in-Ok-Refused.code (c.args.self.now.start + c.args.self.now.at)
           (subst (λ (s : State). IsAfterIn setting c.args.self.now s bytes) c.in-Open.is after)
           (λ cs. refused_there setting c.args.self.now.frames c.args.self.now.start c.args.self.now.at c.args.byte c.in-Open.stage c.in_place.new.stage c.in-Ok-Refused.field-0 c.in-Ok-Refused.code cs c.in-Ok-Refused.field-0-is (c.in-Ok-Refused.ensures.feeds cs)),
-      refl,
+      c.refuse.ensures,
     )
-
-pub take_byte-requires-clause-standing : goal.take_byte-requires-clause-standing
-take_byte-requires-clause-standing g c =
-    let setting = setting_of c.args.self.now.limits c.args.readtable.now c.args.packages.now.0 c.args.current.now
-    (g.R.MacroFunctions.registered c.args.macros.now) g.R.Meaning.Meaning.way g.R.Meaning.Meaning.answer in
-    standing_of c.args.self.now.limits c.args.self.now.frames c.args.self.now.at c.args.self.now.state c.replace-stage.result
-    (c.in-Open.is ∙ ap Open (sym (c.replace-stage.ensures.value ∙ left_there setting c.args.self.now.frames c.args.self.now.start c.args.self.now.at c.args.byte c.in-Open.stage c.in_place.new.stage c.in-Ok-Left.field-0 [] c.in-Ok-Left.field-0-is (c.in-Ok-Left.ensures.feeds []))))
-    c.args.self.now.standing
-
-pub returns-in_ok-next-in-Ok-Left-clause-steps : goal.returns-in_ok-next-in-Ok-Left-clause-steps
-returns-in_ok-next-in-Ok-Left-clause-steps g c = λ bytes after.
-    let setting = setting_of c.args.self.now.limits c.args.readtable.now c.args.packages.now.0 c.args.current.now
-    (g.R.MacroFunctions.registered c.args.macros.now) g.R.Meaning.Meaning.way g.R.Meaning.Meaning.answer in
-    stepped setting c.args.self.now _ c.take.new.self c.replace-stage.result bytes c.args.byte c.take_byte.new.frames c.in_ok-next-in-Ok-Left.next c.take.result
-    (subst (λ (s : State). IsAfterIn setting c.args.self.now s bytes)
-    (c.in-Open.is ∙ ap Open (sym (c.replace-stage.ensures.value ∙ left_there setting c.args.self.now.frames c.args.self.now.start c.args.self.now.at c.args.byte c.in-Open.stage c.in_place.new.stage c.in-Ok-Left.field-0 [] c.in-Ok-Left.field-0-is (c.in-Ok-Left.ensures.feeds [])))) after)
-    c.in_ok-next-in-Ok-Left.ensures.turns c.in_ok-next-in-Ok-Left.ensures.ready c.take.ensures.takes refl
 
 pub returns-in-Err-clause-needs : goal.returns-in-Err-clause-needs
 returns-in-Err-clause-needs g c = λ bytes after.
@@ -62,19 +46,38 @@ returns-in-Err-clause-needs g c = λ bytes after.
     (g.R.MacroFunctions.registered c.args.macros.now) g.R.Meaning.Meaning.way g.R.Meaning.Meaning.answer in
     runs_out setting c.args.self.now c.in-Open.stage bytes c.args.byte c.in-Open.is after c.in-Err.ensures.memory c.in-Err.ensures.space
 
-pub returns-in_err-next-in-Ok-Left-clause-needs : goal.returns-in_err-next-in-Ok-Left-clause-needs
-returns-in_err-next-in-Ok-Left-clause-needs g c = λ bytes after.
-    let setting = setting_of c.args.self.now.limits c.args.readtable.now c.args.packages.now.0 c.args.current.now
-    (g.R.MacroFunctions.registered c.args.macros.now) g.R.Meaning.Meaning.way g.R.Meaning.Meaning.answer in
-    held c.from_residual.result _ (runs_out setting c.args.self.now c.replace-stage.result bytes c.args.byte
-    (c.in-Open.is ∙ ap Open (sym (c.replace-stage.ensures.value ∙ left_there setting c.args.self.now.frames c.args.self.now.start c.args.self.now.at c.args.byte c.in-Open.stage c.in_place.new.stage c.in-Ok-Left.field-0 [] c.in-Ok-Left.field-0-is (c.in-Ok-Left.ensures.feeds []))))
-    after c.in_err-next-in-Ok-Left.ensures.memory
-    (stage_space setting c.args.self.now.frames c.args.self.now.at c.args.byte c.replace-stage.result c.in-Open.stage
-    (c.replace-stage.ensures.value ∙ left_there setting c.args.self.now.frames c.args.self.now.start c.args.self.now.at c.args.byte c.in-Open.stage c.in_place.new.stage c.in-Ok-Left.field-0 [] c.in-Ok-Left.field-0-is (c.in-Ok-Left.ensures.feeds []))
-    (c.in-Ok-Left.ensures.left (ap Ok c.in-Ok-Left.field-0-is))))
-
 pub returns-in-OutOfMemory-clause-needs : goal.returns-in-OutOfMemory-clause-needs
 returns-in-OutOfMemory-clause-needs g c = λ bytes after.
     let setting = setting_of c.args.self.now.limits c.args.readtable.now c.args.packages.now.0 c.args.current.now
     (g.R.MacroFunctions.registered c.args.macros.now) g.R.Meaning.Meaning.way g.R.Meaning.Meaning.answer in
     ran_out setting c.args.self.now bytes c.args.byte c.in-OutOfMemory.is
+
+pub leave-requires-clause-left : goal.leave-requires-clause-left
+leave-requires-clause-left g c =
+    let setting = setting_of c.args.self.now.limits c.args.readtable.now c.args.packages.now.0 c.args.current.now
+    (g.R.MacroFunctions.registered c.args.macros.now) g.R.Meaning.Meaning.way g.R.Meaning.Meaning.answer in
+    let stays = left_there setting c.args.self.now.frames c.args.self.now.start c.args.self.now.at c.args.byte c.in-Open.stage c.in_place.new.stage c.in-Ok-Left.field-0 [] c.in-Ok-Left.field-0-is (c.in-Ok-Left.ensures.feeds []) in
+    (c.in_place.new.stage, refl, stage_space setting c.args.self.now.frames c.args.self.now.at c.args.byte c.in_place.new.stage c.in-Open.stage stays (c.in-Ok-Left.ensures.left (ap Ok c.in-Ok-Left.field-0-is)))
+
+pub invariant_of-self-in-Ok-Left : goal.invariant_of-self-in-Ok-Left
+invariant_of-self-in-Ok-Left g c =
+    let setting = setting_of c.args.self.now.limits c.args.readtable.now c.args.packages.now.0 c.args.current.now
+    (g.R.MacroFunctions.registered c.args.macros.now) g.R.Meaning.Meaning.way g.R.Meaning.Meaning.answer in
+    let stays = left_there setting c.args.self.now.frames c.args.self.now.start c.args.self.now.at c.args.byte c.in-Open.stage c.in_place.new.stage c.in-Ok-Left.field-0 [] c.in-Ok-Left.field-0-is (c.in-Ok-Left.ensures.feeds []) in
+    record { standing = subst (λ (s : State). IsTrue (is_standing c.args.self.now.limits c.args.self.now.frames c.args.self.now.at s)) (c.in-Open.is ∙ ap Open (sym stays)) c.args.self.now.standing }
+
+pub returns-in-Ok-Left-clause-steps : goal.returns-in-Ok-Left-clause-steps
+returns-in-Ok-Left-clause-steps g c = λ bytes after.
+    let setting = setting_of c.args.self.now.limits c.args.readtable.now c.args.packages.now.0 c.args.current.now
+    (g.R.MacroFunctions.registered c.args.macros.now) g.R.Meaning.Meaning.way g.R.Meaning.Meaning.answer in
+    let stays = left_there setting c.args.self.now.frames c.args.self.now.start c.args.self.now.at c.args.byte c.in-Open.stage c.in_place.new.stage c.in-Ok-Left.field-0 [] c.in-Ok-Left.field-0-is (c.in-Ok-Left.ensures.feeds []) in
+    c.leave.ensures.steps bytes (subst (λ (s : State). IsAfterIn setting c.args.self.now s bytes) (c.in-Open.is ∙ ap Open (sym stays)) after)
+
+pub returns-in-Ok-Left-clause-needs : goal.returns-in-Ok-Left-clause-needs
+returns-in-Ok-Left-clause-needs g c = λ bytes after.
+    let setting = setting_of c.args.self.now.limits c.args.readtable.now c.args.packages.now.0 c.args.current.now
+    (g.R.MacroFunctions.registered c.args.macros.now) g.R.Meaning.Meaning.way g.R.Meaning.Meaning.answer in
+    let stays = left_there setting c.args.self.now.frames c.args.self.now.start c.args.self.now.at c.args.byte c.in-Open.stage c.in_place.new.stage c.in-Ok-Left.field-0 [] c.in-Ok-Left.field-0-is (c.in-Ok-Left.ensures.feeds []) in
+    let open_there = c.in-Open.is ∙ ap Open (sym stays) in
+    subst (λ (s : State). OnErr c.leave.result (MayRunOutIn setting c.args.self.now s bytes c.args.byte)) (sym open_there)
+    (c.leave.ensures.needs bytes (subst (λ (s : State). IsAfterIn setting c.args.self.now s bytes) open_there after))
