@@ -19,7 +19,7 @@ use Rattle.form_reader.specs.Setting.{Setting, function_of}
 use Rattle.form_reader.specs.Reading.{called, dispatched, macro_called}
 use Rattle.form_reader.specs.Feeding.{TokenFeeds, token_read}
 use Rattle.form_reader.specs.Frames.{given, plan_gives, token_goes_on}
-use Rattle.form_reader.specs.Memory.{call_at_once, EndsAtPlace, calls}
+use Rattle.form_reader.specs.Memory.{call_at_once, EndsAtPlace, calls, OpensCall, OpensAtPlace}
 use Rattle.form_reader.specs.Resuming.{inner_at, Brings, Begins}
 use Rattle.form_reader.proofs.Beginnings.{given_refused}
 
@@ -62,6 +62,12 @@ pub macro_ends : (setting : Setting) (c : ℕ) (name : List ℕ) (f : Function) 
     → EndsAtPlace setting c inner call material
 macro_ends setting c name f own e dispatch same is inner call material h =
     calls name e dispatch (subst (λ (o : InvokedCall). call_at_once setting o inner call material) (is ∙ (λ i. record { function = same i; character = c; sub = None; number = None })) h)
+
+-- it is open, where its function reads objects
+pub macro_opens : (setting : Setting) (c : ℕ) (name : List ℕ) (f : Function) (own : InvokedCall) → (entry_at setting.table c).function ≡ Some name → is_dispatch_name name ≡ false → f ≡ function_of name
+    → own ≡ record { function = f; character = c; sub = None; number = None } → OpensCall setting own → OpensAtPlace setting c
+macro_opens setting c name f own e dispatch same is h =
+    (name, e, dispatch, subst (OpensCall setting) (is ∙ (λ i. record { function = same i; character = c; sub = None; number = None })) h)
 
 pub token_ends : (setting : Setting) (frames : List Frame) (on : List Mark → Plan Found) (old new : Scan) (marks : List Mark) (fed : LineByte) (at c : ℕ) (cs : List ℕ) (event : Event)
     → fed ≡ LineEnded → TokenFeeds setting.table setting.limits new at c cs fed (token_read setting.table setting.limits old at (c ∷ cs)) → marks ≡ new.marks

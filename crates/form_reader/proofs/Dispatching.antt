@@ -14,7 +14,7 @@ use Rattle.form_reader.specs.Calls.{InvokedCall}
 use Rattle.form_reader.specs.Setting.{Setting, function_of}
 use Rattle.form_reader.specs.Reading.{called, sub_called, sub_there, dispatched, number_after}
 use Rattle.form_reader.specs.Frames.{given}
-use Rattle.form_reader.specs.Memory.{call_at_once, EndsAtSub}
+use Rattle.form_reader.specs.Memory.{call_at_once, EndsAtSub, OpensCall, OpensAtSub}
 use Rattle.form_reader.specs.Resuming.{inner_at, Brings, Begins}
 use Rattle.form_reader.proofs.Opened.{given_moves, given_fault, gathering_ends}
 use Rattle.form_reader.proofs.Beginnings.{given_refused}
@@ -72,11 +72,22 @@ pub sub_ends : (setting : Setting) (character c : ℕ) (digits : Option ℕ) (na
 sub_ends setting character c digits name f sub n own e same upper counts is inner call material h =
     (name, e, subst (λ (o : InvokedCall). call_at_once setting o inner call material) (is ∙ (λ i. record { function = same i; character = character; sub = Some (upper i); number = counts i })) h)
 
+-- it is open, where its function reads objects
+pub sub_opens : (setting : Setting) (character c : ℕ) (digits : Option ℕ) (name : List ℕ) (f : Function) (sub : ℕ) (n : Option ℕ) (own : InvokedCall) → dispatch_at setting.table character c ≡ Some name
+    → f ≡ function_of name → sub ≡ upper_case c → n ≡ digits → own ≡ record { function = f; character = character; sub = Some sub; number = n }
+    → OpensCall setting own → OpensAtSub setting character digits c
+sub_opens setting character c digits name f sub n own e same upper counts is h =
+    (name, e, subst (OpensCall setting) (is ∙ (λ i. record { function = same i; character = character; sub = Some (upper i); number = counts i })) h)
+
 -- the same of a character and a number that are held
 pub held_ends : (setting : Setting) (held character c : ℕ) (old new : Option ℕ) → held ≡ character → new ≡ old → (inner : List Frame) (call : InvokedCall) (material : Material)
     → EndsAtSub setting held new c inner call material → EndsAtSub setting character old c inner call material
 held_ends setting held character c old new same kept inner call material h =
     subst (λ (n : ℕ). EndsAtSub setting n old c inner call material) same (subst (λ (digits : Option ℕ). EndsAtSub setting held digits c inner call material) kept h)
+
+pub held_opens : (setting : Setting) (held character c : ℕ) (old new : Option ℕ) → held ≡ character → new ≡ old → OpensAtSub setting held new c → OpensAtSub setting character old c
+held_opens setting held character c old new same kept h =
+    subst (λ (n : ℕ). OpensAtSub setting n old c) same (subst (λ (digits : Option ℕ). OpensAtSub setting held digits c) kept h)
 
 -- where the number has ended, it is what the sub-character gives
 pub number_is : (setting : Setting) (frames : List Frame) (held character at c : ℕ) (old new : Option ℕ) (cs : List ℕ)

@@ -40,8 +40,9 @@ use Rattle.form_reader.specs.Setting.{Setting, way_in}
 use Rattle.form_reader.specs.Reading.{completed, gathered_by, called, told_found, token_found}
 use Rattle.form_reader.specs.Feeding.{TokenFeeds, token_read}
 use Rattle.form_reader.specs.Frames.{close_of, is_closed_by, given, needs_memory, needs_to_take, plan_gives, place_gives, token_goes_on}
+use Rattle.form_reader.specs.Opening.{reads_objects}
 use Rattle.form_reader.specs.Resuming.{IsStageAt, Moves, inner_at, stage_gives}
-use Rattle.form_reader.specs.Memory.{call_may_cost, meaning_may_cost, token_may_cost, is_nothing, event_needs, only_call, call_at_once, closed_call, closes, MayEndAt, CostsOf, Costs, goes_on, comes_to, Spends, IsWhatIsGiven, SpendsToken, SpendsMove, SpendsPass, EndsToken, EndsWith, GivesBefore, StaysOpen, as_they_were, after_token, after_call, RunsOut, with_it, before_it, FoundCosts, taking, passing, with_byte}
+use Rattle.form_reader.specs.Memory.{call_may_cost, meaning_may_cost, token_may_cost, is_nothing, event_needs, only_call, call_at_once, closed_call, closes, MayEndAt, CostsOf, Costs, goes_on, comes_to, OpensCall, Grows, by_mark, by_call, Spends, IsWhatIsGiven, SpendsToken, SpendsMove, SpendsPass, EndsToken, EndsWith, GivesBefore, StaysOpen, as_they_were, after_token, after_call, RunsOut, with_it, before_it, FoundCosts, taking, passing, with_byte}
 use Rattle.form_reader.proofs.TokenCalls.{token_gives_nothing, object_costs}
 use Rattle.form_reader.proofs.Opened.{gathering_ends, gathering_moves}
 use Rattle.form_reader.proofs.Beginnings.{OpensWith, next_at, list_at, until_at}
@@ -71,96 +72,96 @@ moved needs (Err e) P h = h
 
 -- ---- what is read is the same
 
-module _ {ends : List Frame → InvokedCall → Material → Type 0} (setting : Setting) (frames : List Frame) (at : ℕ) (read other : List ℕ → Read Found) (e : (cs : List ℕ) → other cs ≡ read cs) where
-  pub costs_same : CostsOf ends setting frames at read → CostsOf ends setting frames at other
-  costs_same (goes_on after stage le stands same) = goes_on after stage le stands (λ cs. e cs ∙ same cs)
+module _ {ends : List Frame → InvokedCall → Material → Type 0} {grows : Type 0} (setting : Setting) (frames : List Frame) (at : ℕ) (read other : List ℕ → Read Found) (e : (cs : List ℕ) → other cs ≡ read cs) where
+  pub costs_same : CostsOf ends grows setting frames at read → CostsOf ends grows setting frames at other
+  costs_same (goes_on more after stage le stands same) = goes_on more after stage le stands (λ cs. e cs ∙ same cs)
   costs_same (comes_to inner round is call material own cost same) = comes_to inner round is call material own cost (λ cs. e cs ∙ same cs)
 
-pub spends_same : (ends : List Frame → InvokedCall → Material → Type 0) (needs : Bool) (setting : Setting) (frames : List Frame) (at : ℕ) (read other : List ℕ → Read Found) (result : Result Event AllocError) → ((cs : List ℕ) → other cs ≡ read cs)
-    → Spends needs result (CostsOf ends setting frames at read) → Spends needs result (CostsOf ends setting frames at other)
-spends_same ends needs setting frames at read other result e h = spent_so needs result _ _ (costs_same setting frames at read other e) h
+pub spends_same : (ends : List Frame → InvokedCall → Material → Type 0) (grows : Type 0) (needs : Bool) (setting : Setting) (frames : List Frame) (at : ℕ) (read other : List ℕ → Read Found) (result : Result Event AllocError) → ((cs : List ℕ) → other cs ≡ read cs)
+    → Spends needs result (CostsOf ends grows setting frames at read) → Spends needs result (CostsOf ends grows setting frames at other)
+spends_same ends grows needs setting frames at read other result e h = spent_so needs result _ _ (costs_same setting frames at read other e) h
 
--- the call that ends is one that may end
-pub ends_so : (ends other : List Frame → InvokedCall → Material → Type 0) (needs : Bool) (setting : Setting) (frames : List Frame) (at : ℕ) (read : List ℕ → Read Found) (result : Result Event AllocError)
-    → ((inner : List Frame) (call : InvokedCall) (material : Material) → ends inner call material → other inner call material)
-    → Spends needs result (CostsOf ends setting frames at read) → Spends needs result (CostsOf other setting frames at read)
-ends_so ends other needs setting frames at read result on h = spent_so needs result _ _ by h
-  where
-    by : CostsOf ends setting frames at read → CostsOf other setting frames at read
-    by (goes_on after stage le stands same) = goes_on after stage le stands same
-    by (comes_to inner round is call material own cost same) = comes_to inner round is call material (on inner call material own) cost same
+-- the call that ends is one that may end, and what is kept is more
+module _ (ends other : List Frame → InvokedCall → Material → Type 0) (grows more : Type 0) (setting : Setting) (frames : List Frame) (at : ℕ) (read : List ℕ → Read Found)
+    (on : (inner : List Frame) (call : InvokedCall) (material : Material) → ends inner call material → other inner call material) (growing : grows → more) where
+  pub costs_so : CostsOf ends grows setting frames at read → CostsOf other more setting frames at read
+  costs_so (goes_on kept after stage le stands same) = goes_on (growing kept) after stage le stands same
+  costs_so (comes_to inner round is call material own cost same) = comes_to inner round is call material (on inner call material own) cost same
+
+  pub ends_so : (needs : Bool) (result : Result Event AllocError) → Spends needs result (CostsOf ends grows setting frames at read) → Spends needs result (CostsOf other more setting frames at read)
+  ends_so needs result h = spent_so needs result _ _ costs_so h
 
 -- ---- what a call comes to
 
 -- of a call that may end there, with no open call
-pub own_call_costs : (ends : List Frame → InvokedCall → Material → Type 0) (setting : Setting) (frames : List Frame) (at round : ℕ) (call : InvokedCall) (material : Material) (read : List ℕ → Read Found) (result : Result Event AllocError)
+pub own_call_costs : (ends : List Frame → InvokedCall → Material → Type 0) (grows : Type 0) (setting : Setting) (frames : List Frame) (at round : ℕ) (call : InvokedCall) (material : Material) (read : List ℕ → Read Found) (result : Result Event AllocError)
     → ends [] call material → round ≡ length frames → ((cs : List ℕ) → read cs ≡ plan_gives setting frames (completed setting (length frames) call false false material) at cs)
     → ((needs : Bool) → Spends needs result (call_may_cost needs call.function (completed setting round call false false material) ≡ true))
-    → Spends (needs_memory frames) result (CostsOf ends setting frames at read)
-own_call_costs ends setting frames at round call material read result own open_calls same h =
+    → Spends (needs_memory frames) result (CostsOf ends grows setting frames at read)
+own_call_costs ends grows setting frames at round call material read result own open_calls same h =
     spent_so (needs_memory frames) result _ _ (λ cost. comes_to [] frames refl call material own
     (subst (λ (n : ℕ). call_may_cost (needs_memory frames) call.function (completed setting n call false false material) ≡ true) open_calls cost) same) (h (needs_memory frames))
 
 -- what was gathered has ended
-pub ends_cost : {A : Type 0} (setting : Setting) (frames : List Frame) (p : Plan A) (m : A → Material) (held x y : A) (at c round : ℕ) (call : InvokedCall) (result : Result Event AllocError)
+pub ends_cost : {A : Type 0} (grows : Type 0) (setting : Setting) (frames : List Frame) (p : Plan A) (m : A → Material) (held x y : A) (at c round : ℕ) (call : InvokedCall) (result : Result Event AllocError)
     → round ≡ length frames → ((cs : List ℕ) → run setting.table setting.limits p at (c ∷ cs) ≡ Ok (x, at + 1, cs)) → y ≡ x → x ≡ held
     → ((needs : Bool) → Spends needs result (call_may_cost needs call.function (completed setting round call false false (m y)) ≡ true))
-    → Spends (needs_memory frames) result (CostsOf (only_call call (m held)) setting frames (at + 1) (λ cs. plan_gives setting frames (then_plan p (λ z. completed setting (length frames) call false false (m z))) at (c ∷ cs)))
-ends_cost {A} setting frames p m held x y at c round call result open_calls e same kept h =
+    → Spends (needs_memory frames) result (CostsOf (only_call call (m held)) grows setting frames (at + 1) (λ cs. plan_gives setting frames (then_plan p (λ z. completed setting (length frames) call false false (m z))) at (c ∷ cs)))
+ends_cost {A} grows setting frames p m held x y at c round call result open_calls e same kept h =
     let on : A → Plan Found = λ z. completed setting (length frames) call false false (m z) in
-    own_call_costs (only_call call (m held)) setting frames (at + 1) round call (m y) (λ cs. plan_gives setting frames (then_plan p on) at (c ∷ cs)) result (refl, refl, ap m (same ∙ kept)) open_calls
+    own_call_costs (only_call call (m held)) grows setting frames (at + 1) round call (m y) (λ cs. plan_gives setting frames (then_plan p on) at (c ∷ cs)) result (refl, refl, ap m (same ∙ kept)) open_calls
     (λ cs. gathering_ends setting frames p on x at (at + 1) (c ∷ cs) cs (e cs) ∙ ap (λ (z : A). plan_gives setting frames (on z) (at + 1) cs) (sym same)) h
 
 -- ---- how a call begins
 
 module _ (setting : Setting) (frames : List Frame) (call : InvokedCall) (way : Way) (at : ℕ) where
   abbrev Opens : Type 0
-  Opens = CostsOf (call_at_once setting call) setting frames at (λ cs. OpensWith setting frames call way (inner_at setting (length frames)) at cs)
+  Opens = CostsOf (call_at_once setting call) (OpensCall setting call) setting frames at (λ cs. OpensWith setting frames call way (inner_at setting (length frames)) at cs)
 
-  pub next_costs : way ≡ Next → length frames < setting.limits.nesting → at ≤ setting.limits.text → Opens
-  next_costs e lt le =
+  pub next_costs : way_in setting call ≡ Some way → way ≡ Next → length frames < setting.limits.nesting → at ≤ setting.limits.text → Opens
+  next_costs is e lt le =
       let after = record { call = call; part = InNext } ∷ frames in
-      goes_on after AtObject le tt (λ cs. next_at setting frames call way at cs after e lt refl)
+      goes_on (way, is, ap reads_objects e) after AtObject le tt (λ cs. next_at setting frames call way at cs after e lt refl)
 
-  pub list_costs : way ≡ AList → length frames < setting.limits.nesting → at ≤ setting.limits.text → Opens
-  list_costs e lt le =
+  pub list_costs : way_in setting call ≡ Some way → way ≡ AList → length frames < setting.limits.nesting → at ≤ setting.limits.text → Opens
+  list_costs is e lt le =
       let after = record { call = call; part = InList [] } ∷ frames in
-      goes_on after AtObject le tt (λ cs. list_at setting frames call way at cs after [] e lt le refl refl)
+      goes_on (way, is, ap reads_objects e) after AtObject le tt (λ cs. list_at setting frames call way at cs after [] e lt le refl refl)
 
-  pub until_costs : (close : ℕ) → way ≡ Until close → length frames < setting.limits.nesting → at ≤ setting.limits.text → Opens
-  until_costs close e lt le =
+  pub until_costs : (close : ℕ) → way_in setting call ≡ Some way → way ≡ Until close → length frames < setting.limits.nesting → at ≤ setting.limits.text → Opens
+  until_costs close is e lt le =
       let after = record { call = call; part = InUntil close [] } ∷ frames in
-      goes_on after AtObject le tt (λ cs. until_at setting frames call way at cs after close [] e lt le refl refl)
+      goes_on (way, is, ap reads_objects e) after AtObject le tt (λ cs. until_at setting frames call way at cs after close [] e lt le refl refl)
 
   pub nothing_costs : (round : ℕ) (result : Result Event AllocError) → way_in setting call ≡ Some way → way ≡ Nothing → round ≡ length frames
       → ((needs : Bool) → Spends needs result (call_may_cost needs call.function (completed setting round call false false no_material) ≡ true)) → Spends (needs_memory frames) result Opens
   nothing_costs round result is e open_calls h =
-      own_call_costs (call_at_once setting call) setting frames at round call no_material (λ cs. OpensWith setting frames call way (inner_at setting (length frames)) at cs) result
+      own_call_costs (call_at_once setting call) (OpensCall setting call) setting frames at round call no_material (λ cs. OpensWith setting frames call way (inner_at setting (length frames)) at cs) result
       (is ∙ ap (λ (w : Way). Some w) e, (refl, refl, refl)) open_calls
       (λ cs. ap (λ (w : Way). OpensWith setting frames call w (inner_at setting (length frames)) at cs) e) h
 
   pub some_costs : (needs : Bool) (result : Result Event AllocError) → way_in setting call ≡ Some way → Spends needs result Opens
-      → Spends needs result (CostsOf (call_at_once setting call) setting frames at (λ cs. plan_gives setting frames (called setting (length frames) (inner_at setting (length frames)) call) at cs))
+      → Spends needs result (CostsOf (call_at_once setting call) (OpensCall setting call) setting frames at (λ cs. plan_gives setting frames (called setting (length frames) (inner_at setting (length frames)) call) at cs))
   some_costs needs result e h =
-      spends_same (call_at_once setting call) needs setting frames at (λ cs. OpensWith setting frames call way (inner_at setting (length frames)) at cs) _ result
+      spends_same (call_at_once setting call) (OpensCall setting call) needs setting frames at (λ cs. OpensWith setting frames call way (inner_at setting (length frames)) at cs) _ result
       (λ cs. ap (λ (o : Option Way). plan_gives setting frames (gathered_by setting (length frames) (inner_at setting (length frames)) call o) at cs) e) h
 
 -- ---- tokens
 
-pub token_taken : (setting : Setting) (frames : List Frame) (stage later : Stage) (on : List Mark → Plan Found) (scan new : Scan) (at c : ℕ) → IsStageAt (at + 1) later → at < setting.limits.text
+pub token_taken : (setting : Setting) (frames : List Frame) (stage later : Stage) (on : List Mark → Plan Found) (scan new : Scan) (at c : ℕ) → Grows setting stage at c → IsStageAt (at + 1) later → at < setting.limits.text
     → ((cs : List ℕ) → stage_gives setting frames stage at (c ∷ cs) ≡ token_goes_on setting frames on (token_read setting.table setting.limits scan at (c ∷ cs)))
     → ((cs : List ℕ) → stage_gives setting frames later (at + 1) cs ≡ token_goes_on setting frames on (token_read setting.table setting.limits new (at + 1) cs))
     → ((cs : List ℕ) → token_read setting.table setting.limits scan at (c ∷ cs) ≡ token_read setting.table setting.limits new (at + 1) cs)
     → RunsOut setting frames stage at c
-token_taken setting frames stage later on scan new at c stands lt first then read =
-    with_it frames (as_they_were refl) (goes_on frames later (omega (arith, lt)) stands (λ cs. first cs ∙ ap (token_goes_on setting frames on) (read cs) ∙ sym (then cs)))
+token_taken setting frames stage later on scan new at c more stands lt first then read =
+    with_it frames (as_they_were refl) (goes_on more frames later (omega (arith, lt)) stands (λ cs. first cs ∙ ap (token_goes_on setting frames on) (read cs) ∙ sym (then cs)))
 
 -- the same where it is known where the reader is
-pub token_taken_at : (setting : Setting) (frames : List Frame) (stage : Stage) (scan new : Scan) (at c : ℕ) → stage ≡ AtToken scan → IsStageAt (at + 1) (AtToken new) → at < setting.limits.text
+pub token_taken_at : (setting : Setting) (frames : List Frame) (stage : Stage) (scan new : Scan) (at c : ℕ) → stage ≡ AtToken scan → 32 ≤ length scan.marks → IsStageAt (at + 1) (AtToken new) → at < setting.limits.text
     → ((cs : List ℕ) → token_read setting.table setting.limits scan at (c ∷ cs) ≡ token_read setting.table setting.limits new (at + 1) cs) → RunsOut setting frames stage at c
-token_taken_at setting frames stage scan new at c e stands lt read =
+token_taken_at setting frames stage scan new at c e many stands lt read =
     subst (λ (s : Stage). RunsOut setting frames s at c) (sym e)
-    (token_taken setting frames (AtToken scan) (AtToken new) (token_found setting) scan new at c stands lt (λ cs. refl) (λ cs. refl) read)
+    (token_taken setting frames (AtToken scan) (AtToken new) (token_found setting) scan new at c (by_mark many) stands lt (λ cs. refl) (λ cs. refl) read)
 
 -- a token of a call has ended
 module _ (setting : Setting) (frames : List Frame) (call : InvokedCall) (old new : Scan) (marks : List Mark) (fed : LineByte) (at c round : ℕ) (e : fed ≡ LineEnded)
@@ -238,11 +239,11 @@ told_gives setting letters (m ∷ ms) answer some same e =
 -- ---- where the reader is
 
 pub stage_costs : (setting : Setting) (frames : List Frame) (stage known : Stage) (at c : ℕ) → stage ≡ known
-    → CostsOf (MayEndAt setting known c) setting frames (at + 1) (λ cs. stage_gives setting frames known at (c ∷ cs)) → RunsOut setting frames stage at c
+    → CostsOf (MayEndAt setting known c) (Grows setting known at c) setting frames (at + 1) (λ cs. stage_gives setting frames known at (c ∷ cs)) → RunsOut setting frames stage at c
 stage_costs setting frames stage known at c e h = subst (λ (s : Stage). RunsOut setting frames s at c) (sym e) (with_it frames (as_they_were refl) h)
 
 pub stage_spends : (needs : Bool) (setting : Setting) (frames : List Frame) (stage known : Stage) (at c : ℕ) (result : Result Event AllocError) → stage ≡ known
-    → Spends needs result (CostsOf (MayEndAt setting known c) setting frames (at + 1) (λ cs. stage_gives setting frames known at (c ∷ cs))) → Spends needs result (RunsOut setting frames stage at c)
+    → Spends needs result (CostsOf (MayEndAt setting known c) (Grows setting known at c) setting frames (at + 1) (λ cs. stage_gives setting frames known at (c ∷ cs))) → Spends needs result (RunsOut setting frames stage at c)
 stage_spends needs setting frames stage known at c result e h = spent_so needs result _ _ (stage_costs setting frames stage known at c e) h
 
 pub stage_moves_spend : (needs : Bool) (setting : Setting) (frames : List Frame) (stage known : Stage) (at c : ℕ) (result : Result Moved AllocError) → stage ≡ known
@@ -274,22 +275,22 @@ given_spends frames (IsRefused code place) P e h = cc
 
 -- ---- a byte of what is gathered
 
-pub taken_costs : {A : Type 0} {ends : List Frame → InvokedCall → Material → Type 0} (setting : Setting) (frames : List Frame) (p q : Plan A) (on : A → Plan Found) (later : Stage) (at c : ℕ) → at < setting.limits.text → IsStageAt (at + 1) later
+pub taken_costs : {A : Type 0} {ends : List Frame → InvokedCall → Material → Type 0} {grows : Type 0} → grows → (setting : Setting) (frames : List Frame) (p q : Plan A) (on : A → Plan Found) (later : Stage) (at c : ℕ) → at < setting.limits.text → IsStageAt (at + 1) later
     → ((cs : List ℕ) → run setting.table setting.limits p at (c ∷ cs) ≡ run setting.table setting.limits q (at + 1) cs)
     → ((cs : List ℕ) → stage_gives setting frames later (at + 1) cs ≡ plan_gives setting frames (then_plan q on) (at + 1) cs)
-    → CostsOf ends setting frames (at + 1) (λ cs. plan_gives setting frames (then_plan p on) at (c ∷ cs))
-taken_costs setting frames p q on later at c lt stands moves is =
-    goes_on frames later (omega (arith, lt)) stands (λ cs. gathering_moves setting frames p q on at (at + 1) (c ∷ cs) cs (moves cs) ∙ sym (is cs))
+    → CostsOf ends grows setting frames (at + 1) (λ cs. plan_gives setting frames (then_plan p on) at (c ∷ cs))
+taken_costs more setting frames p q on later at c lt stands moves is =
+    goes_on more frames later (omega (arith, lt)) stands (λ cs. gathering_moves setting frames p q on at (at + 1) (c ∷ cs) cs (moves cs) ∙ sym (is cs))
 
 -- ---- in the open calls
 
 -- the innermost is closed
 pub closed_spends : (needs : Bool) (setting : Setting) (f : Frame) (fs frames : List Frame) (at c : ℕ) (read : List ℕ → Read Found) (result : Result Event AllocError) → frames ≡ f ∷ fs → close_of f.part ≡ Some c
-    → Spends needs result (CostsOf (closed_call f) setting fs at read) → Spends needs result (Costs setting frames c at read)
+    → Spends needs result (CostsOf (closed_call f) ⊥ setting fs at read) → Spends needs result (Costs setting frames c at read)
 closed_spends needs setting f fs frames at c read result e close h = spent_so needs result _ _ by h
   where
-    by : CostsOf (closed_call f) setting fs at read → Costs setting frames c at read
-    by (goes_on after stage le stands same) = goes_on after stage le stands same
+    by : CostsOf (closed_call f) ⊥ setting fs at read → Costs setting frames c at read
+    by (goes_on never after stage le stands same) = absurd never
     by (comes_to inner round is call material (none, own, gathered) cost same) =
         comes_to (f ∷ inner) round (e ∙ ap (λ (gs : List Frame). f ∷ gs) is) call material
         (closes f (ap (λ (o : Option ℕ). is_closed_by o c) close ∙ eq-eqb c c refl) (ap (λ (gs : List Frame). f ∷ gs) none) own gathered) cost same
@@ -340,7 +341,7 @@ pub found_runs_out : (setting : Setting) (frames : List Frame) (stage : Stage) (
 found_runs_out setting frames (AtToken scan) at c found (marks, ends, is) same (passing none) = absurd (token_is_something setting marks found is none)
 found_runs_out setting frames (AtToken scan) at c found (marks, ends, is) same (with_byte there takes cost) =
     with_it there (after_token scan refl marks ends found is takes)
-    (costs_same setting there (at + 1) (λ cs. plan_gives setting frames (gives found) at (c ∷ cs)) (λ cs. stage_gives setting frames (AtToken scan) at (c ∷ cs)) same cost)
+    (costs_so _ _ _ _ setting there (at + 1) _ (λ inner call material own. own) (λ opens. by_call marks ends opens) (costs_same setting there (at + 1) (λ cs. plan_gives setting frames (gives found) at (c ∷ cs)) (λ cs. stage_gives setting frames (AtToken scan) at (c ∷ cs)) same cost))
 found_runs_out setting frames (AtToken scan) at c (one token x) (marks, ends, is) same (taking needs) =
     before_it (marks, ends, ap (λ (b : Bool). token_may_cost setting b marks) needs ∙ object_may_cost setting marks token x is)
 found_runs_out setting frames (AtToken scan) at c (nothing token) (marks, ends, is) same (taking needs) = cc
@@ -350,7 +351,7 @@ found_runs_out setting frames (AtCallToken call scan) at c found (marks, ends, i
     before_it (marks, ends, token_gives_nothing (needs_memory frames) setting (length frames) call marks found gathers is none)
 found_runs_out setting frames (AtCallToken call scan) at c found (marks, ends, is, gathers) same (with_byte there takes cost) =
     with_it there (after_call call scan refl marks ends found is takes)
-    (costs_same setting there (at + 1) (λ cs. plan_gives setting frames (gives found) at (c ∷ cs)) (λ cs. stage_gives setting frames (AtCallToken call scan) at (c ∷ cs)) same cost)
+    (costs_so _ _ _ _ setting there (at + 1) _ (λ inner invoked material own. own) (λ opens. by_call marks ends opens) (costs_same setting there (at + 1) (λ cs. plan_gives setting frames (gives found) at (c ∷ cs)) (λ cs. stage_gives setting frames (AtCallToken call scan) at (c ∷ cs)) same cost))
 found_runs_out setting frames (AtCallToken call scan) at c (one token x) (marks, ends, is, gathers) same (taking needs) =
     before_it (marks, ends, object_costs (needs_memory frames) call.function (completed setting (length frames) call true false (marked marks)) token x is needs)
 found_runs_out setting frames (AtCallToken call scan) at c (nothing token) (marks, ends, is, gathers) same (taking needs) = cc

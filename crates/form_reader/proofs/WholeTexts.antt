@@ -75,7 +75,7 @@ still_none setting there at c (after_token scan e marks ends found is never) = c
 still_none setting there at c (after_call call scan e marks ends found is never) = cc
 
 needing_stands : (setting : Setting) (c : ℕ) → NeedsMemory setting [] AtObject 0 0 [] c → Stands setting c
-needing_stands setting c (undecided h) = undecided_stands setting c h
+needing_stands setting c (undecided more h) = undecided_stands setting c h
 needing_stands setting c (token_ends h) = absurd h
 needing_stands setting c (call_ends there inner round calls is call material own cost read) = λ code e.
     let plan : Plan Found = completed setting (length round) call false false material in

@@ -16,6 +16,8 @@ use Rattle.form_reader.specs.declared.found.Found.{Found}
 use Rattle.form_reader.specs.declared.found.Found.TheVariants.{Nothing as nothing, One as one}
 use Rattle.form_reader.specs.declared.way.Function.{Function}
 use Rattle.form_reader.specs.declared.way.Function.TheVariants.{Standard as AStandard, User}
+use Rattle.form_reader.specs.declared.way.Keep.TheVariants.{Kept}
+use Rattle.form_reader.specs.declared.way.Way.{Way}
 use Rattle.form_reader.specs.declared.way.Way.TheVariants.{Nothing}
 use Rattle.form_reader.specs.declared.frame.Frame.{Frame}
 use Rattle.form_reader.specs.declared.frame.Part.{Part}
@@ -35,6 +37,7 @@ use Rattle.form_reader.specs.Reading.{completed, is_whitespace, token_found}
 use Rattle.form_reader.specs.Naming.{IsNameMeaning}
 use Rattle.form_reader.specs.Feeding.{token_read}
 use Rattle.form_reader.specs.Frames.{close_of, close_of_frames, is_closed_by, plan_gives, calls_with, needs_memory, needs_to_take}
+use Rattle.form_reader.specs.Opening.{reads_objects}
 use Rattle.form_reader.specs.Resuming.{IsStageAt, stage_gives}
 
 -- What a call of a function of a user comes to where memory may run out: it gives something, or the function refuses it, at
@@ -81,20 +84,27 @@ gathered_at_close (InTailed xs tail) = Some (dotted xs tail)
 abbrev pub closed_call : Frame → List Frame → InvokedCall → Material → Type 0
 closed_call frame = λ inner call material. (inner ≡ []) × (call ≡ frame.call) × (gathered_at_close frame.part ≡ Some material)
 
+-- the call of this macro character, whose function has this name
+abbrev pub macro_call_at : List ℕ → ℕ → InvokedCall
+macro_call_at function_name c = record { function = function_of function_name; character = c; sub = None; number = None }
+
+-- the call of this sub-character, after a dispatching macro character and this number
+abbrev pub sub_call_at : List ℕ → ℕ → Option ℕ → ℕ → InvokedCall
+sub_call_at function_name character digits c = record { function = function_of function_name; character = character; sub = Some (upper_case c); number = digits }
+
 -- Where an object may begin: the byte is the closing character of the innermost open call, which ends; or it is a macro
 -- character, and its function gathers nothing.
 pub data EndsAtPlace (setting : Setting) (c : ℕ) (inner : List Frame) (call : InvokedCall) (material : Material) : Type 0 where
   closes : (frame : Frame) → is_closed_by (close_of frame.part) c ≡ true → inner ≡ frame ∷ [] → call ≡ frame.call
       → gathered_at_close frame.part ≡ Some material → EndsAtPlace setting c inner call material
   calls : (name : List ℕ) → (entry_at setting.table c).function ≡ Some name → is_dispatch_name name ≡ false
-      → call_at_once setting (record { function = function_of name; character = c; sub = None; number = None }) inner call material
-      → EndsAtPlace setting c inner call material
+      → call_at_once setting (macro_call_at name c) inner call material → EndsAtPlace setting c inner call material
 
 -- After a dispatching macro character and this number: the byte is a sub-character, and its function gathers nothing.
 abbrev pub EndsAtSub : Setting → ℕ → Option ℕ → ℕ → List Frame → InvokedCall → Material → Type 0
 EndsAtSub setting character digits c inner call material =
     (name : List ℕ) × (dispatch_at setting.table character c ≡ Some name)
-    × call_at_once setting (record { function = function_of name; character = character; sub = Some (upper_case c); number = digits }) inner call material
+    × call_at_once setting (sub_call_at name character digits c) inner call material
 
 -- What may end with this byte. In a text, a line or a block it is its call, and none of those that are open round it. Where the
 -- byte ended a token, it is looked at where an object may begin.
@@ -108,19 +118,36 @@ MayEndAt setting (AtLine own keep text) c = only_call own (letters text)
 MayEndAt setting (AtBlock own levels) c = only_call own no_material
 MayEndAt setting (AtNumber character digits) c = EndsAtSub setting character digits c
 
+-- ---- the call that is open after a byte, and was not before it
+
+-- the call reads objects, so that it is one open call more
+abbrev pub OpensCall : Setting → InvokedCall → Type 0
+OpensCall setting call = (way : Way) × (way_in setting call ≡ Some way) × (reads_objects way ≡ true)
+
+-- Where an object may begin: the byte is a macro character, and its function reads objects.
+abbrev pub OpensAtPlace : Setting → ℕ → Type 0
+OpensAtPlace setting c =
+    (name : List ℕ) × ((entry_at setting.table c).function ≡ Some name) × (is_dispatch_name name ≡ false) × OpensCall setting (macro_call_at name c)
+
+-- after a dispatching macro character and this number: the byte is a sub-character, and its function reads objects
+abbrev pub OpensAtSub : Setting → ℕ → Option ℕ → ℕ → Type 0
+OpensAtSub setting character digits c =
+    (name : List ℕ) × (dispatch_at setting.table character c ≡ Some name) × OpensCall setting (sub_call_at name character digits c)
+
 -- What is read from this place on, after a byte that was taken in these open calls: reading goes on, in some open calls at some
--- stage; or a call that ends there comes to something for which memory may run out, in the open calls that do not end with it.
-pub data CostsOf (ends : List Frame → InvokedCall → Material → Type 0) (setting : Setting) (frames : List Frame) (at : ℕ) (read : List ℕ → Read Found) : Type 0 where
-  goes_on : (after : List Frame) (stage : Stage) → at ≤ setting.limits.text → IsStageAt at stage
-      → ((cs : List ℕ) → read cs ≡ stage_gives setting after stage at cs) → CostsOf ends setting frames at read
+-- stage, and more is kept; or a call that ends there comes to something for which memory may run out, in the open calls that do
+-- not end with it.
+pub data CostsOf (ends : List Frame → InvokedCall → Material → Type 0) (grows : Type 0) (setting : Setting) (frames : List Frame) (at : ℕ) (read : List ℕ → Read Found) : Type 0 where
+  goes_on : grows → (after : List Frame) (stage : Stage) → at ≤ setting.limits.text → IsStageAt at stage
+      → ((cs : List ℕ) → read cs ≡ stage_gives setting after stage at cs) → CostsOf ends grows setting frames at read
   comes_to : (inner round : List Frame) → frames ≡ inner ++ round → (call : InvokedCall) (material : Material) → ends inner call material
       → call_may_cost (needs_memory round) call.function (completed setting (length round) call false false material) ≡ true
       → ((cs : List ℕ) → read cs ≡ plan_gives setting round (completed setting (length round) call false false material) at cs)
-      → CostsOf ends setting frames at read
+      → CostsOf ends grows setting frames at read
 
 -- the same of this byte, where an object may begin
 abbrev pub Costs : Setting → List Frame → ℕ → ℕ → (List ℕ → Read Found) → Type 0
-Costs setting frames c at read = CostsOf (EndsAtPlace setting c) setting frames at read
+Costs setting frames c at read = CostsOf (EndsAtPlace setting c) (OpensAtPlace setting c) setting frames at read
 
 -- Where memory ran out, or an object is given to open calls that need memory to take one, if they do.
 abbrev pub Spends : Bool → Result Event AllocError → Type 0 → Type 0
@@ -205,10 +232,27 @@ is_space setting frames AtObject at c =
     nat_lt at setting.limits.text && (is_whitespace setting.table c && not (is_closed_by (close_of_frames frames) c))
 is_space setting frames _ at c = false
 
+-- A token has one mark more with the byte at this place, past its first 32; or the byte ends it, and opens a call.
+pub data TokenGrows (setting : Setting) (scan : Scan) (at c : ℕ) : Type 0 where
+  by_mark : 32 ≤ length scan.marks → TokenGrows setting scan at c
+  by_call : (marks : List Mark) → TokenEnds setting scan marks at c → OpensAtPlace setting c → TokenGrows setting scan at c
+
+-- More is kept after the byte at this place, where reading goes on: one more open call, one more mark of a token, past its first
+-- 32, or one more character of a text, or of a line that is kept. A block keeps nothing, nor does the number of a call.
+abbrev pub Grows : Setting → Stage → ℕ → ℕ → Type 0
+Grows setting AtObject at c = OpensAtPlace setting c
+Grows setting (AtToken scan) at c = TokenGrows setting scan at c
+Grows setting (AtCallToken call scan) at c = TokenGrows setting scan at c
+Grows setting (AtText call terminator text) at c = Unit {0}
+Grows setting (AtEscaped call terminator text) at c = Unit {0}
+Grows setting (AtLine call keep text) at c = keep ≡ Kept
+Grows setting (AtBlock call levels) at c = ⊥
+Grows setting (AtNumber character digits) at c = OpensAtSub setting character digits c
+
 -- What the byte at this place is, where memory may run out.
 pub data RunsOut (setting : Setting) (frames : List Frame) (stage : Stage) (at c : ℕ) : Type 0 where
   with_it : (there : List Frame) → AreOpen setting frames stage at c there
-      → CostsOf (MayEndAt setting stage c) setting there (at + 1) (λ cs. stage_gives setting frames stage at (c ∷ cs)) → RunsOut setting frames stage at c
+      → CostsOf (MayEndAt setting stage c) (Grows setting stage at c) setting there (at + 1) (λ cs. stage_gives setting frames stage at (c ∷ cs)) → RunsOut setting frames stage at c
   before_it : EndsToken setting frames stage at c → RunsOut setting frames stage at c
 
 -- before a byte that ended a token the same calls are open

@@ -20,7 +20,7 @@ use Rattle.form_reader.specs.Calls.{InvokedCall}
 use Rattle.form_reader.specs.Setting.{Setting}
 use Rattle.form_reader.specs.Reading.{completed, Outcome, form, empty, refused, reads}
 use Rattle.form_reader.specs.Frames.{plan_gives, needs_memory}
-use Rattle.form_reader.specs.Memory.{call_may_cost, is_space, AreOpen, EndsToken, MayEndAt}
+use Rattle.form_reader.specs.Memory.{call_may_cost, is_space, AreOpen, EndsToken, Grows, MayEndAt}
 use Rattle.form_reader.specs.Ending.{EndNeedsMemory}
 use Rattle.form_reader.specs.Turning.{outcome_of, rest_of}
 
@@ -95,13 +95,14 @@ BeginsLater old new (StepForm datum start «end» next) = (begun old ≤ start) 
 BeginsLater old new (StepRefused code place) = begun new ≡ begun old
 
 -- Where memory may run out at a byte that comes after these bytes, where the reader is at this stage. The bytes with this one
--- decide nothing. Or the byte ends an open token, and the token is a name, or a number that the innermost call needs memory to
+-- decide nothing, and more is kept: one more open call, a mark of a token past its first 32, or a character of a text or of a
+-- line that is kept. Or the byte ends an open token, and the token is a name, or a number that the innermost call needs memory to
 -- take, or memory may run out for its call. Or a call ends with the byte, in the calls that are open where the byte is looked
 -- at, and memory may run out for it, among those round it. Where an object may begin, it is the innermost open call, whose
 -- closing character the byte is, or the call of a macro character whose function gathers nothing; after a dispatching macro
 -- character and its number, that of a sub-character whose function gathers nothing; in a text, a line or a block, its own.
 pub data NeedsMemory (setting : Setting) (frames : List Frame) (stage : Stage) (start at : ℕ) (bytes : List ℕ) (c : ℕ) : Type 0 where
-  undecided : DecideNothing setting (bytes ++ c ∷ []) → NeedsMemory setting frames stage start at bytes c
+  undecided : Grows setting stage at c → DecideNothing setting (bytes ++ c ∷ []) → NeedsMemory setting frames stage start at bytes c
   token_ends : EndsToken setting frames stage at c → NeedsMemory setting frames stage start at bytes c
   call_ends : (there inner round : List Frame) → AreOpen setting frames stage at c there → there ≡ inner ++ round
       → (call : InvokedCall) (material : Material) → MayEndAt setting stage c inner call material

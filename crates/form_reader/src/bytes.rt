@@ -6,6 +6,7 @@ ghost use Rattle.form_reader.specs.Gathering.{block_next};
 ghost use Rattle.form_reader.specs.Feeding.{TextFeeds, EscapeFeeds, LineFeeds, BlockFeeds, NumberFeeds};
 ghost use Rattle.form_reader.specs.declared.bytes.TextByte.TheVariants.{More as TextMore, Escape as TextEscape, Ended as TextEnded};
 ghost use Rattle.form_reader.specs.declared.bytes.LineByte.TheVariants.{More as LineMore, Ended as LineEnded};
+ghost use Rattle.form_reader.specs.declared.way.Keep.TheVariants.{Kept};
 
 use crate::held::{HeldNumber, HeldText};
 use crate::limits::Limits;
@@ -123,6 +124,7 @@ pub(crate) fn line_byte(
     ensures more { result ≡ Ok LineMore → at < limits.now.text }
     ensures ended { result ≡ Ok LineEnded → at < limits.now.text }
     ensures same { result ≡ Ok LineEnded → text.new ≡ text.old }
+    ensures kept { OnErr result (keep ≡ Kept) }
     ensures calm { OnErr result ((at < limits.now.text) × (c < 128)) }
     ensures goes { (cs : List ℕ) → OnErr result
         (run readtable.now limits.now (loop limits.now (line_turn keep) text.old) at (c ∷ cs)

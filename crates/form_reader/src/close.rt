@@ -36,7 +36,7 @@ pub(crate) fn close<R: MacroFunctions>(
     ensures ready { IfOk result (IsReady with.now.limits at) }
     ensures memory { let setting = setting_with (R.registered with.now.macros.now) R.Meaning.way R.Meaning.answer with.now in
         (frames : List OpenCall) → round ≡ length frames
-        → Spends (needs_memory frames) result (CostsOf (closed_call frame) setting frames at (λ cs. plan_gives setting frames (call_in setting frame frames closed) at cs)) }
+        → Spends (needs_memory frames) result (CostsOf (closed_call frame) ⊥ setting frames at (λ cs. plan_gives setting frames (call_in setting frame frames closed) at cs)) }
 {
     let Frame { call, part } = frame;
     match part {

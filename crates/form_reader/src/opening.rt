@@ -6,7 +6,7 @@ ghost use Rattle.form_reader.specs.declared.frame.Frame.{Frame as OpenCall};
 ghost use Rattle.form_reader.specs.declared.way.Function.{Function as Called};
 ghost use Rattle.form_reader.specs.Frames.{needs_memory, plan_gives};
 ghost use Rattle.form_reader.specs.Completing.{plan_of};
-ghost use Rattle.form_reader.specs.Memory.{call_may_cost, call_at_once, CostsOf, IsWhatIsGiven, Spends};
+ghost use Rattle.form_reader.specs.Memory.{call_may_cost, call_at_once, CostsOf, IsWhatIsGiven, OpensCall, Spends};
 ghost use Rattle.form_reader.specs.Reading.{called, completed, gathered};
 ghost use Rattle.form_reader.specs.Resuming.{inner_at, Begins, Brings, Gathers, ComesTo};
 ghost use Rattle.form_reader.specs.Opening.{reads_objects};
@@ -43,7 +43,7 @@ pub(crate) fn begin_call<R: MacroFunctions>(
     ensures ready { IfOk result (IsReady with.now.limits at) }
     ensures nesting { IfOk result (λ _. length frames.new ≤ with.now.limits.nesting) }
     ensures memory { let setting = setting_with (R.registered with.now.macros.now) R.Meaning.way R.Meaning.answer with.now in
-        Spends (needs_memory frames.new) result (CostsOf (call_at_once setting call) setting frames.old at (λ cs. plan_gives setting frames.old
+        Spends (needs_memory frames.new) result (CostsOf (call_at_once setting call) (OpensCall setting call) setting frames.old at (λ cs. plan_gives setting frames.old
         (called setting (length frames.old) (inner_at setting (length frames.old)) call) at cs)) }
 {
     match way_of(with, &call) {
@@ -72,7 +72,7 @@ fn gather<R: MacroFunctions>(
     ensures ready { IfOk result (IsReady with.now.limits at) }
     ensures nesting { IfOk result (λ _. length frames.new ≤ with.now.limits.nesting) }
     ensures memory { let setting = setting_with (R.registered with.now.macros.now) R.Meaning.way R.Meaning.answer with.now in
-        Spends (needs_memory frames.new) result (CostsOf (call_at_once setting call) setting frames.old at (λ cs. plan_gives setting frames.old
+        Spends (needs_memory frames.new) result (CostsOf (call_at_once setting call) (OpensCall setting call) setting frames.old at (λ cs. plan_gives setting frames.old
         (gathered setting (length frames.old) (inner_at setting (length frames.old)) call way) at cs)) }
 {
     match way {
@@ -112,6 +112,8 @@ fn gather_objects<R: MacroFunctions>(
     way: Way,
     at: usize,
 ) -> Result<Event, AllocError>
+    requires way { let setting = setting_with (R.registered with.now.macros.now) R.Meaning.way R.Meaning.answer with.now in
+        way_in setting call ≡ Some way }
     requires objects { reads_objects way ≡ true }
     requires place { at ≤ with.now.limits.text }
     requires nesting { length frames.old ≤ with.now.limits.nesting }
@@ -120,7 +122,7 @@ fn gather_objects<R: MacroFunctions>(
     ensures ready { IfOk result (IsReady with.now.limits at) }
     ensures nesting { IfOk result (λ _. length frames.new ≤ with.now.limits.nesting) }
     ensures memory { let setting = setting_with (R.registered with.now.macros.now) R.Meaning.way R.Meaning.answer with.now in
-        Spends (needs_memory frames.new) result (CostsOf (call_at_once setting call) setting frames.old at (λ cs. plan_gives setting frames.old
+        Spends (needs_memory frames.new) result (CostsOf (call_at_once setting call) (OpensCall setting call) setting frames.old at (λ cs. plan_gives setting frames.old
         (gathered setting (length frames.old) (inner_at setting (length frames.old)) call way) at cs)) }
 {
     let deep = frames.len() >= with.limits.nesting as usize;

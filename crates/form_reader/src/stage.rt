@@ -1,5 +1,5 @@
 //! Where a reader is in its innermost call.
-ghost use Rattle.std.specs.Prelude.{◌≡◌, ◌≤◌, ◌<◌, ℕ, List, [], ◌∷◌, length, IfOk, OnErr, IsTrue, IsFalse, Ok};
+ghost use Rattle.std.specs.Prelude.{◌≡◌, ◌≤◌, ◌<◌, ℕ, List, [], ◌∷◌, length, IfOk, IsOk, OnErr, IsTrue, IsFalse, Ok};
 ghost use Rattle.token_scan.specs.Tokens.{kind, typed, typed_text};
 ghost use Rattle.token_scan.specs.Spelling.{ends_tokens};
 ghost use Rattle.token_scan.specs.Scans.{GoesPast, Scan, begun, has_begun, token_from};
@@ -58,7 +58,7 @@ pub enum FirstByte {
     Refused(u16),
 }
 
-/// A token from its first byte `c` on, which is at `at`.
+/// A token from its first byte `c` on, which is at `at`. It needs no memory.
 pub(crate) fn first_byte(
     alloc: Global,
     readtable: &Readtable,
@@ -72,10 +72,7 @@ pub(crate) fn first_byte(
         FirstFeeds readtable.now limits.now at cs fed (token_read readtable.now limits.now (begun limits.now.token) at (c ∷ cs))) }
     ensures going { (scan : Scan) → result ≡ Ok (FirstMore scan) → IsTrue (is_going scan.stage) }
     ensures below { (scan : Scan) → result ≡ Ok (FirstMore scan) → at < limits.now.text }
-    ensures calm { OnErr result (at < limits.now.text) }
-    ensures goes { (more : List ℕ) → OnErr result
-        (GoesPast at (token_from (begun limits.now.token) at (typed_text readtable.now (c ∷ more)))) }
-    ensures next { OnErr result (GoesOn readtable.now limits.now (begun limits.now.token) at c) }
+    ensures inline { IsOk result }
 {
     let mut scan = TokenScan::begin(alloc, limits.token);
     match token_byte(readtable, limits, &mut scan, at, c)? {
@@ -112,6 +109,7 @@ impl BegunScan {
         ensures goes { (more : List ℕ) → OnErr result
             (GoesPast at (token_from self.old at (typed_text readtable.now (c ∷ more)))) }
         ensures next { OnErr result (GoesOn readtable.now limits.now self.old at c) }
+        ensures inline { OnErr result (32 ≤ length self.old.marks) }
     {
         token_byte(readtable, limits, &mut self.scan, at, c)
     }
@@ -136,6 +134,7 @@ impl BegunScan {
         ensures goes { (more : List ℕ) → OnErr result
             (GoesPast at (token_from self at (typed_text readtable.now (c ∷ more)))) }
         ensures next { OnErr result (GoesOn readtable.now limits.now self at c) }
+        ensures inline { OnErr result (32 ≤ length self.marks) }
     {
         let BegunScan { mut scan } = self;
         match token_byte(readtable, limits, &mut scan, at, c)? {

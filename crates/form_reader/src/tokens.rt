@@ -39,6 +39,7 @@ pub(crate) fn token_byte(
     ensures calm { OnErr result (at < limits.now.text) }
     ensures goes { (more : List ℕ) → OnErr result (GoesPast at (token_from scan.old at (typed_text readtable.now (c ∷ more)))) }
     ensures next { OnErr result (GoesOn readtable.now limits.now scan.old at c) }
+    ensures inline { OnErr result (32 ≤ length scan.old.marks) }
 {
     match scan.feed(readtable.syntax(c), c) {
         Ok(Fed::Ended) => Ok(LineByte::Ended),

@@ -40,11 +40,11 @@ returns-in_default-clause-brings g c = λ cs.
 pub returns-in-TerminatingMacro-clause-memory : goal.returns-in-TerminatingMacro-clause-memory
 returns-in-TerminatingMacro-clause-memory g c =
     let setting = setting_with (g.R.MacroFunctions.registered c.args.with.now.macros.now) g.R.Meaning.Meaning.way g.R.Meaning.Meaning.answer c.args.with.now in
-    spends_same _ _ setting c.args.frames.now (c.args.at + 1) _ _ c.begin_macro.result
+    spends_same _ _ _ setting c.args.frames.now (c.args.at + 1) _ _ c.begin_macro.result
     (λ cs. alone_by setting c.args.at c.args.c cs c.args.frames.now TerminatingMacro c.requires.nesting (omega (arith, c.if-at-with.false)) c.requires.alone (sym c.syntax.ensures ∙ c.in-TerminatingMacro.is)) c.begin_macro.ensures.memory
 
 pub returns-in-NonTerminatingMacro-clause-memory : goal.returns-in-NonTerminatingMacro-clause-memory
 returns-in-NonTerminatingMacro-clause-memory g c =
     let setting = setting_with (g.R.MacroFunctions.registered c.args.with.now.macros.now) g.R.Meaning.Meaning.way g.R.Meaning.Meaning.answer c.args.with.now in
-    spends_same _ _ setting c.args.frames.now (c.args.at + 1) _ _ c.begin_macro-in-NonTerminatingMacro.result
+    spends_same _ _ _ setting c.args.frames.now (c.args.at + 1) _ _ c.begin_macro-in-NonTerminatingMacro.result
     (λ cs. alone_by setting c.args.at c.args.c cs c.args.frames.now NonTerminatingMacro c.requires.nesting (omega (arith, c.if-at-with.false)) c.requires.alone (sym c.syntax.ensures ∙ c.in-NonTerminatingMacro.is)) c.begin_macro-in-NonTerminatingMacro.ensures.memory

@@ -23,5 +23,5 @@ returns-in-Refused-clause-brings g c = λ frames cs open_calls.
 pub returns-in-Ended-clause-memory : goal.returns-in-Ended-clause-memory
 returns-in-Ended-clause-memory g c =
     let setting = setting_with (g.R.MacroFunctions.registered c.args.with.now.macros.now) g.R.Meaning.Meaning.way g.R.Meaning.Meaning.answer c.args.with.now in
-    λ frames open_calls. ends_cost setting frames _ (λ u. no_material) tt tt tt c.args.at c.args.c c.args.round c.args.call c.ended.result open_calls
+    λ frames open_calls. ends_cost _ setting frames _ (λ u. no_material) tt tt tt c.args.at c.args.c c.args.round c.args.call c.ended.result open_calls
     (λ cs. c.in-Ended.ensures.feeds cs) refl refl c.ended.ensures.some

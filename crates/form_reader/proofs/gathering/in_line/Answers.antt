@@ -26,11 +26,11 @@ returns-in-Refused-clause-brings g c = λ frames cs open_calls.
 pub returns-in_err-line_byte-clause-memory : goal.returns-in_err-line_byte-clause-memory
 returns-in_err-line_byte-clause-memory g c =
     let setting = setting_with (g.R.MacroFunctions.registered c.args.with.now.macros.now) g.R.Meaning.Meaning.way g.R.Meaning.Meaning.answer c.args.with.now in
-    λ frames open_calls. spent _ c.from_residual.result _ (taken_costs setting frames _ _ _ (AtLine c.args.call c.args.keep (kept c.args.keep c.args.text c.args.c)) c.args.at c.args.c
+    λ frames open_calls. spent _ c.from_residual.result _ (taken_costs c.in_err-line_byte.ensures.kept setting frames _ _ _ (AtLine c.args.call c.args.keep (kept c.args.keep c.args.text c.args.c)) c.args.at c.args.c
     c.in_err-line_byte.ensures.calm.0 tt c.in_err-line_byte.ensures.goes (λ cs. refl))
 
 pub returns-in-Ended-clause-memory : goal.returns-in-Ended-clause-memory
 returns-in-Ended-clause-memory g c =
     let setting = setting_with (g.R.MacroFunctions.registered c.args.with.now.macros.now) g.R.Meaning.Meaning.way g.R.Meaning.Meaning.answer c.args.with.now in
-    λ frames open_calls. ends_cost setting frames _ letters c.args.text _ c.into_bytes.result c.args.at c.args.c c.args.round c.args.call c.ended.result open_calls
+    λ frames open_calls. ends_cost _ setting frames _ letters c.args.text _ c.into_bytes.result c.args.at c.args.c c.args.round c.args.call c.ended.result open_calls
     (λ cs. rw c.in-Ended.is at (c.in_ok-line_byte.ensures.feeds cs)) c.into_bytes.ensures.value (c.in_ok-line_byte.ensures.same (ap Ok c.in-Ended.is)) c.ended.ensures.some

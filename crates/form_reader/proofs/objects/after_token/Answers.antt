@@ -23,5 +23,5 @@ returns-then-is_blank-clause-brings g c = λ cs.
 pub returns-clause-memory : goal.returns-clause-memory
 returns-clause-memory g c =
     let setting = setting_with (g.R.MacroFunctions.registered c.args.with.now.macros.now) g.R.Meaning.Meaning.way g.R.Meaning.Meaning.answer c.args.with.now in
-    spends_same _ _ setting c.args.frames.now (c.args.at + 1) _ _ c.at_object.result
+    spends_same _ _ _ setting c.args.frames.now (c.args.at + 1) _ _ c.at_object.result
     (λ cs. no_space_there setting c.args.frames.now c.args.at c.args.c cs (ap is_blank (sym c.syntax.ensures) ∙ sym c.is_blank.ensures ∙ c.if-is_blank.false)) c.at_object.ensures.memory

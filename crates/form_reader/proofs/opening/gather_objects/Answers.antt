@@ -29,12 +29,12 @@ returns-in_ok-push-in-Until-clause-gathers g c = λ cs.
 
 pub returns-in_err-push-in-Next-clause-memory : goal.returns-in_err-push-in-Next-clause-memory
 returns-in_err-push-in-Next-clause-memory g c =
-    spent _ c.from_residual.result _ (next_costs _ c.args.frames.now c.args.call c.args.way c.args.at c.in-Next.is (omega (arith, c.len.ensures, c.if-deep.false)) c.requires.place)
+    spent _ c.from_residual.result _ (next_costs _ c.args.frames.now c.args.call c.args.way c.args.at c.requires.way c.in-Next.is (omega (arith, c.len.ensures, c.if-deep.false)) c.requires.place)
 
 pub returns-in_err-push-in-List-clause-memory : goal.returns-in_err-push-in-List-clause-memory
 returns-in_err-push-in-List-clause-memory g c =
-    spent _ c.from_residual-in_err-push-in-List.result _ (list_costs _ c.args.frames.now c.args.call c.args.way c.args.at c.in-List.is (omega (arith, c.len.ensures, c.if-deep-2.false)) c.requires.place)
+    spent _ c.from_residual-in_err-push-in-List.result _ (list_costs _ c.args.frames.now c.args.call c.args.way c.args.at c.requires.way c.in-List.is (omega (arith, c.len.ensures, c.if-deep-2.false)) c.requires.place)
 
 pub returns-in_err-push-in-Until-clause-memory : goal.returns-in_err-push-in-Until-clause-memory
 returns-in_err-push-in-Until-clause-memory g c =
-    spent _ c.from_residual-in_err-push-in-Until.result _ (until_costs _ c.args.frames.now c.args.call c.args.way c.args.at c.in-Until.close c.in-Until.is (omega (arith, c.len.ensures, c.if-deep-3.false)) c.requires.place)
+    spent _ c.from_residual-in_err-push-in-Until.result _ (until_costs _ c.args.frames.now c.args.call c.args.way c.args.at c.in-Until.close c.requires.way c.in-Until.is (omega (arith, c.len.ensures, c.if-deep-3.false)) c.requires.place)
