@@ -29,7 +29,7 @@ use Rattle.form_reader.specs.Memory.{call_may_cost, is_nothing}
 
 -- ---- where the way is to gather a token
 
-abbrev is_token_way : Way → Bool
+abbrev pub is_token_way : Way → Bool
 is_token_way Token = true
 is_token_way EscapedToken = true
 is_token_way _ = false
@@ -53,11 +53,8 @@ way_is setting call (AStandard kind) way e token = by (is_baseless kind call.num
     by true e = let same : Nothing ≡ way = cc in let never : false ≡ true = ap is_token_way same ∙ token in cc
     by false e = let same : standard_way (caller call) (way_of kind) ≡ way = cc in gather_is (caller call) (way_of kind) (ap is_token_way same ∙ token)
 
-pub token_gathers : (setting : Setting) (call : InvokedCall) (way : Way) → way_in setting call ≡ Some way → way ≡ Token → may_gather_token call.function ≡ true
-token_gathers setting call way e is = way_is setting call call.function way e (ap is_token_way is)
-
-pub escaped_gathers : (setting : Setting) (call : InvokedCall) (way : Way) → way_in setting call ≡ Some way → way ≡ EscapedToken → may_gather_token call.function ≡ true
-escaped_gathers setting call way e is = way_is setting call call.function way e (ap is_token_way is)
+pub gathers_token : (setting : Setting) (call : InvokedCall) (way known : Way) → way_in setting call ≡ Some way → way ≡ known → is_token_way known ≡ true → may_gather_token call.function ≡ true
+gathers_token setting call way known e is token = way_is setting call call.function way e (ap is_token_way is ∙ token)
 
 -- ---- no standard function gives no value for a token that it gathers
 

@@ -1,6 +1,8 @@
+use Rattle.std.proofs.Common.{refl}
+use Rattle.form_reader.specs.declared.way.Way.TheVariants.{Token, EscapedToken}
 use Rattle.form_reader.specs.Surrounding.{setting_with}
 use Rattle.form_reader.proofs.Beginnings.{token_at, escaped_at, nothing_at}
-use Rattle.form_reader.proofs.TokenCalls.{token_gathers, escaped_gathers}
+use Rattle.form_reader.proofs.TokenCalls.{gathers_token}
 use Rattle.form_reader.proofs.Spending.{nothing_costs}
 use Rattle.form_reader.proofs.opening.gather.Goals as goal
 
@@ -20,12 +22,12 @@ returns-in-EscapedToken-clause-gathers g c = λ cs.
 pub new-call-requires : goal.new-call-requires
 new-call-requires g c =
     let setting = setting_with (g.R.MacroFunctions.registered c.args.with.now.macros.now) g.R.Meaning.Meaning.way g.R.Meaning.Meaning.answer c.args.with.now in
-    token_gathers setting c.args.call c.args.way c.requires.way c.in-Token.is
+    gathers_token setting c.args.call c.args.way Token c.requires.way c.in-Token.is refl
 
 pub new-call-requires-in-EscapedToken : goal.new-call-requires-in-EscapedToken
 new-call-requires-in-EscapedToken g c =
     let setting = setting_with (g.R.MacroFunctions.registered c.args.with.now.macros.now) g.R.Meaning.Meaning.way g.R.Meaning.Meaning.answer c.args.with.now in
-    escaped_gathers setting c.args.call c.args.way c.requires.way c.in-EscapedToken.is
+    gathers_token setting c.args.call c.args.way EscapedToken c.requires.way c.in-EscapedToken.is refl
 
 pub returns-in-Nothing-clause-memory : goal.returns-in-Nothing-clause-memory
 returns-in-Nothing-clause-memory g c =
