@@ -102,7 +102,8 @@ impl FormReader {
 
     /// One more byte of the text, under the same readtable, packages, current package and functions as the bytes before it.
     /// After a refusal, and after it ran out of memory, it answers the same again. It runs out of memory only where the bytes
-    /// with this one decide nothing, where the byte ends a name, a number that an open call needs memory to take, or the token of
+    /// with this one decide nothing and it keeps more (an open call, a mark of a token past its first 32, a character of a text
+    /// or of a line that is kept), where the byte ends a name, a number that an open call needs memory to take, or the token of
     /// a call, or where a call ends with it, and never at whitespace that is discarded where an object may begin.
     pub fn step<R: MacroFunctions>(
         &mut self,
