@@ -1,18 +1,21 @@
 -- How what was answered joins, and that it stays whatever follows the text.
-use Rattle.std.proofs.Common.{◌≡◌, ℕ, ◌+◌, ◌-◌, ◌<◌, ◌≤◌, Bool, true, false, cond, List, [], ◌∷◌, ◌++◌, length, take, drop, Option, None, Some, Ok, Err, inl, inr, refl, sym, ap, subst, ◌∙◌, append_assoc, append-nil, length-append, length-drop, arith}
-use Rattle.std.proofs.lemmas.List.{take-append-drop, take-append-le, drop-append-le, drop_all}
+use Rattle.std.proofs.Common.{◌≡◌, ◌⊎◌, ℕ, zero, suc, ◌+◌, ◌-◌, ◌<◌, ◌≤◌, Bool, cond, List, [], ◌++◌, length, take, drop, Option, None, Some, Ok, Err, inl, inr, refl, sym, ap, subst, ◌∙◌, append_assoc, append-nil, length-append, length-drop, arith}
+use Rattle.std.proofs.lemmas.List.{take-append-drop, take-append-le, drop-append-le, drop_all, length-take-le}
+use Rattle.std.proofs.Math.Seq.{drop-append-add}
 use Rattle.disk_trait.specs.Disk.{State, IsHonest, IsSound}
 use Rattle.form_eval.specs.Acceptance.{accept}
 use Rattle.form_eval.specs.Outcomes.{Outcome as Evaluation}
 use Rattle.lisp_object.specs.Object.{Object}
 use Rattle.lisp_object.specs.declared.refusal.TheConstants.{INPUT}
 use Rattle.plist_state.specs.State.{State as World}
-use Rattle.form_reader.specs.Reader.{MayGoOn}
+use Rattle.form_reader.specs.Reader.{MayGoOn, fed}
 use Rattle.form_reader.specs.Reading.{form, refused}
 use Rattle.prevalence_store.specs.declared.input.Pending.{Pending}
 use Rattle.prevalence_store.specs.declared.mode.Mode.{Mode}
 use Rattle.prevalence_store.specs.declared.outcome.Ending.{Ending}
 use Rattle.prevalence_store.specs.declared.outcome.Ending.TheVariants.{End, Reader, Store}
+use Rattle.prevalence_store.specs.declared.turn.Turn.{Turn}
+use Rattle.prevalence_store.specs.declared.turn.Turn.TheVariants.{Taken, Ended}
 use Rattle.prevalence_store.specs.Acceptance.{between, read_in, setting_in}
 use Rattle.prevalence_store.specs.Functions.{Functions}
 use Rattle.prevalence_store.specs.Output.{Progress, after_forms, begun, evaluated, one_form, onward}
@@ -20,7 +23,7 @@ use Rattle.prevalence_store.specs.Pending.{HasForm, IsLastForm, IsPending, HasRe
 use Rattle.prevalence_store.specs.Pacing.{EndsInPace, Pace, Paces, fill_of}
 use Rattle.prevalence_store.specs.Serving.{Advances, IsAfter, Serves, ServesInPace, StaysRefused}
 use Rattle.prevalence_store.specs.Session.{Session}
-use Rattle.prevalence_store.specs.Turns.{Answers, AnswersFault, AnswersForm, BeginsWith, GoesOn, HasEnded, LeavesByte, StaysEnded, StopsInForm}
+use Rattle.prevalence_store.specs.Turns.{Answers, AnswersFault, AnswersForm, BeginsWith, GoesOn, HasEnded, StaysEnded, StopsInForm, TakesSome, TurnsInto}
 use Rattle.prevalence_store.proofs.Executing.{form_places}
 use Rattle.prevalence_store.proofs.InTurn.{ends_after, fault_paced, paces_both}
 use Rattle.prevalence_store.specs.Streams.{Writes}
@@ -52,6 +55,26 @@ abbrev pub InPace : (functions : Functions) {D R : Type 0} (state : D → State)
     (held written : Option (List ℕ)) (ending : Ending) → Type 0
 InPace functions state pace old new world mode text held written ending =
     (served : Serves functions state old new world mode text held written ending) × ServesInPace functions state pace old new world mode text held written ending served
+
+-- ---- a piece, and what of it was fed
+
+-- what was fed of a piece, and what is left of it
+piece_whole : (bytes piece : List ℕ) (n : ℕ) → (bytes ++ take n piece) ++ drop n piece ≡ bytes ++ piece
+piece_whole bytes piece n = append_assoc bytes (take n piece) (drop n piece) ∙ ap (λ t. bytes ++ t) (take-append-drop n piece)
+
+-- what is left of it after a form
+piece_left : (bytes piece : List ℕ) (n next count : ℕ) → next ≡ length bytes + count → count ≤ n → n ≤ length piece → drop next (bytes ++ take n piece) ++ drop n piece ≡ drop count piece
+piece_left bytes piece n next count is some within =
+    let many : length (take n piece) ≡ n = length-take-le n piece within in
+    ap (λ m. drop m (bytes ++ take n piece) ++ drop n piece) is
+    ∙ ap (λ t. t ++ drop n piece) (drop-append-add bytes (take n piece) count)
+    ∙ sym (drop-append-le count (take n piece) (drop n piece) (omega arith))
+    ∙ ap (drop count) (take-append-drop n piece)
+
+-- how much a session has still to take of a piece, for its measure: where something is pending, one turn more may take nothing
+abbrev pub to_take : (before many : ℕ) → ℕ
+to_take zero many = many + many
+to_take (suc n) many = suc (many + many)
 
 -- ---- a form that the bytes begin with, whatever follows them
 
@@ -100,43 +123,35 @@ module _ (functions : Functions) (w : World) (mode : Mode) (pending : Pending) (
   one_rest : (far : Progress) → after_forms functions 1 w mode text ≡ Some far → far.rest ≡ drop has.next text
   one_rest far is = ap (λ (p : Progress). p.rest) (far_is_one far is) ∙ rest_evaluated w mode (between has.start has.stop text) (drop has.next text) given
 
+  -- where a piece decides it, and so many bytes of the piece are taken
+  module _ (bytes piece : List ℕ) (n count : ℕ) (fed_is : text ≡ bytes ++ take n piece) (within : n ≤ length piece) (taken : count + cond left 1 0 ≡ n) where
+    next_is : has.next ≡ length bytes + count
+    next_is =
+        let many : length text ≡ length bytes + n = ap length fed_is ∙ length-append bytes (take n piece) ∙ ap (λ m. length bytes + m) (length-take-le n piece within) in
+        let all = has.next_is in
+        omega arith
+
+    pub form_takes : (old : Pending) → IsPending functions w mode old bytes → TakesSome (fed old.reader) (fed pending.reader) (length piece) (Taken count)
+    form_takes old before = (omega arith, rw none (omega arith), by_count count next_is) where
+      none : fed pending.reader ≡ 0
+      none = (has.none w mode).count
+
+      by_count : (k : ℕ) → has.next ≡ length bytes + k → (0 < k) ⊎ ((0 < fed old.reader) × (fed pending.reader ≡ 0))
+      by_count zero is = inr (let order = stop_within.0 in let after = stop_within.1 in let many = before.count in omega arith, none)
+      by_count (suc k) is = inl (omega arith)
+
   module _ {D R : Type 0} (state : D → State) (pace later : Pace) (old new : Session D R) (a b : Option (List ℕ)) (answered : AnswersForm functions state old new w mode pace later text a b None) where
-    -- the form was answered, and this is left
-    unfoldable after_form : (rest : List ℕ) → drop has.next text ≡ rest → GoesOn functions state pace later old new w mode text a b pending rest
-    after_form rest is = record {
+    -- the form was answered, and what follows it is left
+    after_form : GoesOn functions state pace later old new w mode text a b pending (drop has.next text)
+    after_form = record {
       forms = 1;
       far = answered.0;
       advances = answered.1;
       paced = answered.2;
       stays = one_stays answered.0 answered.1.far_is;
       bytes = [];
-      rest = one_rest answered.0 answered.1.far_is ∙ is;
+      rest = one_rest answered.0 answered.1.far_is;
       is_pending = has.none answered.0.world mode;
-    }
-
-    pub form_taken : left ≡ false → GoesOn functions state pace later old new w mode text a b pending []
-    form_taken is =
-        let all : has.next + cond left 1 0 ≡ length text = has.next_is in
-        let same : has.next + 0 ≡ length text = subst (λ l. has.next + cond l 1 0 ≡ length text) is all in
-        after_form [] (drop_all has.next text (omega arith))
-
-  module _ {D R : Type 0} (state : D → State) (pace later : Pace) (old new : Session D R) (a b : Option (List ℕ)) (bytes : List ℕ) (byte : ℕ) (whole : text ≡ bytes ++ byte ∷ [])
-      (answered : AnswersForm functions state old new w mode pace later text a b None) where
-    byte_left : left ≡ true → has.next + 1 ≡ length text
-    byte_left is = subst (λ l. has.next + cond l 1 0 ≡ length text) is has.next_is
-
-    rest_left : left ≡ true → drop has.next text ≡ byte ∷ []
-    rest_left is =
-        let all = byte_left is in
-        let many : length text ≡ length bytes + 1 = ap length whole ∙ length-append bytes (byte ∷ []) in
-        ap (drop has.next) whole ∙ drop-append-le has.next bytes (byte ∷ []) (omega arith) ∙ ap (λ t. t ++ byte ∷ []) (drop_all has.next bytes (omega arith))
-
-    pub form_left : left ≡ true → LeavesByte functions state pace later old new w mode text a b pending byte
-    unfolding after_form
-    form_left is = record {
-      goes = after_form state pace later old new a b answered (byte ∷ []) (rest_left is);
-      alone = refl;
-      not_first = let all = byte_left is in let order = stop_within.0 in let after = stop_within.1 in omega arith;
     }
 
 -- ---- the form that ends the input
@@ -222,6 +237,23 @@ module _ (functions : Functions) {D R : Type 0} (state : D → State) where
     rest = sym (append-nil text);
     is_pending = is;
   }
+
+  -- what was answered of what was fed of a piece, and what is left of it
+  pub answered_within : (pace later : Pace) (old new : Session D R) (w : World) (mode : Mode) (a b : Option (List ℕ)) (pending : Pending) (bytes piece left : List ℕ) (n : ℕ)
+      → GoesOn functions state pace later old new w mode (bytes ++ take n piece) a b pending left → GoesOn functions state pace later old new w mode (bytes ++ piece) a b pending (left ++ drop n piece)
+  answered_within pace later old new w mode a b pending bytes piece left n goes =
+      subst (λ t. GoesOn functions state pace later old new w mode t a b pending (left ++ drop n piece)) (piece_whole bytes piece n)
+      (extended pace later old new w mode (bytes ++ take n piece) a b pending left (drop n piece) goes)
+
+  -- a form that a piece decides was answered, and so many bytes of the piece were taken
+  pub form_answered : (w : World) (mode : Mode) (pending : Pending) (bytes piece : List ℕ) (n count : ℕ) (x : Object) (own : List ℕ) (left : Bool)
+      → HasForm functions w mode pending (bytes ++ take n piece) x own left → n ≤ length piece → count + cond left 1 0 ≡ n → (pace later : Pace) (old new : Session D R) (a b : Option (List ℕ))
+      → AnswersForm functions state old new w mode pace later (bytes ++ take n piece) a b None → GoesOn functions state pace later old new w mode (bytes ++ piece) a b pending (drop count piece)
+  form_answered w mode pending bytes piece n count x own left has within taken pace later old new a b answered =
+      let next = next_is functions w mode pending (bytes ++ take n piece) x own left has bytes piece n count refl within taken in
+      subst (λ t. GoesOn functions state pace later old new w mode (bytes ++ piece) a b pending t) (piece_left bytes piece n has.next count next (omega arith) within)
+      (answered_within pace later old new w mode a b pending bytes piece (drop has.next (bytes ++ take n piece)) n
+      (after_form functions w mode pending (bytes ++ take n piece) x own left has state pace later old new a b answered))
 
   -- what is pending after it
   pub pending_again : (pace later : Pace) (old new : Session D R) (w : World) (mode : Mode) (text : List ℕ) (a b : Option (List ℕ)) (pending : Pending) (left : List ℕ)
@@ -327,29 +359,17 @@ module _ (functions : Functions) {D R : Type 0} (state : D → State) where
         ended_both (text ++ more) (left ++ more) (extended pace later old mid w mode text a b pending left more first) ending
         (subst (λ t. HasEnded functions state later mid new first.far.world mode t b c ending) (append_assoc first.bytes left more) (second more))
 
-    -- a byte that was left, and what it came to
-    pub left_both : (text : List ℕ) (byte : ℕ) (first : LeavesByte functions state pace later old mid w mode text a b pending byte) (after : Pending) (result : Option Ending)
-        → Answers functions state later last mid new first.goes.far.world mode (byte ∷ []) b c after result → Answers functions state pace last old new w mode text a c after result
-    left_both text byte first after result second =
-        answers_both text (byte ∷ []) first.goes after result
-        (subst (λ bytes. Answers functions state later last mid new first.goes.far.world mode (bytes ++ byte ∷ []) b c after result) (sym first.alone) second)
+    -- what was left, and what a turn came to
+    pub turn_both : (text rest : List ℕ) (first : GoesOn functions state pace later old mid w mode text a b pending rest) (after : Pending) (turn : Turn)
+        → TurnsInto functions state later last mid new first.far.world mode (first.bytes ++ rest) b c after rest turn → TurnsInto functions state pace last old new w mode text a c after rest turn
+    turn_both text rest first after (Taken count) second = goes_on_both text rest first after (drop count rest) second
+    turn_both text rest first after (Ended ending) second = answers_both text rest first after (Some ending) second
 
     -- more of the text, and what it came to
     pub more_both : (text more : List ℕ) (first : GoesOn functions state pace later old mid w mode text a b pending []) (after : Pending) (result : Option Ending)
         → Answers functions state later last mid new first.far.world mode (first.bytes ++ more) b c after result → Answers functions state pace last old new w mode (text ++ more) a c after result
     unfolding extended
     more_both text more first after result second = answers_both (text ++ more) more (extended pace later old mid w mode text a b pending [] more first) after result second
-
-    piece_is : (bytes piece : List ℕ) (k byte : ℕ) → take (k + 1) piece ≡ take k piece ++ byte ∷ [] → (bytes ++ take k piece) ++ byte ∷ [] ≡ bytes ++ take (k + 1) piece
-    piece_is bytes piece k byte taken = append_assoc bytes (take k piece) (byte ∷ []) ∙ ap (λ t. bytes ++ t) (sym taken)
-
-    -- one byte more of a piece, and what it came to
-    pub byte_both : (bytes piece : List ℕ) (k byte : ℕ) → take (k + 1) piece ≡ take k piece ++ byte ∷ []
-        → (first : GoesOn functions state pace later old mid w mode (bytes ++ take k piece) a b pending []) (after : Pending) (result : Option Ending)
-        → Answers functions state later last mid new first.far.world mode (first.bytes ++ byte ∷ []) b c after result → Answers functions state pace last old new w mode (bytes ++ take (k + 1) piece) a c after result
-    byte_both bytes piece k byte taken first after result second =
-        subst (λ t. Answers functions state pace last old new w mode t a c after result) (piece_is bytes piece k byte taken)
-        (more_both (bytes ++ take k piece) (byte ∷ []) first after result second)
 
     -- the end of the input, and what it came to
     pub end_both : (text : List ℕ) (first : GoesOn functions state pace later old mid w mode text a b pending []) (ending : Ending)
@@ -393,8 +413,3 @@ module _ (functions : Functions) {D R : Type 0} (state : D → State) where
         },
         inl (record { paced = (later, goes.paced); other = λ full. absurd (omega arith); fault = λ device. absurd (omega arith) }),
       )
-
-  -- what is pending where a byte was left
-  pub none_left : (pace later : Pace) (old new : Session D R) (w : World) (mode : Mode) (text : List ℕ) (a b : Option (List ℕ)) (pending : Pending) (byte : ℕ)
-      (first : LeavesByte functions state pace later old new w mode text a b pending byte) → IsPending functions first.goes.far.world mode pending []
-  none_left pace later old new w mode text a b pending byte first = subst (λ bytes. IsPending functions first.goes.far.world mode pending bytes) first.alone first.goes.is_pending

@@ -1,5 +1,5 @@
 -- What is pending of a session.
-use Rattle.std.proofs.Common.{◌≡◌, ℕ, ◌+◌, ◌-◌, ◌<◌, ◌≤◌, true, false, Bool, cond, List, [], ◌∷◌, ◌++◌, length, drop, Option, IsTrue, Ok, Err, nat_lt, refl, sym, ap, subst, ◌∙◌, arith, append-nil, length-append, length-drop}
+use Rattle.std.proofs.Common.{◌≡◌, ℕ, ◌+◌, ◌-◌, ◌<◌, ◌≤◌, true, false, Bool, cond, List, [], ◌∷◌, ◌++◌, length, drop, take, append_assoc, Option, IsTrue, Ok, Err, nat_lt, refl, sym, ap, subst, ◌∙◌, arith, append-nil, length-append, length-drop}
 use Rattle.std.specs.List.{list_all}
 use Rattle.std.proofs.lemmas.Bool.{ltb-true, ltb-false}
 use Rattle.std.proofs.lemmas.List.{drop-append-le}
@@ -89,6 +89,10 @@ form_begun setting reader bytes x start stop next after is = by_state reader.sta
   by_state (Open stage) a = form_from setting reader.start _ x start stop next (sym (a.1 []) ∙ whole)
   by_state (Refused code place) a = let e = sym (a []) ∙ whole in absurd (cc)
   by_state OutOfMemory a = absurd a
+
+-- a byte more of a piece
+pub piece_more : (bytes piece : List ℕ) (k byte : ℕ) → take (k + 1) piece ≡ take k piece ++ byte ∷ [] → (bytes ++ take k piece) ++ byte ∷ [] ≡ bytes ++ take (k + 1) piece
+piece_more bytes piece k byte taken = append_assoc bytes (take k piece) (byte ∷ []) ∙ ap (λ t. bytes ++ t) (sym taken)
 
 -- one byte more is kept
 pub kept_more : (text bytes : List ℕ) (byte dropped : ℕ) → dropped ≤ length bytes → text ≡ drop dropped bytes → text ++ byte ∷ [] ≡ drop dropped (bytes ++ byte ∷ [])

@@ -1,5 +1,5 @@
 -- What a session has read and not answered yet: what is pending, and what one byte more, or the end of the input, is to it.
-use Rattle.std.specs.Prelude.{◌≡◌, ℕ, ◌+◌, Bool, true, cond, List, [], ◌++◌, length, drop}
+use Rattle.std.specs.Prelude.{◌≡◌, ℕ, ◌+◌, ◌<◌, ◌≤◌, Bool, true, cond, List, [], ◌++◌, length, drop}
 use Rattle.lisp_object.specs.Object.{Object, IsSound}
 use Rattle.lisp_object.specs.Datum.{object_of, is_proper}
 use Rattle.plist_state.specs.State.{State as World}
@@ -7,6 +7,7 @@ use Rattle.form_reader.specs.Reader.{begun, fed, limits_of, IsAfter, MayGoOn}
 use Rattle.form_reader.specs.Reading.{form, empty, refused}
 use Rattle.prevalence_store.specs.declared.input.Pending.{Pending}
 use Rattle.prevalence_store.specs.declared.input.Fed.{Fed}
+use Rattle.prevalence_store.specs.declared.input.FedPiece.{FedPiece}
 use Rattle.prevalence_store.specs.declared.input.Fed.TheVariants.{Nothing, Form, Refused}
 use Rattle.prevalence_store.specs.declared.mode.Mode.{Mode}
 use Rattle.prevalence_store.specs.Acceptance.{between, form_limits, read_in, setting_in}
@@ -38,11 +39,17 @@ pub record HasRefusal (functions : Functions) (world : World) (mode : Mode) (byt
   pub place : ℕ
   pub reads : (more : List ℕ) → read_in functions world mode (bytes ++ more) ≡ refused number place
 
--- what the bytes are with one byte more, the last of these
+-- what the bytes are with more that were fed, the last of these
 abbrev pub Feeds : Functions → World → Mode → Pending → List ℕ → Fed → Type 0
 Feeds functions world mode pending bytes Nothing = IsPending functions world mode pending bytes
 Feeds functions world mode pending bytes (Form datum own left) = HasForm functions world mode pending bytes (object_of datum) own.items left
 Feeds functions world mode pending bytes (Refused number) = HasRefusal functions world mode bytes number
+
+-- Of a piece some bytes were fed: the first of them that decides something is the last that was; where none does, all were.
+pub record TakesPart (piece : List ℕ) (part : FedPiece) : Type 0 where
+  pub some : 0 < part.taken
+  pub within : part.taken ≤ length piece
+  pub all : part.fed ≡ Nothing → part.taken ≡ length piece
 
 -- the bytes are a form to their end, and this is its own text
 pub record IsLastForm (functions : Functions) (world : World) (mode : Mode) (bytes : List ℕ) (object : Object) (own : List ℕ) : Type 0 where

@@ -1,5 +1,5 @@
--- One turn of a session: what one byte more comes to.
-use Rattle.std.specs.Prelude.{◌≡◌, ◌≢◌, ◌⊎◌, ℕ, ◌+◌, ◌<◌, ◌≤◌, Bool, true, false, List, [], ◌∷◌, ◌++◌, length, Option, None, Some, IsSome, Ok, Err, Result}
+-- One turn of a session: what a piece more comes to, up to the first byte that decides something.
+use Rattle.std.specs.Prelude.{◌≡◌, ◌≢◌, ◌⊎◌, ℕ, ◌+◌, ◌<◌, ◌≤◌, Bool, true, false, List, [], ◌∷◌, ◌++◌, length, drop, Option, None, Some, IsSome, Ok, Err, Result}
 use Rattle.disk_trait.specs.Disk.{State}
 use Rattle.gate_log.specs.Layout.{Entry}
 use Rattle.lisp_object.specs.Object.{Object, IsSound}
@@ -14,7 +14,7 @@ use Rattle.prevalence_store.specs.declared.input.Pending.{Pending}
 use Rattle.prevalence_store.specs.declared.mode.Mode.{Mode}
 use Rattle.prevalence_store.specs.declared.schedule.Schedule.{Schedule}
 use Rattle.prevalence_store.specs.declared.turn.Turn.{Turn}
-use Rattle.prevalence_store.specs.declared.turn.Turn.TheVariants.{Taken, Left, Ended}
+use Rattle.prevalence_store.specs.declared.turn.Turn.TheVariants.{Taken, Ended}
 use Rattle.prevalence_store.specs.declared.outcome.Ending.{Ending}
 use Rattle.prevalence_store.specs.declared.outcome.Ending.TheVariants.{End, Reader, Store}
 use Rattle.prevalence_store.specs.Acceptance.{between, read_in}
@@ -193,14 +193,15 @@ module _ (functions : Functions) {D R : Type 0} (state : D → State) (pace late
   Answers None = GoesOn functions state pace later old new world mode text held written pending []
   Answers (Some ending) = (more : List ℕ) → HasEnded functions state pace old new world mode (text ++ more) held written ending
 
-  -- the last byte is the first of what follows a form
-  pub record LeavesByte (byte : ℕ) : Type 0 where
-    pub goes : GoesOn functions state pace later old new world mode text held written pending (byte ∷ [])
-    pub alone : goes.bytes ≡ []
-    pub not_first : 1 < length text
+  -- What a turn comes to, where the text ends with this piece: so many bytes of the piece were taken, and those after them are
+  -- left; or the session has ended.
+  abbrev pub TurnsInto : List ℕ → Turn → Type 0
+  TurnsInto piece (Taken count) = GoesOn functions state pace later old new world mode text held written pending (drop count piece)
+  TurnsInto piece (Ended ending) = Answers (Some ending)
 
-  -- what a turn comes to, with the last byte of the text
-  abbrev pub TurnsInto : ℕ → Turn → Type 0
-  TurnsInto byte Taken = Answers None
-  TurnsInto byte Left = LeavesByte byte
-  TurnsInto byte (Ended ending) = Answers (Some ending)
+-- Of so many bytes a turn takes some; or it takes none, where what was pending before it is a form, and the first of these bytes
+-- follows it. Before and after it so many bytes are pending.
+abbrev pub TakesSome : (before after many : ℕ) → Turn → Type 0
+TakesSome before after many (Taken count) =
+    (count ≤ many) × (after ≤ before + count) × ((0 < count) ⊎ ((0 < before) × (after ≡ 0)))
+TakesSome before after many (Ended ending) = Unit {0}

@@ -1,18 +1,19 @@
 // What a session has read and not answered yet.
-ghost use Rattle.std.specs.Prelude.{◌≡◌, ◌+◌, ◌<◌, ◌≤◌, ◌^◌, ℕ, List, [], ◌∷◌, ◌++◌, drop, length, true, IfOk, OnOk, vec_len};
+ghost use Rattle.std.specs.Prelude.{◌≡◌, ◌+◌, ◌<◌, ◌≤◌, ◌^◌, ℕ, List, [], ◌∷◌, ◌++◌, drop, take, length, true, IfOk, OnOk, vec_len};
 ghost use Rattle.std.specs.List.{list_all};
 ghost use Rattle.readtable_core.specs.Names.{is_among};
 ghost use Rattle.plist_state.specs.State.{State as LispWorld};
 ghost use Rattle.form_reader.specs.Reader.{fed, begun, limits_of, IsAfter, Steps, BeginsLater, IsOutcome, IsSoundStep};
-ghost use Rattle.prevalence_store.specs.Acceptance.{between, form_limits, read_in, setting_in};
+ghost use Rattle.prevalence_store.specs.Acceptance.{between, form_limits, read_in, setting_in, table_in};
 ghost use Rattle.prevalence_store.specs.Functions.{Functions, functions_of};
-ghost use Rattle.prevalence_store.specs.Pending.{IsPending, IsSoundFed, Feeds, Finishes};
+ghost use Rattle.prevalence_store.specs.Pending.{IsPending, IsSoundFed, Feeds, Finishes, TakesPart};
 
 use crate::mode::Mode;
 use crate::setting::{package_in, readtable_in};
 use form_reader::{FormReader, Limits, ReadOutcome, Step};
 use lisp_object::Datum;
 use plist_state::World;
+use readtable_core::Readtable;
 use std::alloc::{AllocError, Global};
 use user_macros::MacroFunctions;
 
@@ -25,12 +26,12 @@ pub(crate) struct Pending {
     dropped: usize,
 }
 
-/// What one byte more, or the end of the input, is to what is pending.
+/// What bytes more, or the end of the input, are to what is pending.
 #[derive(Drop)]
 pub(crate) enum Fed {
     /// There is no form yet; at the end, there is none.
     Nothing,
-    /// A form, and its own text. Where `left`, the byte is the first of what follows it.
+    /// A form, and its own text. Where `left`, the last byte is the first of what follows it.
     Form {
         datum: Datum,
         own: Vec<u8>,
@@ -38,6 +39,14 @@ pub(crate) enum Fed {
     },
     /// The number of a refusal.
     Refused(u16),
+}
+
+/// What a piece of the input is to what is pending, up to the first byte that decides something.
+#[derive(Drop)]
+pub(crate) struct FedPiece {
+    pub(crate) fed: Fed,
+    /// How many bytes were fed.
+    pub(crate) taken: usize,
 }
 
 impl Pending {
@@ -53,10 +62,49 @@ impl Pending {
         }
     }
 
-    /// One byte more, in the same world and mode as the bytes since the last form.
+    /// The bytes of a piece, in the same world and mode as those since the last form, up to the first that decides something.
+    /// The readtable is looked up once.
     pub(crate) fn feed<R: MacroFunctions>(
         &mut self,
         alloc: Global,
+        world: &World,
+        macros: &R,
+        mode: Mode,
+        piece: &[u8],
+    ) -> Result<FedPiece, AllocError>
+        requires answers { R.answers macros.now }
+        requires whole { list_all (is_among (R.registered macros.now)) R.Meaning.names ≡ true }
+        requires pending { (bytes : List ℕ)
+            × IsPending (functions_of R.Meaning.names R.Meaning.way R.Meaning.answer) world.now.0 mode self.old bytes }
+        requires some { 0 < length piece.now }
+        requires count { fed self.old.reader + length piece.now ≤ 2 ^ 63 }
+        ensures feeds { (bytes : List ℕ)
+            → IsPending (functions_of R.Meaning.names R.Meaning.way R.Meaning.answer) world.now.0 mode self.old bytes
+            → IfOk result (λ part. Feeds (functions_of R.Meaning.names R.Meaning.way R.Meaning.answer) world.now.0 mode self.new
+            (bytes ++ take part.taken piece.now) part.fed) }
+        ensures part { IfOk result (TakesPart piece.now) }
+        ensures sound { IfOk result (λ part. IsSoundFed part.fed) }
+        ensures count { fed self.new.reader ≤ fed self.old.reader + length piece.now }
+        ensures taken { IfOk result (λ part. fed self.new.reader ≤ fed self.old.reader + part.taken) }
+    {
+        let readtable = readtable_in(world, mode);
+        let mut taken = 0;
+        'bytes: for byte in piece {
+            taken += 1;
+            match self.feed_byte(alloc, readtable, world, macros, mode, *byte)? {
+                Fed::Nothing => {}
+                fed => return Ok(FedPiece { fed, taken }),
+            }
+        }
+        let fed = Fed::Nothing;
+        Ok(FedPiece { fed, taken })
+    }
+
+    // One byte more, under the readtable of the world.
+    fn feed_byte<R: MacroFunctions>(
+        &mut self,
+        alloc: Global,
+        readtable: &Readtable,
         world: &World,
         macros: &R,
         mode: Mode,
@@ -64,6 +112,7 @@ impl Pending {
     ) -> Result<Fed, AllocError>
         requires answers { R.answers macros.now }
         requires whole { list_all (is_among (R.registered macros.now)) R.Meaning.names ≡ true }
+        requires table { readtable.now ≡ table_in world.now.0 mode }
         requires pending { (bytes : List ℕ)
             × IsPending (functions_of R.Meaning.names R.Meaning.way R.Meaning.answer) world.now.0 mode self.old bytes }
         requires count { fed self.old.reader < 2 ^ 63 }
@@ -75,7 +124,7 @@ impl Pending {
         ensures count { fed self.new.reader ≤ fed self.old.reader + 1 }
     {
         self.text.push(byte)?;
-        match step_in(&mut self.reader, world, macros, mode, byte)? {
+        match step_in(&mut self.reader, readtable, world, macros, mode, byte)? {
             Step::More => {
                 self.discard(alloc)?;
                 Ok(Fed::Nothing)
@@ -177,9 +226,10 @@ fn own_text(
     Vec::from_slice(alloc, &text[start - dropped..end - dropped])
 }
 
-// One byte more to a reader, as the world reads in this mode.
+// One byte more to a reader, as the world reads in this mode, under its readtable.
 fn step_in<R: MacroFunctions>(
     reader: &mut FormReader,
+    readtable: &Readtable,
     world: &World,
     macros: &R,
     mode: Mode,
@@ -187,6 +237,7 @@ fn step_in<R: MacroFunctions>(
 ) -> Result<Step, AllocError>
     requires answers { R.answers macros.now }
     requires whole { list_all (is_among (R.registered macros.now)) R.Meaning.names ≡ true }
+    requires table { readtable.now ≡ table_in world.now.0 mode }
     requires limits { limits_of reader.old ≡ form_limits }
     requires count { fed reader.old < 2 ^ 63 }
     ensures steps { (bytes : List ℕ)
@@ -198,7 +249,6 @@ fn step_in<R: MacroFunctions>(
     ensures begun { IfOk result (BeginsLater reader.old reader.new) }
     ensures sound { IfOk result IsSoundStep }
 {
-    let readtable = readtable_in(world, mode);
     let package = package_in(world, mode);
     reader.step(byte, readtable, world.packages(), package, macros)
 }

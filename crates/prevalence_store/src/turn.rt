@@ -1,14 +1,12 @@
-// One byte of a session.
+// One turn of a session.
 
 use crate::outcome::Ending;
 
-/// What a byte of the input comes to in a session.
+/// What a piece of the input comes to in a session, up to the first byte that decides something.
 #[derive(Clone, Copy)]
 pub(crate) enum Turn {
-    /// The byte is part of what is open, or of the form that was answered.
-    Taken,
-    /// A form was answered, and the byte is the first of what follows it.
-    Left,
+    /// So many bytes are part of what is open, or of the form that was answered. Those after them are left.
+    Taken(usize),
     /// The session has ended.
     Ended(Ending),
 }

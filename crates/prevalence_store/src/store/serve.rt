@@ -1,5 +1,5 @@
 // A session: forms from a reader, answers to a writer.
-ghost use Rattle.std.specs.Prelude.{◌≡◌, ◌≤◌, ◌<◌, ◌+◌, ◌^◌, ℕ, List, [], ◌∷◌, ◌++◌, None, Some, IsSome, IsNone, IfOk, IfErr, OnOk, OnErr, true, length};
+ghost use Rattle.std.specs.Prelude.{◌≡◌, ◌≤◌, ◌<◌, ◌+◌, ◌^◌, ℕ, List, [], ◌∷◌, ◌++◌, None, Some, IsSome, IsNone, IfOk, IfErr, OnOk, OnErr, true, length, take};
 ghost use Rattle.std.specs.List.{list_all};
 ghost use Rattle.lisp_object.specs.Object.{IsSound};
 ghost use Rattle.lisp_object.specs.Datum.{object_of, is_proper};
@@ -8,13 +8,13 @@ ghost use Rattle.readtable_core.specs.Names.{is_among};
 ghost use Rattle.plist_state.specs.State.{State as LispWorld};
 ghost use Rattle.form_reader.specs.Reader.{fed};
 ghost use Rattle.prevalence_store.specs.Functions.{functions_of};
-ghost use Rattle.prevalence_store.specs.Pending.{IsPending, IsSoundFed, Feeds, Finishes};
+ghost use Rattle.prevalence_store.specs.Pending.{IsPending, IsSoundFed, Feeds, Finishes, TakesPart};
 ghost use Rattle.prevalence_store.specs.Serving.{Serves, ServesInPace, ServesInput};
 ghost use Rattle.prevalence_store.specs.Streams.{Writes, WritesPart};
-ghost use Rattle.prevalence_store.specs.Turns.{Answers, AnswersFault, AnswersForm, BeginsWith, FitsForm, IsFormOf, IsLine, IsStop, Renewing, RenewsInTurn, TriesForm, TurnsInto, is_logged, pace_of};
+ghost use Rattle.prevalence_store.specs.Turns.{Answers, AnswersFault, AnswersForm, BeginsWith, FitsForm, IsFormOf, IsLine, IsStop, Renewing, RenewsInTurn, TakesSome, TriesForm, TurnsInto, is_logged, pace_of};
 
 use crate::failure::Failure;
-use crate::input::{Fed, Pending};
+use crate::input::{Fed, FedPiece, Pending};
 use crate::mode::Mode;
 use crate::outcome::{Ending, Outcome};
 use crate::output::{OutputFault, line_of_answer, line_of_refusal, write_text};
@@ -113,103 +113,82 @@ impl<D: Disk, R: MacroFunctions> Store<D, R> {
         ensures honest { (D.state self.new.disk).honest ≡ (D.state self.old.disk).honest }
         ensures macros { self.new.macros ≡ self.old.macros }
     {
-        'bytes: for byte in piece {
-            match self.answer_byte(pending, writer, mode, schedule, *byte) {
-                Some(ending) => return Some(ending),
-                None => {}
+        let mut rest = piece;
+        'turns: while !rest.is_empty() {
+            match self.turn(pending, writer, mode, schedule, rest) {
+                Turn::Taken(count) => rest = &rest[count..],
+                Turn::Ended(ending) => return Some(ending),
             }
         }
         None
     }
 
-    // Answers what one byte more decides. Where it is the first one after a form, it is fed twice.
-    fn answer_byte<W: Write>(
-        &mut self,
-        pending: &mut Pending,
-        writer: &mut W,
-        mode: Mode,
-        schedule: &mut Schedule,
-        byte: u8,
-    ) -> Option<Ending>
-        requires answers { R.answers self.old.macros }
-        requires whole { list_all (is_among (R.registered self.old.macros)) R.Meaning.names ≡ true }
-        requires known { IsSome self.old.world }
-        requires pending { (w : LispWorld) → self.old.world ≡ Some w → (bytes : List ℕ)
-            × IsPending (functions_of R.Meaning.names R.Meaning.way R.Meaning.answer) w mode pending.old bytes }
-        requires count { fed pending.old.reader < 2 ^ 63 }
-        ensures answers { (w : LispWorld) → self.old.world ≡ Some w → (bytes : List ℕ)
-            → IsPending (functions_of R.Meaning.names R.Meaning.way R.Meaning.answer) w mode pending.old bytes
-            → Answers (functions_of R.Meaning.names R.Meaning.way R.Meaning.answer) D.state (pace_of schedule.old) (pace_of schedule.new) self.old self.new w mode
-            (bytes ++ byte ∷ []) (W.contents writer.old) (W.contents writer.new) pending.new result }
-        ensures count { fed pending.new.reader ≤ fed pending.old.reader + 1 }
-        ensures honest { (D.state self.new.disk).honest ≡ (D.state self.old.disk).honest }
-        ensures macros { self.new.macros ≡ self.old.macros }
-    {
-        match self.turn(pending, writer, mode, schedule, byte) {
-            Turn::Taken => None,
-            Turn::Ended(ending) => Some(ending),
-            Turn::Left => match self.turn(pending, writer, mode, schedule, byte) {
-                Turn::Taken => None,
-                Turn::Ended(ending) => Some(ending),
-                Turn::Left => None,
-            },
-        }
-    }
-
-    // Feeds one byte more, and answers the form that it ends.
+    // Feeds a piece up to the first byte that decides something, and answers the form that it ends.
     fn turn<W: Write>(
         &mut self,
         pending: &mut Pending,
         writer: &mut W,
         mode: Mode,
         schedule: &mut Schedule,
-        byte: u8,
+        piece: &[u8],
     ) -> Turn
         requires answers { R.answers self.old.macros }
         requires whole { list_all (is_among (R.registered self.old.macros)) R.Meaning.names ≡ true }
         requires known { IsSome self.old.world }
         requires pending { (w : LispWorld) → self.old.world ≡ Some w → (bytes : List ℕ)
             × IsPending (functions_of R.Meaning.names R.Meaning.way R.Meaning.answer) w mode pending.old bytes }
-        requires count { fed pending.old.reader < 2 ^ 63 }
+        requires some { 0 < length piece.now }
+        requires count { fed pending.old.reader + length piece.now ≤ 2 ^ 63 }
         ensures turns { (w : LispWorld) → self.old.world ≡ Some w → (bytes : List ℕ)
             → IsPending (functions_of R.Meaning.names R.Meaning.way R.Meaning.answer) w mode pending.old bytes
             → TurnsInto (functions_of R.Meaning.names R.Meaning.way R.Meaning.answer) D.state (pace_of schedule.old) (pace_of schedule.new) self.old self.new w mode
-            (bytes ++ byte ∷ []) (W.contents writer.old) (W.contents writer.new) pending.new byte result }
-        ensures count { fed pending.new.reader ≤ fed pending.old.reader + 1 }
+            (bytes ++ piece.now) (W.contents writer.old) (W.contents writer.new) pending.new piece.now result }
+        ensures some { TakesSome (fed pending.old.reader) (fed pending.new.reader) (length piece.now) result }
+        ensures count { fed pending.new.reader ≤ fed pending.old.reader + length piece.now }
         ensures honest { (D.state self.new.disk).honest ≡ (D.state self.old.disk).honest }
         ensures macros { self.new.macros ≡ self.old.macros }
     {
-        let fed = match self.feed(pending, mode, byte) {
-            Ok(fed) => fed,
+        let FedPiece { fed, taken } = match self.feed(pending, mode, piece) {
+            Ok(part) => part,
             Err(_) => return Turn::Ended(Ending::Store(NO_MEMORY)),
         };
         match fed {
-            Fed::Nothing => Turn::Taken,
+            Fed::Nothing => Turn::Taken(taken),
             Fed::Refused(code) => Turn::Ended(self.answer_fault(writer, code)),
             Fed::Form { datum, own, left } => {
                 match self.answer_form(writer, mode, schedule, &datum, own.as_slice()) {
                     Some(number) => Turn::Ended(Ending::Store(number)),
-                    None => { if left { Turn::Left } else { Turn::Taken } }
+                    None => {
+                        if left {
+                            Turn::Taken(taken - 1)
+                        } else {
+                            Turn::Taken(taken)
+                        }
+                    }
                 }
             }
         }
     }
 
-    // Feeds one byte more, as the world reads.
-    fn feed(&self, pending: &mut Pending, mode: Mode, byte: u8) -> Result<Fed, AllocError>
+    // Feeds a piece up to the first byte that decides something, as the world reads.
+    fn feed(&self, pending: &mut Pending, mode: Mode, piece: &[u8]) -> Result<FedPiece, AllocError>
         requires answers { R.answers self.now.macros }
         requires whole { list_all (is_among (R.registered self.now.macros)) R.Meaning.names ≡ true }
         requires known { IsSome self.now.world }
         requires pending { (w : LispWorld) → self.now.world ≡ Some w → (bytes : List ℕ)
             × IsPending (functions_of R.Meaning.names R.Meaning.way R.Meaning.answer) w mode pending.old bytes }
-        requires count { fed pending.old.reader < 2 ^ 63 }
+        requires some { 0 < length piece.now }
+        requires count { fed pending.old.reader + length piece.now ≤ 2 ^ 63 }
         ensures feeds { (w : LispWorld) → self.now.world ≡ Some w → (bytes : List ℕ)
             → IsPending (functions_of R.Meaning.names R.Meaning.way R.Meaning.answer) w mode pending.old bytes
-            → IfOk result (Feeds (functions_of R.Meaning.names R.Meaning.way R.Meaning.answer) w mode pending.new (bytes ++ byte ∷ [])) }
-        ensures sound { IfOk result IsSoundFed }
-        ensures count { fed pending.new.reader ≤ fed pending.old.reader + 1 }
+            → IfOk result (λ part. Feeds (functions_of R.Meaning.names R.Meaning.way R.Meaning.answer) w mode pending.new
+            (bytes ++ take part.taken piece.now) part.fed) }
+        ensures part { IfOk result (TakesPart piece.now) }
+        ensures sound { IfOk result (λ part. IsSoundFed part.fed) }
+        ensures count { fed pending.new.reader ≤ fed pending.old.reader + length piece.now }
+        ensures taken { IfOk result (λ part. fed pending.new.reader ≤ fed pending.old.reader + part.taken) }
     {
-        pending.feed(self.alloc, &self.world, &self.macros, mode, byte)
+        pending.feed(self.alloc, &self.world, &self.macros, mode, piece)
     }
 
     // Answers what is pending at the end of the input.

@@ -1,36 +1,47 @@
-use Rattle.std.proofs.Common.{◌∷◌, [], ◌++◌, refl, ◌∙◌, arith}
+use Rattle.std.proofs.Common.{◌+◌, ◌++◌, take, sym, subst, arith}
+use Rattle.std.proofs.lemmas.List.{take_more}
 use Rattle.prevalence_store.specs.Functions.{functions_of}
-use Rattle.prevalence_store.proofs.Pendings.{fed_places, has_form, kept_count, kept_more, dropped_within}
+use Rattle.prevalence_store.specs.Pending.{Feeds}
+use Rattle.prevalence_store.specs.declared.input.Fed.{Fed}
+use Rattle.prevalence_store.proofs.Pendings.{piece_more}
 use Rattle.prevalence_store.proofs.input.Pending.feed.Goals as goal
 
-pub own_text-requires-clause-order : goal.own_text-requires-clause-order
-own_text-requires-clause-order g c =
-    let functions = functions_of g.R.Meaning.Meaning.names g.R.Meaning.Meaning.way g.R.Meaning.Meaning.answer in
-    let p = c.requires.pending in
-    let f = c.in-Form in
-    let places = fed_places functions c.args.world.now.0 c.args.mode c.args.self.now p.0 p.1 c.args.byte c.step_in.new.reader c.in_ok-step_in.field-0 f.datum f.start f.end f.next f.is
-    (c.in_ok-step_in.ensures.steps p.0 p.1.after) c.in_ok-step_in.ensures.begun in
-    let order = places.order in omega arith
+pub bytes-preserved : goal.bytes-preserved
+bytes-preserved g c =
+    let invariant = c.bytes.invariant in
+    record {
+      taken = let same = invariant.taken in omega arith;
+      count = let one = c.in_ok-fed.ensures.count in let so_far = invariant.count in omega arith;
+      goes = λ bytes p.
+          let functions = functions_of g.R.Meaning.Meaning.names g.R.Meaning.Meaning.way g.R.Meaning.Meaning.answer in
+          let piece = c.args.piece.now in
+          let k = c.bytes.byte-index in
+          subst (λ (f : Fed). Feeds functions c.args.world.now.0 c.args.mode c.feed_byte.new.self (bytes ++ take (k + 1) piece) f) c.in-Nothing.is
+          (subst (λ t. Feeds functions c.args.world.now.0 c.args.mode c.feed_byte.new.self t c.in_ok-fed.fed) (piece_more bytes piece k _ (take_more piece k 0 c.bytes-test.true))
+          (c.in_ok-fed.ensures.feeds (bytes ++ take k piece) (invariant.goes bytes p)));
+    }
 
-pub own_text-requires-clause-within : goal.own_text-requires-clause-within
-own_text-requires-clause-within g c =
-    let functions = functions_of g.R.Meaning.Meaning.names g.R.Meaning.Meaning.way g.R.Meaning.Meaning.answer in
-    let p = c.requires.pending in
-    let f = c.in-Form in
-    let places = fed_places functions c.args.world.now.0 c.args.mode c.args.self.now p.0 p.1 c.args.byte c.step_in.new.reader c.in_ok-step_in.field-0 f.datum f.start f.end f.next f.is
-    (c.in_ok-step_in.ensures.steps p.0 p.1.after) c.in_ok-step_in.ensures.begun in
-    omega (arith, places.within, places.after, kept_count functions c.args.world.now.0 c.args.mode c.args.self.now p.0 p.1, c.as_slice.ensures.len, c.in_ok-push.ensures.len, c.args.self.now.text.ok.0)
-
-pub returns-in_ok-own-in-Form-clause-feeds : goal.returns-in_ok-own-in-Form-clause-feeds
-returns-in_ok-own-in-Form-clause-feeds g c = λ bytes p.
-    let functions = functions_of g.R.Meaning.Meaning.names g.R.Meaning.Meaning.way g.R.Meaning.Meaning.answer in
-    let w = c.args.world.now.0 in
-    let f = c.in-Form in
-    let steps = c.in_ok-step_in.ensures.steps bytes p.after in
-    let places = fed_places functions w c.args.mode c.args.self.now bytes p c.args.byte c.step_in.new.reader c.in_ok-step_in.field-0 f.datum f.start f.end f.next f.is
-    steps c.in_ok-step_in.ensures.begun in
-    has_form functions w c.args.mode c.args.self.now bytes p c.args.byte c.step_in.new.reader c.in_ok-step_in.field-0 f.datum f.start f.end f.next f.is steps
-    _ c.in_ok-own-in-Form.own.items c.len.result places refl c.clear.ensures.items refl (c.step_in.ensures.limits ∙ p.limits)
-    (omega (arith, kept_count functions w c.args.mode c.args.self.now bytes p, c.len.ensures, c.in_ok-push.ensures.len, c.args.self.now.text.ok.0))
-    (c.in_ok-own-in-Form.ensures (bytes ++ c.args.byte ∷ [])
-    (c.as_slice.ensures.value ∙ c.in_ok-push.ensures.items ∙ kept_more c.args.self.now.text.items bytes c.args.byte c.args.self.now.dropped (dropped_within functions w c.args.mode c.args.self.now bytes p) p.kept))
+pub returns-in_default : goal.returns-in_default
+returns-in_default g c =
+    let invariant = c.bytes.invariant in
+    let many = c.bytes-test.true in
+    let one = c.in_ok-fed.ensures.count in
+    let so_far = invariant.count in
+    let same = invariant.taken in
+    record {
+      feeds = λ bytes p.
+          let functions = functions_of g.R.Meaning.Meaning.names g.R.Meaning.Meaning.way g.R.Meaning.Meaning.answer in
+          let piece = c.args.piece.now in
+          let k = c.bytes.byte-index in
+          subst (λ n. Feeds functions c.args.world.now.0 c.args.mode c.feed_byte.new.self (bytes ++ take (n + 1) piece) c.in_ok-fed.fed) (sym same)
+          (subst (λ t. Feeds functions c.args.world.now.0 c.args.mode c.feed_byte.new.self t c.in_ok-fed.fed) (piece_more bytes piece k _ (take_more piece k 0 c.bytes-test.true))
+          (c.in_ok-fed.ensures.feeds (bytes ++ take k piece) (invariant.goes bytes p)));
+      part = record {
+        some = omega arith;
+        within = omega arith;
+        all = λ nothing. absurd (c.in_default.not-Nothing nothing);
+      };
+      sound = c.in_ok-fed.ensures.sound;
+      count = omega arith;
+      taken = omega arith;
+    }
