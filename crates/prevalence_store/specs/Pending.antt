@@ -1,4 +1,4 @@
--- What a session has read and not answered yet: what is pending, and what one byte more, or the end of the input, is to it.
+-- What a session has read and not answered yet: what is pending, and what more bytes, or the end of the input, are to it.
 use Rattle.std.specs.Prelude.{◌≡◌, ℕ, ◌+◌, ◌<◌, ◌≤◌, Bool, true, cond, List, [], ◌++◌, length, drop}
 use Rattle.lisp_object.specs.Object.{Object, IsSound}
 use Rattle.lisp_object.specs.Datum.{object_of, is_proper}
@@ -39,7 +39,7 @@ pub record HasRefusal (functions : Functions) (world : World) (mode : Mode) (byt
   pub place : ℕ
   pub reads : (more : List ℕ) → read_in functions world mode (bytes ++ more) ≡ refused number place
 
--- what the bytes are with more that were fed, the last of these
+-- what these bytes are, the last of which were fed now
 abbrev pub Feeds : Functions → World → Mode → Pending → List ℕ → Fed → Type 0
 Feeds functions world mode pending bytes Nothing = IsPending functions world mode pending bytes
 Feeds functions world mode pending bytes (Form datum own left) = HasForm functions world mode pending bytes (object_of datum) own.items left
