@@ -33,7 +33,7 @@ use Rattle.form_reader.specs.Plans.{gives, refuses}
 use Rattle.form_reader.specs.Setting.{Setting, macro_call}
 use Rattle.form_reader.specs.Reading.{answered, finished, completed_by, completed}
 use Rattle.form_reader.specs.Feeding.{GoesOn, is_going}
-use Rattle.form_reader.specs.Memory.{may_cost, gives_object, call_may_cost}
+use Rattle.form_reader.specs.Memory.{may_cost, gives_object, function_may_cost, call_may_cost}
 use Rattle.form_reader.proofs.FedTokens.{cut}
 use Rattle.lisp_object.specs.declared.refusal.TheConstants.{MACRO_ANSWER}
 
@@ -50,28 +50,29 @@ answer_costs packages nesting round token spaced improper = refl
 answer_costs packages nesting round token spaced (refused code) = refl
 
 pub user_call_costs : (needs : Bool) (setting : Setting) (round : ℕ) (call : InvokedCall) (name : List ℕ) (token spaced : Bool) (material : Material) → call.function ≡ User name
-    → call_may_cost needs call.function (completed setting round call token spaced material) ≡ true
+    → call_may_cost needs call material (completed setting round call token spaced material) ≡ true
 user_call_costs needs setting round call name token spaced material e =
-    ap (λ (f : Function). call_may_cost needs f (completed_by setting round call f token spaced material)) e
+    ap (λ (f : Function). function_may_cost needs f call.number material (completed_by setting round call f token spaced material)) e
     ∙ answer_costs setting.packages setting.limits.nesting round token spaced (setting.answer name (macro_call call material))
 
 -- a standard function gives an object, for which it needs memory
 pub standard_call_costs : (needs : Bool) (setting : Setting) (round : ℕ) (call : InvokedCall) (kind : Standard) (token spaced : Bool) (material : Material) → call.function ≡ AStandard kind
-    → gives_object (finished token (value_of kind setting.table.letters call.number material)) ≡ true → takes_memory kind ≡ true
-    → call_may_cost needs call.function (completed setting round call token spaced material) ≡ true
+    → gives_object (finished token (value_of kind setting.table.letters call.number material)) ≡ true → takes_memory kind call.number material ≡ true
+    → call_may_cost needs call material (completed setting round call token spaced material) ≡ true
 standard_call_costs needs setting round call kind token spaced material e some takes =
-    ap (λ (f : Function). call_may_cost needs f (completed_by setting round call f token spaced material)) e
-    ∙ ap (λ (b : Bool). b && (takes_memory kind || needs)) some ∙ ap (λ (b : Bool). b || needs) takes
+    ap (λ (f : Function). function_may_cost needs f call.number material (completed_by setting round call f token spaced material)) e
+    ∙ ap (λ (b : Bool). b && (takes_memory kind call.number material || needs)) some ∙ ap (λ (b : Bool). b || needs) takes
 
 pub standard_runs_out : {T : Type 0} (result : Result T AllocError) (needs : Bool) (setting : Setting) (round : ℕ) (call : InvokedCall) (kind : Standard) (token spaced : Bool) (material : Material) (letters : Case) (number : Option ℕ)
     → call.function ≡ AStandard kind → letters ≡ setting.table.letters → number ≡ call.number
-    → OnErr result (gives_object (finished token (value_of kind letters number material)) ≡ true) → OnErr result (takes_memory kind ≡ true)
-    → OnErr result (call_may_cost needs call.function (completed setting round call token spaced material) ≡ true)
+    → OnErr result (gives_object (finished token (value_of kind letters number material)) ≡ true) → OnErr result (takes_memory kind number material ≡ true)
+    → OnErr result (call_may_cost needs call material (completed setting round call token spaced material) ≡ true)
 standard_runs_out (Ok x) needs setting round call kind token spaced material letters number e same_letters same_number some takes = tt
 standard_runs_out (Err x) needs setting round call kind token spaced material letters number e same_letters same_number some takes =
     standard_call_costs needs setting round call kind token spaced material e
     (subst (λ (n : Option ℕ). gives_object (finished token (value_of kind setting.table.letters n material)) ≡ true) same_number
-    (subst (λ (l : Case). gives_object (finished token (value_of kind l number material)) ≡ true) same_letters some)) takes
+    (subst (λ (l : Case). gives_object (finished token (value_of kind l number material)) ≡ true) same_letters some))
+    (subst (λ (n : Option ℕ). takes_memory kind n material ≡ true) same_number takes)
 
 -- ---- a byte that a token takes
 

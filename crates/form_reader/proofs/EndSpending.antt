@@ -2,7 +2,7 @@
 use Rattle.std.proofs.Common.{◌≡◌, ℕ, true, false, List, length, None, Result, Ok, refl, sym, subst}
 use Rattle.std.specs.Prelude.{OnErr, Bool}
 use Rattle.std.specs.declared.alloc.AllocError.{AllocError}
-use Rattle.std_macros.specs.Values.{letters, marked}
+use Rattle.std_macros.specs.Values.{Material, letters, marked}
 use Rattle.token_scan.specs.declared.mark.Mark.{Mark}
 use Rattle.token_scan.specs.Scans.{Scan}
 use Rattle.form_reader.specs.declared.frame.Frame.{Frame}
@@ -13,7 +13,6 @@ use Rattle.form_reader.specs.declared.stage.Event.{Event}
 use Rattle.form_reader.specs.declared.stage.Event.TheVariants.{Gives as IsGiven}
 use Rattle.form_reader.specs.declared.found.Found.{Found}
 use Rattle.form_reader.specs.declared.found.Found.TheVariants.{Nothing as nothing, One as one, LoneDot as lone_dot, TheEnd as the_end}
-use Rattle.form_reader.specs.declared.way.Function.{Function}
 use Rattle.form_reader.specs.Plans.{Plan, gives}
 use Rattle.form_reader.specs.declared.stage.Stage.{Stage}
 use Rattle.form_reader.specs.declared.stage.Stage.TheVariants.{Token as AtToken, CallToken as AtCallToken, Line as AtLine}
@@ -29,19 +28,19 @@ use Rattle.form_reader.proofs.Spending.{spent_so, token_spends}
 use Rattle.form_reader.specs.Reader.{EndMayRunOutIn, EndMayRunOut}
 
 -- what is given of a call is an object, which the calls round it need memory to take
-pub found_costs : (needs : Bool) (function : Function) (found : Found) → Spends needs (Ok (IsGiven found)) (call_may_cost needs function (gives found) ≡ true)
-found_costs needs function (nothing token) = tt
-found_costs needs function (one token x) = object_costs needs function (gives (one token x)) token x refl
-found_costs needs function lone_dot = tt
-found_costs needs function the_end = tt
+pub found_costs : (needs : Bool) (call : InvokedCall) (material : Material) (found : Found) → Spends needs (Ok (IsGiven found)) (call_may_cost needs call material (gives found) ≡ true)
+found_costs needs call material (nothing token) = tt
+found_costs needs call material (one token x) = object_costs needs call material (gives (one token x)) token x refl
+found_costs needs call material lone_dot = tt
+found_costs needs call material the_end = tt
 
 -- what is given is what the call comes to
 pub what_is_given : (event : Event) (other plan : Plan Found) → other ≡ plan → IsWhatIsGiven plan event → IsWhatIsGiven other event
 what_is_given event other plan e h = subst (λ (p : Plan Found). IsWhatIsGiven p event) (sym e) h
 
-pub called_costs : (needs : Bool) (event : Event) (function : Function) (other plan : Plan Found) → other ≡ plan → Spends needs (Ok event) (call_may_cost needs function plan ≡ true)
-    → Spends needs (Ok event) (call_may_cost needs function other ≡ true)
-called_costs needs event function other plan e h = subst (λ (p : Plan Found). Spends needs (Ok event) (call_may_cost needs function p ≡ true)) (sym e) h
+pub called_costs : (needs : Bool) (event : Event) (call : InvokedCall) (material : Material) (other plan : Plan Found) → other ≡ plan → Spends needs (Ok event) (call_may_cost needs call material plan ≡ true)
+    → Spends needs (Ok event) (call_may_cost needs call material other ≡ true)
+called_costs needs event call material other plan e h = subst (λ (p : Plan Found). Spends needs (Ok event) (call_may_cost needs call material p ≡ true)) (sym e) h
 
 module _ (setting : Setting) (frames : List Frame) (at : ℕ) (result : Result Event AllocError) where
   -- what the token means
@@ -54,24 +53,24 @@ module _ (setting : Setting) (frames : List Frame) (at : ℕ) (result : Result E
 
   -- the call of the token
   pub call_token_ends : (call : InvokedCall) (scan : Scan) (marks : List Mark) (round : ℕ) → TokenStops setting.table setting.limits scan at None → marks ≡ scan.marks → round ≡ length frames
-      → Spends (is_waiting frames) result (call_may_cost (is_waiting frames) call.function (completed setting round call true false (marked marks)) ≡ true)
+      → Spends (is_waiting frames) result (call_may_cost (is_waiting frames) call (marked marks) (completed setting round call true false (marked marks)) ≡ true)
       → Spends (is_waiting frames) result (EndNeedsMemory setting frames (AtCallToken call scan) at)
   call_token_ends call scan marks round stops same open_calls h =
-      spent_so (is_waiting frames) result (call_may_cost (is_waiting frames) call.function (completed setting round call true false (marked marks)) ≡ true) (EndNeedsMemory setting frames (AtCallToken call scan) at)
+      spent_so (is_waiting frames) result (call_may_cost (is_waiting frames) call (marked marks) (completed setting round call true false (marked marks)) ≡ true) (EndNeedsMemory setting frames (AtCallToken call scan) at)
       (λ cost. (
         stops,
-        subst (λ (ms : List Mark). call_may_cost (is_waiting frames) call.function (completed setting (length frames) call true false (marked ms)) ≡ true) same
-            (subst (λ (n : ℕ). call_may_cost (is_waiting frames) call.function (completed setting n call true false (marked marks)) ≡ true) open_calls cost),
+        subst (λ (ms : List Mark). call_may_cost (is_waiting frames) call (marked ms) (completed setting (length frames) call true false (marked ms)) ≡ true) same
+            (subst (λ (n : ℕ). call_may_cost (is_waiting frames) call (marked marks) (completed setting n call true false (marked marks)) ≡ true) open_calls cost),
       )) h
 
   -- the call of the line
   pub line_ends : (call : InvokedCall) (keep : Keep) (text bytes : List ℕ) (round : ℕ) → bytes ≡ text → round ≡ length frames
-      → Spends (is_waiting frames) result (call_may_cost (is_waiting frames) call.function (completed setting round call false false (letters bytes)) ≡ true)
+      → Spends (is_waiting frames) result (call_may_cost (is_waiting frames) call (letters bytes) (completed setting round call false false (letters bytes)) ≡ true)
       → Spends (is_waiting frames) result (EndNeedsMemory setting frames (AtLine call keep text) at)
   line_ends call keep text bytes round same open_calls h =
-      spent_so (is_waiting frames) result (call_may_cost (is_waiting frames) call.function (completed setting round call false false (letters bytes)) ≡ true) (EndNeedsMemory setting frames (AtLine call keep text) at)
-      (λ cost. subst (λ (cs : List ℕ). call_may_cost (is_waiting frames) call.function (completed setting (length frames) call false false (letters cs)) ≡ true) same
-      (subst (λ (n : ℕ). call_may_cost (is_waiting frames) call.function (completed setting n call false false (letters bytes)) ≡ true) open_calls cost)) h
+      spent_so (is_waiting frames) result (call_may_cost (is_waiting frames) call (letters bytes) (completed setting round call false false (letters bytes)) ≡ true) (EndNeedsMemory setting frames (AtLine call keep text) at)
+      (λ cost. subst (λ (cs : List ℕ). call_may_cost (is_waiting frames) call (letters cs) (completed setting (length frames) call false false (letters cs)) ≡ true) same
+      (subst (λ (n : ℕ). call_may_cost (is_waiting frames) call (letters bytes) (completed setting n call false false (letters bytes)) ≡ true) open_calls cost)) h
 
   -- where it is known where the reader is
   pub stage_ends : (stage known : Stage) → stage ≡ known → Spends (is_waiting frames) result (EndNeedsMemory setting frames known at)

@@ -96,16 +96,16 @@ module _ (ends other : List Frame → InvokedCall → Material → Type 0) (grow
 -- of a call that may end there, with no open call
 pub own_call_costs : (ends : List Frame → InvokedCall → Material → Type 0) (grows : Type 0) (setting : Setting) (frames : List Frame) (at round : ℕ) (call : InvokedCall) (material : Material) (read : List ℕ → Read Found) (result : Result Event AllocError)
     → ends [] call material → round ≡ length frames → ((cs : List ℕ) → read cs ≡ plan_gives setting frames (completed setting (length frames) call false false material) at cs)
-    → ((needs : Bool) → Spends needs result (call_may_cost needs call.function (completed setting round call false false material) ≡ true))
+    → ((needs : Bool) → Spends needs result (call_may_cost needs call material (completed setting round call false false material) ≡ true))
     → Spends (needs_memory frames) result (CostsOf ends grows setting frames at read)
 own_call_costs ends grows setting frames at round call material read result own open_calls same h =
     spent_so (needs_memory frames) result _ _ (λ cost. comes_to [] frames refl call material own
-    (subst (λ (n : ℕ). call_may_cost (needs_memory frames) call.function (completed setting n call false false material) ≡ true) open_calls cost) same) (h (needs_memory frames))
+    (subst (λ (n : ℕ). call_may_cost (needs_memory frames) call material (completed setting n call false false material) ≡ true) open_calls cost) same) (h (needs_memory frames))
 
 -- what was gathered has ended
 pub ends_cost : {A : Type 0} (grows : Type 0) (setting : Setting) (frames : List Frame) (p : Plan A) (m : A → Material) (held x y : A) (at c round : ℕ) (call : InvokedCall) (result : Result Event AllocError)
     → round ≡ length frames → ((cs : List ℕ) → run setting.table setting.limits p at (c ∷ cs) ≡ Ok (x, at + 1, cs)) → y ≡ x → x ≡ held
-    → ((needs : Bool) → Spends needs result (call_may_cost needs call.function (completed setting round call false false (m y)) ≡ true))
+    → ((needs : Bool) → Spends needs result (call_may_cost needs call (m y) (completed setting round call false false (m y)) ≡ true))
     → Spends (needs_memory frames) result (CostsOf (only_call call (m held)) grows setting frames (at + 1) (λ cs. plan_gives setting frames (then_plan p (λ z. completed setting (length frames) call false false (m z))) at (c ∷ cs)))
 ends_cost {A} grows setting frames p m held x y at c round call result open_calls e same kept h =
     let on : A → Plan Found = λ z. completed setting (length frames) call false false (m z) in
@@ -134,7 +134,7 @@ module _ (setting : Setting) (frames : List Frame) (call : InvokedCall) (way : W
       goes_on (way, is, ap reads_objects e) after AtObject le tt (λ cs. until_at setting frames call way at cs after close [] e lt le refl refl)
 
   pub nothing_costs : (round : ℕ) (result : Result Event AllocError) → way_in setting call ≡ Some way → way ≡ Nothing → round ≡ length frames
-      → ((needs : Bool) → Spends needs result (call_may_cost needs call.function (completed setting round call false false no_material) ≡ true)) → Spends (needs_memory frames) result Opens
+      → ((needs : Bool) → Spends needs result (call_may_cost needs call no_material (completed setting round call false false no_material) ≡ true)) → Spends (needs_memory frames) result Opens
   nothing_costs round result is e open_calls h =
       own_call_costs (call_at_once setting call) (OpensCall setting call) setting frames at round call no_material (λ cs. OpensWith setting frames call way (inner_at setting (length frames)) at cs) result
       (is ∙ ap (λ (w : Way). Some w) e, (refl, refl, refl)) open_calls
@@ -171,9 +171,9 @@ module _ (setting : Setting) (frames : List Frame) (call : InvokedCall) (old new
       subst (λ (f : LineByte). TokenFeeds setting.table setting.limits new at c cs f (token_read setting.table setting.limits old at (c ∷ cs))) e (feeds cs)
       ∙ ap (λ (ms : List Mark). Ok (ms, at, c ∷ cs)) (sym same)
 
-  pub call_token_costs : ((needs : Bool) → call_may_cost needs call.function (completed setting round call true false (marked marks)) ≡ true) → EndsToken setting frames (AtCallToken call old) at c
+  pub call_token_costs : ((needs : Bool) → call_may_cost needs call (marked marks) (completed setting round call true false (marked marks)) ≡ true) → EndsToken setting frames (AtCallToken call old) at c
   call_token_costs cost =
-      (marks, token_stops, subst (λ (n : ℕ). call_may_cost (needs_memory frames) call.function (completed setting n call true false (marked marks)) ≡ true) open_calls (cost (needs_memory frames)))
+      (marks, token_stops, subst (λ (n : ℕ). call_may_cost (needs_memory frames) call (marked marks) (completed setting n call true false (marked marks)) ≡ true) open_calls (cost (needs_memory frames)))
 
   -- what it gives
   pub call_token_gives : (event : Event) → may_gather_token call.function ≡ true → IsWhatIsGiven (completed setting round call true false (marked marks)) event
@@ -353,7 +353,7 @@ found_runs_out setting frames (AtCallToken call scan) at c found (marks, ends, i
     with_it there (after_call call scan refl marks ends found is takes)
     (costs_so _ _ _ _ setting there (at + 1) _ (λ inner invoked material own. own) (λ opens. by_call marks ends opens) (costs_same setting there (at + 1) (λ cs. plan_gives setting frames (gives found) at (c ∷ cs)) (λ cs. stage_gives setting frames (AtCallToken call scan) at (c ∷ cs)) same cost))
 found_runs_out setting frames (AtCallToken call scan) at c (one token x) (marks, ends, is, gathers) same (taking needs) =
-    before_it (marks, ends, object_costs (needs_memory frames) call.function (completed setting (length frames) call true false (marked marks)) token x is needs)
+    before_it (marks, ends, object_costs (needs_memory frames) call (marked marks) (completed setting (length frames) call true false (marked marks)) token x is needs)
 found_runs_out setting frames (AtCallToken call scan) at c (nothing token) (marks, ends, is, gathers) same (taking needs) = cc
 found_runs_out setting frames (AtCallToken call scan) at c lone_dot (marks, ends, is, gathers) same (taking needs) = cc
 found_runs_out setting frames (AtCallToken call scan) at c the_end (marks, ends, is, gathers) same (taking needs) = cc

@@ -1,5 +1,5 @@
 -- Calls whose function gathers a token: which they are, and what they give for it.
-use Rattle.std.proofs.Common.{◌≡◌, ℕ, Bool, true, false, ◌||◌, if◌then◌else◌, List, [], ◌∷◌, Option, Some, None, Result, Ok, Err, refl, ap, ◌∙◌}
+use Rattle.std.proofs.Common.{◌≡◌, ℕ, Bool, true, false, ◌||◌, ◌&&◌, if◌then◌else◌, List, [], ◌∷◌, Option, Some, None, Result, Ok, Err, refl, ap, ◌∙◌}
 use Rattle.lisp_object.specs.Object.{Object, uninterned}
 use Rattle.readtable_core.specs.declared.table.Case.{Case}
 use Rattle.token_scan.specs.declared.mark.Mark.{Mark}
@@ -14,7 +14,7 @@ use Rattle.std_macros.specs.declared.kind.StdGather.TheVariants.{Nothing as StdN
 use Rattle.std_macros.specs.declared.refusal.StdRefusal.TheVariants.{UninternedToken}
 use Rattle.std_macros.specs.Kinds.{way_of, radix_of}
 use Rattle.std_macros.specs.Results.{takes_memory}
-use Rattle.std_macros.specs.Values.{Value, given, code_named, character_or_refused, character_of, is_own_name, rational_or_refused, radix_value, value_of, marked}
+use Rattle.std_macros.specs.Values.{Value, given, code_named, character_or_refused, character_of, is_own_name, rational_or_refused, radix_value, value_of, Material, marked}
 use Rattle.form_reader.specs.declared.found.Found.{Found}
 use Rattle.form_reader.specs.declared.found.Found.TheVariants.{One as one}
 use Rattle.form_reader.specs.declared.way.Function.{Function}
@@ -25,7 +25,7 @@ use Rattle.form_reader.specs.Calls.{InvokedCall, caller, is_token, may_gather_to
 use Rattle.form_reader.specs.Plans.{Plan, gives}
 use Rattle.form_reader.specs.Setting.{Setting, is_baseless, standard_way, way_by, way_in}
 use Rattle.form_reader.specs.Reading.{finished, completed_by, completed}
-use Rattle.form_reader.specs.Memory.{call_may_cost, is_nothing}
+use Rattle.form_reader.specs.Memory.{may_cost, gives_object, function_may_cost, call_may_cost, is_nothing}
 
 -- ---- where the way is to gather a token
 
@@ -102,20 +102,23 @@ something_found token (Err refusal) found some e none = cc
 -- where no value is given, it is by a function of a user
 pub token_gives_nothing : (needs : Bool) (setting : Setting) (round : ℕ) (call : InvokedCall) (marks : List Mark) (found : Found) → may_gather_token call.function ≡ true
     → completed setting round call true false (marked marks) ≡ gives found → is_nothing found ≡ true
-    → call_may_cost needs call.function (completed setting round call true false (marked marks)) ≡ true
+    → call_may_cost needs call (marked marks) (completed setting round call true false (marked marks)) ≡ true
 token_gives_nothing needs setting round call marks found gathers e none = by call.function gathers e
   where
     by : (function : Function) → may_gather_token function ≡ true → completed_by setting round call function true false (marked marks) ≡ gives found
-        → call_may_cost needs function (completed_by setting round call function true false (marked marks)) ≡ true
+        → function_may_cost needs function call.number (marked marks) (completed_by setting round call function true false (marked marks)) ≡ true
     by (AStandard kind) gathers e =
         absurd (something_found true (value_of kind setting.table.letters call.number (marked marks)) found (token_something kind setting.table.letters call.number marks gathers) e none)
-    by (User name) gathers e = ap (call_may_cost needs (User name)) e
+    by (User name) gathers e = ap may_cost e
 
 -- an object that the calls round it need memory to take
-pub object_costs : (needs : Bool) (function : Function) (plan : Plan Found) (token : Bool) (x : Object) → plan ≡ gives (one token x) → needs ≡ true → call_may_cost needs function plan ≡ true
-object_costs needs (User name) plan token x e is = ap (call_may_cost needs (User name)) e
-object_costs needs (AStandard kind) plan token x e is = ap (call_may_cost needs (AStandard kind)) e ∙ by (takes_memory kind) needs is
+pub object_costs : (needs : Bool) (call : InvokedCall) (material : Material) (plan : Plan Found) (token : Bool) (x : Object) → plan ≡ gives (one token x) → needs ≡ true → call_may_cost needs call material plan ≡ true
+object_costs needs call material plan token x e is = by call.function
   where
-    by : (a b : Bool) → b ≡ true → (a || b) ≡ true
-    by true b e = refl
-    by false b e = e
+    or_needs : (a b : Bool) → b ≡ true → (a || b) ≡ true
+    or_needs true b e = refl
+    or_needs false b e = e
+
+    by : (function : Function) → function_may_cost needs function call.number material plan ≡ true
+    by (User name) = ap may_cost e
+    by (AStandard kind) = ap (λ (p : Plan Found). gives_object p && (takes_memory kind call.number material || needs)) e ∙ or_needs (takes_memory kind call.number material) needs is

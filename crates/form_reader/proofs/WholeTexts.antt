@@ -1,5 +1,5 @@
 -- Where memory may run out in reading a whole text: its first byte is not refused where it stands.
-use Rattle.std.proofs.Common.{◌≡◌, ℕ, zero, suc, ◌+◌, ◌-◌, ◌<◌, Bool, true, false, List, [], ◌∷◌, ◌++◌, length, Result, Ok, Err, take, drop, refl, sym, ap, subst, ◌∙◌, append_assoc, arith}
+use Rattle.std.proofs.Common.{◌≡◌, ℕ, zero, suc, ◌+◌, ◌-◌, ◌<◌, Bool, true, false, List, [], ◌∷◌, ◌++◌, length, Result, Ok, Err, take, drop, refl, sym, ap, subst, ◌∙◌, append_assoc, arith, Option}
 use Rattle.std.proofs.lemmas.Bool.{eqb-true}
 use Rattle.std.proofs.lemmas.List.{take-append-drop}
 use Rattle.std.specs.Prelude.{◌==◌, ◌&&◌, OnErr}
@@ -17,7 +17,8 @@ use Rattle.form_reader.specs.Reading.{completed, refused, reads}
 use Rattle.form_reader.specs.Frames.{given, needs_memory, plan_gives}
 use Rattle.form_reader.specs.declared.way.Function.{Function}
 use Rattle.form_reader.specs.declared.way.Function.TheVariants.{Standard as AStandard, User}
-use Rattle.form_reader.specs.Memory.{may_cost, call_may_cost, AreOpen, as_they_were, after_token, after_call}
+use Rattle.std_macros.specs.Values.{Material}
+use Rattle.form_reader.specs.Memory.{may_cost, function_may_cost, AreOpen, as_they_were, after_token, after_call}
 use Rattle.form_reader.specs.Turning.{outcome_of}
 use Rattle.form_reader.specs.Reader.{DecideNothing, IsNew, IsAfter, NeedsMemory, undecided, token_ends, call_ends, MayRunOutIn, MayRunOut, EndMayRunOutIn, EndMayRunOut, ReadMayRunOut, ReadNeedsMemory, at_byte, at_end}
 use Rattle.form_reader.proofs.Deciding.{refusal_stays}
@@ -60,12 +61,12 @@ plan_stands setting (refuses number back) code cost e =
 plan_stands setting (takes other test on) code cost e = cc
 plan_stands setting (scans escaped limit on) code cost e = cc
 
-may_cost_so : (needs : Bool) (function : Function) (plan : Plan Found) → call_may_cost needs function plan ≡ true → may_cost plan ≡ true
-may_cost_so needs (User function) plan e = e
-may_cost_so needs (AStandard kind) (gives found) e = refl
-may_cost_so needs (AStandard kind) (refuses number back) e = cc
-may_cost_so needs (AStandard kind) (takes other test on) e = cc
-may_cost_so needs (AStandard kind) (scans escaped limit on) e = cc
+may_cost_so : (needs : Bool) (function : Function) (number : Option ℕ) (material : Material) (plan : Plan Found) → function_may_cost needs function number material plan ≡ true → may_cost plan ≡ true
+may_cost_so needs (User function) number material plan e = e
+may_cost_so needs (AStandard kind) number material (gives found) e = refl
+may_cost_so needs (AStandard kind) number material (refuses code back) e = cc
+may_cost_so needs (AStandard kind) number material (takes other test on) e = cc
+may_cost_so needs (AStandard kind) number material (scans escaped limit on) e = cc
 
 -- ---- the reader, which was fed nothing
 
@@ -79,7 +80,7 @@ needing_stands setting c (undecided more h) = undecided_stands setting c h
 needing_stands setting c (token_ends h) = absurd h
 needing_stands setting c (call_ends there inner round calls is call material own cost read) = λ code e.
     let plan : Plan Found = completed setting (length round) call false false material in
-    plan_stands setting plan code (may_cost_so (needs_memory round) call.function plan cost)
+    plan_stands setting plan code (may_cost_so (needs_memory round) call.function call.number material plan cost)
     (ap (λ (fs : List Frame). outcome_of setting 0 (plan_gives setting fs plan 1 [])) (sym (none_round inner round (sym (still_none setting there 0 c calls) ∙ is))) ∙ sym (read []) ∙ e)
 
 new_stands : (setting : Setting) (reader : FormReader) (c : ℕ) → IsNew reader → MayRunOut setting reader [] c → Stands setting c

@@ -37,6 +37,7 @@ use Rattle.form_reader.specs.Reading.{completed, is_whitespace, token_found}
 use Rattle.form_reader.specs.Naming.{IsNameMeaning}
 use Rattle.form_reader.specs.Feeding.{token_read}
 use Rattle.form_reader.specs.Frames.{close_of, close_of_frames, is_closed_by, plan_gives, calls_with, needs_memory, needs_to_take}
+use Rattle.form_reader.specs.Gathering.{is_escape}
 use Rattle.form_reader.specs.Opening.{reads_objects}
 use Rattle.form_reader.specs.Resuming.{IsStageAt, stage_gives}
 
@@ -52,11 +53,15 @@ abbrev pub gives_object : Plan Found → Bool
 gives_object (gives (one token x)) = true
 gives_object _ = false
 
--- Of a call of this function, where the innermost call round it needs memory to take an object, or none: a standard function
--- gives an object, for which it or the call round it needs memory; a function of a user is called, for which it may.
-abbrev pub call_may_cost : Bool → Function → Plan Found → Bool
-call_may_cost needs (AStandard kind) plan = gives_object plan && (takes_memory kind || needs)
-call_may_cost needs (User function) plan = may_cost plan
+-- Of a call of this function with this number, for what it has gathered, where the innermost call round it needs memory to take
+-- an object, or none: a standard function gives an object, for which it or the call round it needs memory; a function of a user
+-- is called, for which it may.
+abbrev pub function_may_cost : Bool → Function → Option ℕ → Material → Plan Found → Bool
+function_may_cost needs (AStandard kind) digits material plan = gives_object plan && (takes_memory kind digits material || needs)
+function_may_cost needs (User function) digits material plan = may_cost plan
+
+abbrev pub call_may_cost : Bool → InvokedCall → Material → Plan Found → Bool
+call_may_cost needs call material plan = function_may_cost needs call.function call.number material plan
 
 -- ---- the call that ends with a byte: which of the open calls end with it, the call, and what it has gathered
 
@@ -141,7 +146,7 @@ pub data CostsOf (ends : List Frame → InvokedCall → Material → Type 0) (gr
   goes_on : grows → (after : List Frame) (stage : Stage) → at ≤ setting.limits.text → IsStageAt at stage
       → ((cs : List ℕ) → read cs ≡ stage_gives setting after stage at cs) → CostsOf ends grows setting frames at read
   comes_to : (inner round : List Frame) → frames ≡ inner ++ round → (call : InvokedCall) (material : Material) → ends inner call material
-      → call_may_cost (needs_memory round) call.function (completed setting (length round) call false false material) ≡ true
+      → call_may_cost (needs_memory round) call material (completed setting (length round) call false false material) ≡ true
       → ((cs : List ℕ) → read cs ≡ plan_gives setting round (completed setting (length round) call false false material) at cs)
       → CostsOf ends grows setting frames at read
 
@@ -204,7 +209,7 @@ EndsToken setting frames (AtToken scan) at c =
     (marks : List Mark) × TokenEnds setting scan marks at c × (token_may_cost setting (needs_memory frames) marks ≡ true)
 EndsToken setting frames (AtCallToken call scan) at c =
     (marks : List Mark) × TokenEnds setting scan marks at c
-    × (call_may_cost (needs_memory frames) call.function (completed setting (length frames) call true false (marked marks)) ≡ true)
+    × (call_may_cost (needs_memory frames) call (marked marks) (completed setting (length frames) call true false (marked marks)) ≡ true)
 EndsToken setting frames _ at c = ⊥
 
 -- A token is open that the byte at this place ends, and this is what it is, or what its call gives.
@@ -238,12 +243,13 @@ pub data TokenGrows (setting : Setting) (scan : Scan) (at c : ℕ) : Type 0 wher
   by_call : (marks : List Mark) → TokenEnds setting scan marks at c → OpensAtPlace setting c → TokenGrows setting scan at c
 
 -- More is kept after the byte at this place, where reading goes on: one more open call, one more mark of a token, past its first
--- 32, or one more character of a text, or of a line that is kept. A block keeps nothing, nor does the number of a call.
+-- 32, or one more character of a text, which an escape is none, or of a line that is kept. A block keeps nothing, nor does the
+-- number of a call.
 abbrev pub Grows : Setting → Stage → ℕ → ℕ → Type 0
 Grows setting AtObject at c = OpensAtPlace setting c
 Grows setting (AtToken scan) at c = TokenGrows setting scan at c
 Grows setting (AtCallToken call scan) at c = TokenGrows setting scan at c
-Grows setting (AtText call terminator text) at c = Unit {0}
+Grows setting (AtText call terminator text) at c = is_escape (entry_at setting.table c).syntax ≡ false
 Grows setting (AtEscaped call terminator text) at c = Unit {0}
 Grows setting (AtLine call keep text) at c = keep ≡ Kept
 Grows setting (AtBlock call levels) at c = ⊥

@@ -106,7 +106,7 @@ pub data NeedsMemory (setting : Setting) (frames : List Frame) (stage : Stage) (
   token_ends : EndsToken setting frames stage at c → NeedsMemory setting frames stage start at bytes c
   call_ends : (there inner round : List Frame) → AreOpen setting frames stage at c there → there ≡ inner ++ round
       → (call : InvokedCall) (material : Material) → MayEndAt setting stage c inner call material
-      → call_may_cost (needs_memory round) call.function (completed setting (length round) call false false material) ≡ true
+      → call_may_cost (needs_memory round) call material (completed setting (length round) call false false material) ≡ true
       → ((cs : List ℕ) → reads setting (bytes ++ c ∷ cs)
       ≡ outcome_of setting start (plan_gives setting round (completed setting (length round) call false false material) (at + 1) cs))
       → NeedsMemory setting frames stage start at bytes c

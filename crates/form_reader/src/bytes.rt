@@ -1,7 +1,8 @@
 //! One byte of what a call gathers.
-ghost use Rattle.std.specs.Prelude.{◌≡◌, ◌≤◌, ◌<◌, ◌+◌, ◌^◌, ℕ, List, ◌∷◌, ◌++◌, [], IfOk, IfSome, OnErr, Ok, None};
+ghost use Rattle.std.specs.Prelude.{◌≡◌, ◌≤◌, ◌<◌, ◌+◌, ◌^◌, ℕ, List, ◌∷◌, ◌++◌, [], IfOk, IfSome, OnErr, Ok, None, false};
+ghost use Rattle.readtable_core.specs.Tables.{entry_at};
 ghost use Rattle.form_reader.specs.Plans.{loop, next_byte, run};
-ghost use Rattle.form_reader.specs.Gathering.{text_turn, kept, line_turn, block_turn, number_turn};
+ghost use Rattle.form_reader.specs.Gathering.{is_escape, text_turn, kept, line_turn, block_turn, number_turn};
 ghost use Rattle.form_reader.specs.Gathering.{block_next};
 ghost use Rattle.form_reader.specs.Feeding.{TextFeeds, EscapeFeeds, LineFeeds, BlockFeeds, NumberFeeds};
 ghost use Rattle.form_reader.specs.declared.bytes.TextByte.TheVariants.{More as TextMore, Escape as TextEscape, Ended as TextEnded};
@@ -57,6 +58,7 @@ pub(crate) fn text_byte(
     ensures escape { result ≡ Ok TextEscape → at < limits.now.text }
     ensures ended { result ≡ Ok TextEnded → at < limits.now.text }
     ensures same { result ≡ Ok TextEnded → text.new ≡ text.old }
+    ensures kept { OnErr result (is_escape (entry_at readtable.now c).syntax ≡ false) }
     ensures calm { OnErr result ((at < limits.now.text) × (c < 128)) }
     ensures goes { (cs : List ℕ) → OnErr result
         (run readtable.now limits.now (loop limits.now (text_turn readtable.now terminator) text.old) at (c ∷ cs)

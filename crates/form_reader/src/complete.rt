@@ -54,7 +54,7 @@ pub(crate) fn complete<R: MacroFunctions>(
         IfOk result (λ r. completed setting round call.now token spaced (view_gathered gathered) ≡ plan_of r) }
     ensures ends { IfOk result (λ r. completed_lookahead r ≤ space (token || spaced)) }
     ensures some { let setting = setting_with (R.registered with.now.macros.now) R.Meaning.way R.Meaning.answer with.now in
-        (needs : Bool) → OnErr result (call_may_cost needs call.now.function (completed setting round call.now token spaced (view_gathered gathered)) ≡ true) }
+        (needs : Bool) → OnErr result (call_may_cost needs call.now (view_gathered gathered) (completed setting round call.now token spaced (view_gathered gathered)) ≡ true) }
 {
     match call.function() {
         Function::Standard(kind) => {
@@ -92,7 +92,7 @@ fn finished(
     ensures gives { IfOk result (λ r. finished token (value_of kind case number (view_gathered gathered)) ≡ plan_of r) }
     ensures ends { IfOk result (λ r. completed_lookahead r ≤ space token) }
     ensures some { OnErr result (gives_object (finished token (value_of kind case number (view_gathered gathered))) ≡ true) }
-    ensures kind { OnErr result (takes_memory kind ≡ true) }
+    ensures kind { OnErr result (takes_memory kind number (view_gathered gathered) ≡ true) }
 {
     match finish(alloc, kind, case, number, gathered) {
         Ok(Finished::One(datum)) => {

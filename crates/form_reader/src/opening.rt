@@ -3,7 +3,7 @@ ghost use Rattle.std.specs.Prelude.{◌≡◌, ◌≤◌, ℕ, Bool, true, false
 ghost use Rattle.form_reader.specs.Setting.{Setting, is_baseless, standard_way, user_way, way_in};
 ghost use Rattle.form_reader.specs.Surrounding.{setting_with};
 ghost use Rattle.form_reader.specs.declared.frame.Frame.{Frame as OpenCall};
-ghost use Rattle.form_reader.specs.declared.way.Function.{Function as Called};
+ghost use Rattle.form_reader.specs.Calls.{InvokedCall};
 ghost use Rattle.form_reader.specs.Frames.{needs_memory, plan_gives};
 ghost use Rattle.form_reader.specs.Completing.{plan_of};
 ghost use Rattle.form_reader.specs.Memory.{call_may_cost, call_at_once, CostsOf, IsWhatIsGiven, OpensCall, Spends};
@@ -12,6 +12,7 @@ ghost use Rattle.form_reader.specs.Resuming.{inner_at, Begins, Brings, Gathers, 
 ghost use Rattle.form_reader.specs.Opening.{reads_objects};
 ghost use Rattle.form_reader.specs.Ready.{IsReady, IsEnd, completed_lookahead, space};
 ghost use Rattle.std_macros.specs.Results.{view_gathered, IsProperGathered};
+ghost use Rattle.std_macros.specs.Values.{Material};
 
 use crate::call::{Invoked, TokenCall};
 use crate::complete::{Completed, complete};
@@ -163,7 +164,7 @@ pub(crate) fn event_of(completed: Completed, at: usize) -> Event
     ensures comes { (setting : Setting) (frames : List OpenCall) (cs : List ℕ) → ComesTo setting frames completed at cs result }
     ensures ends { IsEnd (completed_lookahead completed) at result }
     ensures found { IsWhatIsGiven (plan_of completed) result }
-    ensures some { (needs : Bool) (function : Called) → Spends needs (Ok result) (call_may_cost needs function (plan_of completed) ≡ true) }
+    ensures some { (needs : Bool) (call : InvokedCall) (material : Material) → Spends needs (Ok result) (call_may_cost needs call material (plan_of completed) ≡ true) }
 {
     match completed {
         Completed::Gives(found) => Event::Gives(found),
@@ -191,7 +192,7 @@ pub(crate) fn ended<R: MacroFunctions>(
     ensures found { let setting = setting_with (R.registered with.now.macros.now) R.Meaning.way R.Meaning.answer with.now in
         IfOk result (IsWhatIsGiven (completed setting round call.now token false (view_gathered gathered))) }
     ensures some { let setting = setting_with (R.registered with.now.macros.now) R.Meaning.way R.Meaning.answer with.now in
-        (needs : Bool) → Spends needs result (call_may_cost needs call.now.function (completed setting round call.now token false (view_gathered gathered)) ≡ true) }
+        (needs : Bool) → Spends needs result (call_may_cost needs call.now (view_gathered gathered) (completed setting round call.now token false (view_gathered gathered)) ≡ true) }
 {
     Ok(event_of(complete(with, round, call, token, false, gathered)?, at))
 }

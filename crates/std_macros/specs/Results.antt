@@ -1,5 +1,5 @@
 -- What the calls are handed and answer.
-use Rattle.std.specs.Prelude.{◌≡◌, ℕ, Bool, true, false, map, Option, Some, None, Result, Ok, Err, IsTrue}
+use Rattle.std.specs.Prelude.{◌≡◌, ℕ, ◌==◌, Bool, true, false, not, List, ◌∷◌, length, map, Option, Some, None, Result, Ok, Err, IsTrue}
 use Rattle.std.specs.List.{list_all}
 use Rattle.lisp_object.specs.Ascii.{is_ascii}
 use Rattle.lisp_object.specs.Object.{Object}
@@ -66,14 +66,22 @@ abbrev pub Gives : Result Finished FinishError → Value → Type 0
 Gives (Ok answer) value = value ≡ Ok (view_finished answer)
 Gives (Err error) value = Fails error value
 
--- whether the object of the function takes memory; a text is moved, and characters and numbers take none
-abbrev pub takes_memory : Standard → Bool
-takes_memory AList = true
-takes_memory Quote = true
-takes_memory Function = true
-takes_memory Vector = true
-takes_memory Uninterned = true
-takes_memory _ = false
+-- whether a vector of these objects takes memory where its length is said: where it is their number, they are moved
+abbrev pub length_takes_memory : Option ℕ → List Object → Bool
+length_takes_memory None xs = false
+length_takes_memory (Some wanted) xs = not (wanted == length xs)
+
+-- Whether the object of the function takes memory, with this number and for what was gathered. Objects are moved into a list
+-- that has some and no dot, and into a vector of their own length, a text is moved, and characters and numbers take none.
+abbrev pub takes_memory : Standard → Option ℕ → Material → Bool
+takes_memory AList number (many (x ∷ xs)) = false
+takes_memory AList number _ = true
+takes_memory Quote number material = true
+takes_memory Function number material = true
+takes_memory Vector number (many xs) = length_takes_memory number xs
+takes_memory Vector number _ = true
+takes_memory Uninterned number material = true
+takes_memory _ number material = false
 
 -- an object that was answered is a proper datum
 abbrev pub IsProperFinished : Finished → Type 0

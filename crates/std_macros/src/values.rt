@@ -1,13 +1,15 @@
 //! The value of each standard function.
-ghost use Rattle.std.specs.Prelude.{◌≡◌, ◌≢◌, ◌≤◌, true, codes, Err, IfOk, IfSome, IsTrue, option_map};
+ghost use Rattle.std.specs.Prelude.{◌≡◌, ◌≢◌, ◌≤◌, ℕ, true, codes, map, [], Err, IfOk, IfSome, IsTrue, OnErr, Option, option_map};
 ghost use Rattle.std.specs.List.{list_all, list_any};
 ghost use Rattle.lisp_object.specs.Ascii.{is_ascii};
 ghost use Rattle.lisp_object.specs.Datum.{is_proper, object_of};
+ghost use Rattle.lisp_object.specs.Object.{list_of};
 ghost use Rattle.token_scan.specs.Marks.{are_ascii};
 ghost use Rattle.token_meaning.specs.Folding.{folded};
 ghost use Rattle.token_meaning.specs.Meanings.{is_package_marker};
 ghost use Rattle.token_meaning.specs.Results.{view_number};
 ghost use Rattle.std_macros.specs.Values.{headed, headed_value, list_value, text_value, character_value, vector_value, is_own_name, uninterned_of, uninterned_value, rational_or_refused, rational_value, value_of};
+ghost use Rattle.std_macros.specs.declared.kind.Standard.TheVariants.{List as AList, Vector};
 ghost use Rattle.std_macros.specs.declared.refusal.FinishError.TheVariants.{OutOfMemory};
 ghost use Rattle.std_macros.specs.Results.{view_gathered, IsProperGathered, Gives, IsProperFinished, takes_memory};
 
@@ -27,8 +29,8 @@ use token_scan::{Mark, Marks, characters};
 /// # Errors
 ///
 /// 4 STRAY-CLOSE, 8 NUMBER-RANGE, 9 ZERO-DENOMINATOR, 15 NUMERIC-ARGUMENT, 16 CHARACTER-NAME, 17 RADIX-TOKEN,
-/// 18 VECTOR-LENGTH, 19 UNINTERNED-TOKEN, 25 OUT-OF-PROFILE; and out of memory, where an object is given that is a list, a
-/// vector or a symbol.
+/// 18 VECTOR-LENGTH, 19 UNINTERNED-TOKEN, 25 OUT-OF-PROFILE; and out of memory, where an object is given that is a symbol, a
+/// list that is quoted or has a dot, or a vector that repeats its last object. Any other is moved.
 pub fn finish(
     alloc: Global,
     kind: Standard,
@@ -39,7 +41,7 @@ pub fn finish(
     requires { IsProperGathered gathered }
     ensures value { Gives result (value_of kind case number (view_gathered gathered)) }
     ensures proper { IfOk result IsProperFinished }
-    ensures memory { result ≡ Err OutOfMemory → IsTrue (takes_memory kind) }
+    ensures memory { result ≡ Err OutOfMemory → IsTrue (takes_memory kind number (view_gathered gathered)) }
 {
     match kind {
         Standard::List => list(alloc, gathered),
@@ -68,15 +70,28 @@ fn list(alloc: Global, gathered: StdGathered) -> Result<Finished, FinishError>
     requires { IsProperGathered gathered }
     ensures value { Gives result (list_value (view_gathered gathered)) }
     ensures proper { IfOk result IsProperFinished }
+    ensures memory { (number : Option ℕ) → result ≡ Err OutOfMemory → IsTrue (takes_memory AList number (view_gathered gathered)) }
 {
     match gathered {
-        StdGathered::Many(items) => {
-            Ok(Finished::One(Datum::list(alloc, items.into_vec(), None)?))
-        }
+        StdGathered::Many(items) => Ok(Finished::One(list_of(alloc, items)?)),
         StdGathered::Dotted { items, tail } => {
             Ok(Finished::One(Datum::list(alloc, items.into_vec(), Some(tail))?))
         }
         _ => Ok(Finished::Nothing),
+    }
+}
+
+/// The list of these objects. Only the empty list takes memory, as it is the symbol NIL.
+fn list_of(alloc: Global, items: Items<Datum>) -> Result<Datum, AllocError>
+    requires { list_all is_proper items ≡ true }
+    ensures object { IfOk result (λ d. object_of d ≡ list_of (map object_of items)) }
+    ensures proper { IfOk result (λ d. is_proper d ≡ true) }
+    ensures memory { OnErr result (items ≡ []) }
+{
+    if items.is_empty() {
+        Datum::nil(alloc)
+    } else {
+        Ok(Datum::List { items, tail: None })
     }
 }
 
@@ -230,6 +245,7 @@ fn vector_of(
     requires { IsProperGathered gathered }
     ensures value { Gives result (vector_value number (view_gathered gathered)) }
     ensures proper { IfOk result IsProperFinished }
+    ensures memory { result ≡ Err OutOfMemory → IsTrue (takes_memory Vector number (view_gathered gathered)) }
 {
     match gathered {
         StdGathered::Many(items) => match number {

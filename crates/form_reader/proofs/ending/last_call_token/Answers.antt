@@ -30,4 +30,4 @@ returns-in-None-clause-memory g c = λ frames open_calls.
     call_token_ends setting frames c.args.at c.ended.result c.args.call c.args.scan c.into_marks.result.items c.args.round
     (c.in-None.ensures.stops setting.table) (c.into_marks.ensures.value ∙ ap (λ (s : Scan). s.marks) (c.token_stop.ensures.same c.in-None.is)) open_calls
     (subst (λ (call : InvokedCall). Spends (is_waiting frames) c.ended.result
-    (call_may_cost (is_waiting frames) call.function (completed setting c.args.round call true false (marked c.into_marks.result.items)) ≡ true)) c.into_call-call.ensures.value (c.ended.ensures.some (is_waiting frames)))
+    (call_may_cost (is_waiting frames) call (marked c.into_marks.result.items) (completed setting c.args.round call true false (marked c.into_marks.result.items)) ≡ true)) c.into_call-call.ensures.value (c.ended.ensures.some (is_waiting frames)))

@@ -30,7 +30,7 @@ returns-in-Refused-clause-brings g c = λ frames cs open_calls.
 pub returns-in_err-text_byte-clause-memory : goal.returns-in_err-text_byte-clause-memory
 returns-in_err-text_byte-clause-memory g c =
     let setting = setting_with (g.R.MacroFunctions.registered c.args.with.now.macros.now) g.R.Meaning.Meaning.way g.R.Meaning.Meaning.answer c.args.with.now in
-    λ frames open_calls. spent _ c.from_residual.result _ (taken_costs tt setting frames _ _ _ (AtText c.args.call c.args.terminator (c.args.text ++ c.args.c ∷ [])) c.args.at c.args.c
+    λ frames open_calls. spent _ c.from_residual.result _ (taken_costs c.in_err-text_byte.ensures.kept setting frames _ _ _ (AtText c.args.call c.args.terminator (c.args.text ++ c.args.c ∷ [])) c.args.at c.args.c
     c.in_err-text_byte.ensures.calm.0 tt c.in_err-text_byte.ensures.goes (λ cs. refl))
 
 pub returns-in-Ended-clause-memory : goal.returns-in-Ended-clause-memory

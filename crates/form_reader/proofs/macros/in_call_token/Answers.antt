@@ -32,7 +32,7 @@ returns-in_err-ended-in-Ended-clause-memory g c =
     let setting = setting_with (g.R.MacroFunctions.registered c.args.with.now.macros.now) g.R.Meaning.Meaning.way g.R.Meaning.Meaning.answer c.args.with.now in
     λ frames open_calls. moved _ c.from_residual-in_err-ended-in-Ended.result _ (before_it (call_token_costs setting frames c.args.call c.args.scan c.token_byte.new.scan c.into_marks.result.items c.in_ok-token_byte.field-0 c.args.at c.args.c c.args.round
     c.in-Ended.is c.in_ok-token_byte.ensures.feeds c.into_marks.ensures.value open_calls
-    (subst (λ (call : InvokedCall). (needs : Bool) → call_may_cost needs call.function (completed setting c.args.round call true false (marked c.into_marks.result.items)) ≡ true) c.into_call-call.ensures.value c.in_err-ended-in-Ended.ensures.some)))
+    (subst (λ (call : InvokedCall). (needs : Bool) → call_may_cost needs call (marked c.into_marks.result.items) (completed setting c.args.round call true false (marked c.into_marks.result.items)) ≡ true) c.into_call-call.ensures.value c.in_err-ended-in-Ended.ensures.some)))
 
 pub returns-in_ok-ended-in-Ended-clause-before : goal.returns-in_ok-ended-in-Ended-clause-before
 returns-in_ok-ended-in-Ended-clause-before g c =

@@ -1,3 +1,4 @@
+use Rattle.std_macros.specs.Results.{view_gathered}
 use Rattle.std.proofs.Common.{arith}
 use Rattle.form_reader.specs.Surrounding.{setting_with}
 use Rattle.form_reader.proofs.Closings.{call_ends}
@@ -15,7 +16,7 @@ returns-clause-ends g c = end_within _ _ c.args.at c.event_of.result c.event_of.
 
 pub returns-clause-some : goal.returns-clause-some
 returns-clause-some g c = λ needs.
-    called_costs needs c.event_of.result c.args.call.now.function _ _ c.in_ok-complete.ensures.gives (c.event_of.ensures.some needs c.args.call.now.function)
+    called_costs needs c.event_of.result c.args.call.now (view_gathered c.args.gathered) _ _ c.in_ok-complete.ensures.gives (c.event_of.ensures.some needs c.args.call.now (view_gathered c.args.gathered))
 
 pub returns-clause-found : goal.returns-clause-found
 returns-clause-found g c = what_is_given c.event_of.result _ _ c.in_ok-complete.ensures.gives c.event_of.ensures.found
