@@ -23,6 +23,7 @@ use Rattle.form_reader.specs.declared.stage.Stage.{Stage}
 use Rattle.form_reader.specs.declared.stage.Stage.TheVariants.{Object as AtObject, Token as AtToken, CallToken as AtCallToken, Text as AtText, Escaped as AtEscaped, Line as AtLine, Block as AtBlock, Number as AtNumber}
 use Rattle.form_reader.specs.declared.way.Keep.{Keep}
 use Rattle.form_reader.specs.Plans.{Plan, gives, refuses, takes, then_plan, character, next_byte, loop, Read, fault, within, run}
+use Rattle.form_reader.specs.Calls.{keep_of}
 use Rattle.form_reader.specs.Setting.{Setting}
 use Rattle.form_reader.specs.Feeding.{is_going, token_read, refused_number}
 use Rattle.form_reader.specs.Frames.{close_of, close_of_frames, place_in, call_in, given, between, token_goes_on}
@@ -262,7 +263,7 @@ stage_fails setting frames (AtToken scan) at c stands le alien = token_fails set
 stage_fails setting frames (AtCallToken call scan) at c stands le alien = token_fails setting frames _ scan at c stands le alien.beyond
 stage_fails setting frames (AtText call terminator text) at c stands le alien = gathering setting frames at c _ _ (text_fails setting frames at c le alien.beyond terminator text)
 stage_fails setting frames (AtEscaped call terminator text) at c stands le alien = gathering setting frames at c _ _ (next_fails setting.table setting.limits _ at c alien.beyond)
-stage_fails setting frames (AtLine call keep text) at c stands le alien = gathering setting frames at c _ _ (line_fails setting frames at c le alien.beyond keep text)
+stage_fails setting frames (AtLine call text) at c stands le alien = gathering setting frames at c _ _ (line_fails setting frames at c le alien.beyond (keep_of call.function) text)
 stage_fails setting frames (AtBlock call levels) at c stands le alien = gathering setting frames at c _ _ (block_fails setting frames at c le alien.beyond levels)
 stage_fails setting frames (AtNumber character number) at c stands le alien = number_fails setting frames at c le alien.beyond character number
 

@@ -16,7 +16,6 @@ use Rattle.form_reader.specs.declared.found.Found.TheVariants.{Nothing as nothin
 use Rattle.form_reader.specs.Plans.{Plan, gives}
 use Rattle.form_reader.specs.declared.stage.Stage.{Stage}
 use Rattle.form_reader.specs.declared.stage.Stage.TheVariants.{Token as AtToken, CallToken as AtCallToken, Line as AtLine}
-use Rattle.form_reader.specs.declared.way.Keep.{Keep}
 use Rattle.form_reader.specs.Calls.{InvokedCall}
 use Rattle.form_reader.specs.Setting.{Setting}
 use Rattle.form_reader.specs.Reading.{completed}
@@ -64,11 +63,11 @@ module _ (setting : Setting) (frames : List Frame) (at : ℕ) (result : Result E
       )) h
 
   -- the call of the line
-  pub line_ends : (call : InvokedCall) (keep : Keep) (text bytes : List ℕ) (round : ℕ) → bytes ≡ text → round ≡ length frames
+  pub line_ends : (call : InvokedCall) (text bytes : List ℕ) (round : ℕ) → bytes ≡ text → round ≡ length frames
       → Spends (is_waiting frames) result (call_may_cost (is_waiting frames) call (letters bytes) (completed setting round call false false (letters bytes)) ≡ true)
-      → Spends (is_waiting frames) result (EndNeedsMemory setting frames (AtLine call keep text) at)
-  line_ends call keep text bytes round same open_calls h =
-      spent_so (is_waiting frames) result (call_may_cost (is_waiting frames) call (letters bytes) (completed setting round call false false (letters bytes)) ≡ true) (EndNeedsMemory setting frames (AtLine call keep text) at)
+      → Spends (is_waiting frames) result (EndNeedsMemory setting frames (AtLine call text) at)
+  line_ends call text bytes round same open_calls h =
+      spent_so (is_waiting frames) result (call_may_cost (is_waiting frames) call (letters bytes) (completed setting round call false false (letters bytes)) ≡ true) (EndNeedsMemory setting frames (AtLine call text) at)
       (λ cost. subst (λ (cs : List ℕ). call_may_cost (is_waiting frames) call (letters cs) (completed setting (length frames) call false false (letters cs)) ≡ true) same
       (subst (λ (n : ℕ). call_may_cost (is_waiting frames) call (letters bytes) (completed setting n call false false (letters bytes)) ≡ true) open_calls cost)) h
 

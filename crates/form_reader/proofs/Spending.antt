@@ -38,7 +38,7 @@ use Rattle.form_reader.specs.Calls.{InvokedCall, may_gather_token}
 use Rattle.form_reader.specs.Plans.{Plan, gives, then_plan, Read, run}
 use Rattle.form_reader.specs.Setting.{Setting, way_in}
 use Rattle.form_reader.specs.Reading.{completed, gathered_by, called, told_found, token_found}
-use Rattle.form_reader.specs.Feeding.{TokenFeeds, token_read}
+use Rattle.form_reader.specs.Feeding.{GoesOn, TokenFeeds, token_read}
 use Rattle.form_reader.specs.Frames.{close_of, is_closed_by, given, needs_memory, needs_to_take, plan_gives, place_gives, token_goes_on}
 use Rattle.form_reader.specs.Opening.{reads_objects}
 use Rattle.form_reader.specs.Resuming.{IsStageAt, Moves, inner_at, stage_gives}
@@ -157,11 +157,11 @@ token_taken setting frames stage later on scan new at c more stands lt first the
     with_it frames (as_they_were refl) (goes_on more frames later (omega (arith, lt)) stands (λ cs. first cs ∙ ap (token_goes_on setting frames on) (read cs) ∙ sym (then cs)))
 
 -- the same where it is known where the reader is
-pub token_taken_at : (setting : Setting) (frames : List Frame) (stage : Stage) (scan new : Scan) (at c : ℕ) → stage ≡ AtToken scan → 32 ≤ length scan.marks → IsStageAt (at + 1) (AtToken new) → at < setting.limits.text
+pub token_taken_at : (setting : Setting) (frames : List Frame) (stage : Stage) (scan new : Scan) (at c : ℕ) → stage ≡ AtToken scan → 32 ≤ length scan.marks → GoesOn setting.table setting.limits scan at c → IsStageAt (at + 1) (AtToken new) → at < setting.limits.text
     → ((cs : List ℕ) → token_read setting.table setting.limits scan at (c ∷ cs) ≡ token_read setting.table setting.limits new (at + 1) cs) → RunsOut setting frames stage at c
-token_taken_at setting frames stage scan new at c e many stands lt read =
+token_taken_at setting frames stage scan new at c e many next stands lt read =
     subst (λ (s : Stage). RunsOut setting frames s at c) (sym e)
-    (token_taken setting frames (AtToken scan) (AtToken new) (token_found setting) scan new at c (by_mark many) stands lt (λ cs. refl) (λ cs. refl) read)
+    (token_taken setting frames (AtToken scan) (AtToken new) (token_found setting) scan new at c (by_mark many next) stands lt (λ cs. refl) (λ cs. refl) read)
 
 -- a token of a call has ended
 module _ (setting : Setting) (frames : List Frame) (call : InvokedCall) (old new : Scan) (marks : List Mark) (fed : LineByte) (at c round : ℕ) (e : fed ≡ LineEnded)
@@ -360,7 +360,7 @@ found_runs_out setting frames (AtCallToken call scan) at c the_end (marks, ends,
 found_runs_out setting frames AtObject at c found ends same cost = absurd ends
 found_runs_out setting frames (AtText call terminator text) at c found ends same cost = absurd ends
 found_runs_out setting frames (AtEscaped call terminator text) at c found ends same cost = absurd ends
-found_runs_out setting frames (AtLine call keep text) at c found ends same cost = absurd ends
+found_runs_out setting frames (AtLine call text) at c found ends same cost = absurd ends
 found_runs_out setting frames (AtBlock call levels) at c found ends same cost = absurd ends
 found_runs_out setting frames (AtNumber character n) at c found ends same cost = absurd ends
 

@@ -29,7 +29,7 @@ stage_below at (AtToken scan) h = h
 stage_below at (AtCallToken call scan) h = h
 stage_below at (AtText call terminator text) h = tt
 stage_below at (AtEscaped call terminator text) h = tt
-stage_below at (AtLine call keep text) h = tt
+stage_below at (AtLine call text) h = tt
 stage_below at (AtBlock call levels) h = below levels.0 at h
 stage_below at (AtNumber c number) h = tt
 

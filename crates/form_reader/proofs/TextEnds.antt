@@ -45,7 +45,7 @@ use Rattle.form_reader.specs.declared.told.Told.TheVariants.{Object as told_obje
 use Rattle.form_reader.specs.declared.way.Function.{Function}
 use Rattle.form_reader.specs.declared.way.Function.TheVariants.{Standard as AStandard, User}
 use Rattle.form_reader.specs.Plans.{Plan, gives, refuses, takes, scans, then_plan, next_byte, character, loop_in, loop, Read, scanned, limited, run}
-use Rattle.form_reader.specs.Calls.{InvokedCall}
+use Rattle.form_reader.specs.Calls.{InvokedCall, keep_of}
 use Rattle.form_reader.specs.Setting.{Setting, macro_call}
 use Rattle.form_reader.specs.Gathering.{text_turn, line_turn, block_turn, number_turn}
 use Rattle.form_reader.specs.Naming.{symbol_in, symbol_at, named, told_of, told}
@@ -368,10 +368,10 @@ module _ (setting : Setting) where
     stage_last (AtText call terminator text) h =
         never (text_to setting terminator text) _ (loop_at_end Never setting.limits (text_turn setting.table terminator) text (λ more. next_byte_at_end Never _))
     stage_last (AtEscaped call terminator text) h = never (next_byte (λ d. text_to setting terminator (text ++ d ∷ []))) _ (next_byte_at_end Never _)
-    stage_last (AtLine call keep text) h =
-        last (then_plan (line_after setting keep text) (λ cs. completed setting (length frames) call false false (letters cs)))
-        (then_at_end Whatever Whatever (line_after setting keep text) (λ cs. completed setting (length frames) call false false (letters cs))
-        (loop_at_end Whatever setting.limits (line_turn keep) text (λ more. takes_at_end Whatever (gives text) (λ c. true) _ (gives_at_end Whatever text tt)))
+    stage_last (AtLine call text) h =
+        last (then_plan (line_after setting (keep_of call.function) text) (λ cs. completed setting (length frames) call false false (letters cs)))
+        (then_at_end Whatever Whatever (line_after setting (keep_of call.function) text) (λ cs. completed setting (length frames) call false false (letters cs))
+        (loop_at_end Whatever setting.limits (line_turn (keep_of call.function)) text (λ more. takes_at_end Whatever (gives text) (λ c. true) _ (gives_at_end Whatever text tt)))
         (λ cs none. completed_at_end setting (length frames) call false false (letters cs)))
     stage_last (AtBlock call levels) h =
         never (block_after setting levels) _ (loop_at_end Never setting.limits block_turn levels (λ more. next_byte_at_end Never _))

@@ -5,6 +5,8 @@ use Rattle.std_macros.specs.declared.kind.StdGather.TheVariants.{Token, EscapedT
 use Rattle.std_macros.specs.Kinds.{way_of}
 use Rattle.form_reader.specs.declared.way.Function.{Function}
 use Rattle.form_reader.specs.declared.way.Function.TheVariants.{Standard as AStandard, User}
+use Rattle.form_reader.specs.declared.way.Keep.{Keep}
+use Rattle.form_reader.specs.declared.way.Keep.TheVariants.{Kept, Dropped}
 
 -- the function, the macro character, the sub-character in upper case and the number
 pub record InvokedCall : Type 0 where
@@ -26,3 +28,8 @@ is_token _ = false
 abbrev pub may_gather_token : Function → Bool
 may_gather_token (AStandard kind) = is_token (way_of kind)
 may_gather_token (User name) = true
+
+-- what it does with the characters of a line: a function of a user is given them
+abbrev pub keep_of : Function → Keep
+keep_of (AStandard kind) = Dropped
+keep_of (User name) = Kept

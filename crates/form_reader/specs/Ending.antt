@@ -62,6 +62,6 @@ EndNeedsMemory setting frames (AtToken scan) at =
 EndNeedsMemory setting frames (AtCallToken call scan) at =
     TokenStops setting.table setting.limits scan at None
     × (call_may_cost (is_waiting frames) call (marked scan.marks) (completed setting (length frames) call true false (marked scan.marks)) ≡ true)
-EndNeedsMemory setting frames (AtLine call keep text) at =
+EndNeedsMemory setting frames (AtLine call text) at =
     call_may_cost (is_waiting frames) call (letters text) (completed setting (length frames) call false false (letters text)) ≡ true
 EndNeedsMemory setting frames _ at = ⊥

@@ -30,12 +30,12 @@ use Rattle.form_reader.specs.declared.stage.Event.{Event}
 use Rattle.form_reader.specs.declared.stage.Event.TheVariants.{Gives as IsGiven}
 use Rattle.form_reader.specs.declared.stage.Stage.{Stage}
 use Rattle.form_reader.specs.declared.stage.Stage.TheVariants.{Object as AtObject, Token as AtToken, CallToken as AtCallToken, Text as AtText, Escaped as AtEscaped, Line as AtLine, Block as AtBlock, Number as AtNumber}
-use Rattle.form_reader.specs.Calls.{InvokedCall, may_gather_token}
+use Rattle.form_reader.specs.Calls.{InvokedCall, keep_of, may_gather_token}
 use Rattle.form_reader.specs.Plans.{Plan, gives, refuses, Read}
 use Rattle.form_reader.specs.Setting.{Setting, function_of, way_in}
 use Rattle.form_reader.specs.Reading.{completed, is_whitespace, token_found}
 use Rattle.form_reader.specs.Naming.{IsNameMeaning}
-use Rattle.form_reader.specs.Feeding.{token_read}
+use Rattle.form_reader.specs.Feeding.{GoesOn, token_read}
 use Rattle.form_reader.specs.Frames.{close_of, close_of_frames, is_closed_by, plan_gives, calls_with, needs_memory, needs_to_take}
 use Rattle.form_reader.specs.Gathering.{is_escape}
 use Rattle.form_reader.specs.Opening.{reads_objects}
@@ -119,7 +119,7 @@ MayEndAt setting (AtToken scan) c = EndsAtPlace setting c
 MayEndAt setting (AtCallToken call scan) c = EndsAtPlace setting c
 MayEndAt setting (AtText own terminator text) c = only_call own (letters text)
 MayEndAt setting (AtEscaped own terminator text) c = no_call
-MayEndAt setting (AtLine own keep text) c = only_call own (letters text)
+MayEndAt setting (AtLine own text) c = only_call own (letters text)
 MayEndAt setting (AtBlock own levels) c = only_call own no_material
 MayEndAt setting (AtNumber character digits) c = EndsAtSub setting character digits c
 
@@ -237,21 +237,21 @@ is_space setting frames AtObject at c =
     nat_lt at setting.limits.text && (is_whitespace setting.table c && not (is_closed_by (close_of_frames frames) c))
 is_space setting frames _ at c = false
 
--- A token has one mark more with the byte at this place, past its first 32; or the byte ends it, and opens a call.
+-- A token that has 32 marks or more takes the byte at this place; or the byte ends the token, and opens a call.
 pub data TokenGrows (setting : Setting) (scan : Scan) (at c : ℕ) : Type 0 where
-  by_mark : 32 ≤ length scan.marks → TokenGrows setting scan at c
+  by_mark : 32 ≤ length scan.marks → GoesOn setting.table setting.limits scan at c → TokenGrows setting scan at c
   by_call : (marks : List Mark) → TokenEnds setting scan marks at c → OpensAtPlace setting c → TokenGrows setting scan at c
 
 -- More is kept after the byte at this place, where reading goes on: one more open call, one more mark of a token, past its first
--- 32, or one more character of a text, which an escape is none, or of a line that is kept. A block keeps nothing, nor does the
+-- 32, or one more character of a text, which its end and an escape are none, or of a line that is kept. A block keeps nothing, nor does the
 -- number of a call.
 abbrev pub Grows : Setting → Stage → ℕ → ℕ → Type 0
 Grows setting AtObject at c = OpensAtPlace setting c
 Grows setting (AtToken scan) at c = TokenGrows setting scan at c
 Grows setting (AtCallToken call scan) at c = TokenGrows setting scan at c
-Grows setting (AtText call terminator text) at c = is_escape (entry_at setting.table c).syntax ≡ false
+Grows setting (AtText call terminator text) at c = ((c == terminator) ≡ false) × (is_escape (entry_at setting.table c).syntax ≡ false)
 Grows setting (AtEscaped call terminator text) at c = Unit {0}
-Grows setting (AtLine call keep text) at c = keep ≡ Kept
+Grows setting (AtLine call text) at c = keep_of call.function ≡ Kept
 Grows setting (AtBlock call levels) at c = ⊥
 Grows setting (AtNumber character digits) at c = OpensAtSub setting character digits c
 

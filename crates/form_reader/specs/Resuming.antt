@@ -9,7 +9,7 @@ use Rattle.form_reader.specs.declared.stage.Event.{Event}
 use Rattle.form_reader.specs.declared.stage.Event.TheVariants.{Stage as IsAt, Gives as IsGiven, Refused as IsRefused}
 use Rattle.form_reader.specs.declared.complete.Completed.{Completed}
 use Rattle.form_reader.specs.declared.way.Way.{Way}
-use Rattle.form_reader.specs.Calls.{InvokedCall}
+use Rattle.form_reader.specs.Calls.{InvokedCall, keep_of}
 use Rattle.form_reader.specs.Completing.{plan_of}
 use Rattle.form_reader.specs.declared.macros.Moved.{Moved}
 use Rattle.form_reader.specs.declared.macros.Moved.TheVariants.{Taken as IsTaken, Before as IsBefore}
@@ -41,8 +41,8 @@ stage_gives setting frames (AtText call terminator text) at cs =
 stage_gives setting frames (AtEscaped call terminator text) at cs =
     plan_gives setting frames (then_plan (next_byte (λ d. text_to setting terminator (text ++ d ∷ [])))
     (λ cs. completed setting (length frames) call false false (letters cs))) at cs
-stage_gives setting frames (AtLine call keep text) at cs =
-    plan_gives setting frames (then_plan (line_after setting keep text)
+stage_gives setting frames (AtLine call text) at cs =
+    plan_gives setting frames (then_plan (line_after setting (keep_of call.function) text)
     (λ cs. completed setting (length frames) call false false (letters cs))) at cs
 stage_gives setting frames (AtBlock call levels) at cs =
     plan_gives setting frames (then_plan (block_after setting levels)

@@ -1,5 +1,5 @@
 //! One byte of what a call gathers.
-ghost use Rattle.std.specs.Prelude.{◌≡◌, ◌≤◌, ◌<◌, ◌+◌, ◌^◌, ℕ, List, ◌∷◌, ◌++◌, [], IfOk, IfSome, OnErr, Ok, None, false};
+ghost use Rattle.std.specs.Prelude.{◌≡◌, ◌≤◌, ◌<◌, ◌+◌, ◌^◌, ◌==◌, ℕ, List, ◌∷◌, ◌++◌, [], IfOk, IfSome, OnErr, Ok, None, false};
 ghost use Rattle.readtable_core.specs.Tables.{entry_at};
 ghost use Rattle.form_reader.specs.Plans.{loop, next_byte, run};
 ghost use Rattle.form_reader.specs.Gathering.{is_escape, text_turn, kept, line_turn, block_turn, number_turn};
@@ -58,7 +58,7 @@ pub(crate) fn text_byte(
     ensures escape { result ≡ Ok TextEscape → at < limits.now.text }
     ensures ended { result ≡ Ok TextEnded → at < limits.now.text }
     ensures same { result ≡ Ok TextEnded → text.new ≡ text.old }
-    ensures kept { OnErr result (is_escape (entry_at readtable.now c).syntax ≡ false) }
+    ensures kept { OnErr result (((c == terminator) ≡ false) × (is_escape (entry_at readtable.now c).syntax ≡ false)) }
     ensures calm { OnErr result ((at < limits.now.text) × (c < 128)) }
     ensures goes { (cs : List ℕ) → OnErr result
         (run readtable.now limits.now (loop limits.now (text_turn readtable.now terminator) text.old) at (c ∷ cs)

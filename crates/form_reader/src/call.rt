@@ -1,8 +1,8 @@
 //! The call that invoked a function.
 ghost use Rattle.std.specs.Prelude.{◌≡◌, ◌<◌, ◌≤◌, Some, None, IfSome, true};
-ghost use Rattle.form_reader.specs.Calls.{caller, may_gather_token};
+ghost use Rattle.form_reader.specs.Calls.{caller, keep_of, may_gather_token};
 
-use crate::way::Function;
+use crate::way::{Function, Keep};
 use std::marker::Model;
 
 /// The call that invoked a function: the function, the macro character, the sub-character in upper case and the number.
@@ -83,6 +83,16 @@ impl Invoked {
         ensures most { IfSome result (λ n. n ≤ 999999) }
     {
         self.number
+    }
+
+    /// What its function does with the characters of a line: a function of a user is given them.
+    pub(crate) fn keep(&self) -> Keep
+        ensures { result ≡ keep_of self.now.function }
+    {
+        match self.function {
+            Function::Standard(_) => Keep::Dropped,
+            Function::User(_) => Keep::Kept,
+        }
     }
 
     /// The caller: the sub-character where there is one, else the macro character.

@@ -5,7 +5,6 @@ ghost use Rattle.form_reader.specs.declared.frame.Frame.{Frame as OpenCall};
 ghost use Rattle.form_reader.specs.Setting.{Setting};
 ghost use Rattle.form_reader.specs.Surrounding.{setting_with};
 ghost use Rattle.form_reader.specs.declared.stage.Stage.TheVariants.{Object as AtObject, Token as AtToken, CallToken as AtCallToken, Line as AtLine};
-ghost use Rattle.form_reader.specs.declared.way.Keep.{Keep};
 ghost use Rattle.form_reader.specs.Resuming.{Brings, stage_gives};
 ghost use Rattle.form_reader.specs.Turning.{outcome_of, rest_of, Settles, IsStanding};
 ghost use Rattle.form_reader.specs.Ending.{ends_call, is_kept, TokenStops, IsLastEvent, IsLastSettled, EndNeedsMemory};
@@ -124,13 +123,13 @@ fn last_line<R: MacroFunctions>(
     requires answers { R.answers with.now.macros.now }
     requires place { at ≤ with.now.limits.text }
     ensures brings { let setting = setting_with (R.registered with.now.macros.now) R.Meaning.way R.Meaning.answer with.now in
-        (frames : List OpenCall) (keep : Keep) → round ≡ length frames
+        (frames : List OpenCall) → round ≡ length frames
         → IfOk result (λ event. Brings setting frames at [] event
-        (stage_gives setting frames (AtLine call keep text) at [])) }
+        (stage_gives setting frames (AtLine call text) at [])) }
     ensures last { IfOk result (IsLastEvent at) }
     ensures memory { let setting = setting_with (R.registered with.now.macros.now) R.Meaning.way R.Meaning.answer with.now in
-        (frames : List OpenCall) (keep : Keep) → round ≡ length frames
-        → Spends (is_waiting frames) result (EndNeedsMemory setting frames (AtLine call keep text) at) }
+        (frames : List OpenCall) → round ≡ length frames
+        → Spends (is_waiting frames) result (EndNeedsMemory setting frames (AtLine call text) at) }
 {
     let gathered = StdGathered::Text(text.into_bytes());
     ended(with, round, &call, false, gathered, at)
@@ -156,7 +155,7 @@ fn last<R: MacroFunctions>(
         Stage::Object => Ok(Event::Stage(Stage::Object)),
         Stage::Token(scan) => last_token(with, scan, at),
         Stage::CallToken(call, scan) => last_call_token(with, round, call, scan, at),
-        Stage::Line(call, _, text) => last_line(with, round, call, text, at),
+        Stage::Line(call, text) => last_line(with, round, call, text, at),
         Stage::Text(..) => Ok(Event::Refused(END_OF_FILE, at)),
         Stage::Escaped(..) => Ok(Event::Refused(END_OF_FILE, at)),
         Stage::Block(..) => Ok(Event::Refused(END_OF_FILE, at)),

@@ -14,7 +14,6 @@ use crate::held::HeldText;
 use crate::opening::ended;
 use crate::stage::{Event, Stage};
 use crate::surroundings::Surroundings;
-use crate::way::Keep;
 use std::alloc::AllocError;
 use std_macros::StdGathered;
 use user_macros::MacroFunctions;
@@ -84,7 +83,6 @@ pub(crate) fn in_line<R: MacroFunctions>(
     with: &Surroundings<'_, R>,
     round: usize,
     call: Invoked,
-    keep: Keep,
     mut text: HeldText,
     at: usize,
     c: u8,
@@ -95,14 +93,15 @@ pub(crate) fn in_line<R: MacroFunctions>(
     ensures brings { let setting = setting_with (R.registered with.now.macros.now) R.Meaning.way R.Meaning.answer with.now in
         (frames : List OpenCall) (cs : List ℕ) → round ≡ length frames
         → IfOk result (λ event. Brings setting frames (at + 1) cs event
-        (stage_gives setting frames (AtLine call keep text) at (c ∷ cs))) }
+        (stage_gives setting frames (AtLine call text) at (c ∷ cs))) }
     ensures ready { IfOk result (IsReady with.now.limits (at + 1)) }
     ensures memory { let setting = setting_with (R.registered with.now.macros.now) R.Meaning.way R.Meaning.answer with.now in
         (frames : List OpenCall) → round ≡ length frames
-        → Spends (needs_memory frames) result (CostsOf (MayEndAt setting (AtLine call keep text) c) (Grows setting (AtLine call keep text) at c) setting frames (at + 1) (λ cs. stage_gives setting frames (AtLine call keep text) at (c ∷ cs))) }
+        → Spends (needs_memory frames) result (CostsOf (MayEndAt setting (AtLine call text) c) (Grows setting (AtLine call text) at c) setting frames (at + 1) (λ cs. stage_gives setting frames (AtLine call text) at (c ∷ cs))) }
 {
+    let keep = call.keep();
     match line_byte(with.readtable, &with.limits, keep, &mut text, at, c)? {
-        LineByte::More => Ok(Event::Stage(Stage::Line(call, keep, text))),
+        LineByte::More => Ok(Event::Stage(Stage::Line(call, text))),
         LineByte::Ended => {
             let gathered = StdGathered::Text(text.into_bytes());
             ended(with, round, &call, false, gathered, at + 1)

@@ -85,9 +85,9 @@ fn gather<R: MacroFunctions>(
             let text = HeldText::new(with.alloc);
             Ok(Event::Stage(Stage::Text(call, close, text)))
         }
-        Way::Line(keep) => {
+        Way::Line(_) => {
             let text = HeldText::new(with.alloc);
-            Ok(Event::Stage(Stage::Line(call, keep, text)))
+            Ok(Event::Stage(Stage::Line(call, text)))
         }
         Way::Block => Ok(Event::Stage(Stage::Block(call, (0, 0)))),
         Way::Token => {

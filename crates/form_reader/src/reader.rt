@@ -131,6 +131,8 @@ impl FormReader {
             → (result ≡ Ok (StepRefused code place)) × HasRefused self.new code place }
         ensures memory { OnErr result (HasNoMemory self.new) }
         ensures spent { HasNoMemory self.old → IsErr result }
+        ensures stays { (code place : ℕ) → (HasRefused self.old code place → fed self.new ≡ fed self.old)
+            × (HasNoMemory self.old → fed self.new ≡ fed self.old) }
         ensures needs { (bytes : List ℕ) → IsAfter
             (setting_of (limits_of self.old) readtable.now packages.now.0 current.now
             (R.registered macros.now) R.Meaning.way R.Meaning.answer)

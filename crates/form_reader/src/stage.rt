@@ -15,7 +15,6 @@ use crate::found::Found;
 use crate::held::{HeldCharacter, HeldNumber, HeldText};
 use crate::limits::Limits;
 use crate::tokens::token_byte;
-use crate::way::Keep;
 use readtable_core::Readtable;
 use std::alloc::{AllocError, Global};
 use std::marker::Model;
@@ -159,7 +158,7 @@ pub enum Stage {
     /// After an escape in such a text.
     Escaped(Invoked, u8, HeldText),
     /// In a line.
-    Line(Invoked, Keep, HeldText),
+    Line(Invoked, HeldText),
     /// In a block: how many blocks are open inside it, and the byte before, if it may begin a pair.
     Block(Invoked, (usize, u8)),
     /// After this dispatching character, in the number.

@@ -44,4 +44,4 @@ returns-in-CallToken-clause-memory g c = λ frames open_calls.
 pub returns-in-Line-clause-memory : goal.returns-in-Line-clause-memory
 returns-in-Line-clause-memory g c = λ frames open_calls.
     let setting = setting_with (g.R.MacroFunctions.registered c.args.with.now.macros.now) g.R.Meaning.Meaning.way g.R.Meaning.Meaning.answer c.args.with.now in
-    stage_ends setting frames c.args.at c.last_line.result c.args.stage _ c.in-Line.is (c.last_line.ensures.memory frames c.in-Line.field-1 open_calls)
+    stage_ends setting frames c.args.at c.last_line.result c.args.stage _ c.in-Line.is (c.last_line.ensures.memory frames open_calls)
