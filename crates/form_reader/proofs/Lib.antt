@@ -37,6 +37,7 @@ pub mod Bounded
 pub mod Keeping
 pub mod Backs
 pub mod Language
+pub mod Allowing
 pub mod Fittings
 pub mod Numbers
 pub mod TokenFaults

@@ -64,14 +64,13 @@ pub fn spaced_forms_are_framed()
 {}
 
 /// A form that was read in sound packages has a depth of at most 100, and its symbols fit the packages: what the home of a
-/// symbol finds by its name, if anything, is this symbol. So the form may be evaluated and stored. Its depth is within the
-/// nesting, whatever that is.
+/// symbol finds by its name, if anything, is this symbol. So the form may be evaluated and stored. Of each form that
+/// was read, in any packages and under any limits, the depth is within the nesting.
 pub fn forms_fit()
     ensures fit { (setting : Setting) (text : List ℕ) (x : Object) (start end next : ℕ)
         → IsSound setting.packages → setting.limits.nesting ≤ 100 → setting.limits.token ≤ 4096
         → reads setting text ≡ form x start end next → IsFitting setting.packages x }
     ensures depth { (setting : Setting) (text : List ℕ) (x : Object) (start end next : ℕ)
-        → IsSound setting.packages → setting.limits.token ≤ 4096
         → reads setting text ≡ form x start end next → object_depth x ≤ setting.limits.nesting }
 {}
 
