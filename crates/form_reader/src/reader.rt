@@ -60,16 +60,16 @@ pub enum Step {
 }
 
 impl FormReader {
-    ghost use Rattle.std.specs.Prelude.{◌≡◌, ◌<◌, ◌≤◌, ◌+◌, ◌^◌, ℕ, List, [], ◌∷◌, ◌++◌, length, Ok, IfOk, IsErr, OnErr};
+    ghost use Rattle.std.specs.Prelude.{◌≡◌, ◌<◌, ◌≤◌, ◌+◌, ◌^◌, ℕ, true, List, [], ◌∷◌, ◌++◌, length, Ok, IfOk, IsErr, OnErr};
     ghost use Rattle.package_table.specs.Table.{IsPackage};
     ghost use Rattle.form_reader.specs.Setting.{Setting, setting_of};
     ghost use Rattle.form_reader.specs.Surrounding.{setting_with};
     ghost use Rattle.lisp_object.specs.Object.{Object};
-    ghost use Rattle.form_reader.specs.Reading.{form, reads};
-    ghost use Rattle.form_reader.specs.declared.reader.Step.TheVariants.{Refused as StepRefused};
-    ghost use Rattle.form_reader.specs.declared.ending.ReadOutcome.TheVariants.{Refused as ReadRefused};
+    ghost use Rattle.form_reader.specs.Reading.{form, is_whitespace, reads};
+    ghost use Rattle.form_reader.specs.declared.reader.Step.TheVariants.{More as StepMore, Refused as StepRefused};
+    ghost use Rattle.form_reader.specs.declared.ending.ReadOutcome.TheVariants.{Empty as ReadEmpty, Refused as ReadRefused};
     ghost use Rattle.form_reader.specs.Turning.{IsReadyTurn, BeginsFrom};
-    ghost use Rattle.form_reader.specs.Reader.{limits_of, fed, begun, HasRefused, HasNoMemory, IsNew, IsAfter, IsLeftAt, Steps, BeginsLater, IsSoundStep, Takes, MayRunOut, EndMayRunOut, IsOutcome};
+    ghost use Rattle.form_reader.specs.Reader.{limits_of, fed, begun, HasRefused, HasNoMemory, IsNew, IsBetween, LeavesBetween, IsAfter, IsLeftAt, Steps, BeginsLater, IsSoundStep, Takes, MayRunOut, EndMayRunOut, IsOutcome};
 
     /// A reader that was fed nothing. It keeps `alloc` for what it gathers.
     pub fn new(alloc: Global, limits: Limits) -> FormReader
@@ -77,6 +77,7 @@ impl FormReader {
         ensures limits { limits_of result ≡ limits }
         ensures begun { begun result ≡ 0 }
         ensures after { (setting : Setting) → IsAfter setting result [] }
+        ensures between { IsBetween result }
     {
         FormReader {
             limits,
@@ -138,6 +139,9 @@ impl FormReader {
             (setting_of (limits_of self.old) readtable.now packages.now.0 current.now
             (R.registered macros.now) R.Meaning.way R.Meaning.answer)
             self.old bytes byte) }
+        ensures between { IsBetween self.old → is_whitespace readtable.now byte ≡ true → 0 < (limits_of self.old).text
+            → (result ≡ Ok StepMore) × IsBetween self.new }
+        ensures between_forms { IfOk result (LeavesBetween self.new) }
     {
         let with = Surroundings {
             alloc: self.alloc,
@@ -198,6 +202,7 @@ impl FormReader {
         ensures memory { OnErr result (HasNoMemory self.new) }
         ensures needs { let setting = setting_with (R.registered with.now.macros.now) R.Meaning.way R.Meaning.answer with.now in
             (bytes : List ℕ) → IsAfter setting self.old bytes → OnErr result (MayRunOut setting self.old bytes byte) }
+        ensures between_forms { IfOk result (LeavesBetween self.new) }
     {
         match mem::replace(&mut self.state, State::OutOfMemory) {
             State::Open(stage) => {
@@ -267,6 +272,7 @@ impl FormReader {
             (setting_of (limits_of self) readtable.now packages.now.0 current.now
             (R.registered macros.now) R.Meaning.way R.Meaning.answer)
             self) }
+        ensures between { IsBetween self → result ≡ Ok ReadEmpty }
     {
         let FormReader {
             limits,
