@@ -55,6 +55,7 @@ pub(crate) fn in_place<R: MacroFunctions>(
         result ≡ Ok IsLeft → is_space setting frames.now stage.old at c ≡ false }
     ensures passed { let setting = setting_with (R.registered with.now.macros.now) R.Meaning.way R.Meaning.answer with.now in
         frames.now ≡ [] → is_space setting frames.now stage.old at c ≡ true → (result ≡ Ok IsPassed) × (stage.new ≡ AtObject) }
+    ensures anew { result ≡ Ok IsPassed → (frames.now ≡ []) × (stage.new ≡ AtObject) }
 {
     match stage {
         Stage::Object => begin_in_place(with, frames, stage, at, c),
@@ -90,6 +91,7 @@ fn begin_in_place<R: MacroFunctions>(
         result ≡ Ok IsLeft → is_space setting frames.now stage.old at c ≡ false }
     ensures passed { let setting = setting_with (R.registered with.now.macros.now) R.Meaning.way R.Meaning.answer with.now in
         frames.now ≡ [] → is_space setting frames.now stage.old at c ≡ true → (result ≡ Ok IsPassed) × (stage.new ≡ AtObject) }
+    ensures anew { result ≡ Ok IsPassed → (frames.now ≡ []) × (stage.new ≡ AtObject) }
 {
     match begun_at(with, frames, at, c)? {
         Some(scan) => {
@@ -147,6 +149,7 @@ fn discarded<R: MacroFunctions>(
         result ≡ IsLeft → is_space setting frames.now AtObject at c ≡ false }
     ensures passed { let setting = setting_with (R.registered with.now.macros.now) R.Meaning.way R.Meaning.answer with.now in
         frames.now ≡ [] → is_space setting frames.now AtObject at c ≡ true → result ≡ IsPassed }
+    ensures anew { result ≡ IsPassed → frames.now ≡ [] }
 {
     if !is_discarded(with, frames, at, c) {
         return InPlace::Left;

@@ -142,6 +142,7 @@ impl FormReader {
         ensures between { IsBetween self.old → is_whitespace readtable.now byte ≡ true → 0 < (limits_of self.old).text
             → (result ≡ Ok StepMore) × IsBetween self.new }
         ensures between_forms { IfOk result (LeavesBetween self.new) }
+        ensures nothing_open { result ≡ Ok StepMore → begun self.new ≡ fed self.new → IsBetween self.new }
     {
         let with = Surroundings {
             alloc: self.alloc,
@@ -203,6 +204,7 @@ impl FormReader {
         ensures needs { let setting = setting_with (R.registered with.now.macros.now) R.Meaning.way R.Meaning.answer with.now in
             (bytes : List ℕ) → IsAfter setting self.old bytes → OnErr result (MayRunOut setting self.old bytes byte) }
         ensures between_forms { IfOk result (LeavesBetween self.new) }
+        ensures nothing_open { result ≡ Ok StepMore → begun self.new ≡ fed self.new → IsBetween self.new }
     {
         match mem::replace(&mut self.state, State::OutOfMemory) {
             State::Open(stage) => {
