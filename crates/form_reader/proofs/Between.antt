@@ -1,10 +1,12 @@
 -- Where a reader is between forms: after a form, and where what is open has no byte.
-use Rattle.std.proofs.Common.{◌≡◌, ℕ, List, [], refl, sym, ap, subst, ◌∙◌, arith}
+use Rattle.std.proofs.Common.{◌≡◌, ℕ, List, [], refl, sym, ap, subst, ◌∙◌, ◌++◌, length, append-nil, arith}
 use Rattle.form_reader.specs.declared.frame.Frame.{Frame}
 use Rattle.form_reader.specs.declared.reader.FormReader.{FormReader}
 use Rattle.form_reader.specs.declared.reader.Step.{Step}
 use Rattle.form_reader.specs.declared.reader.Step.TheVariants.{More as StepMore, Form as StepForm, Refused as StepRefused}
+use Rattle.form_reader.specs.declared.reader.State.{State}
 use Rattle.form_reader.specs.declared.reader.State.TheVariants.{Open}
+use Rattle.form_reader.specs.declared.stage.Stage.TheVariants.{Object as AtObject}
 use Rattle.form_reader.specs.declared.found.Found.{Found}
 use Rattle.form_reader.specs.declared.stage.Event.{Event}
 use Rattle.form_reader.specs.declared.stage.Event.TheVariants.{Stage as IsAt, Gives as IsGiven, Refused as IsRefused}
@@ -13,12 +15,14 @@ use Rattle.form_reader.specs.declared.turn.Settled.TheVariants.{Done as SettledD
 use Rattle.form_reader.specs.declared.turn.Turn.{Turn}
 use Rattle.form_reader.specs.declared.turn.Turn.TheVariants.{Goes, Form as TurnForm, Refused as TurnRefused}
 use Rattle.form_reader.specs.Setting.{Setting}
-use Rattle.form_reader.specs.Reading.{Outcome}
+use Rattle.form_reader.specs.Reading.{Outcome, empty, reads, reads_at}
 use Rattle.form_reader.specs.Plans.{Read, fault, gives}
 use Rattle.form_reader.specs.Frames.{plan_gives}
 use Rattle.form_reader.specs.Resuming.{Brings, stage_gives}
-use Rattle.form_reader.specs.Turning.{Settles, TurnsTo, BeginsAnew}
-use Rattle.form_reader.specs.Reader.{fed, begun, IsBetween, LeavesBetween, Takes}
+use Rattle.form_reader.specs.Turning.{outcome_of, rest_of, Settles, TurnsTo, BeginsAnew}
+use Rattle.form_reader.specs.Reader.{fed, begun, IsBetween, LeavesBetween, Takes, IsAfter, IsAfterIn}
+use Rattle.form_reader.proofs.Endings.{none_waits}
+use Rattle.form_reader.proofs.Forms.{reads_is}
 
 -- after a form nothing is open
 pub leaves_between : (setting : Setting) (mid new : FormReader) (after : List Frame) (turn : Turn) (step : Step) (o : Outcome) → TurnsTo setting after [] turn o → Takes turn mid new step
@@ -54,3 +58,21 @@ anew_between mid new after (TurnForm x start «end» next) StepMore anew takes s
 anew_between mid new after (TurnForm x start «end» next) (StepRefused code place) anew takes same is here = absurd takes
 anew_between mid new after (TurnRefused code place) step anew takes same is here =
     let other : StepRefused code place ≡ StepMore = sym takes.0 ∙ is in cc
+
+-- ---- what is read where a reader is between forms
+
+between_rest : (setting : Setting) (reader : FormReader) (bytes more : List ℕ) → IsAfter setting reader bytes → IsBetween reader
+    → reads setting (bytes ++ more) ≡ rest_of setting [] AtObject (length bytes) 0 more
+between_rest setting reader bytes more after between =
+    let here : IsAfterIn setting reader (Open AtObject) bytes = subst (λ (s : State). IsAfterIn setting reader s bytes) between.state after in
+    let start : reader.start ≡ length bytes = omega (arith, here.0, between.at) in
+    here.1 more ∙ (λ i. rest_of setting (between.frames i) AtObject (start i) (between.at i) more)
+
+pub between_reads : (setting : Setting) (reader : FormReader) (bytes more : List ℕ) → IsAfter setting reader bytes → IsBetween reader
+    → reads setting (bytes ++ more) ≡ reads_at setting (length bytes) more
+between_reads setting reader bytes more after between = between_rest setting reader bytes more after between ∙ sym (reads_is setting (length bytes) more)
+
+pub between_empty : (setting : Setting) (reader : FormReader) (bytes : List ℕ) → IsAfter setting reader bytes → IsBetween reader → reads setting bytes ≡ empty
+between_empty setting reader bytes after between =
+    ap (reads setting) (sym (append-nil bytes)) ∙ between_rest setting reader bytes [] after between
+    ∙ ap (outcome_of setting (length bytes)) (none_waits setting [] 0 (omega arith) refl).0
