@@ -71,7 +71,7 @@ impl FormReader {
     ghost use Rattle.form_reader.specs.Turning.{IsReadyTurn, BeginsFrom};
     ghost use Rattle.form_reader.specs.Reader.{limits_of, fed, begun, HasRefused, HasNoMemory, IsNew, IsBetween, LeavesBetween, IsAfter, IsLeftAt, Steps, BeginsLater, IsSoundStep, Takes, MayRunOut, EndMayRunOut, IsOutcome};
 
-    /// A reader that was fed nothing. It keeps `alloc` for what it gathers.
+    /// A reader that was fed nothing, between forms. It keeps `alloc` for what it gathers.
     pub fn new(alloc: Global, limits: Limits) -> FormReader
         ensures new { IsNew result }
         ensures limits { limits_of result ≡ limits }
@@ -105,7 +105,8 @@ impl FormReader {
     /// After a refusal, and after it ran out of memory, it answers the same again. It runs out of memory only where the bytes
     /// with this one decide nothing and it keeps more (an open call, a mark of a token past its first 32, a character of a text
     /// or of a line that is kept), where the byte ends a name, a number that an open call needs memory to take, or the token of
-    /// a call, or where a call ends with it, and never at whitespace that is discarded where an object may begin.
+    /// a call, or where a call ends with it, and never at whitespace that is discarded where an object may begin. Between forms
+    /// whitespace is taken, unless the limit of the text is 0, and the reader stays there.
     pub fn step<R: MacroFunctions>(
         &mut self,
         byte: u8,
@@ -251,6 +252,7 @@ impl FormReader {
 
     /// The end of the text, under the same readtable, packages, current package and functions as its bytes. It runs out of
     /// memory only where the end of the text ends a name, a number with which a call ends, or the token or the line of a call.
+    /// Between forms the text is empty.
     pub fn finish<R: MacroFunctions>(
         self,
         readtable: &Readtable,
