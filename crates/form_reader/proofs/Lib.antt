@@ -34,6 +34,7 @@ pub mod EndSpending
 pub mod ReaderSteps
 pub mod Standings
 pub mod Bounded
+pub mod Between
 pub mod Keeping
 pub mod Backs
 pub mod Language

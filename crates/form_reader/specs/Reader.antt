@@ -63,6 +63,17 @@ pub record IsNew (reader : FormReader) : Type 0 where
   pub frames : reader.frames ≡ []
   pub state : reader.state ≡ Open AtObject
 
+-- It is between forms: nothing is open, and no attempt at an object has taken a byte.
+pub record IsBetween (reader : FormReader) : Type 0 where
+  pub at : reader.at ≡ 0
+  pub frames : reader.frames ≡ []
+  pub state : reader.state ≡ Open AtObject
+
+-- after a form it is between forms
+abbrev pub LeavesBetween : FormReader → Step → Type 0
+LeavesBetween new (StepForm datum start «end» next) = IsBetween new
+LeavesBetween new _ = Unit {0}
+
 -- The reader is after these bytes, in this setting: what is read of them, with any text after them, is what it stands for with
 -- this text. A reader that ran out of memory is after no bytes.
 abbrev pub IsAfterIn : Setting → FormReader → State → List ℕ → Type 0

@@ -4,6 +4,7 @@ use Rattle.form_reader.specs.declared.found.Found.{Found}
 use Rattle.form_reader.specs.declared.frame.Frame.{Frame}
 use Rattle.form_reader.specs.declared.limits.Limits.{Limits}
 use Rattle.form_reader.specs.declared.stage.Stage.{Stage}
+use Rattle.form_reader.specs.declared.stage.Stage.TheVariants.{Object as AtObject}
 use Rattle.form_reader.specs.declared.turn.Settled.{Settled}
 use Rattle.form_reader.specs.declared.turn.Settled.TheVariants.{Open as SettledOpen, Done as SettledDone, Refused as SettledRefused}
 use Rattle.form_reader.specs.declared.turn.Turn.{Turn}
@@ -56,3 +57,9 @@ abbrev pub BeginsFrom : ℕ → Turn → Type 0
 BeginsFrom from (Goes start at stage) = from ≤ start
 BeginsFrom from (Form x start «end» next) = from ≤ start
 BeginsFrom from (Refused code place) = Unit {0}
+
+-- where the attempt that is open has no byte, nothing is open
+abbrev pub BeginsAnew : List Frame → Turn → Type 0
+BeginsAnew frames (Goes start at stage) = at ≡ 0 → (frames ≡ []) × (stage ≡ AtObject)
+BeginsAnew frames (Form x start «end» next) = Unit {0}
+BeginsAnew frames (Refused code place) = Unit {0}

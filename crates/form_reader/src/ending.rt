@@ -5,6 +5,10 @@ ghost use Rattle.form_reader.specs.declared.frame.Frame.{Frame as OpenCall};
 ghost use Rattle.form_reader.specs.Setting.{Setting};
 ghost use Rattle.form_reader.specs.Surrounding.{setting_with};
 ghost use Rattle.form_reader.specs.declared.stage.Stage.TheVariants.{Object as AtObject, Token as AtToken, CallToken as AtCallToken, Line as AtLine};
+ghost use Rattle.form_reader.specs.declared.ending.ReadOutcome.TheVariants.{Empty as IsEmpty};
+ghost use Rattle.form_reader.specs.declared.found.Found.TheVariants.{TheEnd as the_end};
+ghost use Rattle.form_reader.specs.declared.stage.Event.TheVariants.{Stage as IsAt};
+ghost use Rattle.form_reader.specs.declared.turn.Settled.TheVariants.{Done as IsDone};
 ghost use Rattle.form_reader.specs.Resuming.{Brings, stage_gives};
 ghost use Rattle.form_reader.specs.Turning.{outcome_of, rest_of, Settles, IsStanding};
 ghost use Rattle.form_reader.specs.Ending.{ends_call, is_kept, TokenStops, IsLastEvent, IsLastSettled, EndNeedsMemory};
@@ -150,6 +154,7 @@ fn last<R: MacroFunctions>(
     ensures last { IfOk result (IsLastEvent at) }
     ensures memory { let setting = setting_with (R.registered with.now.macros.now) R.Meaning.way R.Meaning.answer with.now in
         (frames : List OpenCall) → round ≡ length frames → Spends (is_waiting frames) result (EndNeedsMemory setting frames stage at) }
+    ensures object { stage ≡ AtObject → result ≡ Ok (IsAt AtObject) }
 {
     match stage {
         Stage::Object => Ok(Event::Stage(Stage::Object)),
@@ -168,6 +173,7 @@ fn waited(calls: usize, at: usize) -> Settled
     ensures settles { (setting : Setting) (frames : List OpenCall) → calls ≡ length frames → at ≤ setting.limits.text
         → Settles setting frames at [] result (stage_gives setting frames AtObject at []) }
     ensures last { IsLastSettled at result }
+    ensures none { calls ≡ 0 → result ≡ IsDone the_end }
 {
     if calls == 0 {
         return Settled::Done(Found::TheEnd);
@@ -240,6 +246,7 @@ fn settle_last<R: MacroFunctions>(
     ensures last { IfOk result (IsLastSettled at) }
     ensures memory { let setting = setting_with (R.registered with.now.macros.now) R.Meaning.way R.Meaning.answer with.now in
         OnErr result (EndNeedsMemory setting frames.old stage at) }
+    ensures between { frames.old ≡ [] → stage ≡ AtObject → result ≡ Ok (IsDone the_end) }
 {
     match last(with, frames.len(), stage, at)? {
         Event::Stage(_) => Ok(waited(frames.len(), at)),
@@ -251,7 +258,8 @@ fn settle_last<R: MacroFunctions>(
 /// What the attempt that began at `start` came to at the end of the text, at the place `at` in it.
 fn done_last(found: Found, start: usize, at: usize) -> ReadOutcome
     requires count { start + at ≤ 2 ^ 63 }
-    ensures { (setting : Setting) → IsOutcome result (outcome_of setting start (Ok (found, at, []))) }
+    ensures outcome { (setting : Setting) → IsOutcome result (outcome_of setting start (Ok (found, at, []))) }
+    ensures the_end { found ≡ the_end → result ≡ IsEmpty }
 {
     match found {
         Found::Nothing(_) => ReadOutcome::Empty,
@@ -287,6 +295,7 @@ pub(crate) fn last_outcome<R: MacroFunctions>(
         IfOk result (λ outcome. IsOutcome outcome (rest_of setting frames.old stage start at [])) }
     ensures memory { let setting = setting_with (R.registered with.now.macros.now) R.Meaning.way R.Meaning.answer with.now in
         OnErr result (EndNeedsMemory setting frames.old stage at) }
+    ensures between { frames.old ≡ [] → stage ≡ AtObject → result ≡ Ok IsEmpty }
 {
     match settle_last(with, frames, stage, at)? {
         Settled::Open(_) => unreachable!(),

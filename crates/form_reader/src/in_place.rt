@@ -1,12 +1,12 @@
 //! One byte that begins a token, goes on one, or is whitespace where an object may begin, taken where the reader is.
-ghost use Rattle.std.specs.Prelude.{◌≡◌, ◌≤◌, ◌<◌, ◌+◌, ℕ, List, [], ◌∷◌, length, true, false, Ok, IfOk, IfSome, OnErr, IsTrue};
+ghost use Rattle.std.specs.Prelude.{◌≡◌, ◌≤◌, ◌<◌, ◌+◌, ℕ, List, [], ◌∷◌, length, true, false, Ok, None, IfOk, IfSome, OnErr, IsTrue};
 ghost use Rattle.form_reader.specs.Feeding.{is_going};
 ghost use Rattle.form_reader.specs.Surrounding.{setting_with};
 ghost use Rattle.form_reader.specs.declared.stage.Stage.TheVariants.{Object as AtObject};
 ghost use Rattle.form_reader.specs.Memory.{Costs, RunsOut, is_space};
 ghost use Rattle.form_reader.specs.Resuming.{stage_gives};
 ghost use Rattle.form_reader.specs.InPlace.{Begins, FeedsInPlace, IsReadyInPlace, Stays};
-ghost use Rattle.form_reader.specs.declared.in_place.InPlace.TheVariants.{Left as IsLeft};
+ghost use Rattle.form_reader.specs.declared.in_place.InPlace.TheVariants.{Left as IsLeft, Passed as IsPassed};
 ghost use Rattle.form_reader.specs.Reading.{is_whitespace};
 ghost use Rattle.form_reader.specs.Turning.{rest_of};
 
@@ -53,6 +53,9 @@ pub(crate) fn in_place<R: MacroFunctions>(
         OnErr result (is_space setting frames.now stage.old at c ≡ false) }
     ensures left { let setting = setting_with (R.registered with.now.macros.now) R.Meaning.way R.Meaning.answer with.now in
         result ≡ Ok IsLeft → is_space setting frames.now stage.old at c ≡ false }
+    ensures passed { let setting = setting_with (R.registered with.now.macros.now) R.Meaning.way R.Meaning.answer with.now in
+        frames.now ≡ [] → is_space setting frames.now stage.old at c ≡ true → (result ≡ Ok IsPassed) × (stage.new ≡ AtObject) }
+    ensures anew { result ≡ Ok IsPassed → (frames.now ≡ []) × (stage.new ≡ AtObject) }
 {
     match stage {
         Stage::Object => begin_in_place(with, frames, stage, at, c),
@@ -86,6 +89,9 @@ fn begin_in_place<R: MacroFunctions>(
         OnErr result (is_space setting frames.now stage.old at c ≡ false) }
     ensures left { let setting = setting_with (R.registered with.now.macros.now) R.Meaning.way R.Meaning.answer with.now in
         result ≡ Ok IsLeft → is_space setting frames.now stage.old at c ≡ false }
+    ensures passed { let setting = setting_with (R.registered with.now.macros.now) R.Meaning.way R.Meaning.answer with.now in
+        frames.now ≡ [] → is_space setting frames.now stage.old at c ≡ true → (result ≡ Ok IsPassed) × (stage.new ≡ AtObject) }
+    ensures anew { result ≡ Ok IsPassed → (frames.now ≡ []) × (stage.new ≡ AtObject) }
 {
     match begun_at(with, frames, at, c)? {
         Some(scan) => {
@@ -113,6 +119,8 @@ fn begun_at<R: MacroFunctions>(
         OnErr result (Costs setting frames.now c (at + 1) (λ cs. stage_gives setting frames.now AtObject at (c ∷ cs))) }
     ensures space { let setting = setting_with (R.registered with.now.macros.now) R.Meaning.way R.Meaning.answer with.now in
         OnErr result (is_space setting frames.now AtObject at c ≡ false) }
+    ensures none { let setting = setting_with (R.registered with.now.macros.now) R.Meaning.way R.Meaning.answer with.now in
+        is_space setting frames.now AtObject at c ≡ true → result ≡ Ok None }
 {
     if frames.is_closed_by(c) {
         return Ok(None);
@@ -139,6 +147,9 @@ fn discarded<R: MacroFunctions>(
     ensures ready { IsReadyInPlace with.now.limits at AtObject result }
     ensures left { let setting = setting_with (R.registered with.now.macros.now) R.Meaning.way R.Meaning.answer with.now in
         result ≡ IsLeft → is_space setting frames.now AtObject at c ≡ false }
+    ensures passed { let setting = setting_with (R.registered with.now.macros.now) R.Meaning.way R.Meaning.answer with.now in
+        frames.now ≡ [] → is_space setting frames.now AtObject at c ≡ true → result ≡ IsPassed }
+    ensures anew { result ≡ IsPassed → frames.now ≡ [] }
 {
     if !is_discarded(with, frames, at, c) {
         return InPlace::Left;

@@ -10,7 +10,7 @@ ghost use Rattle.user_macros.specs.Calls.{MacroCall, MacroAnswer};
 ghost use Rattle.form_reader.specs.declared.limits.Limits.{Limits};
 ghost use Rattle.form_reader.specs.declared.reader.FormReader.{FormReader};
 ghost use Rattle.form_reader.specs.declared.reader.Step.TheVariants.{More};
-ghost use Rattle.form_reader.specs.Reader.{Steps};
+ghost use Rattle.form_reader.specs.Reader.{IsAfter, IsBetween, Steps};
 ghost use Rattle.form_reader.specs.declared.way.Keep.{Keep};
 ghost use Rattle.form_reader.specs.Plans.{Plan, loop, run};
 ghost use Rattle.form_reader.specs.Setting.{Setting, setting_of};
@@ -127,4 +127,13 @@ pub fn only_registered_names_matter()
 pub fn what_is_decided_is_answered()
     ensures { (setting : Setting) (reader : FormReader) (bytes : List ℕ) (o : Outcome) → Steps setting reader bytes More
         → ((more : List ℕ) → reads setting (bytes ++ more) ≡ o) → ⊥ }
+{}
+
+/// The bytes before a reader that is between forms are discarded text, and the text after them is read as a text that begins
+/// there.
+pub fn texts_begin_between_forms()
+    ensures discarded { (setting : Setting) (reader : FormReader) (bytes : List ℕ) → IsAfter setting reader bytes → IsBetween reader
+        → reads setting bytes ≡ empty }
+    ensures begins { (setting : Setting) (reader : FormReader) (bytes more : List ℕ) → IsAfter setting reader bytes → IsBetween reader
+        → reads setting (bytes ++ more) ≡ reads_at setting (length bytes) more }
 {}

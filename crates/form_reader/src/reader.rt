@@ -60,23 +60,24 @@ pub enum Step {
 }
 
 impl FormReader {
-    ghost use Rattle.std.specs.Prelude.{◌≡◌, ◌<◌, ◌≤◌, ◌+◌, ◌^◌, ℕ, List, [], ◌∷◌, ◌++◌, length, Ok, IfOk, IsErr, OnErr};
+    ghost use Rattle.std.specs.Prelude.{◌≡◌, ◌<◌, ◌≤◌, ◌+◌, ◌^◌, ℕ, true, List, [], ◌∷◌, ◌++◌, length, Ok, IfOk, IsErr, OnErr};
     ghost use Rattle.package_table.specs.Table.{IsPackage};
     ghost use Rattle.form_reader.specs.Setting.{Setting, setting_of};
     ghost use Rattle.form_reader.specs.Surrounding.{setting_with};
     ghost use Rattle.lisp_object.specs.Object.{Object};
-    ghost use Rattle.form_reader.specs.Reading.{form, reads};
-    ghost use Rattle.form_reader.specs.declared.reader.Step.TheVariants.{Refused as StepRefused};
-    ghost use Rattle.form_reader.specs.declared.ending.ReadOutcome.TheVariants.{Refused as ReadRefused};
+    ghost use Rattle.form_reader.specs.Reading.{form, is_whitespace, reads};
+    ghost use Rattle.form_reader.specs.declared.reader.Step.TheVariants.{More as StepMore, Refused as StepRefused};
+    ghost use Rattle.form_reader.specs.declared.ending.ReadOutcome.TheVariants.{Empty as ReadEmpty, Refused as ReadRefused};
     ghost use Rattle.form_reader.specs.Turning.{IsReadyTurn, BeginsFrom};
-    ghost use Rattle.form_reader.specs.Reader.{limits_of, fed, begun, HasRefused, HasNoMemory, IsNew, IsAfter, IsLeftAt, Steps, BeginsLater, IsSoundStep, Takes, MayRunOut, EndMayRunOut, IsOutcome};
+    ghost use Rattle.form_reader.specs.Reader.{limits_of, fed, begun, HasRefused, HasNoMemory, IsNew, IsBetween, LeavesBetween, IsAfter, IsLeftAt, Steps, BeginsLater, IsSoundStep, Takes, MayRunOut, EndMayRunOut, IsOutcome};
 
-    /// A reader that was fed nothing. It keeps `alloc` for what it gathers.
+    /// A reader that was fed nothing, between forms. It keeps `alloc` for what it gathers.
     pub fn new(alloc: Global, limits: Limits) -> FormReader
         ensures new { IsNew result }
         ensures limits { limits_of result ≡ limits }
         ensures begun { begun result ≡ 0 }
         ensures after { (setting : Setting) → IsAfter setting result [] }
+        ensures between { IsBetween result }
     {
         FormReader {
             limits,
@@ -104,7 +105,8 @@ impl FormReader {
     /// After a refusal, and after it ran out of memory, it answers the same again. It runs out of memory only where the bytes
     /// with this one decide nothing and it keeps more (an open call, a mark of a token past its first 32, a character of a text
     /// or of a line that is kept), where the byte ends a name, a number that an open call needs memory to take, or the token of
-    /// a call, or where a call ends with it, and never at whitespace that is discarded where an object may begin.
+    /// a call, or where a call ends with it, and never at whitespace that is discarded where an object may begin. Between forms
+    /// whitespace is taken, unless the limit of the text is 0, and the reader stays there.
     pub fn step<R: MacroFunctions>(
         &mut self,
         byte: u8,
@@ -140,6 +142,10 @@ impl FormReader {
             (setting_of (limits_of self.old) readtable.now packages.now.0 current.now
             (R.registered macros.now) R.Meaning.way R.Meaning.answer)
             self.old bytes byte) }
+        ensures between { IsBetween self.old → is_whitespace readtable.now byte ≡ true → 0 < (limits_of self.old).text
+            → (result ≡ Ok StepMore) × IsBetween self.new }
+        ensures between_forms { IfOk result (LeavesBetween self.new) }
+        ensures nothing_open { result ≡ Ok StepMore → begun self.new ≡ fed self.new → IsBetween self.new }
     {
         let with = Surroundings {
             alloc: self.alloc,
@@ -200,6 +206,8 @@ impl FormReader {
         ensures memory { OnErr result (HasNoMemory self.new) }
         ensures needs { let setting = setting_with (R.registered with.now.macros.now) R.Meaning.way R.Meaning.answer with.now in
             (bytes : List ℕ) → IsAfter setting self.old bytes → OnErr result (MayRunOut setting self.old bytes byte) }
+        ensures between_forms { IfOk result (LeavesBetween self.new) }
+        ensures nothing_open { result ≡ Ok StepMore → begun self.new ≡ fed self.new → IsBetween self.new }
     {
         match mem::replace(&mut self.state, State::OutOfMemory) {
             State::Open(stage) => {
@@ -246,6 +254,7 @@ impl FormReader {
 
     /// The end of the text, under the same readtable, packages, current package and functions as its bytes. It runs out of
     /// memory only where the end of the text ends a name, a number with which a call ends, or the token or the line of a call.
+    /// Between forms the text is empty.
     pub fn finish<R: MacroFunctions>(
         self,
         readtable: &Readtable,
@@ -269,6 +278,7 @@ impl FormReader {
             (setting_of (limits_of self) readtable.now packages.now.0 current.now
             (R.registered macros.now) R.Meaning.way R.Meaning.answer)
             self) }
+        ensures between { IsBetween self → result ≡ Ok ReadEmpty }
     {
         let FormReader {
             limits,

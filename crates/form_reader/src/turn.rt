@@ -11,7 +11,7 @@ ghost use Rattle.form_reader.specs.Frames.{needs_memory};
 ghost use Rattle.form_reader.specs.Memory.{event_needs, is_nothing, RunsOut, SpendsPass};
 ghost use Rattle.form_reader.specs.Resuming.{Brings, stage_gives};
 ghost use Rattle.form_reader.specs.Ready.{lookahead, IsReady, IsReadyPass};
-ghost use Rattle.form_reader.specs.Turning.{outcome_of, rest_of, Settles, TurnsTo, IsStanding, IsReadySettled, IsReadyTurn, BeginsFrom};
+ghost use Rattle.form_reader.specs.Turning.{outcome_of, rest_of, Settles, TurnsTo, IsStanding, IsReadySettled, IsReadyTurn, BeginsFrom, BeginsAnew};
 
 use crate::advance::advance;
 use crate::deliver::{Delivered, deliver};
@@ -114,6 +114,7 @@ fn done_after(found: Found, start: usize, at: usize) -> Turn
     ensures turns { (setting : Setting) (cs : List ℕ) → TurnsTo setting [] cs result (outcome_of setting start (Ok (found, at, cs))) }
     ensures ready { (limits : Bounds) (frames : List OpenCall) → length frames ≤ limits.nesting → IsReadyTurn limits frames (start + at) result }
     ensures begins { BeginsFrom start result }
+    ensures anew { BeginsAnew [] result }
 {
     match found {
         Found::Nothing(_) => Turn::Goes(start + at, 0, Stage::Object),
@@ -141,6 +142,7 @@ fn turn_of<R: MacroFunctions>(
         → IfOk result (λ turn. TurnsTo setting frames.new cs turn (outcome_of setting start read)) }
     ensures ready { IfOk result (IsReadyTurn with.now.limits frames.new (start + at)) }
     ensures begins { IfOk result (BeginsFrom start) }
+    ensures anew { 0 < at → IfOk result (BeginsAnew frames.new) }
     ensures memory { OnErr result (event_needs frames.old event ≡ true) }
 {
     match settle(with, frames, event, at)? {
@@ -169,6 +171,7 @@ fn done_before<R: MacroFunctions>(
         (outcome_of setting start (Ok (found, at, c ∷ cs)))) }
     ensures ready { IfOk result (IsReadyTurn with.now.limits frames.new (start + at + 1)) }
     ensures begins { IfOk result (BeginsFrom start) }
+    ensures anew { IfOk result (BeginsAnew frames.new) }
     ensures memory { OnErr result (is_nothing found ≡ true) }
 {
     match found {
@@ -205,6 +208,7 @@ pub(crate) fn take_byte<R: MacroFunctions>(
         (rest_of setting frames.old stage start at (c ∷ cs))) }
     ensures ready { IfOk result (IsReadyTurn with.now.limits frames.new (start + at + 1)) }
     ensures begins { IfOk result (BeginsFrom start) }
+    ensures anew { IfOk result (BeginsAnew frames.new) }
     ensures memory { let setting = setting_with (R.registered with.now.macros.now) R.Meaning.way R.Meaning.answer with.now in
         OnErr result (RunsOut setting frames.old stage at c) }
 {

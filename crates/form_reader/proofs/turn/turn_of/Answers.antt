@@ -1,4 +1,6 @@
+use Rattle.std.proofs.Common.{[]}
 use Rattle.form_reader.specs.Surrounding.{setting_with}
+use Rattle.form_reader.proofs.Between.{brought, done_anew}
 use Rattle.form_reader.proofs.TurnsTaken.{done_turns, done_nesting}
 use Rattle.form_reader.proofs.turn.turn_of.Goals as goal
 
@@ -11,3 +13,9 @@ pub returns-in-Done-clause-ready : goal.returns-in-Done-clause-ready
 returns-in-Done-clause-ready g c =
     c.done_after.ensures.ready c.args.with.now.limits c.settle.new.frames
     (done_nesting c.args.with.now.limits c.settle.new.frames c.args.at _ _ c.in-Done.is c.in_ok-stage.ensures.ready)
+
+pub returns-in-Done-clause-anew : goal.returns-in-Done-clause-anew
+returns-in-Done-clause-anew g c = λ some.
+    let setting = setting_with (g.R.MacroFunctions.registered c.args.with.now.macros.now) g.R.Meaning.Meaning.way g.R.Meaning.Meaning.answer c.args.with.now in
+    let own = brought setting c.args.frames.now c.args.at c.args.event in
+    done_anew setting c.settle.new.frames c.args.at _ c.in-Done.found own.0 c.done_after.result c.in-Done.is (c.in_ok-stage.ensures.settles [] own.0 own.1) c.done_after.ensures.anew

@@ -1,7 +1,9 @@
-use Rattle.std.proofs.Common.{sym, subst, ◌∙◌, refl}
+use Rattle.std.proofs.Common.{◌≡◌, [], sym, subst, ◌∙◌, refl}
 use Rattle.form_reader.specs.declared.reader.State.{State}
+use Rattle.form_reader.specs.declared.reader.Step.TheVariants.{More as StepMore}
 use Rattle.form_reader.specs.Surrounding.{setting_with}
 use Rattle.form_reader.specs.Reader.{IsAfterIn}
+use Rattle.form_reader.proofs.Between.{leaves_between, anew_between}
 use Rattle.form_reader.proofs.ReaderSteps.{stepped, runs_out, left_space}
 use Rattle.token_scan.proofs.Forwards.{held}
 use Rattle.form_reader.proofs.reader.FormReader.leave.Goals as goal
@@ -19,3 +21,13 @@ returns-clause-steps g c = λ bytes after.
     stepped setting c.args.self.now _ c.take.new.self c.in-Open.stage bytes c.args.byte c.take_byte.new.frames c.in_ok-next-in-Open.next c.take.result
     (subst (λ (s : State). IsAfterIn setting c.args.self.now s bytes) (sym c.replace.ensures.value ∙ c.in-Open.is) after)
     c.in_ok-next-in-Open.ensures.turns c.in_ok-next-in-Open.ensures.ready c.take.ensures.takes refl
+
+pub returns-clause-between_forms : goal.returns-clause-between_forms
+returns-clause-between_forms g c =
+    let setting = setting_with (g.R.MacroFunctions.registered c.args.with.now.macros.now) g.R.Meaning.Meaning.way g.R.Meaning.Meaning.answer c.args.with.now in
+    leaves_between setting _ c.take.new.self c.take_byte.new.frames c.in_ok-next-in-Open.next c.take.result _ (c.in_ok-next-in-Open.ensures.turns []) c.take.ensures.takes refl
+
+pub returns-clause-nothing_open : goal.returns-clause-nothing_open
+returns-clause-nothing_open g c = λ e here.
+    let more : c.take.result ≡ StepMore = cc in
+    anew_between _ c.take.new.self c.take_byte.new.frames c.in_ok-next-in-Open.next c.take.result c.in_ok-next-in-Open.ensures.anew c.take.ensures.takes refl more here
