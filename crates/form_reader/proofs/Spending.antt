@@ -10,7 +10,8 @@ use Rattle.token_meaning.specs.declared.refusal.MeaningRefusal.{MeaningRefusal}
 use Rattle.token_meaning.specs.Folding.{folded}
 use Rattle.token_meaning.specs.Meanings.{Meaning, number, dot, name, meaning_of}
 use Rattle.token_scan.specs.declared.mark.Mark.{Mark}
-use Rattle.token_scan.specs.Scans.{Scan}
+use Rattle.token_scan.specs.Scans.{Scan, marks_of}
+use Rattle.token_scan.specs.Tokens.{typed}
 use Rattle.std_macros.specs.Values.{Material, marked, nothing as no_material}
 use Rattle.form_reader.specs.declared.told.Told.{Told}
 use Rattle.form_reader.specs.declared.told.Told.TheVariants.{Object as told_object, Dot as dot_alone}
@@ -157,11 +158,11 @@ token_taken setting frames stage later on scan new at c more stands lt first the
     with_it frames (as_they_were refl) (goes_on more frames later (omega (arith, lt)) stands (λ cs. first cs ∙ ap (token_goes_on setting frames on) (read cs) ∙ sym (then cs)))
 
 -- the same where it is known where the reader is
-pub token_taken_at : (setting : Setting) (frames : List Frame) (stage : Stage) (scan new : Scan) (at c : ℕ) → stage ≡ AtToken scan → 32 ≤ length scan.marks → GoesOn setting.table setting.limits scan at c → IsStageAt (at + 1) (AtToken new) → at < setting.limits.text
+pub token_taken_at : (setting : Setting) (frames : List Frame) (stage : Stage) (scan new : Scan) (at c : ℕ) → stage ≡ AtToken scan → 32 ≤ length scan.marks → 0 < length (marks_of scan.stage (typed setting.table c)) → GoesOn setting.table setting.limits scan at c → IsStageAt (at + 1) (AtToken new) → at < setting.limits.text
     → ((cs : List ℕ) → token_read setting.table setting.limits scan at (c ∷ cs) ≡ token_read setting.table setting.limits new (at + 1) cs) → RunsOut setting frames stage at c
-token_taken_at setting frames stage scan new at c e many next stands lt read =
+token_taken_at setting frames stage scan new at c e many adds next stands lt read =
     subst (λ (s : Stage). RunsOut setting frames s at c) (sym e)
-    (token_taken setting frames (AtToken scan) (AtToken new) (token_found setting) scan new at c (by_mark many next) stands lt (λ cs. refl) (λ cs. refl) read)
+    (token_taken setting frames (AtToken scan) (AtToken new) (token_found setting) scan new at c (by_mark many adds next) stands lt (λ cs. refl) (λ cs. refl) read)
 
 -- a token of a call has ended
 module _ (setting : Setting) (frames : List Frame) (call : InvokedCall) (old new : Scan) (marks : List Mark) (fed : LineByte) (at c round : ℕ) (e : fed ≡ LineEnded)

@@ -1,5 +1,5 @@
 -- Where memory may run out: where reading goes on, or where something was found.
-use Rattle.std.specs.Prelude.{ℕ, ◌≡◌, ◌+◌, ◌≤◌, ◌==◌, ◌&&◌, ◌||◌, nat_lt, not, Bool, true, false, List, [], ◌∷◌, ◌++◌, length, Option, Some, None, Result, Ok, Err}
+use Rattle.std.specs.Prelude.{ℕ, ◌≡◌, ◌+◌, ◌<◌, ◌≤◌, ◌==◌, ◌&&◌, ◌||◌, nat_lt, not, Bool, true, false, List, [], ◌∷◌, ◌++◌, length, Option, Some, None, Result, Ok, Err}
 use Rattle.std.specs.declared.alloc.AllocError.{AllocError}
 use Rattle.lisp_object.specs.declared.refusal.TheConstants.{MACRO_REFUSED, MACRO_ANSWER}
 use Rattle.readtable_core.specs.Characters.{upper_case}
@@ -11,7 +11,8 @@ use Rattle.token_meaning.specs.declared.refusal.MeaningRefusal.{MeaningRefusal}
 use Rattle.token_meaning.specs.Folding.{folded}
 use Rattle.token_meaning.specs.Meanings.{Meaning, number, dot, name, meaning_of}
 use Rattle.token_scan.specs.declared.mark.Mark.{Mark}
-use Rattle.token_scan.specs.Scans.{Scan}
+use Rattle.token_scan.specs.Scans.{Scan, marks_of}
+use Rattle.token_scan.specs.Tokens.{typed}
 use Rattle.form_reader.specs.declared.found.Found.{Found}
 use Rattle.form_reader.specs.declared.found.Found.TheVariants.{Nothing as nothing, One as one}
 use Rattle.form_reader.specs.declared.way.Function.{Function}
@@ -237,9 +238,9 @@ is_space setting frames AtObject at c =
     nat_lt at setting.limits.text && (is_whitespace setting.table c && not (is_closed_by (close_of_frames frames) c))
 is_space setting frames _ at c = false
 
--- A token that has 32 marks or more takes the byte at this place; or the byte ends the token, and opens a call.
+-- A token that has 32 marks or more takes the byte at this place, which adds one; or the byte ends the token, and opens a call.
 pub data TokenGrows (setting : Setting) (scan : Scan) (at c : ℕ) : Type 0 where
-  by_mark : 32 ≤ length scan.marks → GoesOn setting.table setting.limits scan at c → TokenGrows setting scan at c
+  by_mark : 32 ≤ length scan.marks → 0 < length (marks_of scan.stage (typed setting.table c)) → GoesOn setting.table setting.limits scan at c → TokenGrows setting scan at c
   by_call : (marks : List Mark) → TokenEnds setting scan marks at c → OpensAtPlace setting c → TokenGrows setting scan at c
 
 -- More is kept after the byte at this place, where reading goes on: one more open call, one more mark of a token, past its first

@@ -32,7 +32,7 @@ limits_of reader = reader.limits
 abbrev pub fed : FormReader → ℕ
 fed reader = reader.start + reader.at
 
--- where the object, or the discarded call or text, that is now open began; the bytes before it matter no more
+-- where the object, or the discarded call or text, that is now open began; a form begins there or later
 abbrev pub begun : FormReader → ℕ
 begun reader = reader.start
 

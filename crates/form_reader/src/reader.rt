@@ -90,7 +90,7 @@ impl FormReader {
     }
 
     /// Where the object, or the discarded call or text, that is now open began, as a number of bytes from the beginning of
-    /// the text. The bytes before it matter no more: a form that is read begins there or later.
+    /// the text. A form that is read begins there or later, so the bytes before it need not be kept.
     pub fn begun(&self) -> usize
         ensures place { result ≡ begun self.now }
         ensures within { result ≤ fed self.now }

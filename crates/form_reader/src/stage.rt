@@ -2,7 +2,7 @@
 ghost use Rattle.std.specs.Prelude.{◌≡◌, ◌≤◌, ◌<◌, ℕ, List, [], ◌∷◌, length, IfOk, IsOk, OnErr, IsTrue, IsFalse, Ok};
 ghost use Rattle.token_scan.specs.Tokens.{kind, typed, typed_text};
 ghost use Rattle.token_scan.specs.Spelling.{ends_tokens};
-ghost use Rattle.token_scan.specs.Scans.{GoesPast, Scan, begun, has_begun, token_from};
+ghost use Rattle.token_scan.specs.Scans.{GoesPast, Scan, begun, has_begun, marks_of, token_from};
 ghost use Rattle.form_reader.specs.Feeding.{TokenFeeds, GoesOn, is_going, token_read};
 ghost use Rattle.form_reader.specs.declared.bytes.LineByte.TheVariants.{Ended as LineEnded, More as LineMore};
 ghost use Rattle.form_reader.specs.Begun.{BegunFeeds, FirstFeeds, IsBegunByte};
@@ -109,6 +109,7 @@ impl BegunScan {
             (GoesPast at (token_from self.old at (typed_text readtable.now (c ∷ more)))) }
         ensures next { OnErr result (GoesOn readtable.now limits.now self.old at c) }
         ensures inline { OnErr result (32 ≤ length self.old.marks) }
+        ensures marks { OnErr result (0 < length (marks_of self.old.stage (typed readtable.now c))) }
     {
         token_byte(readtable, limits, &mut self.scan, at, c)
     }
@@ -134,6 +135,7 @@ impl BegunScan {
             (GoesPast at (token_from self at (typed_text readtable.now (c ∷ more)))) }
         ensures next { OnErr result (GoesOn readtable.now limits.now self at c) }
         ensures inline { OnErr result (32 ≤ length self.marks) }
+        ensures marks { OnErr result (0 < length (marks_of self.stage (typed readtable.now c))) }
     {
         let BegunScan { mut scan } = self;
         match token_byte(readtable, limits, &mut scan, at, c)? {

@@ -4,7 +4,7 @@ ghost use Rattle.lisp_object.specs.declared.refusal.TheConstants.{FORM_TOO_LONG}
 ghost use Rattle.token_scan.specs.declared.stage.Stage.TheVariants.{Outside};
 ghost use Rattle.token_scan.specs.Tokens.{kind, typed, typed_text};
 ghost use Rattle.token_scan.specs.Spelling.{ends_tokens};
-ghost use Rattle.token_scan.specs.Scans.{GoesPast, has_begun, token_from};
+ghost use Rattle.token_scan.specs.Scans.{GoesPast, has_begun, marks_of, token_from};
 ghost use Rattle.form_reader.specs.declared.bytes.LineByte.TheVariants.{Ended as LineEnded, More as LineMore};
 ghost use Rattle.form_reader.specs.Feeding.{TokenFeeds, GoesOn, is_going, token_read, refused_number};
 
@@ -40,6 +40,7 @@ pub(crate) fn token_byte(
     ensures goes { (more : List ℕ) → OnErr result (GoesPast at (token_from scan.old at (typed_text readtable.now (c ∷ more)))) }
     ensures next { OnErr result (GoesOn readtable.now limits.now scan.old at c) }
     ensures inline { OnErr result (32 ≤ length scan.old.marks) }
+    ensures marks { OnErr result (0 < length (marks_of scan.old.stage (typed readtable.now c))) }
 {
     match scan.feed(readtable.syntax(c), c) {
         Ok(Fed::Ended) => Ok(LineByte::Ended),

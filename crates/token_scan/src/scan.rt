@@ -48,7 +48,7 @@ impl Model for TokenScan {
 
 impl TokenScan {
     ghost use Rattle.token_scan.specs.declared.scan.Fed.TheVariants.{More, Refused as FedRefused};
-    ghost use Rattle.token_scan.specs.Scans.{begun, begun_escaped, refused, from_stage, token_from, fed_gives, GoesPast, LeavesBy, Leaves};
+    ghost use Rattle.token_scan.specs.Scans.{begun, begun_escaped, refused, from_stage, token_from, fed_gives, marks_of, GoesPast, LeavesBy, Leaves};
 
     /// An empty token of at most `limit` characters, which bars and escapes are not. It keeps `alloc` for its marks, of
     /// which 32 need no memory.
@@ -86,6 +86,7 @@ impl TokenScan {
         ensures repeats { (refusal : ScanRefusal) → self.old.stage ≡ Refused refusal
             → result ≡ Ok (FedRefused refusal) }
         ensures inline { length self.old.marks < 32 → IsOk result }
+        ensures marks { OnErr result (0 < length (marks_of self.old.stage (met syntax byte))) }
         ensures no_end { result ≡ Ok (FedRefused EndOfFile) → self.old.stage ≡ Refused EndOfFile }
     {
         match (self.stage, kind_of(syntax, byte)) {

@@ -24,7 +24,7 @@ pub returns-in_err-token_byte-clause-memory : goal.returns-in_err-token_byte-cla
 returns-in_err-token_byte-clause-memory g c =
     let setting = setting_with (g.R.MacroFunctions.registered c.args.with.now.macros.now) g.R.Meaning.Meaning.way g.R.Meaning.Meaning.answer c.args.with.now in
     λ frames open_calls. let next = c.in_err-token_byte.ensures.next in
-    moved _ c.from_residual.result _ (token_taken setting frames (AtCallToken c.args.call c.args.scan) (AtCallToken c.args.call next.new) _ c.args.scan next.new c.args.at c.args.c (by_mark c.in_err-token_byte.ensures.inline next) next.going next.below
+    moved _ c.from_residual.result _ (token_taken setting frames (AtCallToken c.args.call c.args.scan) (AtCallToken c.args.call next.new) _ c.args.scan next.new c.args.at c.args.c (by_mark c.in_err-token_byte.ensures.inline c.in_err-token_byte.ensures.marks next) next.going next.below
     (λ cs. refl) (λ cs. refl) next.read)
 
 pub returns-in_err-ended-in-Ended-clause-memory : goal.returns-in_err-ended-in-Ended-clause-memory

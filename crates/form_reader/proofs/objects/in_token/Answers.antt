@@ -9,7 +9,7 @@ pub returns-in_err-scan-clause-memory : goal.returns-in_err-scan-clause-memory
 returns-in_err-scan-clause-memory g c =
     let setting = setting_with (g.R.MacroFunctions.registered c.args.with.now.macros.now) g.R.Meaning.Meaning.way g.R.Meaning.Meaning.answer c.args.with.now in
     λ frames. let next = c.in_err-scan.ensures.next in
-    moved _ c.from_residual.result _ (token_taken setting frames (AtToken c.args.scan) (AtToken next.new) _ c.args.scan next.new c.args.at c.args.c (by_mark c.in_err-scan.ensures.inline next) next.going next.below
+    moved _ c.from_residual.result _ (token_taken setting frames (AtToken c.args.scan) (AtToken next.new) _ c.args.scan next.new c.args.at c.args.c (by_mark c.in_err-scan.ensures.inline c.in_err-scan.ensures.marks next) next.going next.below
     (λ cs. refl) (λ cs. refl) next.read)
 
 pub returns-in_err-token_end-in-Ended-clause-memory : goal.returns-in_err-token_end-in-Ended-clause-memory
