@@ -1,3 +1,4 @@
+pub mod Dotted
 pub mod Headed
 pub mod MarkNames
 pub mod Names

@@ -1,9 +1,9 @@
 //! The value of each standard function.
-ghost use Rattle.std.specs.Prelude.{◌≡◌, ◌≢◌, ◌≤◌, ℕ, true, codes, map, [], Err, IfOk, IfSome, IsTrue, OnErr, Option, option_map};
+ghost use Rattle.std.specs.Prelude.{◌≡◌, ◌≢◌, ◌≤◌, ◌<◌, ℕ, true, codes, length, map, [], Err, IsOk, IfOk, IfSome, IsTrue, OnErr, Option, option_map};
 ghost use Rattle.std.specs.List.{list_all, list_any};
 ghost use Rattle.lisp_object.specs.Ascii.{is_ascii};
 ghost use Rattle.lisp_object.specs.Datum.{is_proper, object_of};
-ghost use Rattle.lisp_object.specs.Object.{list_of};
+ghost use Rattle.lisp_object.specs.Object.{list_of, pairs};
 ghost use Rattle.token_scan.specs.Marks.{are_ascii};
 ghost use Rattle.token_meaning.specs.Folding.{folded};
 ghost use Rattle.token_meaning.specs.Meanings.{is_package_marker};
@@ -30,7 +30,7 @@ use token_scan::{Mark, Marks, characters};
 ///
 /// 4 STRAY-CLOSE, 8 NUMBER-RANGE, 9 ZERO-DENOMINATOR, 15 NUMERIC-ARGUMENT, 16 CHARACTER-NAME, 17 RADIX-TOKEN,
 /// 18 VECTOR-LENGTH, 19 UNINTERNED-TOKEN, 25 OUT-OF-PROFILE; and out of memory, where an object is given that is a symbol, a
-/// list that is quoted or has a dot, or a vector that repeats its last object. Any other is moved.
+/// list that is quoted or ends in an object other than NIL, or a vector that repeats its last object. Any other is moved.
 pub fn finish(
     alloc: Global,
     kind: Standard,
@@ -75,7 +75,7 @@ fn list(alloc: Global, gathered: StdGathered) -> Result<Finished, FinishError>
     match gathered {
         StdGathered::Many(items) => Ok(Finished::One(list_of(alloc, items)?)),
         StdGathered::Dotted { items, tail } => {
-            Ok(Finished::One(Datum::list(alloc, items.into_vec(), Some(tail))?))
+            Ok(Finished::One(dotted_list(alloc, items, tail)?))
         }
         _ => Ok(Finished::Nothing),
     }
@@ -93,6 +93,23 @@ fn list_of(alloc: Global, items: Items<Datum>) -> Result<Datum, AllocError>
     } else {
         Ok(Datum::List { items, tail: None })
     }
+}
+
+/// The list of these objects that ends in `tail`. Where there is one, and the tail is NIL, it takes no memory.
+fn dotted_list(alloc: Global, items: Items<Datum>, tail: Datum) -> Result<Datum, AllocError>
+    requires items { list_all is_proper items ≡ true }
+    requires tail { is_proper tail ≡ true }
+    ensures object { IfOk result (λ d. object_of d ≡ pairs (map object_of items) (object_of tail)) }
+    ensures proper { IfOk result (λ d. is_proper d ≡ true) }
+    ensures moved { 0 < length items → tail ≡ Datum.Symbol (codes "COMMON-LISP") (codes "NIL") → IsOk result }
+{
+    if items.is_empty() {
+        return Ok(tail);
+    }
+    if tail.is_nil() {
+        return list_of(alloc, items);
+    }
+    Datum::list(alloc, items.into_vec(), Some(tail))
 }
 
 fn text(gathered: StdGathered) -> Result<Finished, FinishError>
