@@ -1,6 +1,6 @@
 -- What is read before a byte is read whatever follows that byte.
 use Rattle.std.proofs.Common.{◌≡◌, ℕ, zero, suc, ◌+◌, ◌-◌, ◌<◌, Bool, true, false, List, [], ◌∷◌, ◌++◌, length, take, drop, Result, Ok, Err, IfOk, refl, sym, ap, subst, ◌∙◌, append_assoc, length-append, arith}
-use Rattle.std.specs.Prelude.{nat_le}
+use Rattle.std.specs.Prelude.{nat_le, if◌then◌else◌}
 use Rattle.lisp_object.specs.declared.refusal.TheConstants.{FORM_TOO_LONG}
 use Rattle.lisp_object.specs.Object.{Object}
 use Rattle.readtable_core.specs.Tables.{Table}
@@ -14,7 +14,7 @@ use Rattle.form_reader.specs.declared.limits.Limits.{Limits}
 use Rattle.form_reader.specs.declared.found.Found.{Found}
 use Rattle.form_reader.specs.declared.found.Found.TheVariants.{Nothing as nothing, One as one, LoneDot as lone_dot, TheEnd as the_end}
 use Rattle.form_reader.specs.Setting.{Setting}
-use Rattle.form_reader.specs.Reading.{attempt, Outcome, form, empty, space_at, outcome, reads_in, reads_at, reads}
+use Rattle.form_reader.specs.Reading.{attempt, is_whitespace, Outcome, form, empty, space_at, outcome, reads_in, reads_at, reads}
 use Rattle.form_reader.proofs.Places.{Parted, Parts, parts}
 use Rattle.form_reader.proofs.Forms.{first, the_end_there, reads_is, stood, drop_front, space_small}
 use Rattle.form_reader.proofs.Framing.{Framed, framed}
@@ -189,3 +189,24 @@ form_again setting whole more x start «end» next e lt =
     (λ i. reads setting (take (count_is i) (here_is i) ++ more))
     ∙ form_follows setting text more x 0 s.size (s.size + space_at setting.table s.is_token (take 1 s.rest)) here (omega (arith, total, p.place, kept.1))
     ∙ (λ i. form x 0 (size_is i) (next_is i))
+
+-- what is discarded with a form is one whitespace character, right after it
+blank_rest : (table : Table) (token : Bool) (rest : List ℕ) → 0 < space_at table token rest → (c : ℕ) × (more : List ℕ) × (rest ≡ c ∷ more) × (is_whitespace table c ≡ true)
+blank_rest table false rest some = absurd (omega (arith, some))
+blank_rest table true [] some = absurd (omega (arith, some))
+blank_rest table true (c ∷ cs) some = (c, cs, refl, by (is_whitespace table c) refl some)
+  where
+    by : (b : Bool) → is_whitespace table c ≡ b → 0 < (if b then 1 else 0) → is_whitespace table c ≡ true
+    by true e less = e
+    by false e less = absurd (omega (arith, less))
+
+pub form_spaced : (setting : Setting) (text : List ℕ) (x : Object) (start «end» next : ℕ) → reads setting text ≡ form x start «end» next → «end» < next
+    → (c : ℕ) × (rest : List ℕ) × (drop «end» text ≡ c ∷ rest) × (is_whitespace setting.table c ≡ true)
+unfolding reads
+form_spaced setting text x start «end» next e lt =
+    let s = stood setting (length text + 1) 0 text x start «end» next e in
+    let p : Parted 0 s.here s.size s.rest = subst (λ (r : Read Found). Parts 0 s.here r) s.found (parts setting.table setting.limits (attempt setting setting.limits.nesting) 0 s.here) in
+    let b = blank_rest setting.table s.is_token s.rest (omega (arith, lt, s.end_is, s.next_is)) in
+    let whole : text ≡ (s.front ++ p.taken) ++ s.rest = s.split ∙ ap (λ (ds : List ℕ). s.front ++ ds) p.split ∙ sym (append_assoc s.front p.taken s.rest) in
+    let end_is : «end» ≡ length (s.front ++ p.taken) = omega (arith, s.end_is, s.start_is, p.place, length-append s.front p.taken) in
+    (b.0, b.1, (λ i. drop (end_is i) (whole i)) ∙ drop_front (s.front ++ p.taken) s.rest ∙ b.2, b.3)

@@ -1,5 +1,5 @@
 //! Laws of the definition of reading, as contracts of functions that do nothing.
-ghost use Rattle.std.specs.Prelude.{◌≡◌, ◌≤◌, ◌<◌, ◌++◌, ◌-◌, ℕ, List, Option, IsTrue, length, take, drop};
+ghost use Rattle.std.specs.Prelude.{◌≡◌, ◌≤◌, ◌<◌, ◌∷◌, ◌++◌, ◌-◌, true, ℕ, List, Option, IsTrue, length, take, drop};
 ghost use Rattle.lisp_object.specs.Object.{Object, object_depth};
 ghost use Rattle.lisp_object.specs.declared.refusal.TheConstants.{END_OF_FILE, OUT_OF_PROFILE};
 ghost use Rattle.readtable_core.specs.Names.{is_among};
@@ -15,7 +15,7 @@ ghost use Rattle.form_reader.specs.declared.way.Keep.{Keep};
 ghost use Rattle.form_reader.specs.Plans.{Plan, loop, run};
 ghost use Rattle.form_reader.specs.Setting.{Setting, setting_of};
 ghost use Rattle.form_reader.specs.Gathering.{text_turn, line_turn, block_turn, number_turn};
-ghost use Rattle.form_reader.specs.Reading.{Outcome, form, empty, refused, place_turn, place, items_turn, items_after, attempt, outcome, reads_at, reads, IsFramed};
+ghost use Rattle.form_reader.specs.Reading.{is_whitespace, Outcome, form, empty, refused, place_turn, place, items_turn, items_after, attempt, outcome, reads_at, reads, IsFramed};
 ghost use Rattle.form_reader.specs.Depending.{FindsSame};
 ghost use Rattle.form_reader.specs.Discarding.{IsDiscarded};
 ghost use Rattle.form_reader.specs.Fitting.{IsFitting};
@@ -55,12 +55,15 @@ pub fn refusals_are_decided()
         → reads setting text ≡ refused code place → place < length text → reads setting (text ++ more) ≡ refused code place }
 {}
 
-/// A form with which a whitespace character was discarded is read again from its own bytes and this character, whatever
-/// follows them.
+/// A form with which a byte more was discarded is read again from its own bytes and this one, whatever follows them; and the
+/// byte is whitespace, right after the form.
 pub fn spaced_forms_are_framed()
-    ensures { (setting : Setting) (text more : List ℕ) (x : Object) (start end next : ℕ)
+    ensures again { (setting : Setting) (text more : List ℕ) (x : Object) (start end next : ℕ)
         → reads setting text ≡ form x start end next → end < next
         → reads setting (take (next - start) (drop start text) ++ more) ≡ form x 0 (end - start) (next - start) }
+    ensures space { (setting : Setting) (text : List ℕ) (x : Object) (start end next : ℕ)
+        → reads setting text ≡ form x start end next → end < next
+        → (c : ℕ) × (rest : List ℕ) × (drop end text ≡ c ∷ rest) × (is_whitespace setting.table c ≡ true) }
 {}
 
 /// A form that was read in sound packages has a depth of at most 100, and its symbols fit the packages: what the home of a
