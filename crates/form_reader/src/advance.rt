@@ -50,9 +50,7 @@ pub(crate) fn advance<R: MacroFunctions>(
         Stage::Escaped(call, terminator, text) => {
             Ok(Moved::Taken(in_escaped(with, round, call, terminator, text, at, c)?))
         }
-        Stage::Line(call, text) => {
-            Ok(Moved::Taken(in_line(with, round, call, text, at, c)?))
-        }
+        Stage::Line(call, text) => { Ok(Moved::Taken(in_line(with, round, call, text, at, c)?)) }
         Stage::Block(call, levels) => {
             Ok(Moved::Taken(in_block(with, round, call, levels, at, c)?))
         }
