@@ -18,7 +18,7 @@ use Rattle.form_reader.specs.declared.turn.Turn.TheVariants.{Goes, Form as TurnF
 use Rattle.std_macros.specs.Values.{Material}
 use Rattle.form_reader.specs.Calls.{InvokedCall}
 use Rattle.form_reader.specs.Setting.{Setting}
-use Rattle.form_reader.specs.Reading.{completed, Outcome, form, empty, refused, reads}
+use Rattle.form_reader.specs.Reading.{completed, is_whitespace, Outcome, form, empty, refused, reads}
 use Rattle.form_reader.specs.Frames.{plan_gives, needs_memory}
 use Rattle.form_reader.specs.Memory.{call_may_cost, is_space, AreOpen, EndsToken, Grows, MayEndAt}
 use Rattle.form_reader.specs.Ending.{EndNeedsMemory}
@@ -145,10 +145,14 @@ EndMayRunOutIn setting reader OutOfMemory = Unit {0}
 abbrev pub EndMayRunOut : Setting → FormReader → Type 0
 EndMayRunOut setting reader = EndMayRunOutIn setting reader reader.state
 
--- Where memory may run out in reading this text at once: it has a first byte, which is not refused where it stands.
+-- Where memory may run out in reading this text at once: it has a byte that is no whitespace, and the first of them, alone, is
+-- not refused where it stands.
 abbrev pub ReadMayRunOut : Setting → List ℕ → Type 0
 ReadMayRunOut setting [] = ⊥
-ReadMayRunOut setting (c ∷ cs) = (code : ℕ) → reads setting (c ∷ []) ≡ refused code 0 → ⊥
+ReadMayRunOut setting (c ∷ cs) = elim (is_whitespace setting.table c) [
+  | true ↦ ReadMayRunOut setting cs
+  | false ↦ (code : ℕ) → reads setting (c ∷ []) ≡ refused code 0 → ⊥
+]
 
 -- The same by a reader that takes the text one byte at a time: it is after the bytes before some byte of the text, or after all
 -- of them, and memory may run out there.

@@ -14,7 +14,8 @@ use std::alloc::{AllocError, Global};
 use user_macros::MacroFunctions;
 
 /// What the text `bytes` begins with. It runs out of memory only where a reader that takes the text one byte at a time may, at
-/// one of its bytes or at its end; so only where it has a first byte, which is not refused where it is.
+/// one of its bytes or at its end; and only where it has a byte that is no whitespace, the first of which, alone, is not refused
+/// where it is. So a text of whitespace alone needs none.
 pub fn read_one<R: MacroFunctions>(
     alloc: Global,
     limits: Limits,

@@ -1,6 +1,7 @@
-use Rattle.std.proofs.Common.{◌≡◌, ◌<◌, take}
+use Rattle.std.proofs.Common.{◌≡◌, take}
 use Rattle.form_reader.specs.Setting.{setting_of}
-use Rattle.form_reader.specs.Reader.{fed, IsAfter, IsNew, ReadMayRunOut}
+use Rattle.form_reader.specs.Reader.{fed, IsAfter}
+use Rattle.form_reader.proofs.WholeTexts.{Remains}
 use Rattle.form_reader.proofs.whole.read_one.Given as goal
 
 abbrev pub invariant-loop-byte : goal.invariant-loop-byte
@@ -9,7 +10,6 @@ invariant-loop-byte g l = record {
   count : fed l.reader ≡ l.byte-index;
   after : IsAfter (setting_of l.fn.limits l.readtable l.packages.0 l.current (g.R.MacroFunctions.registered l.macros) g.R.Meaning.Meaning.way g.R.Meaning.Meaning.answer)
       l.reader (take l.byte-index l.bytes);
-  first : l.byte-index ≡ 0 → IsNew l.reader;
-  later : 0 < l.byte-index
-      → ReadMayRunOut (setting_of l.fn.limits l.readtable l.packages.0 l.current (g.R.MacroFunctions.registered l.macros) g.R.Meaning.Meaning.way g.R.Meaning.Meaning.answer) l.bytes;
+  remains : Remains (setting_of l.fn.limits l.readtable l.packages.0 l.current (g.R.MacroFunctions.registered l.macros) g.R.Meaning.Meaning.way g.R.Meaning.Meaning.answer)
+      l.reader l.bytes l.byte-index;
 }
