@@ -38,9 +38,9 @@
 //! - `objects`: a byte where an object may begin, after a token there, and in a token; what a token comes to
 //! - `attempt`, `macros`, `opening`: an attempt from its first byte on, and how a call begins
 //! - `deliver`, `close`: what open calls make of what is found, and how they end
-//! - `laws`: `forms_are_framed`, `spaced_forms_are_framed`, `forms_are_decided`, `refusals_are_decided`,
-//!   `empty_texts_are_discarded`, `forms_fit`, `only_what_is_found_matters`, `only_registered_names_matter`,
-//!   `what_is_decided_is_answered`, `reading_goes_on`
+//! - `laws`: `forms_are_framed`, `spaced_forms_are_framed`, `forms_are_within_the_limit`, `forms_are_decided`,
+//!   `refusals_are_decided`, `refusals_are_of_reading`, `empty_texts_are_discarded`, `texts_begin_between_forms`, `forms_fit`,
+//!   `only_what_is_found_matters`, `only_registered_names_matter`, `what_is_decided_is_answered`, `reading_goes_on`
 #![tactic(auto)]
 
 mod advance;
@@ -76,7 +76,7 @@ pub use laws::{
     empty_texts_are_discarded, forms_are_decided, forms_are_framed, forms_are_within_the_limit,
     forms_fit, only_registered_names_matter, only_what_is_found_matters, reading_goes_on,
     refusals_are_decided, refusals_are_of_reading, spaced_forms_are_framed,
-    what_is_decided_is_answered,
+    texts_begin_between_forms, what_is_decided_is_answered,
 };
 pub use limits::Limits;
 pub use reader::{FormReader, Step};

@@ -7,8 +7,10 @@ mod trial;
 
 use form_reader::{
     FormReader, Limits, ReadOutcome, Step, empty_texts_are_discarded, forms_are_decided,
-    forms_are_framed, forms_fit, only_what_is_found_matters, read_one, reading_goes_on,
-    refusals_are_decided, spaced_forms_are_framed,
+    forms_are_framed, forms_are_within_the_limit, forms_fit, only_registered_names_matter,
+    only_what_is_found_matters, read_one, reading_goes_on, refusals_are_decided,
+    refusals_are_of_reading, spaced_forms_are_framed, texts_begin_between_forms,
+    what_is_decided_is_answered,
 };
 use package_table::Packages;
 use readtable_core::Readtable;
@@ -31,10 +33,15 @@ fn limits_and_laws(rt: HostRuntime) {
     forms_are_framed();
     spaced_forms_are_framed();
     forms_are_decided();
+    forms_are_within_the_limit();
     refusals_are_decided();
+    refusals_are_of_reading();
     empty_texts_are_discarded();
+    texts_begin_between_forms();
+    what_is_decided_is_answered();
     forms_fit();
     only_what_is_found_matters();
+    only_registered_names_matter();
     reading_goes_on();
 }
 
