@@ -228,7 +228,7 @@ needs setting old stage bytes byte a (before_it ends) = token_ends ends
 needs setting old stage bytes byte a (with_it there calls (goes_on more after later le stands same)) =
     let many : length (bytes ++ byte ∷ []) ≡ length bytes + 1 = length-append bytes (byte ∷ []) in
     let count : old.start + (old.at + 1) ≡ length (bytes ++ byte ∷ []) = omega (arith, many, a.0) in
-    undecided more (decide_nothing setting after later old.start (old.at + 1) (bytes ++ byte ∷ []) stands le count
+    undecided there calls more (decide_nothing setting after later old.start (old.at + 1) (bytes ++ byte ∷ []) stands le count
     (λ cs. ap (reads setting) (append_assoc bytes (byte ∷ []) cs) ∙ a.1 (byte ∷ cs) ∙ ap (outcome_of setting old.start) (same cs)))
 needs setting old stage bytes byte a (with_it there calls (comes_to inner round is call material own cost same)) =
     call_ends there inner round calls is call material own cost (λ cs. a.1 (byte ∷ cs) ∙ ap (outcome_of setting old.start) (same cs))

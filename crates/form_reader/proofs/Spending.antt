@@ -1,6 +1,6 @@
 -- Where memory may run out: from what a call comes to, up to what a byte is.
 use Rattle.std.proofs.Common.{◌≡◌, ℕ, ◌+◌, ◌<◌, ◌≤◌, Bool, true, false, List, [], ◌∷◌, length, Option, Some, Result, Ok, Err, refl, sym, ap, subst, ◌∙◌, arith}
-use Rattle.std.specs.Prelude.{IfOk, OnErr}
+use Rattle.std.specs.Prelude.{◌==◌, None, IfOk, OnErr}
 use Rattle.std.proofs.lemmas.Bool.{eq-eqb}
 use Rattle.lisp_object.specs.Object.{Object}
 use Rattle.std.specs.declared.alloc.AllocError.{AllocError}
@@ -40,10 +40,10 @@ use Rattle.form_reader.specs.Plans.{Plan, gives, then_plan, Read, run}
 use Rattle.form_reader.specs.Setting.{Setting, way_in}
 use Rattle.form_reader.specs.Reading.{completed, gathered_by, called, told_found, token_found}
 use Rattle.form_reader.specs.Feeding.{GoesOn, TokenFeeds, token_read}
-use Rattle.form_reader.specs.Frames.{close_of, is_closed_by, given, needs_memory, needs_to_take, plan_gives, place_gives, token_goes_on}
+use Rattle.form_reader.specs.Frames.{close_of, close_of_frames, is_closed_by, given, needs_memory, needs_to_take, plan_gives, place_gives, token_goes_on}
 use Rattle.form_reader.specs.Opening.{reads_objects}
 use Rattle.form_reader.specs.Resuming.{IsStageAt, Moves, inner_at, stage_gives}
-use Rattle.form_reader.specs.Memory.{call_may_cost, meaning_may_cost, token_may_cost, is_nothing, event_needs, only_call, call_at_once, closed_call, closes, MayEndAt, CostsOf, Costs, goes_on, comes_to, OpensCall, Grows, by_mark, by_call, Spends, IsWhatIsGiven, SpendsToken, SpendsMove, SpendsPass, EndsToken, EndsWith, GivesBefore, StaysOpen, as_they_were, after_token, after_call, RunsOut, with_it, before_it, FoundCosts, taking, passing, with_byte}
+use Rattle.form_reader.specs.Memory.{call_may_cost, meaning_may_cost, token_may_cost, is_nothing, event_needs, only_call, call_at_once, closed_call, closes, MayEndAt, CostsOf, Costs, goes_on, comes_to, OpensCall, OpensAtPlace, OpensHere, EndsAtPlace, Grows, by_mark, by_call, Spends, IsWhatIsGiven, SpendsToken, SpendsMove, SpendsPass, EndsToken, EndsWith, GivesBefore, StaysOpen, as_they_were, after_token, after_call, RunsOut, with_it, before_it, FoundCosts, taking, passing, with_byte}
 use Rattle.form_reader.proofs.TokenCalls.{token_gives_nothing, object_costs}
 use Rattle.form_reader.proofs.Opened.{gathering_ends, gathering_moves}
 use Rattle.form_reader.proofs.Beginnings.{OpensWith, next_at, list_at, until_at}
@@ -149,7 +149,7 @@ module _ (setting : Setting) (frames : List Frame) (call : InvokedCall) (way : W
 
 -- ---- tokens
 
-pub token_taken : (setting : Setting) (frames : List Frame) (stage later : Stage) (on : List Mark → Plan Found) (scan new : Scan) (at c : ℕ) → Grows setting stage at c → IsStageAt (at + 1) later → at < setting.limits.text
+pub token_taken : (setting : Setting) (frames : List Frame) (stage later : Stage) (on : List Mark → Plan Found) (scan new : Scan) (at c : ℕ) → Grows setting frames stage at c → IsStageAt (at + 1) later → at < setting.limits.text
     → ((cs : List ℕ) → stage_gives setting frames stage at (c ∷ cs) ≡ token_goes_on setting frames on (token_read setting.table setting.limits scan at (c ∷ cs)))
     → ((cs : List ℕ) → stage_gives setting frames later (at + 1) cs ≡ token_goes_on setting frames on (token_read setting.table setting.limits new (at + 1) cs))
     → ((cs : List ℕ) → token_read setting.table setting.limits scan at (c ∷ cs) ≡ token_read setting.table setting.limits new (at + 1) cs)
@@ -240,11 +240,11 @@ told_gives setting letters (m ∷ ms) answer some same e =
 -- ---- where the reader is
 
 pub stage_costs : (setting : Setting) (frames : List Frame) (stage known : Stage) (at c : ℕ) → stage ≡ known
-    → CostsOf (MayEndAt setting known c) (Grows setting known at c) setting frames (at + 1) (λ cs. stage_gives setting frames known at (c ∷ cs)) → RunsOut setting frames stage at c
+    → CostsOf (MayEndAt setting known c) (Grows setting frames known at c) setting frames (at + 1) (λ cs. stage_gives setting frames known at (c ∷ cs)) → RunsOut setting frames stage at c
 stage_costs setting frames stage known at c e h = subst (λ (s : Stage). RunsOut setting frames s at c) (sym e) (with_it frames (as_they_were refl) h)
 
 pub stage_spends : (needs : Bool) (setting : Setting) (frames : List Frame) (stage known : Stage) (at c : ℕ) (result : Result Event AllocError) → stage ≡ known
-    → Spends needs result (CostsOf (MayEndAt setting known c) (Grows setting known at c) setting frames (at + 1) (λ cs. stage_gives setting frames known at (c ∷ cs))) → Spends needs result (RunsOut setting frames stage at c)
+    → Spends needs result (CostsOf (MayEndAt setting known c) (Grows setting frames known at c) setting frames (at + 1) (λ cs. stage_gives setting frames known at (c ∷ cs))) → Spends needs result (RunsOut setting frames stage at c)
 stage_spends needs setting frames stage known at c result e h = spent_so needs result _ _ (stage_costs setting frames stage known at c e) h
 
 pub stage_moves_spend : (needs : Bool) (setting : Setting) (frames : List Frame) (stage known : Stage) (at c : ℕ) (result : Result Moved AllocError) → stage ≡ known
@@ -299,6 +299,18 @@ closed_spends needs setting f fs frames at c read result e close h = spent_so ne
 pub same_frames_spend : (needs : Bool) (setting : Setting) (now frames : List Frame) (at c : ℕ) (read : List ℕ → Read Found) (result : Result Event AllocError) → now ≡ frames
     → Spends needs result (Costs setting now c at read) → Spends needs result (Costs setting frames c at read)
 same_frames_spend needs setting now frames at c read result e h = subst (λ (fs : List Frame). Spends needs result (Costs setting fs c at read)) e h
+
+-- the innermost is not closed
+pub opens_here : (needs : Bool) (setting : Setting) (now frames : List Frame) (at c : ℕ) (read : List ℕ → Read Found) (result : Result Event AllocError) → now ≡ frames
+    → is_closed_by (close_of_frames frames) c ≡ false → Spends needs result (CostsOf (EndsAtPlace setting c) (OpensAtPlace setting c) setting now at read) → Spends needs result (Costs setting frames c at read)
+opens_here needs setting now frames at c read result e other h =
+    same_frames_spend needs setting now frames at c read result e
+    (ends_so (EndsAtPlace setting c) (EndsAtPlace setting c) (OpensAtPlace setting c) (OpensHere setting now c) setting now at read (λ inner call material own. own)
+    (λ opens. (ap (λ (fs : List Frame). is_closed_by (close_of_frames fs) c) e ∙ other, opens)) needs result h)
+
+pub not_closed : (close : Option ℕ) (c : ℕ) → ((wanted : ℕ) → close ≡ Some wanted → (c == wanted) ≡ false) → is_closed_by close c ≡ false
+not_closed None c other = refl
+not_closed (Some wanted) c other = other wanted refl
 
 -- ---- after what was found
 

@@ -148,7 +148,7 @@ module _ (setting : Setting) (reader : FormReader) (bytes : List ℕ) (c : ℕ) 
       omega (arith, many, place)
 
   needing_stands : NeedsMemory setting [] AtObject (length bytes) 0 bytes c → Stands setting c
-  needing_stands (undecided more h) = undecided_stands h
+  needing_stands (undecided there calls more h) = undecided_stands h
   needing_stands (token_ends h) = absurd h
   needing_stands (call_ends there inner round calls is call material own cost read) = λ code e.
       let plan : Plan Found = completed setting (length round) call false false material in

@@ -135,6 +135,10 @@ abbrev pub OpensAtPlace : Setting → ℕ → Type 0
 OpensAtPlace setting c =
     (name : List ℕ) × ((entry_at setting.table c).function ≡ Some name) × (is_dispatch_name name ≡ false) × OpensCall setting (macro_call_at name c)
 
+-- in these open calls: it is not the closing character of the innermost
+abbrev pub OpensHere : Setting → List Frame → ℕ → Type 0
+OpensHere setting frames c = (is_closed_by (close_of_frames frames) c ≡ false) × OpensAtPlace setting c
+
 -- after a dispatching macro character and this number: the byte is a sub-character, and its function reads objects
 abbrev pub OpensAtSub : Setting → ℕ → Option ℕ → ℕ → Type 0
 OpensAtSub setting character digits c =
@@ -153,7 +157,7 @@ pub data CostsOf (ends : List Frame → InvokedCall → Material → Type 0) (gr
 
 -- the same of this byte, where an object may begin
 abbrev pub Costs : Setting → List Frame → ℕ → ℕ → (List ℕ → Read Found) → Type 0
-Costs setting frames c at read = CostsOf (EndsAtPlace setting c) (OpensAtPlace setting c) setting frames at read
+Costs setting frames c at read = CostsOf (EndsAtPlace setting c) (OpensHere setting frames c) setting frames at read
 
 -- Where memory ran out, or an object is given to open calls that need memory to take one, if they do.
 abbrev pub Spends : Bool → Result Event AllocError → Type 0 → Type 0
@@ -239,27 +243,27 @@ is_space setting frames AtObject at c =
 is_space setting frames _ at c = false
 
 -- A token that has 32 marks or more takes the byte at this place, which adds one; or the byte ends the token, and opens a call.
-pub data TokenGrows (setting : Setting) (scan : Scan) (at c : ℕ) : Type 0 where
-  by_mark : 32 ≤ length scan.marks → 0 < length (marks_of scan.stage (typed setting.table c)) → GoesOn setting.table setting.limits scan at c → TokenGrows setting scan at c
-  by_call : (marks : List Mark) → TokenEnds setting scan marks at c → OpensAtPlace setting c → TokenGrows setting scan at c
+pub data TokenGrows (setting : Setting) (there : List Frame) (scan : Scan) (at c : ℕ) : Type 0 where
+  by_mark : 32 ≤ length scan.marks → 0 < length (marks_of scan.stage (typed setting.table c)) → GoesOn setting.table setting.limits scan at c → TokenGrows setting there scan at c
+  by_call : (marks : List Mark) → TokenEnds setting scan marks at c → OpensHere setting there c → TokenGrows setting there scan at c
 
--- More is kept after the byte at this place, where reading goes on: one more open call, one more mark of a token, past its first
+-- More is kept after the byte at this place, which is looked at in these open calls, where reading goes on: one more open call, one more mark of a token, past its first
 -- 32, or one more character of a text, which its end and an escape are none, or of a line that is kept. A block keeps nothing, nor does the
 -- number of a call.
-abbrev pub Grows : Setting → Stage → ℕ → ℕ → Type 0
-Grows setting AtObject at c = OpensAtPlace setting c
-Grows setting (AtToken scan) at c = TokenGrows setting scan at c
-Grows setting (AtCallToken call scan) at c = TokenGrows setting scan at c
-Grows setting (AtText call terminator text) at c = ((c == terminator) ≡ false) × (is_escape (entry_at setting.table c).syntax ≡ false)
-Grows setting (AtEscaped call terminator text) at c = Unit {0}
-Grows setting (AtLine call text) at c = keep_of call.function ≡ Kept
-Grows setting (AtBlock call levels) at c = ⊥
-Grows setting (AtNumber character digits) at c = OpensAtSub setting character digits c
+abbrev pub Grows : Setting → List Frame → Stage → ℕ → ℕ → Type 0
+Grows setting there AtObject at c = OpensHere setting there c
+Grows setting there (AtToken scan) at c = TokenGrows setting there scan at c
+Grows setting there (AtCallToken call scan) at c = TokenGrows setting there scan at c
+Grows setting there (AtText call terminator text) at c = ((c == terminator) ≡ false) × (is_escape (entry_at setting.table c).syntax ≡ false)
+Grows setting there (AtEscaped call terminator text) at c = Unit {0}
+Grows setting there (AtLine call text) at c = keep_of call.function ≡ Kept
+Grows setting there (AtBlock call levels) at c = ⊥
+Grows setting there (AtNumber character digits) at c = OpensAtSub setting character digits c
 
 -- What the byte at this place is, where memory may run out.
 pub data RunsOut (setting : Setting) (frames : List Frame) (stage : Stage) (at c : ℕ) : Type 0 where
   with_it : (there : List Frame) → AreOpen setting frames stage at c there
-      → CostsOf (MayEndAt setting stage c) (Grows setting stage at c) setting there (at + 1) (λ cs. stage_gives setting frames stage at (c ∷ cs)) → RunsOut setting frames stage at c
+      → CostsOf (MayEndAt setting stage c) (Grows setting there stage at c) setting there (at + 1) (λ cs. stage_gives setting frames stage at (c ∷ cs)) → RunsOut setting frames stage at c
   before_it : EndsToken setting frames stage at c → RunsOut setting frames stage at c
 
 -- before a byte that ended a token the same calls are open

@@ -113,7 +113,8 @@ BeginsLater old new (StepRefused code place) = begun new ≡ begun old
 -- closing character the byte is, or the call of a macro character whose function gathers nothing; after a dispatching macro
 -- character and its number, that of a sub-character whose function gathers nothing; in a text, a line or a block, its own.
 pub data NeedsMemory (setting : Setting) (frames : List Frame) (stage : Stage) (start at : ℕ) (bytes : List ℕ) (c : ℕ) : Type 0 where
-  undecided : Grows setting stage at c → DecideNothing setting (bytes ++ c ∷ []) → NeedsMemory setting frames stage start at bytes c
+  undecided : (there : List Frame) → AreOpen setting frames stage at c there → Grows setting there stage at c
+      → DecideNothing setting (bytes ++ c ∷ []) → NeedsMemory setting frames stage start at bytes c
   token_ends : EndsToken setting frames stage at c → NeedsMemory setting frames stage start at bytes c
   call_ends : (there inner round : List Frame) → AreOpen setting frames stage at c there → there ≡ inner ++ round
       → (call : InvokedCall) (material : Material) → MayEndAt setting stage c inner call material

@@ -39,7 +39,7 @@ pub(crate) fn in_text<R: MacroFunctions>(
     ensures ready { IfOk result (IsReady with.now.limits (at + 1)) }
     ensures memory { let setting = setting_with (R.registered with.now.macros.now) R.Meaning.way R.Meaning.answer with.now in
         (frames : List OpenCall) → round ≡ length frames
-        → Spends (needs_memory frames) result (CostsOf (MayEndAt setting (AtText call terminator text) c) (Grows setting (AtText call terminator text) at c) setting frames (at + 1) (λ cs. stage_gives setting frames (AtText call terminator text) at (c ∷ cs))) }
+        → Spends (needs_memory frames) result (CostsOf (MayEndAt setting (AtText call terminator text) c) (Grows setting frames (AtText call terminator text) at c) setting frames (at + 1) (λ cs. stage_gives setting frames (AtText call terminator text) at (c ∷ cs))) }
 {
     match text_byte(with.readtable, &with.limits, terminator, &mut text, at, c)? {
         TextByte::More => Ok(Event::Stage(Stage::Text(call, terminator, text))),
@@ -69,7 +69,7 @@ pub(crate) fn in_escaped<R: MacroFunctions>(
     ensures ready { IfOk result (IsReady with.now.limits (at + 1)) }
     ensures memory { let setting = setting_with (R.registered with.now.macros.now) R.Meaning.way R.Meaning.answer with.now in
         (frames : List OpenCall) → round ≡ length frames
-        → Spends (needs_memory frames) result (CostsOf (MayEndAt setting (AtEscaped call terminator text) c) (Grows setting (AtEscaped call terminator text) at c) setting frames (at + 1) (λ cs. stage_gives setting frames (AtEscaped call terminator text) at (c ∷ cs))) }
+        → Spends (needs_memory frames) result (CostsOf (MayEndAt setting (AtEscaped call terminator text) c) (Grows setting frames (AtEscaped call terminator text) at c) setting frames (at + 1) (λ cs. stage_gives setting frames (AtEscaped call terminator text) at (c ∷ cs))) }
 {
     match escaped_byte(with.readtable, &with.limits, terminator, &mut text, at, c)? {
         None => Ok(Event::Stage(Stage::Text(call, terminator, text))),
@@ -97,7 +97,7 @@ pub(crate) fn in_line<R: MacroFunctions>(
     ensures ready { IfOk result (IsReady with.now.limits (at + 1)) }
     ensures memory { let setting = setting_with (R.registered with.now.macros.now) R.Meaning.way R.Meaning.answer with.now in
         (frames : List OpenCall) → round ≡ length frames
-        → Spends (needs_memory frames) result (CostsOf (MayEndAt setting (AtLine call text) c) (Grows setting (AtLine call text) at c) setting frames (at + 1) (λ cs. stage_gives setting frames (AtLine call text) at (c ∷ cs))) }
+        → Spends (needs_memory frames) result (CostsOf (MayEndAt setting (AtLine call text) c) (Grows setting frames (AtLine call text) at c) setting frames (at + 1) (λ cs. stage_gives setting frames (AtLine call text) at (c ∷ cs))) }
 {
     let keep = call.keep();
     match line_byte(with.readtable, &with.limits, keep, &mut text, at, c)? {
@@ -131,7 +131,7 @@ pub(crate) fn in_block<R: MacroFunctions>(
     ensures ready { IfOk result (IsReady with.now.limits (at + 1)) }
     ensures memory { let setting = setting_with (R.registered with.now.macros.now) R.Meaning.way R.Meaning.answer with.now in
         (frames : List OpenCall) → round ≡ length frames
-        → Spends (needs_memory frames) result (CostsOf (MayEndAt setting (AtBlock call levels) c) (Grows setting (AtBlock call levels) at c) setting frames (at + 1) (λ cs. stage_gives setting frames (AtBlock call levels) at (c ∷ cs))) }
+        → Spends (needs_memory frames) result (CostsOf (MayEndAt setting (AtBlock call levels) c) (Grows setting frames (AtBlock call levels) at c) setting frames (at + 1) (λ cs. stage_gives setting frames (AtBlock call levels) at (c ∷ cs))) }
 {
     match block_byte(with.readtable, &with.limits, &mut levels, at, c) {
         LineByte::More => Ok(Event::Stage(Stage::Block(call, levels))),

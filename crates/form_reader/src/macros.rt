@@ -5,7 +5,7 @@ ghost use Rattle.form_reader.specs.Setting.{function_of};
 ghost use Rattle.form_reader.specs.Surrounding.{setting_with};
 ghost use Rattle.form_reader.specs.Reading.{macro_called, sub_there};
 ghost use Rattle.form_reader.specs.Frames.{needs_memory, plan_gives};
-ghost use Rattle.form_reader.specs.Memory.{Costs, CostsOf, EndsAtSub, GivesBefore, Grows, MayEndAt, OpensAtSub, RunsOut, Spends, SpendsMove};
+ghost use Rattle.form_reader.specs.Memory.{CostsOf, EndsAtPlace, EndsAtSub, GivesBefore, Grows, MayEndAt, OpensAtPlace, OpensAtSub, RunsOut, Spends, SpendsMove};
 ghost use Rattle.form_reader.specs.Resuming.{inner_at, Brings, Moves, stage_gives};
 ghost use Rattle.form_reader.specs.declared.frame.Frame.{Frame as OpenCall};
 ghost use Rattle.form_reader.specs.declared.stage.Stage.TheVariants.{CallToken as AtCallToken, Number as AtNumber};
@@ -65,7 +65,7 @@ pub(crate) fn begin_macro<R: MacroFunctions>(
     ensures ready { IfOk result (IsReady with.now.limits at) }
     ensures nesting { IfOk result (λ _. length frames.new ≤ with.now.limits.nesting) }
     ensures memory { let setting = setting_with (R.registered with.now.macros.now) R.Meaning.way R.Meaning.answer with.now in
-        Spends (needs_memory frames.new) result (Costs setting frames.old c at (λ cs. plan_gives setting frames.old
+        Spends (needs_memory frames.new) result (CostsOf (EndsAtPlace setting c) (OpensAtPlace setting c) setting frames.old at (λ cs. plan_gives setting frames.old
         (macro_called setting (length frames.old) (inner_at setting (length frames.old)) c (entry_at setting.table c).function) at cs)) }
 {
     match with.readtable.macro_of(c) {
@@ -130,7 +130,7 @@ pub(crate) fn in_number<R: MacroFunctions>(
     ensures ready { IfOk result (IsReady with.now.limits (at + 1)) }
     ensures nesting { IfOk result (λ _. length frames.new ≤ with.now.limits.nesting) }
     ensures memory { let setting = setting_with (R.registered with.now.macros.now) R.Meaning.way R.Meaning.answer with.now in
-        Spends (needs_memory frames.new) result (CostsOf (MayEndAt setting (AtNumber character number) c) (Grows setting (AtNumber character number) at c) setting frames.old (at + 1) (λ cs. stage_gives setting frames.old (AtNumber character number) at (c ∷ cs))) }
+        Spends (needs_memory frames.new) result (CostsOf (MayEndAt setting (AtNumber character number) c) (Grows setting frames.old (AtNumber character number) at c) setting frames.old (at + 1) (λ cs. stage_gives setting frames.old (AtNumber character number) at (c ∷ cs))) }
 {
     match number_byte(with.readtable, &with.limits, &mut number, at, c) {
         LineByte::More => Ok(Event::Stage(Stage::Number(character, number))),

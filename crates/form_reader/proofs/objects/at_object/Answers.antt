@@ -4,7 +4,7 @@ use Rattle.form_reader.specs.Surrounding.{setting_with}
 use Rattle.form_reader.proofs.ObjectTokens.{object_closes, object_over, object_attempts}
 use Rattle.std.proofs.Common.{◌+◌}
 use Rattle.form_reader.proofs.ObjectTokens.{object_closed, object_attempted}
-use Rattle.form_reader.proofs.Spending.{spends_same, closed_spends, same_frames_spend}
+use Rattle.form_reader.proofs.Spending.{spends_same, closed_spends, opens_here, not_closed}
 use Rattle.form_reader.proofs.objects.at_object.Goals as goal
 
 pub returns-then-at-with-clause-brings : goal.returns-then-at-with-clause-brings
@@ -41,12 +41,12 @@ returns-then-stands_alone-clause-memory g c =
     let setting = setting_with (g.R.MacroFunctions.registered c.args.with.now.macros.now) g.R.Meaning.Meaning.way g.R.Meaning.Meaning.answer c.args.with.now in
     spends_same _ _ _ setting c.args.frames.now (c.args.at + 1) _ _ c.alone.result
     (λ cs. object_attempted setting c.args.at c.args.c cs c.pop_closed_by.new.self c.args.frames.now c.in_default.ensures.0 c.requires.place c.in_default.ensures.1)
-    (same_frames_spend _ setting c.pop_closed_by.new.self c.args.frames.now (c.args.at + 1) c.args.c _ c.alone.result c.in_default.ensures.0 c.alone.ensures.memory)
+    (opens_here _ setting c.pop_closed_by.new.self c.args.frames.now (c.args.at + 1) c.args.c _ c.alone.result c.in_default.ensures.0 (not_closed _ c.args.c c.in_default.ensures.1) c.alone.ensures.memory)
 
 pub returns-else-stands_alone-clause-memory : goal.returns-else-stands_alone-clause-memory
 returns-else-stands_alone-clause-memory g c =
     let setting = setting_with (g.R.MacroFunctions.registered c.args.with.now.macros.now) g.R.Meaning.Meaning.way g.R.Meaning.Meaning.answer c.args.with.now in
     spends_same _ _ _ setting c.args.frames.now (c.args.at + 1) _ _ c.begin_token.result
     (λ cs. object_attempted setting c.args.at c.args.c cs c.pop_closed_by.new.self c.args.frames.now c.in_default.ensures.0 c.requires.place c.in_default.ensures.1)
-    (same_frames_spend _ setting c.pop_closed_by.new.self c.args.frames.now (c.args.at + 1) c.args.c _ c.begin_token.result c.in_default.ensures.0
+    (opens_here _ setting c.pop_closed_by.new.self c.args.frames.now (c.args.at + 1) c.args.c _ c.begin_token.result c.in_default.ensures.0 (not_closed _ c.args.c c.in_default.ensures.1)
     (c.begin_token.ensures.memory c.pop_closed_by.new.self (subst (λ (fs : List OpenCall). length fs ≤ c.args.with.now.limits.nesting) (sym c.in_default.ensures.0) c.requires.nesting)))
