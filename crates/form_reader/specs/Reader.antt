@@ -168,6 +168,12 @@ IsOutcome (ReadForm datum start «end» next) o = (o ≡ form (object_of datum) 
 IsOutcome ReadEmpty o = o ≡ empty
 IsOutcome (ReadRefused code place) o = o ≡ refused code place
 
+-- how many bytes it was fed after a step: one more, or as many as before where it refuses; after a form none
+abbrev pub Counts : FormReader → FormReader → Step → Type 0
+Counts old new StepMore = fed new ≡ fed old + 1
+Counts old new (StepForm datum start «end» next) = fed new ≡ 0
+Counts old new (StepRefused code place) = fed new ≡ fed old
+
 -- of a form, the object is sound
 abbrev pub IsSoundStep : Step → Type 0
 IsSoundStep (StepForm datum start «end» next) = IsSound (object_of datum)

@@ -69,7 +69,7 @@ impl FormReader {
     ghost use Rattle.form_reader.specs.declared.reader.Step.TheVariants.{More as StepMore, Refused as StepRefused};
     ghost use Rattle.form_reader.specs.declared.ending.ReadOutcome.TheVariants.{Empty as ReadEmpty, Refused as ReadRefused};
     ghost use Rattle.form_reader.specs.Turning.{IsReadyTurn, BeginsFrom};
-    ghost use Rattle.form_reader.specs.Reader.{limits_of, fed, begun, HasRefused, HasNoMemory, IsNew, IsBetween, LeavesBetween, IsAfter, IsLeftAt, Steps, BeginsLater, IsSoundStep, Takes, MayRunOut, EndMayRunOut, IsOutcome};
+    ghost use Rattle.form_reader.specs.Reader.{limits_of, fed, begun, HasRefused, HasNoMemory, IsNew, IsBetween, LeavesBetween, IsAfter, IsLeftAt, Steps, Counts, BeginsLater, IsSoundStep, Takes, MayRunOut, EndMayRunOut, IsOutcome};
 
     /// A reader that was fed nothing, between forms. It keeps `alloc` for what it gathers.
     pub fn new(alloc: Global, limits: Limits) -> FormReader
@@ -127,6 +127,7 @@ impl FormReader {
             self.new (bytes ++ byte ∷ [])) }
         ensures limits { limits_of self.new ≡ limits_of self.old }
         ensures fed { fed self.new ≤ fed self.old + 1 }
+        ensures counts { IfOk result (Counts self.old self.new) }
         ensures begun { IfOk result (BeginsLater self.old self.new) }
         ensures sound { IfOk result IsSoundStep }
         ensures refused { (code place : ℕ) → HasRefused self.old code place
@@ -201,6 +202,7 @@ impl FormReader {
             (bytes : List ℕ) → IsAfter setting self.old bytes → IfOk result (Steps setting self.new (bytes ++ byte ∷ [])) }
         ensures limits { limits_of self.new ≡ limits_of self.old }
         ensures fed { fed self.new ≤ fed self.old + 1 }
+        ensures counts { IfOk result (Counts self.old self.new) }
         ensures begun { IfOk result (BeginsLater self.old self.new) }
         ensures sound { IfOk result IsSoundStep }
         ensures memory { OnErr result (HasNoMemory self.new) }
