@@ -247,9 +247,9 @@ pub data TokenGrows (setting : Setting) (there : List Frame) (scan : Scan) (at c
   by_mark : 32 ≤ length scan.marks → 0 < length (marks_of scan.stage (typed setting.table c)) → GoesOn setting.table setting.limits scan at c → TokenGrows setting there scan at c
   by_call : (marks : List Mark) → TokenEnds setting scan marks at c → OpensHere setting there c → TokenGrows setting there scan at c
 
--- More is kept after the byte at this place, which is looked at in these open calls, where reading goes on: one more open call, one more mark of a token, past its first
--- 32, or one more character of a text, which its end and an escape are none, or of a line that is kept. A block keeps nothing, nor does the
--- number of a call.
+-- More is kept after the byte at this place, which is looked at in these open calls, where reading goes on: one more open call;
+-- one more mark of a token, past its first 32; or one more character of a text, which its end and an escape are none, or of a
+-- line that is kept. A block keeps nothing, nor does the number of a call.
 abbrev pub Grows : Setting → List Frame → Stage → ℕ → ℕ → Type 0
 Grows setting there AtObject at c = OpensHere setting there c
 Grows setting there (AtToken scan) at c = TokenGrows setting there scan at c
