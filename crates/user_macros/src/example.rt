@@ -28,11 +28,11 @@ impl Meaning for Notes {
     ghost use Rattle.user_macros.specs.declared.call.Gather.TheVariants.{Line};
     ghost use Rattle.std.proofs.Common.{rules};
 
-    ghost names = { codes "NOTE" ∷ [] };
-
-    ghost way = { λ name. if same_name (codes "NOTE") name then Some Line else None };
-
-    ghost answer = { λ name call. no_value };
+    ghost functions = { record {
+      names = codes "NOTE" ∷ [];
+      way = λ name. if same_name (codes "NOTE") name then Some Line else None;
+      answer = λ name call. no_value;
+    } };
 
     ghost gathers = { λ name. Prim.search rules };
 

@@ -1,5 +1,5 @@
 //! The registry of macro functions.
-ghost use Rattle.std.specs.Prelude.{ℕ, ◌≡◌, ◌++◌, [], ◌∷◌, List, map, All, Contains, Ok, None, true, unwrap_or, is_ok, is_some, IfOk, IfErr, IfSome, OnOk, IsTrue, if◌then◌else◌};
+ghost use Rattle.std.specs.Prelude.{ℕ, ◌≡◌, ◌++◌, [], ◌∷◌, List, map, All, Contains, Ok, None, true, refl, unwrap_or, is_ok, is_some, IfOk, IfErr, IfSome, OnOk, IsTrue, if◌then◌else◌};
 ghost use Rattle.std.specs.List.{list_all};
 ghost use Rattle.std.specs.Option.{option_map_or};
 ghost use Rattle.readtable_core.specs.Names.{is_among, is_reserved};
@@ -7,6 +7,7 @@ ghost use Rattle.readtable_core.specs.Named.{functions_at};
 ghost use Rattle.user_macros.specs.Calls.{call_of, answer_of};
 ghost use Rattle.user_macros.specs.Sound.{IsSoundCall};
 ghost use Rattle.user_macros.specs.Registry.{refusal, is_covered};
+ghost use Rattle.user_macros.specs.Functions.{named_among};
 ghost use Rattle.user_macros.specs.Known.{known_among};
 
 use crate::stored::Stored;
@@ -45,7 +46,7 @@ impl<M: Meaning> Macros<M> {
     /// A registry with no function. It keeps `alloc` for later functions.
     pub fn new(alloc: Global, meaning: M) -> Macros<M>
         ensures meant { ⟦<Macros<M> as MacroFunctions>⟧.meant result ≡ meaning }
-        ensures registered { ⟦<Macros<M> as MacroFunctions>⟧.registered result ≡ [] }
+        ensures registered { (⟦<Macros<M> as MacroFunctions>⟧.functions result).names ≡ [] }
         ensures answers { ⟦<Macros<M> as MacroFunctions>⟧.answers result }
     {
         Macros {
@@ -61,15 +62,15 @@ impl<M: Meaning> Macros<M> {
         requires answers { ⟦<Macros<M> as MacroFunctions>⟧.answers self.old }
         requires callable { (call : _) → IsSoundCall call.now → MacroFn.pre function call }
         requires as_meant { (call : _) (a : _) → IsSoundCall call.now → MacroFn.post function call (Ok a)
-            → answer_of a ≡ M.answer name (call_of call.now) }
+            → answer_of a ≡ M.functions.answer name (call_of call.now) }
         ensures answers { ⟦<Macros<M> as MacroFunctions>⟧.answers self.new }
         ensures meant { ⟦<Macros<M> as MacroFunctions>⟧.meant self.new ≡ ⟦<Macros<M> as MacroFunctions>⟧.meant self.old }
-        ensures registered { ⟦<Macros<M> as MacroFunctions>⟧.registered self.new
-            ≡ (if is_ok result then ⟦<Macros<M> as MacroFunctions>⟧.registered self.old ++ name ∷ []
-            else ⟦<Macros<M> as MacroFunctions>⟧.registered self.old) }
-        ensures accepted { OnOk result (refusal M.names (⟦<Macros<M> as MacroFunctions>⟧.registered self.old) name ≡ None) }
+        ensures registered { (⟦<Macros<M> as MacroFunctions>⟧.functions self.new).names
+            ≡ (if is_ok result then (⟦<Macros<M> as MacroFunctions>⟧.functions self.old).names ++ name ∷ []
+            else (⟦<Macros<M> as MacroFunctions>⟧.functions self.old).names) }
+        ensures accepted { OnOk result (refusal M.functions.names (⟦<Macros<M> as MacroFunctions>⟧.functions self.old).names name ≡ None) }
         ensures cause { IfErr result (λ r. r.cause
-            ≡ unwrap_or (refusal M.names (⟦<Macros<M> as MacroFunctions>⟧.registered self.old) name) Cause.OutOfMemory) }
+            ≡ unwrap_or (refusal M.functions.names (⟦<Macros<M> as MacroFunctions>⟧.functions self.old).names name) Cause.OutOfMemory) }
         ensures given_back { IfErr result (λ r. r.function ≡ function) }
     {
         if name.as_bytes().starts_with(b"STD-") {
@@ -142,15 +143,17 @@ impl<M: Meaning> Macros<M> {
 impl<M: Meaning> MacroFunctions for Macros<M> {
     type Meaning = M;
 
-    ghost registered = { λ m. map (λ s. s.name) m.stored.items };
+    ghost functions = { λ m. named_among (map (λ s. s.name) m.stored.items) M.functions };
 
     ghost meant = { λ m. m.meaning };
 
-    ghost answers = { λ m. All (λ s. IsTrue (is_among M.names s.name)) m.stored.items
+    ghost answers = { λ m. All (λ s. IsTrue (is_among M.functions.names s.name)) m.stored.items
         × All (λ s. (call : _) (a : _) → IsSoundCall call.now → MacroFn.post s.function call (Ok a)
-        → answer_of a ≡ M.answer s.name (call_of call.now)) m.stored.items };
+        → answer_of a ≡ M.functions.answer s.name (call_of call.now)) m.stored.items };
 
-    ghost known = { λ m answers name is. known_among (λ s. s.name) M.names m.stored.items name answers.0 is };
+    ghost as_meant = { λ m. refl };
+
+    ghost known = { λ m answers name is. known_among (λ s. s.name) M.functions.names m.stored.items name answers.0 is };
 
     fn meaning(&self) -> &M {
         &self.meaning
