@@ -1,13 +1,13 @@
 -- What reading rests on, and the calls of macro functions.
 use Rattle.std.specs.Prelude.{ℕ, Bool, true, false, if◌then◌else◌, List, Option, Some, None, option_map}
 use Rattle.std.specs.Option.{option_map_or}
-use Rattle.readtable_core.specs.Names.{is_among}
 use Rattle.readtable_core.specs.Tables.{Table}
 use Rattle.package_table.specs.Table.{Name, Table as Packages}
 use Rattle.token_scan.specs.Marks.{characters}
 use Rattle.user_macros.specs.declared.call.Gather.{Gather}
 use Rattle.user_macros.specs.declared.call.Gather.TheVariants.{Nothing as GatherNothing, Next as GatherNext, Until as GatherUntil, Text as GatherText, TextSame, Line as GatherLine, Token as GatherToken}
-use Rattle.user_macros.specs.Calls.{MacroCall, MacroAnswer, refused}
+use Rattle.user_macros.specs.Calls.{MacroCall, MacroAnswer}
+use Rattle.user_macros.specs.Functions.{Functions, named_way, named_answer}
 use Rattle.user_macros.specs.Calls as user
 use Rattle.std_macros.specs.declared.kind.Standard.{Standard}
 use Rattle.std_macros.specs.declared.kind.Standard.TheVariants.{Radix}
@@ -34,25 +34,17 @@ pub record Setting : Type 0 where
   pub way : List ℕ → Option Gather
   pub answer : List ℕ → MacroCall → MacroAnswer
 
--- the way of a function that is registered
-abbrev pub registered_way : List (List ℕ) → (List ℕ → Option Gather) → List ℕ → Option Gather
-registered_way registered way name = if is_among registered name then way name else None
-
--- what a function that is registered answers; another refuses each call
-abbrev pub registered_answer : List (List ℕ) → (List ℕ → MacroCall → MacroAnswer) → List ℕ → MacroCall → MacroAnswer
-registered_answer registered answer name call = if is_among registered name then answer name call else refused 0
-
--- Reading under these limits, this readtable, in base 10, in this package, with the registered functions of this meaning. A
--- name that is not registered is that of no function.
-abbrev pub setting_of : Limits → Table → Packages → Name → List (List ℕ) → (List ℕ → Option Gather) → (List ℕ → MacroCall → MacroAnswer) → Setting
-setting_of limits table packages current registered way answer = record {
+-- Reading under these limits, this readtable, in base 10, in this package, with these functions. A name that is not among
+-- theirs is that of no function.
+abbrev pub setting_of : Limits → Table → Packages → Name → Functions → Setting
+setting_of limits table packages current functions = record {
   limits = limits;
   table = table;
   base = 10;
   packages = packages;
   current = current;
-  way = registered_way registered way;
-  answer = registered_answer registered answer;
+  way = named_way functions;
+  answer = named_answer functions;
 }
 
 -- ---- the way in which a function gathers

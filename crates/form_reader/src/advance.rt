@@ -1,6 +1,6 @@
 //! One byte, wherever a reader is in its innermost call.
 ghost use Rattle.std.specs.Prelude.{◌≡◌, ◌≤◌, ◌<◌, ◌+◌, ◌^◌, ℕ, List, ◌∷◌, length, IfOk};
-ghost use Rattle.form_reader.specs.Surrounding.{setting_with};
+ghost use Rattle.form_reader.specs.Surrounding.{setting};
 ghost use Rattle.form_reader.specs.Memory.{GivesBefore, RunsOut, SpendsMove, StaysOpen};
 ghost use Rattle.form_reader.specs.Frames.{needs_memory};
 ghost use Rattle.form_reader.specs.Resuming.{Moves, stage_gives};
@@ -28,14 +28,14 @@ pub(crate) fn advance<R: MacroFunctions>(
     requires answers { R.answers with.now.macros.now }
     requires standing { IsStanding with.now.limits frames.old stage at }
     requires count { at < 2 ^ 63 }
-    ensures moves { let setting = setting_with (R.registered with.now.macros.now) R.Meaning.way R.Meaning.answer with.now in
+    ensures moves { let setting = setting R.functions with.now in
         (cs : List ℕ) → IfOk result (λ moved. Moves setting frames.new at c cs moved
         (stage_gives setting frames.old stage at (c ∷ cs))) }
     ensures ready { IfOk result (IsReadyMove with.now.limits at) }
     ensures nesting { IfOk result (λ _. length frames.new ≤ with.now.limits.nesting) }
-    ensures memory { let setting = setting_with (R.registered with.now.macros.now) R.Meaning.way R.Meaning.answer with.now in
+    ensures memory { let setting = setting R.functions with.now in
         SpendsMove (needs_memory frames.new) result (RunsOut setting frames.old stage at c) }
-    ensures before { let setting = setting_with (R.registered with.now.macros.now) R.Meaning.way R.Meaning.answer with.now in
+    ensures before { let setting = setting R.functions with.now in
         IfOk result (GivesBefore setting frames.old stage at c) }
     ensures stays { IfOk result (StaysOpen frames.old frames.new) }
 {

@@ -2,7 +2,7 @@
 ghost use Rattle.std.specs.Prelude.{◌≡◌, ◌≤◌, ◌<◌, ◌+◌, ◌^◌, ℕ, List, ◌∷◌, length, true, false, IfOk};
 ghost use Rattle.form_reader.specs.declared.frame.Frame.{Frame as OpenCall};
 ghost use Rattle.readtable_core.specs.Tables.{entry_at};
-ghost use Rattle.form_reader.specs.Surrounding.{setting_with};
+ghost use Rattle.form_reader.specs.Surrounding.{setting};
 ghost use Rattle.form_reader.specs.Reading.{stands_alone, alone};
 ghost use Rattle.form_reader.specs.Frames.{needs_memory, plan_gives};
 ghost use Rattle.form_reader.specs.Memory.{CostsOf, EndsAtPlace, OpensAtPlace, Spends};
@@ -47,12 +47,12 @@ pub(crate) fn alone<R: MacroFunctions>(
     requires place { at ≤ with.now.limits.text }
     requires nesting { length frames.old ≤ with.now.limits.nesting }
     requires alone { stands_alone (entry_at with.now.readtable.now c).syntax ≡ true }
-    ensures brings { let setting = setting_with (R.registered with.now.macros.now) R.Meaning.way R.Meaning.answer with.now in
+    ensures brings { let setting = setting R.functions with.now in
         (cs : List ℕ) → IfOk result (λ event. Brings setting frames.new (at + 1) cs event
         (plan_gives setting frames.old (attempt_at setting (length frames.old)) at (c ∷ cs))) }
     ensures ready { IfOk result (IsReady with.now.limits (at + 1)) }
     ensures nesting { IfOk result (λ _. length frames.new ≤ with.now.limits.nesting) }
-    ensures memory { let setting = setting_with (R.registered with.now.macros.now) R.Meaning.way R.Meaning.answer with.now in
+    ensures memory { let setting = setting R.functions with.now in
         Spends (needs_memory frames.new) result (CostsOf (EndsAtPlace setting c) (OpensAtPlace setting c) setting frames.old (at + 1) (λ cs. plan_gives setting frames.old (attempt_at setting (length frames.old)) at (c ∷ cs))) }
 {
     with.readtable.soundness();
@@ -80,12 +80,12 @@ pub(crate) fn begin_token<R: MacroFunctions>(
 ) -> Result<Event, AllocError>
     requires place { at ≤ with.now.limits.text }
     requires begins { stands_alone (entry_at with.now.readtable.now c).syntax ≡ false }
-    ensures brings { let setting = setting_with (R.registered with.now.macros.now) R.Meaning.way R.Meaning.answer with.now in
+    ensures brings { let setting = setting R.functions with.now in
         (frames : List OpenCall) (cs : List ℕ) → length frames ≤ with.now.limits.nesting
         → IfOk result (λ event. Brings setting frames (at + 1) cs event
         (plan_gives setting frames (attempt_at setting (length frames)) at (c ∷ cs))) }
     ensures ready { IfOk result (IsReady with.now.limits (at + 1)) }
-    ensures memory { let setting = setting_with (R.registered with.now.macros.now) R.Meaning.way R.Meaning.answer with.now in
+    ensures memory { let setting = setting R.functions with.now in
         (frames : List OpenCall) → length frames ≤ with.now.limits.nesting
         → Spends (needs_memory frames) result (CostsOf (EndsAtPlace setting c) (OpensAtPlace setting c) setting frames (at + 1) (λ cs. plan_gives setting frames (attempt_at setting (length frames)) at (c ∷ cs))) }
 {

@@ -1,7 +1,7 @@
 //! What an open call gives where its closing character comes.
 ghost use Rattle.std.specs.Prelude.{◌≡◌, ◌≤◌, ℕ, List, length, false, IfOk, ◌<◌};
 ghost use Rattle.form_reader.specs.declared.frame.Frame.{Frame as OpenCall};
-ghost use Rattle.form_reader.specs.Surrounding.{setting_with};
+ghost use Rattle.form_reader.specs.Surrounding.{setting};
 ghost use Rattle.form_reader.specs.Reading.{closed};
 ghost use Rattle.form_reader.specs.Frames.{call_in, needs_memory, plan_gives};
 ghost use Rattle.form_reader.specs.Memory.{closed_call, CostsOf, Spends};
@@ -29,12 +29,12 @@ pub(crate) fn close<R: MacroFunctions>(
     requires answers { R.answers with.now.macros.now }
     requires place { at ≤ with.now.limits.text }
     requires taken { 0 < at }
-    ensures brings { let setting = setting_with (R.registered with.now.macros.now) R.Meaning.way R.Meaning.answer with.now in
+    ensures brings { let setting = setting R.functions with.now in
         (frames : List OpenCall) (cs : List ℕ) → round ≡ length frames
         → IfOk result (λ event. Brings setting frames at cs event
         (plan_gives setting frames (call_in setting frame frames closed) at cs)) }
     ensures ready { IfOk result (IsReady with.now.limits at) }
-    ensures memory { let setting = setting_with (R.registered with.now.macros.now) R.Meaning.way R.Meaning.answer with.now in
+    ensures memory { let setting = setting R.functions with.now in
         (frames : List OpenCall) → round ≡ length frames
         → Spends (needs_memory frames) result (CostsOf (closed_call frame) ⊥ setting frames at (λ cs. plan_gives setting frames (call_in setting frame frames closed) at cs)) }
 {

@@ -7,7 +7,7 @@ ghost use Rattle.user_macros.specs.Sound.{IsSoundCall, IsProperMaterial};
 ghost use Rattle.std_macros.specs.Values.{value_of};
 ghost use Rattle.std_macros.specs.Results.{takes_memory, view_gathered, IsProperGathered};
 ghost use Rattle.form_reader.specs.Setting.{macro_call, user_material};
-ghost use Rattle.form_reader.specs.Surrounding.{setting_with};
+ghost use Rattle.form_reader.specs.Surrounding.{setting};
 ghost use Rattle.form_reader.specs.Reading.{bytes_back, finished, answered, completed};
 ghost use Rattle.form_reader.specs.Completing.{plan_of};
 ghost use Rattle.form_reader.specs.Memory.{gives_object, call_may_cost};
@@ -50,10 +50,10 @@ pub(crate) fn complete<R: MacroFunctions>(
 ) -> Result<Completed, AllocError>
     requires answers { R.answers with.now.macros.now }
     requires proper { IsProperGathered gathered }
-    ensures gives { let setting = setting_with (R.registered with.now.macros.now) R.Meaning.way R.Meaning.answer with.now in
+    ensures gives { let setting = setting R.functions with.now in
         IfOk result (λ r. completed setting round call.now token spaced (view_gathered gathered) ≡ plan_of r) }
     ensures ends { IfOk result (λ r. completed_lookahead r ≤ space (token || spaced)) }
-    ensures some { let setting = setting_with (R.registered with.now.macros.now) R.Meaning.way R.Meaning.answer with.now in
+    ensures some { let setting = setting R.functions with.now in
         (needs : Bool) → OnErr result (call_may_cost needs call.now (view_gathered gathered) (completed setting round call.now token spaced (view_gathered gathered)) ≡ true) }
 {
     match call.function() {

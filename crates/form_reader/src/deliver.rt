@@ -5,7 +5,7 @@ ghost use Rattle.form_reader.specs.declared.found.Found.TheVariants.{One as one,
 ghost use Rattle.form_reader.specs.declared.frame.Frame.{Frame as OpenCall};
 ghost use Rattle.form_reader.specs.Completing.{plan_of};
 ghost use Rattle.form_reader.specs.Setting.{Setting};
-ghost use Rattle.form_reader.specs.Surrounding.{setting_with};
+ghost use Rattle.form_reader.specs.Surrounding.{setting};
 ghost use Rattle.form_reader.specs.Frames.{plan_gives, needs_memory, needs_to_take};
 ghost use Rattle.form_reader.specs.Delivering.{Takes, Delivers, TakesFrom, Ends, DeliversFrom};
 ghost use Rattle.form_reader.specs.Ready.{space, lookahead, completed_lookahead, IsTakenAt, IsDeliveredAt};
@@ -52,7 +52,7 @@ fn take<R: MacroFunctions>(
     requires answers { R.answers with.now.macros.now }
     requires place { at ≤ with.now.limits.text }
     requires open { 0 < length frames.old }
-    ensures takes { let setting = setting_with (R.registered with.now.macros.now) R.Meaning.way R.Meaning.answer with.now in
+    ensures takes { let setting = setting R.functions with.now in
         (cs : List ℕ) → IfOk result (λ taken. Takes setting frames.new at cs taken
         (plan_gives setting frames.old (gives found) at cs)) }
     ensures leaves { IfOk result (IsTakenAt (lookahead found) at) }
@@ -78,7 +78,7 @@ fn take_one<R: MacroFunctions>(
     requires answers { R.answers with.now.macros.now }
     requires place { at ≤ with.now.limits.text }
     requires open { 0 < length frames.old }
-    ensures takes { let setting = setting_with (R.registered with.now.macros.now) R.Meaning.way R.Meaning.answer with.now in
+    ensures takes { let setting = setting R.functions with.now in
         (cs : List ℕ) → IfOk result (λ taken. Takes setting frames.new at cs taken
         (plan_gives setting frames.old (gives (one token x)) at cs)) }
     ensures leaves { IfOk result (IsTakenAt (space token) at) }
@@ -139,7 +139,7 @@ pub(crate) fn deliver<R: MacroFunctions>(
 ) -> Result<Delivered, AllocError>
     requires answers { R.answers with.now.macros.now }
     requires place { at ≤ with.now.limits.text }
-    ensures delivers { let setting = setting_with (R.registered with.now.macros.now) R.Meaning.way R.Meaning.answer with.now in
+    ensures delivers { let setting = setting R.functions with.now in
         (cs : List ℕ) → IfOk result (λ delivered. Delivers setting frames.new at cs delivered
         (plan_gives setting frames.old (gives found) at cs)) }
     ensures shorter { IfOk result (λ delivered. length frames.new ≤ length frames.old) }

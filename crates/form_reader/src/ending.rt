@@ -3,7 +3,7 @@ ghost use Rattle.std.specs.Prelude.{◌≡◌, ◌≤◌, ◌<◌, ◌+◌, ◌^
 ghost use Rattle.readtable_core.specs.Tables.{Table};
 ghost use Rattle.form_reader.specs.declared.frame.Frame.{Frame as OpenCall};
 ghost use Rattle.form_reader.specs.Setting.{Setting};
-ghost use Rattle.form_reader.specs.Surrounding.{setting_with};
+ghost use Rattle.form_reader.specs.Surrounding.{setting};
 ghost use Rattle.form_reader.specs.declared.stage.Stage.TheVariants.{Object as AtObject, Token as AtToken, CallToken as AtCallToken, Line as AtLine};
 ghost use Rattle.form_reader.specs.declared.ending.ReadOutcome.TheVariants.{Empty as IsEmpty};
 ghost use Rattle.form_reader.specs.declared.found.Found.TheVariants.{TheEnd as the_end};
@@ -75,11 +75,11 @@ fn last_token<R: MacroFunctions>(
     at: usize,
 ) -> Result<Event, AllocError>
     requires place { at ≤ with.now.limits.text }
-    ensures brings { let setting = setting_with (R.registered with.now.macros.now) R.Meaning.way R.Meaning.answer with.now in
+    ensures brings { let setting = setting R.functions with.now in
         (frames : List OpenCall) → IfOk result (λ event. Brings setting frames at [] event
         (stage_gives setting frames (AtToken scan) at [])) }
     ensures last { IfOk result (IsLastEvent at) }
-    ensures memory { let setting = setting_with (R.registered with.now.macros.now) R.Meaning.way R.Meaning.answer with.now in
+    ensures memory { let setting = setting R.functions with.now in
         (frames : List OpenCall) → Spends (is_waiting frames) result (EndNeedsMemory setting frames (AtToken scan) at) }
 {
     let mut scan = scan.into_scan();
@@ -99,11 +99,11 @@ fn last_call_token<R: MacroFunctions>(
 ) -> Result<Event, AllocError>
     requires answers { R.answers with.now.macros.now }
     requires place { at ≤ with.now.limits.text }
-    ensures brings { let setting = setting_with (R.registered with.now.macros.now) R.Meaning.way R.Meaning.answer with.now in
+    ensures brings { let setting = setting R.functions with.now in
         (frames : List OpenCall) → round ≡ length frames → IfOk result (λ event. Brings setting frames at [] event
         (stage_gives setting frames (AtCallToken call scan) at [])) }
     ensures last { IfOk result (IsLastEvent at) }
-    ensures memory { let setting = setting_with (R.registered with.now.macros.now) R.Meaning.way R.Meaning.answer with.now in
+    ensures memory { let setting = setting R.functions with.now in
         (frames : List OpenCall) → round ≡ length frames → Spends (is_waiting frames) result (EndNeedsMemory setting frames (AtCallToken call scan) at) }
 {
     match token_stop(&with.limits, &mut scan, at) {
@@ -126,12 +126,12 @@ fn last_line<R: MacroFunctions>(
 ) -> Result<Event, AllocError>
     requires answers { R.answers with.now.macros.now }
     requires place { at ≤ with.now.limits.text }
-    ensures brings { let setting = setting_with (R.registered with.now.macros.now) R.Meaning.way R.Meaning.answer with.now in
+    ensures brings { let setting = setting R.functions with.now in
         (frames : List OpenCall) → round ≡ length frames
         → IfOk result (λ event. Brings setting frames at [] event
         (stage_gives setting frames (AtLine call text) at [])) }
     ensures last { IfOk result (IsLastEvent at) }
-    ensures memory { let setting = setting_with (R.registered with.now.macros.now) R.Meaning.way R.Meaning.answer with.now in
+    ensures memory { let setting = setting R.functions with.now in
         (frames : List OpenCall) → round ≡ length frames
         → Spends (is_waiting frames) result (EndNeedsMemory setting frames (AtLine call text) at) }
 {
@@ -148,11 +148,11 @@ fn last<R: MacroFunctions>(
 ) -> Result<Event, AllocError>
     requires answers { R.answers with.now.macros.now }
     requires place { at ≤ with.now.limits.text }
-    ensures brings { let setting = setting_with (R.registered with.now.macros.now) R.Meaning.way R.Meaning.answer with.now in
+    ensures brings { let setting = setting R.functions with.now in
         (frames : List OpenCall) → round ≡ length frames → IfOk result (λ event. Brings setting frames at [] event
         (stage_gives setting frames stage at [])) }
     ensures last { IfOk result (IsLastEvent at) }
-    ensures memory { let setting = setting_with (R.registered with.now.macros.now) R.Meaning.way R.Meaning.answer with.now in
+    ensures memory { let setting = setting R.functions with.now in
         (frames : List OpenCall) → round ≡ length frames → Spends (is_waiting frames) result (EndNeedsMemory setting frames stage at) }
     ensures object { stage ≡ AtObject → result ≡ Ok (IsAt AtObject) }
 {
@@ -213,7 +213,7 @@ fn give_last<R: MacroFunctions>(
 ) -> Result<Settled, AllocError>
     requires answers { R.answers with.now.macros.now }
     requires place { at ≤ with.now.limits.text }
-    ensures settles { let setting = setting_with (R.registered with.now.macros.now) R.Meaning.way R.Meaning.answer with.now in
+    ensures settles { let setting = setting R.functions with.now in
         IfOk result (λ settled. Settles setting frames.new at [] settled (plan_gives setting frames.old (gives found) at [])) }
     ensures last { IfOk result (IsLastSettled at) }
     ensures memory { OnErr result (ends_call frames.old found ≡ true) }
@@ -240,11 +240,11 @@ fn settle_last<R: MacroFunctions>(
 ) -> Result<Settled, AllocError>
     requires answers { R.answers with.now.macros.now }
     requires place { at ≤ with.now.limits.text }
-    ensures settles { let setting = setting_with (R.registered with.now.macros.now) R.Meaning.way R.Meaning.answer with.now in
+    ensures settles { let setting = setting R.functions with.now in
         IfOk result (λ settled. Settles setting frames.new at [] settled
         (stage_gives setting frames.old stage at [])) }
     ensures last { IfOk result (IsLastSettled at) }
-    ensures memory { let setting = setting_with (R.registered with.now.macros.now) R.Meaning.way R.Meaning.answer with.now in
+    ensures memory { let setting = setting R.functions with.now in
         OnErr result (EndNeedsMemory setting frames.old stage at) }
     ensures between { frames.old ≡ [] → stage ≡ AtObject → result ≡ Ok (IsDone the_end) }
 {
@@ -291,9 +291,9 @@ pub(crate) fn last_outcome<R: MacroFunctions>(
     requires answers { R.answers with.now.macros.now }
     requires place { at ≤ with.now.limits.text }
     requires count { start + at ≤ 2 ^ 63 }
-    ensures outcome { let setting = setting_with (R.registered with.now.macros.now) R.Meaning.way R.Meaning.answer with.now in
+    ensures outcome { let setting = setting R.functions with.now in
         IfOk result (λ outcome. IsOutcome outcome (rest_of setting frames.old stage start at [])) }
-    ensures memory { let setting = setting_with (R.registered with.now.macros.now) R.Meaning.way R.Meaning.answer with.now in
+    ensures memory { let setting = setting R.functions with.now in
         OnErr result (EndNeedsMemory setting frames.old stage at) }
     ensures between { frames.old ≡ [] → stage ≡ AtObject → result ≡ Ok IsEmpty }
 {

@@ -1,7 +1,7 @@
 //! One byte of what a call gathers, and what the call comes to.
 ghost use Rattle.std.specs.Prelude.{◌≡◌, ◌≤◌, ◌<◌, ◌+◌, ◌^◌, ℕ, List, ◌∷◌, length, IfOk};
 ghost use Rattle.form_reader.specs.declared.frame.Frame.{Frame as OpenCall};
-ghost use Rattle.form_reader.specs.Surrounding.{setting_with};
+ghost use Rattle.form_reader.specs.Surrounding.{setting};
 ghost use Rattle.form_reader.specs.declared.stage.Stage.TheVariants.{Text as AtText, Escaped as AtEscaped, Line as AtLine, Block as AtBlock, CallToken as AtCallToken};
 ghost use Rattle.form_reader.specs.Frames.{needs_memory};
 ghost use Rattle.form_reader.specs.Memory.{CostsOf, Grows, MayEndAt, Spends};
@@ -32,12 +32,12 @@ pub(crate) fn in_text<R: MacroFunctions>(
     requires answers { R.answers with.now.macros.now }
     requires place { at ≤ with.now.limits.text }
     requires count { at < 2 ^ 63 }
-    ensures brings { let setting = setting_with (R.registered with.now.macros.now) R.Meaning.way R.Meaning.answer with.now in
+    ensures brings { let setting = setting R.functions with.now in
         (frames : List OpenCall) (cs : List ℕ) → round ≡ length frames
         → IfOk result (λ event. Brings setting frames (at + 1) cs event
         (stage_gives setting frames (AtText call terminator text) at (c ∷ cs))) }
     ensures ready { IfOk result (IsReady with.now.limits (at + 1)) }
-    ensures memory { let setting = setting_with (R.registered with.now.macros.now) R.Meaning.way R.Meaning.answer with.now in
+    ensures memory { let setting = setting R.functions with.now in
         (frames : List OpenCall) → round ≡ length frames
         → Spends (needs_memory frames) result (CostsOf (MayEndAt setting (AtText call terminator text) c) (Grows setting frames (AtText call terminator text) at c) setting frames (at + 1) (λ cs. stage_gives setting frames (AtText call terminator text) at (c ∷ cs))) }
 {
@@ -62,12 +62,12 @@ pub(crate) fn in_escaped<R: MacroFunctions>(
     at: usize,
     c: u8,
 ) -> Result<Event, AllocError>
-    ensures brings { let setting = setting_with (R.registered with.now.macros.now) R.Meaning.way R.Meaning.answer with.now in
+    ensures brings { let setting = setting R.functions with.now in
         (frames : List OpenCall) (cs : List ℕ) → round ≡ length frames
         → IfOk result (λ event. Brings setting frames (at + 1) cs event
         (stage_gives setting frames (AtEscaped call terminator text) at (c ∷ cs))) }
     ensures ready { IfOk result (IsReady with.now.limits (at + 1)) }
-    ensures memory { let setting = setting_with (R.registered with.now.macros.now) R.Meaning.way R.Meaning.answer with.now in
+    ensures memory { let setting = setting R.functions with.now in
         (frames : List OpenCall) → round ≡ length frames
         → Spends (needs_memory frames) result (CostsOf (MayEndAt setting (AtEscaped call terminator text) c) (Grows setting frames (AtEscaped call terminator text) at c) setting frames (at + 1) (λ cs. stage_gives setting frames (AtEscaped call terminator text) at (c ∷ cs))) }
 {
@@ -90,12 +90,12 @@ pub(crate) fn in_line<R: MacroFunctions>(
     requires answers { R.answers with.now.macros.now }
     requires place { at ≤ with.now.limits.text }
     requires count { at < 2 ^ 63 }
-    ensures brings { let setting = setting_with (R.registered with.now.macros.now) R.Meaning.way R.Meaning.answer with.now in
+    ensures brings { let setting = setting R.functions with.now in
         (frames : List OpenCall) (cs : List ℕ) → round ≡ length frames
         → IfOk result (λ event. Brings setting frames (at + 1) cs event
         (stage_gives setting frames (AtLine call text) at (c ∷ cs))) }
     ensures ready { IfOk result (IsReady with.now.limits (at + 1)) }
-    ensures memory { let setting = setting_with (R.registered with.now.macros.now) R.Meaning.way R.Meaning.answer with.now in
+    ensures memory { let setting = setting R.functions with.now in
         (frames : List OpenCall) → round ≡ length frames
         → Spends (needs_memory frames) result (CostsOf (MayEndAt setting (AtLine call text) c) (Grows setting frames (AtLine call text) at c) setting frames (at + 1) (λ cs. stage_gives setting frames (AtLine call text) at (c ∷ cs))) }
 {
@@ -124,12 +124,12 @@ pub(crate) fn in_block<R: MacroFunctions>(
     requires place { at ≤ with.now.limits.text }
     requires count { at < 2 ^ 63 }
     requires level { levels.0 ≤ at }
-    ensures brings { let setting = setting_with (R.registered with.now.macros.now) R.Meaning.way R.Meaning.answer with.now in
+    ensures brings { let setting = setting R.functions with.now in
         (frames : List OpenCall) (cs : List ℕ) → round ≡ length frames
         → IfOk result (λ event. Brings setting frames (at + 1) cs event
         (stage_gives setting frames (AtBlock call levels) at (c ∷ cs))) }
     ensures ready { IfOk result (IsReady with.now.limits (at + 1)) }
-    ensures memory { let setting = setting_with (R.registered with.now.macros.now) R.Meaning.way R.Meaning.answer with.now in
+    ensures memory { let setting = setting R.functions with.now in
         (frames : List OpenCall) → round ≡ length frames
         → Spends (needs_memory frames) result (CostsOf (MayEndAt setting (AtBlock call levels) c) (Grows setting frames (AtBlock call levels) at c) setting frames (at + 1) (λ cs. stage_gives setting frames (AtBlock call levels) at (c ∷ cs))) }
 {

@@ -1,7 +1,7 @@
 //! One byte that begins a token, goes on one, or is whitespace where an object may begin, taken where the reader is.
 ghost use Rattle.std.specs.Prelude.{◌≡◌, ◌≤◌, ◌<◌, ◌+◌, ℕ, List, [], ◌∷◌, length, true, false, Ok, None, IfOk, IfSome, OnErr, IsTrue};
 ghost use Rattle.form_reader.specs.Feeding.{is_going};
-ghost use Rattle.form_reader.specs.Surrounding.{setting_with};
+ghost use Rattle.form_reader.specs.Surrounding.{setting};
 ghost use Rattle.form_reader.specs.declared.stage.Stage.TheVariants.{Object as AtObject};
 ghost use Rattle.form_reader.specs.Memory.{Costs, RunsOut, is_space};
 ghost use Rattle.form_reader.specs.Resuming.{stage_gives};
@@ -44,16 +44,16 @@ pub(crate) fn in_place<R: MacroFunctions>(
 ) -> Result<InPlace, AllocError>
     requires place { at ≤ with.now.limits.text }
     requires nesting { length frames.now ≤ with.now.limits.nesting }
-    ensures feeds { let setting = setting_with (R.registered with.now.macros.now) R.Meaning.way R.Meaning.answer with.now in
+    ensures feeds { let setting = setting R.functions with.now in
         (cs : List ℕ) → IfOk result (FeedsInPlace setting frames.now at c cs stage.old stage.new) }
     ensures ready { IfOk result (IsReadyInPlace with.now.limits at stage.new) }
-    ensures memory { let setting = setting_with (R.registered with.now.macros.now) R.Meaning.way R.Meaning.answer with.now in
+    ensures memory { let setting = setting R.functions with.now in
         OnErr result (RunsOut setting frames.now stage.old at c) }
-    ensures space { let setting = setting_with (R.registered with.now.macros.now) R.Meaning.way R.Meaning.answer with.now in
+    ensures space { let setting = setting R.functions with.now in
         OnErr result (is_space setting frames.now stage.old at c ≡ false) }
-    ensures left { let setting = setting_with (R.registered with.now.macros.now) R.Meaning.way R.Meaning.answer with.now in
+    ensures left { let setting = setting R.functions with.now in
         result ≡ Ok IsLeft → is_space setting frames.now stage.old at c ≡ false }
-    ensures passed { let setting = setting_with (R.registered with.now.macros.now) R.Meaning.way R.Meaning.answer with.now in
+    ensures passed { let setting = setting R.functions with.now in
         frames.now ≡ [] → is_space setting frames.now stage.old at c ≡ true → (result ≡ Ok IsPassed) × (stage.new ≡ AtObject) }
     ensures anew { result ≡ Ok IsPassed → (frames.now ≡ []) × (stage.new ≡ AtObject) }
 {
@@ -80,16 +80,16 @@ fn begin_in_place<R: MacroFunctions>(
     requires place { at ≤ with.now.limits.text }
     requires nesting { length frames.now ≤ with.now.limits.nesting }
     requires object { stage.old ≡ AtObject }
-    ensures feeds { let setting = setting_with (R.registered with.now.macros.now) R.Meaning.way R.Meaning.answer with.now in
+    ensures feeds { let setting = setting R.functions with.now in
         (cs : List ℕ) → IfOk result (FeedsInPlace setting frames.now at c cs stage.old stage.new) }
     ensures ready { IfOk result (IsReadyInPlace with.now.limits at stage.new) }
-    ensures memory { let setting = setting_with (R.registered with.now.macros.now) R.Meaning.way R.Meaning.answer with.now in
+    ensures memory { let setting = setting R.functions with.now in
         OnErr result (RunsOut setting frames.now stage.old at c) }
-    ensures space { let setting = setting_with (R.registered with.now.macros.now) R.Meaning.way R.Meaning.answer with.now in
+    ensures space { let setting = setting R.functions with.now in
         OnErr result (is_space setting frames.now stage.old at c ≡ false) }
-    ensures left { let setting = setting_with (R.registered with.now.macros.now) R.Meaning.way R.Meaning.answer with.now in
+    ensures left { let setting = setting R.functions with.now in
         result ≡ Ok IsLeft → is_space setting frames.now stage.old at c ≡ false }
-    ensures passed { let setting = setting_with (R.registered with.now.macros.now) R.Meaning.way R.Meaning.answer with.now in
+    ensures passed { let setting = setting R.functions with.now in
         frames.now ≡ [] → is_space setting frames.now stage.old at c ≡ true → (result ≡ Ok IsPassed) × (stage.new ≡ AtObject) }
     ensures anew { result ≡ Ok IsPassed → (frames.now ≡ []) × (stage.new ≡ AtObject) }
 {
@@ -112,14 +112,14 @@ fn begun_at<R: MacroFunctions>(
 ) -> Result<Option<BegunScan>, AllocError>
     requires place { at ≤ with.now.limits.text }
     requires nesting { length frames.now ≤ with.now.limits.nesting }
-    ensures begins { let setting = setting_with (R.registered with.now.macros.now) R.Meaning.way R.Meaning.answer with.now in
+    ensures begins { let setting = setting R.functions with.now in
         (cs : List ℕ) → IfOk result (λ begun. IfSome begun (λ scan. Begins setting frames.now at c cs scan)) }
     ensures ready { IfOk result (λ begun. IfSome begun (λ scan. (at < with.now.limits.text) × IsTrue (is_going scan.stage))) }
-    ensures memory { let setting = setting_with (R.registered with.now.macros.now) R.Meaning.way R.Meaning.answer with.now in
+    ensures memory { let setting = setting R.functions with.now in
         OnErr result (Costs setting frames.now c (at + 1) (λ cs. stage_gives setting frames.now AtObject at (c ∷ cs))) }
-    ensures space { let setting = setting_with (R.registered with.now.macros.now) R.Meaning.way R.Meaning.answer with.now in
+    ensures space { let setting = setting R.functions with.now in
         OnErr result (is_space setting frames.now AtObject at c ≡ false) }
-    ensures none { let setting = setting_with (R.registered with.now.macros.now) R.Meaning.way R.Meaning.answer with.now in
+    ensures none { let setting = setting R.functions with.now in
         is_space setting frames.now AtObject at c ≡ true → result ≡ Ok None }
 {
     if frames.is_closed_by(c) {
@@ -142,12 +142,12 @@ fn discarded<R: MacroFunctions>(
     c: u8,
 ) -> InPlace
     requires nesting { length frames.now ≤ with.now.limits.nesting }
-    ensures feeds { let setting = setting_with (R.registered with.now.macros.now) R.Meaning.way R.Meaning.answer with.now in
+    ensures feeds { let setting = setting R.functions with.now in
         (cs : List ℕ) → FeedsInPlace setting frames.now at c cs AtObject AtObject result }
     ensures ready { IsReadyInPlace with.now.limits at AtObject result }
-    ensures left { let setting = setting_with (R.registered with.now.macros.now) R.Meaning.way R.Meaning.answer with.now in
+    ensures left { let setting = setting R.functions with.now in
         result ≡ IsLeft → is_space setting frames.now AtObject at c ≡ false }
-    ensures passed { let setting = setting_with (R.registered with.now.macros.now) R.Meaning.way R.Meaning.answer with.now in
+    ensures passed { let setting = setting R.functions with.now in
         frames.now ≡ [] → is_space setting frames.now AtObject at c ≡ true → result ≡ IsPassed }
     ensures anew { result ≡ IsPassed → frames.now ≡ [] }
 {
@@ -168,13 +168,13 @@ fn is_discarded<R: MacroFunctions>(
     c: u8,
 ) -> bool
     requires nesting { length frames.now ≤ with.now.limits.nesting }
-    ensures stays { let setting = setting_with (R.registered with.now.macros.now) R.Meaning.way R.Meaning.answer with.now in
+    ensures stays { let setting = setting R.functions with.now in
         (cs : List ℕ) → result ≡ true → 0 < length frames.now → Stays setting frames.now at c cs }
-    ensures passes { let setting = setting_with (R.registered with.now.macros.now) R.Meaning.way R.Meaning.answer with.now in
+    ensures passes { let setting = setting R.functions with.now in
         (start : ℕ) (cs : List ℕ) → result ≡ true → frames.now ≡ []
         → rest_of setting frames.now AtObject start at (c ∷ cs) ≡ rest_of setting frames.now AtObject (start + (at + 1)) 0 cs }
     ensures below { result ≡ true → at < with.now.limits.text }
-    ensures space { let setting = setting_with (R.registered with.now.macros.now) R.Meaning.way R.Meaning.answer with.now in
+    ensures space { let setting = setting R.functions with.now in
         result ≡ is_space setting frames.now AtObject at c }
 {
     if at >= with.limits.text {

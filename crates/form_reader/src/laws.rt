@@ -19,6 +19,7 @@ ghost use Rattle.form_reader.specs.Reading.{is_whitespace, Outcome, form, empty,
 ghost use Rattle.form_reader.specs.Depending.{FindsSame};
 ghost use Rattle.form_reader.specs.Discarding.{IsDiscarded};
 ghost use Rattle.form_reader.specs.Fitting.{IsFitting};
+ghost use Rattle.user_macros.specs.Functions.{Functions, named_among};
 
 /// A form is read again, alone, from the bytes from its start up to its end. They are one byte or more, and with it at
 /// most one more byte is discarded.
@@ -118,11 +119,10 @@ pub fn refusals_are_of_reading()
 /// What is read depends on the registered functions only through their names: where two registries have the same names, the
 /// setting is the same. So where each function of a meaning is registered, a text is read under all its names.
 pub fn only_registered_names_matter()
-    ensures { (limits : Limits) (table : Table) (packages : Packages) (current : Name) (names others : List (List ℕ))
-        (way : List ℕ → Option Gather) (answer : List ℕ → MacroCall → MacroAnswer)
-        → ((name : List ℕ) → IsTrue (is_among names name) → IsTrue (is_among others name))
-        → ((name : List ℕ) → IsTrue (is_among others name) → IsTrue (is_among names name))
-        → setting_of limits table packages current others way answer ≡ setting_of limits table packages current names way answer }
+    ensures { (limits : Limits) (table : Table) (packages : Packages) (current : Name) (functions : Functions) (names : List (List ℕ))
+        → ((name : List ℕ) → IsTrue (is_among functions.names name) → IsTrue (is_among names name))
+        → ((name : List ℕ) → IsTrue (is_among names name) → IsTrue (is_among functions.names name))
+        → setting_of limits table packages current (named_among names functions) ≡ setting_of limits table packages current functions }
 {}
 
 /// Where a step answers `More`, no outcome is that of every text that begins with the bytes it was fed: a form, and a

@@ -2,7 +2,7 @@
 ghost use Rattle.std.specs.Prelude.{◌≡◌, ◌≤◌, ◌<◌, ◌+◌, ℕ, List, ◌∷◌, length, IfOk, IfSome};
 ghost use Rattle.readtable_core.specs.Tables.{entry_at, dispatch_at};
 ghost use Rattle.form_reader.specs.Setting.{function_of};
-ghost use Rattle.form_reader.specs.Surrounding.{setting_with};
+ghost use Rattle.form_reader.specs.Surrounding.{setting};
 ghost use Rattle.form_reader.specs.Reading.{macro_called, sub_there};
 ghost use Rattle.form_reader.specs.Frames.{needs_memory, plan_gives};
 ghost use Rattle.form_reader.specs.Memory.{CostsOf, EndsAtPlace, EndsAtSub, GivesBefore, Grows, MayEndAt, OpensAtPlace, OpensAtSub, RunsOut, Spends, SpendsMove};
@@ -10,6 +10,7 @@ ghost use Rattle.form_reader.specs.Resuming.{inner_at, Brings, Moves, stage_give
 ghost use Rattle.form_reader.specs.declared.frame.Frame.{Frame as OpenCall};
 ghost use Rattle.form_reader.specs.declared.stage.Stage.TheVariants.{CallToken as AtCallToken, Number as AtNumber};
 ghost use Rattle.form_reader.specs.Ready.{IsReady, IsReadyMove};
+ghost use Rattle.user_macros.specs.Functions.{Functions};
 
 use crate::bytes::{LineByte, number_byte};
 use crate::call::{Invoked, TokenCall};
@@ -58,13 +59,13 @@ pub(crate) fn begin_macro<R: MacroFunctions>(
     requires place { at ≤ with.now.limits.text }
     requires character { c < 128 }
     requires nesting { length frames.old ≤ with.now.limits.nesting }
-    ensures brings { let setting = setting_with (R.registered with.now.macros.now) R.Meaning.way R.Meaning.answer with.now in
+    ensures brings { let setting = setting R.functions with.now in
         (cs : List ℕ) → IfOk result (λ event. Brings setting frames.new at cs event
         (plan_gives setting frames.old (macro_called setting (length frames.old) (inner_at setting (length frames.old)) c
         (entry_at setting.table c).function) at cs)) }
     ensures ready { IfOk result (IsReady with.now.limits at) }
     ensures nesting { IfOk result (λ _. length frames.new ≤ with.now.limits.nesting) }
-    ensures memory { let setting = setting_with (R.registered with.now.macros.now) R.Meaning.way R.Meaning.answer with.now in
+    ensures memory { let setting = setting R.functions with.now in
         Spends (needs_memory frames.new) result (CostsOf (EndsAtPlace setting c) (OpensAtPlace setting c) setting frames.old at (λ cs. plan_gives setting frames.old
         (macro_called setting (length frames.old) (inner_at setting (length frames.old)) c (entry_at setting.table c).function) at cs)) }
 {
@@ -91,14 +92,14 @@ pub(crate) fn in_call_token<R: MacroFunctions>(
 ) -> Result<Moved, AllocError>
     requires answers { R.answers with.now.macros.now }
     requires place { at ≤ with.now.limits.text }
-    ensures moves { let setting = setting_with (R.registered with.now.macros.now) R.Meaning.way R.Meaning.answer with.now in
+    ensures moves { let setting = setting R.functions with.now in
         (frames : List OpenCall) (cs : List ℕ) → round ≡ length frames
         → IfOk result (λ moved. Moves setting frames at c cs moved
         (stage_gives setting frames (AtCallToken call scan) at (c ∷ cs))) }
     ensures ready { IfOk result (IsReadyMove with.now.limits at) }
-    ensures memory { let setting = setting_with (R.registered with.now.macros.now) R.Meaning.way R.Meaning.answer with.now in
+    ensures memory { let setting = setting R.functions with.now in
         (frames : List OpenCall) → round ≡ length frames → SpendsMove (needs_memory frames) result (RunsOut setting frames (AtCallToken call scan) at c) }
-    ensures before { let setting = setting_with (R.registered with.now.macros.now) R.Meaning.way R.Meaning.answer with.now in
+    ensures before { let setting = setting R.functions with.now in
         (frames : List OpenCall) → round ≡ length frames → IfOk result (GivesBefore setting frames (AtCallToken call scan) at c) }
 {
     match token_byte(with.readtable, &with.limits, &mut scan, at, c)? {
@@ -124,12 +125,12 @@ pub(crate) fn in_number<R: MacroFunctions>(
     requires answers { R.answers with.now.macros.now }
     requires place { at ≤ with.now.limits.text }
     requires nesting { length frames.old ≤ with.now.limits.nesting }
-    ensures brings { let setting = setting_with (R.registered with.now.macros.now) R.Meaning.way R.Meaning.answer with.now in
+    ensures brings { let setting = setting R.functions with.now in
         (cs : List ℕ) → IfOk result (λ event. Brings setting frames.new (at + 1) cs event
         (stage_gives setting frames.old (AtNumber character number) at (c ∷ cs))) }
     ensures ready { IfOk result (IsReady with.now.limits (at + 1)) }
     ensures nesting { IfOk result (λ _. length frames.new ≤ with.now.limits.nesting) }
-    ensures memory { let setting = setting_with (R.registered with.now.macros.now) R.Meaning.way R.Meaning.answer with.now in
+    ensures memory { let setting = setting R.functions with.now in
         Spends (needs_memory frames.new) result (CostsOf (MayEndAt setting (AtNumber character number) c) (Grows setting frames.old (AtNumber character number) at c) setting frames.old (at + 1) (λ cs. stage_gives setting frames.old (AtNumber character number) at (c ∷ cs))) }
 {
     match number_byte(with.readtable, &with.limits, &mut number, at, c) {
@@ -152,13 +153,13 @@ fn sub_byte<R: MacroFunctions>(
     requires place { at ≤ with.now.limits.text }
     requires character { character < 128 }
     requires nesting { length frames.old ≤ with.now.limits.nesting }
-    ensures brings { let setting = setting_with (R.registered with.now.macros.now) R.Meaning.way R.Meaning.answer with.now in
+    ensures brings { let setting = setting R.functions with.now in
         (cs : List ℕ) → IfOk result (λ event. Brings setting frames.new (at + 1) cs event
         (plan_gives setting frames.old (sub_there setting (length frames.old) (inner_at setting (length frames.old))
         character number) at (c ∷ cs))) }
     ensures ready { IfOk result (IsReady with.now.limits (at + 1)) }
     ensures nesting { IfOk result (λ _. length frames.new ≤ with.now.limits.nesting) }
-    ensures memory { let setting = setting_with (R.registered with.now.macros.now) R.Meaning.way R.Meaning.answer with.now in
+    ensures memory { let setting = setting R.functions with.now in
         Spends (needs_memory frames.new) result (CostsOf (EndsAtSub setting character number c) (OpensAtSub setting character number c) setting frames.old (at + 1) (λ cs. plan_gives setting frames.old
         (sub_there setting (length frames.old) (inner_at setting (length frames.old)) character number) at (c ∷ cs))) }
 {

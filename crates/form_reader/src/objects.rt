@@ -3,7 +3,7 @@ ghost use Rattle.std.specs.Prelude.{◌≡◌, ◌≤◌, ◌<◌, ◌+◌, ◌^
 ghost use Rattle.token_scan.specs.Marks.{are_ascii};
 ghost use Rattle.form_reader.specs.Delivering.{Passes};
 ghost use Rattle.form_reader.specs.Plans.{gives};
-ghost use Rattle.form_reader.specs.Surrounding.{setting_with};
+ghost use Rattle.form_reader.specs.Surrounding.{setting};
 ghost use Rattle.form_reader.specs.Reading.{is_blank, token_found};
 ghost use Rattle.form_reader.specs.Frames.{needs_memory, plan_gives, place_gives};
 ghost use Rattle.form_reader.specs.Memory.{Costs, FoundCosts, GivesBefore, RunsOut, Spends, SpendsMove, SpendsPass, SpendsToken};
@@ -38,12 +38,12 @@ pub(crate) fn at_object<R: MacroFunctions>(
     requires answers { R.answers with.now.macros.now }
     requires place { at ≤ with.now.limits.text }
     requires nesting { length frames.old ≤ with.now.limits.nesting }
-    ensures brings { let setting = setting_with (R.registered with.now.macros.now) R.Meaning.way R.Meaning.answer with.now in
+    ensures brings { let setting = setting R.functions with.now in
         (cs : List ℕ) → IfOk result (λ event. Brings setting frames.new (at + 1) cs event
         (stage_gives setting frames.old AtObject at (c ∷ cs))) }
     ensures ready { IfOk result (IsReady with.now.limits (at + 1)) }
     ensures nesting { IfOk result (λ _. length frames.new ≤ with.now.limits.nesting) }
-    ensures memory { let setting = setting_with (R.registered with.now.macros.now) R.Meaning.way R.Meaning.answer with.now in
+    ensures memory { let setting = setting R.functions with.now in
         Spends (needs_memory frames.new) result (Costs setting frames.old c (at + 1) (λ cs. stage_gives setting frames.old AtObject at (c ∷ cs))) }
 {
     if let Some(frame) = frames.pop_closed_by(c) {
@@ -70,12 +70,12 @@ pub(crate) fn after_token<R: MacroFunctions>(
     requires answers { R.answers with.now.macros.now }
     requires place { at ≤ with.now.limits.text }
     requires nesting { length frames.old ≤ with.now.limits.nesting }
-    ensures brings { let setting = setting_with (R.registered with.now.macros.now) R.Meaning.way R.Meaning.answer with.now in
+    ensures brings { let setting = setting R.functions with.now in
         (cs : List ℕ) → IfOk result (λ event. Brings setting frames.new (at + 1) cs event
         (place_gives setting true frames.old at (c ∷ cs))) }
     ensures ready { IfOk result (IsReady with.now.limits (at + 1)) }
     ensures nesting { IfOk result (λ _. length frames.new ≤ with.now.limits.nesting) }
-    ensures memory { let setting = setting_with (R.registered with.now.macros.now) R.Meaning.way R.Meaning.answer with.now in
+    ensures memory { let setting = setting R.functions with.now in
         Spends (needs_memory frames.new) result (Costs setting frames.old c (at + 1) (λ cs. place_gives setting true frames.old at (c ∷ cs))) }
 {
     if is_blank(with.readtable.syntax(c)) {
@@ -125,12 +125,12 @@ pub(crate) fn after_found<R: MacroFunctions>(
     requires place { at ≤ with.now.limits.text }
     requires nesting { length frames.old ≤ with.now.limits.nesting }
     requires found { lookahead found ≤ 1 }
-    ensures passes { let setting = setting_with (R.registered with.now.macros.now) R.Meaning.way R.Meaning.answer with.now in
+    ensures passes { let setting = setting R.functions with.now in
         (cs : List ℕ) → IfOk result (λ passed. Passes setting frames.new at c cs passed
         (plan_gives setting frames.old (gives found) at (c ∷ cs))) }
     ensures ready { IfOk result (IsReadyPass with.now.limits at) }
     ensures nesting { IfOk result (λ _. length frames.new ≤ with.now.limits.nesting) }
-    ensures memory { let setting = setting_with (R.registered with.now.macros.now) R.Meaning.way R.Meaning.answer with.now in
+    ensures memory { let setting = setting R.functions with.now in
         SpendsPass (needs_memory frames.new) result (FoundCosts setting frames.old found at c) }
 {
     match deliver(with, frames, found, at)? {
@@ -155,13 +155,13 @@ pub(crate) fn in_token<R: MacroFunctions>(
     c: u8,
 ) -> Result<Moved, AllocError>
     requires place { at ≤ with.now.limits.text }
-    ensures moves { let setting = setting_with (R.registered with.now.macros.now) R.Meaning.way R.Meaning.answer with.now in
+    ensures moves { let setting = setting R.functions with.now in
         (frames : List OpenCall) (cs : List ℕ) → IfOk result (λ moved. Moves setting frames at c cs moved
         (stage_gives setting frames (AtToken scan) at (c ∷ cs))) }
     ensures ready { IfOk result (IsReadyMove with.now.limits at) }
-    ensures memory { let setting = setting_with (R.registered with.now.macros.now) R.Meaning.way R.Meaning.answer with.now in
+    ensures memory { let setting = setting R.functions with.now in
         (frames : List OpenCall) → SpendsMove (needs_memory frames) result (RunsOut setting frames (AtToken scan) at c) }
-    ensures before { let setting = setting_with (R.registered with.now.macros.now) R.Meaning.way R.Meaning.answer with.now in
+    ensures before { let setting = setting R.functions with.now in
         (frames : List OpenCall) → IfOk result (GivesBefore setting frames (AtToken scan) at c) }
 {
     match scan.byte(with.readtable, &with.limits, at, c)? {
@@ -180,11 +180,11 @@ pub(crate) fn token_end<R: MacroFunctions>(
 ) -> Result<Event, AllocError>
     requires some { 0 < length marks.items }
     requires ascii { IsTrue (are_ascii marks.items) }
-    ensures brings { let setting = setting_with (R.registered with.now.macros.now) R.Meaning.way R.Meaning.answer with.now in
+    ensures brings { let setting = setting R.functions with.now in
         (frames : List OpenCall) (cs : List ℕ) → IfOk result (λ event. Brings setting frames at cs event
         (plan_gives setting frames (token_found setting marks.items) at cs)) }
     ensures ends { IfOk result (IsEnd 1 at) }
-    ensures memory { let setting = setting_with (R.registered with.now.macros.now) R.Meaning.way R.Meaning.answer with.now in
+    ensures memory { let setting = setting R.functions with.now in
         SpendsToken setting marks.items result }
 {
     let case = with.readtable.case();

@@ -1,7 +1,7 @@
 //! How a call begins.
 ghost use Rattle.std.specs.Prelude.{◌≡◌, ◌≤◌, ℕ, Bool, true, false, List, IfOk, length, Ok, Some};
 ghost use Rattle.form_reader.specs.Setting.{Setting, is_baseless, standard_way, user_way, way_in};
-ghost use Rattle.form_reader.specs.Surrounding.{setting_with};
+ghost use Rattle.form_reader.specs.Surrounding.{setting};
 ghost use Rattle.form_reader.specs.declared.frame.Frame.{Frame as OpenCall};
 ghost use Rattle.form_reader.specs.Calls.{InvokedCall};
 ghost use Rattle.form_reader.specs.Frames.{needs_memory, plan_gives};
@@ -39,11 +39,11 @@ pub(crate) fn begin_call<R: MacroFunctions>(
     requires answers { R.answers with.now.macros.now }
     requires place { at ≤ with.now.limits.text }
     requires nesting { length frames.old ≤ with.now.limits.nesting }
-    ensures begins { let setting = setting_with (R.registered with.now.macros.now) R.Meaning.way R.Meaning.answer with.now in
+    ensures begins { let setting = setting R.functions with.now in
         (cs : List ℕ) → IfOk result (λ event. Begins setting frames.new frames.old call at cs event) }
     ensures ready { IfOk result (IsReady with.now.limits at) }
     ensures nesting { IfOk result (λ _. length frames.new ≤ with.now.limits.nesting) }
-    ensures memory { let setting = setting_with (R.registered with.now.macros.now) R.Meaning.way R.Meaning.answer with.now in
+    ensures memory { let setting = setting R.functions with.now in
         Spends (needs_memory frames.new) result (CostsOf (call_at_once setting call) (OpensCall setting call) setting frames.old at (λ cs. plan_gives setting frames.old
         (called setting (length frames.old) (inner_at setting (length frames.old)) call) at cs)) }
 {
@@ -64,15 +64,15 @@ fn gather<R: MacroFunctions>(
     at: usize,
 ) -> Result<Event, AllocError>
     requires answers { R.answers with.now.macros.now }
-    requires way { let setting = setting_with (R.registered with.now.macros.now) R.Meaning.way R.Meaning.answer with.now in
+    requires way { let setting = setting R.functions with.now in
         way_in setting call ≡ Some way }
     requires place { at ≤ with.now.limits.text }
     requires nesting { length frames.old ≤ with.now.limits.nesting }
-    ensures gathers { let setting = setting_with (R.registered with.now.macros.now) R.Meaning.way R.Meaning.answer with.now in
+    ensures gathers { let setting = setting R.functions with.now in
         (cs : List ℕ) → IfOk result (λ event. Gathers setting frames.new frames.old call way at cs event) }
     ensures ready { IfOk result (IsReady with.now.limits at) }
     ensures nesting { IfOk result (λ _. length frames.new ≤ with.now.limits.nesting) }
-    ensures memory { let setting = setting_with (R.registered with.now.macros.now) R.Meaning.way R.Meaning.answer with.now in
+    ensures memory { let setting = setting R.functions with.now in
         Spends (needs_memory frames.new) result (CostsOf (call_at_once setting call) (OpensCall setting call) setting frames.old at (λ cs. plan_gives setting frames.old
         (gathered setting (length frames.old) (inner_at setting (length frames.old)) call way) at cs)) }
 {
@@ -113,16 +113,16 @@ fn gather_objects<R: MacroFunctions>(
     way: Way,
     at: usize,
 ) -> Result<Event, AllocError>
-    requires way { let setting = setting_with (R.registered with.now.macros.now) R.Meaning.way R.Meaning.answer with.now in
+    requires way { let setting = setting R.functions with.now in
         way_in setting call ≡ Some way }
     requires objects { reads_objects way ≡ true }
     requires place { at ≤ with.now.limits.text }
     requires nesting { length frames.old ≤ with.now.limits.nesting }
-    ensures gathers { let setting = setting_with (R.registered with.now.macros.now) R.Meaning.way R.Meaning.answer with.now in
+    ensures gathers { let setting = setting R.functions with.now in
         (cs : List ℕ) → IfOk result (λ event. Gathers setting frames.new frames.old call way at cs event) }
     ensures ready { IfOk result (IsReady with.now.limits at) }
     ensures nesting { IfOk result (λ _. length frames.new ≤ with.now.limits.nesting) }
-    ensures memory { let setting = setting_with (R.registered with.now.macros.now) R.Meaning.way R.Meaning.answer with.now in
+    ensures memory { let setting = setting R.functions with.now in
         Spends (needs_memory frames.new) result (CostsOf (call_at_once setting call) (OpensCall setting call) setting frames.old at (λ cs. plan_gives setting frames.old
         (gathered setting (length frames.old) (inner_at setting (length frames.old)) call way) at cs)) }
 {
@@ -184,14 +184,14 @@ pub(crate) fn ended<R: MacroFunctions>(
 ) -> Result<Event, AllocError>
     requires answers { R.answers with.now.macros.now }
     requires proper { IsProperGathered gathered }
-    ensures brings { let setting = setting_with (R.registered with.now.macros.now) R.Meaning.way R.Meaning.answer with.now in
+    ensures brings { let setting = setting R.functions with.now in
         (frames : List OpenCall) (cs : List ℕ) → round ≡ length frames
         → IfOk result (λ event. Brings setting frames at cs event
         (plan_gives setting frames (completed setting (length frames) call.now token false (view_gathered gathered)) at cs)) }
     ensures ends { IfOk result (IsEnd (space token) at) }
-    ensures found { let setting = setting_with (R.registered with.now.macros.now) R.Meaning.way R.Meaning.answer with.now in
+    ensures found { let setting = setting R.functions with.now in
         IfOk result (IsWhatIsGiven (completed setting round call.now token false (view_gathered gathered))) }
-    ensures some { let setting = setting_with (R.registered with.now.macros.now) R.Meaning.way R.Meaning.answer with.now in
+    ensures some { let setting = setting R.functions with.now in
         (needs : Bool) → Spends needs result (call_may_cost needs call.now (view_gathered gathered) (completed setting round call.now token false (view_gathered gathered)) ≡ true) }
 {
     Ok(event_of(complete(with, round, call, token, false, gathered)?, at))
@@ -200,7 +200,7 @@ pub(crate) fn ended<R: MacroFunctions>(
 /// The way in which the function of a call gathers.
 #[inline(always)]
 fn way_of<R: MacroFunctions>(with: &Surroundings<'_, R>, call: &Invoked) -> Option<Way>
-    ensures { let setting = setting_with (R.registered with.now.macros.now) R.Meaning.way R.Meaning.answer with.now in
+    ensures { let setting = setting R.functions with.now in
         result ≡ way_in setting call.now }
 {
     match call.function() {

@@ -63,7 +63,7 @@ impl FormReader {
     ghost use Rattle.std.specs.Prelude.{◌≡◌, ◌<◌, ◌≤◌, ◌+◌, ◌^◌, ℕ, true, List, [], ◌∷◌, ◌++◌, length, Ok, IfOk, IsErr, OnErr};
     ghost use Rattle.package_table.specs.Table.{IsPackage};
     ghost use Rattle.form_reader.specs.Setting.{Setting, setting_of};
-    ghost use Rattle.form_reader.specs.Surrounding.{setting_with};
+    ghost use Rattle.form_reader.specs.Surrounding.{setting};
     ghost use Rattle.lisp_object.specs.Object.{Object};
     ghost use Rattle.form_reader.specs.Reading.{form, is_whitespace, reads};
     ghost use Rattle.form_reader.specs.declared.reader.Step.TheVariants.{More as StepMore, Refused as StepRefused};
@@ -120,10 +120,10 @@ impl FormReader {
         requires count { fed self.old < 2 ^ 63 }
         ensures steps { (bytes : List ℕ) → IsAfter
             (setting_of (limits_of self.old) readtable.now packages.now.0 current.now
-            (R.registered macros.now) R.Meaning.way R.Meaning.answer)
+            (R.functions macros.now))
             self.old bytes → IfOk result (Steps
             (setting_of (limits_of self.old) readtable.now packages.now.0 current.now
-            (R.registered macros.now) R.Meaning.way R.Meaning.answer)
+            (R.functions macros.now))
             self.new (bytes ++ byte ∷ [])) }
         ensures limits { limits_of self.new ≡ limits_of self.old }
         ensures fed { fed self.new ≤ fed self.old + 1 }
@@ -138,10 +138,10 @@ impl FormReader {
             × (HasNoMemory self.old → fed self.new ≡ fed self.old) }
         ensures needs { (bytes : List ℕ) → IsAfter
             (setting_of (limits_of self.old) readtable.now packages.now.0 current.now
-            (R.registered macros.now) R.Meaning.way R.Meaning.answer)
+            (R.functions macros.now))
             self.old bytes → OnErr result (MayRunOut
             (setting_of (limits_of self.old) readtable.now packages.now.0 current.now
-            (R.registered macros.now) R.Meaning.way R.Meaning.answer)
+            (R.functions macros.now))
             self.old bytes byte) }
         ensures between { IsBetween self.old → is_whitespace readtable.now byte ≡ true → 0 < (limits_of self.old).text
             → (result ≡ Ok StepMore) × IsBetween self.new }
@@ -197,8 +197,8 @@ impl FormReader {
         requires answers { R.answers with.now.macros.now }
         requires limits { with.now.limits ≡ limits_of self.old }
         requires count { fed self.old < 2 ^ 63 }
-        requires left { IsLeftAt (setting_with (R.registered with.now.macros.now) R.Meaning.way R.Meaning.answer with.now) self.old byte }
-        ensures steps { let setting = setting_with (R.registered with.now.macros.now) R.Meaning.way R.Meaning.answer with.now in
+        requires left { IsLeftAt (setting R.functions with.now) self.old byte }
+        ensures steps { let setting = setting R.functions with.now in
             (bytes : List ℕ) → IsAfter setting self.old bytes → IfOk result (Steps setting self.new (bytes ++ byte ∷ [])) }
         ensures limits { limits_of self.new ≡ limits_of self.old }
         ensures fed { fed self.new ≤ fed self.old + 1 }
@@ -206,7 +206,7 @@ impl FormReader {
         ensures begun { IfOk result (BeginsLater self.old self.new) }
         ensures sound { IfOk result IsSoundStep }
         ensures memory { OnErr result (HasNoMemory self.new) }
-        ensures needs { let setting = setting_with (R.registered with.now.macros.now) R.Meaning.way R.Meaning.answer with.now in
+        ensures needs { let setting = setting R.functions with.now in
             (bytes : List ℕ) → IsAfter setting self.old bytes → OnErr result (MayRunOut setting self.old bytes byte) }
         ensures between_forms { IfOk result (LeavesBetween self.new) }
         ensures nothing_open { result ≡ Ok StepMore → begun self.new ≡ fed self.new → IsBetween self.new }
@@ -271,14 +271,14 @@ impl FormReader {
         ensures spent { HasNoMemory self → IsErr result }
         ensures outcome { (bytes : List ℕ) → IsAfter
             (setting_of (limits_of self) readtable.now packages.now.0 current.now
-            (R.registered macros.now) R.Meaning.way R.Meaning.answer)
+            (R.functions macros.now))
             self bytes → IfOk result (λ outcome. IsOutcome outcome (reads
             (setting_of (limits_of self) readtable.now packages.now.0 current.now
-            (R.registered macros.now) R.Meaning.way R.Meaning.answer)
+            (R.functions macros.now))
             bytes)) }
         ensures needs { OnErr result (EndMayRunOut
             (setting_of (limits_of self) readtable.now packages.now.0 current.now
-            (R.registered macros.now) R.Meaning.way R.Meaning.answer)
+            (R.functions macros.now))
             self) }
         ensures between { IsBetween self → result ≡ Ok ReadEmpty }
     {

@@ -5,7 +5,7 @@ ghost use Rattle.form_reader.specs.declared.found.Found.{Found as FoundThere};
 ghost use Rattle.form_reader.specs.declared.frame.Frame.{Frame as OpenCall};
 ghost use Rattle.form_reader.specs.declared.limits.Limits.{Limits as Bounds};
 ghost use Rattle.form_reader.specs.Setting.{Setting};
-ghost use Rattle.form_reader.specs.Surrounding.{setting_with};
+ghost use Rattle.form_reader.specs.Surrounding.{setting};
 ghost use Rattle.form_reader.specs.Delivering.{Passes};
 ghost use Rattle.form_reader.specs.Frames.{needs_memory};
 ghost use Rattle.form_reader.specs.Memory.{event_needs, is_nothing, RunsOut, SpendsPass};
@@ -60,12 +60,12 @@ pub(crate) fn feed<R: MacroFunctions>(
     requires answers { R.answers with.now.macros.now }
     requires standing { IsStanding with.now.limits frames.old stage at }
     requires count { at < 2 ^ 63 }
-    ensures passes { let setting = setting_with (R.registered with.now.macros.now) R.Meaning.way R.Meaning.answer with.now in
+    ensures passes { let setting = setting R.functions with.now in
         (cs : List ℕ) → IfOk result (λ passed. Passes setting frames.new at c cs passed
         (stage_gives setting frames.old stage at (c ∷ cs))) }
     ensures ready { IfOk result (IsReadyPass with.now.limits at) }
     ensures nesting { IfOk result (λ _. length frames.new ≤ with.now.limits.nesting) }
-    ensures memory { let setting = setting_with (R.registered with.now.macros.now) R.Meaning.way R.Meaning.answer with.now in
+    ensures memory { let setting = setting R.functions with.now in
         SpendsPass (needs_memory frames.new) result (RunsOut setting frames.old stage at c) }
 {
     match advance(with, frames, stage, at, c)? {
@@ -89,7 +89,7 @@ fn settle<R: MacroFunctions>(
     requires answers { R.answers with.now.macros.now }
     requires nesting { length frames.old ≤ with.now.limits.nesting }
     requires ready { IsReady with.now.limits at event }
-    ensures settles { let setting = setting_with (R.registered with.now.macros.now) R.Meaning.way R.Meaning.answer with.now in
+    ensures settles { let setting = setting R.functions with.now in
         (cs : List ℕ) (read : Read FoundThere) → Brings setting frames.old at cs event read
         → IfOk result (λ settled. Settles setting frames.new at cs settled read) }
     ensures ready { IfOk result (IsReadySettled with.now.limits frames.new at) }
@@ -137,7 +137,7 @@ fn turn_of<R: MacroFunctions>(
     requires nesting { length frames.old ≤ with.now.limits.nesting }
     requires ready { IsReady with.now.limits at event }
     requires count { start + at ≤ 2 ^ 63 }
-    ensures turns { let setting = setting_with (R.registered with.now.macros.now) R.Meaning.way R.Meaning.answer with.now in
+    ensures turns { let setting = setting R.functions with.now in
         (cs : List ℕ) (read : Read FoundThere) → Brings setting frames.old at cs event read
         → IfOk result (λ turn. TurnsTo setting frames.new cs turn (outcome_of setting start read)) }
     ensures ready { IfOk result (IsReadyTurn with.now.limits frames.new (start + at)) }
@@ -166,7 +166,7 @@ fn done_before<R: MacroFunctions>(
     requires found { lookahead found ≤ 1 }
     requires none { frames.old ≡ [] }
     requires count { start + at < 2 ^ 63 }
-    ensures turns { let setting = setting_with (R.registered with.now.macros.now) R.Meaning.way R.Meaning.answer with.now in
+    ensures turns { let setting = setting R.functions with.now in
         (cs : List ℕ) → IfOk result (λ turn. TurnsTo setting frames.new cs turn
         (outcome_of setting start (Ok (found, at, c ∷ cs)))) }
     ensures ready { IfOk result (IsReadyTurn with.now.limits frames.new (start + at + 1)) }
@@ -203,13 +203,13 @@ pub(crate) fn take_byte<R: MacroFunctions>(
     requires answers { R.answers with.now.macros.now }
     requires standing { IsStanding with.now.limits frames.old stage at }
     requires count { start + at < 2 ^ 63 }
-    ensures turns { let setting = setting_with (R.registered with.now.macros.now) R.Meaning.way R.Meaning.answer with.now in
+    ensures turns { let setting = setting R.functions with.now in
         (cs : List ℕ) → IfOk result (λ turn. TurnsTo setting frames.new cs turn
         (rest_of setting frames.old stage start at (c ∷ cs))) }
     ensures ready { IfOk result (IsReadyTurn with.now.limits frames.new (start + at + 1)) }
     ensures begins { IfOk result (BeginsFrom start) }
     ensures anew { IfOk result (BeginsAnew frames.new) }
-    ensures memory { let setting = setting_with (R.registered with.now.macros.now) R.Meaning.way R.Meaning.answer with.now in
+    ensures memory { let setting = setting R.functions with.now in
         OnErr result (RunsOut setting frames.old stage at c) }
 {
     if let Stage::Object = &stage {

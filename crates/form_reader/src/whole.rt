@@ -29,15 +29,15 @@ pub fn read_one<R: MacroFunctions>(
     requires current { IsPackage packages.now.0 current.now }
     ensures outcome { IfOk result (λ outcome. IsOutcome outcome (reads
         (setting_of limits readtable.now packages.now.0 current.now
-        (R.registered macros.now) R.Meaning.way R.Meaning.answer)
+        (R.functions macros.now))
         bytes.now)) }
     ensures needs { OnErr result (ReadMayRunOut
         (setting_of limits readtable.now packages.now.0 current.now
-        (R.registered macros.now) R.Meaning.way R.Meaning.answer)
+        (R.functions macros.now))
         bytes.now) }
     ensures reader { OnErr result (ReadNeedsMemory
         (setting_of limits readtable.now packages.now.0 current.now
-        (R.registered macros.now) R.Meaning.way R.Meaning.answer)
+        (R.functions macros.now))
         bytes.now) }
 {
     let mut reader = FormReader::new(alloc, limits);

@@ -17,7 +17,7 @@ use Rattle.prevalence_store.specs.declared.outcome.Ending.TheVariants.{End, Read
 use Rattle.prevalence_store.specs.declared.turn.Turn.{Turn}
 use Rattle.prevalence_store.specs.declared.turn.Turn.TheVariants.{Taken, Ended}
 use Rattle.prevalence_store.specs.Acceptance.{between, read_in, setting_in}
-use Rattle.prevalence_store.specs.Functions.{Functions}
+use Rattle.user_macros.specs.Functions.{Functions}
 use Rattle.prevalence_store.specs.Output.{Progress, after_forms, begun, evaluated, one_form, onward}
 use Rattle.prevalence_store.specs.Pending.{HasForm, IsLastForm, IsPending, HasRefusal}
 use Rattle.prevalence_store.specs.Pacing.{EndsInPace, Pace, Paces, fill_of}

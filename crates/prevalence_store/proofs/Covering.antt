@@ -29,7 +29,7 @@ use Rattle.snapshot_text.specs.Covered.{are_covered}
 use Rattle.snapshot_text.specs.Snapshot.{table_named}
 use Rattle.snapshot_text.proofs.Ascii.{keys_pass}
 use Rattle.prevalence_store.specs.Acceptance.{Acceptance, acceptance_of, accepted_of, accepts, after, between, mode_of, read_in}
-use Rattle.prevalence_store.specs.Functions.{Functions}
+use Rattle.user_macros.specs.Functions.{Functions}
 use Rattle.prevalence_store.specs.Meaning.{ContentsMean}
 use Rattle.lisp_object.specs.declared.refusal.TheConstants.{TEXT_LEFT_OVER}
 

@@ -26,7 +26,7 @@ use Rattle.prevalence_store.specs.Acceptance.{Acceptance, accepts, accepted_of, 
 use Rattle.prevalence_store.specs.Causes.{failure_number, is_device, IsCause}
 use Rattle.prevalence_store.specs.Execution.{Executes, DeviceFails, IsAccepted, Stores, SurvivesAs, taken_in}
 use Rattle.prevalence_store.specs.Session.{Session, session_of}
-use Rattle.prevalence_store.specs.Functions.{Functions}
+use Rattle.user_macros.specs.Functions.{Functions}
 
 -- an open store has a world
 pub known_world : (world : Option World) → IsSome world → (w : World) × (world ≡ Some w)

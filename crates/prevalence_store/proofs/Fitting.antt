@@ -18,7 +18,7 @@ use Rattle.plist_state.specs.State.{State as World}
 use Rattle.plist_state.specs.Sound as world
 use Rattle.prevalence_store.specs.declared.mode.Mode.{Mode}
 use Rattle.prevalence_store.specs.Acceptance.{read_in, setting_in}
-use Rattle.prevalence_store.specs.Functions.{Functions}
+use Rattle.user_macros.specs.Functions.{Functions}
 
 fits : (t : Packages) (x : Object) → reader.Fits t x → evaluator.Fits t x
 fits t (symbol home name) is = is

@@ -9,7 +9,7 @@ use Rattle.prevalence_store.specs.declared.mode.Mode.{Mode}
 use Rattle.prevalence_store.specs.declared.outcome.Ending.{Ending}
 use Rattle.prevalence_store.specs.declared.outcome.Ending.TheVariants.{End, Reader, Store}
 use Rattle.prevalence_store.specs.Acceptance.{after, read_in}
-use Rattle.prevalence_store.specs.Functions.{Functions}
+use Rattle.user_macros.specs.Functions.{Functions}
 use Rattle.prevalence_store.specs.Output.{Progress, after_forms, begun, onward}
 use Rattle.prevalence_store.specs.Pacing.{Counts, EndsInPace, Fill, HasMadeRoom, IsDue, IsOverIn, IsPaced, IsUnturned, LogsWithRoom, Pace, Paces, TakesTurn, begun_with, fill_of}
 use Rattle.prevalence_store.specs.Session.{Session}

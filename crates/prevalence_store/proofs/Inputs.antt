@@ -7,7 +7,7 @@ use Rattle.plist_state.specs.State.{State as World}
 use Rattle.prevalence_store.specs.declared.mode.Mode.{Mode}
 use Rattle.prevalence_store.specs.declared.outcome.Ending.{Ending}
 use Rattle.prevalence_store.specs.declared.outcome.Ending.TheVariants.{End, Reader, Store}
-use Rattle.prevalence_store.specs.Functions.{Functions}
+use Rattle.user_macros.specs.Functions.{Functions}
 use Rattle.prevalence_store.specs.Pacing.{first_pace}
 use Rattle.prevalence_store.specs.Serving.{HasRead, Serves, ServesInput}
 use Rattle.prevalence_store.specs.Session.{Session}

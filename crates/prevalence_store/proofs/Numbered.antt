@@ -11,7 +11,7 @@ use Rattle.lisp_object.specs.Object.{Object}
 use Rattle.plist_state.specs.State.{State as World}
 use Rattle.prevalence_store.specs.declared.mode.Mode.{Mode}
 use Rattle.prevalence_store.specs.Acceptance.{Acceptance, acceptance_of, accepted_of, accepts, between, read_in, setting_in}
-use Rattle.prevalence_store.specs.Functions.{Functions}
+use Rattle.user_macros.specs.Functions.{Functions}
 use Rattle.prevalence_store.specs.Numbers.{IsFormNumber}
 
 evaluation_numbered : (text : List ℕ) (given : Evaluation Object) (number : ℕ) → ((n : ℕ) → given ≡ Err n → IsFormNumber n) → acceptance_of text given ≡ Err number → IsFormNumber number

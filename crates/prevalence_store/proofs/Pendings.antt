@@ -32,21 +32,22 @@ use Rattle.plist_state.specs.State.{State as World}
 use Rattle.prevalence_store.specs.declared.input.Pending.{Pending}
 use Rattle.prevalence_store.specs.declared.mode.Mode.{Mode}
 use Rattle.prevalence_store.specs.Acceptance.{between, form_limits, package_in, read_in, setting_in, table_in}
-use Rattle.prevalence_store.specs.Functions.{Functions, functions_of}
+use Rattle.user_macros.specs.Functions.{Functions}
 use Rattle.prevalence_store.specs.Pending.{HasForm, IsLastForm, IsPending}
 use Rattle.prevalence_store.specs.Turns.{BeginsWith}
 use Rattle.prevalence_store.proofs.Executing.{form_places, length-between, own_whole}
 use Rattle.prevalence_store.proofs.Fitting.{among_same, fits_in}
 
 -- the setting of a call, with the functions that are registered, is that of the world
-pub called_setting : (w : World) (mode : Mode) (names registered : List (List ℕ)) (way : List ℕ → Option Gather) (answer : List ℕ → MacroCall → MacroAnswer)
-    (limits : Limits) (table : Table) (packages : Packages) (current : Name)
-    → list_all (is_among registered) names ≡ true → ((name : List ℕ) → IsTrue (is_among registered name) → IsTrue (is_among names name))
+pub called_setting : (w : World) (mode : Mode) (functions registered : Functions) (limits : Limits) (table : Table) (packages : Packages) (current : Name)
+    → registered ≡ named_among registered.names functions → are_registered functions registered ≡ true
+    → ((name : List ℕ) → IsTrue (is_among registered.names name) → IsTrue (is_among functions.names name))
     → limits ≡ form_limits → table ≡ table_in w mode → packages ≡ w.packages → current ≡ package_in w mode
-    → setting_of limits table packages current registered way answer ≡ setting_in (functions_of names way answer) w mode
-called_setting w mode names registered way answer limits table packages current whole known limits_is table_is packages_is current_is =
-    (λ i. setting_of (limits_is i) (table_is i) (packages_is i) (current_is i) registered way answer)
-    ∙ setting_same form_limits (table_in w mode) w.packages (package_in w mode) names registered way answer (among_same names registered whole known)
+    → setting_of limits table packages current registered ≡ setting_in functions w mode
+called_setting w mode functions registered limits table packages current meant whole known limits_is table_is packages_is current_is =
+    (λ i. setting_of (limits_is i) (table_is i) (packages_is i) (current_is i) (meant i))
+    ∙ setting_same form_limits (table_in w mode) w.packages (package_in w mode) functions registered.names
+        (among_same functions.names registered.names whole known)
 
 -- ---- no bytes
 

@@ -20,7 +20,7 @@ use Rattle.plist_state.specs.State.{State as World}
 use Rattle.prevalence_store.specs.Theorem.{Survives}
 use Rattle.prevalence_store.proofs.LeftAlone.{alone_both}
 use Rattle.prevalence_store.proofs.Surviving.{after-append, both_survive}
-use Rattle.prevalence_store.specs.Functions.{Functions}
+use Rattle.user_macros.specs.Functions.{Functions}
 
 onward_onward : (p q r : Progress) → onward (onward p q) r ≡ onward p (onward q r)
 onward_onward p q r =

@@ -12,7 +12,7 @@ use Rattle.prevalence_store.specs.declared.step.Step.{Step}
 use Rattle.prevalence_store.specs.declared.step.Step.TheVariants.{Form, Snapshot}
 use Rattle.prevalence_store.specs.Acceptance.{Acceptance, accepts, logged, records_of}
 use Rattle.prevalence_store.specs.Execution.{Executes, Stores, SurvivesAs}
-use Rattle.prevalence_store.specs.Functions.{Functions}
+use Rattle.user_macros.specs.Functions.{Functions}
 use Rattle.prevalence_store.specs.Runs.{TakesStep, TakesSteps, acknowledged_in_steps, acknowledged_of_form, taken_in_steps, taken_of, world_of}
 use Rattle.prevalence_store.specs.Session.{Session}
 use Rattle.prevalence_store.specs.Snapshots.{Snapshots}

@@ -35,7 +35,7 @@ use Rattle.prevalence_store.specs.Streams.{Writes, WritesPart}
 use Rattle.prevalence_store.specs.Turns.{AnswersFault, EndsTry, IsLine, IsLineOf, IsStop, LeavesRecord, LogsAtOnce, StopsInForm, TriesForm, is_logged}
 use Rattle.prevalence_store.proofs.LeftAlone.{alone_still}
 use Rattle.prevalence_store.proofs.Surviving.{fewer_survive, unchanged_survives}
-use Rattle.prevalence_store.specs.Functions.{Functions}
+use Rattle.user_macros.specs.Functions.{Functions}
 
 pub writes_nothing : (held written : Option (List ℕ)) → written ≡ held → Writes held written []
 writes_nothing held written same = λ bytes is. same ∙ is ∙ ap (λ t. Some t) (sym (append-nil bytes))

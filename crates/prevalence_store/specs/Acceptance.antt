@@ -14,7 +14,7 @@ use Rattle.form_eval.specs.Outcomes.{Outcome as Evaluation}
 use Rattle.form_eval.specs.Acceptance.{accept}
 use Rattle.prevalence_store.specs.declared.mode.Mode.{Mode}
 use Rattle.prevalence_store.specs.declared.mode.Mode.TheVariants.{Current, Rescue}
-use Rattle.prevalence_store.specs.Functions.{Functions}
+use Rattle.user_macros.specs.Functions.{Functions}
 
 -- What an accepted form gives: its value, the world that it leaves, whether it wrote anything, and the text of its object alone.
 pub record Acceptance : Type 0 where
@@ -41,7 +41,7 @@ package_in world Rescue = common_lisp_user
 -- under what a text is read
 abbrev pub setting_in : Functions → World → Mode → Setting
 setting_in functions world mode =
-    setting_of form_limits (table_in world mode) world.packages (package_in world mode) functions.names functions.way functions.answer
+    setting_of form_limits (table_in world mode) world.packages (package_in world mode) functions
 
 -- what a text begins with, as it is read in this world and mode
 abbrev pub read_in : Functions → World → Mode → List ℕ → Reading

@@ -20,7 +20,7 @@ use Rattle.prevalence_store.specs.LeftAlone.{LeavesAlone}
 use Rattle.prevalence_store.specs.Session.{Session, Describes}
 use Rattle.prevalence_store.specs.Theorem.{Keeps, Survives}
 use Rattle.plist_state.specs.State.{State as World}
-use Rattle.prevalence_store.specs.Functions.{Functions}
+use Rattle.user_macros.specs.Functions.{Functions}
 
 -- the log holds what it held, or this record more
 abbrev pub IsBeforeOrAfter : Contents → Entry → Image → Type 0

@@ -1,5 +1,4 @@
 -- what the theorem is said over, in the order in which it builds up
-pub mod Functions
 pub mod Acceptance
 pub mod Numbers
 pub mod Meaning

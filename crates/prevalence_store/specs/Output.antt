@@ -12,7 +12,7 @@ use Rattle.form_reader.specs.Reading.{Outcome as Reading, form, empty, refused}
 use Rattle.form_eval.specs.Outcomes.{Outcome as Evaluation}
 use Rattle.form_eval.specs.Acceptance.{accept}
 use Rattle.canon_printer.specs.Printed.{printed}
-use Rattle.prevalence_store.specs.Functions.{Functions}
+use Rattle.user_macros.specs.Functions.{Functions}
 
 -- a value, as it is printed in the world after its form, and a newline
 abbrev pub value_line : World → Object → List ℕ

@@ -11,7 +11,7 @@ use Rattle.prevalence_store.specs.declared.input.FedPiece.{FedPiece}
 use Rattle.prevalence_store.specs.declared.input.Fed.TheVariants.{Nothing, Form, Refused}
 use Rattle.prevalence_store.specs.declared.mode.Mode.{Mode}
 use Rattle.prevalence_store.specs.Acceptance.{between, form_limits, read_in, setting_in}
-use Rattle.prevalence_store.specs.Functions.{Functions}
+use Rattle.user_macros.specs.Functions.{Functions}
 
 -- These bytes are pending, as they are read in this world and mode: the reader was fed them, and they decide nothing alone. Of
 -- them those are kept since what the reader has open began, and no more.

@@ -11,7 +11,7 @@ use Rattle.prevalence_store.specs.declared.step.Step.{Step}
 use Rattle.prevalence_store.specs.declared.step.Step.TheVariants.{Form, Snapshot}
 use Rattle.prevalence_store.specs.Acceptance.{Acceptance, accepts, logged, records_of}
 use Rattle.prevalence_store.specs.Execution.{Executes}
-use Rattle.prevalence_store.specs.Functions.{Functions}
+use Rattle.user_macros.specs.Functions.{Functions}
 use Rattle.prevalence_store.specs.Session.{Session}
 use Rattle.prevalence_store.specs.Snapshots.{Snapshots}
 

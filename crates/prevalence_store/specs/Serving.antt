@@ -21,7 +21,7 @@ use Rattle.prevalence_store.specs.Snapshots.{IsTooLarge}
 use Rattle.prevalence_store.specs.Streams.{Writes}
 use Rattle.plist_state.specs.State.{State as World}
 use Rattle.snapshot_text.specs.Snapshot.{snapshot}
-use Rattle.prevalence_store.specs.Functions.{Functions}
+use Rattle.user_macros.specs.Functions.{Functions}
 
 -- the contents with these records more
 abbrev pub with_entries : Contents → List Entry → Contents

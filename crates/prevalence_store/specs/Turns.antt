@@ -26,7 +26,7 @@ use Rattle.prevalence_store.specs.Session.{Session}
 use Rattle.prevalence_store.specs.Snapshots.{HasNoHalf, HasNoSnapshotMemory, IsSnapshotFault, IsSnapshotted, IsTooLarge}
 use Rattle.prevalence_store.specs.Streams.{Writes, WritesPart}
 use Rattle.plist_state.specs.State.{State as World}
-use Rattle.prevalence_store.specs.Functions.{Functions}
+use Rattle.user_macros.specs.Functions.{Functions}
 
 -- ---- the answer to a form, and to a refusal of the reader
 

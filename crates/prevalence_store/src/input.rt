@@ -5,7 +5,7 @@ ghost use Rattle.readtable_core.specs.Names.{is_among};
 ghost use Rattle.plist_state.specs.State.{State as LispWorld};
 ghost use Rattle.form_reader.specs.Reader.{fed, begun, limits_of, IsAfter, Steps, BeginsLater, IsOutcome, IsSoundStep};
 ghost use Rattle.prevalence_store.specs.Acceptance.{between, form_limits, read_in, setting_in, table_in};
-ghost use Rattle.prevalence_store.specs.Functions.{Functions, functions_of};
+ghost use Rattle.user_macros.specs.Functions.{Functions, are_registered};
 ghost use Rattle.prevalence_store.specs.Pending.{IsPending, IsSoundFed, Feeds, Finishes, TakesPart};
 
 use crate::mode::Mode;
@@ -73,14 +73,14 @@ impl Pending {
         piece: &[u8],
     ) -> Result<FedPiece, AllocError>
         requires answers { R.answers macros.now }
-        requires whole { list_all (is_among (R.registered macros.now)) R.Meaning.names ≡ true }
+        requires whole { are_registered R.Meaning.functions (R.functions macros.now) ≡ true }
         requires pending { (bytes : List ℕ)
-            × IsPending (functions_of R.Meaning.names R.Meaning.way R.Meaning.answer) world.now.0 mode self.old bytes }
+            × IsPending R.Meaning.functions world.now.0 mode self.old bytes }
         requires some { 0 < length piece.now }
         requires count { fed self.old.reader + length piece.now ≤ 2 ^ 63 }
         ensures feeds { (bytes : List ℕ)
-            → IsPending (functions_of R.Meaning.names R.Meaning.way R.Meaning.answer) world.now.0 mode self.old bytes
-            → IfOk result (λ part. Feeds (functions_of R.Meaning.names R.Meaning.way R.Meaning.answer) world.now.0 mode self.new
+            → IsPending R.Meaning.functions world.now.0 mode self.old bytes
+            → IfOk result (λ part. Feeds R.Meaning.functions world.now.0 mode self.new
             (bytes ++ take part.taken piece.now) part.fed) }
         ensures part { IfOk result (TakesPart piece.now) }
         ensures sound { IfOk result (λ part. IsSoundFed part.fed) }
@@ -111,14 +111,14 @@ impl Pending {
         byte: u8,
     ) -> Result<Fed, AllocError>
         requires answers { R.answers macros.now }
-        requires whole { list_all (is_among (R.registered macros.now)) R.Meaning.names ≡ true }
+        requires whole { are_registered R.Meaning.functions (R.functions macros.now) ≡ true }
         requires table { readtable.now ≡ table_in world.now.0 mode }
         requires pending { (bytes : List ℕ)
-            × IsPending (functions_of R.Meaning.names R.Meaning.way R.Meaning.answer) world.now.0 mode self.old bytes }
+            × IsPending R.Meaning.functions world.now.0 mode self.old bytes }
         requires count { fed self.old.reader < 2 ^ 63 }
         ensures feeds { (bytes : List ℕ)
-            → IsPending (functions_of R.Meaning.names R.Meaning.way R.Meaning.answer) world.now.0 mode self.old bytes
-            → IfOk result (Feeds (functions_of R.Meaning.names R.Meaning.way R.Meaning.answer) world.now.0 mode self.new
+            → IsPending R.Meaning.functions world.now.0 mode self.old bytes
+            → IfOk result (Feeds R.Meaning.functions world.now.0 mode self.new
             (bytes ++ byte ∷ [])) }
         ensures sound { IfOk result IsSoundFed }
         ensures count { fed self.new.reader ≤ fed self.old.reader + 1 }
@@ -179,13 +179,13 @@ impl Pending {
         mode: Mode,
     ) -> Result<Fed, AllocError>
         requires answers { R.answers macros.now }
-        requires whole { list_all (is_among (R.registered macros.now)) R.Meaning.names ≡ true }
+        requires whole { are_registered R.Meaning.functions (R.functions macros.now) ≡ true }
         requires pending { (bytes : List ℕ)
-            × IsPending (functions_of R.Meaning.names R.Meaning.way R.Meaning.answer) world.now.0 mode self bytes }
+            × IsPending R.Meaning.functions world.now.0 mode self bytes }
         requires count { fed self.reader ≤ 2 ^ 63 }
         ensures finishes { (bytes : List ℕ)
-            → IsPending (functions_of R.Meaning.names R.Meaning.way R.Meaning.answer) world.now.0 mode self bytes
-            → IfOk result (Finishes (functions_of R.Meaning.names R.Meaning.way R.Meaning.answer) world.now.0 mode bytes) }
+            → IsPending R.Meaning.functions world.now.0 mode self bytes
+            → IfOk result (Finishes R.Meaning.functions world.now.0 mode bytes) }
         ensures sound { IfOk result IsSoundFed }
     {
         let Pending {
@@ -236,13 +236,13 @@ fn step_in<R: MacroFunctions>(
     byte: u8,
 ) -> Result<Step, AllocError>
     requires answers { R.answers macros.now }
-    requires whole { list_all (is_among (R.registered macros.now)) R.Meaning.names ≡ true }
+    requires whole { are_registered R.Meaning.functions (R.functions macros.now) ≡ true }
     requires table { readtable.now ≡ table_in world.now.0 mode }
     requires limits { limits_of reader.old ≡ form_limits }
     requires count { fed reader.old < 2 ^ 63 }
     ensures steps { (bytes : List ℕ)
-        → IsAfter (setting_in (functions_of R.Meaning.names R.Meaning.way R.Meaning.answer) world.now.0 mode) reader.old bytes
-        → IfOk result (Steps (setting_in (functions_of R.Meaning.names R.Meaning.way R.Meaning.answer) world.now.0 mode)
+        → IsAfter (setting_in R.Meaning.functions world.now.0 mode) reader.old bytes
+        → IfOk result (Steps (setting_in R.Meaning.functions world.now.0 mode)
         reader.new (bytes ++ byte ∷ [])) }
     ensures limits { limits_of reader.new ≡ limits_of reader.old }
     ensures count { fed reader.new ≤ fed reader.old + 1 }
@@ -261,13 +261,13 @@ fn finish_in<R: MacroFunctions>(
     mode: Mode,
 ) -> Result<ReadOutcome, AllocError>
     requires answers { R.answers macros.now }
-    requires whole { list_all (is_among (R.registered macros.now)) R.Meaning.names ≡ true }
+    requires whole { are_registered R.Meaning.functions (R.functions macros.now) ≡ true }
     requires limits { limits_of reader ≡ form_limits }
     requires count { fed reader ≤ 2 ^ 63 }
     ensures { (bytes : List ℕ)
-        → IsAfter (setting_in (functions_of R.Meaning.names R.Meaning.way R.Meaning.answer) world.now.0 mode) reader bytes
+        → IsAfter (setting_in R.Meaning.functions world.now.0 mode) reader bytes
         → IfOk result (λ outcome. IsOutcome outcome
-        (read_in (functions_of R.Meaning.names R.Meaning.way R.Meaning.answer) world.now.0 mode bytes)) }
+        (read_in R.Meaning.functions world.now.0 mode bytes)) }
 {
     let readtable = readtable_in(world, mode);
     let package = package_in(world, mode);

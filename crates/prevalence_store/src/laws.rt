@@ -8,7 +8,7 @@ ghost use Rattle.prevalence_store.specs.declared.mode.Mode.{Mode};
 ghost use Rattle.prevalence_store.specs.Opening.{IsNoWord, IsUnopened, limit_of};
 ghost use Rattle.prevalence_store.specs.Theorem.{Call, Headline, Keeps, Run, disk_after};
 ghost use Rattle.plist_state.specs.State.{State as LispWorld, initial};
-ghost use Rattle.prevalence_store.specs.Functions.{Functions};
+ghost use Rattle.user_macros.specs.Functions.{Functions};
 
 use disk_trait::Disk;
 

@@ -5,7 +5,7 @@ ghost use Rattle.readtable_core.specs.Names.{is_among};
 ghost use Rattle.package_table.specs.Table.{IsPackage};
 ghost use Rattle.form_reader.specs.Reader.{IsOutcome};
 ghost use Rattle.prevalence_store.specs.Acceptance.{package_in, read_in, table_in};
-ghost use Rattle.prevalence_store.specs.Functions.{functions_of};
+ghost use Rattle.user_macros.specs.Functions.{are_registered};
 
 use crate::mode::Mode;
 use form_reader::{Limits, ReadOutcome, read_one};
@@ -46,9 +46,9 @@ pub(crate) fn begins<R: MacroFunctions>(
     text: &[u8],
 ) -> Result<ReadOutcome, AllocError>
     requires answers { R.answers macros.now }
-    requires whole { list_all (is_among (R.registered macros.now)) R.Meaning.names ≡ true }
+    requires whole { are_registered R.Meaning.functions (R.functions macros.now) ≡ true }
     ensures { IfOk result (λ outcome. IsOutcome outcome
-        (read_in (functions_of R.Meaning.names R.Meaning.way R.Meaning.answer) world.now.0 mode text.now)) }
+        (read_in R.Meaning.functions world.now.0 mode text.now)) }
 {
     let readtable = readtable_in(world, mode);
     let package = package_in(world, mode);

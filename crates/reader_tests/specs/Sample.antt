@@ -5,6 +5,7 @@ use Rattle.lisp_object.specs.Object.{integer}
 use Rattle.user_macros.specs.declared.call.Gather.{Gather}
 use Rattle.user_macros.specs.declared.call.Gather.TheVariants.{Nothing, Next, Line}
 use Rattle.user_macros.specs.Calls.{Material, one, MacroCall, MacroAnswer, value, no_value, refused}
+use Rattle.user_macros.specs.Functions.{Functions}
 
 abbrev pub sample_names : List (List ℕ)
 sample_names = codes "NOTE" ∷ codes "CLOSE" ∷ codes "SCALE" ∷ []
@@ -29,3 +30,7 @@ sample_answer name call =
     if same_name (codes "CLOSE") name then refused 1
     else (if same_name (codes "SCALE") name then scaled call.number call.gathered
     else no_value)
+
+-- the three functions
+abbrev pub sample_functions : Functions
+sample_functions = record { names = sample_names; way = sample_way; answer = sample_answer }

@@ -5,6 +5,7 @@ use Rattle.lisp_object.specs.Object.{integer, symbol, pair, nil}
 use Rattle.user_macros.specs.declared.call.Gather.{Gather}
 use Rattle.user_macros.specs.declared.call.Gather.TheVariants.{Nothing, Next, Until, Text, TextSame, Line, Token}
 use Rattle.user_macros.specs.Calls.{Material, nothing, one, many, text, MacroCall, MacroAnswer, value, no_value, improper, refused}
+use Rattle.user_macros.specs.Functions.{Functions}
 
 -- the ways of seven that count what they gather, and of others, in three parts
 abbrev pub last_rows : List (List ℕ × Gather)
@@ -77,3 +78,7 @@ made name material = if same_name (codes "WRAP") name then wrapped material else
 
 abbrev pub trial_answer : List ℕ → MacroCall → MacroAnswer
 trial_answer name call = if makes name then made name call.gathered else unwrap_or (other_answer name) (value (integer (pos (count call.gathered))))
+
+-- the functions of the tests
+abbrev pub trial_functions : Functions
+trial_functions = record { names = trial_names; way = trial_way; answer = trial_answer }

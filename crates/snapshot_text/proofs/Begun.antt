@@ -34,6 +34,7 @@ use Rattle.form_reader.proofs.Attempts.{takes_is, passes_is}
 use Rattle.form_reader.proofs.Fed.{byte_taken, number_ends}
 use Rattle.form_reader.proofs.Steps.{and_then, run_then}
 use Rattle.snapshot_text.proofs.Spelling.{starts_token, Spelled, bare_spelled, token_of}
+use Rattle.user_macros.specs.Functions.{Functions}
 
 -- a token that was scanned within the limit of the text
 pub scan_is : {A : Type 0} (table : Table) (limits : Limits) (escaped : Bool) (limit : ℕ) (on : List Mark → Plan A) (at : ℕ) (cs : List ℕ) (marks : List Mark) (next : ℕ) (rest : List ℕ)
@@ -52,10 +53,10 @@ no_alone SingleEscape e = refl
 no_alone MultipleEscape e = refl
 no_alone _ e = absurd cc
 
-module _ (limits : Limits) (packages : Packages) (current : Name) (registered : List (List ℕ)) (way : List ℕ → Option Gather) (answer : List ℕ → MacroCall → MacroAnswer) where
+module _ (limits : Limits) (packages : Packages) (current : Name) (functions : Functions) where
   -- reading under the standard readtable
   abbrev pub under : Setting
-  under = setting_of limits standard packages current registered way answer
+  under = setting_of limits standard packages current functions
 
   abbrev pub begun : ℕ → ℕ → List ℕ → Read Found
   begun d at cs = run standard limits (attempt under d) at cs

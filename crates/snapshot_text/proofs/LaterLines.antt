@@ -12,16 +12,17 @@ use Rattle.snapshot_text.specs.Built.{with_packages_of, with_properties_of}
 use Rattle.snapshot_text.specs.Lines.{snapshot_limits, IsLineRead}
 use Rattle.snapshot_text.specs.Snapshot.{properties_object, tables_object}
 use Rattle.snapshot_text.proofs.LinesRead.{second_read, third_read}
+use Rattle.user_macros.specs.Functions.{Functions}
 
-module _ (registered : List (List ℕ)) (way : List ℕ → Option Gather) (answer : List ℕ → MacroCall → MacroAnswer) (s : State) (sound : IsSound s) (w : State) where
+module _ (functions : Functions) (s : State) (sound : IsSound s) (w : State) where
   pub second_line : w ≡ with_packages_of s → length (printed s.packages common_lisp_user (properties_object s)) ≤ 4294967295 → (rest : List ℕ)
-      → IsLineRead (setting_of snapshot_limits standard w.packages common_lisp_user registered way answer) s.packages (properties_object s) rest
+      → IsLineRead (setting_of snapshot_limits standard w.packages common_lisp_user functions) s.packages (properties_object s) rest
   second_line old fits rest =
-      subst (λ (v : State). IsLineRead (setting_of snapshot_limits standard v.packages common_lisp_user registered way answer) s.packages (properties_object s) rest) (sym old)
-      (second_read registered way answer s sound fits rest)
+      subst (λ (v : State). IsLineRead (setting_of snapshot_limits standard v.packages common_lisp_user functions) s.packages (properties_object s) rest) (sym old)
+      (second_read functions s sound fits rest)
 
   pub third_line : w ≡ with_properties_of s → length (printed s.packages common_lisp_user (tables_object s)) ≤ 4294967295 → (rest : List ℕ)
-      → IsLineRead (setting_of snapshot_limits standard w.packages common_lisp_user registered way answer) s.packages (tables_object s) rest
+      → IsLineRead (setting_of snapshot_limits standard w.packages common_lisp_user functions) s.packages (tables_object s) rest
   third_line old fits rest =
-      subst (λ (v : State). IsLineRead (setting_of snapshot_limits standard v.packages common_lisp_user registered way answer) s.packages (tables_object s) rest) (sym old)
-      (third_read registered way answer s sound fits rest)
+      subst (λ (v : State). IsLineRead (setting_of snapshot_limits standard v.packages common_lisp_user functions) s.packages (tables_object s) rest) (sym old)
+      (third_read functions s sound fits rest)

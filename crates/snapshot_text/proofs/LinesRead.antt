@@ -19,17 +19,18 @@ use Rattle.snapshot_text.proofs.WithinLimits.{tokens_short, packages_depth, prop
 use Rattle.snapshot_text.proofs.PlainObjects.{plain_printed}
 use Rattle.snapshot_text.proofs.PlainLines.{plain_packages, plain_third}
 use Rattle.snapshot_text.proofs.OneLine.{IsGood, good_symbols, plain_good, properties_good, ends_line}
+use Rattle.user_macros.specs.Functions.{Functions}
 
-module _ (registered : List (List ℕ)) (way : List ℕ → Option Gather) (answer : List ℕ → MacroCall → MacroAnswer) where
+module _ (functions : Functions) where
   abbrev under : Table → Setting
-  under t = setting_of snapshot_limits standard t common_lisp_user registered way answer
+  under t = setting_of snapshot_limits standard t common_lisp_user functions
 
   read_line : (t : Table) → packages.IsSound t → (x : Object) → IsGood t x → object_depth x ≤ 104 → length (printed t common_lisp_user x) ≤ 4294967295 → (rest : List ℕ)
       → IsLineRead (under t) t x rest
   read_line t sound x good deep fits rest = (
     length (printed t common_lisp_user x) + space_at standard (ends_with_token x) (10 ∷ rest),
     ap (reads (under t)) (append_assoc (printed t common_lisp_user x) (10 ∷ []) rest)
-        ∙ object_read_back snapshot_limits t common_lisp_user registered way answer sound (omega arith) x
+        ∙ object_read_back snapshot_limits t common_lisp_user functions sound (omega arith) x
         (good.sound, good_symbols t x good, tokens_short t common_lisp_user sound x good.sound good.known) deep fits (10 ∷ rest) (ends_line rest),
   )
 

@@ -20,21 +20,22 @@ use Rattle.form_reader.proofs.Opened.{then_moves}
 use Rattle.form_reader.proofs.Steps.{and_then, run_then}
 use Rattle.form_reader.proofs.Turns.{attempt_ends, loop_is, place_guarded, items_guarded}
 use Rattle.snapshot_text.proofs.Begun.{under, begun, space_begun}
+use Rattle.user_macros.specs.Functions.{Functions}
 
 -- the text begins with no closing parenthesis
 abbrev pub is_open : List ℕ → Bool
 is_open [] = false
 is_open (c ∷ cs) = not (c == 41)
 
-module _ (limits : Limits) (packages : Packages) (current : Name) (registered : List (List ℕ)) (way : List ℕ → Option Gather) (answer : List ℕ → MacroCall → MacroAnswer) where
+module _ (limits : Limits) (packages : Packages) (current : Name) (functions : Functions) where
   abbrev s : Setting
-  s = under limits packages current registered way answer
+  s = under limits packages current functions
 
   abbrev attempted : ℕ → ℕ → List ℕ → Read Found
-  attempted = begun limits packages current registered way answer
+  attempted = begun limits packages current functions
 
   abbrev at_space : (d at : ℕ) (cs : List ℕ) → at < limits.text → attempted d at (32 ∷ cs) ≡ Ok (nothing false, at + 1, cs)
-  at_space = space_begun limits packages current registered way answer
+  at_space = space_begun limits packages current functions
 
   abbrev pub items : ℕ → List Object → Plan Items
   items d xs = items_after s 41 (attempt s d) xs

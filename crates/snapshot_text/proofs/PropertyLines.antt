@@ -30,6 +30,7 @@ use Rattle.snapshot_text.proofs.PlainObjects.{no_prefix}
 use Rattle.snapshot_text.proofs.OneLine.{good_symbols, row_good}
 use Rattle.snapshot_text.proofs.NextLine.{after_text, byte_place, after_byte, byte_is}
 use Rattle.snapshot_text.proofs.PropertyParts.{key_at, at_last}
+use Rattle.user_macros.specs.Functions.{Functions}
 
 -- ---- between the rows
 
@@ -71,14 +72,14 @@ rows_line s some =
 
 -- ---- a row is read
 
-module _ (registered : List (List ℕ)) (way : List ℕ → Option Gather) (answer : List ℕ → MacroCall → MacroAnswer) where
+module _ (functions : Functions) where
   -- where the row ends, with the whitespace after it
   pub row_next : (s : State) (n : ℕ) (rest : List ℕ) → ℕ
   row_next s n rest = length (row_text s n) + space_at standard (ends_with_token (row_of s (symbol_at s n))) (text_after s (n + 1) ++ rest)
 
   pub row_read : (s : State) → IsSound s → (n : ℕ) (now : State) → IsUpTo s n now → n < length (symbols_with_properties s)
       → length (row_text s n) ≤ 4294967295 → (rest : List ℕ)
-      → reads (setting_of snapshot_limits standard now.packages common_lisp_user registered way answer) (row_text s n ++ (text_after s (n + 1) ++ rest))
+      → reads (setting_of snapshot_limits standard now.packages common_lisp_user functions) (row_text s n ++ (text_after s (n + 1) ++ rest))
       ≡ form (row_of s (symbol_at s n)) 0 (length (row_text s n)) (row_next s n rest)
   unfolding row_next
   row_read s sound n now so_far few fits rest =
@@ -87,8 +88,8 @@ module _ (registered : List (List ℕ)) (way : List ℕ → Option Gather) (answ
       let good = row_good s sound x (key_at s n few) in
       let deep = plist_depth s sound x in
       let same : now.packages ≡ s.packages = ap (λ (w : State). w.packages) so_far.rest in
-      ap (λ t. reads (setting_of snapshot_limits standard t common_lisp_user registered way answer) (row_text s n ++ (text_after s (n + 1) ++ rest))) same
-      ∙ object_read_back snapshot_limits s.packages common_lisp_user registered way answer sound.packages (omega arith) y
+      ap (λ t. reads (setting_of snapshot_limits standard t common_lisp_user functions) (row_text s n ++ (text_after s (n + 1) ++ rest))) same
+      ∙ object_read_back snapshot_limits s.packages common_lisp_user functions sound.packages (omega arith) y
       (good.sound, good_symbols s.packages y good, tokens_short s.packages common_lisp_user sound.packages y good.sound good.known)
       (omega arith) fits (text_after s (n + 1) ++ rest)
       (row_ends (printed_prefix s.packages common_lisp_user) (row_of s) (drop (n + 1) (symbols_with_properties s)) rest)

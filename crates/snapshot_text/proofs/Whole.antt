@@ -45,6 +45,7 @@ use Rattle.snapshot_text.proofs.Atoms.{ReadsAs, integer_reads, ratio_reads, symb
 use Rattle.snapshot_text.proofs.Others.{text_read, uninterned_read, character_meant, character_found, character_marks, marks_are, character_read}
 use Rattle.snapshot_text.proofs.Begun.{under, begun, scan_is, token_begun, list_begun, text_begun, vector_begun, character_begun, uninterned_begun, point_begun, plain_call, sub_call}
 use Rattle.snapshot_text.proofs.Lists.{is_open, item_added, items_closed, tail, others, tail_next, others_next, tail_closed, others_closed, tail_dotted, list_done, vector_done}
+use Rattle.user_macros.specs.Functions.{Functions}
 
 -- ---- how a text begins
 
@@ -73,13 +74,13 @@ character_is [] = refl
 character_is (c ∷ []) = refl
 character_is (c ∷ d ∷ ds) = refl
 
-module _ (limits : Limits) (packages : Packages) (current : Name) (registered : List (List ℕ)) (way : List ℕ → Option Gather) (answer : List ℕ → MacroCall → MacroAnswer)
+module _ (limits : Limits) (packages : Packages) (current : Name) (functions : Functions)
     (sound : IsSound packages) (room : 0 < limits.token) where
   abbrev s : Setting
-  s = under limits packages current registered way answer
+  s = under limits packages current functions
 
   abbrev attempted : ℕ → ℕ → List ℕ → Read Found
-  attempted = begun limits packages current registered way answer
+  attempted = begun limits packages current functions
 
   abbrev prefix : Name → Name → List ℕ
   prefix = printed_prefix packages current
@@ -105,7 +106,7 @@ module _ (limits : Limits) (packages : Packages) (current : Name) (registered : 
     where
       by_text : (text : List ℕ) → begins_token text ≡ true → (next : ℕ) → next ≤ limits.text → token_in standard limits.token at (text ++ rest) ≡ Ok (marks, next, rest) → attempted d at (text ++ rest) ≡ Ok (one true x, next, rest)
       by_text [] starts next fits e = absurd cc
-      by_text (c ∷ cs) starts next fits e = token_begun limits packages current registered way answer d at c (cs ++ rest) marks next rest x starts e fits h.some h.means
+      by_text (c ∷ cs) starts next fits e = token_begun limits packages current functions d at c (cs ++ rest) marks next rest x starts e fits h.some h.means
 
   character_good : (c : ℕ) → c < 128 → length (character_name c) ≤ limits.token → Attempted (o.character c) (printed_character c)
   unfolding run
@@ -116,8 +117,8 @@ module _ (limits : Limits) (packages : Packages) (current : Name) (registered : 
       let is : character_of (characters (character_marks name)) ≡ given (o.character c) =
       ap character_of (marks_are name) ∙ character_is name ∙ ap character_or_refused (character_found c below) in
       placed true (o.character c) next (at + length (35 ∷ 92 ∷ name)) rest _
-      (character_begun limits packages current registered way answer d at (name ++ rest) (omega arith)
-      ∙ scan_is standard limits true limits.token (λ marks. completed s (limits.nesting - d) (sub_call limits packages current registered way answer 92 Char) true false (marked marks)) (at + 1 + 1) (name ++ rest) (character_marks name) next rest
+      (character_begun limits packages current functions d at (name ++ rest) (omega arith)
+      ∙ scan_is standard limits true limits.token (λ marks. completed s (limits.nesting - d) (sub_call limits packages current functions 92 Char) true false (marked marks)) (at + 1 + 1) (name ++ rest) (character_marks name) next rest
       (character_read c limits.token (at + 1 + 1) rest below few ends) (omega arith)
       ∙ ap (λ (v : Value). run standard limits (finished true v) next rest) is)
       place
@@ -139,8 +140,8 @@ module _ (limits : Limits) (packages : Packages) (current : Name) (registered : 
       let count : character_count marks ≤ limits.token = omega (arith, name_count own) in
       let read = uninterned_read own limits.token (at + 1 + 1) rest ascii count ends in
       placed true (o.uninterned own) next (at + length (35 ∷ 58 ∷ text)) rest _
-      (uninterned_begun limits packages current registered way answer d at (text ++ rest) (omega arith)
-      ∙ scan_is standard limits false limits.token (λ marks. completed s (limits.nesting - d) (sub_call limits packages current registered way answer 58 Uninterned) true false (marked marks)) (at + 1 + 1) (text ++ rest) marks next rest
+      (uninterned_begun limits packages current functions d at (text ++ rest) (omega arith)
+      ∙ scan_is standard limits false limits.token (λ marks. completed s (limits.nesting - d) (sub_call limits packages current functions 58 Uninterned) true false (marked marks)) (at + 1 + 1) (text ++ rest) marks next rest
       read.0 (omega arith)
       ∙ ap (λ (v : Value). run standard limits (finished true v) next rest) (own_value marks (own_name marks (not_empty marks (is_name own ascii).starts) read.1) own read.2))
       place
@@ -151,10 +152,10 @@ module _ (limits : Limits) (packages : Packages) (current : Name) (registered : 
       let body = escaped is_escaped_in_text bytes in
       let size : length (printed_text bytes) ≡ 2 + length body = omega (arith, length-append (codes "\"" ++ body) (codes "\""), length-append (codes "\"") body) in
       let next : ℕ = at + 1 + length body + 1 in
-      let after = λ (cs : List ℕ). completed s (limits.nesting - d) (plain_call limits packages current registered way answer 34 String) false false (letters cs) in
+      let after = λ (cs : List ℕ). completed s (limits.nesting - d) (plain_call limits packages current functions 34 String) false false (letters cs) in
       placed false (o.text bytes) next (at + length (printed_text bytes)) rest _
       (ap (attempted d at) (append_assoc (codes "\"" ++ body) (codes "\"") rest)
-      ∙ text_begun limits packages current registered way answer d at (body ++ 34 ∷ rest) (omega arith)
+      ∙ text_begun limits packages current functions d at (body ++ 34 ∷ rest) (omega arith)
       ∙ run_then standard limits (text_to s 34 []) after (at + 1) (body ++ 34 ∷ rest)
       ∙ ap (and_then standard limits after) (text_read limits [] bytes rest (at + 1) ascii (omega arith)))
       (omega arith)
@@ -206,34 +207,34 @@ module _ (limits : Limits) (packages : Packages) (current : Name) (registered : 
   -- ---- lists and vectors
 
   abbrev tail_of : ℕ → Bool → List Object → Plan Found
-  tail_of = tail limits packages current registered way answer
+  tail_of = tail limits packages current functions
 
   abbrev others_of : ℕ → Bool → List Object → Plan Found
-  others_of = others limits packages current registered way answer
+  others_of = others limits packages current functions
 
   list_opened : (d at : ℕ) (text : List ℕ) (mark : Bool) (a : Object) (next : ℕ) (rest : List ℕ) → at < limits.text → is_open text ≡ true
       → attempted d (at + 1) text ≡ Ok (one mark a, next, rest) → attempted (suc d) at (40 ∷ text) ≡ run standard limits (tail_of d mark (a ∷ [])) next rest
   unfolding inner
   list_opened d at text mark a next rest fits opens e =
-      list_begun limits packages current registered way answer (suc d) at text fits
-      ∙ then_moves standard limits (items_after s 41 (attempt s d) []) (without_space standard mark (items_after s 41 (attempt s d) (a ∷ []))) (list_end s (attempt s d) (list_done limits packages current registered way answer)) (at + 1) next text rest
-      (item_added limits packages current registered way answer d [] (at + 1) text mark a next rest (omega arith) opens e)
+      list_begun limits packages current functions (suc d) at text fits
+      ∙ then_moves standard limits (items_after s 41 (attempt s d) []) (without_space standard mark (items_after s 41 (attempt s d) (a ∷ []))) (list_end s (attempt s d) (list_done limits packages current functions)) (at + 1) next text rest
+      (item_added limits packages current functions d [] (at + 1) text mark a next rest (omega arith) opens e)
 
   empty_vector : (d at : ℕ) (rest : List ℕ) → at + 2 < limits.text → attempted (suc d) at (35 ∷ 40 ∷ 41 ∷ rest) ≡ Ok (one false (o.vector nil), at + 1 + 1 + 1, rest)
   unfolding inner run
   empty_vector d at rest fits =
-      let done = undotted (vector_done limits packages current registered way answer) in
-      vector_begun limits packages current registered way answer (suc d) at (41 ∷ rest) (omega arith)
+      let done = undotted (vector_done limits packages current functions) in
+      vector_begun limits packages current functions (suc d) at (41 ∷ rest) (omega arith)
       ∙ run_then standard limits (items_after s 41 (attempt s d) []) done (at + 1 + 1) (41 ∷ rest)
-      ∙ ap (and_then standard limits done) (items_closed limits packages current registered way answer d [] (at + 1 + 1) rest (omega arith))
+      ∙ ap (and_then standard limits done) (items_closed limits packages current functions d [] (at + 1 + 1) rest (omega arith))
 
   vector_opened : (d at : ℕ) (text : List ℕ) (mark : Bool) (a : Object) (next : ℕ) (rest : List ℕ) → at + 1 < limits.text → is_open text ≡ true
       → attempted d (at + 1 + 1) text ≡ Ok (one mark a, next, rest) → attempted (suc d) at (35 ∷ 40 ∷ text) ≡ run standard limits (others_of d mark (a ∷ [])) next rest
   unfolding inner
   vector_opened d at text mark a next rest fits opens e =
-      vector_begun limits packages current registered way answer (suc d) at text fits
-      ∙ then_moves standard limits (items_after s 41 (attempt s d) []) (without_space standard mark (items_after s 41 (attempt s d) (a ∷ []))) (undotted (vector_done limits packages current registered way answer)) (at + 1 + 1) next text rest
-      (item_added limits packages current registered way answer d [] (at + 1 + 1) text mark a next rest (omega arith) opens e)
+      vector_begun limits packages current functions (suc d) at text fits
+      ∙ then_moves standard limits (items_after s 41 (attempt s d) []) (without_space standard mark (items_after s 41 (attempt s d) (a ∷ []))) (undotted (vector_done limits packages current functions)) (at + 1 + 1) next text rest
+      (item_added limits packages current functions d [] (at + 1 + 1) text mark a next rest (omega arith) opens e)
 
   abbrev Tailed : Object → Type 0
   Tailed b = (d : ℕ) (token : Bool) (y : Object) (ys : List Object) (at : ℕ) (rest : List ℕ) → depth_along b ≤ d → at + length (written_rest prefix b) ≤ limits.text
@@ -253,8 +254,8 @@ module _ (limits : Limits) (packages : Packages) (current : Name) (registered : 
       let next : ℕ = at + 1 + 1 + 1 + length text in
       ap (run standard limits (tail_of d token (y ∷ ys)) at) same
       ∙ placed false (pairs (y ∷ ys) x) (next + 1) _ rest _
-      (tail_dotted limits packages current registered way answer d token y ys at (text ++ 41 ∷ rest) (ends_with_token x) x next rest (omega arith) (omega arith) (object_open x good (41 ∷ rest))
-      (point_begun limits packages current registered way answer d (at + 1) (text ++ 41 ∷ rest) (omega arith) room)
+      (tail_dotted limits packages current functions d token y ys at (text ++ 41 ∷ rest) (ends_with_token x) x next rest (omega arith) (omega arith) (object_open x good (41 ∷ rest))
+      (point_begun limits packages current functions d (at + 1) (text ++ 41 ∷ rest) (omega arith) room)
       (read d (at + 1 + 1 + 1) (41 ∷ rest) deep (omega arith) (ends_close rest)))
       (omega arith)
 
@@ -318,12 +319,12 @@ module _ (limits : Limits) (packages : Packages) (current : Name) (registered : 
         let size : length (codes " " ++ wa ++ wr) ≡ 1 + length wa + length wr = omega (arith, length-append (codes " " ++ wa) wr, length-append (codes " ") wa) in
         let first : attempted d (at + 1) (wa ++ (wr ++ rest)) ≡ Ok (one (ends_with_token a) a, at + 1 + length wa, wr ++ rest) = object_read a ga d (at + 1) (wr ++ rest) (omega arith) (omega arith) (rest_ends b rest) in
         ap (run standard limits (others_of d token xs) at) (append_assoc (codes " " ++ wa) wr rest)
-        ∙ others_next limits packages current registered way answer d token xs at (wa ++ (wr ++ rest)) (ends_with_token a) a (at + 1 + length wa) (wr ++ rest) (omega arith) (object_open a ga (wr ++ rest)) first
+        ∙ others_next limits packages current functions d token xs at (wa ++ (wr ++ rest)) (ends_with_token a) a (at + 1 + length wa) (wr ++ rest) (omega arith) (object_open a ga (wr ++ rest)) first
         ∙ others_read b gb list d (ends_with_token a) (xs ++ a ∷ []) (at + 1 + length wa) rest (omega arith) (omega arith)
         ∙ (λ i. Ok (one false (o.vector (joined xs a b i)), (let h : at + 1 + length wa + length wr ≡ at + length (codes " " ++ wa ++ wr) = omega arith in h) i, rest))
     others_read (o.symbol home own) good list d token xs at rest deep fits =
         subst (λ (b : Object). at + length (written_rest prefix b) ≤ limits.text → run standard limits (others_of d token xs) at (written_rest prefix b ++ rest) ≡ Ok (one false (o.vector (pairs xs b)), at + length (written_rest prefix b), rest)) (sym (nil_symbol home own list))
-        (λ (few : at + 1 ≤ limits.text). others_closed limits packages current registered way answer d token xs at rest (omega arith)) fits
+        (λ (few : at + 1 ≤ limits.text). others_closed limits packages current functions d token xs at rest (omega arith)) fits
     others_read (o.integer n) good list d token xs at rest deep fits = absurd cc
     others_read (o.rational n k) good list d token xs at rest deep fits = absurd cc
     others_read (o.character c) good list d token xs at rest deep fits = absurd cc
@@ -340,7 +341,7 @@ module _ (limits : Limits) (packages : Packages) (current : Name) (registered : 
         let size : length (codes " " ++ wa ++ wr) ≡ 1 + length wa + length wr = omega (arith, length-append (codes " " ++ wa) wr, length-append (codes " ") wa) in
         let first : attempted d (at + 1) (wa ++ (wr ++ rest)) ≡ Ok (one (ends_with_token a) a, at + 1 + length wa, wr ++ rest) = object_read a ga d (at + 1) (wr ++ rest) (omega arith) (omega arith) (rest_ends b rest) in
         ap (run standard limits (tail_of d token (y ∷ ys)) at) (append_assoc (codes " " ++ wa) wr rest)
-        ∙ tail_next limits packages current registered way answer d token (y ∷ ys) at (wa ++ (wr ++ rest)) (ends_with_token a) a (at + 1 + length wa) (wr ++ rest) (omega arith) (object_open a ga (wr ++ rest)) first
+        ∙ tail_next limits packages current functions d token (y ∷ ys) at (wa ++ (wr ++ rest)) (ends_with_token a) a (at + 1 + length wa) (wr ++ rest) (omega arith) (object_open a ga (wr ++ rest)) first
         ∙ rest_read b gb d (ends_with_token a) y (ys ++ a ∷ []) (at + 1 + length wa) rest (omega arith) (omega arith)
         ∙ (λ i. Ok (one false (joined (y ∷ ys) a b i), (let h : at + 1 + length wa + length wr ≡ at + length (codes " " ++ wa ++ wr) = omega arith in h) i, rest))
     rest_read (o.vector xs) good d token y ys at rest deep fits = dotted_end (o.vector xs) good (vector_read xs (good.0.0, good.1, good.2) good.0.1) d token y ys at rest (omega arith) fits
@@ -350,7 +351,7 @@ module _ (limits : Limits) (packages : Packages) (current : Name) (registered : 
         → run standard limits (tail_of d token (y ∷ ys)) at ((if e then codes ")" else codes " . " ++ written_atom prefix (o.symbol home own) ++ codes ")") ++ rest)
         ≡ Ok (one false (pairs (y ∷ ys) (o.symbol home own)), at + length (if e then codes ")" else codes " . " ++ written_atom prefix (o.symbol home own) ++ codes ")"), rest)) [
           | true ↦ λ e (few : at + 1 ≤ limits.text).
-              tail_closed limits packages current registered way answer d token (y ∷ ys) at rest (omega arith) ∙ (λ i. Ok (one false (pairs (y ∷ ys) (sym (nil_symbol home own e) i)), at + 1, rest))
+              tail_closed limits packages current functions d token (y ∷ ys) at rest (omega arith) ∙ (λ i. Ok (one false (pairs (y ∷ ys) (sym (nil_symbol home own e) i)), at + 1, rest))
           | false ↦ λ e few. dotted_end (o.symbol home own) good (atom_read (o.symbol home own) good refl) d token y ys at rest (omega arith) few
         ] refl fits
     rest_read (o.text bytes) good d token y ys at rest deep fits = dotted_end (o.text bytes) good (text_good bytes good.0) d token y ys at rest (omega arith) fits

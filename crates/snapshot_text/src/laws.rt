@@ -17,6 +17,7 @@ ghost use Rattle.plist_state.specs.Sound.{IsSound as IsSoundState};
 ghost use Rattle.snapshot_text.specs.Lines.{snapshot_limits, IsLineRead};
 ghost use Rattle.snapshot_text.specs.Snapshot.{packages_object, properties_object, tables_object, snapshot};
 ghost use Rattle.snapshot_text.specs.Tokens.{AreTokensWithin, ends_with_token};
+ghost use Rattle.user_macros.specs.Functions.{Functions};
 
 /// The printed text of an object is read back (standard 22.1.3): with sound packages that have its symbols, under the
 /// standard readtable and in the same current package, before the end of the input or a character that ends a token. What is
@@ -24,13 +25,12 @@ ghost use Rattle.snapshot_text.specs.Tokens.{AreTokensWithin, ends_with_token};
 /// the limits, whatever functions are registered. Where the text ends with a token, one whitespace character after it is
 /// discarded with it.
 pub fn printed_objects_read_back()
-    ensures { (limits : Limits) (packages : Packages) (current : Name) (registered : List (List ℕ))
-        (way : List ℕ → Option Gather) (answer : List ℕ → MacroCall → MacroAnswer) (x : Object) (rest : List ℕ)
+    ensures { (limits : Limits) (packages : Packages) (current : Name) (functions : Functions) (x : Object) (rest : List ℕ)
         → IsSound packages → IsSoundObject x → HasAllSymbols packages x
         → object_depth x ≤ limits.nesting → length (printed packages current x) ≤ limits.text
         → 0 < limits.token → AreTokensWithin packages current limits.token x
         → IsTrue (may_end (typed_text standard rest))
-        → reads (setting_of limits standard packages current registered way answer) (printed packages current x ++ rest)
+        → reads (setting_of limits standard packages current functions) (printed packages current x ++ rest)
         ≡ form x 0 (length (printed packages current x))
         (length (printed packages current x) + space_at standard (ends_with_token x) rest) }
 {}
@@ -44,16 +44,13 @@ pub fn one_text_one_state()
 /// The lines of the text of a sound state are read, under the limits of a snapshot: each as the object that it is of, up to
 /// its newline and whatever follows. The first is read with any packages, and the others with those of the state.
 pub fn snapshot_lines_are_read()
-    ensures packages { (s : State) (first : Packages) (registered : List (List ℕ)) (way : List ℕ → Option Gather)
-        (answer : List ℕ → MacroCall → MacroAnswer) (rest : List ℕ) → IsSoundState s → IsSound first
+    ensures packages { (s : State) (first : Packages) (functions : Functions) (rest : List ℕ) → IsSoundState s → IsSound first
         → length (printed s.packages common_lisp_user (packages_object s.packages)) ≤ 4294967295
-        → IsLineRead (setting_of snapshot_limits standard first common_lisp_user registered way answer) s.packages (packages_object s.packages) rest }
-    ensures properties { (s : State) (registered : List (List ℕ)) (way : List ℕ → Option Gather)
-        (answer : List ℕ → MacroCall → MacroAnswer) (rest : List ℕ) → IsSoundState s
+        → IsLineRead (setting_of snapshot_limits standard first common_lisp_user functions) s.packages (packages_object s.packages) rest }
+    ensures properties { (s : State) (functions : Functions) (rest : List ℕ) → IsSoundState s
         → length (printed s.packages common_lisp_user (properties_object s)) ≤ 4294967295
-        → IsLineRead (setting_of snapshot_limits standard s.packages common_lisp_user registered way answer) s.packages (properties_object s) rest }
-    ensures tables { (s : State) (registered : List (List ℕ)) (way : List ℕ → Option Gather)
-        (answer : List ℕ → MacroCall → MacroAnswer) (rest : List ℕ) → IsSoundState s
+        → IsLineRead (setting_of snapshot_limits standard s.packages common_lisp_user functions) s.packages (properties_object s) rest }
+    ensures tables { (s : State) (functions : Functions) (rest : List ℕ) → IsSoundState s
         → length (printed s.packages common_lisp_user (tables_object s)) ≤ 4294967295
-        → IsLineRead (setting_of snapshot_limits standard s.packages common_lisp_user registered way answer) s.packages (tables_object s) rest }
+        → IsLineRead (setting_of snapshot_limits standard s.packages common_lisp_user functions) s.packages (tables_object s) rest }
 {}

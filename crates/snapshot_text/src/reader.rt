@@ -83,7 +83,7 @@ fn is_covered<R: MacroFunctions>(
     world: &World,
     macros: &R,
 ) -> Result<bool, AllocError>
-    ensures { IfOk result (λ covered. covered ≡ are_covered (R.registered macros.now) world.now.0) }
+    ensures { IfOk result (λ covered. covered ≡ are_covered (R.functions macros.now).names world.now.0) }
 {
     let first = Readtable::standard(alloc)?;
     let names = world.readtable_names(alloc)?;
@@ -111,9 +111,9 @@ pub fn read<R: MacroFunctions>(
     ensures text { IfOk result (λ world. snapshot world.0 ≡ bytes.now) }
     ensures only { IfOk result (λ world. (s : State) → IsSoundState s → snapshot s ≡ bytes.now → s ≡ world.0) }
     ensures size { IfOk result (λ world. length bytes.now ≤ 4294967295) }
-    ensures covered { IfOk result (λ world. are_covered (R.registered macros.now) world.0 ≡ true) }
+    ensures covered { IfOk result (λ world. are_covered (R.functions macros.now).names world.0 ≡ true) }
     ensures unmarked { IfOk result (λ world. world.1 ≡ []) }
-    ensures refused { IfErr result (IsRefused (R.registered macros.now) bytes.now) }
+    ensures refused { IfErr result (IsRefused (R.functions macros.now).names bytes.now) }
 {
     if bytes.len() > MOST_BYTES {
         return Err(SnapshotError::Damaged);

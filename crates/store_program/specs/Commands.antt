@@ -7,7 +7,7 @@ use Rattle.lisp_object.specs.declared.refusal.TheConstants.{DEVICE, DAMAGED, MIS
 use Rattle.clap.specs.Words.{Text}
 use Rattle.plist_state.specs.State.{State as World}
 use Rattle.snapshot_text.specs.Snapshot.{snapshot}
-use Rattle.prevalence_store.specs.Functions.{Functions}
+use Rattle.user_macros.specs.Functions.{Functions}
 use Rattle.prevalence_store.specs.Opening.{IsOpened, IsUnopened}
 use Rattle.prevalence_store.specs.declared.outcome.Ending.{Ending}
 use Rattle.prevalence_store.specs.Session.{Session}

@@ -5,6 +5,7 @@ use Rattle.lisp_object.specs.Object.{Object, integer, text as text_object, vecto
 use Rattle.user_macros.specs.declared.call.Gather.{Gather}
 use Rattle.user_macros.specs.declared.call.Gather.TheVariants.{Nothing, Next, Until, Text, Line}
 use Rattle.user_macros.specs.Calls.{Material, one, many, text, MacroCall, MacroAnswer, value, no_value, refused}
+use Rattle.user_macros.specs.Functions.{Functions}
 
 abbrev pub function_names : List (List ℕ)
 function_names = codes "SQUARE" ∷ codes "CLOSE" ∷ codes "NOTE" ∷ codes "SKIP" ∷ codes "UNIT" ∷ codes "SCALE" ∷ []
@@ -48,3 +49,7 @@ answer_to name call =
     else (if same_name (codes "UNIT") name then value (text_object (characters_in call.gathered))
     else (if same_name (codes "SCALE") name then scaled call.number call.gathered
     else no_value)))
+
+-- the functions of the program
+abbrev pub six_functions : Functions
+six_functions = record { names = function_names; way = way_of; answer = answer_to }

@@ -6,7 +6,7 @@ use Rattle.plist_state.specs.State.{State as World}
 use Rattle.prevalence_store.specs.declared.mode.Mode.{Mode}
 use Rattle.prevalence_store.specs.declared.outcome.Ending.{Ending}
 use Rattle.prevalence_store.specs.Acceptance.{read_in}
-use Rattle.prevalence_store.specs.Functions.{Functions}
+use Rattle.user_macros.specs.Functions.{Functions}
 use Rattle.prevalence_store.specs.Opening.{IsOpened}
 use Rattle.prevalence_store.specs.Output.{Progress, after_forms, last_line, refusal_line}
 use Rattle.prevalence_store.specs.Serving.{ServesInput}

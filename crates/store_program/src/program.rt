@@ -3,7 +3,6 @@ ghost use Rattle.std.specs.Prelude.{◌≡◌, ◌⊎◌, ◌<◌, ◌-◌, ◌^
 ghost use Rattle.std.specs.List.{list_all};
 ghost use Rattle.readtable_core.specs.Names.{is_among};
 ghost use Rattle.plist_state.specs.State.{State as LispWorld};
-ghost use Rattle.prevalence_store.specs.Functions.{functions_of};
 ghost use Rattle.prevalence_store.specs.Opening.{IsUnopened};
 ghost use Rattle.snapshot_text.specs.Snapshot.{snapshot};
 ghost use Rattle.clap.specs.Words.{kind_of};
@@ -12,6 +11,7 @@ ghost use Rattle.store_program.specs.CommandLine.{AsksFor, IsTaken, asked_in as 
 ghost use Rattle.store_program.specs.Commands.{Does, DoesOn, IsReport, TaskBreaksOff, TaskReads, TaskWrites, TellsText, WordsRead, WordsWrite, half_line, is_of_opening, reads_input, text_of};
 ghost use Rattle.store_program.specs.Session.{IsSession, TellsFault};
 ghost use Rattle.store_program.specs.Status.{EndsAfter, HasFaultNumber, IsAfterWords, IsCarriedOut, TakesWords, status_of_output};
+ghost use Rattle.user_macros.specs.Functions.{are_registered};
 
 use crate::fault::{Unwritten, write_fault, write_out};
 use crate::half_line::write_half_line;
@@ -59,8 +59,8 @@ where
         → TakesWords result × IsTaken (map S.text words.now) folder task }
     ensures ends { EndsAfter (faults_of (map S.text words.now)) result }
     ensures carried { (folder : List ℕ) (task : Task) → IsTaken (map S.text words.now) folder task
-        → Does (functions_of M.Meaning.names M.Meaning.way M.Meaning.answer) ⟦<HostDisk as Disk>⟧.state macros
-        (list_all (is_among (M.registered macros)) M.Meaning.names) I.remaining O.contents
+        → Does M.Meaning.functions ⟦<HostDisk as Disk>⟧.state macros
+        (are_registered M.Meaning.functions (M.functions macros)) I.remaining O.contents
         input.old input.new output.old output.new task result }
     ensures nameless { (task : Task) → IsTaken (map S.text words.now) [] task
         → ((result ≡ Status.Fault DEVICE) ⊎ (result ≡ Status.Fault NO_MEMORY)) × (input.new ≡ input.old) × (output.new ≡ output.old) }
@@ -76,13 +76,13 @@ where
     ensures read { (text : List ℕ) → I.remaining input.old ≡ Some text
         → WordsRead (asked_by_words (map S.text words.now)) result text (I.remaining input.new) }
     ensures written { (text held : List ℕ) → I.remaining input.old ≡ Some text → O.contents output.old ≡ Some held
-        → WordsWrite (functions_of M.Meaning.names M.Meaning.way M.Meaning.answer) (asked_by_words (map S.text words.now))
+        → WordsWrite M.Meaning.functions (asked_by_words (map S.text words.now))
         result text held (O.contents output.new) }
     ensures fault { HasFaultNumber result }
     ensures told { TellsFault result (F.contents faults.old) (F.contents faults.new) }
     ensures broken { (folder text held : List ℕ) (task : Task) (number : ℕ) → IsTaken (map S.text words.now) folder task
         → I.remaining input.old ≡ Some text → O.contents output.old ≡ Some held → result ≡ Status.Fault number
-        → TaskBreaksOff (functions_of M.Meaning.names M.Meaning.way M.Meaning.answer) task text held (O.contents output.new) }
+        → TaskBreaksOff M.Meaning.functions task text held (O.contents output.new) }
 {
     let status = match asked_in(rt.alloc(), words) {
         Ok(asked) => carry_out(rt, macros, asked, input, output),
@@ -152,8 +152,8 @@ where
     O: Write,
     requires answers { M.answers macros }
     ensures taken { TakesWords result }
-    ensures carried { Does (functions_of M.Meaning.names M.Meaning.way M.Meaning.answer) ⟦<HostDisk as Disk>⟧.state macros
-        (list_all (is_among (M.registered macros)) M.Meaning.names) I.remaining O.contents
+    ensures carried { Does M.Meaning.functions ⟦<HostDisk as Disk>⟧.state macros
+        (are_registered M.Meaning.functions (M.functions macros)) I.remaining O.contents
         input.old input.new output.old output.new asked.entry.task result }
     ensures nameless { asked.entry.folder.now ≡ [] → (result ≡ Status.Fault DEVICE) × (input.new ≡ input.old) × (output.new ≡ output.old) }
     ensures unread { reads_input asked.entry.task ≡ false → input.new ≡ input.old }
@@ -161,11 +161,11 @@ where
         → (input.new ≡ input.old) × (output.new ≡ output.old) }
     ensures read { (text : List ℕ) → I.remaining input.old ≡ Some text → TaskReads asked.entry.task result text (I.remaining input.new) }
     ensures written { (text held : List ℕ) → I.remaining input.old ≡ Some text → O.contents output.old ≡ Some held
-        → TaskWrites (functions_of M.Meaning.names M.Meaning.way M.Meaning.answer) asked.entry.task result text held (O.contents output.new) }
+        → TaskWrites M.Meaning.functions asked.entry.task result text held (O.contents output.new) }
     ensures fault { HasFaultNumber result }
     ensures broken { (text held : List ℕ) (number : ℕ) → I.remaining input.old ≡ Some text → O.contents output.old ≡ Some held
         → result ≡ Status.Fault number
-        → TaskBreaksOff (functions_of M.Meaning.names M.Meaning.way M.Meaning.answer) asked.entry.task text held (O.contents output.new) }
+        → TaskBreaksOff M.Meaning.functions asked.entry.task text held (O.contents output.new) }
 {
     // no folder has an empty name, and files under it would be those of the present folder
     if asked.folder.is_empty() {
@@ -195,19 +195,19 @@ where
     requires room { (D.state disk).failures < 2 ^ 64 - 1 }
     requires answers { M.answers macros }
     ensures taken { TakesWords result.0 }
-    ensures carried { DoesOn (functions_of M.Meaning.names M.Meaning.way M.Meaning.answer) D.state disk result.1 macros
-        (list_all (is_among (M.registered macros)) M.Meaning.names) I.remaining O.contents
+    ensures carried { DoesOn M.Meaning.functions D.state disk result.1 macros
+        (are_registered M.Meaning.functions (M.functions macros)) I.remaining O.contents
         input.old input.new output.old output.new task result.0 }
     ensures unread { reads_input task ≡ false → input.new ≡ input.old }
     ensures unopened { (number : ℕ) → result.0 ≡ Status.Fault number → is_of_opening number ≡ true
         → (input.new ≡ input.old) × (output.new ≡ output.old) }
     ensures read { (text : List ℕ) → I.remaining input.old ≡ Some text → TaskReads task result.0 text (I.remaining input.new) }
     ensures written { (text held : List ℕ) → I.remaining input.old ≡ Some text → O.contents output.old ≡ Some held
-        → TaskWrites (functions_of M.Meaning.names M.Meaning.way M.Meaning.answer) task result.0 text held (O.contents output.new) }
+        → TaskWrites M.Meaning.functions task result.0 text held (O.contents output.new) }
     ensures fault { HasFaultNumber result.0 }
     ensures broken { (text held : List ℕ) (number : ℕ) → I.remaining input.old ≡ Some text → O.contents output.old ≡ Some held
         → result.0 ≡ Status.Fault number
-        → TaskBreaksOff (functions_of M.Meaning.names M.Meaning.way M.Meaning.answer) task text held (O.contents output.new) }
+        → TaskBreaksOff M.Meaning.functions task text held (O.contents output.new) }
 {
     match task {
         Task::Run {
@@ -247,12 +247,12 @@ where
     O: Write,
     requires room { (D.state disk).failures < 2 ^ 64 - 1 }
     requires answers { M.answers macros }
-    ensures served { IfOk result (λ p. IsSession (functions_of M.Meaning.names M.Meaning.way M.Meaning.answer) mode snapshot_every
+    ensures served { IfOk result (λ p. IsSession M.Meaning.functions mode snapshot_every
         D.state disk macros 1073741824 (I.remaining input.old) (I.remaining input.new)
         (O.contents output.old) (O.contents output.new) p.0 p.1) }
     ensures kept { IfOk result (λ p. p.2 ≡ macros) }
-    ensures refused { IfErr result (λ e. IsUnopened (functions_of M.Meaning.names M.Meaning.way M.Meaning.answer)
-        D.state disk (list_all (is_among (M.registered macros)) M.Meaning.names) 1073741824 e.number e.disk
+    ensures refused { IfErr result (λ e. IsUnopened M.Meaning.functions
+        D.state disk (are_registered M.Meaning.functions (M.functions macros)) 1073741824 e.number e.disk
         × (input.new ≡ input.old) × (output.new ≡ output.old)) }
     ensures given_back { IfErr result (λ e. e.macros ≡ macros) }
 {
@@ -281,11 +281,11 @@ where
     O: Write,
     requires room { (D.state disk).failures < 2 ^ 64 - 1 }
     requires answers { M.answers macros }
-    ensures reports { IfOk result (λ p. IsReport (functions_of M.Meaning.names M.Meaning.way M.Meaning.answer) D.state report
+    ensures reports { IfOk result (λ p. IsReport M.Meaning.functions D.state report
         disk macros 1073741824 (O.contents output.old) (O.contents output.new) p.0 p.1) }
     ensures kept { IfOk result (λ p. p.2 ≡ macros) }
-    ensures refused { IfErr result (λ e. IsUnopened (functions_of M.Meaning.names M.Meaning.way M.Meaning.answer)
-        D.state disk (list_all (is_among (M.registered macros)) M.Meaning.names) 1073741824 e.number e.disk
+    ensures refused { IfErr result (λ e. IsUnopened M.Meaning.functions
+        D.state disk (are_registered M.Meaning.functions (M.functions macros)) 1073741824 e.number e.disk
         × (output.new ≡ output.old)) }
     ensures given_back { IfErr result (λ e. e.macros ≡ macros) }
 {

@@ -4,7 +4,7 @@ ghost use Rattle.std.specs.List.{list_all};
 ghost use Rattle.readtable_core.specs.Names.{is_among};
 ghost use Rattle.readtable_core.specs.Named.{functions_of};
 ghost use Rattle.user_macros.specs.Calls.{call_of, answer_of};
-ghost use Rattle.user_macros.specs.Functions.{Functions, way_of, are_registered, named_among};
+ghost use Rattle.user_macros.specs.Functions.{Functions, named_way, are_registered, named_among};
 ghost use Rattle.user_macros.specs.Sound.{IsSoundCall};
 ghost use Rattle.user_macros.specs.Registry.{is_covered};
 
@@ -33,7 +33,7 @@ pub trait MacroFunctions {
 
     /// The way in which the function of this name gathers, and `None` where none is registered. Takes no memory.
     fn gather_of(&self, name: FnName) -> Option<Gather>
-        ensures value { result ≡ way_of (functions self.now) name }
+        ensures value { result ≡ named_way (functions self.now) name }
         ensures some { answers self.now → IsTrue (is_among (functions self.now).names name) → IsTrue (is_some result) };
 
     /// What the function of this name answers: the definition, or out of memory. The name is registered, and the call is

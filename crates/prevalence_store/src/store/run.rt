@@ -4,8 +4,8 @@ ghost use Rattle.std.specs.List.{All, list_all};
 ghost use Rattle.readtable_core.specs.Names.{is_among};
 ghost use Rattle.plist_state.specs.State.{State as LispWorld};
 ghost use Rattle.prevalence_store.specs.Execution.{IsProperOutcome, SurvivesAs};
-ghost use Rattle.prevalence_store.specs.Functions.{functions_of};
 ghost use Rattle.prevalence_store.specs.Runs.{TakesStep, TakesSteps, acknowledged_in_steps, taken_in_steps};
+ghost use Rattle.user_macros.specs.Functions.{are_registered};
 
 use crate::outcome::Outcome;
 use crate::step::Step;
@@ -26,13 +26,13 @@ impl<D: Disk, R: MacroFunctions> Store<D, R> {
     /// Where there is no room for all outcomes. It is taken first, so that nothing has been done then.
     pub fn run(&mut self, steps: &[Step]) -> Result<Vec<Outcome>, AllocError>
         requires answers { R.answers self.old.macros }
-        requires whole { list_all (is_among (R.registered self.old.macros)) R.Meaning.names ≡ true }
-        ensures takes { IfOk result (λ outcomes. TakesSteps (functions_of R.Meaning.names R.Meaning.way R.Meaning.answer) D.state
+        requires whole { are_registered R.Meaning.functions (R.functions self.old.macros) ≡ true }
+        ensures takes { IfOk result (λ outcomes. TakesSteps R.Meaning.functions D.state
             self.old self.new steps.now outcomes.items) }
         ensures survives { (world : LispWorld) → IfOk result (λ outcomes.
-            SurvivesAs (functions_of R.Meaning.names R.Meaning.way R.Meaning.answer) D.state self.old self.new world
-            (taken_in_steps (functions_of R.Meaning.names R.Meaning.way R.Meaning.answer) world steps.now outcomes.items)
-            (acknowledged_in_steps (functions_of R.Meaning.names R.Meaning.way R.Meaning.answer) world steps.now outcomes.items)) }
+            SurvivesAs R.Meaning.functions D.state self.old self.new world
+            (taken_in_steps R.Meaning.functions world steps.now outcomes.items)
+            (acknowledged_in_steps R.Meaning.functions world steps.now outcomes.items)) }
         ensures proper { IfOk result (λ outcomes. All IsProperOutcome outcomes.items) }
         ensures unchanged { OnErr result (self.new ≡ self.old) }
         ensures honest { (D.state self.new.disk).honest ≡ (D.state self.old.disk).honest }
@@ -49,8 +49,8 @@ impl<D: Disk, R: MacroFunctions> Store<D, R> {
     // Takes one step.
     fn step(&mut self, step: &Step) -> Outcome
         requires answers { R.answers self.old.macros }
-        requires whole { list_all (is_among (R.registered self.old.macros)) R.Meaning.names ≡ true }
-        ensures takes { TakesStep (functions_of R.Meaning.names R.Meaning.way R.Meaning.answer) D.state self.old self.new
+        requires whole { are_registered R.Meaning.functions (R.functions self.old.macros) ≡ true }
+        ensures takes { TakesStep R.Meaning.functions D.state self.old self.new
             self.old.world step.now result }
         ensures proper { IsProperOutcome result }
         ensures honest { (D.state self.new.disk).honest ≡ (D.state self.old.disk).honest }

@@ -7,11 +7,11 @@ ghost use Rattle.lisp_object.specs.declared.refusal.TheConstants.{LOG_FULL, REOP
 ghost use Rattle.readtable_core.specs.Names.{is_among};
 ghost use Rattle.plist_state.specs.State.{State as LispWorld};
 ghost use Rattle.form_reader.specs.Reader.{fed};
-ghost use Rattle.prevalence_store.specs.Functions.{functions_of};
 ghost use Rattle.prevalence_store.specs.Pending.{IsPending, IsSoundFed, Feeds, Finishes, TakesPart};
 ghost use Rattle.prevalence_store.specs.Serving.{Serves, ServesInPace, ServesInput};
 ghost use Rattle.prevalence_store.specs.Streams.{Writes, WritesPart};
 ghost use Rattle.prevalence_store.specs.Turns.{Answers, AnswersFault, AnswersForm, BeginsWith, FitsForm, IsFormOf, IsLine, IsStop, Renewing, RenewsInTurn, TakesSome, TriesForm, TurnsInto, is_logged, pace_of};
+ghost use Rattle.user_macros.specs.Functions.{are_registered};
 
 use crate::failure::Failure;
 use crate::input::{Fed, FedPiece, Pending};
@@ -56,11 +56,11 @@ impl<D: Disk, R: MacroFunctions> Store<D, R> {
         snapshot_every: u64,
     ) -> Ending
         requires answers { R.answers self.old.macros }
-        requires whole { list_all (is_among (R.registered self.old.macros)) R.Meaning.names ≡ true }
+        requires whole { are_registered R.Meaning.functions (R.functions self.old.macros) ≡ true }
         ensures reopen { self.old.world ≡ None → (result ≡ Ending.Store REOPEN) × (self.new ≡ self.old)
             × (reader.new ≡ reader.old) × (writer.new ≡ writer.old) }
         ensures serves { (world : LispWorld) → self.old.world ≡ Some world
-            → ServesInput (functions_of R.Meaning.names R.Meaning.way R.Meaning.answer) D.state snapshot_every self.old self.new world mode
+            → ServesInput R.Meaning.functions D.state snapshot_every self.old self.new world mode
             (I.remaining reader.old) (I.remaining reader.new) (W.contents writer.old) (W.contents writer.new) result }
         ensures honest { (D.state self.new.disk).honest ≡ (D.state self.old.disk).honest }
         ensures macros { self.new.macros ≡ self.old.macros }
@@ -100,14 +100,14 @@ impl<D: Disk, R: MacroFunctions> Store<D, R> {
         piece: &[u8],
     ) -> Option<Ending>
         requires answers { R.answers self.old.macros }
-        requires whole { list_all (is_among (R.registered self.old.macros)) R.Meaning.names ≡ true }
+        requires whole { are_registered R.Meaning.functions (R.functions self.old.macros) ≡ true }
         requires known { IsSome self.old.world }
         requires pending { (w : LispWorld) → self.old.world ≡ Some w → (bytes : List ℕ)
-            × IsPending (functions_of R.Meaning.names R.Meaning.way R.Meaning.answer) w mode pending.old bytes }
+            × IsPending R.Meaning.functions w mode pending.old bytes }
         requires count { fed pending.old.reader + length piece.now ≤ 2 ^ 63 }
         ensures answers { (w : LispWorld) → self.old.world ≡ Some w → (bytes : List ℕ)
-            → IsPending (functions_of R.Meaning.names R.Meaning.way R.Meaning.answer) w mode pending.old bytes
-            → Answers (functions_of R.Meaning.names R.Meaning.way R.Meaning.answer) D.state (pace_of schedule.old) (pace_of schedule.new) self.old self.new w mode
+            → IsPending R.Meaning.functions w mode pending.old bytes
+            → Answers R.Meaning.functions D.state (pace_of schedule.old) (pace_of schedule.new) self.old self.new w mode
             (bytes ++ piece.now) (W.contents writer.old) (W.contents writer.new) pending.new result }
         ensures count { fed pending.new.reader ≤ fed pending.old.reader + length piece.now }
         ensures honest { (D.state self.new.disk).honest ≡ (D.state self.old.disk).honest }
@@ -133,15 +133,15 @@ impl<D: Disk, R: MacroFunctions> Store<D, R> {
         piece: &[u8],
     ) -> Turn
         requires answers { R.answers self.old.macros }
-        requires whole { list_all (is_among (R.registered self.old.macros)) R.Meaning.names ≡ true }
+        requires whole { are_registered R.Meaning.functions (R.functions self.old.macros) ≡ true }
         requires known { IsSome self.old.world }
         requires pending { (w : LispWorld) → self.old.world ≡ Some w → (bytes : List ℕ)
-            × IsPending (functions_of R.Meaning.names R.Meaning.way R.Meaning.answer) w mode pending.old bytes }
+            × IsPending R.Meaning.functions w mode pending.old bytes }
         requires some { 0 < length piece.now }
         requires count { fed pending.old.reader + length piece.now ≤ 2 ^ 63 }
         ensures turns { (w : LispWorld) → self.old.world ≡ Some w → (bytes : List ℕ)
-            → IsPending (functions_of R.Meaning.names R.Meaning.way R.Meaning.answer) w mode pending.old bytes
-            → TurnsInto (functions_of R.Meaning.names R.Meaning.way R.Meaning.answer) D.state (pace_of schedule.old) (pace_of schedule.new) self.old self.new w mode
+            → IsPending R.Meaning.functions w mode pending.old bytes
+            → TurnsInto R.Meaning.functions D.state (pace_of schedule.old) (pace_of schedule.new) self.old self.new w mode
             (bytes ++ piece.now) (W.contents writer.old) (W.contents writer.new) pending.new piece.now result }
         ensures some { TakesSome (fed pending.old.reader) (fed pending.new.reader) (length piece.now) result }
         ensures count { fed pending.new.reader ≤ fed pending.old.reader + length piece.now }
@@ -173,15 +173,15 @@ impl<D: Disk, R: MacroFunctions> Store<D, R> {
     // Feeds a piece up to the first byte that decides something, as the world reads.
     fn feed(&self, pending: &mut Pending, mode: Mode, piece: &[u8]) -> Result<FedPiece, AllocError>
         requires answers { R.answers self.now.macros }
-        requires whole { list_all (is_among (R.registered self.now.macros)) R.Meaning.names ≡ true }
+        requires whole { are_registered R.Meaning.functions (R.functions self.now.macros) ≡ true }
         requires known { IsSome self.now.world }
         requires pending { (w : LispWorld) → self.now.world ≡ Some w → (bytes : List ℕ)
-            × IsPending (functions_of R.Meaning.names R.Meaning.way R.Meaning.answer) w mode pending.old bytes }
+            × IsPending R.Meaning.functions w mode pending.old bytes }
         requires some { 0 < length piece.now }
         requires count { fed pending.old.reader + length piece.now ≤ 2 ^ 63 }
         ensures feeds { (w : LispWorld) → self.now.world ≡ Some w → (bytes : List ℕ)
-            → IsPending (functions_of R.Meaning.names R.Meaning.way R.Meaning.answer) w mode pending.old bytes
-            → IfOk result (λ part. Feeds (functions_of R.Meaning.names R.Meaning.way R.Meaning.answer) w mode pending.new
+            → IsPending R.Meaning.functions w mode pending.old bytes
+            → IfOk result (λ part. Feeds R.Meaning.functions w mode pending.new
             (bytes ++ take part.taken piece.now) part.fed) }
         ensures part { IfOk result (TakesPart piece.now) }
         ensures sound { IfOk result (λ part. IsSoundFed part.fed) }
@@ -200,16 +200,16 @@ impl<D: Disk, R: MacroFunctions> Store<D, R> {
         schedule: &mut Schedule,
     ) -> Ending
         requires answers { R.answers self.old.macros }
-        requires whole { list_all (is_among (R.registered self.old.macros)) R.Meaning.names ≡ true }
+        requires whole { are_registered R.Meaning.functions (R.functions self.old.macros) ≡ true }
         requires known { IsSome self.old.world }
         requires pending { (w : LispWorld) → self.old.world ≡ Some w → (bytes : List ℕ)
-            × IsPending (functions_of R.Meaning.names R.Meaning.way R.Meaning.answer) w mode pending bytes }
+            × IsPending R.Meaning.functions w mode pending bytes }
         requires count { fed pending.reader ≤ 2 ^ 63 }
         ensures serves { (w : LispWorld) → self.old.world ≡ Some w → (bytes : List ℕ)
-            → IsPending (functions_of R.Meaning.names R.Meaning.way R.Meaning.answer) w mode pending bytes
-            → (served : Serves (functions_of R.Meaning.names R.Meaning.way R.Meaning.answer) D.state self.old self.new w mode
+            → IsPending R.Meaning.functions w mode pending bytes
+            → (served : Serves R.Meaning.functions D.state self.old self.new w mode
             bytes (W.contents writer.old) (W.contents writer.new) result)
-            × ServesInPace (functions_of R.Meaning.names R.Meaning.way R.Meaning.answer) D.state (pace_of schedule.old) self.old self.new w mode
+            × ServesInPace R.Meaning.functions D.state (pace_of schedule.old) self.old self.new w mode
             bytes (W.contents writer.old) (W.contents writer.new) result served }
         ensures honest { (D.state self.new.disk).honest ≡ (D.state self.old.disk).honest }
         ensures macros { self.new.macros ≡ self.old.macros }
@@ -233,14 +233,14 @@ impl<D: Disk, R: MacroFunctions> Store<D, R> {
     // What is pending at the end of the input, as the world reads.
     fn finish(&self, pending: Pending, mode: Mode) -> Result<Fed, AllocError>
         requires answers { R.answers self.now.macros }
-        requires whole { list_all (is_among (R.registered self.now.macros)) R.Meaning.names ≡ true }
+        requires whole { are_registered R.Meaning.functions (R.functions self.now.macros) ≡ true }
         requires known { IsSome self.now.world }
         requires pending { (w : LispWorld) → self.now.world ≡ Some w → (bytes : List ℕ)
-            × IsPending (functions_of R.Meaning.names R.Meaning.way R.Meaning.answer) w mode pending bytes }
+            × IsPending R.Meaning.functions w mode pending bytes }
         requires count { fed pending.reader ≤ 2 ^ 63 }
         ensures finishes { (w : LispWorld) → self.now.world ≡ Some w → (bytes : List ℕ)
-            → IsPending (functions_of R.Meaning.names R.Meaning.way R.Meaning.answer) w mode pending bytes
-            → IfOk result (Finishes (functions_of R.Meaning.names R.Meaning.way R.Meaning.answer) w mode bytes) }
+            → IsPending R.Meaning.functions w mode pending bytes
+            → IfOk result (Finishes R.Meaning.functions w mode bytes) }
         ensures sound { IfOk result IsSoundFed }
     {
         pending.finish(self.alloc, &self.world, &self.macros, mode)
@@ -270,10 +270,10 @@ impl<D: Disk, R: MacroFunctions> Store<D, R> {
         datum: &Datum,
         own: &[u8],
     ) -> Option<u16>
-        requires form { IsFormOf (functions_of R.Meaning.names R.Meaning.way R.Meaning.answer) self.old.world mode datum.now own.now }
+        requires form { IsFormOf R.Meaning.functions self.old.world mode datum.now own.now }
         ensures answers { (w : LispWorld) → self.old.world ≡ Some w → (text : List ℕ) (next : ℕ)
-            → BeginsWith (functions_of R.Meaning.names R.Meaning.way R.Meaning.answer) w mode text (object_of datum.now) own.now next
-            → AnswersForm (functions_of R.Meaning.names R.Meaning.way R.Meaning.answer) D.state self.old self.new w mode (pace_of schedule.old) (pace_of schedule.new)
+            → BeginsWith R.Meaning.functions w mode text (object_of datum.now) own.now next
+            → AnswersForm R.Meaning.functions D.state self.old self.new w mode (pace_of schedule.old) (pace_of schedule.new)
             text (W.contents writer.old) (W.contents writer.new) result }
         ensures honest { (D.state self.new.disk).honest ≡ (D.state self.old.disk).honest }
         ensures macros { self.new.macros ≡ self.old.macros }
@@ -293,10 +293,10 @@ impl<D: Disk, R: MacroFunctions> Store<D, R> {
         datum: &Datum,
         own: &[u8],
     ) -> Result<bool, u16>
-        requires form { IsFormOf (functions_of R.Meaning.names R.Meaning.way R.Meaning.answer) self.old.world mode datum.now own.now }
+        requires form { IsFormOf R.Meaning.functions self.old.world mode datum.now own.now }
         ensures fits { (w : LispWorld) → self.old.world ≡ Some w → (text : List ℕ) (next : ℕ)
-            → BeginsWith (functions_of R.Meaning.names R.Meaning.way R.Meaning.answer) w mode text (object_of datum.now) own.now next
-            → FitsForm (functions_of R.Meaning.names R.Meaning.way R.Meaning.answer) D.state self.old self.new w mode
+            → BeginsWith R.Meaning.functions w mode text (object_of datum.now) own.now next
+            → FitsForm R.Meaning.functions D.state self.old self.new w mode
             text (W.contents writer.old) (W.contents writer.new) result }
         ensures known { OnOk result (IsSome self.new.world) }
         ensures honest { (D.state self.new.disk).honest ≡ (D.state self.old.disk).honest }
@@ -325,10 +325,10 @@ impl<D: Disk, R: MacroFunctions> Store<D, R> {
         datum: &Datum,
         own: &[u8],
     ) -> Result<bool, u16>
-        requires form { IsFormOf (functions_of R.Meaning.names R.Meaning.way R.Meaning.answer) self.old.world mode datum.now own.now }
+        requires form { IsFormOf R.Meaning.functions self.old.world mode datum.now own.now }
         ensures tries { (w : LispWorld) → self.old.world ≡ Some w → (text : List ℕ) (next : ℕ)
-            → BeginsWith (functions_of R.Meaning.names R.Meaning.way R.Meaning.answer) w mode text (object_of datum.now) own.now next
-            → TriesForm (functions_of R.Meaning.names R.Meaning.way R.Meaning.answer) D.state self.old self.new w mode
+            → BeginsWith R.Meaning.functions w mode text (object_of datum.now) own.now next
+            → TriesForm R.Meaning.functions D.state self.old self.new w mode
             text (W.contents writer.old) (W.contents writer.new) result }
         ensures unchanged { IfErr result (λ number. number ≡ LOG_FULL → self.new ≡ self.old) }
         ensures quiet { IfErr result (λ number. number ≡ LOG_FULL → W.contents writer.new ≡ W.contents writer.old) }
@@ -353,7 +353,7 @@ impl<D: Disk, R: MacroFunctions> Store<D, R> {
     fn renew_in_turn(&mut self, schedule: &mut Schedule, wrote: bool) -> Option<u16>
         requires known { IsSome self.old.world }
         ensures renews { (w : LispWorld) → self.old.world ≡ Some w
-            → RenewsInTurn (functions_of R.Meaning.names R.Meaning.way R.Meaning.answer) D.state self.old self.new w wrote (pace_of schedule.old) (pace_of schedule.new) result }
+            → RenewsInTurn R.Meaning.functions D.state self.old self.new w wrote (pace_of schedule.old) (pace_of schedule.new) result }
         ensures honest { (D.state self.new.disk).honest ≡ (D.state self.old.disk).honest }
         ensures macros { self.new.macros ≡ self.old.macros }
     {
@@ -374,7 +374,7 @@ impl<D: Disk, R: MacroFunctions> Store<D, R> {
     fn renew(&mut self) -> Result<(), u16>
         requires known { IsSome self.old.world }
         ensures renews { (w : LispWorld) → self.old.world ≡ Some w
-            → Renewing (functions_of R.Meaning.names R.Meaning.way R.Meaning.answer) D.state self.old self.new w result }
+            → Renewing R.Meaning.functions D.state self.old self.new w result }
         ensures honest { (D.state self.new.disk).honest ≡ (D.state self.old.disk).honest }
         ensures macros { self.new.macros ≡ self.old.macros }
     {

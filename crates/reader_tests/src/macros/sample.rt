@@ -2,7 +2,7 @@
 ghost use Rattle.std.specs.Prelude.{◌≡◌};
 ghost use Rattle.user_macros.specs.Calls.{answer_of, call_of};
 ghost use Rattle.user_macros.specs.Sound.{IsSoundCall};
-ghost use Rattle.reader_tests.specs.Sample.{sample_names, sample_way, sample_answer, scaled};
+ghost use Rattle.reader_tests.specs.Sample.{sample_functions, sample_names, scaled};
 
 use lisp_object::Datum;
 use readtable_core::FnName;
@@ -29,11 +29,7 @@ impl Sample {
 impl Meaning for Sample {
     ghost use Rattle.std.proofs.Common.{rules};
 
-    ghost names = { sample_names };
-
-    ghost way = { sample_way };
-
-    ghost answer = { sample_answer };
+    ghost functions = { sample_functions };
 
     ghost gathers = { λ name. Prim.search rules };
 

@@ -7,7 +7,7 @@ ghost use Rattle.lisp_object.specs.Datum.{is_proper, object_of};
 ghost use Rattle.lisp_object.specs.Object.{integer, nil, pair, symbol};
 ghost use Rattle.user_macros.specs.Calls.{answer_of, call_of, improper, value};
 ghost use Rattle.user_macros.specs.Sound.{IsSoundCall};
-ghost use Rattle.reader_tests.specs.Trial.{trial_names, trial_way, trial_answer, later_rows, last_rows, way_among, count, named, wrapped};
+ghost use Rattle.reader_tests.specs.Trial.{trial_functions, trial_names, later_rows, last_rows, way_among, count, named, wrapped};
 
 use lisp_object::{Bytes, Datum, Items};
 use readtable_core::FnName;
@@ -58,11 +58,7 @@ impl Trial {
 impl Meaning for Trial {
     ghost use Rattle.reader_tests.specs.Trial.{rows, some_way};
 
-    ghost names = { trial_names };
-
-    ghost way = { trial_way };
-
-    ghost answer = { trial_answer };
+    ghost functions = { trial_functions };
 
     ghost gathers = { some_way rows };
 

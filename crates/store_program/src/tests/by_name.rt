@@ -5,7 +5,7 @@ ghost use Rattle.std.specs.List.{list_all};
 ghost use Rattle.std.specs.Option.{option_map_or};
 ghost use Rattle.readtable_core.specs.Named.{functions_at};
 ghost use Rattle.user_macros.specs.Registry.{is_covered};
-ghost use Rattle.store_program.specs.MacroFunctions.{function_names};
+ghost use Rattle.store_program.specs.MacroFunctions.{function_names, six_functions};
 
 use crate::macro_functions;
 use crate::meaning::SixFunctions;
@@ -58,11 +58,13 @@ impl ByName {
 impl MacroFunctions for ByName {
     type Meaning = SixFunctions;
 
-    ghost registered = { λ _. function_names };
+    ghost functions = { λ _. six_functions };
 
     ghost meant = { λ functions. functions.meaning };
 
     ghost answers = { λ _. Unit {0} };
+
+    ghost as_meant = { λ functions. refl };
 
     ghost known = { λ functions answers name is. is };
 

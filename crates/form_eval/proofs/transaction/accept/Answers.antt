@@ -18,4 +18,4 @@ run-requires-clause-form g c =
 
 pub returns-in-Err-clause-memory : goal.returns-in-Err-clause-memory
 returns-in-Err-clause-memory g c =
-    once_number (refused_at_once g.M.Meaning.names c.args.world.now.0 (object_of c.args.form.now)) c.in-Err.error (c.in-Err.ensures.at_once g.M.Meaning.names)
+    once_number (refused_at_once g.M.Meaning.functions.names c.args.world.now.0 (object_of c.args.form.now)) c.in-Err.error (c.in-Err.ensures.at_once g.M.Meaning.functions.names)

@@ -1,13 +1,13 @@
 use Rattle.std.proofs.Common.{◌≡◌, ◌≤◌, ℕ, List, false, length}
 use Rattle.form_reader.specs.Plans.{gives, run}
-use Rattle.form_reader.specs.Surrounding.{setting_with}
+use Rattle.form_reader.specs.Surrounding.{setting}
 use Rattle.form_reader.specs.Frames.{given, needs_to_take}
 use Rattle.form_reader.specs.Ready.{lookahead}
 use Rattle.form_reader.proofs.deliver.deliver.Given as goal
 
 abbrev pub invariant-calls : goal.invariant-calls
 invariant-calls g l =
-    let setting = setting_with (g.R.MacroFunctions.registered l.fn.with.macros.now) g.R.Meaning.Meaning.way g.R.Meaning.Meaning.answer l.fn.with in
+    let setting = setting g.R.MacroFunctions.functions l.fn.with in
     ((cs : List ℕ) → run setting.table setting.limits (given setting l.fn.frames (gives l.fn.found)) l.fn.at cs
     ≡ run setting.table setting.limits (given setting l.frames (gives l.found)) l.fn.at cs)
     × (length l.frames ≤ length l.fn.frames)

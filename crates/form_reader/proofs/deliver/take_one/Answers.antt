@@ -2,19 +2,19 @@ use Rattle.std.proofs.Common.{List, ap, ◌∙◌, sym}
 use Rattle.form_reader.specs.declared.frame.Frame.{Frame as OpenCall}
 use Rattle.form_reader.specs.declared.found.Found.TheVariants.{One as one}
 use Rattle.form_reader.specs.Frames.{calls_with}
-use Rattle.form_reader.specs.Surrounding.{setting_with}
+use Rattle.form_reader.specs.Surrounding.{setting}
 use Rattle.form_reader.proofs.Deliveries.{next_comes, object_goes_on, object_stops, stays_from, refused_from}
 use Rattle.form_reader.proofs.deliver.take_one.Goals as goal
 
 pub returns-in_ok-complete-in-Some-clause-takes : goal.returns-in_ok-complete-in-Some-clause-takes
 returns-in_ok-complete-in-Some-clause-takes g c = λ cs.
-    let setting = setting_with (g.R.MacroFunctions.registered c.args.with.now.macros.now) g.R.Meaning.Meaning.way g.R.Meaning.Meaning.answer c.args.with.now in
+    let setting = setting g.R.MacroFunctions.functions c.args.with.now in
     next_comes setting c.args.at cs c.args.frames.now c.pop_waiting.new.self c.in-Some.call c.args.token c.args.x _ c.len-round.result c.in_ok-complete-in-Some.field-0 c.taken_of.result
     c.in-Some.ensures c.len-round.ensures c.into_datum.ensures.object c.in_ok-complete-in-Some.ensures.gives (c.taken_of.ensures.takes setting c.pop_waiting.new.self cs)
 
 pub returns-then-branch-clause-takes : goal.returns-then-branch-clause-takes
 returns-then-branch-clause-takes g c = λ cs.
-    let setting = setting_with (g.R.MacroFunctions.registered c.args.with.now.macros.now) g.R.Meaning.Meaning.way g.R.Meaning.Meaning.answer c.args.with.now in
+    let setting = setting g.R.MacroFunctions.functions c.args.with.now in
     object_goes_on setting c.args.at cs c.args.frames.now c.take_object.new.self c.args.token c.args.x c.requires.place
     (ap (λ (fs : List OpenCall). calls_with fs (one c.args.token c.args.x)) (sym c.in-None.ensures.0) ∙ c.in_ok-take_object-in-None.ensures.takes c.args.token c.if-branch.true)
 
@@ -25,7 +25,7 @@ returns-then-branch-clause-from g c =
 
 pub returns-else-branch-clause-takes : goal.returns-else-branch-clause-takes
 returns-else-branch-clause-takes g c = λ cs.
-    let setting = setting_with (g.R.MacroFunctions.registered c.args.with.now.macros.now) g.R.Meaning.Meaning.way g.R.Meaning.Meaning.answer c.args.with.now in
+    let setting = setting g.R.MacroFunctions.functions c.args.with.now in
     object_stops setting c.args.at cs c.args.frames.now c.args.token c.args.x c.requires.open
     (ap (λ (fs : List OpenCall). calls_with fs (one c.args.token c.args.x)) (sym c.in-None.ensures.0) ∙ (c.in_ok-take_object-in-None.ensures.refuses c.args.token c.if-branch.false).0) c.in-None.ensures.1
 

@@ -2,7 +2,7 @@ use Rattle.std.proofs.Common.{◌<◌, List, [], length, ap, sym, subst, ◌∙�
 use Rattle.token_scan.specs.declared.mark.Mark.{Mark}
 use Rattle.token_scan.proofs.Forwards.{begun_has_mark}
 use Rattle.token_scan.specs.Scans.{Scan}
-use Rattle.form_reader.specs.Surrounding.{setting_with}
+use Rattle.form_reader.specs.Surrounding.{setting}
 use Rattle.form_reader.specs.Ending.{TokenStops}
 use Rattle.form_reader.proofs.Endings.{token_last, token_stopped}
 use Rattle.form_reader.proofs.EndSpending.{object_token_ends}
@@ -10,14 +10,14 @@ use Rattle.form_reader.proofs.ending.last_token.Goals as goal
 
 pub returns-in-None-clause-brings : goal.returns-in-None-clause-brings
 returns-in-None-clause-brings g c = λ frames.
-    let setting = setting_with (g.R.MacroFunctions.registered c.args.with.now.macros.now) g.R.Meaning.Meaning.way g.R.Meaning.Meaning.answer c.args.with.now in
+    let setting = setting g.R.MacroFunctions.functions c.args.with.now in
     token_last setting frames c.args.at _ c.args.scan _ c.token_end.result
     (subst (λ (s : Scan). TokenStops setting.table setting.limits s c.args.at None) c.into_scan-scan.ensures.value (c.in-None.ensures.stops setting.table))
     (c.into_marks.ensures.value ∙ ap (λ (s : Scan). s.marks) (c.token_stop.ensures.same c.in-None.is ∙ c.into_scan-scan.ensures.value)) (c.token_end.ensures.brings frames [])
 
 pub returns-in-Some-clause-brings : goal.returns-in-Some-clause-brings
 returns-in-Some-clause-brings g c = λ frames.
-    let setting = setting_with (g.R.MacroFunctions.registered c.args.with.now.macros.now) g.R.Meaning.Meaning.way g.R.Meaning.Meaning.answer c.args.with.now in
+    let setting = setting g.R.MacroFunctions.functions c.args.with.now in
     token_stopped setting frames c.args.at c.args.scan _ c.in-Some.code
     (subst (λ (s : Scan). TokenStops setting.table setting.limits s c.args.at (Some c.in-Some.code)) c.into_scan-scan.ensures.value (c.in-Some.ensures.stops setting.table))
 
@@ -28,7 +28,7 @@ token_end-requires-clause-some g c =
 
 pub returns-in-None-clause-memory : goal.returns-in-None-clause-memory
 returns-in-None-clause-memory g c = λ frames.
-    let setting = setting_with (g.R.MacroFunctions.registered c.args.with.now.macros.now) g.R.Meaning.Meaning.way g.R.Meaning.Meaning.answer c.args.with.now in
+    let setting = setting g.R.MacroFunctions.functions c.args.with.now in
     object_token_ends setting frames c.args.at c.token_end.result c.args.scan _
     (subst (λ (s : Scan). TokenStops setting.table setting.limits s c.args.at None) c.into_scan-scan.ensures.value (c.in-None.ensures.stops setting.table))
     (c.into_marks.ensures.value ∙ ap (λ (s : Scan). s.marks) (c.token_stop.ensures.same c.in-None.is ∙ c.into_scan-scan.ensures.value)) c.token_end.ensures.memory

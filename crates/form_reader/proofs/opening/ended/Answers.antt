@@ -1,6 +1,6 @@
 use Rattle.std_macros.specs.Results.{view_gathered}
 use Rattle.std.proofs.Common.{arith}
-use Rattle.form_reader.specs.Surrounding.{setting_with}
+use Rattle.form_reader.specs.Surrounding.{setting}
 use Rattle.form_reader.proofs.Closings.{call_ends}
 use Rattle.form_reader.proofs.Readiness.{end_within, or_none}
 use Rattle.form_reader.proofs.EndSpending.{called_costs, what_is_given}
@@ -8,7 +8,7 @@ use Rattle.form_reader.proofs.opening.ended.Goals as goal
 
 pub returns-clause-brings : goal.returns-clause-brings
 returns-clause-brings g c = λ frames cs open_calls.
-    let setting = setting_with (g.R.MacroFunctions.registered c.args.with.now.macros.now) g.R.Meaning.Meaning.way g.R.Meaning.Meaning.answer c.args.with.now in
+    let setting = setting g.R.MacroFunctions.functions c.args.with.now in
     call_ends setting frames c.args.call.now c.args.at cs c.args.token _ c.args.round c.in_ok-complete.field-0 c.event_of.result open_calls c.in_ok-complete.ensures.gives (c.event_of.ensures.comes setting frames cs)
 
 pub returns-clause-ends : goal.returns-clause-ends

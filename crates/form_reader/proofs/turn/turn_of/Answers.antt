@@ -1,12 +1,12 @@
 use Rattle.std.proofs.Common.{[]}
-use Rattle.form_reader.specs.Surrounding.{setting_with}
+use Rattle.form_reader.specs.Surrounding.{setting}
 use Rattle.form_reader.proofs.Between.{brought, done_anew}
 use Rattle.form_reader.proofs.TurnsTaken.{done_turns, done_nesting}
 use Rattle.form_reader.proofs.turn.turn_of.Goals as goal
 
 pub returns-in-Done-clause-turns : goal.returns-in-Done-clause-turns
 returns-in-Done-clause-turns g c = λ cs read brings.
-    let setting = setting_with (g.R.MacroFunctions.registered c.args.with.now.macros.now) g.R.Meaning.Meaning.way g.R.Meaning.Meaning.answer c.args.with.now in
+    let setting = setting g.R.MacroFunctions.functions c.args.with.now in
     done_turns setting c.settle.new.frames c.args.start c.args.at cs read _ c.in-Done.found c.done_after.result c.in-Done.is (c.in_ok-stage.ensures.settles cs read brings) (c.done_after.ensures.turns setting cs)
 
 pub returns-in-Done-clause-ready : goal.returns-in-Done-clause-ready
@@ -16,6 +16,6 @@ returns-in-Done-clause-ready g c =
 
 pub returns-in-Done-clause-anew : goal.returns-in-Done-clause-anew
 returns-in-Done-clause-anew g c = λ some.
-    let setting = setting_with (g.R.MacroFunctions.registered c.args.with.now.macros.now) g.R.Meaning.Meaning.way g.R.Meaning.Meaning.answer c.args.with.now in
+    let setting = setting g.R.MacroFunctions.functions c.args.with.now in
     let own = brought setting c.args.frames.now c.args.at c.args.event in
     done_anew setting c.settle.new.frames c.args.at _ c.in-Done.found own.0 c.done_after.result c.in-Done.is (c.in_ok-stage.ensures.settles [] own.0 own.1) c.done_after.ensures.anew

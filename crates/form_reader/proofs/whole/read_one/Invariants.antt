@@ -8,8 +8,8 @@ abbrev pub invariant-loop-byte : goal.invariant-loop-byte
 invariant-loop-byte g l = record {
   limits : l.reader.limits ≡ l.fn.limits;
   count : fed l.reader ≡ l.byte-index;
-  after : IsAfter (setting_of l.fn.limits l.readtable l.packages.0 l.current (g.R.MacroFunctions.registered l.macros) g.R.Meaning.Meaning.way g.R.Meaning.Meaning.answer)
+  after : IsAfter (setting_of l.fn.limits l.readtable l.packages.0 l.current (g.R.MacroFunctions.functions l.macros))
       l.reader (take l.byte-index l.bytes);
-  remains : Remains (setting_of l.fn.limits l.readtable l.packages.0 l.current (g.R.MacroFunctions.registered l.macros) g.R.Meaning.Meaning.way g.R.Meaning.Meaning.answer)
+  remains : Remains (setting_of l.fn.limits l.readtable l.packages.0 l.current (g.R.MacroFunctions.functions l.macros))
       l.reader l.bytes l.byte-index;
 }

@@ -8,6 +8,6 @@ use Rattle.prevalence_store.proofs.input.finish_in.Goals as goal
 pub returns : goal.returns
 returns g c = λ bytes.
     subst (λ (s : Setting). IsAfter s c.args.reader bytes → IfOk c.finish.result (λ outcome. IsOutcome outcome (reads s bytes)))
-    (called_setting c.args.world.now.0 c.args.mode g.R.Meaning.Meaning.names (g.R.MacroFunctions.registered c.args.macros.now) g.R.Meaning.Meaning.way g.R.Meaning.Meaning.answer
-    _ _ _ _ c.requires.whole (g.met.R.MacroFunctions.known c.args.macros.now c.requires.answers) c.requires.limits c.readtable_in-readtable.ensures c.packages.ensures c.package_in-package.ensures.name)
+    (called_setting c.args.world.now.0 c.args.mode g.R.Meaning.Meaning.functions (g.R.MacroFunctions.functions c.args.macros.now)
+    _ _ _ _ (g.met.R.MacroFunctions.as_meant c.args.macros.now) c.requires.whole (g.met.R.MacroFunctions.known c.args.macros.now c.requires.answers) c.requires.limits c.readtable_in-readtable.ensures c.packages.ensures c.package_in-package.ensures.name)
     (c.finish.ensures.outcome bytes)

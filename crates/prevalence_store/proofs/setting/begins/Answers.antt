@@ -10,9 +10,7 @@ use Rattle.prevalence_store.proofs.setting.begins.Goals as goal
 pub returns : goal.returns
 returns g c =
     let w = c.args.world.now.0 in
-    let registered = g.R.MacroFunctions.registered c.args.macros.now in
-    let same = among_same g.R.Meaning.Meaning.names registered c.requires.whole (g.met.R.MacroFunctions.known c.args.macros.now c.requires.answers) in
-    let one = setting_same form_limits (table_in w c.args.mode) w.packages (package_in w c.args.mode) g.R.Meaning.Meaning.names registered g.R.Meaning.Meaning.way g.R.Meaning.Meaning.answer same in
-    let as_called : setting_of c.form.result c.readtable_in-readtable.result.now c.packages.result.now.0 c.package_in-package.result.now registered g.R.Meaning.Meaning.way g.R.Meaning.Meaning.answer
-    ≡ setting_of form_limits (table_in w c.args.mode) w.packages (package_in w c.args.mode) registered g.R.Meaning.Meaning.way g.R.Meaning.Meaning.answer = λ i. setting_of (c.form.ensures i) (c.readtable_in-readtable.ensures i) (c.packages.ensures i) (c.package_in-package.ensures.name i) registered g.R.Meaning.Meaning.way g.R.Meaning.Meaning.answer in
-    subst (λ (s : Setting). IfOk c.read_one.result (λ outcome. IsOutcome outcome (reads s c.args.text.now))) (as_called ∙ one) c.read_one.ensures.outcome
+    subst (λ (s : Setting). IfOk c.read_one.result (λ outcome. IsOutcome outcome (reads s c.args.text.now)))
+    (called_setting c.args.world.now.0 c.args.mode g.R.Meaning.Meaning.functions (g.R.MacroFunctions.functions c.args.macros.now) _ _ _ _
+    (g.met.R.MacroFunctions.as_meant c.args.macros.now) c.requires.whole (g.met.R.MacroFunctions.known c.args.macros.now c.requires.answers)
+    c.form.ensures c.readtable_in-readtable.ensures c.packages.ensures c.package_in-package.ensures.name) c.read_one.ensures.outcome

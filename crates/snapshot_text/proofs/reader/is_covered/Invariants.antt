@@ -10,5 +10,5 @@ use Rattle.snapshot_text.proofs.reader.is_covered.Given as goal
 abbrev pub invariant-loop-name : goal.invariant-loop-name
 invariant-loop-name g l = record {
   whole : l.name-items ≡ readtable_names l.world.0;
-  covered : list_all (λ n. list_all (is_covered (g.R.MacroFunctions.registered l.macros)) (functions_of (table_named l.world.0 n))) (take l.name-index l.name-items) ≡ true;
+  covered : list_all (λ n. list_all (is_covered (g.R.MacroFunctions.functions l.macros).names) (functions_of (table_named l.world.0 n))) (take l.name-index l.name-items) ≡ true;
 }

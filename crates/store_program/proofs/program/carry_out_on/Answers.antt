@@ -1,5 +1,4 @@
 use Rattle.std.proofs.Common.{◌∙◌, None, ap, refl, subst, sym}
-use Rattle.prevalence_store.specs.Functions.{functions_of}
 use Rattle.store_program.specs.declared.status.Status.{Status}
 use Rattle.store_program.specs.declared.words.Task.{Task}
 use Rattle.store_program.specs.Commands.{TaskBreaksOff, TaskWrites}
@@ -13,14 +12,14 @@ pub returns-in-Ok-clause-written : goal.returns-in-Ok-clause-written
 returns-in-Ok-clause-written g c = λ text held left holds.
     let served = c.in-Ok.ensures.served in
     let written = g.O.Write.contents c.serve_on.new.output in
-    subst (λ (t : Task). TaskWrites (functions_of g.M.Meaning.Meaning.names g.M.Meaning.Meaning.way g.M.Meaning.Meaning.answer) t c.of_ending.result text held written) (sym c.in-Run.is)
-    (subst (λ (s : Status). AnswersInput (functions_of g.M.Meaning.Meaning.names g.M.Meaning.Meaning.way g.M.Meaning.Meaning.answer) c.in-Run.mode s text held written) (sym c.of_ending.ensures)
+    subst (λ (t : Task). TaskWrites g.M.Meaning.Meaning.functions t c.of_ending.result text held written) (sym c.in-Run.is)
+    (subst (λ (s : Status). AnswersInput g.M.Meaning.Meaning.functions c.in-Run.mode s text held written) (sym c.of_ending.ensures)
     (answers_input _ _ _ served.opened served.closed served.is_opened.world _ _ _ _ c.in-Ok.ending served.serves text held left holds))
 
 pub returns-in-Ok-clause-broken : goal.returns-in-Ok-clause-broken
 returns-in-Ok-clause-broken g c = λ text held number left holds is.
     let served = c.in-Ok.ensures.served in
-    subst (λ (t : Task). TaskBreaksOff (functions_of g.M.Meaning.Meaning.names g.M.Meaning.Meaning.way g.M.Meaning.Meaning.answer) t text held (g.O.Write.contents c.serve_on.new.output)) (sym c.in-Run.is)
+    subst (λ (t : Task). TaskBreaksOff g.M.Meaning.Meaning.functions t text held (g.O.Write.contents c.serve_on.new.output)) (sym c.in-Run.is)
     (broken_at _ _ _ served.opened served.closed served.is_opened.world _ _ _ _ c.in-Ok.ending number
     (ending_at c.of_ending.result c.of_ending.result c.in-Ok.ending number refl c.of_ending.ensures is) served.serves text held left holds)
 
@@ -30,12 +29,12 @@ returns-in-Err-clause-broken g c = λ text held number left holds is.
 
 pub returns-in-Ok-report_on-clause-written : goal.returns-in-Ok-report_on-clause-written
 returns-in-Ok-report_on-clause-written g c = λ text held left holds.
-    subst (λ (t : Task). TaskWrites (functions_of g.M.Meaning.Meaning.names g.M.Meaning.Meaning.way g.M.Meaning.Meaning.answer) t c.in-Ok-report_on.status text held (g.O.Write.contents c.report_on.new.output)) (sym c.in-Tell.is)
+    subst (λ (t : Task). TaskWrites g.M.Meaning.Meaning.functions t c.in-Ok-report_on.status text held (g.O.Write.contents c.report_on.new.output)) (sym c.in-Tell.is)
     (report_writes _ _ _ _ _ _ _ _ held holds c.in-Tell.report c.in-Ok-report_on.status text c.in-Ok-report_on.ensures.reports)
 
 pub returns-in-Ok-report_on-clause-broken : goal.returns-in-Ok-report_on-clause-broken
 returns-in-Ok-report_on-clause-broken g c = λ text held number left holds is.
-    subst (λ (t : Task). TaskBreaksOff (functions_of g.M.Meaning.Meaning.names g.M.Meaning.Meaning.way g.M.Meaning.Meaning.answer) t text held (g.O.Write.contents c.report_on.new.output)) (sym c.in-Tell.is)
+    subst (λ (t : Task). TaskBreaksOff g.M.Meaning.Meaning.functions t text held (g.O.Write.contents c.report_on.new.output)) (sym c.in-Tell.is)
     (report_breaks _ _ _ _ _ _ _ _ held holds c.in-Tell.report c.in-Ok-report_on.status number text is c.in-Ok-report_on.ensures.reports)
 
 pub returns-in-Err-report_on-clause-broken : goal.returns-in-Err-report_on-clause-broken

@@ -1,6 +1,5 @@
 use Rattle.std.proofs.Common.{◌∙◌, ℕ, List, [], Option, Some, ap, inl, inr, map, refl, subst, sym}
 use Rattle.clap.specs.Words.{Kinds, kind_of}
-use Rattle.prevalence_store.specs.Functions.{functions_of}
 use Rattle.store_program.specs.declared.words.Task.{Task}
 use Rattle.store_program.specs.CommandLine.{asked_in, faults_of}
 use Rattle.store_program.specs.Commands.{TaskBreaksOff, reads_input}
@@ -88,30 +87,30 @@ returns-clause-read g c = λ text left.
           w.in-Ok.ensures.asked (c.end_with.ensures.status ∙ w.status-is) (ap g.I.Read.remaining w.input-is) (w.carry_out-status.ensures.read text left)
       | in-Err w ↦ moved_read _ _ _ w.answer_words-status.result _ (g.I.Read.remaining c.args.input.now) text
           refl (c.end_with.ensures.status ∙ w.status-is) (ap g.I.Read.remaining w.input-is)
-          (words_unread (functions_of g.M.Meaning.Meaning.names g.M.Meaning.Meaning.way g.M.Meaning.Meaning.answer) text text (Some text) (g.I.Read.remaining c.args.input.now) _ w.answer_words-status.result (λ is. w.answer_words-status.ensures.no_session (inl is)) left)
+          (words_unread g.M.Meaning.Meaning.functions text text (Some text) (g.I.Read.remaining c.args.input.now) _ w.answer_words-status.result (λ is. w.answer_words-status.ensures.no_session (inl is)) left)
     ]
 
 pub returns-clause-written : goal.returns-clause-written
 returns-clause-written g c = λ text held left holds.
     elim c.match-asked_in.branch [
-      | in-Ok w ↦ moved_write (functions_of g.M.Meaning.Meaning.names g.M.Meaning.Meaning.way g.M.Meaning.Meaning.answer) _ (Some (w.in-Ok.asked.folder.now, w.in-Ok.asked.task)) _ w.carry_out-status.result _ (g.O.Write.contents w.carry_out-status.new.output) text held
+      | in-Ok w ↦ moved_write g.M.Meaning.Meaning.functions _ (Some (w.in-Ok.asked.folder.now, w.in-Ok.asked.task)) _ w.carry_out-status.result _ (g.O.Write.contents w.carry_out-status.new.output) text held
           w.in-Ok.ensures.asked (c.end_with.ensures.status ∙ w.status-is) (ap g.O.Write.contents w.output-is) (w.carry_out-status.ensures.written text held left holds)
-      | in-Err w ↦ moved_write (functions_of g.M.Meaning.Meaning.names g.M.Meaning.Meaning.way g.M.Meaning.Meaning.answer) _ _ _ w.answer_words-status.result _ (g.O.Write.contents w.answer_words-status.new.output) text held
+      | in-Err w ↦ moved_write g.M.Meaning.Meaning.functions _ _ _ w.answer_words-status.result _ (g.O.Write.contents w.answer_words-status.new.output) text held
           refl (c.end_with.ensures.status ∙ w.status-is) (ap g.O.Write.contents w.output-is)
-          (words_unwritten (functions_of g.M.Meaning.Meaning.names g.M.Meaning.Meaning.way g.M.Meaning.Meaning.answer) text held (g.O.Write.contents w.answer_words-status.new.output) (Some text) _ w.answer_words-status.result w.answer_words-status.ensures.no_session)
+          (words_unwritten g.M.Meaning.Meaning.functions text held (g.O.Write.contents w.answer_words-status.new.output) (Some text) _ w.answer_words-status.result w.answer_words-status.ensures.no_session)
     ]
 
 pub returns-clause-broken : goal.returns-clause-broken
 returns-clause-broken g c = λ folder text held task number taken left holds is.
     elim c.match-asked_in.branch [
       | in-Ok w ↦
-          subst (λ (o : Option (List ℕ)). TaskBreaksOff (functions_of g.M.Meaning.Meaning.names g.M.Meaning.Meaning.way g.M.Meaning.Meaning.answer) task text held o) (ap g.O.Write.contents (sym w.output-is))
-          (subst (λ (t : Task). TaskBreaksOff (functions_of g.M.Meaning.Meaning.names g.M.Meaning.Meaning.way g.M.Meaning.Meaning.answer) t text held (g.O.Write.contents w.carry_out-status.new.output))
+          subst (λ (o : Option (List ℕ)). TaskBreaksOff g.M.Meaning.Meaning.functions task text held o) (ap g.O.Write.contents (sym w.output-is))
+          (subst (λ (t : Task). TaskBreaksOff g.M.Meaning.Meaning.functions t text held (g.O.Write.contents w.carry_out-status.new.output))
           (same_task (asked_in (map g.S.AsStr.text c.args.words.now)) w.in-Ok.asked.folder.now folder w.in-Ok.asked.task task w.in-Ok.ensures.asked taken.1)
           (w.carry_out-status.ensures.broken text held number left holds (sym (c.end_with.ensures.status ∙ w.status-is) ∙ is)))
       | in-Err w ↦
           let memory = only_memory (faults_of (map g.S.AsStr.text c.args.words.now)) (kind_of w.in-Err.error) taken.0 w.in-Err.ensures.faults in
           let ended = memory_at c.end_with.result w.answer_words-status.result (kind_of w.in-Err.error) (c.end_with.ensures.status ∙ w.status-is) memory w.answer_words-status.ensures.status in
-          nothing_of (functions_of g.M.Meaning.Meaning.names g.M.Meaning.Meaning.way g.M.Meaning.Meaning.answer) text held _ (Some text) task
+          nothing_of g.M.Meaning.Meaning.functions text held _ (Some text) task
           (ap g.O.Write.contents (w.output-is ∙ w.answer_words-status.ensures.memory (sym (c.end_with.ensures.status ∙ w.status-is) ∙ ended)) ∙ holds)
     ]

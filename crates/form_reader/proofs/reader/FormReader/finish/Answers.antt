@@ -9,5 +9,5 @@ returns-in-Refused-clause-outcome g c = λ bytes after. refused_finishes _ c.arg
 pub returns-in-Open-clause-needs : goal.returns-in-Open-clause-needs
 returns-in-Open-clause-needs g c =
     let setting = setting_of c.args.self.limits c.args.readtable.now c.args.packages.now.0 c.args.current.now
-    (g.R.MacroFunctions.registered c.args.macros.now) g.R.Meaning.Meaning.way g.R.Meaning.Meaning.answer in
+    (g.R.MacroFunctions.functions c.args.macros.now) in
     end_runs_out setting c.args.self c.in-Open.stage c.last_outcome.result c.in-Open.is c.last_outcome.ensures.memory

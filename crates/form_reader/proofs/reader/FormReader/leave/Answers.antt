@@ -1,7 +1,7 @@
 use Rattle.std.proofs.Common.{◌≡◌, [], sym, subst, ◌∙◌, refl}
 use Rattle.form_reader.specs.declared.reader.State.{State}
 use Rattle.form_reader.specs.declared.reader.Step.TheVariants.{More as StepMore}
-use Rattle.form_reader.specs.Surrounding.{setting_with}
+use Rattle.form_reader.specs.Surrounding.{setting}
 use Rattle.form_reader.specs.Reader.{IsAfterIn}
 use Rattle.form_reader.proofs.Between.{leaves_between, anew_between}
 use Rattle.form_reader.proofs.ReaderSteps.{stepped, runs_out, left_space}
@@ -10,21 +10,21 @@ use Rattle.form_reader.proofs.reader.FormReader.leave.Goals as goal
 
 pub returns-in_err-next-in-Open-clause-needs : goal.returns-in_err-next-in-Open-clause-needs
 returns-in_err-next-in-Open-clause-needs g c = λ bytes after.
-    let setting = setting_with (g.R.MacroFunctions.registered c.args.with.now.macros.now) g.R.Meaning.Meaning.way g.R.Meaning.Meaning.answer c.args.with.now in
+    let setting = setting g.R.MacroFunctions.functions c.args.with.now in
     let open_there = sym c.replace.ensures.value ∙ c.in-Open.is in
     held c.from_residual.result _ (runs_out setting c.args.self.now c.in-Open.stage bytes c.args.byte open_there after c.in_err-next-in-Open.ensures.memory
     (left_space setting c.args.self.now c.args.byte c.in-Open.stage open_there c.requires.left))
 
 pub returns-clause-steps : goal.returns-clause-steps
 returns-clause-steps g c = λ bytes after.
-    let setting = setting_with (g.R.MacroFunctions.registered c.args.with.now.macros.now) g.R.Meaning.Meaning.way g.R.Meaning.Meaning.answer c.args.with.now in
+    let setting = setting g.R.MacroFunctions.functions c.args.with.now in
     stepped setting c.args.self.now _ c.take.new.self c.in-Open.stage bytes c.args.byte c.take_byte.new.frames c.in_ok-next-in-Open.next c.take.result
     (subst (λ (s : State). IsAfterIn setting c.args.self.now s bytes) (sym c.replace.ensures.value ∙ c.in-Open.is) after)
     c.in_ok-next-in-Open.ensures.turns c.in_ok-next-in-Open.ensures.ready c.take.ensures.takes refl
 
 pub returns-clause-between_forms : goal.returns-clause-between_forms
 returns-clause-between_forms g c =
-    let setting = setting_with (g.R.MacroFunctions.registered c.args.with.now.macros.now) g.R.Meaning.Meaning.way g.R.Meaning.Meaning.answer c.args.with.now in
+    let setting = setting g.R.MacroFunctions.functions c.args.with.now in
     leaves_between setting _ c.take.new.self c.take_byte.new.frames c.in_ok-next-in-Open.next c.take.result _ (c.in_ok-next-in-Open.ensures.turns []) c.take.ensures.takes refl
 
 pub returns-clause-nothing_open : goal.returns-clause-nothing_open

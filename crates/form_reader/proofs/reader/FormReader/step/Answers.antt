@@ -13,7 +13,7 @@ use Rattle.form_reader.proofs.reader.FormReader.step.Goals as goal
 pub returns-in-Ok-Taken-clause-steps : goal.returns-in-Ok-Taken-clause-steps
 returns-in-Ok-Taken-clause-steps g c = λ bytes after.
     let setting = setting_of c.args.self.now.limits c.args.readtable.now c.args.packages.now.0 c.args.current.now
-    (g.R.MacroFunctions.registered c.args.macros.now) g.R.Meaning.Meaning.way g.R.Meaning.Meaning.answer in
+    (g.R.MacroFunctions.functions c.args.macros.now) in
     went_on setting c.args.self.now c.args.self.now c.args.self.now c.in-Open.stage bytes c.args.byte c.args.self.now.frames c.in_place.new.stage
     (subst (λ (s : State). IsAfterIn setting c.args.self.now s bytes) c.in-Open.is after)
     (λ cs. taken_there setting c.args.self.now.frames c.args.self.now.start c.args.self.now.at c.args.byte c.in-Open.stage c.in_place.new.stage c.in-Ok-Taken.field-0 cs c.in-Ok-Taken.field-0-is (c.in-Ok-Taken.ensures.feeds cs))
@@ -23,7 +23,7 @@ returns-in-Ok-Taken-clause-steps g c = λ bytes after.
 pub returns-in-Ok-Passed-clause-steps : goal.returns-in-Ok-Passed-clause-steps
 returns-in-Ok-Passed-clause-steps g c = λ bytes after.
     let setting = setting_of c.args.self.now.limits c.args.readtable.now c.args.packages.now.0 c.args.current.now
-    (g.R.MacroFunctions.registered c.args.macros.now) g.R.Meaning.Meaning.way g.R.Meaning.Meaning.answer in
+    (g.R.MacroFunctions.functions c.args.macros.now) in
     went_past setting c.args.self.now c.args.self.now c.args.self.now c.in-Open.stage bytes c.args.byte c.args.self.now.frames c.in_place.new.stage
     (subst (λ (s : State). IsAfterIn setting c.args.self.now s bytes) c.in-Open.is after)
     (λ cs. passed_there setting c.args.self.now.frames c.args.self.now.start c.args.self.now.at c.args.byte c.in-Open.stage c.in_place.new.stage c.in-Ok-Passed.field-0 cs c.in-Ok-Passed.field-0-is (c.in-Ok-Passed.ensures.feeds cs))
@@ -33,7 +33,7 @@ returns-in-Ok-Passed-clause-steps g c = λ bytes after.
 pub returns-in-Ok-Refused-clause-steps : goal.returns-in-Ok-Refused-clause-steps
 returns-in-Ok-Refused-clause-steps g c = λ bytes after.
     let setting = setting_of c.args.self.now.limits c.args.readtable.now c.args.packages.now.0 c.args.current.now
-    (g.R.MacroFunctions.registered c.args.macros.now) g.R.Meaning.Meaning.way g.R.Meaning.Meaning.answer in (
+    (g.R.MacroFunctions.functions c.args.macros.now) in (
       gave_up setting c.args.self.now c.args.self.now c.args.self.now c.in-Open.stage bytes c.args.byte c.args.self.now.frames c.in-Ok-Refused.code (c.args.self.now.start + c.args.self.now.at)
           (subst (λ (s : State). IsAfterIn setting c.args.self.now s bytes) c.in-Open.is after)
           (λ cs. refused_there setting c.args.self.now.frames c.args.self.now.start c.args.self.now.at c.args.byte c.in-Open.stage c.in_place.new.stage c.in-Ok-Refused.field-0 c.in-Ok-Refused.code cs c.in-Ok-Refused.field-0-is (c.in-Ok-Refused.ensures.feeds cs)),
@@ -43,40 +43,40 @@ returns-in-Ok-Refused-clause-steps g c = λ bytes after.
 pub returns-in-Err-clause-needs : goal.returns-in-Err-clause-needs
 returns-in-Err-clause-needs g c = λ bytes after.
     let setting = setting_of c.args.self.now.limits c.args.readtable.now c.args.packages.now.0 c.args.current.now
-    (g.R.MacroFunctions.registered c.args.macros.now) g.R.Meaning.Meaning.way g.R.Meaning.Meaning.answer in
+    (g.R.MacroFunctions.functions c.args.macros.now) in
     runs_out setting c.args.self.now c.in-Open.stage bytes c.args.byte c.in-Open.is after c.in-Err.ensures.memory c.in-Err.ensures.space
 
 pub returns-in-OutOfMemory-clause-needs : goal.returns-in-OutOfMemory-clause-needs
 returns-in-OutOfMemory-clause-needs g c = λ bytes after.
     let setting = setting_of c.args.self.now.limits c.args.readtable.now c.args.packages.now.0 c.args.current.now
-    (g.R.MacroFunctions.registered c.args.macros.now) g.R.Meaning.Meaning.way g.R.Meaning.Meaning.answer in
+    (g.R.MacroFunctions.functions c.args.macros.now) in
     ran_out setting c.args.self.now bytes c.args.byte c.in-OutOfMemory.is
 
 pub leave-requires-clause-left : goal.leave-requires-clause-left
 leave-requires-clause-left g c =
     let setting = setting_of c.args.self.now.limits c.args.readtable.now c.args.packages.now.0 c.args.current.now
-    (g.R.MacroFunctions.registered c.args.macros.now) g.R.Meaning.Meaning.way g.R.Meaning.Meaning.answer in
+    (g.R.MacroFunctions.functions c.args.macros.now) in
     let stays = left_there setting c.args.self.now.frames c.args.self.now.start c.args.self.now.at c.args.byte c.in-Open.stage c.in_place.new.stage c.in-Ok-Left.field-0 [] c.in-Ok-Left.field-0-is (c.in-Ok-Left.ensures.feeds []) in
     (c.in_place.new.stage, refl, stage_space setting c.args.self.now.frames c.args.self.now.at c.args.byte c.in_place.new.stage c.in-Open.stage stays (c.in-Ok-Left.ensures.left (ap Ok c.in-Ok-Left.field-0-is)))
 
 pub invariant_of-self-in-Ok-Left : goal.invariant_of-self-in-Ok-Left
 invariant_of-self-in-Ok-Left g c =
     let setting = setting_of c.args.self.now.limits c.args.readtable.now c.args.packages.now.0 c.args.current.now
-    (g.R.MacroFunctions.registered c.args.macros.now) g.R.Meaning.Meaning.way g.R.Meaning.Meaning.answer in
+    (g.R.MacroFunctions.functions c.args.macros.now) in
     let stays = left_there setting c.args.self.now.frames c.args.self.now.start c.args.self.now.at c.args.byte c.in-Open.stage c.in_place.new.stage c.in-Ok-Left.field-0 [] c.in-Ok-Left.field-0-is (c.in-Ok-Left.ensures.feeds []) in
     record { standing = subst (λ (s : State). IsTrue (is_standing c.args.self.now.limits c.args.self.now.frames c.args.self.now.at s)) (c.in-Open.is ∙ ap Open (sym stays)) c.args.self.now.standing }
 
 pub returns-in-Ok-Left-clause-steps : goal.returns-in-Ok-Left-clause-steps
 returns-in-Ok-Left-clause-steps g c = λ bytes after.
     let setting = setting_of c.args.self.now.limits c.args.readtable.now c.args.packages.now.0 c.args.current.now
-    (g.R.MacroFunctions.registered c.args.macros.now) g.R.Meaning.Meaning.way g.R.Meaning.Meaning.answer in
+    (g.R.MacroFunctions.functions c.args.macros.now) in
     let stays = left_there setting c.args.self.now.frames c.args.self.now.start c.args.self.now.at c.args.byte c.in-Open.stage c.in_place.new.stage c.in-Ok-Left.field-0 [] c.in-Ok-Left.field-0-is (c.in-Ok-Left.ensures.feeds []) in
     c.leave.ensures.steps bytes (subst (λ (s : State). IsAfterIn setting c.args.self.now s bytes) (c.in-Open.is ∙ ap Open (sym stays)) after)
 
 pub returns-in-Ok-Left-clause-needs : goal.returns-in-Ok-Left-clause-needs
 returns-in-Ok-Left-clause-needs g c = λ bytes after.
     let setting = setting_of c.args.self.now.limits c.args.readtable.now c.args.packages.now.0 c.args.current.now
-    (g.R.MacroFunctions.registered c.args.macros.now) g.R.Meaning.Meaning.way g.R.Meaning.Meaning.answer in
+    (g.R.MacroFunctions.functions c.args.macros.now) in
     let stays = left_there setting c.args.self.now.frames c.args.self.now.start c.args.self.now.at c.args.byte c.in-Open.stage c.in_place.new.stage c.in-Ok-Left.field-0 [] c.in-Ok-Left.field-0-is (c.in-Ok-Left.ensures.feeds []) in
     let open_there = c.in-Open.is ∙ ap Open (sym stays) in
     subst (λ (s : State). OnErr c.leave.result (MayRunOutIn setting c.args.self.now s bytes c.args.byte)) (sym open_there)

@@ -1,6 +1,5 @@
 use Rattle.std.proofs.Common.{◌+◌, ◌++◌, take, sym, subst, arith}
 use Rattle.std.proofs.lemmas.List.{take_more}
-use Rattle.prevalence_store.specs.Functions.{functions_of}
 use Rattle.prevalence_store.specs.Pending.{Feeds}
 use Rattle.prevalence_store.specs.declared.input.Fed.{Fed}
 use Rattle.prevalence_store.proofs.Pendings.{piece_more}
@@ -13,7 +12,7 @@ bytes-preserved g c =
       taken = let same = invariant.taken in omega arith;
       count = let one = c.in_ok-fed.ensures.count in let so_far = invariant.count in omega arith;
       goes = λ bytes p.
-          let functions = functions_of g.R.Meaning.Meaning.names g.R.Meaning.Meaning.way g.R.Meaning.Meaning.answer in
+          let functions = g.R.Meaning.Meaning.functions in
           let piece = c.args.piece.now in
           let k = c.bytes.byte-index in
           subst (λ (f : Fed). Feeds functions c.args.world.now.0 c.args.mode c.feed_byte.new.self (bytes ++ take (k + 1) piece) f) c.in-Nothing.is
@@ -30,7 +29,7 @@ returns-in_default g c =
     let same = invariant.taken in
     record {
       feeds = λ bytes p.
-          let functions = functions_of g.R.Meaning.Meaning.names g.R.Meaning.Meaning.way g.R.Meaning.Meaning.answer in
+          let functions = g.R.Meaning.Meaning.functions in
           let piece = c.args.piece.now in
           let k = c.bytes.byte-index in
           subst (λ n. Feeds functions c.args.world.now.0 c.args.mode c.feed_byte.new.self (bytes ++ take (n + 1) piece) c.in_ok-fed.fed) (sym same)

@@ -1,6 +1,5 @@
 use Rattle.std.proofs.Common.{◌≡◌, ℕ, ◌+◌, ◌≤◌, List, ◌++◌, take}
 use Rattle.form_reader.specs.Reader.{fed}
-use Rattle.prevalence_store.specs.Functions.{functions_of}
 use Rattle.prevalence_store.specs.Pending.{IsPending}
 use Rattle.prevalence_store.proofs.input.Pending.feed.Given as goal
 
@@ -10,6 +9,6 @@ invariant-bytes g l = record {
   taken : l.taken ≡ l.byte-index;
   count : fed l.self.reader ≤ fed l.fn.self.reader + l.byte-index;
   goes : (bytes : List ℕ)
-      → IsPending (functions_of g.R.Meaning.Meaning.names g.R.Meaning.Meaning.way g.R.Meaning.Meaning.answer) l.world.0 l.mode l.fn.self bytes
-      → IsPending (functions_of g.R.Meaning.Meaning.names g.R.Meaning.Meaning.way g.R.Meaning.Meaning.answer) l.world.0 l.mode l.self (bytes ++ take l.byte-index l.piece);
+      → IsPending g.R.Meaning.Meaning.functions l.world.0 l.mode l.fn.self bytes
+      → IsPending g.R.Meaning.Meaning.functions l.world.0 l.mode l.self (bytes ++ take l.byte-index l.piece);
 }

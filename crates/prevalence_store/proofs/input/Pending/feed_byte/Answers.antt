@@ -1,11 +1,10 @@
 use Rattle.std.proofs.Common.{◌∷◌, [], ◌++◌, refl, ◌∙◌, arith}
-use Rattle.prevalence_store.specs.Functions.{functions_of}
 use Rattle.prevalence_store.proofs.Pendings.{fed_places, has_form, kept_count, kept_more, dropped_within}
 use Rattle.prevalence_store.proofs.input.Pending.feed_byte.Goals as goal
 
 pub own_text-requires-clause-order : goal.own_text-requires-clause-order
 own_text-requires-clause-order g c =
-    let functions = functions_of g.R.Meaning.Meaning.names g.R.Meaning.Meaning.way g.R.Meaning.Meaning.answer in
+    let functions = g.R.Meaning.Meaning.functions in
     let p = c.requires.pending in
     let f = c.in-Form in
     let places = fed_places functions c.args.world.now.0 c.args.mode c.args.self.now p.0 p.1 c.args.byte c.step_in.new.reader c.in_ok-step_in.field-0 f.datum f.start f.end f.next f.is
@@ -14,7 +13,7 @@ own_text-requires-clause-order g c =
 
 pub own_text-requires-clause-within : goal.own_text-requires-clause-within
 own_text-requires-clause-within g c =
-    let functions = functions_of g.R.Meaning.Meaning.names g.R.Meaning.Meaning.way g.R.Meaning.Meaning.answer in
+    let functions = g.R.Meaning.Meaning.functions in
     let p = c.requires.pending in
     let f = c.in-Form in
     let places = fed_places functions c.args.world.now.0 c.args.mode c.args.self.now p.0 p.1 c.args.byte c.step_in.new.reader c.in_ok-step_in.field-0 f.datum f.start f.end f.next f.is
@@ -23,7 +22,7 @@ own_text-requires-clause-within g c =
 
 pub returns-in_ok-own-in-Form-clause-feeds : goal.returns-in_ok-own-in-Form-clause-feeds
 returns-in_ok-own-in-Form-clause-feeds g c = λ bytes p.
-    let functions = functions_of g.R.Meaning.Meaning.names g.R.Meaning.Meaning.way g.R.Meaning.Meaning.answer in
+    let functions = g.R.Meaning.Meaning.functions in
     let w = c.args.world.now.0 in
     let f = c.in-Form in
     let steps = c.in_ok-step_in.ensures.steps bytes p.after in

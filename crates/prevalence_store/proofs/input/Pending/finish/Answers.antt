@@ -1,14 +1,13 @@
 use Rattle.std.proofs.Common.{arith}
 use Rattle.lisp_object.specs.Datum.{object_of}
 use Rattle.prevalence_store.specs.Acceptance.{read_in}
-use Rattle.prevalence_store.specs.Functions.{functions_of}
 use Rattle.prevalence_store.proofs.Executing.{form_read}
 use Rattle.prevalence_store.proofs.Pendings.{kept_count, last_places}
 use Rattle.prevalence_store.proofs.input.Pending.finish.Goals as goal
 
 pub own_text-requires-clause-kept : goal.own_text-requires-clause-kept
 own_text-requires-clause-kept g c =
-    let functions = functions_of g.R.Meaning.Meaning.names g.R.Meaning.Meaning.way g.R.Meaning.Meaning.answer in
+    let functions = g.R.Meaning.Meaning.functions in
     let w = c.args.world.now.0 in
     let p = c.requires.pending in
     let f = c.in-Form in
@@ -17,7 +16,7 @@ own_text-requires-clause-kept g c =
 
 pub own_text-requires-clause-order : goal.own_text-requires-clause-order
 own_text-requires-clause-order g c =
-    let functions = functions_of g.R.Meaning.Meaning.names g.R.Meaning.Meaning.way g.R.Meaning.Meaning.answer in
+    let functions = g.R.Meaning.Meaning.functions in
     let w = c.args.world.now.0 in
     let p = c.requires.pending in
     let f = c.in-Form in
@@ -26,7 +25,7 @@ own_text-requires-clause-order g c =
 
 pub own_text-requires-clause-within : goal.own_text-requires-clause-within
 own_text-requires-clause-within g c =
-    let functions = functions_of g.R.Meaning.Meaning.names g.R.Meaning.Meaning.way g.R.Meaning.Meaning.answer in
+    let functions = g.R.Meaning.Meaning.functions in
     let w = c.args.world.now.0 in
     let p = c.requires.pending in
     let f = c.in-Form in

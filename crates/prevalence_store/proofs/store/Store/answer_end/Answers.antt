@@ -1,6 +1,5 @@
 use Rattle.std.proofs.Common.{refl, sym, subst}
 use Rattle.lisp_object.specs.Datum.{object_of}
-use Rattle.prevalence_store.specs.Functions.{functions_of}
 use Rattle.prevalence_store.specs.Pending.{Finishes, IsSoundFed}
 use Rattle.prevalence_store.specs.declared.input.Fed.{Fed}
 use Rattle.prevalence_store.specs.Turns.{pace_of}
@@ -11,7 +10,7 @@ use Rattle.prevalence_store.proofs.store.Store.answer_end.Goals as goal
 
 pub returns-in-Err-clause-serves : goal.returns-in-Err-clause-serves
 returns-in-Err-clause-serves g c = λ w known bytes p.
-    let functions = functions_of g.R.Meaning.Meaning.names g.R.Meaning.Meaning.way g.R.Meaning.Meaning.answer in
+    let functions = g.R.Meaning.Meaning.functions in
     let held = g.W.Write.contents c.args.writer.now in (
       no_memory functions g.D.Disk.state g.met.D.Disk.sound c.args.self.now c.args.self.now w c.args.mode bytes held held known refl refl,
       no_memory_paced functions g.D.Disk.state g.met.D.Disk.sound c.args.self.now c.args.self.now w c.args.mode bytes held held known refl refl (pace_of c.args.schedule.now),
@@ -19,7 +18,7 @@ returns-in-Err-clause-serves g c = λ w known bytes p.
 
 pub returns-in-Nothing-clause-serves : goal.returns-in-Nothing-clause-serves
 returns-in-Nothing-clause-serves g c = λ w known bytes p.
-    let functions = functions_of g.R.Meaning.Meaning.names g.R.Meaning.Meaning.way g.R.Meaning.Meaning.answer in
+    let functions = g.R.Meaning.Meaning.functions in
     let held = g.W.Write.contents c.args.writer.now in
     let nothing_left = sym (subst (λ (f : Fed). Finishes functions w c.args.mode bytes f) c.in-Nothing.is (c.in-Ok.ensures.finishes w known bytes p)) in (
       done functions g.D.Disk.state g.met.D.Disk.sound c.args.self.now c.args.self.now w c.args.mode bytes held held known refl refl nothing_left,
@@ -28,7 +27,7 @@ returns-in-Nothing-clause-serves g c = λ w known bytes p.
 
 pub returns-in-Refused-clause-serves : goal.returns-in-Refused-clause-serves
 returns-in-Refused-clause-serves g c = λ w known bytes p.
-    let functions = functions_of g.R.Meaning.Meaning.names g.R.Meaning.Meaning.way g.R.Meaning.Meaning.answer in
+    let functions = g.R.Meaning.Meaning.functions in
     let told = subst (λ (f : Fed). Finishes functions w c.args.mode bytes f) c.in-Refused.is (c.in-Ok.ensures.finishes w known bytes p) in (
       fault_answered functions g.D.Disk.state g.met.D.Disk.sound c.args.self.now c.answer_fault.new.self w c.args.mode bytes
           (g.W.Write.contents c.args.writer.now) (g.W.Write.contents c.answer_fault.new.writer) known c.in-Refused.code told.0 told.1
@@ -43,7 +42,7 @@ answer_form-requires g c = record {
   form = record {
     known = c.requires.known;
     read = λ w known.
-        let functions = functions_of g.R.Meaning.Meaning.names g.R.Meaning.Meaning.way g.R.Meaning.Meaning.answer in
+        let functions = g.R.Meaning.Meaning.functions in
         let p = c.requires.pending w known in
         let f = c.in-Form in
         let last = subst (λ (fed : Fed). Finishes functions w c.args.mode p.0 fed) f.is (c.in-Ok.ensures.finishes w known p.0 p.1) in
@@ -55,7 +54,7 @@ answer_form-requires g c = record {
 
 pub returns-in-Some-clause-serves : goal.returns-in-Some-clause-serves
 returns-in-Some-clause-serves g c = λ w known bytes p.
-    let functions = functions_of g.R.Meaning.Meaning.names g.R.Meaning.Meaning.way g.R.Meaning.Meaning.answer in
+    let functions = g.R.Meaning.Meaning.functions in
     let f = c.in-Form in
     let last = subst (λ (fed : Fed). Finishes functions w c.args.mode bytes fed) f.is (c.in-Ok.ensures.finishes w known bytes p) in
     let stops = c.in-Some.ensures.answers w known bytes _
@@ -64,7 +63,7 @@ returns-in-Some-clause-serves g c = λ w known bytes p.
 
 pub returns-clause-serves : goal.returns-clause-serves
 returns-clause-serves g c = λ w known bytes p.
-    let functions = functions_of g.R.Meaning.Meaning.names g.R.Meaning.Meaning.way g.R.Meaning.Meaning.answer in
+    let functions = g.R.Meaning.Meaning.functions in
     let f = c.in-Form in
     let last = subst (λ (fed : Fed). Finishes functions w c.args.mode bytes fed) f.is (c.in-Ok.ensures.finishes w known bytes p) in
     let answered = c.in-None.ensures.answers w known bytes _

@@ -1,6 +1,5 @@
 use Rattle.std.proofs.Common.{[], ◌++◌, ◌-◌, ◌≡◌, take, drop, length, is_some, refl, sym, ap, subst, ◌∙◌, arith, length-drop}
 use Rattle.prevalence_store.specs.declared.turn.Turn.TheVariants.{Ended, Taken}
-use Rattle.prevalence_store.specs.Functions.{functions_of}
 use Rattle.prevalence_store.specs.Turns.{GoesOn, pace_of}
 use Rattle.prevalence_store.proofs.Answering.{extended, nothing_answered, turn_both}
 use Rattle.prevalence_store.proofs.Executing.{known_world}
@@ -14,7 +13,7 @@ turns-init g c = record {
   macros = refl;
   count = omega arith;
   goes = λ w known bytes p.
-      let functions = functions_of g.R.Meaning.Meaning.names g.R.Meaning.Meaning.way g.R.Meaning.Meaning.answer in
+      let functions = g.R.Meaning.Meaning.functions in
       let held = g.W.Write.contents c.args.writer.now in
       let pace = pace_of c.args.schedule.now in
       extended functions g.D.Disk.state pace pace c.args.self.now c.args.self.now w c.args.mode bytes held held c.args.pending.now [] c.args.piece.now
@@ -23,7 +22,7 @@ turns-init g c = record {
 
 pub turns-preserved : goal.turns-preserved
 turns-preserved g c =
-    let functions = functions_of g.R.Meaning.Meaning.names g.R.Meaning.Meaning.way g.R.Meaning.Meaning.answer in
+    let functions = g.R.Meaning.Meaning.functions in
     let rest = c.turns.rest.now in
     let n = c.in-Taken.count in
     let behind : take (length rest - n) (drop n rest) ≡ drop n rest = behind_piece rest n in
@@ -55,7 +54,7 @@ turns-preserved g c =
 
 pub returns-in-Ended-clause-answers : goal.returns-in-Ended-clause-answers
 returns-in-Ended-clause-answers g c = λ w known bytes p.
-    let functions = functions_of g.R.Meaning.Meaning.names g.R.Meaning.Meaning.way g.R.Meaning.Meaning.answer in
+    let functions = g.R.Meaning.Meaning.functions in
     let first = c.turns.invariant.goes w known bytes p in
     turn_both functions g.D.Disk.state g.met.D.Disk.sound (pace_of c.args.schedule.now) (pace_of c.turns.schedule) (pace_of c.turn.new.schedule) c.args.self.now c.turns.self c.turn.new.self w c.args.mode
     (g.W.Write.contents c.args.writer.now) (g.W.Write.contents c.turns.writer) (g.W.Write.contents c.turn.new.writer) c.turns.pending c.turns.invariant.honest

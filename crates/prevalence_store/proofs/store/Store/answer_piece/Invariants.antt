@@ -1,7 +1,6 @@
 use Rattle.std.proofs.Common.{◌≡◌, ℕ, ◌+◌, ◌≤◌, List, ◌++◌, length, Some, IsSome}
 use Rattle.plist_state.specs.State.{State as World}
 use Rattle.form_reader.specs.Reader.{fed}
-use Rattle.prevalence_store.specs.Functions.{functions_of}
 use Rattle.prevalence_store.specs.Pending.{IsPending}
 use Rattle.prevalence_store.specs.Turns.{GoesOn, pace_of}
 use Rattle.prevalence_store.proofs.Answering.{to_take}
@@ -15,8 +14,8 @@ invariant-turns g l = record {
   macros : l.self.macros ≡ l.fn.self.macros;
   count : fed l.pending.reader + length l.rest ≤ fed l.fn.pending.reader + length l.piece;
   goes : (w : World) → l.fn.self.world ≡ Some w → (bytes : List ℕ)
-      → IsPending (functions_of g.R.Meaning.Meaning.names g.R.Meaning.Meaning.way g.R.Meaning.Meaning.answer) w l.mode l.fn.pending bytes
-      → GoesOn (functions_of g.R.Meaning.Meaning.names g.R.Meaning.Meaning.way g.R.Meaning.Meaning.answer) g.D.Disk.state (pace_of l.fn.schedule) (pace_of l.schedule) l.fn.self l.self w l.mode (bytes ++ l.piece)
+      → IsPending g.R.Meaning.Meaning.functions w l.mode l.fn.pending bytes
+      → GoesOn g.R.Meaning.Meaning.functions g.D.Disk.state (pace_of l.fn.schedule) (pace_of l.schedule) l.fn.self l.self w l.mode (bytes ++ l.piece)
       (g.W.Write.contents l.fn.writer) (g.W.Write.contents l.writer) l.pending l.rest;
 }
 

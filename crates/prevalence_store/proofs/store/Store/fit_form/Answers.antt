@@ -1,5 +1,4 @@
 use Rattle.std.proofs.Common.{Err, ap, subst, sym, ◌∙◌}
-use Rattle.prevalence_store.specs.Functions.{functions_of}
 use Rattle.prevalence_store.specs.Serving.{IsOver}
 use Rattle.prevalence_store.specs.Session.{Session}
 use Rattle.prevalence_store.proofs.Renewing.{fits_at_once, fits_from, renewal_stops, stops_at_once, tried_after}
@@ -7,20 +6,20 @@ use Rattle.prevalence_store.proofs.store.Store.fit_form.Goals as goal
 
 pub returns-in-Ok-clause-fits : goal.returns-in-Ok-clause-fits
 returns-in-Ok-clause-fits g c = λ w known text next begins.
-    let functions = functions_of g.R.Meaning.Meaning.names g.R.Meaning.Meaning.way g.R.Meaning.Meaning.answer in
+    let functions = g.R.Meaning.Meaning.functions in
     fits_at_once functions g.D.Disk.state g.met.D.Disk.sound c.args.self.now c.try_form.new.self c.try_form.new.self w c.args.mode text
     (g.W.Write.contents c.args.writer.now) (g.W.Write.contents c.try_form.new.writer) c.try_form.ensures.honest c.in-Ok.wrote (c.in-Ok.ensures.tries w known text next begins)
 
 pub returns-then-number-ne-LOG_FULL-clause-fits : goal.returns-then-number-ne-LOG_FULL-clause-fits
 returns-then-number-ne-LOG_FULL-clause-fits g c = λ w known text next begins.
-    let functions = functions_of g.R.Meaning.Meaning.names g.R.Meaning.Meaning.way g.R.Meaning.Meaning.answer in
+    let functions = g.R.Meaning.Meaning.functions in
     stops_at_once functions g.D.Disk.state g.met.D.Disk.sound c.args.self.now c.try_form.new.self c.try_form.new.self w c.args.mode text
     (g.W.Write.contents c.args.writer.now) (g.W.Write.contents c.try_form.new.writer) c.try_form.ensures.honest c.in-Err.number
     ((c.in-Err.ensures.tries w known text next begins).1 c.if-number-ne-LOG_FULL.true)
 
 pub returns-in-Err-renew-clause-fits : goal.returns-in-Err-renew-clause-fits
 returns-in-Err-renew-clause-fits g c = λ w known text next begins.
-    let functions = functions_of g.R.Meaning.Meaning.names g.R.Meaning.Meaning.way g.R.Meaning.Meaning.answer in
+    let functions = g.R.Meaning.Meaning.functions in
     let full = c.if-number-ne-LOG_FULL.false in
     let same = c.in-Err.ensures.unchanged full in
     let here = ap (λ (s : Session g.row.D.Denot g.row.R.Denot). s.world) same ∙ known in
@@ -33,7 +32,7 @@ returns-in-Err-renew-clause-fits g c = λ w known text next begins.
 
 pub returns-in_default-clause-fits : goal.returns-in_default-clause-fits
 returns-in_default-clause-fits g c = λ w known text next begins.
-    let functions = functions_of g.R.Meaning.Meaning.names g.R.Meaning.Meaning.way g.R.Meaning.Meaning.answer in
+    let functions = g.R.Meaning.Meaning.functions in
     let full = c.if-number-ne-LOG_FULL.false in
     let same = c.in-Err.ensures.unchanged full in
     let here = ap (λ (s : Session g.row.D.Denot g.row.R.Denot). s.world) same ∙ known in

@@ -7,14 +7,13 @@ use Rattle.prevalence_store.specs.declared.outcome.Outcome.{Outcome}
 use Rattle.prevalence_store.specs.declared.step.Step.{Step}
 use Rattle.prevalence_store.specs.declared.mode.Mode.TheVariants.{Current}
 use Rattle.prevalence_store.specs.declared.step.Step.TheVariants.{Form}
-use Rattle.prevalence_store.specs.Functions.{functions_of}
 use Rattle.prevalence_store.specs.Runs.{TakesSteps}
 use Rattle.prevalence_store.proofs.Running.{steps_more, steps_survive}
 use Rattle.prevalence_store.proofs.store.Store.run.Goals as goal
 
 pub steps-preserved : goal.steps-preserved
 steps-preserved g c =
-    let functions = functions_of g.R.Meaning.Meaning.names g.R.Meaning.Meaning.way g.R.Meaning.Meaning.answer in
+    let functions = g.R.Meaning.Meaning.functions in
     let k = c.steps.step-index in
     let so_far = c.steps.invariant in
     record {
@@ -37,7 +36,7 @@ steps-preserved g c =
 
 pub returns-clause-survives : goal.returns-clause-survives
 returns-clause-survives g c = λ w.
-    let functions = functions_of g.R.Meaning.Meaning.names g.R.Meaning.Meaning.way g.R.Meaning.Meaning.answer in
+    let functions = g.R.Meaning.Meaning.functions in
     let index_end = c.steps-test.false in
     steps_survive functions g.D.Disk.state g.met.D.Disk.sound c.args.self.now c.steps.self c.args.steps.now c.steps.outcomes.items
     (subst (λ (steps : List Step). TakesSteps functions g.D.Disk.state c.args.self.now c.steps.self steps c.steps.outcomes.items)

@@ -1,14 +1,13 @@
 use Rattle.std.proofs.Common.{◌≡◌, length, take, vec_capacity, vec_len}
 use Rattle.std.specs.List.{All}
 use Rattle.prevalence_store.specs.Execution.{IsProperOutcome}
-use Rattle.prevalence_store.specs.Functions.{functions_of}
 use Rattle.prevalence_store.specs.Runs.{TakesSteps}
 use Rattle.prevalence_store.proofs.store.Store.run.Given as goal
 
 -- the steps so far have their outcomes, and there is room for the others
 abbrev pub invariant-steps : goal.invariant-steps
 invariant-steps g l = record {
-  takes : TakesSteps (functions_of g.R.Meaning.Meaning.names g.R.Meaning.Meaning.way g.R.Meaning.Meaning.answer) g.D.Disk.state l.fn.self l.self
+  takes : TakesSteps g.R.Meaning.Meaning.functions g.D.Disk.state l.fn.self l.self
       (take l.step-index l.steps) l.outcomes.items;
   proper : All IsProperOutcome l.outcomes.items;
   room : vec_capacity l.outcomes ≡ length l.steps;

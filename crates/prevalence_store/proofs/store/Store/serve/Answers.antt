@@ -1,6 +1,5 @@
 use Rattle.std.proofs.Common.{rules, [], ◌++◌, None, Some, take, refl, subst, sym, ◌∙◌, arith}
 use Rattle.std.specs.Io.KnownBytes.{Consumes}
-use Rattle.prevalence_store.specs.Functions.{functions_of}
 use Rattle.prevalence_store.specs.Pacing.{Pace, first_pace}
 use Rattle.prevalence_store.specs.Turns.{GoesOn, pace_of}
 use Rattle.prevalence_store.proofs.Answering.{end_both, more_both, nothing_answered, unread_after}
@@ -15,7 +14,7 @@ reads-init g c = record {
   most = omega arith;
   count = let none = c.new-pending.ensures.count in omega arith;
   far = λ w known.
-      let functions = functions_of g.R.Meaning.Meaning.names g.R.Meaning.Meaning.way g.R.Meaning.Meaning.answer in (
+      let functions = g.R.Meaning.Meaning.functions in (
         [],
         (
           subst (λ (p : Pace). GoesOn functions g.D.Disk.state (first_pace c.args.snapshot_every) p c.args.self.now c.args.self.now w c.args.mode [] (g.W.Write.contents c.args.writer.now)
@@ -29,7 +28,7 @@ reads-init g c = record {
 
 pub returns-in-Err-clause-serves : goal.returns-in-Err-clause-serves
 returns-in-Err-clause-serves g c = λ w known.
-    let functions = functions_of g.R.Meaning.Meaning.names g.R.Meaning.Meaning.way g.R.Meaning.Meaning.answer in
+    let functions = g.R.Meaning.Meaning.functions in
     let far = c.reads.invariant.far w known in
     unread_input functions g.D.Disk.state c.args.snapshot_every c.args.self.now c.reads.self w c.args.mode (g.W.Write.contents c.args.writer.now) (g.W.Write.contents c.reads.writer)
     (g.I.Read.remaining c.args.reader.now) (g.I.Read.remaining c.reads.reader) (g.I.Read.remaining c.read.new.self) far.0
@@ -37,7 +36,7 @@ returns-in-Err-clause-serves g c = λ w known.
 
 pub returns-clause-serves : goal.returns-clause-serves
 returns-clause-serves g c = λ w known.
-    let functions = functions_of g.R.Meaning.Meaning.names g.R.Meaning.Meaning.way g.R.Meaning.Meaning.answer in
+    let functions = g.R.Meaning.Meaning.functions in
     let far = c.reads.invariant.far w known in
     unread_input functions g.D.Disk.state c.args.snapshot_every c.args.self.now c.reads.self w c.args.mode (g.W.Write.contents c.args.writer.now) (g.W.Write.contents c.reads.writer)
     (g.I.Read.remaining c.args.reader.now) (g.I.Read.remaining c.reads.reader) (g.I.Read.remaining c.reads.reader) far.0
@@ -45,7 +44,7 @@ returns-clause-serves g c = λ w known.
 
 pub returns-then-count-eq0-clause-serves : goal.returns-then-count-eq0-clause-serves
 returns-then-count-eq0-clause-serves g c = λ w known.
-    let functions = functions_of g.R.Meaning.Meaning.names g.R.Meaning.Meaning.way g.R.Meaning.Meaning.answer in
+    let functions = g.R.Meaning.Meaning.functions in
     let far = c.reads.invariant.far w known in
     let goes = far.1.0 in
     ended_input functions g.D.Disk.state c.args.snapshot_every c.args.self.now c.answer_end.new.self w c.args.mode (g.W.Write.contents c.args.writer.now) (g.W.Write.contents c.answer_end.new.writer)
@@ -58,7 +57,7 @@ returns-then-count-eq0-clause-serves g c = λ w known.
 
 pub returns-in-Some-clause-serves : goal.returns-in-Some-clause-serves
 returns-in-Some-clause-serves g c = λ w known.
-    let functions = functions_of g.R.Meaning.Meaning.names g.R.Meaning.Meaning.way g.R.Meaning.Meaning.answer in
+    let functions = g.R.Meaning.Meaning.functions in
     let far = c.reads.invariant.far w known in
     let goes = far.1.0 in
     let piece = take c.in-Ok.count c.read.new.buf in
@@ -72,7 +71,7 @@ returns-in-Some-clause-serves g c = λ w known.
 
 pub reads-preserved : goal.reads-preserved
 reads-preserved g c =
-    let functions = functions_of g.R.Meaning.Meaning.names g.R.Meaning.Meaning.way g.R.Meaning.Meaning.answer in
+    let functions = g.R.Meaning.Meaning.functions in
     let piece = take c.in-Ok.count c.read.new.buf in
     record {
       known = search rules;

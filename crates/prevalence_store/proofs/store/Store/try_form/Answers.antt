@@ -2,7 +2,6 @@ use Rattle.std.proofs.Common.{refl, subst}
 use Rattle.lisp_object.specs.Datum.{object_of}
 use Rattle.plist_state.specs.Sound.{IsSound}
 use Rattle.plist_state.specs.State.{State as World}
-use Rattle.prevalence_store.specs.Functions.{functions_of}
 use Rattle.prevalence_store.specs.Streams.{Writes, WritesPart}
 use Rattle.prevalence_store.proofs.Executing.{known_world, world_inside}
 use Rattle.prevalence_store.proofs.Pendings.{begins_fits, begins_whole, begins_within}
@@ -11,7 +10,7 @@ use Rattle.prevalence_store.proofs.store.Store.try_form.Goals as goal
 
 pub take_form-answer-requires-clause-fits : goal.take_form-answer-requires-clause-fits
 take_form-answer-requires-clause-fits g c = λ w known.
-    let functions = functions_of g.R.Meaning.Meaning.names g.R.Meaning.Meaning.way g.R.Meaning.Meaning.answer in
+    let functions = g.R.Meaning.Meaning.functions in
     let b = c.requires.form.read w known in
     let inside = c.self.inside in
     let same = world_inside inside.failed inside.log inside.world.0 w inside.macros c.args.self.now c.self.view_is known in
@@ -19,21 +18,21 @@ take_form-answer-requires-clause-fits g c = λ w known.
 
 pub take_form-answer-requires-clause-within : goal.take_form-answer-requires-clause-within
 take_form-answer-requires-clause-within g c =
-    let functions = functions_of g.R.Meaning.Meaning.names g.R.Meaning.Meaning.way g.R.Meaning.Meaning.answer in
+    let functions = g.R.Meaning.Meaning.functions in
     let here = known_world c.args.self.now.world c.requires.form.known in
     let b = c.requires.form.read here.0 here.1 in
     begins_within functions here.0 c.args.mode b.0 (object_of c.args.datum.now) c.args.own.now b.1.0 b.1.1
 
 pub take_form-answer-requires-clause-whole : goal.take_form-answer-requires-clause-whole
 take_form-answer-requires-clause-whole g c = λ w known.
-    let functions = functions_of g.R.Meaning.Meaning.names g.R.Meaning.Meaning.way g.R.Meaning.Meaning.answer in
+    let functions = g.R.Meaning.Meaning.functions in
     let b = c.requires.form.read w known in
     begins_whole functions w c.args.mode b.0 (object_of c.args.datum.now) c.args.own.now b.1.0 b.1.1
 
 pub line-requires : goal.line-requires
 line-requires g c = record {
   proper =
-      let functions = functions_of g.R.Meaning.Meaning.names g.R.Meaning.Meaning.way g.R.Meaning.Meaning.answer in
+      let functions = g.R.Meaning.Meaning.functions in
       let here = known_world c.args.self.now.world c.requires.form.known in
       let e = c.take_form-answer.ensures in
       answer_proper functions g.D.Disk.state c.args.self.now c.take_form-answer.new.self here.0 c.args.mode c.args.own.now (object_of c.args.datum.now) c.take_form-answer.result
@@ -42,7 +41,7 @@ line-requires g c = record {
 
 pub returns-in-Err-clause-tries : goal.returns-in-Err-clause-tries
 returns-in-Err-clause-tries g c = λ w known text next begins.
-    let functions = functions_of g.R.Meaning.Meaning.names g.R.Meaning.Meaning.way g.R.Meaning.Meaning.answer in
+    let functions = g.R.Meaning.Meaning.functions in
     let e = c.take_form-answer.ensures in
     form_stops functions g.D.Disk.state g.met.D.Disk.sound c.args.self.now c.take_form-answer.new.self w c.args.mode text (g.W.Write.contents c.args.writer.now) (g.W.Write.contents c.args.writer.now)
     known begins.start begins.stop next (object_of c.args.datum.now) begins.reads c.args.own.now begins.is_own c.take_form-answer.result c.in-Err.number
@@ -50,7 +49,7 @@ returns-in-Err-clause-tries g c = λ w known text next begins.
 
 pub returns-in-Ok-write_line-clause-tries : goal.returns-in-Ok-write_line-clause-tries
 returns-in-Ok-write_line-clause-tries g c = λ w known text next begins.
-    let functions = functions_of g.R.Meaning.Meaning.names g.R.Meaning.Meaning.way g.R.Meaning.Meaning.answer in
+    let functions = g.R.Meaning.Meaning.functions in
     let e = c.take_form-answer.ensures in
     form_answered functions g.D.Disk.state g.met.D.Disk.sound c.args.self.now c.take_form-answer.new.self w c.args.mode text (g.W.Write.contents c.args.writer.now) (g.W.Write.contents c.write_line.new.writer)
     known begins.start begins.stop next (object_of c.args.datum.now) begins.reads c.args.own.now begins.is_own c.take_form-answer.result c.in-Ok.line.items
@@ -60,7 +59,7 @@ returns-in-Ok-write_line-clause-tries g c = λ w known text next begins.
 
 pub returns-in-Ok-write_line-clause-known : goal.returns-in-Ok-write_line-clause-known
 returns-in-Ok-write_line-clause-known g c =
-    let functions = functions_of g.R.Meaning.Meaning.names g.R.Meaning.Meaning.way g.R.Meaning.Meaning.answer in
+    let functions = g.R.Meaning.Meaning.functions in
     let here = known_world c.args.self.now.world c.requires.form.known in
     let e = c.take_form-answer.ensures in
     line_known functions g.D.Disk.state c.args.self.now c.take_form-answer.new.self here.0 c.args.mode c.args.own.now (object_of c.args.datum.now) c.take_form-answer.result c.in-Ok.line.items
@@ -68,7 +67,7 @@ returns-in-Ok-write_line-clause-known g c =
 
 pub returns-clause-tries : goal.returns-clause-tries
 returns-clause-tries g c = λ w known text next begins.
-    let functions = functions_of g.R.Meaning.Meaning.names g.R.Meaning.Meaning.way g.R.Meaning.Meaning.answer in
+    let functions = g.R.Meaning.Meaning.functions in
     let e = c.take_form-answer.ensures in
     form_unwritten functions g.D.Disk.state g.met.D.Disk.sound c.args.self.now c.take_form-answer.new.self w c.args.mode text (g.W.Write.contents c.args.writer.now) (g.W.Write.contents c.write_line.new.writer)
     known begins.start begins.stop next (object_of c.args.datum.now) begins.reads c.args.own.now begins.is_own c.take_form-answer.result c.in-Ok.line.items
@@ -77,5 +76,5 @@ returns-clause-tries g c = λ w known text next begins.
 
 pub returns-in-Err-clause-unchanged : goal.returns-in-Err-clause-unchanged
 returns-in-Err-clause-unchanged g c =
-    let functions = functions_of g.R.Meaning.Meaning.names g.R.Meaning.Meaning.way g.R.Meaning.Meaning.answer in
+    let functions = g.R.Meaning.Meaning.functions in
     full_unchanged functions c.args.self.now c.take_form-answer.new.self c.take_form-answer.result c.in-Err.number c.take_form-answer.ensures.unchanged c.in-Err.ensures.stop

@@ -1,7 +1,6 @@
 use Rattle.std.proofs.Common.{[], ◌++◌, ◌-◌, take, refl, subst, arith}
 use Rattle.lisp_object.specs.Datum.{object_of}
 use Rattle.lisp_object.specs.declared.refusal.TheConstants.{NO_MEMORY}
-use Rattle.prevalence_store.specs.Functions.{functions_of}
 use Rattle.prevalence_store.specs.Pending.{Feeds, IsSoundFed}
 use Rattle.prevalence_store.specs.declared.input.Fed.{Fed}
 use Rattle.prevalence_store.specs.Turns.{pace_of}
@@ -13,7 +12,7 @@ use Rattle.prevalence_store.proofs.store.Store.turn.Goals as goal
 
 pub returns-in-Err-clause-turns : goal.returns-in-Err-clause-turns
 returns-in-Err-clause-turns g c = λ w known bytes p more.
-    let functions = functions_of g.R.Meaning.Meaning.names g.R.Meaning.Meaning.way g.R.Meaning.Meaning.answer in
+    let functions = g.R.Meaning.Meaning.functions in
     let held = g.W.Write.contents c.args.writer.now in
     let text = (bytes ++ c.args.piece.now) ++ more in
     ends_at_once functions g.D.Disk.state (pace_of c.args.schedule.now) c.args.self.now c.args.self.now w c.args.mode text held held NO_MEMORY (
@@ -26,7 +25,7 @@ returns-in-Err-clause-turns g c = λ w known bytes p more.
 
 pub returns-in-Nothing-clause-turns : goal.returns-in-Nothing-clause-turns
 returns-in-Nothing-clause-turns g c = λ w known bytes p.
-    let functions = functions_of g.R.Meaning.Meaning.names g.R.Meaning.Meaning.way g.R.Meaning.Meaning.answer in
+    let functions = g.R.Meaning.Meaning.functions in
     let n = c.in-Ok.part.taken in
     let text = bytes ++ take n c.args.piece.now in
     let held = g.W.Write.contents c.args.writer.now in
@@ -36,7 +35,7 @@ returns-in-Nothing-clause-turns g c = λ w known bytes p.
 
 pub returns-in-Refused-clause-turns : goal.returns-in-Refused-clause-turns
 returns-in-Refused-clause-turns g c = λ w known bytes p.
-    let functions = functions_of g.R.Meaning.Meaning.names g.R.Meaning.Meaning.way g.R.Meaning.Meaning.answer in
+    let functions = g.R.Meaning.Meaning.functions in
     let n = c.in-Ok.part.taken in
     let text = bytes ++ take n c.args.piece.now in
     let held = g.W.Write.contents c.args.writer.now in
@@ -52,7 +51,7 @@ answer_form-requires g c = record {
   form = record {
     known = c.requires.known;
     read = λ w known.
-        let functions = functions_of g.R.Meaning.Meaning.names g.R.Meaning.Meaning.way g.R.Meaning.Meaning.answer in
+        let functions = g.R.Meaning.Meaning.functions in
         let p = c.requires.pending w known in
         let text = p.0 ++ take c.in-Ok.part.taken c.args.piece.now in
         let f = c.in-Form in
@@ -65,7 +64,7 @@ answer_form-requires g c = record {
 
 pub returns-in-Some-clause-turns : goal.returns-in-Some-clause-turns
 returns-in-Some-clause-turns g c = λ w known bytes p.
-    let functions = functions_of g.R.Meaning.Meaning.names g.R.Meaning.Meaning.way g.R.Meaning.Meaning.answer in
+    let functions = g.R.Meaning.Meaning.functions in
     let n = c.in-Ok.part.taken in
     let text = bytes ++ take n c.args.piece.now in
     let held = g.W.Write.contents c.args.writer.now in
@@ -79,7 +78,7 @@ returns-in-Some-clause-turns g c = λ w known bytes p.
 
 pub returns-then-left-clause-turns : goal.returns-then-left-clause-turns
 returns-then-left-clause-turns g c = λ w known bytes p.
-    let functions = functions_of g.R.Meaning.Meaning.names g.R.Meaning.Meaning.way g.R.Meaning.Meaning.answer in
+    let functions = g.R.Meaning.Meaning.functions in
     let n = c.in-Ok.part.taken in
     let text = bytes ++ take n c.args.piece.now in
     let f = c.in-Form in
@@ -92,7 +91,7 @@ returns-then-left-clause-turns g c = λ w known bytes p.
 
 pub returns-clause-turns : goal.returns-clause-turns
 returns-clause-turns g c = λ w known bytes p.
-    let functions = functions_of g.R.Meaning.Meaning.names g.R.Meaning.Meaning.way g.R.Meaning.Meaning.answer in
+    let functions = g.R.Meaning.Meaning.functions in
     let n = c.in-Ok.part.taken in
     let text = bytes ++ take n c.args.piece.now in
     let f = c.in-Form in
@@ -105,7 +104,7 @@ returns-clause-turns g c = λ w known bytes p.
 
 pub returns-then-left-clause-some : goal.returns-then-left-clause-some
 returns-then-left-clause-some g c =
-    let functions = functions_of g.R.Meaning.Meaning.names g.R.Meaning.Meaning.way g.R.Meaning.Meaning.answer in
+    let functions = g.R.Meaning.Meaning.functions in
     let old = known_world c.args.self.now.world c.requires.known in
     let p = c.requires.pending old.0 old.1 in
     let n = c.in-Ok.part.taken in
