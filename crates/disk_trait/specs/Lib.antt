@@ -1,11 +1,11 @@
 pub mod Crash
 pub mod Disk
-pub mod Fuse
+pub mod Calls
+pub mod Faulty
 pub mod Half
 pub mod Host
 pub mod Memory
 pub mod Moments
-pub mod Once
 pub mod Replay
 pub mod ReplayBytes
 pub mod ReplayLaws

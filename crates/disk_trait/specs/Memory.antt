@@ -1,9 +1,10 @@
 -- What a disk in memory is, as a state, and what a crash makes of it.
-use Rattle.std.specs.Prelude.{◌≡◌}
+use Rattle.std.specs.Prelude.{◌≡◌, ℕ, List, ◌+◌, length, take, Result, OnOk, OnErr}
 use Rattle.disk_trait.specs.Crash.{left_by}
-use Rattle.disk_trait.specs.Disk.{Image, State, Elapses}
+use Rattle.disk_trait.specs.Disk.{Image, State, Allows, Changes, Cut, Elapses, OnHalf, Torn, file_of, written}
 use Rattle.disk_trait.specs.Replay.{told}
 use Rattle.disk_trait.specs.declared.crash.Crash.{Crash}
+use Rattle.disk_trait.specs.declared.half.Half.{Half}
 use Rattle.disk_trait.specs.declared.half.Half.TheVariants.{A, B}
 use Rattle.disk_trait.specs.declared.memory.MemoryDisk.{MemoryDisk}
 
@@ -21,3 +22,40 @@ pub record IsUndone (old new : State) : Type 0 where
   pub no_more : (c : Image) → new.may_leave c → old.may_leave c
   pub no_less : (c : Image) → old.may_leave c → new.may_leave c
   pub time : Elapses old new
+
+-- A call that this disk takes a record of: of a crash after it no less is left than the step allows; if it fails, it was not
+-- taken.
+pub record IsRecorded {T E : Type 0} (Leaves : Type 0) (old new : State) (result : Result T E) : Type 0 where
+  pub allows : OnOk result Leaves
+  pub undone : OnErr result (IsUndone old new)
+  pub noted : OnOk result (new.moment ≡ old.moment + 1)
+
+-- a call that takes this step
+abbrev pub RecordsStep : {T E : Type 0} → (Image → Image → Type 0) → State → State → Result T E → Type 0
+RecordsStep step old new result = IsRecorded (Allows step old new) old new result
+
+-- a call that takes none
+abbrev pub RecordsLook : {T E : Type 0} → State → State → Result T E → Type 0
+RecordsLook old new result = RecordsStep (λ _ _. ⊥) old new result
+
+abbrev pub RecordsWrite : {T E : Type 0} → Half → ℕ → List ℕ → State → State → Result T E → Type 0
+RecordsWrite half at bytes old new result = RecordsStep (OnHalf half (Torn at (length bytes))) old new result
+
+abbrev pub RecordsCut : {T E : Type 0} → Half → ℕ → State → State → Result T E → Type 0
+RecordsCut half len old new result = RecordsStep (OnHalf half (Cut len)) old new result
+
+-- a sync: of what a crash might have left there is left what a read gives of the half
+abbrev pub RecordsSync : {T E : Type 0} → Half → State → State → Result T E → Type 0
+RecordsSync half old new result =
+    IsRecorded ((c : Image) → old.may_leave c → file_of half c ≡ file_of half old.reads → new.may_leave c) old new result
+
+-- a write or a cut that was not refused
+pub record Takes (Tears Does : Image → Image → Type 0) (old new : State) : Type 0 where
+  pub tears : Changes Tears old new
+  pub done : Does old.reads new.reads
+
+abbrev pub TakesWrite : Half → ℕ → List ℕ → State → State → Type 0
+TakesWrite half at bytes = Takes (OnHalf half (Torn at (length bytes))) (OnHalf half (λ file next. next ≡ written at bytes file))
+
+abbrev pub TakesCut : Half → ℕ → State → State → Type 0
+TakesCut half len = Takes (OnHalf half (Cut len)) (OnHalf half (λ file next. next ≡ take len file))

@@ -1,6 +1,7 @@
 // A disk as the log sees it: two files of bytes, of which a crash may leave less than a read gives.
-ghost use Rattle.std.specs.Prelude.{◌≡◌, ◌<◌, ◌≤◌, ◌-◌, ◌^◌, length, take, drop, IfOk, OnOk};
-ghost use Rattle.disk_trait.specs.Disk.{Image, State, file_of, written, Torn, Cut, OnHalf, IsHonest, IsSound, Counts, Looks, Changes};
+ghost use Rattle.std.specs.Prelude.{◌≡◌, ◌<◌, ◌-◌, ◌^◌};
+ghost use Rattle.disk_trait.specs.Calls.{CutsFile, GivesBytes, GivesLength, IsWithin, SyncsFile, WritesBytes};
+ghost use Rattle.disk_trait.specs.Disk.{State, IsHonest, IsSound};
 
 use crate::Half;
 use thiserror::Error;
@@ -25,54 +26,30 @@ pub trait Disk {
     /// The length of a half's file in bytes.
     fn len(&mut self, half: Half) -> Result<u64, DeviceFault>
         requires { (state self.old).failures < 2 ^ 64 - 1 }
-        ensures counts { Counts (state self.old) (state self.new) result }
-        ensures looks { IsHonest (state self.old) → Looks (state self.old) (state self.new) }
-        ensures length { IfOk result (λ n. IsHonest (state self.old)
-            → n ≡ length (file_of half (state self.old).reads)) };
+        ensures { GivesLength half (state self.old) (state self.new) result };
 
     /// Reads from offset `at` on: as many bytes as the file has there, up to the length of `buffer`.
     /// Answers how many.
     fn read(&mut self, half: Half, at: u64, buffer: &mut [u8]) -> Result<usize, DeviceFault>
         requires { (state self.old).failures < 2 ^ 64 - 1 }
-        ensures counts { Counts (state self.old) (state self.new) result }
-        ensures looks { IsHonest (state self.old) → Looks (state self.old) (state self.new) }
-        ensures within { IfOk result (λ count. count ≤ length buffer.old) }
-        ensures bytes { IfOk result (λ count. IsHonest (state self.old)
-            → take count buffer.new
-            ≡ take (length buffer.old) (drop at (file_of half (state self.old).reads))) };
+        ensures { GivesBytes half at buffer.old buffer.new (state self.old) (state self.new) result };
 
     /// Writes `bytes` from offset `at` on, over what is there and past the end.
     fn write_at(&mut self, half: Half, at: u64, bytes: &[u8]) -> Result<(), DeviceFault>
         requires count { (state self.old).failures < 2 ^ 64 - 1 }
-        requires place { IsHonest (state self.old)
-            → at ≤ length (file_of half (state self.old).reads) }
-        ensures counts { Counts (state self.old) (state self.new) result }
-        ensures tears { IsHonest (state self.old)
-            → Changes (OnHalf half (Torn at (length bytes.now))) (state self.old) (state self.new) }
-        ensures done { OnOk result (IsHonest (state self.old)
-            → OnHalf half (λ old new. new ≡ written at bytes.now old)
-            (state self.old).reads (state self.new).reads) };
+        requires within { IsWithin half at (state self.old) }
+        ensures { WritesBytes half at bytes.now (state self.old) (state self.new) result };
 
     /// Cuts a half's file to `len` bytes.
     fn cut(&mut self, half: Half, len: u64) -> Result<(), DeviceFault>
         requires count { (state self.old).failures < 2 ^ 64 - 1 }
-        requires place { IsHonest (state self.old)
-            → len ≤ length (file_of half (state self.old).reads) }
-        ensures counts { Counts (state self.old) (state self.new) result }
-        ensures tears { IsHonest (state self.old)
-            → Changes (OnHalf half (Cut len)) (state self.old) (state self.new) }
-        ensures done { OnOk result (IsHonest (state self.old)
-            → OnHalf half (λ old new. new ≡ take len old)
-            (state self.old).reads (state self.new).reads) };
+        requires within { IsWithin half len (state self.old) }
+        ensures { CutsFile half len (state self.old) (state self.new) result };
 
     /// After it a crash leaves of this half what a read gives.
     fn sync(&mut self, half: Half) -> Result<(), DeviceFault>
         requires { (state self.old).failures < 2 ^ 64 - 1 }
-        ensures counts { Counts (state self.old) (state self.new) result }
-        ensures looks { IsHonest (state self.old) → Looks (state self.old) (state self.new) }
-        ensures done { OnOk result (IsHonest (state self.old)
-            → ((c : Image) → (state self.new).may_leave c
-            → file_of half c ≡ file_of half (state self.old).reads)) };
+        ensures { SyncsFile half (state self.old) (state self.new) result };
 
     /// How an honest disk stands between calls.
     ghost sound: { (disk : Self) → IsHonest (state disk) → IsSound (state disk) };

@@ -9,23 +9,24 @@
 //! - `Half` (module `half`) names one of the two files, and `DeviceFault` is the answer of a call that failed.
 //! - `MemoryDisk` (module `memory`) is an honest disk in memory. It keeps a record of its calls (module `call`),
 //!   so that it can crash: `Crash` (module `crash`) says what is then left.
-//! - `FuseDisk` (module `fuse`) and `OnceDisk` (module `once`) let calls of another disk fail, for tests.
+//! - `FuseDisk` and `OnceDisk` (module `faulty`) let calls of another disk fail, for tests: those that a `Faults` (module
+//!   `faults`) names.
 //! - `HostDisk` (module `host`) is two files of the operating system. It claims no honesty.
 #![tactic(auto)]
 
 mod call;
 mod crash;
 mod disk;
-mod fuse;
+mod faults;
+mod faulty;
 mod half;
 mod host;
 mod memory;
-mod once;
 
 pub use crash::Crash;
 pub use disk::{DeviceFault, Disk};
-pub use fuse::FuseDisk;
+pub use faults::{Faults, Fuse, Once};
+pub use faulty::{FaultyDisk, FuseDisk, OnceDisk};
 pub use half::Half;
 pub use host::HostDisk;
 pub use memory::MemoryDisk;
-pub use once::OnceDisk;
