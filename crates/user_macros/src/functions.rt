@@ -34,7 +34,8 @@ pub trait MacroFunctions {
     /// The way in which the function of this name gathers, and `None` where none is registered. Takes no memory.
     fn gather_of(&self, name: FnName) -> Option<Gather>
         ensures value { result ≡ named_way (functions self.now) name }
-        ensures some { answers self.now → IsTrue (is_among (functions self.now).names name) → IsTrue (is_some result) };
+        ensures some { answers self.now → IsTrue (is_among (functions self.now).names name)
+            → IsTrue (is_some result) };
 
     /// What the function of this name answers: the definition, or out of memory. The name is registered, and the call is
     /// sound.
@@ -42,7 +43,8 @@ pub trait MacroFunctions {
         requires answers { answers self.now }
         requires registered { IsTrue (is_among (functions self.now).names name) }
         requires sound { IsSoundCall call.now }
-        ensures { IfOk result (λ answer. answer_of answer ≡ (functions self.now).answer name (call_of call.now)) };
+        ensures { IfOk result (λ answer. answer_of answer
+            ≡ (functions self.now).answer name (call_of call.now)) };
 
     /// Whether each name of the meaning is registered. Takes no memory.
     fn is_whole(&self) -> bool
@@ -51,7 +53,8 @@ pub trait MacroFunctions {
     /// Whether each function that the readtable names, at a character or at a sub-character, is standard, STD-DISPATCH or
     /// registered. Takes no memory.
     fn covers(&self, readtable: &Readtable) -> bool
-        ensures { result ≡ list_all (is_covered (functions self.now).names) (functions_of readtable.now) };
+        ensures { result
+            ≡ list_all (is_covered (functions self.now).names) (functions_of readtable.now) };
 
     // what is registered is what the meaning says of the names
     ghost as_meant: { (macros : Self) → functions macros ≡ named_among (functions macros).names Self.Meaning.functions };

@@ -61,14 +61,16 @@ impl<M: Meaning> Macros<M> {
     pub fn register(&mut self, name: FnName, function: MacroFn) -> Result<(), Refusal>
         requires answers { ⟦<Macros<M> as MacroFunctions>⟧.answers self.old }
         requires callable { (call : _) → IsSoundCall call.now → MacroFn.pre function call }
-        requires as_meant { (call : _) (a : _) → IsSoundCall call.now → MacroFn.post function call (Ok a)
-            → answer_of a ≡ M.functions.answer name (call_of call.now) }
+        requires as_meant { (call : _) (a : _) → IsSoundCall call.now
+            → MacroFn.post function call (Ok a) → answer_of a ≡ M.functions.answer name (call_of call.now) }
         ensures answers { ⟦<Macros<M> as MacroFunctions>⟧.answers self.new }
-        ensures meant { ⟦<Macros<M> as MacroFunctions>⟧.meant self.new ≡ ⟦<Macros<M> as MacroFunctions>⟧.meant self.old }
+        ensures meant { ⟦<Macros<M> as MacroFunctions>⟧.meant self.new
+            ≡ ⟦<Macros<M> as MacroFunctions>⟧.meant self.old }
         ensures registered { (⟦<Macros<M> as MacroFunctions>⟧.functions self.new).names
             ≡ (if is_ok result then (⟦<Macros<M> as MacroFunctions>⟧.functions self.old).names ++ name ∷ []
             else (⟦<Macros<M> as MacroFunctions>⟧.functions self.old).names) }
-        ensures accepted { OnOk result (refusal M.functions.names (⟦<Macros<M> as MacroFunctions>⟧.functions self.old).names name ≡ None) }
+        ensures accepted { OnOk result
+            (refusal M.functions.names (⟦<Macros<M> as MacroFunctions>⟧.functions self.old).names name ≡ None) }
         ensures cause { IfErr result (λ r. r.cause
             ≡ unwrap_or (refusal M.functions.names (⟦<Macros<M> as MacroFunctions>⟧.functions self.old).names name) Cause.OutOfMemory) }
         ensures given_back { IfErr result (λ r. r.function ≡ function) }
@@ -101,7 +103,8 @@ impl<M: Meaning> Macros<M> {
     }
 
     fn find(&self, name: FnName) -> Option<&Stored>
-        ensures found { is_some result ≡ is_among (map (λ s. s.name) self.now.stored.items) name }
+        ensures found { is_some result
+            ≡ is_among (map (λ s. s.name) self.now.stored.items) name }
         ensures named { IfSome result (λ s. s.now.name ≡ name) }
         ensures stored { IfSome result (λ s. Contains self.now.stored.items s.now) }
     {
@@ -114,13 +117,15 @@ impl<M: Meaning> Macros<M> {
     }
 
     fn covers_entry(&self, entry: &CharacterEntry) -> bool
-        ensures { result ≡ list_all (is_covered (map (λ s. s.name) self.now.stored.items)) (functions_at entry.now) }
+        ensures { let names = map (λ s. s.name) self.now.stored.items in
+            result ≡ list_all (is_covered names) (functions_at entry.now) }
     {
         self.covers_function(entry.function()) && self.covers_each(entry.dispatch())
     }
 
     fn covers_each(&self, functions: &[Option<FnName>]) -> bool
-        ensures { result ≡ list_all (λ f. option_map_or (is_covered (map (λ s. s.name) self.now.stored.items)) f true) functions.now }
+        ensures { let names = map (λ s. s.name) self.now.stored.items in
+            result ≡ list_all (λ f. option_map_or (is_covered names) f true) functions.now }
     {
         for function in functions {
             if !self.covers_function(*function) {
@@ -131,7 +136,8 @@ impl<M: Meaning> Macros<M> {
     }
 
     fn covers_function(&self, function: Option<FnName>) -> bool
-        ensures { result ≡ option_map_or (is_covered (map (λ s. s.name) self.now.stored.items)) function true }
+        ensures { let names = map (λ s. s.name) self.now.stored.items in
+            result ≡ option_map_or (is_covered names) function true }
     {
         match function {
             Some(name) => { name.is_standard() || name.is_dispatch() || self.find(name).is_some() }
