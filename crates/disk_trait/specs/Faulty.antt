@@ -11,8 +11,8 @@ pub record FaultyValue (D F : Type 0) : Type 0 where
   pub failed : ℕ
 
 -- It is as the disk inside, but for the calls that it has let fail itself.
-abbrev pub counted_too : {D F : Type 0} → (D → State) → FaultyValue D F → State
-counted_too state faulty = record (state faulty.disk) { failures = (state faulty.disk).failures + faulty.failed }
+abbrev pub faulty : {D F : Type 0} → (D → State) → FaultyValue D F → State
+faulty state f = record (state f.disk) { failures = (state f.disk).failures + f.failed }
 
 -- One call: if it is one that fails it fails, and the disk inside is as it was.
 pub record Strikes {D F T : Type 0} (strikes : F → Bool) (next : F → F) (old new : FaultyValue D F) (result : Result T DeviceFault) : Type 0 where

@@ -23,12 +23,16 @@ pub record IsUndone (old new : State) : Type 0 where
   pub no_less : (c : Image) → old.may_leave c → new.may_leave c
   pub time : Elapses old new
 
+-- the clock has gone on by one call
+abbrev pub IsNoted : State → State → Type 0
+IsNoted old new = new.moment ≡ old.moment + 1
+
 -- A call that this disk takes a record of: of a crash after it no less is left than the step allows; if it fails, it was not
 -- taken.
 pub record IsRecorded {T E : Type 0} (Leaves : Type 0) (old new : State) (result : Result T E) : Type 0 where
   pub allows : OnOk result Leaves
   pub undone : OnErr result (IsUndone old new)
-  pub noted : OnOk result (new.moment ≡ old.moment + 1)
+  pub noted : OnOk result (IsNoted old new)
 
 -- a call that takes this step
 abbrev pub RecordsStep : {T E : Type 0} → (Image → Image → Type 0) → State → State → Result T E → Type 0

@@ -32,7 +32,8 @@ pub trait Disk {
     /// Answers how many.
     fn read(&mut self, half: Half, at: u64, buffer: &mut [u8]) -> Result<usize, DeviceFault>
         requires { (state self.old).failures < 2 ^ 64 - 1 }
-        ensures { GivesBytes half at buffer.old buffer.new (state self.old) (state self.new) result };
+        ensures { GivesBytes half at buffer.old buffer.new
+            (state self.old) (state self.new) result };
 
     /// Writes `bytes` from offset `at` on, over what is there and past the end.
     fn write_at(&mut self, half: Half, at: u64, bytes: &[u8]) -> Result<(), DeviceFault>

@@ -39,7 +39,7 @@ impl<D: Disk> FaultyDisk<D, Fuse> {
         ensures faults { result.faults ≡ calls }
         ensures failed { result.failed ≡ 0 }
     {
-        faulty(disk, Fuse::new(calls))
+        with_faults(disk, Fuse::new(calls))
     }
 }
 
@@ -50,7 +50,7 @@ impl<D: Disk> FaultyDisk<D, Once> {
         ensures faults { result.faults ≡ Some call }
         ensures failed { result.failed ≡ 0 }
     {
-        faulty(disk, Once::new(call))
+        with_faults(disk, Once::new(call))
     }
 }
 
@@ -68,7 +68,7 @@ impl<D: Disk, F: Faults> FaultyDisk<D, F> {
     }
 }
 
-fn faulty<D: Disk, F: Faults>(disk: D, faults: F) -> FaultyDisk<D, F>
+fn with_faults<D: Disk, F: Faults>(disk: D, faults: F) -> FaultyDisk<D, F>
     ensures disk { result.disk ≡ disk }
     ensures faults { result.faults ≡ faults }
     ensures failed { result.failed ≡ 0 }
@@ -98,9 +98,9 @@ fn pass<F: Faults>(faults: &mut F, failed: &mut u64) -> Result<(), DeviceFault>
 
 impl<D: Disk, F: Faults> Disk for FaultyDisk<D, F> {
     ghost use Rattle.disk_trait.specs.Calls.{CutsFile, GivesBytes, GivesLength, IsWithin, SyncsFile, WritesBytes};
-    ghost use Rattle.disk_trait.specs.Faulty.{Strikes, counted_too};
+    ghost use Rattle.disk_trait.specs.Faulty.{Strikes, faulty};
 
-    ghost state = { counted_too D.state };
+    ghost state = { faulty D.state };
 
     ghost sound = { λ f honest. recounted_sound (D.state f.disk) ((D.state f.disk).failures + f.failed) (D.sound f.disk honest) };
 
@@ -109,8 +109,8 @@ impl<D: Disk, F: Faults> Disk for FaultyDisk<D, F> {
     }
 
     fn len(&mut self, half: Half) -> Result<u64, DeviceFault>
-        requires { (counted_too D.state self.old).failures < 2 ^ 64 - 1 }
-        ensures disk { GivesLength half (counted_too D.state self.old) (counted_too D.state self.new) result }
+        requires { (faulty D.state self.old).failures < 2 ^ 64 - 1 }
+        ensures disk { GivesLength half (faulty D.state self.old) (faulty D.state self.new) result }
         ensures strikes { Strikes F.fails F.after self.old self.new result }
     {
         pass(&mut self.faults, &mut self.failed)?;
@@ -118,8 +118,9 @@ impl<D: Disk, F: Faults> Disk for FaultyDisk<D, F> {
     }
 
     fn read(&mut self, half: Half, at: u64, buffer: &mut [u8]) -> Result<usize, DeviceFault>
-        requires { (counted_too D.state self.old).failures < 2 ^ 64 - 1 }
-        ensures disk { GivesBytes half at buffer.old buffer.new (counted_too D.state self.old) (counted_too D.state self.new) result }
+        requires { (faulty D.state self.old).failures < 2 ^ 64 - 1 }
+        ensures disk { GivesBytes half at buffer.old buffer.new
+            (faulty D.state self.old) (faulty D.state self.new) result }
         ensures strikes { Strikes F.fails F.after self.old self.new result }
     {
         pass(&mut self.faults, &mut self.failed)?;
@@ -127,9 +128,10 @@ impl<D: Disk, F: Faults> Disk for FaultyDisk<D, F> {
     }
 
     fn write_at(&mut self, half: Half, at: u64, bytes: &[u8]) -> Result<(), DeviceFault>
-        requires count { (counted_too D.state self.old).failures < 2 ^ 64 - 1 }
-        requires within { IsWithin half at (counted_too D.state self.old) }
-        ensures disk { WritesBytes half at bytes.now (counted_too D.state self.old) (counted_too D.state self.new) result }
+        requires count { (faulty D.state self.old).failures < 2 ^ 64 - 1 }
+        requires within { IsWithin half at (faulty D.state self.old) }
+        ensures disk { WritesBytes half at bytes.now
+            (faulty D.state self.old) (faulty D.state self.new) result }
         ensures strikes { Strikes F.fails F.after self.old self.new result }
     {
         pass(&mut self.faults, &mut self.failed)?;
@@ -137,9 +139,9 @@ impl<D: Disk, F: Faults> Disk for FaultyDisk<D, F> {
     }
 
     fn cut(&mut self, half: Half, len: u64) -> Result<(), DeviceFault>
-        requires count { (counted_too D.state self.old).failures < 2 ^ 64 - 1 }
-        requires within { IsWithin half len (counted_too D.state self.old) }
-        ensures disk { CutsFile half len (counted_too D.state self.old) (counted_too D.state self.new) result }
+        requires count { (faulty D.state self.old).failures < 2 ^ 64 - 1 }
+        requires within { IsWithin half len (faulty D.state self.old) }
+        ensures disk { CutsFile half len (faulty D.state self.old) (faulty D.state self.new) result }
         ensures strikes { Strikes F.fails F.after self.old self.new result }
     {
         pass(&mut self.faults, &mut self.failed)?;
@@ -147,8 +149,8 @@ impl<D: Disk, F: Faults> Disk for FaultyDisk<D, F> {
     }
 
     fn sync(&mut self, half: Half) -> Result<(), DeviceFault>
-        requires { (counted_too D.state self.old).failures < 2 ^ 64 - 1 }
-        ensures disk { SyncsFile half (counted_too D.state self.old) (counted_too D.state self.new) result }
+        requires { (faulty D.state self.old).failures < 2 ^ 64 - 1 }
+        ensures disk { SyncsFile half (faulty D.state self.old) (faulty D.state self.new) result }
         ensures strikes { Strikes F.fails F.after self.old self.new result }
     {
         pass(&mut self.faults, &mut self.failed)?;

@@ -12,6 +12,10 @@ use Rattle.readtable_core.specs.Sound.{is_dispatching}
 abbrev pub with_entry : Table → ℕ → Entry → Table
 with_entry table c e = record table { entries = set table.entries c e }
 
+-- the same, if the call that puts it succeeded
+abbrev pub put_if : Bool → Table → ℕ → Entry → Table
+put_if succeeded table c e = if succeeded then with_entry table c e else table
+
 abbrev pub macro_syntax : Bool → Syntax
 macro_syntax non_terminating = if non_terminating then NonTerminatingMacro else TerminatingMacro
 

@@ -1,12 +1,12 @@
 //! Readtables: the calls that read one, and those that change one.
-ghost use Rattle.std.specs.Prelude.{◌≡◌, ◌≢◌, ◌<◌, ◌↔◌, length, Some, None, is_some, IfOk, IfErr, IfSome, OnOk, OnErr, IsTrue, IsFalse, is_ok, if◌then◌else◌};
+ghost use Rattle.std.specs.Prelude.{◌≡◌, ◌≢◌, ◌<◌, ◌↔◌, length, Some, None, is_some, IfOk, IfErr, IfSome, OnOk, OnErr, IsTrue, IsFalse, is_ok};
 ghost use Rattle.readtable_core.specs.Tables.{standard, entry_at, dispatch_at};
 ghost use Rattle.readtable_core.specs.Characters.{is_digit};
 ghost use Rattle.readtable_core.specs.Names.{is_among, is_dispatch_name};
 ghost use Rattle.readtable_core.specs.Cases.{case_name, case_names};
 ghost use Rattle.readtable_core.specs.Named.{same_entry};
 ghost use Rattle.readtable_core.specs.Sound.{IsReadtable, is_dispatching};
-ghost use Rattle.readtable_core.specs.Changes.{with_entry, macro_entry, dispatching_entry, with_function, dispatch_refusal};
+ghost use Rattle.readtable_core.specs.Changes.{put_if, with_entry, macro_entry, dispatching_entry, with_function, dispatch_refusal};
 
 use crate::entry::{dispatching_character, macro_character, standard_character};
 use crate::{CharacterEntry, DispatchRefusal, FnName, Syntax};
@@ -228,7 +228,7 @@ impl Readtable {
     ) -> Result<(), AllocError>
         requires to { to < 128 }
         requires from { from < 128 }
-        ensures after { self.new ≡ (if is_ok result then with_entry self.old to (entry_at from_table.now from) else self.old) }
+        ensures after { self.new ≡ put_if (is_ok result) self.old to (entry_at from_table.now from) }
         ensures memory { OnErr result (IsTrue (is_dispatching (entry_at from_table.now from))) }
     {
         let entry = from_table.entry(self.alloc, from)?;
@@ -242,7 +242,7 @@ impl Readtable {
     pub fn copy_syntax(&mut self, to: u8, from: u8) -> Result<(), AllocError>
         requires to { to < 128 }
         requires from { from < 128 }
-        ensures after { self.new ≡ (if is_ok result then with_entry self.old to (entry_at self.old from) else self.old) }
+        ensures after { self.new ≡ put_if (is_ok result) self.old to (entry_at self.old from) }
         ensures memory { OnErr result (IsTrue (is_dispatching (entry_at self.old from)) × (to ≢ from)) }
     {
         if to == from {
@@ -267,7 +267,7 @@ impl Readtable {
     /// MAKE-DISPATCH-MACRO-CHARACTER). `c` is below 128. After out of memory nothing has changed.
     pub fn make_dispatch(&mut self, c: u8, non_terminating: bool) -> Result<(), AllocError>
         requires { c < 128 }
-        ensures { self.new ≡ (if is_ok result then with_entry self.old c (dispatching_entry non_terminating) else self.old) }
+        ensures { self.new ≡ put_if (is_ok result) self.old c (dispatching_entry non_terminating) }
     {
         let entry = dispatching_character(self.alloc, non_terminating)?;
         let _ = self.put_entry(c, entry);
@@ -283,7 +283,8 @@ impl Readtable {
         requires name { IsFalse (is_dispatch_name name) }
         ensures accepted { OnOk result (dispatch_refusal self.old c sub ≡ None) }
         ensures refused { IfErr result (λ refusal. dispatch_refusal self.old c sub ≡ Some refusal) }
-        ensures after { self.new ≡ (if is_ok result then with_entry self.old c (with_function (entry_at self.old c) sub name) else self.old) }
+        ensures after { self.new
+            ≡ put_if (is_ok result) self.old c (with_function (entry_at self.old c) sub name) }
     {
         if !self.is_dispatching(c) {
             return Err(DispatchRefusal::NotDispatching);
