@@ -73,7 +73,8 @@ fn parts_after_marker<'a>(
     prefix: &'a [Mark],
     rest: &'a [Mark],
 ) -> Result<NameParts<'a>, MeaningRefusal>
-    ensures { pattern (prefix.now ∷ slice_split is_package_marker rest.now) ≡ view_parts result }
+    ensures { pattern (prefix.now ∷ slice_split is_package_marker rest.now)
+        ≡ view_parts result }
 {
     match rest {
         [mark, name @ ..] if is_package_marker(*mark) => parts_after_two(prefix, name),
@@ -88,7 +89,8 @@ fn parts_after_one<'a>(
     name: &'a [Mark],
 ) -> Result<NameParts<'a>, MeaningRefusal>
     requires { begins_with_marker name.now ≡ false }
-    ensures { pattern (prefix.now ∷ slice_split is_package_marker name.now) ≡ view_parts result }
+    ensures { pattern (prefix.now ∷ slice_split is_package_marker name.now)
+        ≡ view_parts result }
 {
     if !is_one_part(name) {
         return Err(MeaningRefusal::PackageMarkers);
@@ -105,7 +107,8 @@ fn parts_after_two<'a>(
     prefix: &'a [Mark],
     name: &'a [Mark],
 ) -> Result<NameParts<'a>, MeaningRefusal>
-    ensures { pattern (prefix.now ∷ [] ∷ slice_split is_package_marker name.now) ≡ view_parts result }
+    ensures { pattern (prefix.now ∷ [] ∷ slice_split is_package_marker name.now)
+        ≡ view_parts result }
 {
     if is_empty(prefix) {
         return Err(MeaningRefusal::PackageMarkers);
@@ -146,7 +149,8 @@ fn cut_at_marker(marks: &[Mark]) -> Option<(&[Mark], &[Mark])>
 
 fn cut_at(marks: &[Mark], at: Option<usize>) -> Option<(&[Mark], &[Mark])>
     requires { IfSome at (λ i. i < length marks.now) }
-    ensures { option_map parts_of result ≡ option_map (λ i. (take i marks.now, drop (i + 1) marks.now)) at }
+    ensures { option_map parts_of result
+        ≡ option_map (λ i. (take i marks.now, drop (i + 1) marks.now)) at }
 {
     let at = at?;
     Some((&marks[..at], &marks[at + 1..]))

@@ -52,7 +52,8 @@ fn rational_form(
 ) -> Option<Result<Datum, MeaningRefusal>>
     requires lowest_base { 2 ≤ base }
     requires highest_base { base ≤ 36 }
-    ensures gives { (text : List ℕ) → IsLeading base text whole.entry.some whole.entry.size (codes_of whole.entry.rest.now)
+    ensures gives { (text : List ℕ)
+        → IsLeading base text whole.entry.some whole.entry.size (codes_of whole.entry.rest.now)
         → rational_form base negative text ≡ option_map view_number result }
     ensures proper { IfSome result (λ given. IfOk given (λ datum. is_proper datum ≡ true)) }
 {
@@ -70,7 +71,8 @@ fn rational_form(
 /// An integer in decimal digits with the point at the end (standard 2.3.1), or a float (standard 2.3.2.2), which begins with
 /// the decimal digits `whole`.
 fn decimal_or_float(negative: bool, whole: Leading<'_>) -> Option<Result<Datum, MeaningRefusal>>
-    ensures gives { (text : List ℕ) → IsLeading 10 text whole.entry.some whole.entry.size (codes_of whole.entry.rest.now)
+    ensures gives { (text : List ℕ)
+        → IsLeading 10 text whole.entry.some whole.entry.size (codes_of whole.entry.rest.now)
         → decimal_or_float_form negative text ≡ option_map view_number result }
     ensures proper { IfSome result (λ given. IfOk given (λ datum. is_proper datum ≡ true)) }
 {
@@ -87,7 +89,8 @@ fn after_point(
     whole: Leading<'_>,
     fraction: Leading<'_>,
 ) -> Option<Result<Datum, MeaningRefusal>>
-    ensures gives { (text after : List ℕ) → IsLeading 10 text whole.entry.some whole.entry.size (46 ∷ after)
+    ensures gives { (text after : List ℕ)
+        → IsLeading 10 text whole.entry.some whole.entry.size (46 ∷ after)
         → IsLeading 10 after fraction.entry.some fraction.entry.size (codes_of fraction.entry.rest.now)
         → decimal_or_float_form negative text ≡ option_map view_number result }
     ensures proper { IfSome result (λ given. IfOk given (λ datum. is_proper datum ≡ true)) }
