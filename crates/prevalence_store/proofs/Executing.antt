@@ -4,7 +4,7 @@ use Rattle.std.proofs.lemmas.List.{length-take-le}
 use Rattle.std.proofs.lemmas.Bool.{eq-eqb, ne_eqb}
 use Rattle.disk_trait.specs.Disk.{State}
 use Rattle.disk_trait.specs.Half.{opposite_of}
-use Rattle.gate_log.specs.Place.{HalvesValue}
+use Rattle.gate_log.specs.HalfInUse.{HalvesValue}
 use Rattle.lisp_object.specs.Object.{Object, IsSound}
 use Rattle.lisp_object.specs.declared.datum.Datum.{Datum}
 use Rattle.lisp_object.specs.Datum.{object_of, is_proper}

@@ -26,7 +26,7 @@ use Rattle.prevalence_store.specs.Execution.{DeviceFails, Stores, SurvivesAs, ac
 use Rattle.prevalence_store.specs.Output.{Progress, after_forms, begun, evaluated, last_line, one_form, onward, refusal_line, value_line}
 use Rattle.prevalence_store.specs.Pacing.{fill_of}
 use Rattle.prevalence_store.specs.Serving.{Ends, IsAfter, IsOver, Serves}
-use Rattle.gate_log.specs.Place.{HalvesValue}
+use Rattle.gate_log.specs.HalfInUse.{HalvesValue}
 use Rattle.prevalence_store.specs.Session.{Session, Describes, session_of}
 use Rattle.prevalence_store.proofs.Committing.{accepts-logged}
 use Rattle.prevalence_store.proofs.Executing.{own_whole, world_inside}
