@@ -9,7 +9,7 @@ use Rattle.std.specs.Ordering.{eq_by_cmp}
 use Rattle.std.specs.FinMap as finite
 use Rattle.std.specs.FinMap.{contains_key-keys, get-empty, get-insert}
 use Rattle.std.proofs.lemmas.Bool.{false≢true, or_cases, and_parts}
-use Rattle.gate_log.specs.Layout.{Contents, Entry}
+use Rattle.gate_log.specs.Layout.{Contents, LogRecord}
 use Rattle.lisp_object.specs.Object.{Object}
 use Rattle.readtable_core.specs.Named.{functions_of as named_by}
 use Rattle.readtable_core.specs.Names.{is_among, is_dispatch_name, is_standard}
@@ -100,7 +100,7 @@ module _ (functions : Functions) where
   by_reading w text given empty is all = absurd (cc)
   by_reading w text given (refused number place) is all = absurd (cc)
 
-  pub after_covers : (w v : World) (entries : List Entry) → after functions w entries ≡ Some v → AreCovered functions.names w.readtables → AreCovered functions.names v.readtables
+  pub after_covers : (w v : World) (entries : List LogRecord) → after functions w entries ≡ Some v → AreCovered functions.names w.readtables → AreCovered functions.names v.readtables
   after_covers w v [] is all = let same : w ≡ v = cc in subst (λ (u : World). AreCovered functions.names u.readtables) same all
   after_covers w v (entry ∷ entries) is all =
       by_first (λ u made covered. after_covers u v entries made covered) (accepts functions w (mode_of entry.kind) entry.text) refl is

@@ -1,7 +1,7 @@
 -- How far the snapshots of a session have come, and how its parts join.
 use Rattle.std.proofs.Common.{◌≡◌, ℕ, ◌+◌, ◌<◌, ◌⊎◌, Bool, List, [], ◌∷◌, ◌++◌, length, Option, Some, refl, sym, ap, subst, ◌∙◌, inl, inr, append_assoc, arith}
 use Rattle.disk_trait.specs.Disk.{State, IsHonest, IsSound}
-use Rattle.gate_log.specs.Layout.{Entry}
+use Rattle.gate_log.specs.Layout.{LogRecord}
 use Rattle.lisp_object.specs.declared.refusal.TheConstants.{DEVICE, LOG_FULL, OUTPUT, NO_MEMORY}
 use Rattle.form_reader.specs.Reading.{empty, refused}
 use Rattle.plist_state.specs.State.{State as World}
@@ -19,11 +19,11 @@ use Rattle.prevalence_store.specs.Serving.{ServesInPace}
 use Rattle.prevalence_store.proofs.Turning.{after_one_form, done, fault_answered, no_memory, nothing}
 
 module _ (functions : Functions) (limit : ℕ) where
-  pub none_paced : (w : World) (pace : Pace) (taken : List Entry) (fill now : Fill) → taken ≡ [] → now ≡ fill → Paces functions limit w taken pace pace fill now
+  pub none_paced : (w : World) (pace : Pace) (taken : List LogRecord) (fill now : Fill) → taken ≡ [] → now ≡ fill → Paces functions limit w taken pace pace fill now
   none_paced w pace taken fill now none same = subst (λ xs. Paces functions limit w xs pace pace fill now) (sym none) (refl, same)
 
   -- one form that was logged, and what follows it
-  pub one_paced : (w given : World) (entry : Entry) (pace later : Pace) (fill logged now : Fill) (taken : List Entry) → taken ≡ entry ∷ [] → after functions w taken ≡ Some given
+  pub one_paced : (w given : World) (entry : LogRecord) (pace later : Pace) (fill logged now : Fill) (taken : List LogRecord) → taken ≡ entry ∷ [] → after functions w taken ≡ Some given
       → LogsWithRoom limit w entry fill logged → Counts pace later → TakesTurn limit pace given logged now → Paces functions limit w taken pace later fill now
   one_paced w given entry pace later fill logged now taken is given_is logs counts turn =
       subst (λ xs. Paces functions limit w xs pace later fill now) (sym is)
@@ -31,7 +31,7 @@ module _ (functions : Functions) (limit : ℕ) where
 
   -- ---- some forms, and some more
 
-  pub paces_both : (w v : World) (xs ys : List Entry) (p q r : Pace) (f g h : Fill) → after functions w xs ≡ Some v
+  pub paces_both : (w v : World) (xs ys : List LogRecord) (p q r : Pace) (f g h : Fill) → after functions w xs ≡ Some v
       → Paces functions limit w xs p q f g → Paces functions limit v ys q r g h → Paces functions limit w (xs ++ ys) p r f h
   paces_both w v [] ys p q r f g h here one two =
       let same : v ≡ w = cc in
@@ -98,13 +98,13 @@ module _ (functions : Functions) (limit : ℕ) where
         let same : over.next ≡ far = cc in
         ap (λ (p : Progress). p.taken) (sym same) ∙ over.is_taken
 
-    made_for : (entry : Entry) (far : Progress) → HasReadied w mode text start middle → after_forms functions 1 w mode text ≡ Some far → far.taken ≡ entry ∷ []
+    made_for : (entry : LogRecord) (far : Progress) → HasReadied w mode text start middle → after_forms functions 1 w mode text ≡ Some far → far.taken ≡ entry ∷ []
         → (middle ≡ start) ⊎ ((limit < start.size + (6 + length entry.text)) × (middle ≡ begun_with w start))
     made_for entry far (inl same) is taken = inl same
     made_for entry far (inr over) is taken =
         let known = record_is over.0 far is in
         let same : over.0.record_ ≡ entry = cc in
-        inr (subst (λ (e : Entry). limit < start.size + (6 + length e.text)) same over.0.over, over.1)
+        inr (subst (λ (e : LogRecord). limit < start.size + (6 + length e.text)) same over.0.over, over.1)
 
     pub with_room : (far : Progress) (wrote : Bool) → HasReadied w mode text start middle → after_forms functions 1 w mode text ≡ Some far
         → LeavesRecord (LogsAtOnce limit middle now) far.taken middle now wrote → LeavesRecord (λ entry. LogsWithRoom limit w entry start now) far.taken start now wrote

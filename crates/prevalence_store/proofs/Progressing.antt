@@ -5,7 +5,7 @@ use Rattle.std.proofs.lemmas.List.Sums.{sum_by-append}
 use Rattle.disk_trait.specs.Disk.{State, IsHonest, IsSound}
 use Rattle.disk_trait.specs.Half.{opposite_of}
 use Rattle.disk_trait.specs.declared.half.Half.{Half}
-use Rattle.gate_log.specs.Layout.{Entry}
+use Rattle.gate_log.specs.Layout.{LogRecord}
 use Rattle.prevalence_store.specs.declared.mode.Mode.{Mode}
 use Rattle.prevalence_store.specs.declared.outcome.Ending.{Ending}
 use Rattle.prevalence_store.specs.declared.outcome.Ending.TheVariants.{End, Reader, Store}
@@ -43,7 +43,7 @@ writes_both a b c front back first second = λ held is.
     second (held ++ front) (first held is) ∙ ap (λ t. Some t) (append_assoc held front back)
 
 -- none of two are none of the first and none of the second
-none_of_both : (xs ys : List Entry) → xs ++ ys ≡ [] → (xs ≡ []) × (ys ≡ [])
+none_of_both : (xs ys : List LogRecord) → xs ++ ys ≡ [] → (xs ≡ []) × (ys ≡ [])
 none_of_both [] ys is = (refl, is)
 none_of_both (x ∷ xs) ys is = absurd (cc)
 
@@ -54,14 +54,14 @@ turned_both zero m k half is = let same : k ≡ m = omega arith in ap (λ j. tur
 turned_both (suc n) m zero half is = absurd (omega arith)
 turned_both (suc n) m (suc k) half is = let less : k ≡ n + m = omega arith in ap opposite_of (turned_both n m k half less)
 
-module _ (functions : Functions) {D R : Type 0} (state : D → State) (sound : (d : D) → IsHonest (state d) → IsSound (state d)) (old mid new : Session D R) (w v : World) (xs ys : List Entry)
+module _ (functions : Functions) {D R : Type 0} (state : D → State) (sound : (d : D) → IsHonest (state d) → IsSound (state d)) (old mid new : Session D R) (w v : World) (xs ys : List LogRecord)
     (here : after functions w xs ≡ Some v) (limit : mid.limit ≡ old.limit) (honest : (state mid.disk).honest ≡ (state old.disk).honest) where
   both_extended : IsExtended state old mid xs → IsExtended state mid new ys → IsExtended state old new (xs ++ ys)
   both_extended one two = record {
     half = two.half ∙ one.half;
     generation = two.generation ∙ one.generation;
     record_count = let sum = length-append xs ys in let a = one.record_count in let b = two.record_count in omega arith;
-    size = let sum = sum_by-append (λ (entry : Entry). 6 + length entry.text) xs ys in let a = one.size in let b = two.size in omega arith;
+    size = let sum = sum_by-append (λ (entry : LogRecord). 6 + length entry.text) xs ys in let a = one.size in let b = two.size in omega arith;
     fits = let a = one.fits in let b = two.fits in omega arith;
     described = λ k claims held.
         subst (λ entries. Describes new (record k { entries = entries }) (state new.disk).reads) (append_assoc k.entries xs ys)
@@ -104,7 +104,7 @@ module _ (functions : Functions) {D R : Type 0} (state : D → State) (sound : (
     half = two.half ∙ one.half;
     generation = two.generation ∙ one.generation;
     record_count = let sum = length-append one.later ys in let a = one.record_count in let b = two.record_count in omega arith;
-    size = let sum = sum_by-append (λ (entry : Entry). 6 + length entry.text) one.later ys in let a = one.size in let b = two.size in omega arith;
+    size = let sum = sum_by-append (λ (entry : LogRecord). 6 + length entry.text) one.later ys in let a = one.size in let b = two.size in omega arith;
     fits = let a = one.fits in let b = two.fits in omega arith;
     described = λ k claims held. two.described (renewed k one.snapshots one.first one.later) (subst IsTrue (sym honest) claims) (one.described k claims held);
   }
@@ -182,7 +182,7 @@ module _ (functions : Functions) where
 
   module _ {D R : Type 0} (state : D → State) (sound : (d : D) → IsHonest (state d) → IsSound (state d)) (old mid new : Session D R) (w : World) (mode : Mode) (text : List ℕ) (a b c : Option (List ℕ)) (m : ℕ) (p : Progress)
       (first : Advances functions state old mid w mode text a b m p) (honest : (state mid.disk).honest ≡ (state old.disk).honest) where
-    survive_both : (taken : List Entry) (n : ℕ) → SurvivesAs functions state mid new p.world taken n → SurvivesAs functions state old new w (p.taken ++ taken) (length p.taken + n)
+    survive_both : (taken : List LogRecord) (n : ℕ) → SurvivesAs functions state mid new p.world taken n → SurvivesAs functions state old new w (p.taken ++ taken) (length p.taken + n)
     survive_both taken n second known claims keeps =
         let before = first.survives known claims keeps in
         let left = first.after.left in
@@ -190,7 +190,7 @@ module _ (functions : Functions) where
         (subst (λ o. Survives functions (state old.disk) (state mid.disk) w p.taken (length p.taken) o) left before)
         (second left (subst IsTrue (sym honest) claims) (before.kept p.world left))
 
-    pub survive_with : (taken : List Entry) (n k : ℕ) → k ≡ length p.taken + n → SurvivesAs functions state mid new p.world taken n → SurvivesAs functions state old new w (p.taken ++ taken) k
+    pub survive_with : (taken : List LogRecord) (n k : ℕ) → k ≡ length p.taken + n → SurvivesAs functions state mid new p.world taken n → SurvivesAs functions state old new w (p.taken ++ taken) k
     survive_with taken n k is second = subst (λ j. SurvivesAs functions state old new w (p.taken ++ taken) j) (sym is) (survive_both taken n second)
 
     -- some forms, and some more

@@ -2,7 +2,7 @@
 use Rattle.std.proofs.Common.{◌≡◌, ℕ, ◌+◌, ◌==◌, Bool, true, false, List, [], ◌∷◌, ◌++◌, length, Option, None, Some, Result, Ok, Err, IsTrue, refl, sym, ap, ap₂, subst, ◌∙◌, inl, inr, append-nil, arith, Bor}
 use Rattle.std.proofs.lemmas.Bool.{eq-eqb, ne_eqb}
 use Rattle.disk_trait.specs.Disk.{State, IsHonest, IsSound}
-use Rattle.gate_log.specs.Layout.{Entry}
+use Rattle.gate_log.specs.Layout.{LogRecord}
 use Rattle.lisp_object.specs.declared.refusal.TheConstants.{DEVICE, REOPEN}
 use Rattle.plist_state.specs.State.{State as World}
 use Rattle.prevalence_store.specs.declared.mode.Mode.{Mode}
@@ -72,7 +72,7 @@ module _ (functions : Functions) {D R : Type 0} (state : D → State) where
       let given = accepts functions w mode text.now in
       let rest = still_none takes.0 new steps outcomes (ap (λ (s : Session D R). s.world) one.1 ∙ none) takes.2 (world_of w given outcome) in (
         rest.0 ∙ one.1,
-        ap₂ (λ (a b : List Entry). a ++ b) (ap (taken_of mode given) one.0 ∙ refused_takes mode given REOPEN refl) rest.1,
+        ap₂ (λ (a b : List LogRecord). a ++ b) (ap (taken_of mode given) one.0 ∙ refused_takes mode given REOPEN refl) rest.1,
         ap₂ (λ (a b : ℕ). a + b) (ap (acknowledged_of_form mode given) one.0 ∙ refused_acknowledges mode given REOPEN) rest.2,
       )
   still_none old new (Snapshot ∷ steps) (outcome ∷ outcomes) none takes w =
@@ -84,7 +84,7 @@ module _ (functions : Functions) {D R : Type 0} (state : D → State) where
 
   module _ (sound : (d : D) → IsHonest (state d) → IsSound (state d)) where
     -- a step that left a world, and steps after it
-    then_more : (old mid new : Session D R) (w v : World) (xs ys : List Entry) (n : ℕ) → SurvivesAs functions state old mid w xs (length xs) → mid.world ≡ Some v
+    then_more : (old mid new : Session D R) (w v : World) (xs ys : List LogRecord) (n : ℕ) → SurvivesAs functions state old mid w xs (length xs) → mid.world ≡ Some v
         → SurvivesAs functions state mid new v ys n → SurvivesAs functions state old new w (xs ++ ys) (length xs + n)
     then_more old mid new w v xs ys n first left second known claims keeps =
         let before = subst (λ o. Survives functions (state old.disk) (state mid.disk) w xs (length xs) o) left (first known claims keeps) in
@@ -92,33 +92,33 @@ module _ (functions : Functions) {D R : Type 0} (state : D → State) where
         (second left (subst IsTrue (sym before.honest) claims) (before.kept v refl))
 
     -- the same forms in other words
-    in_words : (old new : Session D R) (w : World) (xs ys : List Entry) (n m : ℕ) → xs ≡ ys → n ≡ m → SurvivesAs functions state old new w xs n → SurvivesAs functions state old new w ys m
+    in_words : (old new : Session D R) (w : World) (xs ys : List LogRecord) (n m : ℕ) → xs ≡ ys → n ≡ m → SurvivesAs functions state old new w xs n → SurvivesAs functions state old new w ys m
     in_words old new w xs ys n m taken count survives =
-        subst (λ (es : List Entry). SurvivesAs functions state old new w es m) taken (subst (λ (k : ℕ). SurvivesAs functions state old new w xs k) count survives)
+        subst (λ (es : List LogRecord). SurvivesAs functions state old new w es m) taken (subst (λ (k : ℕ). SurvivesAs functions state old new w xs k) count survives)
 
     -- a step that did nothing, and steps after it
-    from_same : (old mid new : Session D R) (w : World) (ys : List Entry) (n : ℕ) → mid ≡ old → SurvivesAs functions state mid new w ys n → SurvivesAs functions state old new w ys n
+    from_same : (old mid new : Session D R) (w : World) (ys : List LogRecord) (n : ℕ) → mid ≡ old → SurvivesAs functions state mid new w ys n → SurvivesAs functions state old new w ys n
     from_same old mid new w ys n same survives = subst (λ (s : Session D R). SurvivesAs functions state s new w ys n) same survives
 
     -- a step in which the device failed, and what was asked after it
-    from_fault : (old mid new : Session D R) (w : World) (xs : List Entry) → new ≡ mid → SurvivesAs functions state old mid w xs 0 → SurvivesAs functions state old new w xs 0
+    from_fault : (old mid new : Session D R) (w : World) (xs : List LogRecord) → new ≡ mid → SurvivesAs functions state old mid w xs 0 → SurvivesAs functions state old new w xs 0
     from_fault old mid new w xs same survives = subst (λ (s : Session D R). SurvivesAs functions state old s w xs 0) (sym same) survives
 
     module _ (old mid new : Session D R) (w : World) (steps : List Step) (outcomes : List Outcome) (rest : TakesSteps functions state mid new steps outcomes)
         (more : (v : World) → SurvivesAs functions state mid new v (taken_in_steps functions v steps outcomes) (acknowledged_in_steps functions v steps outcomes)) where
-      abbrev After : World → List Entry → ℕ → Type 0
+      abbrev After : World → List LogRecord → ℕ → Type 0
       After v xs n = SurvivesAs functions state old new w (xs ++ taken_in_steps functions v steps outcomes) (n + acknowledged_in_steps functions v steps outcomes)
 
       -- the step changed nothing
-      undone : (v : World) (xs : List Entry) (n : ℕ) → v ≡ w → xs ≡ [] → n ≡ 0 → mid ≡ old → After v xs n
+      undone : (v : World) (xs : List LogRecord) (n : ℕ) → v ≡ w → xs ≡ [] → n ≡ 0 → mid ≡ old → After v xs n
       undone v xs n world none zero_is same =
           subst (λ (u : World). After u xs n) (sym world)
           (in_words old new w (taken_in_steps functions w steps outcomes) _ (acknowledged_in_steps functions w steps outcomes) _
-          (ap (λ (es : List Entry). es ++ taken_in_steps functions w steps outcomes) (sym none)) (omega arith)
+          (ap (λ (es : List LogRecord). es ++ taken_in_steps functions w steps outcomes) (sym none)) (omega arith)
           (from_same old mid new w _ _ same (more w)))
 
       -- the device failed in it
-      faulted : (v : World) (xs ys : List Entry) (n : ℕ) → xs ≡ ys → n ≡ 0 → mid.world ≡ None → SurvivesAs functions state old mid w ys 0 → After v xs n
+      faulted : (v : World) (xs ys : List LogRecord) (n : ℕ) → xs ≡ ys → n ≡ 0 → mid.world ≡ None → SurvivesAs functions state old mid w ys 0 → After v xs n
       faulted v xs ys n is zero_is none survives =
           let dead = still_none mid new steps outcomes none rest v in
           in_words old new w ys _ 0 _

@@ -3,7 +3,7 @@ use Rattle.std.proofs.Common.{◌≡◌, ◌≢◌, ◌∷◌, ℕ, Bool, true, 
 use Rattle.std.specs.Option.{option_map}
 use Rattle.disk_trait.specs.Disk.{State, IsHonest, IsSound}
 use Rattle.disk_trait.specs.Half.{opposite_of}
-use Rattle.gate_log.specs.Layout.{Entry}
+use Rattle.gate_log.specs.Layout.{LogRecord}
 use Rattle.lisp_object.specs.Object.{Object}
 use Rattle.lisp_object.specs.Datum.{object_of, is_proper}
 use Rattle.lisp_object.specs.declared.refusal.TheConstants.{INPUT, LOG_FULL, OUTPUT, NO_MEMORY}
@@ -350,7 +350,7 @@ module _ (functions : Functions) where
         let failed = of.fault refl in
         let taken = records_written why.0.0.wrote why.0.2 in (
           taken_only (evaluated w mode own (drop next text) (Ok why.0.0)) [] number 0 (one_is (Ok why.0.0) why.0.1) (writes_nothing held written quiet)
-              (subst (λ (es : List Entry). SurvivesAs functions state old new w es 0) (sym taken) (of.survives w))
+              (subst (λ (es : List LogRecord). SurvivesAs functions state old new w es 0) (sym taken) (of.survives w))
               (inl (record {
                 device = stop;
                 one_open = refl;

@@ -1,7 +1,7 @@
 -- Which texts a world accepts as forms, and the world after a list of forms.
 use Rattle.std.specs.Prelude.{ℕ, ◌==◌, ◌-◌, Bool, if◌then◌else◌, List, [], ◌∷◌, length, take, drop, Option, None, Some, Result, Ok, Err, unwrap_or}
 use Rattle.std.specs.FinMap as finite
-use Rattle.gate_log.specs.Layout.{Entry}
+use Rattle.gate_log.specs.Layout.{LogRecord}
 use Rattle.lisp_object.specs.Object.{Object}
 use Rattle.lisp_object.specs.declared.refusal.TheConstants.{END_OF_FILE, TEXT_LEFT_OVER}
 use Rattle.readtable_core.specs.Tables.{Table, standard}
@@ -76,21 +76,21 @@ abbrev pub mode_of : ℕ → Mode
 mode_of kind = if kind == 0 then Current else Rescue
 
 -- the record of a form that was accepted
-abbrev pub logged : Mode → List ℕ → Entry
+abbrev pub logged : Mode → List ℕ → LogRecord
 logged mode text = record { kind = kind_of mode; text = text }
 
 -- a form is logged exactly where it wrote
-abbrev pub records_of : Bool → Mode → List ℕ → List Entry
+abbrev pub records_of : Bool → Mode → List ℕ → List LogRecord
 records_of wrote mode text = if wrote then logged mode text ∷ [] else []
 
 -- The world after these records, each accepted in the world that the ones before it left. None where one is not accepted.
-abbrev pub after : Functions → World → List Entry → Option World
+abbrev pub after : Functions → World → List LogRecord → Option World
 after functions world [] = Some world
 after functions world (entry ∷ entries) =
     elim (accepts functions world (mode_of entry.kind) entry.text) [ Ok given ↦ after functions given.world entries | Err number ↦ None ]
 
 -- the number under which the first of these records that is not accepted is refused
-abbrev pub first_refusal : Functions → World → List Entry → Option ℕ
+abbrev pub first_refusal : Functions → World → List LogRecord → Option ℕ
 first_refusal functions world [] = None
 first_refusal functions world (entry ∷ entries) =
     elim (accepts functions world (mode_of entry.kind) entry.text) [ Ok given ↦ first_refusal functions given.world entries | Err number ↦ Some number ]

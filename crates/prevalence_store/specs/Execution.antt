@@ -3,7 +3,7 @@ use Rattle.std.specs.Prelude.{Bool, true, false, ◌≡◌, ◌⊎◌, ℕ, ◌+
 use Rattle.disk_trait.specs.Disk.{Image, State, IsHonest}
 use Rattle.disk_trait.specs.Half.{opposite_of}
 use Rattle.disk_trait.specs.declared.half.Half.{Half}
-use Rattle.gate_log.specs.Layout.{Contents, Entry, with_entry}
+use Rattle.gate_log.specs.Layout.{Contents, LogRecord, with_record}
 use Rattle.gate_log.specs.Log as gated
 use Rattle.lisp_object.specs.Object.{Object}
 use Rattle.lisp_object.specs.Datum.{object_of, is_proper}
@@ -23,13 +23,13 @@ use Rattle.plist_state.specs.State.{State as World}
 use Rattle.user_macros.specs.Functions.{Functions}
 
 -- the log holds what it held, or this record more
-abbrev pub IsBeforeOrAfter : Contents → Entry → Image → Type 0
-IsBeforeOrAfter k entry = gated.MeansEither (Some k) (Some (with_entry k entry))
+abbrev pub IsBeforeOrAfter : Contents → LogRecord → Image → Type 0
+IsBeforeOrAfter k entry = gated.FilesMeanEither (Some k) (Some (with_record k entry))
 
 -- ---- the forms that a call took, and how many of them it acknowledged
 
 -- of a form that was read: its one form, where it was accepted and wrote, and where it was under way as the device failed
-abbrev pub taken_in : Mode → List ℕ → Result Evaluated Failure → List Entry
+abbrev pub taken_in : Mode → List ℕ → Result Evaluated Failure → List LogRecord
 taken_in mode text (Ok evaluated) = records_of evaluated.wrote mode text
 taken_in mode text (Err failure.DeviceFault) = logged mode text ∷ []
 taken_in mode text (Err (failure.Refused number)) = []
@@ -55,7 +55,7 @@ module _ {D R : Type 0} (state : D → State) (old new : Session D R) where
     pub limit : new.limit ≡ old.limit
     pub macros : new.macros ≡ old.macros
     pub described : (k : Contents) → IsHonest (state old.disk) → Describes old k (state old.disk).reads
-        → Describes new (with_entry k (logged mode text)) (state new.disk).reads
+        → Describes new (with_record k (logged mode text)) (state new.disk).reads
     pub other : IsHonest (state old.disk) → LeavesAlone (opposite_of old.half) (state old.disk) (state new.disk)
     pub failures : (state new.disk).failures ≡ (state old.disk).failures
 
@@ -81,7 +81,7 @@ module _ {D R : Type 0} (state : D → State) (old new : Session D R) where
 
 module _ (functions : Functions) {D R : Type 0} (state : D → State) (old new : Session D R) where
   -- what a crash leaves: on an honest disk of which each crash would have left the world that was there
-  abbrev pub SurvivesAs : World → List Entry → ℕ → Type 0
+  abbrev pub SurvivesAs : World → List LogRecord → ℕ → Type 0
   SurvivesAs world taken acknowledged =
       old.world ≡ Some world → IsHonest (state old.disk) → Keeps functions (state old.disk) world
       → Survives functions (state old.disk) (state new.disk) world taken acknowledged new.world

@@ -2,7 +2,7 @@
 use Rattle.std.specs.Prelude.{ℕ, suc, zero, List, [], ◌∷◌, ◌++◌, drop, Option, None, Some, Ok, Err, codes}
 use Rattle.std.specs.Prelude.{decimal}
 use Rattle.std.specs.Option.{option_map, option_and_then}
-use Rattle.gate_log.specs.Layout.{Entry}
+use Rattle.gate_log.specs.Layout.{LogRecord}
 use Rattle.lisp_object.specs.Object.{Object}
 use Rattle.lisp_object.specs.Refusal.{name_of}
 use Rattle.prevalence_store.specs.declared.mode.Mode.{Mode}
@@ -27,7 +27,7 @@ refusal_line number = codes "! " ++ decimal number ++ 32 ∷ name_of number ++ 1
 pub record Progress : Type 0 where
   pub world : World
   pub rest : List ℕ
-  pub taken : List Entry
+  pub taken : List LogRecord
   pub lines : List ℕ
 
 -- before the first form

@@ -1,6 +1,6 @@
 -- When a session takes snapshots: in turn, after each so many forms that were logged; and where the next record has no room.
 use Rattle.std.specs.Prelude.{◌≡◌, ◌≢◌, ◌⊎◌, ℕ, ◌+◌, ◌<◌, ◌≤◌, List, [], ◌∷◌, ◌++◌, length, Some}
-use Rattle.gate_log.specs.Layout.{Entry}
+use Rattle.gate_log.specs.Layout.{LogRecord}
 use Rattle.lisp_object.specs.declared.refusal.TheConstants.{DEVICE, LOG_FULL, OUTPUT, NO_MEMORY}
 use Rattle.plist_state.specs.State.{State as World}
 use Rattle.snapshot_text.specs.Snapshot.{snapshot}
@@ -42,7 +42,7 @@ abbrev pub fill_of : {D R : Type 0} → Session D R → Fill
 fill_of session = record { generation = session.generation; record_count = session.record_count; size = session.size }
 
 -- with a record more
-abbrev pub longer_by : Entry → Fill → Fill
+abbrev pub longer_by : LogRecord → Fill → Fill
 longer_by entry fill = record { generation = fill.generation; record_count = fill.record_count + 1; size = fill.size + (6 + length entry.text) }
 
 -- the next half, with the text of this world
@@ -53,14 +53,14 @@ begun_with world fill = record { generation = fill.generation + 1; record_count 
 pub record IsOverIn (functions : Functions) (limit size : ℕ) (world : World) (mode : Mode) (text : List ℕ) : Type 0 where
   pub next : Progress
   pub next_is : one_form functions world mode text (read_in functions world mode text) ≡ Some next
-  pub record_ : Entry
+  pub record_ : LogRecord
   pub is_taken : next.taken ≡ record_ ∷ []
   pub over : limit < size + (6 + length record_.text)
 
 -- ---- one form that was logged
 
 -- A form with this record was logged in this world. Where the half had no room for it, a snapshot was taken first.
-pub record LogsWithRoom (limit : ℕ) (world : World) (entry : Entry) (fill now : Fill) : Type 0 where
+pub record LogsWithRoom (limit : ℕ) (world : World) (entry : LogRecord) (fill now : Fill) : Type 0 where
   pub room : Fill
   pub made : (room ≡ fill) ⊎ ((limit < fill.size + (6 + length entry.text)) × (room ≡ begun_with world fill))
   pub fits : room.size + (6 + length entry.text) ≤ limit
@@ -75,7 +75,7 @@ TakesTurn limit pace world fill now =
 
 module _ (functions : Functions) (limit : ℕ) where
   -- a form with this record, and what follows it: it was taken in this world, and left the other
-  pub record PacesOne (world given : World) (entry : Entry) (pace later : Pace) (fill now : Fill) : Type 0 where
+  pub record PacesOne (world given : World) (entry : LogRecord) (pace later : Pace) (fill now : Fill) : Type 0 where
     pub given_is : after functions world (entry ∷ []) ≡ Some given
     pub logged : Fill
     pub logs : LogsWithRoom limit world entry fill logged
@@ -83,7 +83,7 @@ module _ (functions : Functions) (limit : ℕ) where
     pub turn : TakesTurn limit pace given logged now
 
   -- Forms with these records, from this world on, each with what follows it. A form that leaves no record changes nothing of it.
-  abbrev pub Paces : World → List Entry → (pace later : Pace) (fill now : Fill) → Type 0
+  abbrev pub Paces : World → List LogRecord → (pace later : Pace) (fill now : Fill) → Type 0
   Paces world [] pace later fill now = (later ≡ pace) × (now ≡ fill)
   Paces world (entry ∷ entries) pace later fill now =
       (given : World) × (counted : Pace) × (turned : Fill)
@@ -93,13 +93,13 @@ module _ (functions : Functions) (limit : ℕ) where
 
   module _ (world : World) (pace : Pace) (fill : Fill) where
     -- all of these forms were logged, each with what follows it
-    abbrev pub IsPaced : List Entry → Fill → Type 0
+    abbrev pub IsPaced : List LogRecord → Fill → Type 0
     IsPaced taken now = (later : Pace) × Paces world taken pace later fill now
 
     -- the last of them was logged, and what follows it is not there
-    pub record IsUnturned (taken : List Entry) (now : Fill) : Type 0 where
-      pub earlier : List Entry
-      pub last : Entry
+    pub record IsUnturned (taken : List LogRecord) (now : Fill) : Type 0 where
+      pub earlier : List LogRecord
+      pub last : LogRecord
       pub parts : taken ≡ earlier ++ last ∷ []
       pub first : World
       pub first_is : after functions world earlier ≡ Some first

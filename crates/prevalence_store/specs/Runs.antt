@@ -1,7 +1,7 @@
 -- What steps one after the other come to, and what a crash leaves of them.
 use Rattle.std.specs.Prelude.{◌≡◌, ℕ, ◌+◌, ◌==◌, if◌then◌else◌, List, [], ◌∷◌, ◌++◌, length, Option, None, Some, Result, Ok, Err}
 use Rattle.disk_trait.specs.Disk.{State}
-use Rattle.gate_log.specs.Layout.{Entry}
+use Rattle.gate_log.specs.Layout.{LogRecord}
 use Rattle.lisp_object.specs.declared.refusal.TheConstants.{DEVICE, REOPEN}
 use Rattle.plist_state.specs.State.{State as World}
 use Rattle.prevalence_store.specs.declared.mode.Mode.{Mode}
@@ -34,7 +34,7 @@ module _ (functions : Functions) {D R : Type 0} (state : D → State) where
 
 -- of a form, by what the world accepts and by its outcome: its record, where it was accepted and wrote, and where it was under
 -- way as the device failed
-abbrev pub taken_of : Mode → Result Acceptance ℕ → Outcome → List Entry
+abbrev pub taken_of : Mode → Result Acceptance ℕ → Outcome → List LogRecord
 taken_of mode (Err number) outcome = []
 taken_of mode (Ok given) (Accepted value) = records_of given.wrote mode given.text
 taken_of mode (Ok given) Snapshotted = []
@@ -56,7 +56,7 @@ world_of world (Ok given) (Refused number) = world
 
 module _ (functions : Functions) where
   -- the records of all forms that were accepted and wrote, in order, and of the one under way as the device failed, if any
-  abbrev pub taken_in_steps : World → List Step → List Outcome → List Entry
+  abbrev pub taken_in_steps : World → List Step → List Outcome → List LogRecord
   taken_in_steps world [] outcomes = []
   taken_in_steps world (step ∷ steps) [] = []
   taken_in_steps world (Form mode text ∷ steps) (outcome ∷ outcomes) =

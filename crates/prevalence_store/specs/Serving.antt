@@ -4,7 +4,7 @@ use Rattle.std.specs.List.{sum_by}
 use Rattle.disk_trait.specs.Disk.{State, IsHonest}
 use Rattle.disk_trait.specs.Half.{opposite_of}
 use Rattle.disk_trait.specs.declared.half.Half.{Half}
-use Rattle.gate_log.specs.Layout.{Contents, Entry}
+use Rattle.gate_log.specs.Layout.{Contents, LogRecord}
 use Rattle.lisp_object.specs.declared.refusal.TheConstants.{DEVICE, LOG_FULL, SNAPSHOT_TOO_LARGE, INPUT, OUTPUT, NO_MEMORY}
 use Rattle.prevalence_store.specs.declared.mode.Mode.{Mode}
 use Rattle.prevalence_store.specs.declared.outcome.Ending.{Ending}
@@ -24,11 +24,11 @@ use Rattle.snapshot_text.specs.Snapshot.{snapshot}
 use Rattle.user_macros.specs.Functions.{Functions}
 
 -- the contents with these records more
-abbrev pub with_entries : Contents → List Entry → Contents
+abbrev pub with_entries : Contents → List LogRecord → Contents
 with_entries k entries = record k { entries = k.entries ++ entries }
 
 -- the bytes that these records take in a half
-abbrev pub room_of : List Entry → ℕ
+abbrev pub room_of : List LogRecord → ℕ
 room_of = sum_by (λ entry. 6 + length entry.text)
 
 -- the half in use after so many snapshots
@@ -37,12 +37,12 @@ turned zero half = half
 turned (suc snapshots) half = opposite_of (turned snapshots half)
 
 -- what a half holds that was begun with the text of a world, so many generations after these contents, and these records after it
-abbrev pub renewed : Contents → ℕ → World → List Entry → Contents
+abbrev pub renewed : Contents → ℕ → World → List LogRecord → Contents
 renewed k snapshots first entries = record { version = 1; generation = k.generation + snapshots; snapshot = snapshot first; entries = entries }
 
 module _ {D R : Type 0} (state : D → State) (old new : Session D R) where
   -- No snapshot was taken: the half that was in use has these records more.
-  pub record IsExtended (taken : List Entry) : Type 0 where
+  pub record IsExtended (taken : List LogRecord) : Type 0 where
     pub half : new.half ≡ old.half
     pub generation : new.generation ≡ old.generation
     pub record_count : new.record_count ≡ old.record_count + length taken
@@ -58,11 +58,11 @@ module _ {D R : Type 0} (state : D → State) (old new : Session D R) where
 
   -- Snapshots were taken, the last of them after the earlier of these records: the half in use is the text of the world that
   -- they left, and the later records.
-  pub record IsRenewed (functions : Functions) (world : World) (taken : List Entry) : Type 0 where
+  pub record IsRenewed (functions : Functions) (world : World) (taken : List LogRecord) : Type 0 where
     pub snapshots : ℕ
     pub some : 1 ≤ snapshots
-    pub earlier : List Entry
-    pub later : List Entry
+    pub earlier : List LogRecord
+    pub later : List LogRecord
     pub parts : taken ≡ earlier ++ later
     pub first : World
     pub first_is : after functions world earlier ≡ Some first
@@ -126,7 +126,7 @@ module _ (functions : Functions) {D R : Type 0} (state : D → State) (old new :
         -- the store as that form was taken
         pub mid : Session D R
         pub before : IsAfter functions state old mid world answered
-        pub record_ : Entry
+        pub record_ : LogRecord
         pub was_accepted : far.taken ≡ answered.taken ++ record_ ∷ []
         pub fits : mid.size + (6 + length record_.text) ≤ mid.limit
         pub failed : DeviceFails state mid new (opposite_of mid.half)

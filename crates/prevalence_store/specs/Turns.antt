@@ -1,7 +1,7 @@
 -- One turn of a session: what a piece more comes to, up to the first byte that decides something.
 use Rattle.std.specs.Prelude.{◌≡◌, ◌≢◌, ◌⊎◌, ℕ, ◌+◌, ◌<◌, ◌≤◌, Bool, true, false, List, [], ◌∷◌, ◌++◌, length, drop, Option, None, Some, IsSome, Ok, Err, Result}
 use Rattle.disk_trait.specs.Disk.{State}
-use Rattle.gate_log.specs.Layout.{Entry}
+use Rattle.gate_log.specs.Layout.{LogRecord}
 use Rattle.lisp_object.specs.Object.{Object, IsSound}
 use Rattle.lisp_object.specs.Datum.{object_of, is_proper}
 use Rattle.lisp_object.specs.declared.datum.Datum.{Datum}
@@ -45,12 +45,12 @@ pub record IsFormOf (functions : Functions) (left : Option World) (mode : Mode) 
   pub sound : IsSound (object_of datum)
 
 -- a form that was taken left no record, and the half in use is as it was; or its record was logged so
-abbrev pub LeavesRecord : (Entry → Type 0) → List Entry → (fill now : Fill) → (wrote : Bool) → Type 0
+abbrev pub LeavesRecord : (LogRecord → Type 0) → List LogRecord → (fill now : Fill) → (wrote : Bool) → Type 0
 LeavesRecord Logged taken fill now wrote =
-    ((wrote ≡ false) × (taken ≡ []) × (now ≡ fill)) ⊎ ((wrote ≡ true) × ((entry : Entry) × (taken ≡ entry ∷ []) × Logged entry))
+    ((wrote ≡ false) × (taken ≡ []) × (now ≡ fill)) ⊎ ((wrote ≡ true) × ((entry : LogRecord) × (taken ≡ entry ∷ []) × Logged entry))
 
 -- the half had room for this record
-abbrev pub LogsAtOnce : ℕ → (fill now : Fill) → Entry → Type 0
+abbrev pub LogsAtOnce : ℕ → (fill now : Fill) → LogRecord → Type 0
 LogsAtOnce limit fill now entry = (fill.size + (6 + length entry.text) ≤ limit) × (now ≡ longer_by entry fill)
 
 -- whether a form was logged
