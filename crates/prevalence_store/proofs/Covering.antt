@@ -26,8 +26,8 @@ use Rattle.form_eval.specs.Outcomes.{Outcome as Evaluation}
 use Rattle.form_eval.proofs.CoveringForms.{accepted_covers}
 use Rattle.form_reader.specs.Reading.{Outcome as Reading, form, empty, refused}
 use Rattle.snapshot_text.specs.Covered.{are_covered}
-use Rattle.snapshot_text.specs.Snapshot.{table_named}
-use Rattle.snapshot_text.proofs.Ascii.{keys_pass}
+use Rattle.world_text.specs.Snapshot.{table_named}
+use Rattle.world_text.proofs.Ascii.{keys_pass}
 use Rattle.prevalence_store.specs.Acceptance.{Acceptance, acceptance_of, accepted_of, accepts, after, between, mode_of, read_in}
 use Rattle.user_macros.specs.Functions.{Functions}
 use Rattle.prevalence_store.specs.Meaning.{ContentsMean}

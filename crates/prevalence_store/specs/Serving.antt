@@ -20,7 +20,7 @@ use Rattle.prevalence_store.specs.Session.{Session, Describes}
 use Rattle.prevalence_store.specs.Snapshots.{IsTooLarge}
 use Rattle.prevalence_store.specs.Streams.{Writes}
 use Rattle.plist_state.specs.State.{State as World}
-use Rattle.snapshot_text.specs.Snapshot.{snapshot}
+use Rattle.world_text.specs.Snapshot.{snapshot}
 use Rattle.user_macros.specs.Functions.{Functions}
 
 -- the contents with these records more

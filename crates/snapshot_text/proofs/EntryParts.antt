@@ -13,7 +13,7 @@ use Rattle.readtable_core.proofs.Sound.{standard_sound}
 use Rattle.readtable_core.proofs.Standard.{standard_syntax_at}
 use Rattle.readtable_core.proofs.Named.{number_known}
 use Rattle.std.proofs.lemmas.Bool.{leb-true}
-use Rattle.snapshot_text.specs.Snapshot.{number, dispatch_objects}
+use Rattle.world_text.specs.Snapshot.{number, dispatch_objects}
 use Rattle.snapshot_text.proofs.ReadParts.{item_at, item_count}
 use Rattle.snapshot_text.proofs.MacroParts.{no_places}
 

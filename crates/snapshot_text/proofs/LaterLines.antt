@@ -9,9 +9,9 @@ use Rattle.form_reader.specs.Setting.{setting_of}
 use Rattle.plist_state.specs.State.{State}
 use Rattle.plist_state.specs.Sound.{IsSound}
 use Rattle.snapshot_text.specs.Built.{with_packages_of, with_properties_of}
-use Rattle.snapshot_text.specs.Lines.{snapshot_limits, IsLineRead}
-use Rattle.snapshot_text.specs.Snapshot.{properties_object, tables_object}
-use Rattle.snapshot_text.proofs.LinesRead.{second_read, third_read}
+use Rattle.world_text.specs.Lines.{snapshot_limits, IsLineRead}
+use Rattle.world_text.specs.Snapshot.{properties_object, tables_object}
+use Rattle.world_text.proofs.LinesRead.{second_read, third_read}
 use Rattle.user_macros.specs.Functions.{Functions}
 
 module _ (functions : Functions) (s : State) (sound : IsSound s) (w : State) where

@@ -21,7 +21,7 @@ use Rattle.package_table.specs.Lookup.{is_symbol}
 use Rattle.package_table.specs.Table as packages
 use Rattle.plist_state.specs.State.{State}
 use Rattle.plist_state.specs.Sound.{IsSymbol}
-use Rattle.snapshot_text.specs.Snapshot.{number, dispatch_object, dispatch_objects}
+use Rattle.world_text.specs.Snapshot.{number, dispatch_object, dispatch_objects}
 use Rattle.snapshot_text.specs.Built.{with_table, IsWritable, IsSubFunction, IsNamedEntry}
 use Rattle.snapshot_text.proofs.Filling.{updates, put_all, update_at, update_below, filled, put_next}
 use Rattle.snapshot_text.proofs.ReadRows.{passing_item}

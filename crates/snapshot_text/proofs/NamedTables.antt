@@ -20,7 +20,7 @@ use Rattle.plist_state.specs.State.{Readtables, State, standard_name, user_name,
 use Rattle.plist_state.specs.Readers.{readtable_names}
 use Rattle.plist_state.specs.Sound.{IsSound, IsNamed, IsSymbol}
 use Rattle.plist_state.proofs.Orders.{name_total, name_exact, one_name, name_tied}
-use Rattle.snapshot_text.specs.Snapshot.{readtable_object, table_named}
+use Rattle.world_text.specs.Snapshot.{readtable_object, table_named}
 use Rattle.snapshot_text.specs.Built.{with_table, with_properties_of, with_readtables_of, CanBeMade}
 use Rattle.snapshot_text.proofs.KeysSoFar.{at_place}
 use Rattle.snapshot_text.proofs.ReadParts.{item_at, item_count}

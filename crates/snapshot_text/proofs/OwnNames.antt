@@ -20,13 +20,13 @@ use Rattle.package_table.specs.Growth.{Grows}
 use Rattle.package_table.proofs.Names.{tied_same, same_tied}
 use Rattle.package_table.proofs.Frames.{equal_itself, equal_names}
 use Rattle.package_table.proofs.Keeping.{present_once}
-use Rattle.snapshot_text.specs.Snapshot.{made_names}
+use Rattle.world_text.specs.Snapshot.{made_names}
 use Rattle.snapshot_text.specs.Part.{IsPartOf}
 use Rattle.snapshot_text.specs.Phases.{HasOwn}
 use Rattle.snapshot_text.specs.Own.{IsOwnName, HasOwnName}
-use Rattle.snapshot_text.proofs.Ascii.{from_truth}
-use Rattle.snapshot_text.proofs.PackageEntries.{eq, names_passing}
-use Rattle.snapshot_text.proofs.SamePackages.{any_passing}
+use Rattle.world_text.proofs.Ascii.{from_truth}
+use Rattle.world_text.proofs.PackageEntries.{eq, names_passing}
+use Rattle.world_text.proofs.SamePackages.{any_passing}
 use Rattle.snapshot_text.proofs.PartFinds.{present_entry, present_more}
 use Rattle.snapshot_text.proofs.PartSame.{first_part}
 

@@ -16,10 +16,10 @@ use Rattle.package_table.specs.Table.{Name, name_cmp, Entry, Package, Table, ent
 use Rattle.package_table.specs.Readers.{package_names, used_names, present, external_names, imports}
 use Rattle.package_table.proofs.Names.{same_some, none_some, tied_same, same_tied}
 use Rattle.package_table.proofs.Frames.{not_equal, unequal_names, equal_itself}
-use Rattle.snapshot_text.specs.Snapshot.{shown_names}
-use Rattle.snapshot_text.proofs.Ascii.{from_truth, below_none}
-use Rattle.snapshot_text.proofs.PackageEntries.{eq, names_passing, imported_at, other_home}
-use Rattle.snapshot_text.proofs.SamePackages.{any_passing}
+use Rattle.world_text.specs.Snapshot.{shown_names}
+use Rattle.world_text.proofs.Ascii.{from_truth, below_none}
+use Rattle.world_text.proofs.PackageEntries.{eq, names_passing, imported_at, other_home}
+use Rattle.world_text.proofs.SamePackages.{any_passing}
 
 -- ---- lists in order
 

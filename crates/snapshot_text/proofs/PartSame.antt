@@ -14,7 +14,7 @@ use Rattle.package_table.proofs.Frames.{package_there}
 use Rattle.package_table.proofs.KeptSound.{used_is_package}
 use Rattle.package_table.proofs.First as first
 use Rattle.snapshot_text.specs.Part.{IsAsFar, IsPartOf}
-use Rattle.snapshot_text.proofs.PackageEntries.{initial_at, keyword_first}
+use Rattle.world_text.proofs.PackageEntries.{initial_at, keyword_first}
 use Rattle.snapshot_text.proofs.PartFinds.{present_entry, present_package}
 
 -- ---- a part of each other

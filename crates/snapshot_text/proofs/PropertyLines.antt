@@ -19,15 +19,15 @@ use Rattle.plist_state.specs.State.{State}
 use Rattle.plist_state.specs.Readers.{symbols_with_properties}
 use Rattle.plist_state.specs.Sound.{IsSound}
 use Rattle.snapshot_text.specs.Built.{with_properties_of}
-use Rattle.snapshot_text.specs.Lines.{snapshot_limits}
+use Rattle.world_text.specs.Lines.{snapshot_limits}
 use Rattle.snapshot_text.specs.Rows.{symbol_at, row_of, row_text, text_after, IsUpTo}
-use Rattle.snapshot_text.specs.Snapshot.{line, properties_object}
-use Rattle.snapshot_text.specs.Tokens.{ends_with_token}
-use Rattle.snapshot_text.proofs.Spelling.{met_text}
-use Rattle.snapshot_text.proofs.Whole.{object_read_back}
-use Rattle.snapshot_text.proofs.WithinLimits.{tokens_short, plist_depth}
-use Rattle.snapshot_text.proofs.PlainObjects.{no_prefix}
-use Rattle.snapshot_text.proofs.OneLine.{good_symbols, row_good}
+use Rattle.world_text.specs.Snapshot.{line, properties_object}
+use Rattle.world_text.specs.Tokens.{ends_with_token}
+use Rattle.world_text.proofs.Spelling.{met_text}
+use Rattle.world_text.proofs.Whole.{object_read_back}
+use Rattle.world_text.proofs.WithinLimits.{tokens_short, plist_depth}
+use Rattle.world_text.proofs.PlainObjects.{no_prefix}
+use Rattle.world_text.proofs.OneLine.{good_symbols, row_good}
 use Rattle.snapshot_text.proofs.NextLine.{after_text, byte_place, after_byte, byte_is}
 use Rattle.snapshot_text.proofs.PropertyParts.{key_at, at_last}
 use Rattle.user_macros.specs.Functions.{Functions}

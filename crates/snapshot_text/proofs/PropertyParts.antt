@@ -22,7 +22,7 @@ use Rattle.plist_state.specs.Readers.{symbols_with_properties}
 use Rattle.plist_state.specs.Sound.{IsSound, IsSymbol, IsPlist, IsValue, IsApart}
 use Rattle.plist_state.proofs.Orders.{symbol_total, symbol_exact, one_symbol}
 use Rattle.plist_state.proofs.Lists.{kept, get-with_list, list-with_list, with_list_twice}
-use Rattle.snapshot_text.specs.Snapshot.{symbol_object}
+use Rattle.world_text.specs.Snapshot.{symbol_object}
 use Rattle.snapshot_text.specs.Built.{with_properties, with_each, with_packages_of, with_properties_of}
 use Rattle.snapshot_text.specs.Rows.{symbol_at, IsUpTo}
 use Rattle.snapshot_text.proofs.KeysSoFar.{keys_apart, next_is_new, at_place}

@@ -13,7 +13,7 @@ use Rattle.lisp_object.proofs.Lists.{is_list-other}
 use Rattle.lisp_object.proofs.ProperLists.{end_of_proper, items_of_proper, no_list_object, no_proper_list, pairs_proper, proper_pairs}
 use Rattle.std.specs.Prelude.{◌≢◌, codes}
 use Rattle.snapshot_text.proofs.ReadRows.{passing_item}
-use Rattle.snapshot_text.proofs.RowsByKey.{same_list}
+use Rattle.world_text.proofs.RowsByKey.{same_list}
 
 -- the items of NIL
 pub items_of_nil : (d : Datum) (xs : List Object) → d ≡ Datum.Symbol (codes "COMMON-LISP") (codes "NIL") → object_of d ≡ list_of xs → map object_of [] ≡ xs

@@ -3,7 +3,7 @@ use Rattle.std.proofs.Common.{◌≡◌, ℕ, List, [], ◌++◌, ap, ◌∙◌}
 use Rattle.lisp_object.specs.Object.{Object}
 use Rattle.package_table.specs.Table.{Table}
 use Rattle.plist_state.specs.State.{State}
-use Rattle.snapshot_text.specs.Snapshot.{line, packages_object, properties_object, tables_object, snapshot}
+use Rattle.world_text.specs.Snapshot.{line, packages_object, properties_object, tables_object, snapshot}
 
 -- the packages p and the object z are those of the state; t is the text so far after each line
 pub three_lines : (s : State) (p : Table) (z : Object) (t₀ t₁ t₂ t₃ : List ℕ)

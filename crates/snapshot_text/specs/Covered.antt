@@ -8,7 +8,7 @@ use Rattle.plist_state.specs.Readers.{readtable_names}
 use Rattle.plist_state.specs.Sound.{IsSound}
 use Rattle.snapshot_text.specs.declared.error.SnapshotError.{SnapshotError}
 use Rattle.snapshot_text.specs.declared.error.SnapshotError.TheVariants.{Damaged, MissingFunction, OutOfMemory}
-use Rattle.snapshot_text.specs.Snapshot.{table_named, snapshot}
+use Rattle.world_text.specs.Snapshot.{table_named, snapshot}
 
 -- each function that a readtable of the state names is standard, STD-DISPATCH or registered
 abbrev pub are_covered : List (List ℕ) → State → Bool

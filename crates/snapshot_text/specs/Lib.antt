@@ -6,5 +6,3 @@ pub mod Part
 pub mod Phases
 pub mod Refused
 pub mod Rows
-pub mod Snapshot
-pub mod Tokens

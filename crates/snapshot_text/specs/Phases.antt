@@ -9,7 +9,7 @@ use Rattle.package_table.specs.Readers.{package_names, used_names, imports}
 use Rattle.snapshot_text.specs.declared.error.BuildError.{BuildError}
 use Rattle.snapshot_text.specs.declared.error.BuildError.TheVariants.{OutOfMemory}
 use Rattle.snapshot_text.specs.declared.package_parts.PackageParts.{PackageParts}
-use Rattle.snapshot_text.specs.Snapshot.{made_names, shown_names, imported_name}
+use Rattle.world_text.specs.Snapshot.{made_names, shown_names, imported_name}
 use Rattle.snapshot_text.specs.Part.{IsPartOf}
 
 -- t has the package p, with the symbols that are at home there in s

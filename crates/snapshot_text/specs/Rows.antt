@@ -11,7 +11,7 @@ use Rattle.plist_state.specs.Properties.{Symbol, symbol_cmp}
 use Rattle.plist_state.specs.State.{State}
 use Rattle.plist_state.specs.Changes.{plist}
 use Rattle.plist_state.specs.Readers.{symbols_with_properties}
-use Rattle.snapshot_text.specs.Snapshot.{plist_object}
+use Rattle.world_text.specs.Snapshot.{plist_object}
 use Rattle.snapshot_text.specs.Built.{with_properties, with_packages_of}
 
 -- the symbol of the row at a place

@@ -1,7 +1,7 @@
 //! Snapshots as text.
 //!
 //! The text of a world is three printed objects: its packages, its property lists and its readtables (`snapshot` of
-//! specs/Snapshot.antt). `write` gives exactly this text. `read` gives a world whose text the bytes are, with no function
+//! world_text). `write` gives exactly this text. `read` gives a world whose text the bytes are, with no function
 //! missing, or says why not: what it refuses is the text of no sound state, or of one that names a missing function, but where
 //! memory runs out (specs/Covered.antt). The law `one_text_one_state` says that no other sound state has that text.
 //! `printed_objects_read_back` is the law that the printed text of an object is read, under the standard readtable and in the
@@ -14,12 +14,10 @@
 //! - `package_parts` (over `own_parts`), `property_parts`, `table_parts`: a world made from data, by its own calls; `parts`:
 //!   texts, lists and numbers in data; `known`: which data may be stored
 //! - `error`: `SnapshotError`
-//! - `laws`: `printed_objects_read_back`, `one_text_one_state`, `snapshot_lines_are_read`
 #![tactic(auto)]
 
 mod error;
 mod known;
-mod laws;
 mod lines;
 mod own_parts;
 mod package_parts;
@@ -36,6 +34,6 @@ mod texts;
 mod writer;
 
 pub use error::SnapshotError;
-pub use laws::{one_text_one_state, printed_objects_read_back, snapshot_lines_are_read};
 pub use reader::read;
+pub use world_text::{one_text_one_state, printed_objects_read_back, snapshot_lines_are_read};
 pub use writer::write;

@@ -5,8 +5,9 @@ ghost use Rattle.readtable_core.specs.Tables.{standard};
 ghost use Rattle.package_table.specs.Table.{Table, common_lisp_user};
 ghost use Rattle.form_reader.specs.Setting.{setting_of};
 ghost use Rattle.form_reader.specs.Reading.{form, reads};
-ghost use Rattle.snapshot_text.specs.Lines.{snapshot_limits, IsLineRead, IsFirst, IsNext};
-ghost use Rattle.snapshot_text.specs.Snapshot.{line};
+ghost use Rattle.world_text.specs.Lines.{snapshot_limits, IsLineRead};
+ghost use Rattle.snapshot_text.specs.Lines.{IsFirst, IsNext};
+ghost use Rattle.world_text.specs.Snapshot.{line};
 
 use crate::error::BuildError;
 use form_reader::{Limits, ReadOutcome, read_one};

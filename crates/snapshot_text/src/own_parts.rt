@@ -6,7 +6,7 @@ ghost use Rattle.lisp_object.specs.Datum.{object_of, is_proper};
 ghost use Rattle.package_table.specs.Table.{Name, Table, IsPackage, IsSound, common_lisp};
 ghost use Rattle.package_table.specs.Growth.{Grows};
 ghost use Rattle.plist_state.specs.Changes.{with_packages};
-ghost use Rattle.snapshot_text.specs.Snapshot.{made_names};
+ghost use Rattle.world_text.specs.Snapshot.{made_names};
 ghost use Rattle.snapshot_text.specs.Part.{IsPartOf};
 ghost use Rattle.snapshot_text.specs.Phases.{HasOwn, OrNoMemory};
 ghost use Rattle.snapshot_text.specs.Own.{IsOwnName, HasOwnName};

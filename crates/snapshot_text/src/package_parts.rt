@@ -7,7 +7,7 @@ ghost use Rattle.package_table.specs.Growth.{Grows};
 ghost use Rattle.plist_state.specs.Changes.{with_packages};
 ghost use Rattle.snapshot_text.specs.Part.{IsPartOf};
 ghost use Rattle.snapshot_text.specs.Phases.{HasSymbols, HasExternals, HasUses, IsBegun, IsRowOf, AreRowsOf, Everywhere, OrNoMemory};
-ghost use Rattle.snapshot_text.specs.Snapshot.{imported_name, package_object, packages_object};
+ghost use Rattle.world_text.specs.Snapshot.{imported_name, package_object, packages_object};
 
 use crate::error::BuildError;
 use crate::own_parts::make_own;

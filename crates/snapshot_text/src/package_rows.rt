@@ -7,7 +7,7 @@ ghost use Rattle.lisp_object.specs.Ascii.{is_ascii};
 ghost use Rattle.package_table.specs.Table.{IsPackage, common_lisp, common_lisp_user, initial as initial_packages};
 ghost use Rattle.package_table.specs.Lookup.{is_present};
 ghost use Rattle.canon_printer.specs.Printed.{printed};
-ghost use Rattle.snapshot_text.specs.Snapshot.{made_names, texts, imported_name, shown_names, package_object, packages_object};
+ghost use Rattle.world_text.specs.Snapshot.{made_names, texts, imported_name, shown_names, package_object, packages_object};
 ghost use Rattle.package_table.specs.Readers.{used_names, own_names, imports};
 
 use crate::printing::push_printed;
@@ -82,7 +82,7 @@ fn shown<'a>(
 }
 
 // The packages that a package uses.
-#[tactic(auto, using(crate::proofs::Ascii::used_names_ascii))]
+#[tactic(auto, using(world_text::proofs::Ascii::used_names_ascii))]
 fn used_of(alloc: Global, packages: &Packages, owner: &[u8]) -> Result<Datum, AllocError>
     ensures object { IfOk result (λ d. object_of d ≡ texts (used_names packages.now.0 owner.now)) }
     ensures proper { IfOk result (λ d. is_proper d ≡ true) }

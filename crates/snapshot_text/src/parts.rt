@@ -3,7 +3,7 @@ ghost use Rattle.std.specs.Prelude.{◌≡◌, ◌<◌, ℕ, List, true, All, ma
 ghost use Rattle.std.specs.List.{list_all};
 ghost use Rattle.lisp_object.specs.Object.{Object, text, list_of};
 ghost use Rattle.lisp_object.specs.Datum.{object_of, is_proper};
-ghost use Rattle.snapshot_text.specs.Snapshot.{number};
+ghost use Rattle.world_text.specs.Snapshot.{number};
 
 use crate::error::BuildError;
 use lisp_object::{Bytes, Datum};

@@ -7,7 +7,7 @@ ghost use Rattle.plist_state.specs.Readers.{symbols_with_properties};
 ghost use Rattle.plist_state.specs.Sound.{IsSound as IsSoundState};
 ghost use Rattle.snapshot_text.specs.Built.{with_packages_of, with_properties_of};
 ghost use Rattle.snapshot_text.specs.Rows.{IsUpTo, row_text, text_after};
-ghost use Rattle.snapshot_text.specs.Snapshot.{line, properties_object};
+ghost use Rattle.world_text.specs.Snapshot.{line, properties_object};
 
 use crate::error::BuildError;
 use crate::lines::object_at;

@@ -7,7 +7,7 @@ ghost use Rattle.plist_state.specs.Properties.{Plist, with_list};
 ghost use Rattle.plist_state.specs.Changes.{plist, with_property};
 ghost use Rattle.plist_state.specs.Shown.{symbol_of};
 ghost use Rattle.plist_state.specs.Sound.{IsSymbol, IsValue, IsPlist};
-ghost use Rattle.snapshot_text.specs.Snapshot.{symbol_object, plist_object};
+ghost use Rattle.world_text.specs.Snapshot.{symbol_object, plist_object};
 ghost use Rattle.snapshot_text.specs.Built.{with_properties, with_each};
 
 use crate::error::BuildError;

@@ -7,7 +7,7 @@ ghost use Rattle.package_table.specs.Table.{common_lisp_user};
 ghost use Rattle.canon_printer.specs.Printed.{printed};
 ghost use Rattle.plist_state.specs.Changes.{plist};
 ghost use Rattle.plist_state.specs.Shown.{property_of};
-ghost use Rattle.snapshot_text.specs.Snapshot.{symbol_object, plist_object, properties_object};
+ghost use Rattle.world_text.specs.Snapshot.{symbol_object, plist_object, properties_object};
 
 use crate::printing::push_printed;
 use lisp_object::{Bytes, Datum};

@@ -5,7 +5,7 @@ ghost use Rattle.plist_state.specs.State.{State, initial};
 ghost use Rattle.snapshot_text.specs.Built.{with_packages_of, with_properties_of};
 ghost use Rattle.plist_state.specs.Sound.{IsSound as IsSoundState};
 ghost use Rattle.snapshot_text.specs.Covered.{are_covered, IsRefused};
-ghost use Rattle.snapshot_text.specs.Snapshot.{packages_object, tables_object, line, snapshot};
+ghost use Rattle.world_text.specs.Snapshot.{packages_object, tables_object, line, snapshot};
 
 use crate::error::BuildError;
 use crate::lines::next_object;

@@ -12,7 +12,7 @@ ghost use Rattle.readtable_core.specs.Changes.{macro_syntax, with_entry, with_fu
 ghost use Rattle.package_table.specs.Table.{Name, keyword};
 ghost use Rattle.plist_state.specs.State.{State};
 ghost use Rattle.plist_state.specs.Sound.{IsSymbol, IsNamed, IsSound as IsSoundState};
-ghost use Rattle.snapshot_text.specs.Snapshot.{number, dispatch_objects, entry_object, entry_objects, readtable_object, readtables_object, tables_object};
+ghost use Rattle.world_text.specs.Snapshot.{number, dispatch_objects, entry_object, entry_objects, readtable_object, readtables_object, tables_object};
 ghost use Rattle.snapshot_text.specs.Built.{with_table, with_properties_of, with_readtables_of, CanBeMade, IsWritable, IsSubFunction, IsNamedEntry};
 
 use crate::error::BuildError;

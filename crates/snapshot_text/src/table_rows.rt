@@ -9,7 +9,7 @@ ghost use Rattle.readtable_core.specs.Characters.{syntax_number};
 ghost use Rattle.readtable_core.specs.Named.{same_entry};
 ghost use Rattle.readtable_core.specs.Tables.{entry_at, standard};
 ghost use Rattle.plist_state.specs.State.{standard_name};
-ghost use Rattle.snapshot_text.specs.Snapshot.{table_named, readtables_object, tables_object, number, dispatch_object, dispatch_objects, entry_object, entry_objects, readtable_object};
+ghost use Rattle.world_text.specs.Snapshot.{table_named, readtables_object, tables_object, number, dispatch_object, dispatch_objects, entry_object, entry_objects, readtable_object};
 
 use crate::texts::{list_of_three, text_of};
 use lisp_object::{Bytes, Datum};

@@ -7,7 +7,7 @@ ghost use Rattle.lisp_object.specs.Datum.{object_of, is_proper};
 ghost use Rattle.lisp_object.specs.Ascii.{is_ascii};
 ghost use Rattle.package_table.specs.Table.{common_lisp_user};
 ghost use Rattle.canon_printer.specs.Printed.{printed};
-ghost use Rattle.snapshot_text.specs.Snapshot.{texts, imported_name};
+ghost use Rattle.world_text.specs.Snapshot.{texts, imported_name};
 
 use crate::printing::push_printed;
 use lisp_object::{Bytes, Datum};

@@ -1,7 +1,7 @@
 //! The text of a world.
 ghost use Rattle.std.specs.Prelude.{◌≡◌, [], ◌∷◌, ◌++◌, true, IfOk, OnOk};
 ghost use Rattle.lisp_object.specs.Datum.{object_of, is_proper};
-ghost use Rattle.snapshot_text.specs.Snapshot.{line, packages_object, properties_object, snapshot};
+ghost use Rattle.world_text.specs.Snapshot.{line, packages_object, properties_object, snapshot};
 
 use crate::package_rows::push_packages;
 use crate::printing::push_printed;

@@ -6,7 +6,7 @@ use Rattle.disk_trait.specs.declared.half.Half.TheVariants.{A, B}
 use Rattle.lisp_object.specs.declared.refusal.TheConstants.{DEVICE, DAMAGED, MISSING_MACRO, VERSION, OUTPUT, NO_MEMORY}
 use Rattle.clap.specs.Words.{Text}
 use Rattle.plist_state.specs.State.{State as World}
-use Rattle.snapshot_text.specs.Snapshot.{snapshot}
+use Rattle.world_text.specs.Snapshot.{snapshot}
 use Rattle.user_macros.specs.Functions.{Functions}
 use Rattle.prevalence_store.specs.Opening.{IsOpened, IsUnopened}
 use Rattle.prevalence_store.specs.declared.outcome.Ending.{Ending}

@@ -4,7 +4,7 @@ ghost use Rattle.std.specs.List.{list_all};
 ghost use Rattle.readtable_core.specs.Names.{is_among};
 ghost use Rattle.plist_state.specs.State.{State as LispWorld};
 ghost use Rattle.prevalence_store.specs.Opening.{IsUnopened};
-ghost use Rattle.snapshot_text.specs.Snapshot.{snapshot};
+ghost use Rattle.world_text.specs.Snapshot.{snapshot};
 ghost use Rattle.clap.specs.Words.{kind_of};
 ghost use Rattle.store_program.specs.declared.words.Task.{Task};
 ghost use Rattle.store_program.specs.CommandLine.{AsksFor, IsTaken, asked_in as asked_by_words, faults_of};

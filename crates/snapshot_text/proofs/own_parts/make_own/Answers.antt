@@ -4,7 +4,7 @@ use Rattle.lisp_object.specs.Object.{text}
 use Rattle.lisp_object.specs.Datum.{object_of}
 use Rattle.package_table.specs.Table.{Name, Table, IsPackage, HasFirst, common_lisp}
 use Rattle.package_table.proofs.Growing.{grows_both}
-use Rattle.snapshot_text.specs.Snapshot.{made_names}
+use Rattle.world_text.specs.Snapshot.{made_names}
 use Rattle.snapshot_text.specs.Phases.{HasOwn}
 use Rattle.snapshot_text.proofs.OwnNames.{own_data, own_all}
 use Rattle.snapshot_text.proofs.own_parts.make_own.Goals as goal

@@ -8,7 +8,7 @@ use Rattle.package_table.specs.Table.{Name, Table, keyword, IsExternal, IsPresen
 use Rattle.package_table.proofs.Frames.{name_cases}
 use Rattle.snapshot_text.specs.declared.package_parts.PackageParts.{PackageParts}
 use Rattle.snapshot_text.specs.Phases.{HasSymbols, HasExternals, IsRowOf}
-use Rattle.snapshot_text.specs.Snapshot.{shown_names}
+use Rattle.world_text.specs.Snapshot.{shown_names}
 use Rattle.snapshot_text.proofs.Begins.{begun_grown, symbols_grown, one_more}
 use Rattle.snapshot_text.proofs.Gave.{refused_same}
 use Rattle.snapshot_text.proofs.PackageLists.{externals_are, external_among, shown_are, shown_none}

@@ -4,7 +4,7 @@ use Rattle.package_table.specs.Growth.{Grows}
 use Rattle.plist_state.specs.Changes.{with_packages}
 use Rattle.snapshot_text.specs.Part.{IsPartOf}
 use Rattle.snapshot_text.specs.Phases.{HasSymbols, IsBegun, IsRowOf}
-use Rattle.snapshot_text.specs.Snapshot.{shown_names}
+use Rattle.world_text.specs.Snapshot.{shown_names}
 use Rattle.snapshot_text.proofs.package_parts.export_each.Given as goal
 
 -- the names so far are external

@@ -9,7 +9,7 @@ use Rattle.package_table.specs.Readers.{imports}
 use Rattle.package_table.proofs.Frames.{name_cases}
 use Rattle.snapshot_text.specs.declared.package_parts.PackageParts.{PackageParts}
 use Rattle.snapshot_text.specs.Phases.{HasSymbols, IsBegun, IsRowOf}
-use Rattle.snapshot_text.specs.Snapshot.{imported_name}
+use Rattle.world_text.specs.Snapshot.{imported_name}
 use Rattle.snapshot_text.proofs.Begins.{begun_grown, one_more}
 use Rattle.snapshot_text.proofs.Gave.{refused_same}
 use Rattle.snapshot_text.proofs.PackageLists.{IsImport, imports_are, import_among}

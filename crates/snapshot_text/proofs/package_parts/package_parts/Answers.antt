@@ -3,7 +3,7 @@ use Rattle.lisp_object.specs.Object.{Object, text, list_of}
 use Rattle.lisp_object.specs.Datum.{object_of, is_proper}
 use Rattle.package_table.specs.Table.{Name, Table}
 use Rattle.package_table.specs.Readers.{used_names, imports}
-use Rattle.snapshot_text.specs.Snapshot.{texts, made_names, shown_names, imported_name}
+use Rattle.world_text.specs.Snapshot.{texts, made_names, shown_names, imported_name}
 use Rattle.snapshot_text.proofs.ReadRows.{mapped_length, read_item, passing_item}
 use Rattle.snapshot_text.proofs.package_parts.package_parts.Goals as goal
 

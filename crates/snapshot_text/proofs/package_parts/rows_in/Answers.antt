@@ -2,7 +2,7 @@ use Rattle.std.proofs.Common.{◌+◌, List, [], map, get_or, sym, ap, subst, �
 use Rattle.lisp_object.specs.Datum.{object_of, is_proper}
 use Rattle.snapshot_text.specs.declared.package_parts.PackageParts.{PackageParts}
 use Rattle.snapshot_text.specs.Phases.{AreFirstRows, other_packages}
-use Rattle.snapshot_text.specs.Snapshot.{package_object}
+use Rattle.world_text.specs.Snapshot.{package_object}
 use Rattle.snapshot_text.proofs.ReadRows.{same_item, passing_item, more_rows}
 use Rattle.snapshot_text.proofs.package_parts.rows_in.Goals as goal
 

@@ -1,6 +1,6 @@
 use Rattle.std.proofs.Common.{◌≡◌, true, IfOk, sym, subst, ◌∙◌}
 use Rattle.package_table.specs.Readers.{imports}
-use Rattle.snapshot_text.proofs.Ascii.{are_ascii_imports, imports_ascii}
+use Rattle.world_text.proofs.Ascii.{are_ascii_imports, imports_ascii}
 use Rattle.snapshot_text.proofs.package_rows.imported_of.Goals as goal
 
 pub returns-clause-proper : goal.returns-clause-proper

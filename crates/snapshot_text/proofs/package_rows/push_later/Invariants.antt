@@ -2,7 +2,7 @@ use Rattle.std.proofs.Common.{◌≡◌, ◌++◌, codes, take}
 use Rattle.std.specs.List.{flat_map}
 use Rattle.package_table.specs.Table.{common_lisp_user}
 use Rattle.canon_printer.specs.Printed.{printed}
-use Rattle.snapshot_text.specs.Snapshot.{package_object}
+use Rattle.world_text.specs.Snapshot.{package_object}
 use Rattle.snapshot_text.proofs.package_rows.push_later.Given as goal
 
 -- the packages so far

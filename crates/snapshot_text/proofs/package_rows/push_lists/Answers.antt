@@ -3,7 +3,7 @@ use Rattle.lisp_object.specs.Object.{Object, list_of}
 use Rattle.package_table.specs.Table.{common_lisp_user}
 use Rattle.package_table.specs.Readers.{used_names, imports}
 use Rattle.canon_printer.specs.Printed.{printed}
-use Rattle.snapshot_text.specs.Snapshot.{made_names, shown_names, imported_name, texts}
+use Rattle.world_text.specs.Snapshot.{made_names, shown_names, imported_name, texts}
 use Rattle.snapshot_text.proofs.RowsWritten.{four_added}
 use Rattle.snapshot_text.proofs.package_rows.push_lists.Goals as goal
 

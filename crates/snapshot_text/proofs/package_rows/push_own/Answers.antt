@@ -3,8 +3,8 @@ use Rattle.package_table.specs.Table.{common_lisp_user}
 use Rattle.package_table.specs.Lookup.{is_present}
 use Rattle.package_table.specs.Readers.{own_names}
 use Rattle.canon_printer.specs.Printed.{printed}
-use Rattle.snapshot_text.specs.Snapshot.{made_names, texts}
-use Rattle.snapshot_text.proofs.Ascii.{is_ascii_name, made_names_ascii}
+use Rattle.world_text.specs.Snapshot.{made_names, texts}
+use Rattle.world_text.proofs.Ascii.{is_ascii_name, made_names_ascii}
 use Rattle.snapshot_text.proofs.RowsWritten.{images_pass}
 use Rattle.snapshot_text.proofs.package_rows.push_own.Goals as goal
 

@@ -4,7 +4,7 @@ use Rattle.lisp_object.specs.Object.{text, list_of}
 use Rattle.package_table.specs.Table.{Name, common_lisp_user}
 use Rattle.package_table.specs.Readers.{used_names, imports}
 use Rattle.canon_printer.specs.Printed.{printed, printed_prefix}
-use Rattle.snapshot_text.specs.Snapshot.{made_names, shown_names, imported_name, texts}
+use Rattle.world_text.specs.Snapshot.{made_names, shown_names, imported_name, texts}
 use Rattle.snapshot_text.proofs.RowsWritten.{parts_written}
 use Rattle.snapshot_text.proofs.package_rows.push_package.Goals as goal
 

@@ -6,8 +6,8 @@ use Rattle.lisp_object.specs.Object.{list_of}
 use Rattle.package_table.specs.Table.{common_lisp, common_lisp_user}
 use Rattle.package_table.specs.Readers.{package_names}
 use Rattle.canon_printer.specs.Printed.{printed, printed_prefix}
-use Rattle.snapshot_text.specs.Snapshot.{package_object}
-use Rattle.snapshot_text.proofs.Ascii.{is_ascii_name, all_filtered, package_names_ascii}
+use Rattle.world_text.specs.Snapshot.{package_object}
+use Rattle.world_text.proofs.Ascii.{is_ascii_name, all_filtered, package_names_ascii}
 use Rattle.snapshot_text.proofs.RowsWritten.{parts_written, first_and_others, each_passes, each_mapped}
 use Rattle.snapshot_text.proofs.package_rows.push_packages.Goals as goal
 

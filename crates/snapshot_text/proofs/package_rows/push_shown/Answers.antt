@@ -1,8 +1,8 @@
 use Rattle.std.proofs.Common.{◌++◌, codes, map, ap, ◌∙◌}
 use Rattle.package_table.specs.Table.{common_lisp_user}
 use Rattle.canon_printer.specs.Printed.{printed}
-use Rattle.snapshot_text.specs.Snapshot.{texts}
-use Rattle.snapshot_text.proofs.Ascii.{is_ascii_name, shown_names_ascii}
+use Rattle.world_text.specs.Snapshot.{texts}
+use Rattle.world_text.proofs.Ascii.{is_ascii_name, shown_names_ascii}
 use Rattle.snapshot_text.proofs.RowsWritten.{images_pass}
 use Rattle.snapshot_text.proofs.package_rows.push_shown.Goals as goal
 

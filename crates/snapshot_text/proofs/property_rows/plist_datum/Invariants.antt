@@ -4,7 +4,7 @@ use Rattle.std.specs.List.{list_all, flat_map}
 use Rattle.lisp_object.specs.Datum.{object_of, is_proper}
 use Rattle.lisp_object.specs.Ascii.{is_ascii}
 use Rattle.plist_state.specs.Shown.{property_of}
-use Rattle.snapshot_text.specs.Snapshot.{symbol_object}
+use Rattle.world_text.specs.Snapshot.{symbol_object}
 use Rattle.snapshot_text.proofs.property_rows.plist_datum.Given as goal
 
 -- the symbol, and the properties so far

@@ -3,7 +3,7 @@ use Rattle.std.specs.List.{flat_map}
 use Rattle.package_table.specs.Table.{common_lisp_user}
 use Rattle.canon_printer.specs.Printed.{printed}
 use Rattle.plist_state.specs.Changes.{plist}
-use Rattle.snapshot_text.specs.Snapshot.{plist_object}
+use Rattle.world_text.specs.Snapshot.{plist_object}
 use Rattle.snapshot_text.proofs.property_rows.push_others.Given as goal
 
 -- the rows of the symbols so far

@@ -5,9 +5,9 @@ use Rattle.lisp_object.specs.Object.{list_of}
 use Rattle.package_table.specs.Table.{common_lisp_user}
 use Rattle.canon_printer.specs.Printed.{printed, printed_prefix}
 use Rattle.plist_state.specs.Changes.{plist}
-use Rattle.snapshot_text.specs.Snapshot.{plist_object}
+use Rattle.world_text.specs.Snapshot.{plist_object}
 use Rattle.snapshot_text.proofs.RowsWritten.{parts_written, first_and_others, first_either, each_passes, each_mapped}
-use Rattle.snapshot_text.proofs.Worlds.{is_ascii_symbol, symbols_ascii}
+use Rattle.world_text.proofs.Worlds.{is_ascii_symbol, symbols_ascii}
 use Rattle.snapshot_text.proofs.property_rows.push_properties.Goals as goal
 
 pub push_row-requires : goal.push_row-requires

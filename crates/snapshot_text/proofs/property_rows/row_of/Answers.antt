@@ -1,7 +1,7 @@
 use Rattle.std.proofs.Common.{sym, ap, ◌∙◌}
 use Rattle.std.proofs.lemmas.List.Folds.{list_all-map}
 use Rattle.plist_state.specs.Shown.{property_of}
-use Rattle.snapshot_text.proofs.Worlds.{is_ascii_symbol, are_ascii_indicators, plist_ascii}
+use Rattle.world_text.proofs.Worlds.{is_ascii_symbol, are_ascii_indicators, plist_ascii}
 use Rattle.snapshot_text.proofs.property_rows.row_of.Goals as goal
 
 pub returns-clause-proper : goal.returns-clause-proper

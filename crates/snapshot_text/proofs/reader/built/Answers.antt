@@ -1,7 +1,7 @@
 use Rattle.std.proofs.Common.{◌≡◌, ℕ, List, [], ◌++◌, drop, append_assoc, sym, ap, ◌∙◌}
 use Rattle.std.proofs.lemmas.List.{append-nil}
 use Rattle.plist_state.specs.State.{State}
-use Rattle.snapshot_text.specs.Snapshot.{packages_object, properties_object, tables_object, line, snapshot}
+use Rattle.world_text.specs.Snapshot.{packages_object, properties_object, tables_object, line, snapshot}
 use Rattle.snapshot_text.proofs.Gave.{refused_same}
 use Rattle.snapshot_text.proofs.reader.built.Goals as goal
 

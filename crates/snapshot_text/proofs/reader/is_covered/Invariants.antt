@@ -3,7 +3,7 @@ use Rattle.std.specs.List.{list_all}
 use Rattle.readtable_core.specs.Named.{functions_of}
 use Rattle.user_macros.specs.Registry.{is_covered}
 use Rattle.plist_state.specs.Readers.{readtable_names}
-use Rattle.snapshot_text.specs.Snapshot.{table_named}
+use Rattle.world_text.specs.Snapshot.{table_named}
 use Rattle.snapshot_text.proofs.reader.is_covered.Given as goal
 
 -- the functions of the readtables so far

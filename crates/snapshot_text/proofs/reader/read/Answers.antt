@@ -3,8 +3,8 @@ use Rattle.std.specs.Str.{bytes_eq}
 use Rattle.std.proofs.lemmas.Bool.{false≢true}
 use Rattle.package_table.proofs.Frames.{equal_itself}
 use Rattle.plist_state.specs.State.{State}
-use Rattle.snapshot_text.specs.Snapshot.{snapshot}
-use Rattle.snapshot_text.proofs.SameText.{one_state}
+use Rattle.world_text.specs.Snapshot.{snapshot}
+use Rattle.world_text.proofs.SameText.{one_state}
 use Rattle.snapshot_text.proofs.reader.read.Goals as goal
 
 pub returns-then-not-branch-clause-refused : goal.returns-then-not-branch-clause-refused

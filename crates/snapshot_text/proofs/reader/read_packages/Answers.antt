@@ -4,9 +4,9 @@ use Rattle.canon_printer.specs.Printed.{printed}
 use Rattle.plist_state.specs.State.{State}
 use Rattle.plist_state.specs.Changes.{with_packages}
 use Rattle.snapshot_text.specs.Part.{IsPartOf}
-use Rattle.snapshot_text.specs.Snapshot.{packages_object}
+use Rattle.world_text.specs.Snapshot.{packages_object}
 use Rattle.snapshot_text.proofs.Gave.{refused_same}
-use Rattle.snapshot_text.proofs.LinesRead.{first_read}
+use Rattle.world_text.proofs.LinesRead.{first_read}
 use Rattle.snapshot_text.proofs.NextLine.{line_fits}
 use Rattle.snapshot_text.proofs.PartSame.{first_part}
 use Rattle.snapshot_text.proofs.reader.read_packages.Goals as goal

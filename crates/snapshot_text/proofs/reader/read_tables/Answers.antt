@@ -1,6 +1,6 @@
 use Rattle.package_table.specs.Table.{common_lisp_user}
 use Rattle.canon_printer.specs.Printed.{printed}
-use Rattle.snapshot_text.specs.Snapshot.{tables_object}
+use Rattle.world_text.specs.Snapshot.{tables_object}
 use Rattle.snapshot_text.proofs.Gave.{refused_same}
 use Rattle.snapshot_text.proofs.LaterLines.{third_line}
 use Rattle.snapshot_text.proofs.NextLine.{line_fits}

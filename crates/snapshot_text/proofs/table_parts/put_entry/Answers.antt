@@ -5,7 +5,7 @@ use Rattle.lisp_object.specs.Object.{text, list_of}
 use Rattle.readtable_core.specs.Characters.{syntax_number}
 use Rattle.readtable_core.specs.Changes.{with_entry}
 use Rattle.readtable_core.proofs.Named.{same_number, number_known}
-use Rattle.snapshot_text.specs.Snapshot.{number, dispatch_objects}
+use Rattle.world_text.specs.Snapshot.{number, dispatch_objects}
 use Rattle.snapshot_text.specs.Built.{with_table}
 use Rattle.snapshot_text.specs.declared.error.BuildError.TheVariants.{OutOfMemory}
 use Rattle.snapshot_text.proofs.ReadParts.{item_count}

@@ -6,7 +6,7 @@ use Rattle.readtable_core.proofs.Sound.{standard_sound}
 use Rattle.package_table.specs.Table.{Name, keyword}
 use Rattle.plist_state.specs.State.{State}
 use Rattle.plist_state.specs.Sound.{IsNamed, IsSymbol}
-use Rattle.snapshot_text.specs.Snapshot.{entry_objects}
+use Rattle.world_text.specs.Snapshot.{entry_objects}
 use Rattle.snapshot_text.specs.Built.{with_table, CanBeMade, IsWritable}
 use Rattle.snapshot_text.specs.declared.error.BuildError.TheVariants.{OutOfMemory}
 use Rattle.snapshot_text.proofs.ReadParts.{item_count, three_items}

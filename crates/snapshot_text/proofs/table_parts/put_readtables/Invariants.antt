@@ -2,7 +2,7 @@ use Rattle.std.proofs.Common.{◌≡◌, true}
 use Rattle.lisp_object.specs.Datum.{object_of, is_proper}
 use Rattle.plist_state.specs.State.{State}
 use Rattle.plist_state.specs.Sound.{IsSound}
-use Rattle.snapshot_text.specs.Snapshot.{readtables_object}
+use Rattle.world_text.specs.Snapshot.{readtables_object}
 use Rattle.snapshot_text.specs.Built.{with_properties_of}
 use Rattle.snapshot_text.proofs.NamedTables.{IsNaming}
 use Rattle.snapshot_text.proofs.table_parts.put_readtables.Given as goal

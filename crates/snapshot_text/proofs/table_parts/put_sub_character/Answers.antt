@@ -8,7 +8,7 @@ use Rattle.readtable_core.specs.Changes.{with_entry, with_function}
 use Rattle.package_table.specs.Table.{keyword}
 use Rattle.plist_state.specs.Changes.{in_state, with_dispatch, dispatched}
 use Rattle.plist_state.specs.Sound.{IsSymbol}
-use Rattle.snapshot_text.specs.Snapshot.{number}
+use Rattle.world_text.specs.Snapshot.{number}
 use Rattle.snapshot_text.proofs.ReadParts.{item_count, two_items}
 use Rattle.snapshot_text.proofs.TableParts.{same_ok, changed_to, dispatched_is}
 use Rattle.snapshot_text.proofs.table_parts.put_sub_character.Goals as goal

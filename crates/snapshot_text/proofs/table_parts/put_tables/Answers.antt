@@ -1,7 +1,7 @@
 use Rattle.std.proofs.Common.{◌≡◌, ◌∷◌, [], List, length, arith}
 use Rattle.lisp_object.specs.Object.{Object, text}
 use Rattle.plist_state.specs.State.{State}
-use Rattle.snapshot_text.specs.Snapshot.{readtables_object}
+use Rattle.world_text.specs.Snapshot.{readtables_object}
 use Rattle.snapshot_text.proofs.ReadParts.{item_count}
 use Rattle.snapshot_text.proofs.table_parts.put_tables.Goals as goal
 

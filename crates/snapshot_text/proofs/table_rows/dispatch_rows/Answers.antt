@@ -1,4 +1,4 @@
-use Rattle.snapshot_text.specs.Snapshot.{dispatch_objects}
+use Rattle.world_text.specs.Snapshot.{dispatch_objects}
 use Rattle.snapshot_text.proofs.table_rows.dispatch_rows.Goals as goal
 
 pub returns-clause-objects : goal.returns-clause-objects

@@ -3,7 +3,7 @@ use Rattle.std.specs.List.{range_with_len}
 use Rattle.lisp_object.specs.Datum.{object_of}
 use Rattle.readtable_core.specs.Named.{same_entry}
 use Rattle.readtable_core.specs.Tables.{entry_at}
-use Rattle.snapshot_text.specs.Snapshot.{entry_object, entry_objects}
+use Rattle.world_text.specs.Snapshot.{entry_object, entry_objects}
 use Rattle.snapshot_text.proofs.table_rows.entry_rows.Goals as goal
 
 pub returns-clause-objects : goal.returns-clause-objects

@@ -1,7 +1,7 @@
 use Rattle.std.proofs.Common.{◌≡◌, true, map, get_or, None}
 use Rattle.std.specs.List.{list_all, flat_map, range_with_len}
 use Rattle.lisp_object.specs.Datum.{object_of, is_proper}
-use Rattle.snapshot_text.specs.Snapshot.{dispatch_object}
+use Rattle.world_text.specs.Snapshot.{dispatch_object}
 use Rattle.snapshot_text.proofs.table_rows.pairs_below.Given as goal
 
 -- the pairs of the sub-characters so far

@@ -4,7 +4,7 @@ use Rattle.std.specs.Str.{bytes_eq}
 use Rattle.lisp_object.specs.Datum.{object_of, is_proper}
 use Rattle.lisp_object.specs.Ascii.{is_ascii}
 use Rattle.plist_state.specs.State.{standard_name}
-use Rattle.snapshot_text.specs.Snapshot.{readtable_object, table_named}
+use Rattle.world_text.specs.Snapshot.{readtable_object, table_named}
 use Rattle.snapshot_text.proofs.table_rows.readtable_rows.Given as goal
 
 -- the rows of the readtables so far

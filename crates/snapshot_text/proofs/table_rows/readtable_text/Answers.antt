@@ -1,6 +1,6 @@
 use Rattle.std.proofs.Common.{ap, ◌∙◌}
-use Rattle.snapshot_text.proofs.Ascii.{is_ascii_name}
-use Rattle.snapshot_text.proofs.Worlds.{current_readtable_ascii}
+use Rattle.world_text.proofs.Ascii.{is_ascii_name}
+use Rattle.world_text.proofs.Worlds.{current_readtable_ascii}
 use Rattle.snapshot_text.proofs.table_rows.readtable_text.Goals as goal
 
 pub returns-clause-proper : goal.returns-clause-proper

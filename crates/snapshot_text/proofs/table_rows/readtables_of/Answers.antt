@@ -1,8 +1,8 @@
 use Rattle.std.proofs.Common.{◌≡◌, true, rules, ap, ◌∙◌}
 use Rattle.std.specs.List.{list_all}
 use Rattle.lisp_object.specs.Datum.{is_proper}
-use Rattle.snapshot_text.proofs.Ascii.{are_ascii_names}
-use Rattle.snapshot_text.proofs.Worlds.{readtable_names_ascii}
+use Rattle.world_text.proofs.Ascii.{are_ascii_names}
+use Rattle.world_text.proofs.Worlds.{readtable_names_ascii}
 use Rattle.snapshot_text.proofs.table_rows.readtables_of.Goals as goal
 
 pub returns-clause-proper : goal.returns-clause-proper

@@ -2,7 +2,7 @@ use Rattle.std.proofs.Common.{◌≡◌, ◌&&◌, true, map, take}
 use Rattle.std.specs.List.{list_all}
 use Rattle.lisp_object.specs.Datum.{object_of, is_proper}
 use Rattle.lisp_object.specs.Ascii.{is_ascii}
-use Rattle.snapshot_text.specs.Snapshot.{imported_name}
+use Rattle.world_text.specs.Snapshot.{imported_name}
 use Rattle.snapshot_text.proofs.texts.imports_of.Given as goal
 
 -- the rows of the imports so far

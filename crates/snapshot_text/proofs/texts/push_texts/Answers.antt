@@ -6,8 +6,8 @@ use Rattle.lisp_object.specs.Object as object
 use Rattle.lisp_object.specs.Object.{list_of}
 use Rattle.package_table.specs.Table.{common_lisp_user}
 use Rattle.canon_printer.specs.Printed.{printed, printed_prefix}
-use Rattle.snapshot_text.specs.Snapshot.{texts}
-use Rattle.snapshot_text.proofs.Ascii.{is_ascii_name}
+use Rattle.world_text.specs.Snapshot.{texts}
+use Rattle.world_text.proofs.Ascii.{is_ascii_name}
 use Rattle.snapshot_text.proofs.RowsWritten.{parts_written, first_and_others, first_either, each_passes, each_mapped}
 use Rattle.snapshot_text.proofs.texts.push_texts.Goals as goal
 
