@@ -12,7 +12,7 @@ ghost use Rattle.form_reader.specs.declared.reader.FormReader.{FormReader};
 ghost use Rattle.form_reader.specs.declared.reader.Step.TheVariants.{More};
 ghost use Rattle.form_reader.specs.Reader.{IsAfter, IsBetween, Steps};
 ghost use Rattle.form_reader.specs.declared.way.Keep.{Keep};
-ghost use Rattle.form_reader.specs.Plans.{Plan, loop, run};
+ghost use Rattle.form_reader.specs.Plans.{loop, run};
 ghost use Rattle.form_reader.specs.Setting.{Setting, setting_of};
 ghost use Rattle.form_reader.specs.Gathering.{text_turn, line_turn, block_turn, number_turn};
 ghost use Rattle.form_reader.specs.Reading.{is_whitespace, Outcome, form, empty, refused, place_turn, place, items_turn, items_after, attempt, outcome, reads_at, reads, IsFramed};

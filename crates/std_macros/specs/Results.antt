@@ -1,5 +1,5 @@
 -- What the calls are handed and answer.
-use Rattle.std.specs.Prelude.{◌≡◌, ℕ, ◌==◌, true, ◌∷◌, map, Option, Some, None, Result, Ok, Err, IsTrue}
+use Rattle.std.specs.Prelude.{◌≡◌, ℕ, true, map, Option, Some, None, Result, Ok, Err, IsTrue}
 use Rattle.std.specs.List.{list_all}
 use Rattle.lisp_object.specs.Ascii.{is_ascii}
 use Rattle.lisp_object.specs.Object.{Object}

@@ -1,5 +1,5 @@
 -- A token as it is fed byte by byte: what the scan has come to, and what it gives if these bytes follow.
-use Rattle.std.specs.Prelude.{ℕ, ◌≡◌, ◌+◌, ◌<◌, List, [], ◌∷◌, ◌++◌, Ok, Bool, true, false, not, IsTrue}
+use Rattle.std.specs.Prelude.{ℕ, ◌≡◌, ◌+◌, List, [], ◌∷◌, ◌++◌, Ok, Bool, true, false, not, IsTrue}
 use Rattle.readtable_core.specs.declared.characters.Syntax.{Syntax}
 use Rattle.readtable_core.specs.declared.characters.Syntax.TheVariants.{SingleEscape, MultipleEscape}
 use Rattle.token_scan.specs.declared.mark.Mark.{Mark}
