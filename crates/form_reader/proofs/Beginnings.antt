@@ -145,19 +145,19 @@ module _ (setting : Setting) (frames : List Frame) (call : InvokedCall) (way : W
       ∙ ap (λ (xs : List Object). run setting.table setting.limits (between setting (record { call = call; part = InUntil close xs } ∷ frames)) at cs) (sym none)
       ∙ ap (λ (fs : List Frame). run setting.table setting.limits (between setting fs) at cs) (sym p)
 
-  abbrev call_token : InvokedCall → Scan → Read Found
-  call_token held scan =
-      token_goes_on setting frames (λ marks. completed setting (length frames) held true false (marked marks)) (token_read setting.table setting.limits scan at cs)
+  abbrev call_token : Scan → Read Found
+  call_token scan =
+      token_goes_on setting frames (λ marks. completed setting (length frames) call true false (marked marks)) (token_read setting.table setting.limits scan at cs)
 
-  pub token_at : (held : InvokedCall) (scan : Scan) → way ≡ Token → held ≡ call → scan ≡ begun setting.limits.token → opened_so way ≡ call_token held scan
-  token_at held scan e same p =
+  pub token_at : (scan : Scan) → way ≡ Token → scan ≡ begun setting.limits.token → opened_so way ≡ call_token scan
+  token_at scan e p =
       ap opened_so e ∙ token_begins setting frames setting.limits.token (λ marks. completed setting (length frames) call true false (marked marks)) at cs
-      ∙ (λ i. call_token (sym same i) (sym p i))
+      ∙ ap call_token (sym p)
 
-  pub escaped_at : (held : InvokedCall) (scan : Scan) → way ≡ EscapedToken → held ≡ call → scan ≡ begun_escaped setting.limits.token → opened_so way ≡ call_token held scan
-  escaped_at held scan e same p =
+  pub escaped_at : (scan : Scan) → way ≡ EscapedToken → scan ≡ begun_escaped setting.limits.token → opened_so way ≡ call_token scan
+  escaped_at scan e p =
       ap opened_so e ∙ escaped_begins setting frames setting.limits.token (λ marks. completed setting (length frames) call true false (marked marks)) at cs
-      ∙ (λ i. call_token (sym same i) (sym p i))
+      ∙ ap call_token (sym p)
 
   pub nothing_at : (result : Result Event AllocError) → way ≡ Nothing
       → IfOk result (λ event. Brings setting frames at cs event (plan_gives setting frames (completed setting (length frames) call false false no_material) at cs))

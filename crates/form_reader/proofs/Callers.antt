@@ -3,8 +3,6 @@ use Rattle.std.proofs.Common.{◌≡◌, ℕ, ◌-◌, Bool, true, false, List, 
 use Rattle.std.specs.declared.alloc.AllocError.{AllocError}
 use Rattle.lisp_object.specs.declared.refusal.TheConstants.{OUT_OF_PROFILE}
 use Rattle.readtable_core.specs.Names.{is_dispatch_name}
-use Rattle.readtable_core.specs.Tables.{entry_at}
-use Rattle.std_macros.specs.Values.{Material}
 use Rattle.token_scan.specs.declared.mark.Mark.{Mark}
 use Rattle.token_scan.specs.Scans.{Scan}
 use Rattle.form_reader.specs.declared.bytes.LineByte.{LineByte}
@@ -19,7 +17,6 @@ use Rattle.form_reader.specs.Setting.{Setting, function_of}
 use Rattle.form_reader.specs.Reading.{called, dispatched, macro_called}
 use Rattle.form_reader.specs.Feeding.{TokenFeeds, token_read}
 use Rattle.form_reader.specs.Frames.{given, plan_gives, token_goes_on}
-use Rattle.form_reader.specs.Memory.{call_at_once, EndsAtPlace, calls, OpensCall, OpensAtPlace}
 use Rattle.form_reader.specs.Resuming.{inner_at, Brings, Begins}
 use Rattle.form_reader.proofs.Beginnings.{given_refused}
 
@@ -51,23 +48,6 @@ module _ (setting : Setting) (frames : List Frame) (c at : ℕ) (cs : List ℕ) 
       let whole : call_gives call ≡ macro_gives function =
       ap call_gives (is ∙ ap of_character same) ∙ sym (named_gives name dispatch) ∙ sym (ap macro_gives e) in
       subst (λ (r : Read Found). IfOk result (λ event. Brings setting after at cs event r)) whole begins
-
-  pub character_is : (function : Option (List ℕ)) (name : List ℕ) (f : Function) (call : InvokedCall)
-      → function ≡ Some name → is_dispatch_name name ≡ false → f ≡ function_of name → call ≡ of_character f → macro_gives function ≡ call_gives call
-  character_is function name f call e dispatch same is = ap macro_gives e ∙ named_gives name dispatch ∙ sym (ap call_gives (is ∙ ap of_character same))
-
--- its call ends at once, where its function gathers nothing
-pub macro_ends : (setting : Setting) (c : ℕ) (name : List ℕ) (f : Function) (own : InvokedCall) → (entry_at setting.table c).function ≡ Some name → is_dispatch_name name ≡ false → f ≡ function_of name
-    → own ≡ record { function = f; character = c; sub = None; number = None } → (inner : List Frame) (call : InvokedCall) (material : Material) → call_at_once setting own inner call material
-    → EndsAtPlace setting c inner call material
-macro_ends setting c name f own e dispatch same is inner call material h =
-    calls name e dispatch (subst (λ (o : InvokedCall). call_at_once setting o inner call material) (is ∙ (λ i. record { function = same i; character = c; sub = None; number = None })) h)
-
--- it is open, where its function reads objects
-pub macro_opens : (setting : Setting) (c : ℕ) (name : List ℕ) (f : Function) (own : InvokedCall) → (entry_at setting.table c).function ≡ Some name → is_dispatch_name name ≡ false → f ≡ function_of name
-    → own ≡ record { function = f; character = c; sub = None; number = None } → OpensCall setting own → OpensAtPlace setting c
-macro_opens setting c name f own e dispatch same is h =
-    (name, e, dispatch, subst (OpensCall setting) (is ∙ (λ i. record { function = same i; character = c; sub = None; number = None })) h)
 
 pub token_ends : (setting : Setting) (frames : List Frame) (on : List Mark → Plan Found) (old new : Scan) (marks : List Mark) (fed : LineByte) (at c : ℕ) (cs : List ℕ) (event : Event)
     → fed ≡ LineEnded → TokenFeeds setting.table setting.limits new at c cs fed (token_read setting.table setting.limits old at (c ∷ cs)) → marks ≡ new.marks

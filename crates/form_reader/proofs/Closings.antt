@@ -1,5 +1,5 @@
 -- What an open call gives where its closing character comes.
-use Rattle.std.proofs.Common.{◌≡◌, ℕ, ◌-◌, Bool, false, List, length, Some, Result, IfOk, refl, sym, ap, subst, ◌∙◌, arith}
+use Rattle.std.proofs.Common.{◌≡◌, ℕ, ◌-◌, Bool, false, List, length, Result, IfOk, refl, sym, ap, subst, ◌∙◌, arith}
 use Rattle.lisp_object.specs.Object.{Object}
 use Rattle.lisp_object.specs.declared.refusal.TheConstants.{DOT_CONTEXT}
 use Rattle.std_macros.specs.Values.{Material, many, dotted}
@@ -16,7 +16,6 @@ use Rattle.form_reader.specs.Setting.{Setting}
 use Rattle.form_reader.specs.Reading.{closed, completed}
 use Rattle.form_reader.specs.Completing.{plan_of}
 use Rattle.form_reader.specs.Frames.{call_in, plan_gives}
-use Rattle.form_reader.specs.Memory.{gathered_at_close}
 use Rattle.form_reader.specs.Resuming.{Brings, ComesTo}
 use Rattle.form_reader.proofs.Beginnings.{given_refused}
 
@@ -55,26 +54,6 @@ module _ (setting : Setting) (frames : List Frame) (call : InvokedCall) (at : �
       → IfOk result (λ event. Brings setting frames at cs event (completing (dotted ys last))) → IfOk result (λ event. Brings setting frames at cs event (closing part))
   tailed_closes part xs ys tail last result e same ends brings =
       subst (λ (r : Read Found). IfOk result (λ event. Brings setting frames at cs event r)) ((λ i. completing (dotted (same i) (ends i))) ∙ sym (ap closing e)) brings
-
-  pub list_gathers : (part : Part) (xs ys : List Object) → part ≡ InList xs → ys ≡ xs → closing part ≡ completing (many ys)
-  list_gathers part xs ys e same = ap closing e ∙ list_gives xs ∙ sym (ap (λ (xs : List Object). completing (many xs)) same)
-
-  pub until_gathers : (part : Part) (close : ℕ) (xs ys : List Object) → part ≡ InUntil close xs → ys ≡ xs → closing part ≡ completing (many ys)
-  until_gathers part close xs ys e same = ap closing e ∙ until_gives close xs ∙ sym (ap (λ (xs : List Object). completing (many xs)) same)
-
-  pub tailed_gathers : (part : Part) (xs ys : List Object) (tail last : Object) → part ≡ InTailed xs tail → ys ≡ xs → last ≡ tail → closing part ≡ completing (dotted ys last)
-  tailed_gathers part xs ys tail last e same ends = ap closing e ∙ sym (λ i. completing (dotted (same i) (ends i)))
-
--- what it has gathered
-module _ (part : Part) where
-  pub list_gathered : (xs ys : List Object) → part ≡ InList xs → ys ≡ xs → gathered_at_close part ≡ Some (many ys)
-  list_gathered xs ys e same = ap gathered_at_close e ∙ ap (λ (zs : List Object). Some (many zs)) (sym same)
-
-  pub until_gathered : (close : ℕ) (xs ys : List Object) → part ≡ InUntil close xs → ys ≡ xs → gathered_at_close part ≡ Some (many ys)
-  until_gathered close xs ys e same = ap gathered_at_close e ∙ ap (λ (zs : List Object). Some (many zs)) (sym same)
-
-  pub tailed_gathered : (xs ys : List Object) (tail last : Object) → part ≡ InTailed xs tail → ys ≡ xs → last ≡ tail → gathered_at_close part ≡ Some (dotted ys last)
-  tailed_gathered xs ys tail last e same ends = ap gathered_at_close e ∙ (λ i. Some (dotted (sym same i) (sym ends i)))
 
 -- what the call gives, whether a token ends it or not
 pub call_ends : (setting : Setting) (frames : List Frame) (call : InvokedCall) (at : ℕ) (cs : List ℕ) (token : Bool) (material : Material) (round : ℕ) (done : Completed) (event : Event)

@@ -8,7 +8,7 @@ use Rattle.form_reader.specs.declared.complete.Completed.{Completed}
 use Rattle.form_reader.specs.declared.deliver.Delivered.{Delivered}
 use Rattle.form_reader.specs.declared.deliver.Delivered.TheVariants.{Done}
 use Rattle.form_reader.specs.declared.deliver.Taken.{Taken}
-use Rattle.form_reader.specs.declared.deliver.Taken.TheVariants.{Stays, Refused as TakenRefused}
+use Rattle.form_reader.specs.declared.deliver.Taken.TheVariants.{Stays, Gives as TakenGives, Refused as TakenRefused}
 use Rattle.form_reader.specs.declared.found.Found.{Found}
 use Rattle.form_reader.specs.declared.found.Found.TheVariants.{Nothing as nothing, One as one, LoneDot as lone_dot, TheEnd as the_end}
 use Rattle.form_reader.specs.declared.frame.Frame.{Frame}
@@ -19,7 +19,7 @@ use Rattle.form_reader.specs.Calls.{InvokedCall}
 use Rattle.form_reader.specs.Setting.{Setting}
 use Rattle.form_reader.specs.Reading.{place, without_space, items_after, undotted, after_tail, list_end, completed}
 use Rattle.form_reader.specs.Completing.{plan_of}
-use Rattle.form_reader.specs.Delivering.{Takes, TakesFrom, Delivers}
+use Rattle.form_reader.specs.Delivering.{Takes, Shortens, Delivers}
 use Rattle.form_reader.specs.Frames.{attempt_in, place_in, call_in, given, between, place_gives, with_object, with_dot, with_found, calls_with, is_next, is_waiting}
 use Rattle.form_reader.proofs.Opened.{space_given, list_is, until_is}
 use Rattle.form_reader.proofs.Turns.{space_same}
@@ -254,15 +254,14 @@ as_many (f ∷ fs) after found e = by (with_found f.part found) refl
     by None n = let never : None ≡ Some after = sym (ap (option_map calls) n) ∙ e in cc
     by (Some new) n = ap length (sym (some_same (calls new) after (sym (ap (option_map calls) n) ∙ e)))
 
-pub stays_from : (frames after : List Frame) (found : Found) (token : Bool) → calls_with frames found ≡ Some after → TakesFrom frames found after (Stays token)
-stays_from frames after found token e = let many : length after ≡ length frames = as_many frames after found e in (e, omega (arith, many))
+pub stays_open : (frames after : List Frame) (found : Found) (token : Bool) → calls_with frames found ≡ Some after → Shortens frames after (Stays token)
+stays_open frames after found token e = let many : length after ≡ length frames = as_many frames after found e in omega (arith, many)
 
-pub nothing_from : (frames : List Frame) (found : Found) (token : Bool) → found ≡ nothing token → 0 < length frames → TakesFrom frames found frames (Stays token)
-nothing_from [] found token e some = absurd (omega (arith, some))
-nothing_from (f ∷ fs) found token e some = (ap (calls_with (f ∷ fs)) e, omega arith)
-
-pub refused_from : (frames after : List Frame) (found : Found) (code place : ℕ) → after ≡ frames → TakesFrom frames found after (TakenRefused code place)
-refused_from frames after found code place e = let many : length after ≡ length frames = ap length e in omega (arith, many)
+-- the innermost ended
+pub fewer_open : (frames after : List Frame) (taken : Taken) → length after < length frames → Shortens frames after taken
+fewer_open frames after (Stays token) less = omega (arith, less)
+fewer_open frames after (TakenGives found) less = less
+fewer_open frames after (TakenRefused code place) less = omega (arith, less)
 
 -- ---- call after call
 

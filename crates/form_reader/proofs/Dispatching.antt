@@ -4,7 +4,6 @@ use Rattle.std.specs.declared.alloc.AllocError.{AllocError}
 use Rattle.lisp_object.specs.declared.refusal.TheConstants.{FORM_TOO_LONG, INVALID_CHARACTER, NO_DISPATCH}
 use Rattle.readtable_core.specs.Characters.{upper_case}
 use Rattle.readtable_core.specs.Tables.{dispatch_at}
-use Rattle.std_macros.specs.Values.{Material}
 use Rattle.form_reader.specs.declared.found.Found.{Found}
 use Rattle.form_reader.specs.declared.frame.Frame.{Frame}
 use Rattle.form_reader.specs.declared.stage.Event.{Event}
@@ -14,7 +13,6 @@ use Rattle.form_reader.specs.Calls.{InvokedCall}
 use Rattle.form_reader.specs.Setting.{Setting, function_of}
 use Rattle.form_reader.specs.Reading.{called, sub_called, sub_there, dispatched, number_after}
 use Rattle.form_reader.specs.Frames.{given}
-use Rattle.form_reader.specs.Memory.{call_at_once, EndsAtSub, OpensCall, OpensAtSub}
 use Rattle.form_reader.specs.Resuming.{inner_at, Brings, Begins}
 use Rattle.form_reader.proofs.Opened.{given_moves, given_fault, gathering_ends}
 use Rattle.form_reader.proofs.Beginnings.{given_refused}
@@ -59,44 +57,6 @@ module _ (setting : Setting) (frames : List Frame) (character at c : ℕ) (numbe
       let whole : call_gives call ≡ sub_gives =
       ap call_gives (is ∙ (λ i. of_sub (same i) (upper i) (digits i))) ∙ sym (sub_taken lt ascii ∙ ap sub_found e) in
       subst (λ (r : Read Found). IfOk result (λ event. Brings setting after (at + 1) cs event r)) whole begins
-
-  pub sub_is : (name : List ℕ) (f : Function) (sub : ℕ) (n : Option ℕ) (call : InvokedCall) → at < setting.limits.text → c < 128 → dispatch_at setting.table character c ≡ Some name
-      → f ≡ function_of name → sub ≡ upper_case c → n ≡ number → call ≡ of_sub f sub n → sub_gives ≡ call_gives call
-  sub_is name f sub n call lt ascii e same upper digits is =
-      sub_taken lt ascii ∙ ap sub_found e ∙ sym (ap call_gives (is ∙ (λ i. of_sub (same i) (upper i) (digits i))))
-
--- its call ends at once, where its function gathers nothing
-pub sub_ends : (setting : Setting) (character c : ℕ) (digits : Option ℕ) (name : List ℕ) (f : Function) (sub : ℕ) (n : Option ℕ) (own : InvokedCall) → dispatch_at setting.table character c ≡ Some name
-    → f ≡ function_of name → sub ≡ upper_case c → n ≡ digits → own ≡ record { function = f; character = character; sub = Some sub; number = n }
-    → (inner : List Frame) (call : InvokedCall) (material : Material) → call_at_once setting own inner call material → EndsAtSub setting character digits c inner call material
-sub_ends setting character c digits name f sub n own e same upper counts is inner call material h =
-    (name, e, subst (λ (o : InvokedCall). call_at_once setting o inner call material) (is ∙ (λ i. record { function = same i; character = character; sub = Some (upper i); number = counts i })) h)
-
--- it is open, where its function reads objects
-pub sub_opens : (setting : Setting) (character c : ℕ) (digits : Option ℕ) (name : List ℕ) (f : Function) (sub : ℕ) (n : Option ℕ) (own : InvokedCall) → dispatch_at setting.table character c ≡ Some name
-    → f ≡ function_of name → sub ≡ upper_case c → n ≡ digits → own ≡ record { function = f; character = character; sub = Some sub; number = n }
-    → OpensCall setting own → OpensAtSub setting character digits c
-sub_opens setting character c digits name f sub n own e same upper counts is h =
-    (name, e, subst (OpensCall setting) (is ∙ (λ i. record { function = same i; character = character; sub = Some (upper i); number = counts i })) h)
-
--- the same of a character and a number that are held
-pub held_ends : (setting : Setting) (held character c : ℕ) (old new : Option ℕ) → held ≡ character → new ≡ old → (inner : List Frame) (call : InvokedCall) (material : Material)
-    → EndsAtSub setting held new c inner call material → EndsAtSub setting character old c inner call material
-held_ends setting held character c old new same kept inner call material h =
-    subst (λ (n : ℕ). EndsAtSub setting n old c inner call material) same (subst (λ (digits : Option ℕ). EndsAtSub setting held digits c inner call material) kept h)
-
-pub held_opens : (setting : Setting) (held character c : ℕ) (old new : Option ℕ) → held ≡ character → new ≡ old → OpensAtSub setting held new c → OpensAtSub setting character old c
-held_opens setting held character c old new same kept h =
-    subst (λ (n : ℕ). OpensAtSub setting n old c) same (subst (λ (digits : Option ℕ). OpensAtSub setting held digits c) kept h)
-
--- where the number has ended, it is what the sub-character gives
-pub number_is : (setting : Setting) (frames : List Frame) (held character at c : ℕ) (old new : Option ℕ) (cs : List ℕ)
-    → run setting.table setting.limits (number_after setting old) at (c ∷ cs) ≡ Ok (new, at, c ∷ cs) → held ≡ character
-    → run setting.table setting.limits (given setting frames (dispatched setting (length frames) (inner_at setting (length frames)) character old)) at (c ∷ cs)
-    ≡ sub_gives setting frames held at c new cs
-number_is setting frames held character at c old new cs e same =
-    gathering_ends setting frames (number_after setting old) (sub_there setting (length frames) (inner_at setting (length frames)) character) new at at (c ∷ cs) (c ∷ cs) e
-    ∙ ap (λ (n : ℕ). sub_gives setting frames n at c new cs) (sym same)
 
 -- the number has ended, and the byte is the sub-character
 pub number_ended : (setting : Setting) (frames after : List Frame) (character at c : ℕ) (old new : Option ℕ) (cs : List ℕ) (result : Result Event AllocError)

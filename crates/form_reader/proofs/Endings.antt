@@ -1,15 +1,13 @@
 -- What the end of the text is to a reader, in any open calls.
-use Rattle.std.proofs.Common.{◌≡◌, ℕ, ◌+◌, ◌-◌, ◌≤◌, Bool, true, false, List, [], ◌∷◌, ◌++◌, length, Option, Some, None, Result, Ok, IfOk, refl, sym, ap, subst, ◌∙◌, arith}
+use Rattle.std.proofs.Common.{◌≡◌, ℕ, ◌+◌, ◌-◌, ◌≤◌, Bool, true, false, List, [], ◌∷◌, length, Option, Some, None, Result, Ok, IfOk, refl, sym, ap, subst, ◌∙◌, arith}
 use Rattle.std.specs.declared.alloc.AllocError.{AllocError}
 use Rattle.lisp_object.specs.declared.refusal.TheConstants.{END_OF_FILE}
 use Rattle.readtable_core.specs.Tables.{Table}
 use Rattle.token_scan.specs.declared.mark.Mark.{Mark}
 use Rattle.token_scan.specs.Scans.{Scan}
 use Rattle.form_reader.specs.declared.found.Found.{Found}
-use Rattle.form_reader.specs.declared.found.Found.TheVariants.{Nothing as nothing, One as one, LoneDot as lone_dot, TheEnd as the_end}
+use Rattle.form_reader.specs.declared.found.Found.TheVariants.{Nothing as nothing, TheEnd as the_end}
 use Rattle.form_reader.specs.declared.frame.Frame.{Frame}
-use Rattle.form_reader.specs.declared.frame.Part.{Part}
-use Rattle.form_reader.specs.declared.frame.Part.TheVariants.{Next as InNext, List as InList, Until as InUntil, Dotted as InDotted, Tailed as InTailed}
 use Rattle.form_reader.specs.declared.limits.Limits.{Limits}
 use Rattle.form_reader.specs.declared.stage.Event.{Event}
 use Rattle.form_reader.specs.declared.way.Keep.{Keep}
@@ -18,7 +16,6 @@ use Rattle.form_reader.specs.declared.deliver.Delivered.TheVariants.{Waits}
 use Rattle.form_reader.specs.declared.ending.ReadOutcome.{ReadOutcome}
 use Rattle.form_reader.specs.declared.stage.Event.TheVariants.{Gives as IsGiven}
 use Rattle.form_reader.specs.declared.stage.Stage.{Stage}
-use Rattle.form_reader.specs.declared.stage.Stage.TheVariants.{Object as AtObject}
 use Rattle.form_reader.specs.declared.turn.Settled.{Settled}
 use Rattle.form_reader.specs.declared.turn.Settled.TheVariants.{Done as SettledDone}
 use Rattle.form_reader.specs.Delivering.{Delivers}
@@ -28,11 +25,11 @@ use Rattle.form_reader.specs.Setting.{Setting}
 use Rattle.form_reader.specs.Gathering.{text_turn, line_turn, block_turn, number_turn}
 use Rattle.form_reader.specs.Reading.{Piece, without_space, empty, sub_there, dispatched}
 use Rattle.form_reader.specs.Feeding.{token_read}
-use Rattle.form_reader.specs.Frames.{attempt_in, place_in, call_in, close_of, is_keeping, given, between, plan_gives, token_goes_on}
+use Rattle.form_reader.specs.Frames.{attempt_in, place_in, call_in, close_of, given, between, token_goes_on}
 use Rattle.form_reader.specs.Resuming.{inner_at, stage_gives, Brings}
-use Rattle.form_reader.specs.Ending.{is_kept, TokenStops}
+use Rattle.form_reader.specs.Ending.{TokenStops}
 use Rattle.form_reader.specs.Turning.{outcome_of, Settles}
-use Rattle.form_reader.proofs.Deliveries.{framed_by, delivered, nothing_stays, one_in_list, one_in_until}
+use Rattle.form_reader.proofs.Deliveries.{delivered}
 use Rattle.form_reader.proofs.Forms.{reads_is, the_end_there}
 use Rattle.form_reader.proofs.Steps.{and_then, run_then}
 use Rattle.form_reader.proofs.Turns.{loop_is, text_guarded, line_guarded, block_guarded, number_guarded, attempt_ends, place_at_end}
@@ -123,52 +120,6 @@ no_space : (setting : Setting) (frames : List Frame) (at : ℕ) (token : Bool)
 unfolding run
 no_space setting frames at true = refl
 no_space setting frames at false = refl
-
--- a call that keeps an object among others stays open
-keeps_last : (setting : Setting) (frames : List Frame) (found : Found) (at : ℕ) → at ≤ setting.limits.text → is_kept frames found ≡ true
-    → plan_gives setting frames (gives found) at [] ≡ fault END_OF_FILE at
-keeps_last setting [] (one token x) at h e = cc
-keeps_last setting (f ∷ fs) (one token x) at h e = by f.part e
-  where
-    stays : (part : Part) → run setting.table setting.limits (without_space setting.table token (between setting (framed_by f.call part ∷ fs))) at [] ≡ fault END_OF_FILE at
-    stays part = no_space setting (framed_by f.call part ∷ fs) at token ∙ some_waits setting (framed_by f.call part ∷ fs) at h (λ e. cc)
-
-    by : (part : Part) → is_keeping part ≡ true → delivered setting fs f.call at [] part (one token x) ≡ fault END_OF_FILE at
-    by InNext e = cc
-    by (InList xs) e = one_in_list setting fs f.call at [] token xs (xs ++ x ∷ []) x h refl ∙ stays (InList (xs ++ x ∷ []))
-    by (InUntil close xs) e = one_in_until setting fs f.call at [] token close xs (xs ++ x ∷ []) x h refl ∙ stays (InUntil close (xs ++ x ∷ []))
-    by (InDotted xs) e = cc
-    by (InTailed xs tail) e = cc
-keeps_last setting frames (nothing token) at h e = cc
-keeps_last setting frames lone_dot at h e = cc
-keeps_last setting frames the_end at h e = cc
-
-pub kept_waits : (setting : Setting) (frames : List Frame) (found : Found) (at : ℕ) (settled : Settled) → at ≤ setting.limits.text → is_kept frames found ≡ true
-    → Settles setting frames at [] settled (stage_gives setting frames AtObject at []) → Settles setting frames at [] settled (plan_gives setting frames (gives found) at [])
-kept_waits setting frames found at settled h e settles =
-    subst (λ (r : Read Found). Settles setting frames at [] settled r)
-    (some_waits setting frames at h (some_open frames found e) ∙ sym (keeps_last setting frames found at h e)) settles
-  where
-    some_open : (frames : List Frame) (found : Found) → is_kept frames found ≡ true → length frames ≡ 0 → ⊥
-    some_open [] (one token x) e none = cc
-    some_open (f ∷ fs) (one token x) e none = omega (arith, none)
-    some_open frames (nothing token) e none = cc
-    some_open frames lone_dot e none = cc
-    some_open frames the_end e none = cc
-
--- no value
-pub nothing_none : (setting : Setting) (frames : List Frame) (at : ℕ) (token : Bool) → length frames ≡ 0
-    → (plan_gives setting frames (gives (nothing token)) at [] ≡ Ok (nothing token, at, [])) × (frames ≡ [])
-unfolding given run
-nothing_none setting [] at token e = (refl, refl)
-nothing_none setting (f ∷ fs) at token e = absurd (omega (arith, e))
-
-pub nothing_some : (setting : Setting) (frames : List Frame) (at : ℕ) (token : Bool) (settled : Settled) → (length frames ≡ 0 → ⊥)
-    → Settles setting frames at [] settled (stage_gives setting frames AtObject at []) → Settles setting frames at [] settled (plan_gives setting frames (gives (nothing token)) at [])
-nothing_some setting [] at token settled never settles = absurd (never refl)
-nothing_some setting (f ∷ fs) at token settled never settles =
-    subst (λ (r : Read Found). Settles setting (f ∷ fs) at [] settled r)
-    (sym (nothing_stays setting fs f.call at [] token f.part ∙ no_space setting (f ∷ fs) at token)) settles
 
 -- ---- the outermost attempt
 

@@ -11,7 +11,7 @@ use Rattle.token_scan.specs.declared.refusal.ScanRefusal.TheVariants.{EndOfFile,
 use Rattle.token_scan.specs.declared.scan.Fed.{Fed}
 use Rattle.token_scan.specs.declared.scan.Fed.TheVariants.{More, Ended, Refused as FedRefused}
 use Rattle.token_scan.specs.Tokens.{TypedByte, met, Scanned, typed, typed_text, in_bytes}
-use Rattle.token_scan.specs.Scans.{Scan, GoesPast, token_from, fed_gives}
+use Rattle.token_scan.specs.Scans.{Scan, token_from, fed_gives}
 use Rattle.token_scan.proofs.Standing.{bytes_typed}
 use Rattle.token_scan.proofs.Forwards.{forwards}
 use Rattle.token_meaning.specs.Results.{scan_refusal_number}
@@ -56,10 +56,6 @@ cut_over limit at (Err f) h le =
       | false ↦ Err (record { code = FORM_TOO_LONG; at = limit })
     ] in
     ap by (not_below limit f.refusal f.at (omega arith))
-
-past_by : (at : ℕ) (r : Scanned) → GoesPast at r → MatchResult r (λ t. at + 1 ≤ t.1) (λ e. at + 1 ≤ e.at)
-past_by at (Ok t) h = omega (arith, h)
-past_by at (Err e) h = omega (arith, h)
 
 byte_cut : (limit at code : ℕ) → at ≤ limit
     → ◌≡◌ {A = Read (List Mark)} (elim (nat_lt at limit) [ true ↦ Err (record { code = code; at = at }) | false ↦ Err (record { code = FORM_TOO_LONG; at = limit }) ])
@@ -118,15 +114,6 @@ module _ (table : Table) (limits : Limits) (old new : Scan) (at c : ℕ) (cs : L
       → token_from old at (met s c ∷ typed_text table cs) ≡ fed_gives fed new at (met s c) (typed_text table cs)
       → token_read table limits old at (c ∷ cs) ≡ fault FORM_TOO_LONG at
   token_over h g p q e = token_over_by table limits old new at c cs (omega arith) (fed_is table old new at c cs s fed More p q e)
-
-  -- what would go past it is one byte too many there, though there is no memory for it
-  pub token_beyond : at ≤ limits.text → limits.text ≤ at → s ≡ (entry_at table c).syntax → GoesPast at (token_from old at (met s c ∷ typed_text table cs))
-      → token_read table limits old at (c ∷ cs) ≡ fault FORM_TOO_LONG at
-  token_beyond h g p past =
-      let full : limits.text ≡ at = omega (arith, h, g) in
-      ap (λ (x : Syntax). cut limits.text (token_from old at (met x c ∷ typed_text table cs))) (sym p)
-      ∙ cut_over limits.text (at + 1) (token_from old at (met s c ∷ typed_text table cs)) (omega arith) (past_by at (token_from old at (met s c ∷ typed_text table cs)) past)
-      ∙ ap (λ (n : ℕ). fault FORM_TOO_LONG n) full
 
   pub token_refused : (refusal : ScanRefusal) → at ≤ limits.text → s ≡ (entry_at table c).syntax → fed ≡ FedRefused refusal
       → token_from old at (met s c ∷ typed_text table cs) ≡ fed_gives fed new at (met s c) (typed_text table cs)

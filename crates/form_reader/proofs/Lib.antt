@@ -11,11 +11,8 @@ pub mod Gathered
 pub mod Fed
 pub mod FedTokens
 pub mod TakenTokens
-pub mod Costing
-pub mod TokenCalls
 pub mod Beginnings
 pub mod Goings
-pub mod Spending
 pub mod Taking
 pub mod Deliveries
 pub mod Closings
@@ -30,7 +27,6 @@ pub mod Passing
 pub mod TurnsTaken
 pub mod Spaces
 pub mod Endings
-pub mod EndSpending
 pub mod ReaderSteps
 pub mod Standings
 pub mod Bounded

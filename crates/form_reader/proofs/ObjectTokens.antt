@@ -137,16 +137,6 @@ module _ (setting : Setting) (at c : ℕ) (cs : List ℕ) where
       ∙ sym (attempts setting at c cs frames h other) in
       subst (λ (r : Read Found). IfOk result (λ event. Brings setting after (at + 1) cs event r)) whole brings
 
-  pub object_closed : (f : Frame) (fs frames : List Frame) → frames ≡ f ∷ fs → close_of f.part ≡ Some c → at < setting.limits.text
-      → waiting frames ≡ run setting.table setting.limits (given setting fs (call_in setting f fs closed)) (at + 1) cs
-  object_closed f fs frames is e lt = closes setting at c cs f fs frames c is e (eq-eqb c c refl) lt
-
-  pub object_attempted : (now frames : List Frame) → now ≡ frames → at ≤ setting.limits.text → ((close : ℕ) → close_of_frames frames ≡ Some close → (c == close) ≡ false)
-      → waiting frames ≡ run setting.table setting.limits (given setting now (attempt_at setting (length now))) at (c ∷ cs)
-  object_attempted now frames same h other =
-      attempts setting at c cs frames h other
-      ∙ sym (ap (λ (fs : List Frame). run setting.table setting.limits (given setting fs (attempt_at setting (length fs))) at (c ∷ cs)) same)
-
 -- a token begins
 pub object_begins : (setting : Setting) (at c : ℕ) (cs : List ℕ) (frames : List Frame) (scan : Scan) → at ≤ setting.limits.text → length frames ≤ setting.limits.nesting
     → ((close : ℕ) → close_of_frames frames ≡ Some close → (c == close) ≡ false) → stands_alone (entry_at setting.table c).syntax ≡ false

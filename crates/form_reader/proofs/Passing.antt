@@ -1,6 +1,5 @@
 -- What a byte is that ended a token, or was taken, carried on to the whole.
-use Rattle.std.proofs.Common.{◌≡◌, ℕ, ◌+◌, true, List, ◌∷◌, Result, Ok, IfOk, sym, ap, subst, ◌∙◌}
-use Rattle.std.specs.Prelude.{OnErr}
+use Rattle.std.proofs.Common.{◌≡◌, ℕ, ◌+◌, List, ◌∷◌, Result, IfOk, sym, ap, subst, ◌∙◌}
 use Rattle.std.specs.declared.alloc.AllocError.{AllocError}
 use Rattle.form_reader.specs.declared.found.Found.{Found}
 use Rattle.form_reader.specs.declared.frame.Frame.{Frame}
@@ -13,10 +12,8 @@ use Rattle.form_reader.specs.declared.stage.Event.TheVariants.{Gives as IsGiven}
 use Rattle.form_reader.specs.Plans.{gives, Read}
 use Rattle.form_reader.specs.Setting.{Setting}
 use Rattle.form_reader.specs.Delivering.{Passes}
-use Rattle.form_reader.specs.Frames.{needs_memory, plan_gives}
+use Rattle.form_reader.specs.Frames.{plan_gives}
 use Rattle.form_reader.specs.Resuming.{Brings, Moves}
-use Rattle.form_reader.specs.Memory.{event_needs, SpendsPass}
-use Rattle.form_reader.proofs.Spending.{turn_spends}
 
 -- what was found before the byte is passed on
 pub before_passes : (setting : Setting) (after last : List Frame) (at c : ℕ) (cs : List ℕ) (moved : Moved) (event : Event) (found : Found) (read : Read Found) (result : Result Passed AllocError)
@@ -31,8 +28,3 @@ before_passes setting after last at c cs moved event found read result e is move
 pub taken_brings : (setting : Setting) (frames : List Frame) (at c : ℕ) (cs : List ℕ) (passed : Passed) (event : Event) (read : Read Found) → passed ≡ PassedTaken event
     → Passes setting frames at c cs passed read → Brings setting frames (at + 1) cs event read
 taken_brings setting frames at c cs passed event read e passes = subst (λ (p : Passed). Passes setting frames at c cs p read) e passes
-
-pub taken_spends : {T : Type 0} (result : Result T AllocError) (passed : Passed) (frames : List Frame) (event : Event) (P : Type 0) → passed ≡ PassedTaken event
-    → OnErr result (event_needs frames event ≡ true) → SpendsPass (needs_memory frames) (Ok passed) P → OnErr result P
-taken_spends result passed frames event P e needs h =
-    turn_spends result frames event P needs (subst (λ (p : Passed). SpendsPass (needs_memory frames) (Ok p) P) e h)

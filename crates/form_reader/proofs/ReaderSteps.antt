@@ -1,5 +1,5 @@
 -- What a step and the end of the text are to a reader, from what a turn is to the outcome.
-use Rattle.std.proofs.Common.{◌≡◌, ℕ, ◌+◌, ◌≤◌, true, false, List, [], ◌∷◌, ◌++◌, length, Result, Ok, Err, IfOk, take, drop, sym, ap, subst, ◌∙◌, append_assoc, append-nil, length-append, arith}
+use Rattle.std.proofs.Common.{◌≡◌, ℕ, ◌+◌, ◌≤◌, true, List, [], ◌∷◌, ◌++◌, length, Result, Ok, Err, IfOk, take, drop, sym, ap, subst, ◌∙◌, append_assoc, append-nil, length-append, arith}
 use Rattle.std.proofs.lemmas.List.{take-append-drop}
 use Rattle.lisp_object.specs.declared.datum.Datum.{Datum}
 use Rattle.lisp_object.specs.Object.{Object, IsSound}
@@ -29,8 +29,7 @@ use Rattle.form_reader.specs.declared.in_place.InPlace.{InPlace}
 use Rattle.form_reader.specs.declared.in_place.InPlace.TheVariants.{Taken as InPlaceTaken, Passed as InPlacePassed, Left as InPlaceLeft, Refused as InPlaceRefused}
 use Rattle.form_reader.specs.InPlace.{FeedsInPlace, IsReadyInPlace}
 use Rattle.form_reader.specs.Turning.{outcome_of, rest_of, TurnsTo, IsStanding, IsReadyTurn, BeginsFrom}
-use Rattle.form_reader.specs.Reader.{fed, begun, MayGoOn, DecideNothing, IsNew, IsAfter, IsAfterIn, Steps, BeginsLater, IsLeftAt, IsSoundStep, Takes, NeedsMemory, undecided, token_ends, call_ends, MayRunOutIn, MayRunOut}
-use Rattle.form_reader.specs.Memory.{is_space, RunsOut, with_it, before_it, goes_on, comes_to}
+use Rattle.form_reader.specs.Reader.{fed, begun, MayGoOn, DecideNothing, IsNew, IsAfter, IsAfterIn, Steps, BeginsLater, IsSoundStep, Takes}
 use Rattle.form_reader.proofs.Deciding.{may_go_on, decide_nothing}
 use Rattle.form_reader.proofs.Forms.{reads_is, stood}
 
@@ -219,35 +218,6 @@ module _ (under : Limits → Setting) (held handed : Limits) (old reader : FormR
       let told : Steps (under handed) reader (front ++ byte ∷ []) (StepRefused code place) =
       subst (λ (s : Step). Steps (under handed) reader (front ++ byte ∷ []) s) e (under_limits limits after steps) in
       ap (reads (under handed)) (whole_text same) ∙ told.0 (drop (k + 1) bytes)
-
--- ---- out of memory
-
-needs : (setting : Setting) (old : FormReader) (stage : Stage) (bytes : List ℕ) (byte : ℕ) → IsAfterIn setting old (Open stage) bytes
-    → RunsOut setting old.frames stage old.at byte → NeedsMemory setting old.frames stage old.start old.at bytes byte
-needs setting old stage bytes byte a (before_it ends) = token_ends ends
-needs setting old stage bytes byte a (with_it there calls (goes_on more after later le stands same)) =
-    let many : length (bytes ++ byte ∷ []) ≡ length bytes + 1 = length-append bytes (byte ∷ []) in
-    let count : old.start + (old.at + 1) ≡ length (bytes ++ byte ∷ []) = omega (arith, many, a.0) in
-    undecided there calls more (decide_nothing setting after later old.start (old.at + 1) (bytes ++ byte ∷ []) stands le count
-    (λ cs. ap (reads setting) (append_assoc bytes (byte ∷ []) cs) ∙ a.1 (byte ∷ cs) ∙ ap (outcome_of setting old.start) (same cs)))
-needs setting old stage bytes byte a (with_it there calls (comes_to inner round is call material own cost same)) =
-    call_ends there inner round calls is call material own cost (λ cs. a.1 (byte ∷ cs) ∙ ap (outcome_of setting old.start) (same cs))
-
-pub runs_out : (setting : Setting) (old : FormReader) (stage : Stage) (bytes : List ℕ) (byte : ℕ) → old.state ≡ Open stage → IsAfter setting old bytes
-    → RunsOut setting old.frames stage old.at byte → is_space setting old.frames stage old.at byte ≡ false → MayRunOut setting old bytes byte
-runs_out setting old stage bytes byte e after h space =
-    subst (λ (s : State). MayRunOutIn setting old s bytes byte) (sym e)
-    (needs setting old stage bytes byte (subst (λ (s : State). IsAfterIn setting old s bytes) e after) h, space)
-
-pub ran_out : (setting : Setting) (old : FormReader) (bytes : List ℕ) (byte : ℕ) → old.state ≡ OutOfMemory → MayRunOut setting old bytes byte
-ran_out setting old bytes byte e = subst (λ (s : State). MayRunOutIn setting old s bytes byte) (sym e) tt
-
--- the byte that is left is no whitespace that is discarded
-pub left_space : (setting : Setting) (reader : FormReader) (c : ℕ) (stage : Stage) → reader.state ≡ Open stage → IsLeftAt setting reader c → is_space setting reader.frames stage reader.at c ≡ false
-left_space setting reader c stage e left =
-    let same : Open left.0 ≡ Open stage = sym left.1 ∙ e in
-    let there : left.0 ≡ stage = cc in
-    subst (λ (s : Stage). is_space setting reader.frames s reader.at c ≡ false) there left.2
 
 -- ---- a turn
 

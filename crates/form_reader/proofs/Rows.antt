@@ -11,7 +11,7 @@ use Rattle.token_meaning.specs.Numerals as numerals
 use Rattle.std_macros.specs.Values.{last_of}
 use Rattle.user_macros.specs.declared.call.Gather.{Gather}
 use Rattle.user_macros.specs.declared.call.Gather.TheVariants as ways
-use Rattle.user_macros.specs.Calls.{Material, MacroCall, MacroAnswer, value, no_value, improper}
+use Rattle.user_macros.specs.Calls.{Material, MacroCall, MacroAnswer, value, no_value}
 use Rattle.user_macros.specs.Calls as words
 use Rattle.form_reader.specs.Plans.{then_plan, loop_in, run}
 use Rattle.form_reader.specs.Setting.{Setting}

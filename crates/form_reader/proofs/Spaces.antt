@@ -15,7 +15,7 @@ use Rattle.form_reader.specs.Plans.{run}
 use Rattle.form_reader.specs.Setting.{Setting}
 use Rattle.form_reader.specs.Reading.{is_blank, is_whitespace, stands_alone}
 use Rattle.form_reader.specs.Frames.{close_of_frames, is_closed_by, given}
-use Rattle.form_reader.specs.Memory.{is_space}
+use Rattle.form_reader.specs.InPlace.{is_space}
 use Rattle.form_reader.specs.Turning.{outcome_of, rest_of}
 use Rattle.form_reader.proofs.Attempts.{attempts, alone_by}
 use Rattle.form_reader.proofs.TurnsTaken.{nothing_turns}
@@ -76,10 +76,6 @@ module _ (setting : Setting) (frames : List Frame) (at c : ℕ) where
 
       whole : is_space setting frames AtObject at c ≡ (nat_lt at setting.limits.text && (is_whitespace setting.table c && true))
       whole = ap (λ (b : Bool). nat_lt at setting.limits.text && (is_whitespace setting.table c && not b)) (sym is ∙ e)
-
-  -- the same where it is known where the reader is
-  pub stage_space : (stage known : Stage) → stage ≡ known → is_space setting frames known at c ≡ false → is_space setting frames stage at c ≡ false
-  stage_space stage known e h = ap (λ (s : Stage). is_space setting frames s at c) e ∙ h
 
 -- with nothing open, an attempt begins after it
 passes_none : (setting : Setting) (start at c : ℕ) (cs : List ℕ) → at < setting.limits.text → (entry_at setting.table c).syntax ≡ Whitespace

@@ -1,8 +1,5 @@
 -- The call that invoked a function.
-use Rattle.std.specs.Prelude.{ℕ, Bool, true, false, Option, unwrap_or}
-use Rattle.std_macros.specs.declared.kind.StdGather.{StdGather}
-use Rattle.std_macros.specs.declared.kind.StdGather.TheVariants.{Token, EscapedToken}
-use Rattle.std_macros.specs.Kinds.{way_of}
+use Rattle.std.specs.Prelude.{ℕ, Option, unwrap_or}
 use Rattle.form_reader.specs.declared.way.Function.{Function}
 use Rattle.form_reader.specs.declared.way.Function.TheVariants.{Standard as AStandard, User}
 use Rattle.form_reader.specs.declared.way.Keep.{Keep}
@@ -18,16 +15,6 @@ pub record InvokedCall : Type 0 where
 -- the caller: the sub-character where there is one
 abbrev pub caller : InvokedCall → ℕ
 caller call = unwrap_or call.sub call.character
-
-abbrev pub is_token : StdGather → Bool
-is_token Token = true
-is_token EscapedToken = true
-is_token _ = false
-
--- it gathers a token, or is a function of a user, which may
-abbrev pub may_gather_token : Function → Bool
-may_gather_token (AStandard kind) = is_token (way_of kind)
-may_gather_token (User name) = true
 
 -- what it does with the characters of a line: a function of a user is given them
 abbrev pub keep_of : Function → Keep

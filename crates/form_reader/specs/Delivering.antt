@@ -1,5 +1,5 @@
 -- What the open calls make of what is found in the innermost.
-use Rattle.std.specs.Prelude.{ℕ, ◌≡◌, ◌≤◌, ◌<◌, ◌+◌, Bool, true, false, List, [], ◌∷◌, length, Some, Ok}
+use Rattle.std.specs.Prelude.{ℕ, ◌≡◌, ◌≤◌, ◌<◌, ◌+◌, Bool, true, false, List, [], ◌∷◌, length, Ok}
 use Rattle.form_reader.specs.declared.deliver.Delivered.{Delivered}
 use Rattle.form_reader.specs.declared.deliver.Delivered.TheVariants.{Waits, Done, Refused}
 use Rattle.form_reader.specs.declared.deliver.Taken.{Taken}
@@ -11,7 +11,7 @@ use Rattle.form_reader.specs.declared.found.Found.TheVariants.{Nothing as nothin
 use Rattle.form_reader.specs.declared.frame.Frame.{Frame}
 use Rattle.form_reader.specs.Plans.{Read, fault, gives}
 use Rattle.form_reader.specs.Setting.{Setting}
-use Rattle.form_reader.specs.Frames.{plan_gives, place_gives, calls_with, needs_to_take}
+use Rattle.form_reader.specs.Frames.{plan_gives, place_gives}
 use Rattle.form_reader.specs.Resuming.{Brings}
 
 -- What the innermost makes of it, after which these calls are open: it goes on, perhaps after one whitespace character; or it
@@ -21,29 +21,17 @@ Takes setting frames at cs (Stays token) read = read ≡ place_gives setting tok
 Takes setting frames at cs (Gives found) read = read ≡ plan_gives setting frames (gives found) at cs
 Takes setting frames at cs (TakenRefused code place) read = read ≡ fault code place
 
--- It took what was found, and these calls are open then; or it ended with it, for which it needed memory.
-abbrev pub TakesFrom : List Frame → Found → List Frame → Taken → Type 0
-TakesFrom frames found after (Stays token) = (calls_with frames found ≡ Some after) × (length after ≤ length frames)
-TakesFrom frames found after (Gives next) = (needs_to_take frames found ≡ true) × (length after < length frames)
-TakesFrom frames found after (TakenRefused code place) = length after ≤ length frames
-
--- it does not go on
-abbrev pub Ends : Taken → Type 0
-Ends (Stays token) = ⊥
-Ends (Gives found) = Unit {0}
-Ends (TakenRefused code place) = Unit {0}
+-- No more calls are open after it, and fewer where the innermost ended.
+abbrev pub Shortens : List Frame → List Frame → Taken → Type 0
+Shortens frames after (Stays token) = length after ≤ length frames
+Shortens frames after (Gives found) = length after < length frames
+Shortens frames after (TakenRefused code place) = length after ≤ length frames
 
 -- What all open calls make of it.
 abbrev pub Delivers : Setting → List Frame → ℕ → List ℕ → Delivered → Read Found → Type 0
 Delivers setting frames at cs (Waits token) read = read ≡ place_gives setting token frames at cs
 Delivers setting frames at cs (Done found) read = (read ≡ Ok (found, at, cs)) × (frames ≡ [])
 Delivers setting frames at cs (Refused code place) read = read ≡ fault code place
-
--- where that needed no memory, the innermost took what was found, or none was open
-abbrev pub DeliversFrom : List Frame → Found → List Frame → Delivered → Type 0
-DeliversFrom frames found after (Waits token) = needs_to_take frames found ≡ false → calls_with frames found ≡ Some after
-DeliversFrom frames found after (Done other) = needs_to_take frames found ≡ false → other ≡ found
-DeliversFrom frames found after (Refused code place) = Unit {0}
 
 -- What a byte is to them after what was found before it: it is taken, and brings this; or the outermost attempt came to this
 -- before it.

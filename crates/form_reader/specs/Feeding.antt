@@ -1,5 +1,5 @@
 -- What one byte is to what a call gathers: what is given with these bytes after it.
-use Rattle.std.specs.Prelude.{ℕ, ◌≡◌, ◌+◌, Bool, true, false, List, [], ◌∷◌, ◌++◌, Option, Some, None, Ok, nat_lt, if◌then◌else◌, ◌<◌, IsTrue}
+use Rattle.std.specs.Prelude.{ℕ, ◌≡◌, ◌+◌, Bool, true, false, List, [], ◌∷◌, ◌++◌, Option, Some, None, Ok, nat_lt, if◌then◌else◌}
 use Rattle.lisp_object.specs.declared.refusal.TheConstants.{END_OF_FILE, INVALID_CHARACTER, INVALID_TRAIT, TOKEN_TOO_LONG, FORM_TOO_LONG}
 use Rattle.readtable_core.specs.Tables.{Table}
 use Rattle.token_scan.specs.declared.mark.Mark.{Mark}
@@ -65,13 +65,6 @@ abbrev pub TokenFeeds : Table → Limits → Scan → ℕ → ℕ → List ℕ �
 TokenFeeds table limits scan at c cs LineMore read = read ≡ token_read table limits scan (at + 1) cs
 TokenFeeds table limits scan at c cs LineEnded read = read ≡ Ok (scan.marks, at, c ∷ cs)
 TokenFeeds table limits scan at c cs (LineRefused code) read = read ≡ fault code at
-
--- Some token is open after this byte, which is taken below the limit.
-pub record GoesOn (table : Table) (limits : Limits) (old : Scan) (at c : ℕ) : Type 0 where
-  pub new : Scan
-  pub going : IsTrue (is_going new.stage)
-  pub below : at < limits.text
-  pub read : (cs : List ℕ) → token_read table limits old at (c ∷ cs) ≡ token_read table limits new (at + 1) cs
 
 -- the number of the refusal of a token at this place, which is not beyond the limit
 abbrev pub refused_number : ℕ → ScanRefusal → ℕ → ℕ

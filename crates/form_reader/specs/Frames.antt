@@ -1,6 +1,6 @@
 -- What a reader that takes one byte at a time stands for: its open calls, innermost first, and where it is in the innermost.
 -- By recursion on the open calls alone, over the definition of reading.
-use Rattle.std.specs.Prelude.{ℕ, ◌+◌, ◌-◌, ◌==◌, ◌||◌, Bool, true, false, List, [], ◌∷◌, ◌++◌, length, Option, Some, None, option_map, Ok, Err}
+use Rattle.std.specs.Prelude.{ℕ, ◌+◌, ◌-◌, ◌==◌, Bool, true, false, List, [], ◌∷◌, ◌++◌, length, Option, Some, None, option_map, Ok, Err}
 use Rattle.lisp_object.specs.Object.{Object}
 use Rattle.token_scan.specs.declared.mark.Mark.{Mark}
 use Rattle.std_macros.specs.Values.{one as one_object}
@@ -73,34 +73,6 @@ is_next (InTailed xs tail) = false
 abbrev pub is_waiting : List Frame → Bool
 is_waiting [] = false
 is_waiting (f ∷ fs) = is_next f.part
-
--- it keeps an object among others
-abbrev pub is_keeping : Part → Bool
-is_keeping InNext = false
-is_keeping (InList xs) = true
-is_keeping (InUntil close xs) = true
-is_keeping (InDotted xs) = false
-is_keeping (InTailed xs tail) = false
-
-abbrev pub keeps_objects : List Frame → Bool
-keeps_objects [] = false
-keeps_objects (f ∷ fs) = is_keeping f.part
-
--- It needs memory to take an object: it ends with it, or keeps it among others. A list needs none for the object after its dot,
--- nor to refuse one more.
-abbrev pub part_needs_memory : Part → Bool
-part_needs_memory part = is_next part || is_keeping part
-
-abbrev pub needs_memory : List Frame → Bool
-needs_memory [] = false
-needs_memory (f ∷ fs) = part_needs_memory f.part
-
--- the same to take what was found, which is an object then
-abbrev pub needs_to_take : List Frame → Found → Bool
-needs_to_take frames (one token x) = needs_memory frames
-needs_to_take frames (nothing token) = false
-needs_to_take frames lone_dot = false
-needs_to_take frames the_end = false
 
 -- What the call gives if this piece comes next, where so many calls are open round it, and attempts inside it are these.
 abbrev pub part_gives : Setting → ℕ → Plan Found → InvokedCall → Part → Piece → Plan Found

@@ -1,5 +1,5 @@
 -- What a byte is to where a reader is, where it may be taken in its place: what is open stays open.
-use Rattle.std.specs.Prelude.{ℕ, ◌≡◌, ◌+◌, ◌<◌, List, ◌∷◌}
+use Rattle.std.specs.Prelude.{ℕ, ◌≡◌, ◌+◌, ◌<◌, ◌&&◌, nat_lt, not, Bool, false, List, ◌∷◌}
 use Rattle.form_reader.specs.Turning.{rest_of}
 use Rattle.form_reader.specs.declared.frame.Frame.{Frame}
 use Rattle.form_reader.specs.declared.in_place.InPlace.{InPlace}
@@ -10,6 +10,8 @@ use Rattle.form_reader.specs.declared.stage.Stage.TheVariants.{Object as AtObjec
 use Rattle.token_scan.specs.Scans.{Scan}
 use Rattle.form_reader.specs.Plans.{fault}
 use Rattle.form_reader.specs.Setting.{Setting}
+use Rattle.form_reader.specs.Reading.{is_whitespace}
+use Rattle.form_reader.specs.Frames.{close_of_frames, is_closed_by}
 use Rattle.form_reader.specs.Resuming.{IsStageAt, stage_gives}
 
 -- the byte at this place is taken, and what is given is what the new stage gives after it; or it is passed over, and what is
@@ -20,6 +22,13 @@ FeedsInPlace setting frames at c cs old new Passed =
     (start : ℕ) → rest_of setting frames old start at (c ∷ cs) ≡ rest_of setting frames new (start + (at + 1)) 0 cs
 FeedsInPlace setting frames at c cs old new Left = new ≡ old
 FeedsInPlace setting frames at c cs old new (Refused code) = stage_gives setting frames old at (c ∷ cs) ≡ fault code at
+
+-- The byte at this place is whitespace that is discarded where an object may begin: it is below the limit of the text, and not
+-- the closing character that is looked for.
+abbrev pub is_space : Setting → List Frame → Stage → ℕ → ℕ → Bool
+is_space setting frames AtObject at c =
+    nat_lt at setting.limits.text && (is_whitespace setting.table c && not (is_closed_by (close_of_frames frames) c))
+is_space setting frames _ at c = false
 
 -- a token begins at the byte at this place, where an object may begin
 abbrev pub Begins : Setting → List Frame → ℕ → ℕ → List ℕ → Scan → Type 0

@@ -18,7 +18,6 @@ pub mod Delivering
 pub mod Ready
 pub mod Opening
 pub mod InPlace
-pub mod Memory
 pub mod Turning
 pub mod Ending
 pub mod Standing

@@ -42,10 +42,6 @@ told_of packages current (Ok dot) = Ok dot_alone
 told_of packages current (Ok (name own)) = named packages current own
 told_of packages current (Err refusal) = Err (meaning_refusal_number refusal)
 
--- it is a name
-abbrev pub IsNameMeaning : Result Meaning MeaningRefusal → Type 0
-IsNameMeaning meaning = (own : TokenName) × (meaning ≡ Ok (name own))
-
 -- the meaning of a token with these marks, or the number of its refusal
 abbrev pub told : Setting → List Mark → Result Told ℕ
 told setting marks = told_of setting.packages setting.current (meaning_of setting.base (folded setting.table.letters marks))

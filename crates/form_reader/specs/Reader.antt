@@ -1,9 +1,8 @@
 -- A reader that takes a text one byte at a time: what it is after, and what it answers.
-use Rattle.std.specs.Prelude.{ℕ, ◌≡◌, ◌+◌, ◌≤◌, true, false, List, [], ◌∷◌, ◌++◌, length}
+use Rattle.std.specs.Prelude.{ℕ, ◌≡◌, ◌+◌, ◌≤◌, true, List, [], ◌∷◌, ◌++◌, length}
 use Rattle.lisp_object.specs.Object.{IsSound}
 use Rattle.lisp_object.specs.Datum.{object_of, is_proper}
 use Rattle.form_reader.specs.declared.limits.Limits.{Limits}
-use Rattle.form_reader.specs.declared.frame.Frame.{Frame}
 use Rattle.form_reader.specs.declared.stage.Stage.{Stage}
 use Rattle.form_reader.specs.declared.stage.Stage.TheVariants.{Object as AtObject}
 use Rattle.form_reader.specs.declared.reader.FormReader.{FormReader}
@@ -15,14 +14,9 @@ use Rattle.form_reader.specs.declared.ending.ReadOutcome.{ReadOutcome}
 use Rattle.form_reader.specs.declared.ending.ReadOutcome.TheVariants.{Form as ReadForm, Empty as ReadEmpty, Refused as ReadRefused}
 use Rattle.form_reader.specs.declared.turn.Turn.{Turn}
 use Rattle.form_reader.specs.declared.turn.Turn.TheVariants.{Goes, Form as TurnForm, Refused as TurnRefused}
-use Rattle.std_macros.specs.Values.{Material}
-use Rattle.form_reader.specs.Calls.{InvokedCall}
 use Rattle.form_reader.specs.Setting.{Setting}
-use Rattle.form_reader.specs.Reading.{completed, is_whitespace, Outcome, form, empty, refused, reads}
-use Rattle.form_reader.specs.Frames.{plan_gives, needs_memory}
-use Rattle.form_reader.specs.Memory.{call_may_cost, is_space, AreOpen, EndsToken, Grows, MayEndAt}
-use Rattle.form_reader.specs.Ending.{EndNeedsMemory}
-use Rattle.form_reader.specs.Turning.{outcome_of, rest_of}
+use Rattle.form_reader.specs.Reading.{Outcome, form, empty, refused, reads}
+use Rattle.form_reader.specs.Turning.{rest_of}
 
 -- the limits under which it reads
 abbrev pub limits_of : FormReader → Limits
@@ -39,6 +33,10 @@ begun reader = reader.start
 -- it refused the text, with this number, at this place
 abbrev pub HasRefused : FormReader → ℕ → ℕ → Type 0
 HasRefused reader code place = reader.state ≡ Refused code place
+
+-- it is in a form, or between forms
+abbrev pub IsOpen : FormReader → Type 0
+IsOpen reader = (stage : Stage) × (reader.state ≡ Open stage)
 
 -- it ran out of memory
 abbrev pub HasNoMemory : FormReader → Type 0
@@ -104,63 +102,6 @@ abbrev pub BeginsLater : FormReader → FormReader → Step → Type 0
 BeginsLater old new StepMore = (begun old ≤ begun new) × (begun new ≤ fed new)
 BeginsLater old new (StepForm datum start «end» next) = (begun old ≤ start) × (begun new ≡ 0)
 BeginsLater old new (StepRefused code place) = begun new ≡ begun old
-
--- Where memory may run out at a byte that comes after these bytes, where the reader is at this stage. The bytes with this one
--- decide nothing, and more is kept: one more open call, a mark of a token past its first 32, or a character of a text or of a
--- line that is kept. Or the byte ends an open token, and the token is a name, or a number that the innermost call needs memory to
--- take, or memory may run out for its call. Or a call ends with the byte, in the calls that are open where the byte is looked
--- at, and memory may run out for it, among those round it. Where an object may begin, it is the innermost open call, whose
--- closing character the byte is, or the call of a macro character whose function gathers nothing; after a dispatching macro
--- character and its number, that of a sub-character whose function gathers nothing; in a text, a line or a block, its own.
-pub data NeedsMemory (setting : Setting) (frames : List Frame) (stage : Stage) (start at : ℕ) (bytes : List ℕ) (c : ℕ) : Type 0 where
-  undecided : (there : List Frame) → AreOpen setting frames stage at c there → Grows setting there stage at c
-      → DecideNothing setting (bytes ++ c ∷ []) → NeedsMemory setting frames stage start at bytes c
-  token_ends : EndsToken setting frames stage at c → NeedsMemory setting frames stage start at bytes c
-  call_ends : (there inner round : List Frame) → AreOpen setting frames stage at c there → there ≡ inner ++ round
-      → (call : InvokedCall) (material : Material) → MayEndAt setting stage c inner call material
-      → call_may_cost (needs_memory round) call material (completed setting (length round) call false false material) ≡ true
-      → ((cs : List ℕ) → reads setting (bytes ++ c ∷ cs)
-      ≡ outcome_of setting start (plan_gives setting round (completed setting (length round) call false false material) (at + 1) cs))
-      → NeedsMemory setting frames stage start at bytes c
-
--- The same of a reader. A byte needs none after a refusal, and none where it is whitespace that is discarded.
-abbrev pub MayRunOutIn : Setting → FormReader → State → List ℕ → ℕ → Type 0
-MayRunOutIn setting reader (Open stage) bytes c =
-    NeedsMemory setting reader.frames stage reader.start reader.at bytes c × (is_space setting reader.frames stage reader.at c ≡ false)
-MayRunOutIn setting reader (Refused code place) bytes c = ⊥
-MayRunOutIn setting reader OutOfMemory bytes c = Unit {0}
-
-abbrev pub MayRunOut : Setting → FormReader → List ℕ → ℕ → Type 0
-MayRunOut setting reader bytes c = MayRunOutIn setting reader reader.state bytes c
-
--- The reader is in a form, and the byte is no whitespace that is discarded there.
-abbrev pub IsLeftAt : Setting → FormReader → ℕ → Type 0
-IsLeftAt setting reader c = (stage : Stage) × (reader.state ≡ Open stage) × (is_space setting reader.frames stage reader.at c ≡ false)
-
--- Where memory may run out at the end of the text. After a refusal it needs none.
-abbrev pub EndMayRunOutIn : Setting → FormReader → State → Type 0
-EndMayRunOutIn setting reader (Open stage) = EndNeedsMemory setting reader.frames stage reader.at
-EndMayRunOutIn setting reader (Refused code place) = ⊥
-EndMayRunOutIn setting reader OutOfMemory = Unit {0}
-
-abbrev pub EndMayRunOut : Setting → FormReader → Type 0
-EndMayRunOut setting reader = EndMayRunOutIn setting reader reader.state
-
--- Where memory may run out in reading this text at once: it has a byte that is no whitespace, and the first of them, alone, is
--- not refused where it stands.
-abbrev pub ReadMayRunOut : Setting → List ℕ → Type 0
-ReadMayRunOut setting [] = ⊥
-ReadMayRunOut setting (c ∷ cs) = elim (is_whitespace setting.table c) [
-  | true ↦ ReadMayRunOut setting cs
-  | false ↦ (code : ℕ) → reads setting (c ∷ []) ≡ refused code 0 → ⊥
-]
-
--- The same by a reader that takes the text one byte at a time: it is after the bytes before some byte of the text, or after all
--- of them, and memory may run out there.
-pub data ReadNeedsMemory (setting : Setting) (bytes : List ℕ) : Type 0 where
-  at_byte : (reader : FormReader) (front rest : List ℕ) (c : ℕ) → bytes ≡ front ++ c ∷ rest → IsAfter setting reader front
-      → MayRunOut setting reader front c → ReadNeedsMemory setting bytes
-  at_end : (reader : FormReader) → IsAfter setting reader bytes → EndMayRunOut setting reader → ReadNeedsMemory setting bytes
 
 -- What is answered is the outcome, and the object of a form is sound.
 abbrev pub IsOutcome : ReadOutcome → Outcome → Type 0

@@ -1,8 +1,6 @@
 //! One byte, wherever a reader is in its innermost call.
 ghost use Rattle.std.specs.Prelude.{◌≡◌, ◌≤◌, ◌<◌, ◌+◌, ◌^◌, ℕ, List, ◌∷◌, length, IfOk};
 ghost use Rattle.form_reader.specs.Surrounding.{setting};
-ghost use Rattle.form_reader.specs.Memory.{GivesBefore, RunsOut, SpendsMove, StaysOpen};
-ghost use Rattle.form_reader.specs.Frames.{needs_memory};
 ghost use Rattle.form_reader.specs.Resuming.{Moves, stage_gives};
 ghost use Rattle.form_reader.specs.Ready.{IsReadyMove};
 ghost use Rattle.form_reader.specs.Turning.{IsStanding};
@@ -33,11 +31,6 @@ pub(crate) fn advance<R: MacroFunctions>(
         (stage_gives setting frames.old stage at (c ∷ cs))) }
     ensures ready { IfOk result (IsReadyMove with.now.limits at) }
     ensures nesting { IfOk result (λ _. length frames.new ≤ with.now.limits.nesting) }
-    ensures memory { let setting = setting R.functions with.now in
-        SpendsMove (needs_memory frames.new) result (RunsOut setting frames.old stage at c) }
-    ensures before { let setting = setting R.functions with.now in
-        IfOk result (GivesBefore setting frames.old stage at c) }
-    ensures stays { IfOk result (StaysOpen frames.old frames.new) }
 {
     let round = frames.len();
     match stage {

@@ -4,8 +4,7 @@ ghost use Rattle.form_reader.specs.declared.frame.Frame.{Frame as OpenCall};
 ghost use Rattle.readtable_core.specs.Tables.{entry_at};
 ghost use Rattle.form_reader.specs.Surrounding.{setting};
 ghost use Rattle.form_reader.specs.Reading.{stands_alone, alone};
-ghost use Rattle.form_reader.specs.Frames.{needs_memory, plan_gives};
-ghost use Rattle.form_reader.specs.Memory.{CostsOf, EndsAtPlace, OpensAtPlace, Spends};
+ghost use Rattle.form_reader.specs.Frames.{plan_gives};
 ghost use Rattle.form_reader.specs.Resuming.{attempt_at, Brings};
 ghost use Rattle.form_reader.specs.Ready.{IsReady};
 
@@ -52,8 +51,6 @@ pub(crate) fn alone<R: MacroFunctions>(
         (plan_gives setting frames.old (attempt_at setting (length frames.old)) at (c ∷ cs))) }
     ensures ready { IfOk result (IsReady with.now.limits (at + 1)) }
     ensures nesting { IfOk result (λ _. length frames.new ≤ with.now.limits.nesting) }
-    ensures memory { let setting = setting R.functions with.now in
-        Spends (needs_memory frames.new) result (CostsOf (EndsAtPlace setting c) (OpensAtPlace setting c) setting frames.old (at + 1) (λ cs. plan_gives setting frames.old (attempt_at setting (length frames.old)) at (c ∷ cs))) }
 {
     with.readtable.soundness();
     if at >= with.limits.text {
@@ -85,9 +82,6 @@ pub(crate) fn begin_token<R: MacroFunctions>(
         → IfOk result (λ event. Brings setting frames (at + 1) cs event
         (plan_gives setting frames (attempt_at setting (length frames)) at (c ∷ cs))) }
     ensures ready { IfOk result (IsReady with.now.limits (at + 1)) }
-    ensures memory { let setting = setting R.functions with.now in
-        (frames : List OpenCall) → length frames ≤ with.now.limits.nesting
-        → Spends (needs_memory frames) result (CostsOf (EndsAtPlace setting c) (OpensAtPlace setting c) setting frames (at + 1) (λ cs. plan_gives setting frames (attempt_at setting (length frames)) at (c ∷ cs))) }
 {
     match first_byte(with.alloc, with.readtable, &with.limits, at, c)? {
         FirstByte::More(scan) => Ok(Event::Stage(Stage::Token(scan))),

@@ -1,8 +1,7 @@
 //! One byte of what a call gathers.
-ghost use Rattle.std.specs.Prelude.{◌≡◌, ◌≤◌, ◌<◌, ◌+◌, ◌^◌, ◌==◌, ℕ, List, ◌∷◌, ◌++◌, [], IfOk, IfSome, OnErr, Ok, None, false};
-ghost use Rattle.readtable_core.specs.Tables.{entry_at};
+ghost use Rattle.std.specs.Prelude.{◌≡◌, ◌≤◌, ◌<◌, ◌+◌, ◌^◌, ◌==◌, ℕ, List, ◌∷◌, ◌++◌, [], IfOk, IfSome, Ok, None};
 ghost use Rattle.form_reader.specs.Plans.{loop, next_byte, run};
-ghost use Rattle.form_reader.specs.Gathering.{is_escape, text_turn, kept, line_turn, block_turn, number_turn};
+ghost use Rattle.form_reader.specs.Gathering.{text_turn, line_turn, block_turn, number_turn};
 ghost use Rattle.form_reader.specs.Gathering.{block_next};
 ghost use Rattle.form_reader.specs.Feeding.{TextFeeds, EscapeFeeds, LineFeeds, BlockFeeds, NumberFeeds};
 ghost use Rattle.form_reader.specs.declared.bytes.TextByte.TheVariants.{More as TextMore, Escape as TextEscape, Ended as TextEnded};
@@ -40,7 +39,7 @@ pub enum LineByte {
     Refused(u16),
 }
 
-/// The byte `c` at `at`, after the characters of `text`. Only a character that is taken needs memory.
+/// The byte `c` at `at`, after the characters of `text`.
 #[tactic(auto, using(crate::proofs::Fed::text_over, crate::proofs::Fed::text_invalid, crate::proofs::Fed::text_ends, crate::proofs::Fed::text_escapes, crate::proofs::Fed::text_takes))]
 pub(crate) fn text_byte(
     readtable: &Readtable,
@@ -57,12 +56,6 @@ pub(crate) fn text_byte(
     ensures more { result ≡ Ok TextMore → at < limits.now.text }
     ensures escape { result ≡ Ok TextEscape → at < limits.now.text }
     ensures ended { result ≡ Ok TextEnded → at < limits.now.text }
-    ensures same { result ≡ Ok TextEnded → text.new ≡ text.old }
-    ensures kept { OnErr result (((c == terminator) ≡ false) × (is_escape (entry_at readtable.now c).syntax ≡ false)) }
-    ensures calm { OnErr result ((at < limits.now.text) × (c < 128)) }
-    ensures goes { (cs : List ℕ) → OnErr result
-        (run readtable.now limits.now (loop limits.now (text_turn readtable.now terminator) text.old) at (c ∷ cs)
-        ≡ run readtable.now limits.now (loop limits.now (text_turn readtable.now terminator) (text.old ++ c ∷ [])) (at + 1) cs) }
 {
     if at >= limits.text {
         return Ok(TextByte::Refused(FORM_TOO_LONG));
@@ -80,7 +73,7 @@ pub(crate) fn text_byte(
     Ok(TextByte::More)
 }
 
-/// The byte `c` at `at`, after an escape. Only a character that is taken needs memory.
+/// The byte `c` at `at`, after an escape.
 #[tactic(auto, using(crate::proofs::Fed::byte_over, crate::proofs::Fed::byte_invalid, crate::proofs::Fed::byte_taken))]
 pub(crate) fn escaped_byte(
     readtable: &Readtable,
@@ -94,10 +87,6 @@ pub(crate) fn escaped_byte(
         EscapeFeeds readtable.now limits.now terminator text.new at cs fed
         (run readtable.now limits.now (next_byte (λ d. loop limits.now (text_turn readtable.now terminator) (text.old ++ d ∷ []))) at (c ∷ cs))) }
     ensures more { result ≡ Ok None → at < limits.now.text }
-    ensures calm { OnErr result ((at < limits.now.text) × (c < 128)) }
-    ensures goes { (cs : List ℕ) → OnErr result
-        (run readtable.now limits.now (next_byte (λ d. loop limits.now (text_turn readtable.now terminator) (text.old ++ d ∷ []))) at (c ∷ cs)
-        ≡ run readtable.now limits.now (loop limits.now (text_turn readtable.now terminator) (text.old ++ c ∷ [])) (at + 1) cs) }
 {
     if at >= limits.text {
         return Ok(Some(FORM_TOO_LONG));
@@ -109,7 +98,7 @@ pub(crate) fn escaped_byte(
     Ok(None)
 }
 
-/// The byte `c` at `at`, after the characters of a line. Only a character that is taken needs memory.
+/// The byte `c` at `at`, after the characters of a line.
 #[tactic(auto, using(crate::proofs::Fed::line_over, crate::proofs::Fed::line_invalid, crate::proofs::Fed::line_ends, crate::proofs::Fed::line_keeps, crate::proofs::Fed::line_drops))]
 pub(crate) fn line_byte(
     readtable: &Readtable,
@@ -125,12 +114,6 @@ pub(crate) fn line_byte(
         (run readtable.now limits.now (loop limits.now (line_turn keep) text.old) at (c ∷ cs))) }
     ensures more { result ≡ Ok LineMore → at < limits.now.text }
     ensures ended { result ≡ Ok LineEnded → at < limits.now.text }
-    ensures same { result ≡ Ok LineEnded → text.new ≡ text.old }
-    ensures kept { OnErr result (keep ≡ Kept) }
-    ensures calm { OnErr result ((at < limits.now.text) × (c < 128)) }
-    ensures goes { (cs : List ℕ) → OnErr result
-        (run readtable.now limits.now (loop limits.now (line_turn keep) text.old) at (c ∷ cs)
-        ≡ run readtable.now limits.now (loop limits.now (line_turn keep) (kept keep text.old c)) (at + 1) cs) }
 {
     if at >= limits.text {
         return Ok(LineByte::Refused(FORM_TOO_LONG));

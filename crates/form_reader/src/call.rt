@@ -1,6 +1,6 @@
 //! The call that invoked a function.
-ghost use Rattle.std.specs.Prelude.{◌≡◌, ◌<◌, ◌≤◌, Some, None, IfSome, true};
-ghost use Rattle.form_reader.specs.Calls.{caller, keep_of, may_gather_token};
+ghost use Rattle.std.specs.Prelude.{◌≡◌, ◌<◌, ◌≤◌, Some, None, IfSome};
+ghost use Rattle.form_reader.specs.Calls.{caller, keep_of};
 
 use crate::way::{Function, Keep};
 use std::marker::Model;
@@ -103,41 +103,5 @@ impl Invoked {
             Some(sub) => sub,
             None => self.character,
         }
-    }
-}
-
-/// A call whose function gathers a token, if it is a standard one.
-#[derive(Drop)]
-pub struct TokenCall {
-    call: Invoked,
-}
-
-impl Model for TokenCall {
-    ghost use Rattle.std.specs.Prelude.{◌≡◌, true};
-    ghost use Rattle.form_reader.specs.Calls.{InvokedCall, may_gather_token};
-
-    ghost Value = { InvokedCall };
-
-    ghost view = { λ t. t.call };
-
-    ghost invariant = { λ t. may_gather_token t.call.function ≡ true };
-}
-
-impl TokenCall {
-    /// Holds `call`, whose function may gather a token.
-    pub(crate) fn new(call: Invoked) -> TokenCall
-        requires { may_gather_token call.function ≡ true }
-        ensures { result ≡ call }
-    {
-        TokenCall { call }
-    }
-
-    /// The call, moved out.
-    pub(crate) fn into_call(self) -> Invoked
-        ensures value { result ≡ self }
-        ensures token { may_gather_token result.function ≡ true }
-    {
-        let TokenCall { call } = self;
-        call
     }
 }

@@ -3,8 +3,7 @@ ghost use Rattle.std.specs.Prelude.{◌≡◌, ◌≤◌, ℕ, List, length, fal
 ghost use Rattle.form_reader.specs.declared.frame.Frame.{Frame as OpenCall};
 ghost use Rattle.form_reader.specs.Surrounding.{setting};
 ghost use Rattle.form_reader.specs.Reading.{closed};
-ghost use Rattle.form_reader.specs.Frames.{call_in, needs_memory, plan_gives};
-ghost use Rattle.form_reader.specs.Memory.{closed_call, CostsOf, Spends};
+ghost use Rattle.form_reader.specs.Frames.{call_in, plan_gives};
 ghost use Rattle.form_reader.specs.Resuming.{Brings};
 ghost use Rattle.form_reader.specs.Ready.{IsReady};
 
@@ -34,9 +33,6 @@ pub(crate) fn close<R: MacroFunctions>(
         → IfOk result (λ event. Brings setting frames at cs event
         (plan_gives setting frames (call_in setting frame frames closed) at cs)) }
     ensures ready { IfOk result (IsReady with.now.limits at) }
-    ensures memory { let setting = setting R.functions with.now in
-        (frames : List OpenCall) → round ≡ length frames
-        → Spends (needs_memory frames) result (CostsOf (closed_call frame) ⊥ setting frames at (λ cs. plan_gives setting frames (call_in setting frame frames closed) at cs)) }
 {
     let Frame { call, part } = frame;
     match part {

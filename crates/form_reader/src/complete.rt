@@ -1,16 +1,15 @@
 //! What a call gives for what was gathered.
-ghost use Rattle.std.specs.Prelude.{◌≡◌, ◌+◌, Bool, true, nat_le, IfOk, OnErr, ◌≤◌, ◌||◌};
+ghost use Rattle.std.specs.Prelude.{◌≡◌, ◌+◌, true, nat_le, IfOk, ◌≤◌, ◌||◌};
 ghost use Rattle.lisp_object.specs.Object.{object_depth};
 ghost use Rattle.lisp_object.specs.Datum.{object_of, is_proper};
 ghost use Rattle.user_macros.specs.Calls.{call_of, answer_of, material_of};
 ghost use Rattle.user_macros.specs.Sound.{IsSoundCall, IsProperMaterial};
 ghost use Rattle.std_macros.specs.Values.{value_of};
-ghost use Rattle.std_macros.specs.Results.{takes_memory, view_gathered, IsProperGathered};
+ghost use Rattle.std_macros.specs.Results.{view_gathered, IsProperGathered};
 ghost use Rattle.form_reader.specs.Setting.{macro_call, user_material};
 ghost use Rattle.form_reader.specs.Surrounding.{setting};
 ghost use Rattle.form_reader.specs.Reading.{bytes_back, finished, answered, completed};
 ghost use Rattle.form_reader.specs.Completing.{plan_of};
-ghost use Rattle.form_reader.specs.Memory.{gives_object, call_may_cost};
 ghost use Rattle.form_reader.specs.Ready.{space, completed_lookahead};
 
 use crate::call::Invoked;
@@ -39,7 +38,7 @@ pub enum Completed {
 
 /// What the function of a call gives for what was gathered, with so many open calls round it: whether a token ends the call,
 /// and whether a token ends an object in it.
-#[tactic(auto, using(crate::proofs::Readiness::space_or, crate::proofs::Costing::user_call_costs))]
+#[tactic(auto, using(crate::proofs::Readiness::space_or))]
 pub(crate) fn complete<R: MacroFunctions>(
     with: &Surroundings<'_, R>,
     round: usize,
@@ -53,8 +52,6 @@ pub(crate) fn complete<R: MacroFunctions>(
     ensures gives { let setting = setting R.functions with.now in
         IfOk result (λ r. completed setting round call.now token spaced (view_gathered gathered) ≡ plan_of r) }
     ensures ends { IfOk result (λ r. completed_lookahead r ≤ space (token || spaced)) }
-    ensures some { let setting = setting R.functions with.now in
-        (needs : Bool) → OnErr result (call_may_cost needs call.now (view_gathered gathered) (completed setting round call.now token spaced (view_gathered gathered)) ≡ true) }
 {
     match call.function() {
         Function::Standard(kind) => {
@@ -91,8 +88,6 @@ fn finished(
     requires { IsProperGathered gathered }
     ensures gives { IfOk result (λ r. finished token (value_of kind case number (view_gathered gathered)) ≡ plan_of r) }
     ensures ends { IfOk result (λ r. completed_lookahead r ≤ space token) }
-    ensures some { OnErr result (gives_object (finished token (value_of kind case number (view_gathered gathered))) ≡ true) }
-    ensures kind { OnErr result (takes_memory kind number (view_gathered gathered) ≡ true) }
 {
     match finish(alloc, kind, case, number, gathered) {
         Ok(Finished::One(datum)) => {

@@ -1,13 +1,13 @@
 //! What the open calls make of what is found in the innermost.
-ghost use Rattle.std.specs.Prelude.{◌≡◌, ◌≤◌, ◌<◌, ℕ, List, true, length, IfOk, OnErr};
+ghost use Rattle.std.specs.Prelude.{◌≡◌, ◌≤◌, ◌<◌, ℕ, List, length, IfOk};
 ghost use Rattle.form_reader.specs.Plans.{gives};
 ghost use Rattle.form_reader.specs.declared.found.Found.TheVariants.{One as one, LoneDot as lone_dot};
 ghost use Rattle.form_reader.specs.declared.frame.Frame.{Frame as OpenCall};
 ghost use Rattle.form_reader.specs.Completing.{plan_of};
 ghost use Rattle.form_reader.specs.Setting.{Setting};
 ghost use Rattle.form_reader.specs.Surrounding.{setting};
-ghost use Rattle.form_reader.specs.Frames.{plan_gives, needs_memory, needs_to_take};
-ghost use Rattle.form_reader.specs.Delivering.{Takes, Delivers, TakesFrom, Ends, DeliversFrom};
+ghost use Rattle.form_reader.specs.Frames.{plan_gives};
+ghost use Rattle.form_reader.specs.Delivering.{Takes, Shortens, Delivers};
 ghost use Rattle.form_reader.specs.Ready.{space, lookahead, completed_lookahead, IsTakenAt, IsDeliveredAt};
 
 use crate::complete::{Completed, complete};
@@ -56,8 +56,7 @@ fn take<R: MacroFunctions>(
         (cs : List ℕ) → IfOk result (λ taken. Takes setting frames.new at cs taken
         (plan_gives setting frames.old (gives found) at cs)) }
     ensures leaves { IfOk result (IsTakenAt (lookahead found) at) }
-    ensures from { IfOk result (TakesFrom frames.old found frames.new) }
-    ensures memory { OnErr result (needs_to_take frames.old found ≡ true) }
+    ensures shorter { IfOk result (Shortens frames.old frames.new) }
 {
     match found {
         Found::Nothing(token) => Ok(Taken::Stays(token)),
@@ -82,8 +81,7 @@ fn take_one<R: MacroFunctions>(
         (cs : List ℕ) → IfOk result (λ taken. Takes setting frames.new at cs taken
         (plan_gives setting frames.old (gives (one token x)) at cs)) }
     ensures leaves { IfOk result (IsTakenAt (space token) at) }
-    ensures from { IfOk result (TakesFrom frames.old (one token x) frames.new) }
-    ensures memory { OnErr result (needs_memory frames.old ≡ true) }
+    ensures shorter { IfOk result (Shortens frames.old frames.new) }
 {
     match frames.pop_waiting() {
         Some(call) => {
@@ -107,7 +105,7 @@ fn take_dot(frames: &mut Frames, at: usize) -> Taken
     ensures takes { (setting : Setting) (cs : List ℕ) → at ≤ setting.limits.text → Takes setting frames.new at cs result
         (plan_gives setting frames.old (gives lone_dot) at cs) }
     ensures leaves { IsTakenAt 1 at result }
-    ensures from { TakesFrom frames.old lone_dot frames.new result }
+    ensures shorter { Shortens frames.old frames.new result }
 {
     if frames.take_dot() {
         Taken::Stays(false)
@@ -121,7 +119,6 @@ fn taken_of(completed: Completed, at: usize) -> Taken
     ensures takes { (setting : Setting) (frames : List OpenCall) (cs : List ℕ) → Takes setting frames at cs result
         (plan_gives setting frames (plan_of completed) at cs) }
     ensures leaves { IsTakenAt (completed_lookahead completed) at result }
-    ensures ends { Ends result }
 {
     match completed {
         Completed::Gives(found) => Taken::Gives(found),
@@ -129,8 +126,7 @@ fn taken_of(completed: Completed, at: usize) -> Taken
     }
 }
 
-/// What the open calls make of what is found in the innermost at `at`. Only an object needs memory to be taken, and only where
-/// the innermost call keeps it among others, or ends with it.
+/// What the open calls make of what is found in the innermost at `at`.
 pub(crate) fn deliver<R: MacroFunctions>(
     with: &Surroundings<'_, R>,
     frames: &mut Frames,
@@ -144,8 +140,6 @@ pub(crate) fn deliver<R: MacroFunctions>(
         (plan_gives setting frames.old (gives found) at cs)) }
     ensures shorter { IfOk result (λ delivered. length frames.new ≤ length frames.old) }
     ensures leaves { IfOk result (IsDeliveredAt (lookahead found) at) }
-    ensures from { IfOk result (DeliversFrom frames.old found frames.new) }
-    ensures memory { OnErr result (needs_to_take frames.old found ≡ true) }
 {
     let mut found = found;
     'calls: while frames.len() > 0 {

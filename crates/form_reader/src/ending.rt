@@ -1,5 +1,5 @@
 //! The end of a text, wherever a reader is in a form.
-ghost use Rattle.std.specs.Prelude.{◌≡◌, ◌≤◌, ◌<◌, ◌+◌, ◌^◌, ℕ, List, [], length, true, None, Ok, IfOk, OnErr};
+ghost use Rattle.std.specs.Prelude.{◌≡◌, ◌≤◌, ◌<◌, ◌+◌, ◌^◌, List, [], length, true, None, Ok, IfOk};
 ghost use Rattle.readtable_core.specs.Tables.{Table};
 ghost use Rattle.form_reader.specs.declared.frame.Frame.{Frame as OpenCall};
 ghost use Rattle.form_reader.specs.Setting.{Setting};
@@ -10,14 +10,11 @@ ghost use Rattle.form_reader.specs.declared.found.Found.TheVariants.{TheEnd as t
 ghost use Rattle.form_reader.specs.declared.stage.Event.TheVariants.{Stage as IsAt};
 ghost use Rattle.form_reader.specs.declared.turn.Settled.TheVariants.{Done as IsDone};
 ghost use Rattle.form_reader.specs.Resuming.{Brings, stage_gives};
-ghost use Rattle.form_reader.specs.Turning.{outcome_of, rest_of, Settles, IsStanding};
-ghost use Rattle.form_reader.specs.Ending.{ends_call, is_kept, TokenStops, IsLastEvent, IsLastSettled, EndNeedsMemory};
-ghost use Rattle.form_reader.specs.Memory.{Spends};
+ghost use Rattle.form_reader.specs.Turning.{outcome_of, rest_of, Settles};
+ghost use Rattle.form_reader.specs.Ending.{TokenStops, IsLastEvent, IsLastSettled};
 ghost use Rattle.form_reader.specs.Reader.{IsOutcome};
-ghost use Rattle.form_reader.specs.Plans.{gives};
-ghost use Rattle.form_reader.specs.Frames.{is_waiting, plan_gives};
 
-use crate::call::{Invoked, TokenCall};
+use crate::call::Invoked;
 use crate::deliver::{Delivered, deliver};
 use crate::found::Found;
 use crate::frame::Frames;
@@ -79,8 +76,6 @@ fn last_token<R: MacroFunctions>(
         (frames : List OpenCall) → IfOk result (λ event. Brings setting frames at [] event
         (stage_gives setting frames (AtToken scan) at [])) }
     ensures last { IfOk result (IsLastEvent at) }
-    ensures memory { let setting = setting R.functions with.now in
-        (frames : List OpenCall) → Spends (is_waiting frames) result (EndNeedsMemory setting frames (AtToken scan) at) }
 {
     let mut scan = scan.into_scan();
     match token_stop(&with.limits, &mut scan, at) {
@@ -93,7 +88,7 @@ fn last_token<R: MacroFunctions>(
 fn last_call_token<R: MacroFunctions>(
     with: &Surroundings<'_, R>,
     round: usize,
-    call: TokenCall,
+    call: Invoked,
     mut scan: TokenScan,
     at: usize,
 ) -> Result<Event, AllocError>
@@ -103,12 +98,9 @@ fn last_call_token<R: MacroFunctions>(
         (frames : List OpenCall) → round ≡ length frames → IfOk result (λ event. Brings setting frames at [] event
         (stage_gives setting frames (AtCallToken call scan) at [])) }
     ensures last { IfOk result (IsLastEvent at) }
-    ensures memory { let setting = setting R.functions with.now in
-        (frames : List OpenCall) → round ≡ length frames → Spends (is_waiting frames) result (EndNeedsMemory setting frames (AtCallToken call scan) at) }
 {
     match token_stop(&with.limits, &mut scan, at) {
         None => {
-            let call = call.into_call();
             let gathered = StdGathered::Marks(scan.into_marks());
             ended(with, round, &call, true, gathered, at)
         }
@@ -131,9 +123,6 @@ fn last_line<R: MacroFunctions>(
         → IfOk result (λ event. Brings setting frames at [] event
         (stage_gives setting frames (AtLine call text) at [])) }
     ensures last { IfOk result (IsLastEvent at) }
-    ensures memory { let setting = setting R.functions with.now in
-        (frames : List OpenCall) → round ≡ length frames
-        → Spends (is_waiting frames) result (EndNeedsMemory setting frames (AtLine call text) at) }
 {
     let gathered = StdGathered::Text(text.into_bytes());
     ended(with, round, &call, false, gathered, at)
@@ -152,8 +141,6 @@ fn last<R: MacroFunctions>(
         (frames : List OpenCall) → round ≡ length frames → IfOk result (λ event. Brings setting frames at [] event
         (stage_gives setting frames stage at [])) }
     ensures last { IfOk result (IsLastEvent at) }
-    ensures memory { let setting = setting R.functions with.now in
-        (frames : List OpenCall) → round ≡ length frames → Spends (is_waiting frames) result (EndNeedsMemory setting frames stage at) }
     ensures object { stage ≡ AtObject → result ≡ Ok (IsAt AtObject) }
 {
     match stage {
@@ -181,56 +168,6 @@ fn waited(calls: usize, at: usize) -> Settled
     Settled::Refused(END_OF_FILE, at)
 }
 
-/// What no value in so many open calls comes to at the end of the text, which is at `at`; whether a token ended it.
-fn nothing_last(calls: usize, token: bool, at: usize) -> Settled
-    ensures settles { (setting : Setting) (frames : List OpenCall) → calls ≡ length frames → at ≤ setting.limits.text
-        → Settles setting frames at [] result (plan_gives setting frames (gives (Found.Nothing token)) at []) }
-    ensures last { IsLastSettled at result }
-{
-    if calls == 0 {
-        return Settled::Done(Found::Nothing(token));
-    }
-    waited(calls, at)
-}
-
-/// Whether the innermost call keeps what is found among others.
-fn is_kept(frames: &Frames, found: &Found) -> bool
-    ensures { result ≡ is_kept frames.now found.now }
-{
-    match found {
-        Found::One(..) => frames.keeps_objects(),
-        Found::Nothing(_) | Found::LoneDot | Found::TheEnd => false,
-    }
-}
-
-/// What is found in the innermost call at the end of the text, which is at `at`, comes to. A call that keeps an object among
-/// others stays open, so it is not handed the object.
-fn give_last<R: MacroFunctions>(
-    with: &Surroundings<'_, R>,
-    frames: &mut Frames,
-    found: Found,
-    at: usize,
-) -> Result<Settled, AllocError>
-    requires answers { R.answers with.now.macros.now }
-    requires place { at ≤ with.now.limits.text }
-    ensures settles { let setting = setting R.functions with.now in
-        IfOk result (λ settled. Settles setting frames.new at [] settled (plan_gives setting frames.old (gives found) at [])) }
-    ensures last { IfOk result (IsLastSettled at) }
-    ensures memory { OnErr result (ends_call frames.old found ≡ true) }
-{
-    if let Found::Nothing(token) = &found {
-        return Ok(nothing_last(frames.len(), *token, at));
-    }
-    if is_kept(frames, &found) {
-        return Ok(waited(frames.len(), at));
-    }
-    match deliver(with, frames, found, at)? {
-        Delivered::Waits(_) => Ok(waited(frames.len(), at)),
-        Delivered::Done(found) => Ok(Settled::Done(found)),
-        Delivered::Refused(code, place) => Ok(Settled::Refused(code, place)),
-    }
-}
-
 /// What the outermost attempt comes to at the end of the text, which is at `at`.
 fn settle_last<R: MacroFunctions>(
     with: &Surroundings<'_, R>,
@@ -244,13 +181,15 @@ fn settle_last<R: MacroFunctions>(
         IfOk result (λ settled. Settles setting frames.new at [] settled
         (stage_gives setting frames.old stage at [])) }
     ensures last { IfOk result (IsLastSettled at) }
-    ensures memory { let setting = setting R.functions with.now in
-        OnErr result (EndNeedsMemory setting frames.old stage at) }
     ensures between { frames.old ≡ [] → stage ≡ AtObject → result ≡ Ok (IsDone the_end) }
 {
     match last(with, frames.len(), stage, at)? {
         Event::Stage(_) => Ok(waited(frames.len(), at)),
-        Event::Gives(found) => give_last(with, frames, found, at),
+        Event::Gives(found) => match deliver(with, frames, found, at)? {
+            Delivered::Waits(_) => Ok(waited(frames.len(), at)),
+            Delivered::Done(found) => Ok(Settled::Done(found)),
+            Delivered::Refused(code, place) => Ok(Settled::Refused(code, place)),
+        },
         Event::Refused(code, place) => Ok(Settled::Refused(code, place)),
     }
 }
@@ -293,8 +232,6 @@ pub(crate) fn last_outcome<R: MacroFunctions>(
     requires count { start + at ≤ 2 ^ 63 }
     ensures outcome { let setting = setting R.functions with.now in
         IfOk result (λ outcome. IsOutcome outcome (rest_of setting frames.old stage start at [])) }
-    ensures memory { let setting = setting R.functions with.now in
-        OnErr result (EndNeedsMemory setting frames.old stage at) }
     ensures between { frames.old ≡ [] → stage ≡ AtObject → result ≡ Ok IsEmpty }
 {
     match settle_last(with, frames, stage, at)? {

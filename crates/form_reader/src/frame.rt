@@ -1,8 +1,8 @@
 //! Open calls.
-ghost use Rattle.std.specs.Prelude.{◌≡◌, ◌==◌, ℕ, Bool, Some, None, true, false, [], ◌∷◌, length, MatchOption, OnOk, OnErr, IfOk};
+ghost use Rattle.std.specs.Prelude.{◌≡◌, ◌==◌, ℕ, Bool, Some, None, true, false, [], ◌∷◌, length, MatchOption, OnOk, IfOk};
 ghost use Rattle.form_reader.specs.declared.frame.Part.TheVariants.{Next as InNext};
 ghost use Rattle.form_reader.specs.declared.found.Found.TheVariants.{One as one, LoneDot as lone_dot};
-ghost use Rattle.form_reader.specs.Frames.{close_of, close_of_frames, is_closed_by, with_object, with_dot, calls_with, is_next, is_waiting, is_keeping, keeps_objects, part_needs_memory, needs_memory};
+ghost use Rattle.form_reader.specs.Frames.{close_of, close_of_frames, is_closed_by, with_object, with_dot, calls_with, is_next, is_waiting};
 
 use crate::call::Invoked;
 use crate::held::{HeldObject, HeldObjects};
@@ -122,16 +122,6 @@ impl Frames {
         }
     }
 
-    /// Whether the innermost call keeps an object among others.
-    pub(crate) fn keeps_objects(&self) -> bool
-        ensures { result ≡ keeps_objects self.now }
-    {
-        match self.frames.last() {
-            None => false,
-            Some(frame) => frame.part.is_keeping(),
-        }
-    }
-
     /// Takes the innermost call where it waits for its one object.
     pub(crate) fn pop_waiting(&mut self) -> Option<Invoked>
         ensures { MatchOption result ((self.new ≡ self.old) × (is_waiting self.old ≡ false))
@@ -150,7 +140,6 @@ impl Frames {
     pub(crate) fn take_object(&mut self, x: HeldObject) -> Result<bool, AllocError>
         ensures takes { (token : Bool) → IfOk result (λ taken. taken ≡ true → calls_with self.old (one token x) ≡ Some self.new) }
         ensures refuses { (token : Bool) → IfOk result (λ taken. taken ≡ false → (calls_with self.old (one token x) ≡ None) × (self.new ≡ self.old)) }
-        ensures memory { OnErr result (needs_memory self.old ≡ true) }
     {
         if let Some(frame) = self.frames.last_mut() {
             return frame.part.take_object(x);
@@ -180,20 +169,10 @@ impl Part {
         }
     }
 
-    fn is_keeping(&self) -> bool
-        ensures { result ≡ is_keeping self.now }
-    {
-        match self {
-            Part::List(_) | Part::Until(..) => true,
-            Part::Next | Part::Dotted(_) | Part::Tailed(..) => false,
-        }
-    }
-
     /// Takes an object: whether it goes on.
     fn take_object(&mut self, x: HeldObject) -> Result<bool, AllocError>
         ensures takes { IfOk result (λ taken. taken ≡ true → with_object self.old x ≡ Some self.new) }
         ensures refuses { IfOk result (λ taken. taken ≡ false → (with_object self.old x ≡ None) × (self.new ≡ self.old)) }
-        ensures memory { OnErr result (part_needs_memory self.old ≡ true) }
     {
         match self {
             Part::List(items) => {

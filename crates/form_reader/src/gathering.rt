@@ -2,9 +2,7 @@
 ghost use Rattle.std.specs.Prelude.{◌≡◌, ◌≤◌, ◌<◌, ◌+◌, ◌^◌, ℕ, List, ◌∷◌, length, IfOk};
 ghost use Rattle.form_reader.specs.declared.frame.Frame.{Frame as OpenCall};
 ghost use Rattle.form_reader.specs.Surrounding.{setting};
-ghost use Rattle.form_reader.specs.declared.stage.Stage.TheVariants.{Text as AtText, Escaped as AtEscaped, Line as AtLine, Block as AtBlock, CallToken as AtCallToken};
-ghost use Rattle.form_reader.specs.Frames.{needs_memory};
-ghost use Rattle.form_reader.specs.Memory.{CostsOf, Grows, MayEndAt, Spends};
+ghost use Rattle.form_reader.specs.declared.stage.Stage.TheVariants.{Text as AtText, Escaped as AtEscaped, Line as AtLine, Block as AtBlock};
 ghost use Rattle.form_reader.specs.Resuming.{Brings, stage_gives};
 ghost use Rattle.form_reader.specs.Ready.{IsReady};
 
@@ -37,9 +35,6 @@ pub(crate) fn in_text<R: MacroFunctions>(
         → IfOk result (λ event. Brings setting frames (at + 1) cs event
         (stage_gives setting frames (AtText call terminator text) at (c ∷ cs))) }
     ensures ready { IfOk result (IsReady with.now.limits (at + 1)) }
-    ensures memory { let setting = setting R.functions with.now in
-        (frames : List OpenCall) → round ≡ length frames
-        → Spends (needs_memory frames) result (CostsOf (MayEndAt setting (AtText call terminator text) c) (Grows setting frames (AtText call terminator text) at c) setting frames (at + 1) (λ cs. stage_gives setting frames (AtText call terminator text) at (c ∷ cs))) }
 {
     match text_byte(with.readtable, &with.limits, terminator, &mut text, at, c)? {
         TextByte::More => Ok(Event::Stage(Stage::Text(call, terminator, text))),
@@ -67,9 +62,6 @@ pub(crate) fn in_escaped<R: MacroFunctions>(
         → IfOk result (λ event. Brings setting frames (at + 1) cs event
         (stage_gives setting frames (AtEscaped call terminator text) at (c ∷ cs))) }
     ensures ready { IfOk result (IsReady with.now.limits (at + 1)) }
-    ensures memory { let setting = setting R.functions with.now in
-        (frames : List OpenCall) → round ≡ length frames
-        → Spends (needs_memory frames) result (CostsOf (MayEndAt setting (AtEscaped call terminator text) c) (Grows setting frames (AtEscaped call terminator text) at c) setting frames (at + 1) (λ cs. stage_gives setting frames (AtEscaped call terminator text) at (c ∷ cs))) }
 {
     match escaped_byte(with.readtable, &with.limits, terminator, &mut text, at, c)? {
         None => Ok(Event::Stage(Stage::Text(call, terminator, text))),
@@ -95,9 +87,6 @@ pub(crate) fn in_line<R: MacroFunctions>(
         → IfOk result (λ event. Brings setting frames (at + 1) cs event
         (stage_gives setting frames (AtLine call text) at (c ∷ cs))) }
     ensures ready { IfOk result (IsReady with.now.limits (at + 1)) }
-    ensures memory { let setting = setting R.functions with.now in
-        (frames : List OpenCall) → round ≡ length frames
-        → Spends (needs_memory frames) result (CostsOf (MayEndAt setting (AtLine call text) c) (Grows setting frames (AtLine call text) at c) setting frames (at + 1) (λ cs. stage_gives setting frames (AtLine call text) at (c ∷ cs))) }
 {
     let keep = call.keep();
     match line_byte(with.readtable, &with.limits, keep, &mut text, at, c)? {
@@ -129,9 +118,6 @@ pub(crate) fn in_block<R: MacroFunctions>(
         → IfOk result (λ event. Brings setting frames (at + 1) cs event
         (stage_gives setting frames (AtBlock call levels) at (c ∷ cs))) }
     ensures ready { IfOk result (IsReady with.now.limits (at + 1)) }
-    ensures memory { let setting = setting R.functions with.now in
-        (frames : List OpenCall) → round ≡ length frames
-        → Spends (needs_memory frames) result (CostsOf (MayEndAt setting (AtBlock call levels) c) (Grows setting frames (AtBlock call levels) at c) setting frames (at + 1) (λ cs. stage_gives setting frames (AtBlock call levels) at (c ∷ cs))) }
 {
     match block_byte(with.readtable, &with.limits, &mut levels, at, c) {
         LineByte::More => Ok(Event::Stage(Stage::Block(call, levels))),

@@ -1,5 +1,5 @@
 //! What a reader holds while calls are open: proper objects, and characters.
-ghost use Rattle.std.specs.Prelude.{◌≡◌, ◌<◌, [], ◌∷◌, ◌++◌, true, false, map, length, Some, None, is_some, nat_le, ◌≤◌, IfOk, IfSome, OnOk, IsTrue};
+ghost use Rattle.std.specs.Prelude.{◌≡◌, ◌<◌, [], ◌∷◌, ◌++◌, true, false, map, length, Some, None, is_some, nat_le, ◌≤◌, IfSome, OnOk, IsTrue};
 ghost use Rattle.readtable_core.specs.Characters.{is_digit};
 ghost use Rattle.form_reader.specs.Gathering.{next_digit};
 ghost use Rattle.std.specs.List.{list_all};

@@ -1,13 +1,11 @@
 //! One byte that begins a token, goes on one, or is whitespace where an object may begin, taken where the reader is.
-ghost use Rattle.std.specs.Prelude.{◌≡◌, ◌≤◌, ◌<◌, ◌+◌, ℕ, List, [], ◌∷◌, length, true, false, Ok, None, IfOk, IfSome, OnErr, IsTrue};
+ghost use Rattle.std.specs.Prelude.{◌≡◌, ◌≤◌, ◌<◌, ◌+◌, ℕ, List, [], ◌∷◌, length, true, false, Ok, None, IfOk, IfSome, IsTrue};
 ghost use Rattle.form_reader.specs.Feeding.{is_going};
 ghost use Rattle.form_reader.specs.Surrounding.{setting};
 ghost use Rattle.form_reader.specs.declared.stage.Stage.TheVariants.{Object as AtObject};
-ghost use Rattle.form_reader.specs.Memory.{Costs, RunsOut, is_space};
-ghost use Rattle.form_reader.specs.Resuming.{stage_gives};
+ghost use Rattle.form_reader.specs.InPlace.{is_space};
 ghost use Rattle.form_reader.specs.InPlace.{Begins, FeedsInPlace, IsReadyInPlace, Stays};
-ghost use Rattle.form_reader.specs.declared.in_place.InPlace.TheVariants.{Left as IsLeft, Passed as IsPassed};
-ghost use Rattle.form_reader.specs.Reading.{is_whitespace};
+ghost use Rattle.form_reader.specs.declared.in_place.InPlace.TheVariants.{Passed as IsPassed};
 ghost use Rattle.form_reader.specs.Turning.{rest_of};
 
 use crate::attempt::stands_alone;
@@ -47,12 +45,6 @@ pub(crate) fn in_place<R: MacroFunctions>(
     ensures feeds { let setting = setting R.functions with.now in
         (cs : List ℕ) → IfOk result (FeedsInPlace setting frames.now at c cs stage.old stage.new) }
     ensures ready { IfOk result (IsReadyInPlace with.now.limits at stage.new) }
-    ensures memory { let setting = setting R.functions with.now in
-        OnErr result (RunsOut setting frames.now stage.old at c) }
-    ensures space { let setting = setting R.functions with.now in
-        OnErr result (is_space setting frames.now stage.old at c ≡ false) }
-    ensures left { let setting = setting R.functions with.now in
-        result ≡ Ok IsLeft → is_space setting frames.now stage.old at c ≡ false }
     ensures passed { let setting = setting R.functions with.now in
         frames.now ≡ [] → is_space setting frames.now stage.old at c ≡ true → (result ≡ Ok IsPassed) × (stage.new ≡ AtObject) }
     ensures anew { result ≡ Ok IsPassed → (frames.now ≡ []) × (stage.new ≡ AtObject) }
@@ -83,12 +75,6 @@ fn begin_in_place<R: MacroFunctions>(
     ensures feeds { let setting = setting R.functions with.now in
         (cs : List ℕ) → IfOk result (FeedsInPlace setting frames.now at c cs stage.old stage.new) }
     ensures ready { IfOk result (IsReadyInPlace with.now.limits at stage.new) }
-    ensures memory { let setting = setting R.functions with.now in
-        OnErr result (RunsOut setting frames.now stage.old at c) }
-    ensures space { let setting = setting R.functions with.now in
-        OnErr result (is_space setting frames.now stage.old at c ≡ false) }
-    ensures left { let setting = setting R.functions with.now in
-        result ≡ Ok IsLeft → is_space setting frames.now stage.old at c ≡ false }
     ensures passed { let setting = setting R.functions with.now in
         frames.now ≡ [] → is_space setting frames.now stage.old at c ≡ true → (result ≡ Ok IsPassed) × (stage.new ≡ AtObject) }
     ensures anew { result ≡ Ok IsPassed → (frames.now ≡ []) × (stage.new ≡ AtObject) }
@@ -115,10 +101,6 @@ fn begun_at<R: MacroFunctions>(
     ensures begins { let setting = setting R.functions with.now in
         (cs : List ℕ) → IfOk result (λ begun. IfSome begun (λ scan. Begins setting frames.now at c cs scan)) }
     ensures ready { IfOk result (λ begun. IfSome begun (λ scan. (at < with.now.limits.text) × IsTrue (is_going scan.stage))) }
-    ensures memory { let setting = setting R.functions with.now in
-        OnErr result (Costs setting frames.now c (at + 1) (λ cs. stage_gives setting frames.now AtObject at (c ∷ cs))) }
-    ensures space { let setting = setting R.functions with.now in
-        OnErr result (is_space setting frames.now AtObject at c ≡ false) }
     ensures none { let setting = setting R.functions with.now in
         is_space setting frames.now AtObject at c ≡ true → result ≡ Ok None }
 {
@@ -145,8 +127,6 @@ fn discarded<R: MacroFunctions>(
     ensures feeds { let setting = setting R.functions with.now in
         (cs : List ℕ) → FeedsInPlace setting frames.now at c cs AtObject AtObject result }
     ensures ready { IsReadyInPlace with.now.limits at AtObject result }
-    ensures left { let setting = setting R.functions with.now in
-        result ≡ IsLeft → is_space setting frames.now AtObject at c ≡ false }
     ensures passed { let setting = setting R.functions with.now in
         frames.now ≡ [] → is_space setting frames.now AtObject at c ≡ true → result ≡ IsPassed }
     ensures anew { result ≡ IsPassed → frames.now ≡ [] }

@@ -12,7 +12,7 @@ ghost use Rattle.form_reader.specs.declared.reader.FormReader.{FormReader};
 ghost use Rattle.form_reader.specs.declared.reader.Step.TheVariants.{More};
 ghost use Rattle.form_reader.specs.Reader.{IsAfter, IsBetween, Steps};
 ghost use Rattle.form_reader.specs.declared.way.Keep.{Keep};
-ghost use Rattle.form_reader.specs.Plans.{Plan, loop, run};
+ghost use Rattle.form_reader.specs.Plans.{loop, run};
 ghost use Rattle.form_reader.specs.Setting.{Setting, setting_of};
 ghost use Rattle.form_reader.specs.Gathering.{text_turn, line_turn, block_turn, number_turn};
 ghost use Rattle.form_reader.specs.Reading.{is_whitespace, Outcome, form, empty, refused, place_turn, place, items_turn, items_after, attempt, outcome, reads_at, reads, IsFramed};
@@ -119,10 +119,12 @@ pub fn refusals_are_of_reading()
 /// What is read depends on the registered functions only through their names: where two registries have the same names, the
 /// setting is the same. So where each function of a meaning is registered, a text is read under all its names.
 pub fn only_registered_names_matter()
-    ensures { (limits : Limits) (table : Table) (packages : Packages) (current : Name) (functions : Functions) (names : List (List ℕ))
+    ensures { (limits : Limits) (table : Table) (packages : Packages) (current : Name) (functions : Functions)
+        (names : List (List ℕ))
         → ((name : List ℕ) → IsTrue (is_among functions.names name) → IsTrue (is_among names name))
         → ((name : List ℕ) → IsTrue (is_among names name) → IsTrue (is_among functions.names name))
-        → setting_of limits table packages current (named_among names functions) ≡ setting_of limits table packages current functions }
+        → setting_of limits table packages current (named_among names functions)
+        ≡ setting_of limits table packages current functions }
 {}
 
 /// Where a step answers `More`, no outcome is that of every text that begins with the bytes it was fed: a form, and a

@@ -12,7 +12,6 @@
 //! - specs/Reading.antt: objects, calls and forms
 //! - specs/Frames.antt, specs/Resuming.antt: what open calls stand for, and a place in the innermost, for a reader that takes
 //!   one byte at a time; specs/Feeding.antt, specs/Delivering.antt: what one byte, and what is found, are to them
-//! - specs/Memory.antt: where memory may run out
 //! - specs/Ready.antt, specs/Standing.antt: what keeps such a reader going; specs/Turning.antt, specs/Ending.antt: what one byte,
 //!   and the end of the text, are to the outcome; specs/Reader.antt: what a reader is after, and what it answers
 //!
@@ -24,7 +23,6 @@
 //! `FormReader` takes a text one byte at a time, and `read_one` a whole text. `step`, `finish` and `read_one` answer what the
 //! definition gives, out of memory aside: a form, with its object and its places; that the text is empty; or a refusal, with
 //! its number and its place. What `step` answers is so whatever bytes follow.
-//! Where each of the three may run out of memory, its clause `needs` says.
 //!
 //! - `limits`: `Limits`
 //! - `reader`: `FormReader`, `Step`; `whole`: `read_one`

@@ -1,11 +1,10 @@
 //! The functions at macro characters and sub-characters.
-ghost use Rattle.std.specs.Prelude.{◌≡◌, ◌≤◌, ◌<◌, ◌+◌, ℕ, List, ◌∷◌, length, IfOk, IfSome};
-ghost use Rattle.readtable_core.specs.Tables.{entry_at, dispatch_at};
+ghost use Rattle.std.specs.Prelude.{◌≡◌, ◌≤◌, ◌<◌, ◌+◌, ℕ, List, ◌∷◌, length, IfOk};
+ghost use Rattle.readtable_core.specs.Tables.{entry_at};
 ghost use Rattle.form_reader.specs.Setting.{function_of};
 ghost use Rattle.form_reader.specs.Surrounding.{setting};
 ghost use Rattle.form_reader.specs.Reading.{macro_called, sub_there};
-ghost use Rattle.form_reader.specs.Frames.{needs_memory, plan_gives};
-ghost use Rattle.form_reader.specs.Memory.{CostsOf, EndsAtPlace, EndsAtSub, GivesBefore, Grows, MayEndAt, OpensAtPlace, OpensAtSub, RunsOut, Spends, SpendsMove};
+ghost use Rattle.form_reader.specs.Frames.{plan_gives};
 ghost use Rattle.form_reader.specs.Resuming.{inner_at, Brings, Moves, stage_gives};
 ghost use Rattle.form_reader.specs.declared.frame.Frame.{Frame as OpenCall};
 ghost use Rattle.form_reader.specs.declared.stage.Stage.TheVariants.{CallToken as AtCallToken, Number as AtNumber};
@@ -13,7 +12,7 @@ ghost use Rattle.form_reader.specs.Ready.{IsReady, IsReadyMove};
 ghost use Rattle.user_macros.specs.Functions.{Functions};
 
 use crate::bytes::{LineByte, number_byte};
-use crate::call::{Invoked, TokenCall};
+use crate::call::Invoked;
 use crate::frame::Frames;
 use crate::held::{HeldCharacter, HeldNumber};
 use crate::opening::{begin_call, ended};
@@ -65,9 +64,6 @@ pub(crate) fn begin_macro<R: MacroFunctions>(
         (entry_at setting.table c).function) at cs)) }
     ensures ready { IfOk result (IsReady with.now.limits at) }
     ensures nesting { IfOk result (λ _. length frames.new ≤ with.now.limits.nesting) }
-    ensures memory { let setting = setting R.functions with.now in
-        Spends (needs_memory frames.new) result (CostsOf (EndsAtPlace setting c) (OpensAtPlace setting c) setting frames.old at (λ cs. plan_gives setting frames.old
-        (macro_called setting (length frames.old) (inner_at setting (length frames.old)) c (entry_at setting.table c).function) at cs)) }
 {
     match with.readtable.macro_of(c) {
         None => Ok(Event::Refused(OUT_OF_PROFILE, at.saturating_sub(1))),
@@ -85,7 +81,7 @@ pub(crate) fn begin_macro<R: MacroFunctions>(
 pub(crate) fn in_call_token<R: MacroFunctions>(
     with: &Surroundings<'_, R>,
     round: usize,
-    call: TokenCall,
+    call: Invoked,
     mut scan: TokenScan,
     at: usize,
     c: u8,
@@ -97,15 +93,10 @@ pub(crate) fn in_call_token<R: MacroFunctions>(
         → IfOk result (λ moved. Moves setting frames at c cs moved
         (stage_gives setting frames (AtCallToken call scan) at (c ∷ cs))) }
     ensures ready { IfOk result (IsReadyMove with.now.limits at) }
-    ensures memory { let setting = setting R.functions with.now in
-        (frames : List OpenCall) → round ≡ length frames → SpendsMove (needs_memory frames) result (RunsOut setting frames (AtCallToken call scan) at c) }
-    ensures before { let setting = setting R.functions with.now in
-        (frames : List OpenCall) → round ≡ length frames → IfOk result (GivesBefore setting frames (AtCallToken call scan) at c) }
 {
     match token_byte(with.readtable, &with.limits, &mut scan, at, c)? {
         LineByte::More => Ok(Moved::Taken(Event::Stage(Stage::CallToken(call, scan)))),
         LineByte::Ended => {
-            let call = call.into_call();
             let gathered = StdGathered::Marks(scan.into_marks());
             Ok(Moved::Before(ended(with, round, &call, true, gathered, at)?))
         }
@@ -130,8 +121,6 @@ pub(crate) fn in_number<R: MacroFunctions>(
         (stage_gives setting frames.old (AtNumber character number) at (c ∷ cs))) }
     ensures ready { IfOk result (IsReady with.now.limits (at + 1)) }
     ensures nesting { IfOk result (λ _. length frames.new ≤ with.now.limits.nesting) }
-    ensures memory { let setting = setting R.functions with.now in
-        Spends (needs_memory frames.new) result (CostsOf (MayEndAt setting (AtNumber character number) c) (Grows setting frames.old (AtNumber character number) at c) setting frames.old (at + 1) (λ cs. stage_gives setting frames.old (AtNumber character number) at (c ∷ cs))) }
 {
     match number_byte(with.readtable, &with.limits, &mut number, at, c) {
         LineByte::More => Ok(Event::Stage(Stage::Number(character, number))),
@@ -159,9 +148,6 @@ fn sub_byte<R: MacroFunctions>(
         character number) at (c ∷ cs))) }
     ensures ready { IfOk result (IsReady with.now.limits (at + 1)) }
     ensures nesting { IfOk result (λ _. length frames.new ≤ with.now.limits.nesting) }
-    ensures memory { let setting = setting R.functions with.now in
-        Spends (needs_memory frames.new) result (CostsOf (EndsAtSub setting character number c) (OpensAtSub setting character number c) setting frames.old (at + 1) (λ cs. plan_gives setting frames.old
-        (sub_there setting (length frames.old) (inner_at setting (length frames.old)) character number) at (c ∷ cs))) }
 {
     if at >= with.limits.text {
         return Ok(Event::Refused(FORM_TOO_LONG, at));

@@ -5,8 +5,7 @@ ghost use Rattle.form_reader.specs.Delivering.{Passes};
 ghost use Rattle.form_reader.specs.Plans.{gives};
 ghost use Rattle.form_reader.specs.Surrounding.{setting};
 ghost use Rattle.form_reader.specs.Reading.{is_blank, token_found};
-ghost use Rattle.form_reader.specs.Frames.{needs_memory, plan_gives, place_gives};
-ghost use Rattle.form_reader.specs.Memory.{Costs, FoundCosts, GivesBefore, RunsOut, Spends, SpendsMove, SpendsPass, SpendsToken};
+ghost use Rattle.form_reader.specs.Frames.{plan_gives, place_gives};
 ghost use Rattle.form_reader.specs.Resuming.{Brings, Moves, stage_gives};
 ghost use Rattle.form_reader.specs.declared.frame.Frame.{Frame as OpenCall};
 ghost use Rattle.form_reader.specs.declared.stage.Stage.TheVariants.{Object as AtObject, Token as AtToken};
@@ -43,8 +42,6 @@ pub(crate) fn at_object<R: MacroFunctions>(
         (stage_gives setting frames.old AtObject at (c ∷ cs))) }
     ensures ready { IfOk result (IsReady with.now.limits (at + 1)) }
     ensures nesting { IfOk result (λ _. length frames.new ≤ with.now.limits.nesting) }
-    ensures memory { let setting = setting R.functions with.now in
-        Spends (needs_memory frames.new) result (Costs setting frames.old c (at + 1) (λ cs. stage_gives setting frames.old AtObject at (c ∷ cs))) }
 {
     if let Some(frame) = frames.pop_closed_by(c) {
         if at >= with.limits.text {
@@ -75,8 +72,6 @@ pub(crate) fn after_token<R: MacroFunctions>(
         (place_gives setting true frames.old at (c ∷ cs))) }
     ensures ready { IfOk result (IsReady with.now.limits (at + 1)) }
     ensures nesting { IfOk result (λ _. length frames.new ≤ with.now.limits.nesting) }
-    ensures memory { let setting = setting R.functions with.now in
-        Spends (needs_memory frames.new) result (Costs setting frames.old c (at + 1) (λ cs. place_gives setting true frames.old at (c ∷ cs))) }
 {
     if is_blank(with.readtable.syntax(c)) {
         if at >= with.limits.text {
@@ -130,8 +125,6 @@ pub(crate) fn after_found<R: MacroFunctions>(
         (plan_gives setting frames.old (gives found) at (c ∷ cs))) }
     ensures ready { IfOk result (IsReadyPass with.now.limits at) }
     ensures nesting { IfOk result (λ _. length frames.new ≤ with.now.limits.nesting) }
-    ensures memory { let setting = setting R.functions with.now in
-        SpendsPass (needs_memory frames.new) result (FoundCosts setting frames.old found at c) }
 {
     match deliver(with, frames, found, at)? {
         Delivered::Waits(token) => {
@@ -159,10 +152,6 @@ pub(crate) fn in_token<R: MacroFunctions>(
         (frames : List OpenCall) (cs : List ℕ) → IfOk result (λ moved. Moves setting frames at c cs moved
         (stage_gives setting frames (AtToken scan) at (c ∷ cs))) }
     ensures ready { IfOk result (IsReadyMove with.now.limits at) }
-    ensures memory { let setting = setting R.functions with.now in
-        (frames : List OpenCall) → SpendsMove (needs_memory frames) result (RunsOut setting frames (AtToken scan) at c) }
-    ensures before { let setting = setting R.functions with.now in
-        (frames : List OpenCall) → IfOk result (GivesBefore setting frames (AtToken scan) at c) }
 {
     match scan.byte(with.readtable, &with.limits, at, c)? {
         BegunByte::More(scan) => Ok(Moved::Taken(Event::Stage(Stage::Token(scan)))),
@@ -171,7 +160,7 @@ pub(crate) fn in_token<R: MacroFunctions>(
     }
 }
 
-/// What a token comes to where it ends, at `at`. Only a name needs memory.
+/// What a token comes to where it ends, at `at`.
 #[inline(always)]
 pub(crate) fn token_end<R: MacroFunctions>(
     with: &Surroundings<'_, R>,
@@ -184,8 +173,6 @@ pub(crate) fn token_end<R: MacroFunctions>(
         (frames : List OpenCall) (cs : List ℕ) → IfOk result (λ event. Brings setting frames at cs event
         (plan_gives setting frames (token_found setting marks.items) at cs)) }
     ensures ends { IfOk result (IsEnd 1 at) }
-    ensures memory { let setting = setting R.functions with.now in
-        SpendsToken setting marks.items result }
 {
     let case = with.readtable.case();
     match tell(with.alloc, case, with.packages, with.current, 10, marks) {

@@ -1,20 +1,16 @@
 //! How a call begins.
-ghost use Rattle.std.specs.Prelude.{◌≡◌, ◌≤◌, ℕ, Bool, true, false, List, IfOk, length, Ok, Some};
+ghost use Rattle.std.specs.Prelude.{◌≡◌, ◌≤◌, ℕ, true, false, List, IfOk, length, Ok, Some};
 ghost use Rattle.form_reader.specs.Setting.{Setting, is_baseless, standard_way, user_way, way_in};
 ghost use Rattle.form_reader.specs.Surrounding.{setting};
 ghost use Rattle.form_reader.specs.declared.frame.Frame.{Frame as OpenCall};
-ghost use Rattle.form_reader.specs.Calls.{InvokedCall};
-ghost use Rattle.form_reader.specs.Frames.{needs_memory, plan_gives};
-ghost use Rattle.form_reader.specs.Completing.{plan_of};
-ghost use Rattle.form_reader.specs.Memory.{call_may_cost, call_at_once, CostsOf, IsWhatIsGiven, OpensCall, Spends};
-ghost use Rattle.form_reader.specs.Reading.{called, completed, gathered};
-ghost use Rattle.form_reader.specs.Resuming.{inner_at, Begins, Brings, Gathers, ComesTo};
+ghost use Rattle.form_reader.specs.Frames.{plan_gives};
+ghost use Rattle.form_reader.specs.Reading.{completed, gathered};
+ghost use Rattle.form_reader.specs.Resuming.{Begins, Brings, Gathers, ComesTo};
 ghost use Rattle.form_reader.specs.Opening.{reads_objects};
 ghost use Rattle.form_reader.specs.Ready.{IsReady, IsEnd, completed_lookahead, space};
 ghost use Rattle.std_macros.specs.Results.{view_gathered, IsProperGathered};
-ghost use Rattle.std_macros.specs.Values.{Material};
 
-use crate::call::{Invoked, TokenCall};
+use crate::call::Invoked;
 use crate::complete::{Completed, complete};
 use crate::frame::{Frame, Frames, Part};
 use crate::held::{HeldObjects, HeldText};
@@ -43,9 +39,6 @@ pub(crate) fn begin_call<R: MacroFunctions>(
         (cs : List ℕ) → IfOk result (λ event. Begins setting frames.new frames.old call at cs event) }
     ensures ready { IfOk result (IsReady with.now.limits at) }
     ensures nesting { IfOk result (λ _. length frames.new ≤ with.now.limits.nesting) }
-    ensures memory { let setting = setting R.functions with.now in
-        Spends (needs_memory frames.new) result (CostsOf (call_at_once setting call) (OpensCall setting call) setting frames.old at (λ cs. plan_gives setting frames.old
-        (called setting (length frames.old) (inner_at setting (length frames.old)) call) at cs)) }
 {
     match way_of(with, &call) {
         None => Ok(Event::Refused(OUT_OF_PROFILE, at.saturating_sub(1))),
@@ -72,9 +65,6 @@ fn gather<R: MacroFunctions>(
         (cs : List ℕ) → IfOk result (λ event. Gathers setting frames.new frames.old call way at cs event) }
     ensures ready { IfOk result (IsReady with.now.limits at) }
     ensures nesting { IfOk result (λ _. length frames.new ≤ with.now.limits.nesting) }
-    ensures memory { let setting = setting R.functions with.now in
-        Spends (needs_memory frames.new) result (CostsOf (call_at_once setting call) (OpensCall setting call) setting frames.old at (λ cs. plan_gives setting frames.old
-        (gathered setting (length frames.old) (inner_at setting (length frames.old)) call way) at cs)) }
 {
     match way {
         Way::Nothing => ended(with, frames.len(), &call, false, StdGathered::Nothing, at),
@@ -91,12 +81,10 @@ fn gather<R: MacroFunctions>(
         }
         Way::Block => Ok(Event::Stage(Stage::Block(call, (0, 0)))),
         Way::Token => {
-            let call = TokenCall::new(call);
             let scan = TokenScan::begin(with.alloc, with.limits.token);
             Ok(Event::Stage(Stage::CallToken(call, scan)))
         }
         Way::EscapedToken => {
-            let call = TokenCall::new(call);
             let scan = TokenScan::begin_escaped(with.alloc, with.limits.token);
             Ok(Event::Stage(Stage::CallToken(call, scan)))
         }
@@ -113,8 +101,6 @@ fn gather_objects<R: MacroFunctions>(
     way: Way,
     at: usize,
 ) -> Result<Event, AllocError>
-    requires way { let setting = setting R.functions with.now in
-        way_in setting call ≡ Some way }
     requires objects { reads_objects way ≡ true }
     requires place { at ≤ with.now.limits.text }
     requires nesting { length frames.old ≤ with.now.limits.nesting }
@@ -122,9 +108,6 @@ fn gather_objects<R: MacroFunctions>(
         (cs : List ℕ) → IfOk result (λ event. Gathers setting frames.new frames.old call way at cs event) }
     ensures ready { IfOk result (IsReady with.now.limits at) }
     ensures nesting { IfOk result (λ _. length frames.new ≤ with.now.limits.nesting) }
-    ensures memory { let setting = setting R.functions with.now in
-        Spends (needs_memory frames.new) result (CostsOf (call_at_once setting call) (OpensCall setting call) setting frames.old at (λ cs. plan_gives setting frames.old
-        (gathered setting (length frames.old) (inner_at setting (length frames.old)) call way) at cs)) }
 {
     let deep = frames.len() >= with.limits.nesting as usize;
     match way {
@@ -163,8 +146,6 @@ fn gather_objects<R: MacroFunctions>(
 pub(crate) fn event_of(completed: Completed, at: usize) -> Event
     ensures comes { (setting : Setting) (frames : List OpenCall) (cs : List ℕ) → ComesTo setting frames completed at cs result }
     ensures ends { IsEnd (completed_lookahead completed) at result }
-    ensures found { IsWhatIsGiven (plan_of completed) result }
-    ensures some { (needs : Bool) (call : InvokedCall) (material : Material) → Spends needs (Ok result) (call_may_cost needs call material (plan_of completed) ≡ true) }
 {
     match completed {
         Completed::Gives(found) => Event::Gives(found),
@@ -189,10 +170,6 @@ pub(crate) fn ended<R: MacroFunctions>(
         → IfOk result (λ event. Brings setting frames at cs event
         (plan_gives setting frames (completed setting (length frames) call.now token false (view_gathered gathered)) at cs)) }
     ensures ends { IfOk result (IsEnd (space token) at) }
-    ensures found { let setting = setting R.functions with.now in
-        IfOk result (IsWhatIsGiven (completed setting round call.now token false (view_gathered gathered))) }
-    ensures some { let setting = setting R.functions with.now in
-        (needs : Bool) → Spends needs result (call_may_cost needs call.now (view_gathered gathered) (completed setting round call.now token false (view_gathered gathered)) ≡ true) }
 {
     Ok(event_of(complete(with, round, call, token, false, gathered)?, at))
 }

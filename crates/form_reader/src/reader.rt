@@ -60,7 +60,7 @@ pub enum Step {
 }
 
 impl FormReader {
-    ghost use Rattle.std.specs.Prelude.{◌≡◌, ◌<◌, ◌≤◌, ◌+◌, ◌^◌, ℕ, true, List, [], ◌∷◌, ◌++◌, length, Ok, IfOk, IsErr, OnErr};
+    ghost use Rattle.std.specs.Prelude.{◌≡◌, ◌<◌, ◌≤◌, ◌+◌, ◌^◌, ℕ, true, List, [], ◌∷◌, ◌++◌, Ok, IfOk, IsErr, OnErr};
     ghost use Rattle.package_table.specs.Table.{IsPackage};
     ghost use Rattle.form_reader.specs.Setting.{Setting, setting_of};
     ghost use Rattle.form_reader.specs.Surrounding.{setting};
@@ -68,8 +68,8 @@ impl FormReader {
     ghost use Rattle.form_reader.specs.Reading.{form, is_whitespace, reads};
     ghost use Rattle.form_reader.specs.declared.reader.Step.TheVariants.{More as StepMore, Refused as StepRefused};
     ghost use Rattle.form_reader.specs.declared.ending.ReadOutcome.TheVariants.{Empty as ReadEmpty, Refused as ReadRefused};
-    ghost use Rattle.form_reader.specs.Turning.{IsReadyTurn, BeginsFrom};
-    ghost use Rattle.form_reader.specs.Reader.{limits_of, fed, begun, HasRefused, HasNoMemory, IsNew, IsBetween, LeavesBetween, IsAfter, IsLeftAt, Steps, Counts, BeginsLater, IsSoundStep, Takes, MayRunOut, EndMayRunOut, IsOutcome};
+    ghost use Rattle.form_reader.specs.Turning.{IsReadyTurn};
+    ghost use Rattle.form_reader.specs.Reader.{limits_of, fed, begun, HasRefused, HasNoMemory, IsNew, IsBetween, LeavesBetween, IsAfter, IsOpen, Steps, Counts, BeginsLater, IsSoundStep, Takes, IsOutcome};
 
     /// A reader that was fed nothing, between forms. It keeps `alloc` for what it gathers.
     pub fn new(alloc: Global, limits: Limits) -> FormReader
@@ -102,11 +102,8 @@ impl FormReader {
     }
 
     /// One more byte of the text, under the same readtable, packages, current package and functions as the bytes before it.
-    /// After a refusal, and after it ran out of memory, it answers the same again. It runs out of memory only where the bytes
-    /// with this one decide nothing and it keeps more (an open call, a mark of a token past its first 32, a character of a text
-    /// or of a line that is kept), where the byte ends a name, a number that an open call needs memory to take, or the token of
-    /// a call, or where a call ends with it, and never at whitespace that is discarded where an object may begin. Between forms
-    /// whitespace is taken, unless the limit of the text is 0, and the reader stays there.
+    /// After a refusal, and after it ran out of memory, it answers the same again. Between forms whitespace is taken without
+    /// memory, unless the limit of the text is 0, and the reader stays there.
     pub fn step<R: MacroFunctions>(
         &mut self,
         byte: u8,
@@ -136,13 +133,6 @@ impl FormReader {
         ensures spent { HasNoMemory self.old → IsErr result }
         ensures stays { (code place : ℕ) → (HasRefused self.old code place → fed self.new ≡ fed self.old)
             × (HasNoMemory self.old → fed self.new ≡ fed self.old) }
-        ensures needs { (bytes : List ℕ) → IsAfter
-            (setting_of (limits_of self.old) readtable.now packages.now.0 current.now
-            (R.functions macros.now))
-            self.old bytes → OnErr result (MayRunOut
-            (setting_of (limits_of self.old) readtable.now packages.now.0 current.now
-            (R.functions macros.now))
-            self.old bytes byte) }
         ensures between { IsBetween self.old → is_whitespace readtable.now byte ≡ true → 0 < (limits_of self.old).text
             → (result ≡ Ok StepMore) × IsBetween self.new }
         ensures between_forms { IfOk result (LeavesBetween self.new) }
@@ -186,8 +176,7 @@ impl FormReader {
         }
     }
 
-    /// The byte, where the reader is in a form, and it is no whitespace that is discarded there. Apart from `step`, whose way
-    /// is short where a byte is taken in its place.
+    /// The byte, where the reader is in a form. Apart from `step`, whose way is short where a byte is taken in its place.
     #[inline(never)]
     fn leave<R: MacroFunctions>(
         &mut self,
@@ -197,7 +186,7 @@ impl FormReader {
         requires answers { R.answers with.now.macros.now }
         requires limits { with.now.limits ≡ limits_of self.old }
         requires count { fed self.old < 2 ^ 63 }
-        requires left { IsLeftAt (setting R.functions with.now) self.old byte }
+        requires open { IsOpen self.old }
         ensures steps { let setting = setting R.functions with.now in
             (bytes : List ℕ) → IsAfter setting self.old bytes → IfOk result (Steps setting self.new (bytes ++ byte ∷ [])) }
         ensures limits { limits_of self.new ≡ limits_of self.old }
@@ -206,8 +195,6 @@ impl FormReader {
         ensures begun { IfOk result (BeginsLater self.old self.new) }
         ensures sound { IfOk result IsSoundStep }
         ensures memory { OnErr result (HasNoMemory self.new) }
-        ensures needs { let setting = setting R.functions with.now in
-            (bytes : List ℕ) → IsAfter setting self.old bytes → OnErr result (MayRunOut setting self.old bytes byte) }
         ensures between_forms { IfOk result (LeavesBetween self.new) }
         ensures nothing_open { result ≡ Ok StepMore → begun self.new ≡ fed self.new → IsBetween self.new }
     {
@@ -254,9 +241,8 @@ impl FormReader {
         }
     }
 
-    /// The end of the text, under the same readtable, packages, current package and functions as its bytes. It runs out of
-    /// memory only where the end of the text ends a name, a number with which a call ends, or the token or the line of a call.
-    /// Between forms the text is empty.
+    /// The end of the text, under the same readtable, packages, current package and functions as its bytes. Between forms the
+    /// text is empty.
     pub fn finish<R: MacroFunctions>(
         self,
         readtable: &Readtable,
@@ -276,10 +262,6 @@ impl FormReader {
             (setting_of (limits_of self) readtable.now packages.now.0 current.now
             (R.functions macros.now))
             bytes)) }
-        ensures needs { OnErr result (EndMayRunOut
-            (setting_of (limits_of self) readtable.now packages.now.0 current.now
-            (R.functions macros.now))
-            self) }
         ensures between { IsBetween self → result ≡ Ok ReadEmpty }
     {
         let FormReader {

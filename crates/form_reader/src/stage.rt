@@ -1,16 +1,16 @@
 //! Where a reader is in its innermost call.
-ghost use Rattle.std.specs.Prelude.{◌≡◌, ◌≤◌, ◌<◌, ℕ, List, [], ◌∷◌, length, IfOk, IsOk, OnErr, IsTrue, IsFalse, Ok};
-ghost use Rattle.token_scan.specs.Tokens.{kind, typed, typed_text};
+ghost use Rattle.std.specs.Prelude.{◌≡◌, ◌≤◌, ◌<◌, ℕ, List, [], ◌∷◌, IfOk, IsTrue, IsFalse, Ok};
+ghost use Rattle.token_scan.specs.Tokens.{kind, typed};
 ghost use Rattle.token_scan.specs.Spelling.{ends_tokens};
-ghost use Rattle.token_scan.specs.Scans.{GoesPast, Scan, begun, has_begun, marks_of, token_from};
-ghost use Rattle.form_reader.specs.Feeding.{TokenFeeds, GoesOn, is_going, token_read};
+ghost use Rattle.token_scan.specs.Scans.{Scan, begun, has_begun};
+ghost use Rattle.form_reader.specs.Feeding.{TokenFeeds, is_going, token_read};
 ghost use Rattle.form_reader.specs.declared.bytes.LineByte.TheVariants.{Ended as LineEnded, More as LineMore};
 ghost use Rattle.form_reader.specs.Begun.{BegunFeeds, FirstFeeds, IsBegunByte};
 ghost use Rattle.form_reader.specs.declared.stage.BegunByte.TheVariants.{More as BegunMore};
 ghost use Rattle.form_reader.specs.declared.stage.FirstByte.TheVariants.{More as FirstMore};
 
 use crate::bytes::LineByte;
-use crate::call::{Invoked, TokenCall};
+use crate::call::Invoked;
 use crate::found::Found;
 use crate::held::{HeldCharacter, HeldNumber, HeldText};
 use crate::limits::Limits;
@@ -57,7 +57,7 @@ pub enum FirstByte {
     Refused(u16),
 }
 
-/// A token from its first byte `c` on, which is at `at`. It needs no memory.
+/// A token from its first byte `c` on, which is at `at`.
 pub(crate) fn first_byte(
     alloc: Global,
     readtable: &Readtable,
@@ -71,7 +71,6 @@ pub(crate) fn first_byte(
         FirstFeeds readtable.now limits.now at cs fed (token_read readtable.now limits.now (begun limits.now.token) at (c ∷ cs))) }
     ensures going { (scan : Scan) → result ≡ Ok (FirstMore scan) → IsTrue (is_going scan.stage) }
     ensures below { (scan : Scan) → result ≡ Ok (FirstMore scan) → at < limits.now.text }
-    ensures inline { IsOk result }
 {
     let mut scan = TokenScan::begin(alloc, limits.token);
     match token_byte(readtable, limits, &mut scan, at, c)? {
@@ -104,12 +103,6 @@ impl BegunScan {
         ensures ended { result ≡ Ok LineEnded → self.new ≡ self.old }
         ensures going { result ≡ Ok LineMore → IsTrue (is_going self.new.stage) }
         ensures below { result ≡ Ok LineMore → at < limits.now.text }
-        ensures calm { OnErr result (at < limits.now.text) }
-        ensures goes { (more : List ℕ) → OnErr result
-            (GoesPast at (token_from self.old at (typed_text readtable.now (c ∷ more)))) }
-        ensures next { OnErr result (GoesOn readtable.now limits.now self.old at c) }
-        ensures inline { OnErr result (32 ≤ length self.old.marks) }
-        ensures marks { OnErr result (0 < length (marks_of self.old.stage (typed readtable.now c))) }
     {
         token_byte(readtable, limits, &mut self.scan, at, c)
     }
@@ -130,12 +123,6 @@ impl BegunScan {
         ensures ended { IfOk result IsBegunByte }
         ensures going { (scan : Scan) → result ≡ Ok (BegunMore scan) → IsTrue (is_going scan.stage) }
         ensures below { (scan : Scan) → result ≡ Ok (BegunMore scan) → at < limits.now.text }
-        ensures calm { OnErr result (at < limits.now.text) }
-        ensures goes { (more : List ℕ) → OnErr result
-            (GoesPast at (token_from self at (typed_text readtable.now (c ∷ more)))) }
-        ensures next { OnErr result (GoesOn readtable.now limits.now self at c) }
-        ensures inline { OnErr result (32 ≤ length self.marks) }
-        ensures marks { OnErr result (0 < length (marks_of self.stage (typed readtable.now c))) }
     {
         let BegunScan { mut scan } = self;
         match token_byte(readtable, limits, &mut scan, at, c)? {
@@ -154,7 +141,7 @@ pub enum Stage {
     /// In a token that is an object.
     Token(BegunScan),
     /// In the token of a call.
-    CallToken(TokenCall, TokenScan),
+    CallToken(Invoked, TokenScan),
     /// In a text up to this character.
     Text(Invoked, u8, HeldText),
     /// After an escape in such a text.

@@ -1,12 +1,12 @@
 //! One byte of a token.
-ghost use Rattle.std.specs.Prelude.{◌≡◌, ◌≤◌, ◌<◌, ℕ, List, ◌∷◌, Ok, IfOk, OnErr, OnOk, IsTrue, length, nat_lt, if◌then◌else◌};
+ghost use Rattle.std.specs.Prelude.{◌≡◌, ◌≤◌, ◌<◌, ℕ, List, ◌∷◌, Ok, IfOk, IsTrue, nat_lt, if◌then◌else◌};
 ghost use Rattle.lisp_object.specs.declared.refusal.TheConstants.{FORM_TOO_LONG};
 ghost use Rattle.token_scan.specs.declared.stage.Stage.TheVariants.{Outside};
-ghost use Rattle.token_scan.specs.Tokens.{kind, typed, typed_text};
+ghost use Rattle.token_scan.specs.Tokens.{kind, typed};
 ghost use Rattle.token_scan.specs.Spelling.{ends_tokens};
-ghost use Rattle.token_scan.specs.Scans.{GoesPast, has_begun, marks_of, token_from};
+ghost use Rattle.token_scan.specs.Scans.{has_begun};
 ghost use Rattle.form_reader.specs.declared.bytes.LineByte.TheVariants.{Ended as LineEnded, More as LineMore};
-ghost use Rattle.form_reader.specs.Feeding.{TokenFeeds, GoesOn, is_going, token_read, refused_number};
+ghost use Rattle.form_reader.specs.Feeding.{TokenFeeds, is_going, token_read, refused_number};
 
 use crate::bytes::LineByte;
 use crate::limits::Limits;
@@ -17,8 +17,8 @@ use readtable_core::Readtable;
 use std::alloc::AllocError;
 use token_scan::{Fed, ScanRefusal, TokenScan};
 
-/// The byte `c` at `at`, after what was fed to `scan`. Only a byte that is taken needs memory.
-#[tactic(auto, using(crate::proofs::FedTokens::token_more, crate::proofs::FedTokens::token_ended, crate::proofs::FedTokens::token_over, crate::proofs::FedTokens::token_refused, crate::proofs::FedTokens::token_beyond, crate::proofs::Costing::token_goes_on))]
+/// The byte `c` at `at`, after what was fed to `scan`.
+#[tactic(auto, using(crate::proofs::FedTokens::token_more, crate::proofs::FedTokens::token_ended, crate::proofs::FedTokens::token_over, crate::proofs::FedTokens::token_refused))]
 #[inline(always)]
 pub(crate) fn token_byte(
     readtable: &Readtable,
@@ -36,28 +36,17 @@ pub(crate) fn token_byte(
     ensures going { result ≡ Ok LineMore → IsTrue (is_going scan.new.stage) }
     ensures below { result ≡ Ok LineMore → at < limits.now.text }
     ensures begun { IsTrue (has_begun scan.old) → IsTrue (has_begun scan.new) }
-    ensures calm { OnErr result (at < limits.now.text) }
-    ensures goes { (more : List ℕ) → OnErr result (GoesPast at (token_from scan.old at (typed_text readtable.now (c ∷ more)))) }
-    ensures next { OnErr result (GoesOn readtable.now limits.now scan.old at c) }
-    ensures inline { OnErr result (32 ≤ length scan.old.marks) }
-    ensures marks { OnErr result (0 < length (marks_of scan.old.stage (typed readtable.now c))) }
 {
-    match scan.feed(readtable.syntax(c), c) {
-        Ok(Fed::Ended) => Ok(LineByte::Ended),
-        Ok(Fed::More) => {
+    match scan.feed(readtable.syntax(c), c)? {
+        Fed::Ended => Ok(LineByte::Ended),
+        Fed::More => {
             if at >= limits.text {
                 Ok(LineByte::Refused(FORM_TOO_LONG))
             } else {
                 Ok(LineByte::More)
             }
         }
-        Ok(Fed::Refused(refusal)) => Ok(LineByte::Refused(refused(limits, refusal, at))),
-        Err(error) => {
-            if at >= limits.text {
-                return Ok(LineByte::Refused(FORM_TOO_LONG));
-            }
-            Err(error)
-        }
+        Fed::Refused(refusal) => Ok(LineByte::Refused(refused(limits, refusal, at))),
     }
 }
 

@@ -1,5 +1,5 @@
 //! What a token means where packages are known.
-ghost use Rattle.std.specs.Prelude.{◌≡◌, ◌<◌, ◌≤◌, true, length, Ok, Err, codes, IfOk, IsTrue};
+ghost use Rattle.std.specs.Prelude.{◌≡◌, ◌<◌, ◌≤◌, true, length, Ok, Err, IfOk, IsTrue};
 ghost use Rattle.std.specs.List.{list_all};
 ghost use Rattle.lisp_object.specs.Ascii.{is_ascii};
 ghost use Rattle.lisp_object.specs.Object.{symbol};
@@ -10,7 +10,7 @@ ghost use Rattle.token_meaning.specs.Folding.{folded};
 ghost use Rattle.token_meaning.specs.Meanings.{meaning_of};
 ghost use Rattle.token_meaning.specs.Results.{is_ascii_name, view_meaning, IsProperNumber, IsAsciiName};
 ghost use Rattle.form_reader.specs.declared.told.TellError.TheVariants.{OutOfMemory};
-ghost use Rattle.form_reader.specs.Naming.{IsNameMeaning, named, symbol_at, symbol_in, told_of, Tells, view_resolved, view_home};
+ghost use Rattle.form_reader.specs.Naming.{named, symbol_at, symbol_in, told_of, Tells, view_resolved, view_home};
 
 use crate::held::HeldObject;
 use lisp_object::{Bytes, Datum};
@@ -63,7 +63,6 @@ pub(crate) fn tell(
     requires highest_base { base ≤ 36 }
     requires current { IsPackage packages.now.0 current.now }
     ensures tells { Tells result (told_of packages.now.0 current.now (meaning_of base (folded case marks.items))) }
-    ensures memory { result ≡ Err OutOfMemory → IsNameMeaning (meaning_of base (folded case marks.items)) }
 {
     fold_case(case, marks.as_mut_slice());
     match meaning(alloc, marks.as_slice(), base) {
@@ -84,7 +83,6 @@ fn tell_meaning(
     requires ascii { IsAsciiName meant }
     requires current { IsPackage packages.now.0 current.now }
     ensures tells { Tells result (told_of packages.now.0 current.now (Ok (view_meaning meant))) }
-    ensures memory { result ≡ Err OutOfMemory → IsNameMeaning (Ok (view_meaning meant)) }
 {
     match meant {
         TokenMeaning::Number(datum) => Ok(Told::Object(HeldObject::new(datum))),

@@ -1,5 +1,5 @@
 //! One byte of a text, wherever a reader is in a form, and after what it ends.
-ghost use Rattle.std.specs.Prelude.{◌≡◌, ◌≤◌, ◌<◌, ◌+◌, ◌^◌, ℕ, List, [], ◌∷◌, length, true, Ok, IfOk, OnErr};
+ghost use Rattle.std.specs.Prelude.{◌≡◌, ◌≤◌, ◌<◌, ◌+◌, ◌^◌, ℕ, List, [], ◌∷◌, length, Ok, IfOk};
 ghost use Rattle.form_reader.specs.Plans.{Read};
 ghost use Rattle.form_reader.specs.declared.found.Found.{Found as FoundThere};
 ghost use Rattle.form_reader.specs.declared.frame.Frame.{Frame as OpenCall};
@@ -7,8 +7,6 @@ ghost use Rattle.form_reader.specs.declared.limits.Limits.{Limits as Bounds};
 ghost use Rattle.form_reader.specs.Setting.{Setting};
 ghost use Rattle.form_reader.specs.Surrounding.{setting};
 ghost use Rattle.form_reader.specs.Delivering.{Passes};
-ghost use Rattle.form_reader.specs.Frames.{needs_memory};
-ghost use Rattle.form_reader.specs.Memory.{event_needs, is_nothing, RunsOut, SpendsPass};
 ghost use Rattle.form_reader.specs.Resuming.{Brings, stage_gives};
 ghost use Rattle.form_reader.specs.Ready.{lookahead, IsReady, IsReadyPass};
 ghost use Rattle.form_reader.specs.Turning.{outcome_of, rest_of, Settles, TurnsTo, IsStanding, IsReadySettled, IsReadyTurn, BeginsFrom, BeginsAnew};
@@ -65,8 +63,6 @@ pub(crate) fn feed<R: MacroFunctions>(
         (stage_gives setting frames.old stage at (c ∷ cs))) }
     ensures ready { IfOk result (IsReadyPass with.now.limits at) }
     ensures nesting { IfOk result (λ _. length frames.new ≤ with.now.limits.nesting) }
-    ensures memory { let setting = setting R.functions with.now in
-        SpendsPass (needs_memory frames.new) result (RunsOut setting frames.old stage at c) }
 {
     match advance(with, frames, stage, at, c)? {
         Moved::Taken(event) => Ok(Passed::Taken(event)),
@@ -93,7 +89,6 @@ fn settle<R: MacroFunctions>(
         (cs : List ℕ) (read : Read FoundThere) → Brings setting frames.old at cs event read
         → IfOk result (λ settled. Settles setting frames.new at cs settled read) }
     ensures ready { IfOk result (IsReadySettled with.now.limits frames.new at) }
-    ensures memory { OnErr result (event_needs frames.old event ≡ true) }
 {
     match event {
         Event::Stage(stage) => Ok(Settled::Open(stage)),
@@ -143,7 +138,6 @@ fn turn_of<R: MacroFunctions>(
     ensures ready { IfOk result (IsReadyTurn with.now.limits frames.new (start + at)) }
     ensures begins { IfOk result (BeginsFrom start) }
     ensures anew { 0 < at → IfOk result (BeginsAnew frames.new) }
-    ensures memory { OnErr result (event_needs frames.old event ≡ true) }
 {
     match settle(with, frames, event, at)? {
         Settled::Open(stage) => Ok(Turn::Goes(start, at, stage)),
@@ -172,7 +166,6 @@ fn done_before<R: MacroFunctions>(
     ensures ready { IfOk result (IsReadyTurn with.now.limits frames.new (start + at + 1)) }
     ensures begins { IfOk result (BeginsFrom start) }
     ensures anew { IfOk result (BeginsAnew frames.new) }
-    ensures memory { OnErr result (is_nothing found ≡ true) }
 {
     match found {
         Found::Nothing(_) => {
@@ -209,8 +202,6 @@ pub(crate) fn take_byte<R: MacroFunctions>(
     ensures ready { IfOk result (IsReadyTurn with.now.limits frames.new (start + at + 1)) }
     ensures begins { IfOk result (BeginsFrom start) }
     ensures anew { IfOk result (BeginsAnew frames.new) }
-    ensures memory { let setting = setting R.functions with.now in
-        OnErr result (RunsOut setting frames.old stage at c) }
 {
     if let Stage::Object = &stage {
         let brought = at_object(with, frames, at, c)?;

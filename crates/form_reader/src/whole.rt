@@ -1,9 +1,11 @@
 //! A whole text.
-ghost use Rattle.std.specs.Prelude.{◌≡◌, ℕ, List, length, IfOk, OnErr};
+ghost use Rattle.std.specs.Prelude.{◌≡◌, ◌<◌, true, Ok, IfOk};
+ghost use Rattle.std.specs.List.{list_all};
 ghost use Rattle.package_table.specs.Table.{IsPackage};
 ghost use Rattle.form_reader.specs.Setting.{setting_of};
-ghost use Rattle.form_reader.specs.Reading.{reads};
-ghost use Rattle.form_reader.specs.Reader.{IsOutcome, ReadMayRunOut, ReadNeedsMemory};
+ghost use Rattle.form_reader.specs.declared.ending.ReadOutcome.TheVariants.{Empty as ReadEmpty};
+ghost use Rattle.form_reader.specs.Reading.{is_whitespace, reads};
+ghost use Rattle.form_reader.specs.Reader.{IsOutcome};
 
 use crate::Limits;
 use crate::ending::ReadOutcome;
@@ -13,9 +15,7 @@ use readtable_core::Readtable;
 use std::alloc::{AllocError, Global};
 use user_macros::MacroFunctions;
 
-/// What the text `bytes` begins with. It runs out of memory only where a reader that takes the text one byte at a time may, at
-/// one of its bytes or at its end; and only where it has a byte that is no whitespace, the first of which, alone, is not refused
-/// where it is. So a text of whitespace alone needs none.
+/// What the text `bytes` begins with. A text of whitespace alone needs no memory.
 pub fn read_one<R: MacroFunctions>(
     alloc: Global,
     limits: Limits,
@@ -31,14 +31,7 @@ pub fn read_one<R: MacroFunctions>(
         (setting_of limits readtable.now packages.now.0 current.now
         (R.functions macros.now))
         bytes.now)) }
-    ensures needs { OnErr result (ReadMayRunOut
-        (setting_of limits readtable.now packages.now.0 current.now
-        (R.functions macros.now))
-        bytes.now) }
-    ensures reader { OnErr result (ReadNeedsMemory
-        (setting_of limits readtable.now packages.now.0 current.now
-        (R.functions macros.now))
-        bytes.now) }
+    ensures blank { 0 < limits.text → list_all (is_whitespace readtable.now) bytes.now ≡ true → result ≡ Ok ReadEmpty }
 {
     let mut reader = FormReader::new(alloc, limits);
     for byte in bytes {

@@ -1,4 +1,3 @@
-pub mod Dotted
 pub mod Headed
 pub mod MarkNames
 pub mod Names

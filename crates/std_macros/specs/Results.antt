@@ -1,14 +1,12 @@
 -- What the calls are handed and answer.
-use Rattle.std.specs.Prelude.{◌≡◌, ℕ, ◌==◌, Bool, true, false, not, List, ◌∷◌, length, map, Option, Some, None, Result, Ok, Err, IsTrue}
+use Rattle.std.specs.Prelude.{◌≡◌, ℕ, true, map, Option, Some, None, Result, Ok, Err, IsTrue}
 use Rattle.std.specs.List.{list_all}
 use Rattle.lisp_object.specs.Ascii.{is_ascii}
-use Rattle.lisp_object.specs.Object.{Object, symbol, is_nil}
+use Rattle.lisp_object.specs.Object.{Object}
 use Rattle.lisp_object.specs.Datum.{object_of, is_proper}
 use Rattle.lisp_object.specs.declared.refusal.TheConstants.{STRAY_CLOSE, NUMERIC_ARGUMENT, CHARACTER_NAME, RADIX_TOKEN, VECTOR_LENGTH, UNINTERNED_TOKEN, OUT_OF_PROFILE, NO_MEMORY}
 use Rattle.token_scan.specs.Marks.{are_ascii}
 use Rattle.token_meaning.specs.Results.{meaning_refusal_number}
-use Rattle.std_macros.specs.declared.kind.Standard.{Standard}
-use Rattle.std_macros.specs.declared.kind.Standard.TheVariants.{List as AList, Quote, Function, Vector, Uninterned}
 use Rattle.std_macros.specs.declared.refusal.StdRefusal.{StdRefusal}
 use Rattle.std_macros.specs.declared.refusal.StdRefusal.TheVariants.{StrayClose, Rational, NumericArgument, CharacterName, RadixToken, VectorLength, UninternedToken, OutOfProfile}
 use Rattle.std_macros.specs.declared.refusal.FinishError.{FinishError}
@@ -65,29 +63,6 @@ Fails (Refused refusal) value = value ≡ Err refusal
 abbrev pub Gives : Result Finished FinishError → Value → Type 0
 Gives (Ok answer) value = value ≡ Ok (view_finished answer)
 Gives (Err error) value = Fails error value
-
-abbrev pub is_nil_object : Object → Bool
-is_nil_object (symbol home name) = is_nil home name
-is_nil_object _ = false
-
--- whether a vector of these objects takes memory where its length is said: where it is their number, they are moved
-abbrev pub length_takes_memory : Option ℕ → List Object → Bool
-length_takes_memory None xs = false
-length_takes_memory (Some wanted) xs = not (wanted == length xs)
-
--- Whether the object of the function takes memory, with this number and for what was gathered. Objects are moved into a list
--- that has some, and no dot or NIL after it, and into a vector of their own length, a text is moved, and characters and numbers
--- take none.
-abbrev pub takes_memory : Standard → Option ℕ → Material → Bool
-takes_memory AList number (many (x ∷ xs)) = false
-takes_memory AList number (dotted (x ∷ xs) tail) = not (is_nil_object tail)
-takes_memory AList number _ = true
-takes_memory Quote number material = true
-takes_memory Function number material = true
-takes_memory Vector number (many xs) = length_takes_memory number xs
-takes_memory Vector number _ = true
-takes_memory Uninterned number material = true
-takes_memory _ number material = false
 
 -- an object that was answered is a proper datum
 abbrev pub IsProperFinished : Finished → Type 0

@@ -1,7 +1,6 @@
 //! Characters, and their names (standard 13.1.7).
 ghost use Rattle.std.specs.Prelude.{◌≡◌, ◌≢◌, ◌∷◌, [], Err, IfOk, IsTrue, MatchOption};
 ghost use Rattle.token_scan.specs.Marks.{characters, character_of as character_of_mark, are_ascii};
-ghost use Rattle.std_macros.specs.declared.refusal.FinishError.TheVariants.{OutOfMemory};
 ghost use Rattle.std_macros.specs.Values.{is_named, code_named, character_of, character_or_refused};
 ghost use Rattle.std_macros.specs.Results.{Gives, IsProperFinished};
 
@@ -9,12 +8,11 @@ use crate::{FinishError, Finished, StdRefusal};
 use lisp_object::Datum;
 use token_scan::Mark;
 
-/// The character of a token: the only one that it has, or the one of that name. Takes no memory.
+/// The character of a token: the only one that it has, or the one of that name.
 pub(crate) fn character(marks: &[Mark]) -> Result<Finished, FinishError>
     requires { IsTrue (are_ascii marks.now) }
     ensures value { Gives result (character_of (characters marks.now)) }
     ensures proper { IfOk result IsProperFinished }
-    ensures memory { result ≢ Err OutOfMemory }
 {
     match only(marks) {
         Some(c) => Ok(Finished::One(Datum::Char(c))),
@@ -61,7 +59,6 @@ fn character_of_mark(mark: Mark) -> Option<u8>
 fn named(marks: &[Mark]) -> Result<Finished, FinishError>
     ensures value { Gives result (character_or_refused (code_named (characters marks.now))) }
     ensures proper { IfOk result IsProperFinished }
-    ensures memory { result ≢ Err OutOfMemory }
 {
     match code_named(marks) {
         Some(c) => Ok(Finished::One(Datum::Char(c))),

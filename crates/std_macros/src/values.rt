@@ -1,17 +1,15 @@
 //! The value of each standard function.
-ghost use Rattle.std.specs.Prelude.{◌≡◌, ◌≢◌, ◌≤◌, ◌<◌, ℕ, true, codes, length, map, [], Err, IsOk, IfOk, IfSome, IsTrue, OnErr, Option, option_map};
+ghost use Rattle.std.specs.Prelude.{◌≡◌, ◌≢◌, ◌≤◌, ◌<◌, true, codes, length, [], Err, IfOk, IfSome, IsTrue, Option, option_map};
 ghost use Rattle.std.specs.List.{list_all, list_any};
 ghost use Rattle.lisp_object.specs.Ascii.{is_ascii};
 ghost use Rattle.lisp_object.specs.Datum.{is_proper, object_of};
-ghost use Rattle.lisp_object.specs.Object.{list_of, pairs};
 ghost use Rattle.token_scan.specs.Marks.{are_ascii};
 ghost use Rattle.token_meaning.specs.Folding.{folded};
 ghost use Rattle.token_meaning.specs.Meanings.{is_package_marker};
 ghost use Rattle.token_meaning.specs.Results.{view_number};
 ghost use Rattle.std_macros.specs.Values.{headed, headed_value, list_value, text_value, character_value, vector_value, is_own_name, uninterned_of, uninterned_value, rational_or_refused, rational_value, value_of};
-ghost use Rattle.std_macros.specs.declared.kind.Standard.TheVariants.{List as AList, Vector};
-ghost use Rattle.std_macros.specs.declared.refusal.FinishError.TheVariants.{OutOfMemory};
-ghost use Rattle.std_macros.specs.Results.{view_gathered, IsProperGathered, Gives, IsProperFinished, takes_memory};
+ghost use Rattle.std_macros.specs.declared.kind.Standard.TheVariants.{Vector};
+ghost use Rattle.std_macros.specs.Results.{view_gathered, IsProperGathered, Gives, IsProperFinished};
 
 use crate::characters::character;
 use crate::vectors::vector;
@@ -29,8 +27,7 @@ use token_scan::{Mark, Marks, characters};
 /// # Errors
 ///
 /// 4 STRAY-CLOSE, 8 NUMBER-RANGE, 9 ZERO-DENOMINATOR, 15 NUMERIC-ARGUMENT, 16 CHARACTER-NAME, 17 RADIX-TOKEN,
-/// 18 VECTOR-LENGTH, 19 UNINTERNED-TOKEN, 25 OUT-OF-PROFILE; and out of memory, where an object is given that is a symbol, a
-/// list that is quoted or ends in an object other than NIL, or a vector that repeats its last object. Any other is moved.
+/// 18 VECTOR-LENGTH, 19 UNINTERNED-TOKEN, 25 OUT-OF-PROFILE; and out of memory, where an object is given.
 pub fn finish(
     alloc: Global,
     kind: Standard,
@@ -41,7 +38,6 @@ pub fn finish(
     requires { IsProperGathered gathered }
     ensures value { Gives result (value_of kind case number (view_gathered gathered)) }
     ensures proper { IfOk result IsProperFinished }
-    ensures memory { result ≡ Err OutOfMemory → IsTrue (takes_memory kind number (view_gathered gathered)) }
 {
     match kind {
         Standard::List => list(alloc, gathered),
@@ -70,53 +66,22 @@ fn list(alloc: Global, gathered: StdGathered) -> Result<Finished, FinishError>
     requires { IsProperGathered gathered }
     ensures value { Gives result (list_value (view_gathered gathered)) }
     ensures proper { IfOk result IsProperFinished }
-    ensures memory { (number : Option ℕ) → result ≡ Err OutOfMemory → IsTrue (takes_memory AList number (view_gathered gathered)) }
 {
     match gathered {
-        StdGathered::Many(items) => Ok(Finished::One(list_of(alloc, items)?)),
+        StdGathered::Many(items) => {
+            Ok(Finished::One(Datum::list(alloc, items.into_vec(), None)?))
+        }
         StdGathered::Dotted { items, tail } => {
-            Ok(Finished::One(dotted_list(alloc, items, tail)?))
+            Ok(Finished::One(Datum::list(alloc, items.into_vec(), Some(tail))?))
         }
         _ => Ok(Finished::Nothing),
     }
-}
-
-/// The list of these objects. Only the empty list takes memory, as it is the symbol NIL.
-fn list_of(alloc: Global, items: Items<Datum>) -> Result<Datum, AllocError>
-    requires { list_all is_proper items ≡ true }
-    ensures object { IfOk result (λ d. object_of d ≡ list_of (map object_of items)) }
-    ensures proper { IfOk result (λ d. is_proper d ≡ true) }
-    ensures memory { OnErr result (items ≡ []) }
-{
-    if items.is_empty() {
-        Datum::nil(alloc)
-    } else {
-        Ok(Datum::List { items, tail: None })
-    }
-}
-
-/// The list of these objects that ends in `tail`. Where there is one, and the tail is NIL, it takes no memory.
-fn dotted_list(alloc: Global, items: Items<Datum>, tail: Datum) -> Result<Datum, AllocError>
-    requires items { list_all is_proper items ≡ true }
-    requires tail { is_proper tail ≡ true }
-    ensures object { IfOk result (λ d. object_of d ≡ pairs (map object_of items) (object_of tail)) }
-    ensures proper { IfOk result (λ d. is_proper d ≡ true) }
-    ensures moved { 0 < length items → tail ≡ Datum.Symbol (codes "COMMON-LISP") (codes "NIL") → IsOk result }
-{
-    if items.is_empty() {
-        return Ok(tail);
-    }
-    if tail.is_nil() {
-        return list_of(alloc, items);
-    }
-    Datum::list(alloc, items.into_vec(), Some(tail))
 }
 
 fn text(gathered: StdGathered) -> Result<Finished, FinishError>
     requires { IsProperGathered gathered }
     ensures value { Gives result (text_value (view_gathered gathered)) }
     ensures proper { IfOk result IsProperFinished }
-    ensures memory { result ≢ Err OutOfMemory }
 {
     match gathered {
         StdGathered::Text(bytes) => Ok(Finished::One(Datum::Text(bytes))),
@@ -167,7 +132,6 @@ fn character_of(gathered: StdGathered) -> Result<Finished, FinishError>
     requires { IsProperGathered gathered }
     ensures value { Gives result (character_value (view_gathered gathered)) }
     ensures proper { IfOk result IsProperFinished }
-    ensures memory { result ≢ Err OutOfMemory }
 {
     match gathered {
         StdGathered::Marks(marks) => character(marks.as_slice()),
@@ -227,7 +191,6 @@ fn rational_in(base: u8, gathered: StdGathered) -> Result<Finished, FinishError>
     requires highest_base { base ≤ 36 }
     ensures value { Gives result (rational_value base (view_gathered gathered)) }
     ensures proper { IfOk result IsProperFinished }
-    ensures memory { result ≢ Err OutOfMemory }
 {
     match gathered {
         StdGathered::Marks(marks) => rational_or_refused(rational(marks.as_slice(), base)),
@@ -241,7 +204,6 @@ fn rational_or_refused(
     requires { IfSome found (λ given. IfOk given (λ datum. is_proper datum ≡ true)) }
     ensures value { Gives result (rational_or_refused (option_map view_number found)) }
     ensures proper { IfOk result IsProperFinished }
-    ensures memory { result ≢ Err OutOfMemory }
 {
     match found {
         None => Err(FinishError::Refused(StdRefusal::RadixToken)),
@@ -262,7 +224,6 @@ fn vector_of(
     requires { IsProperGathered gathered }
     ensures value { Gives result (vector_value number (view_gathered gathered)) }
     ensures proper { IfOk result IsProperFinished }
-    ensures memory { result ≡ Err OutOfMemory → IsTrue (takes_memory Vector number (view_gathered gathered)) }
 {
     match gathered {
         StdGathered::Many(items) => match number {

@@ -1,13 +1,12 @@
 //! Vectors with a length (standard 2.4.8.3).
-ghost use Rattle.std.specs.Prelude.{◌≡◌, ◌+◌, ◌*◌, ◌-◌, ◌^◌, ◌<◌, ◌≤◌, Some, true, nat_le, sum, map, replicate, ◌++◌, if◌then◌else◌, Err, IfOk, IsTrue};
+ghost use Rattle.std.specs.Prelude.{◌≡◌, ◌+◌, ◌*◌, ◌-◌, ◌^◌, ◌<◌, ◌≤◌, Some, true, nat_le, sum, map, replicate, ◌++◌, if◌then◌else◌, Err, IfOk};
 ghost use Rattle.std.specs.List.{list_all};
 ghost use Rattle.std.specs.Option.{SomeIff};
 ghost use Rattle.lisp_object.specs.Datum.{object_of, is_proper, size};
 ghost use Rattle.lisp_object.specs.Object.{vector as vector_object, list_of};
 ghost use Rattle.std_macros.specs.declared.refusal.StdRefusal.TheVariants.{VectorLength};
 ghost use Rattle.std_macros.specs.Values.{given, vector_of};
-ghost use Rattle.std_macros.specs.Results.{Gives, IsProperFinished, length_takes_memory};
-ghost use Rattle.std_macros.specs.declared.refusal.FinishError.TheVariants.{OutOfMemory};
+ghost use Rattle.std_macros.specs.Results.{Gives, IsProperFinished};
 
 use crate::{FinishError, Finished, StdRefusal};
 use lisp_object::{Datum, Items};
@@ -25,7 +24,6 @@ pub(crate) fn vector(
     requires { list_all is_proper items ≡ true }
     ensures value { Gives result (vector_of (Some length) (map object_of items)) }
     ensures proper { IfOk result IsProperFinished }
-    ensures memory { result ≡ Err OutOfMemory → IsTrue (length_takes_memory (Some length) (map object_of items)) }
 {
     let count = items.len() as u64;
     let length = u64::from(length);

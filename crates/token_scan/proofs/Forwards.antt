@@ -1,6 +1,5 @@
--- No place that a token gives is before its first byte, a byte that is taken is passed, and a token that has begun has a mark.
-use Rattle.std.proofs.lemmas.Bool.{eqb-true}
-use Rattle.std.proofs.Common.{◌≡◌, ◌≤◌, ◌<◌, length, not, ◌+◌, ◌-◌, ◌==◌, ◌||◌, ℕ, Bool, true, false, if◌then◌else◌, List, [], ◌∷◌, Result, Ok, Err, MatchResult, OnErr, IsTrue, refl, ap, arith}
+-- No place that a token gives is before its first byte, and a token that has begun has a mark.
+use Rattle.std.proofs.Common.{◌≡◌, ◌≤◌, ◌<◌, length, not, ◌+◌, ◌-◌, ◌==◌, ◌||◌, ℕ, Bool, true, false, if◌then◌else◌, List, [], ◌∷◌, Ok, Err, MatchResult, IsTrue, refl, ap, arith}
 use Rattle.readtable_core.specs.declared.characters.Syntax.{Syntax}
 use Rattle.readtable_core.specs.declared.characters.Syntax.TheVariants.{Whitespace, Constituent, TerminatingMacro, NonTerminatingMacro, SingleEscape, MultipleEscape, Invalid}
 use Rattle.readtable_core.specs.Characters.{has_invalid_trait}
@@ -8,9 +7,9 @@ use Rattle.token_scan.specs.declared.mark.Mark.{Mark}
 use Rattle.token_scan.specs.declared.mark.Mark.TheVariants.{Plain, Quoted, Bar}
 use Rattle.token_scan.specs.declared.stage.Stage.{Stage}
 use Rattle.token_scan.specs.declared.stage.Stage.TheVariants.{Outside, Inside, EscapedOutside, EscapedInside, Refused}
-use Rattle.token_scan.specs.Tokens.{TypedByte, kind, is_character, Scanned, with_front, one_more, plain, quoted, escaped, outside, inside}
+use Rattle.token_scan.specs.Tokens.{TypedByte, kind, is_character, Scanned, with_front, escaped, outside, inside}
 use Rattle.token_scan.specs.Spelling.{is_plain, ends_tokens}
-use Rattle.token_scan.specs.Scans.{Scan, from_stage, is_empty, has_begun, token_from, GoesPast}
+use Rattle.token_scan.specs.Scans.{Scan, from_stage, is_empty, has_begun, token_from}
 use Rattle.token_scan.proofs.Steps.{outside_ends, outside_plain, outside_escape, outside_bar, outside_invalid, inside_between, inside_escape, inside_bar, inside_invalid}
 
 abbrev pub Forwards : ℕ → Scanned → Type 0
@@ -91,50 +90,6 @@ stage_forwards (x ∷ xs) (Refused refusal) left at = omega arith
 
 pub forwards : (scan : Scan) (at : ℕ) (text : List TypedByte) → Forwards at (token_from scan at text)
 forwards scan at text = put_after scan.marks at _ (stage_forwards text scan.stage scan.left at)
-
--- ---- a byte that is taken
-
-pub held : {T E : Type 0} (r : Result T E) (P : Type 0) → P → OnErr r P
-held (Ok value) P h = tt
-held (Err e) P h = h
-
-passed : (at : ℕ) (r : Scanned) → Forwards (at + 1) r → GoesPast at r
-passed at (Ok t) h = omega arith
-passed at (Err e) h = omega arith
-
-passed_after : (front : List Mark) (at : ℕ) (r : Scanned) → GoesPast at r → GoesPast at (with_front front r)
-passed_after front at (Ok t) h = h
-passed_after front at (Err e) h = h
-
-passed_else : (b : Bool) (at : ℕ) (r s : Scanned) → (b ≡ true → ⊥) → GoesPast at s → GoesPast at (if b then r else s)
-passed_else true at r s not_so h = absurd (not_so refl)
-passed_else false at r s not_so h = h
-
-passed_on : (mark : Mark) (stage : Stage) (left at : ℕ) (text : List TypedByte) → GoesPast at (with_front (mark ∷ []) (from_stage stage left (at + 1) text))
-passed_on mark stage left at text = passed_after (mark ∷ []) at _ (passed at _ (stage_forwards text stage left (at + 1)))
-
-pub past_bar_outside : (scan : Scan) (x : TypedByte) (xs : List TypedByte) (at : ℕ) → scan.stage ≡ Outside → kind x ≡ MultipleEscape
-    → GoesPast at (token_from scan at (x ∷ xs))
-past_bar_outside scan x xs at stage e =
-    rw stage (rw (outside_bar x xs scan.left at e) (passed_after scan.marks at _ (passed_on Bar Inside scan.left at xs)))
-
-pub past_bar_inside : (scan : Scan) (x : TypedByte) (xs : List TypedByte) (at : ℕ) → scan.stage ≡ Inside → kind x ≡ MultipleEscape
-    → GoesPast at (token_from scan at (x ∷ xs))
-past_bar_inside scan x xs at stage e =
-    rw stage (rw (inside_bar x xs scan.left at e) (passed_after scan.marks at _ (passed_on Bar Outside scan.left at xs)))
-
-pub past_quoted : (front : List Mark) (byte left at : ℕ) (back : Stage) (text : List TypedByte) → 0 < left
-    → GoesPast at (with_front front (one_more left at (λ left. quoted byte (from_stage back left (at + 1) text))))
-past_quoted front byte left at back text some =
-    passed_after front at _ (passed_else (left == 0) at _ _ (λ none. omega (arith, some, eqb-true left 0 none))
-    (passed_on (Quoted byte) back (left - 1) at text))
-
-pub past_plain : (front : List Mark) (byte left at : ℕ) (text : List TypedByte) → 0 < left → has_invalid_trait byte ≡ false
-    → GoesPast at (with_front front (one_more left at (λ left. plain byte at (outside left (at + 1) text))))
-past_plain front byte left at text some valid =
-    passed_after front at _ (passed_else (left == 0) at _ _ (λ none. omega (arith, some, eqb-true left 0 none))
-    (passed_else (has_invalid_trait byte) at _ _ (λ invalid. absurd (cc))
-    (passed_on (Plain byte) Outside (left - 1) at text)))
 
 -- a token that has begun has a mark where it may end
 pub begun_has_mark : (scan : Scan) → IsTrue (has_begun scan) → scan.stage ≡ Outside → 0 < length scan.marks

@@ -1,5 +1,5 @@
 -- A token as it is fed byte by byte: what the scan has come to, and what it gives if these bytes follow.
-use Rattle.std.specs.Prelude.{ℕ, ◌≡◌, ◌+◌, ◌<◌, List, [], ◌∷◌, ◌++◌, Ok, MatchResult, Bool, true, false, not, IsTrue}
+use Rattle.std.specs.Prelude.{ℕ, ◌≡◌, ◌+◌, List, [], ◌∷◌, ◌++◌, Ok, Bool, true, false, not, IsTrue}
 use Rattle.readtable_core.specs.declared.characters.Syntax.{Syntax}
 use Rattle.readtable_core.specs.declared.characters.Syntax.TheVariants.{SingleEscape, MultipleEscape}
 use Rattle.token_scan.specs.declared.mark.Mark.{Mark}
@@ -63,10 +63,6 @@ marks_of Inside x = marks_by (Quoted x.byte) (kind x)
 marks_of EscapedOutside x = Quoted x.byte ∷ []
 marks_of EscapedInside x = Quoted x.byte ∷ []
 marks_of (Refused refusal) x = []
-
--- the token goes on past this place: it neither ends there nor is refused there
-abbrev pub GoesPast : ℕ → Scanned → Type 0
-GoesPast at given = MatchResult given (λ t. at < t.1) (λ e. at < e.at)
 
 -- What the token gives if this text follows the byte.
 abbrev pub fed_gives : Fed → Scan → ℕ → TypedByte → List TypedByte → Scanned

@@ -1,10 +1,9 @@
 //! Tokens, fed byte by byte.
-ghost use Rattle.std.specs.Prelude.{◌≡◌, ◌+◌, ◌-◌, ◌<◌, ℕ, if◌then◌else◌, false, is_ok, Err, List, [], ◌∷◌, ◌++◌, length, IsTrue, Ok, IsOk, IfOk, OnOk, OnErr, IfErr, MatchResult};
-ghost use Rattle.readtable_core.specs.declared.characters.Syntax.TheVariants.{Constituent};
+ghost use Rattle.std.specs.Prelude.{◌≡◌, ◌+◌, ◌-◌, ◌<◌, ℕ, if◌then◌else◌, false, is_ok, Err, List, [], ◌∷◌, ◌++◌, IsTrue, Ok, IfOk, OnErr, MatchResult};
 ghost use Rattle.token_scan.specs.declared.mark.Mark.TheVariants.{Plain, Quoted, Bar};
 ghost use Rattle.token_scan.specs.declared.refusal.ScanRefusal.TheVariants.{EndOfFile};
 ghost use Rattle.token_scan.specs.Marks.{is_ascii_mark, are_ascii};
-ghost use Rattle.token_scan.specs.Tokens.{TypedByte, met, kind, with_front, one_more, plain, quoted, escaped, outside, inside, token, escaped_token, fault};
+ghost use Rattle.token_scan.specs.Tokens.{TypedByte, met, kind, with_front, one_more, plain, quoted, escaped, outside, token, escaped_token, fault};
 ghost use Rattle.token_scan.specs.declared.stage.Stage.TheVariants.{Outside, Inside, EscapedOutside, EscapedInside, Refused};
 
 use crate::stage::Stage;
@@ -38,20 +37,19 @@ impl Model for TokenScan {
 
     ghost Value = { Scan };
 
-    ghost use Rattle.std.specs.Prelude.{◌≤◌, IsTrue};
+    ghost use Rattle.std.specs.Prelude.{IsTrue};
     ghost use Rattle.token_scan.specs.Marks.{are_ascii};
 
     ghost view = { λ t. record { marks = t.marks.items; left = t.left; stage = t.stage } };
 
-    ghost invariant = { λ t. (32 ≤ t.marks.capacity) × IsTrue (are_ascii t.marks.items) };
+    ghost invariant = { λ t. IsTrue (are_ascii t.marks.items) };
 }
 
 impl TokenScan {
     ghost use Rattle.token_scan.specs.declared.scan.Fed.TheVariants.{More, Refused as FedRefused};
-    ghost use Rattle.token_scan.specs.Scans.{begun, begun_escaped, refused, from_stage, token_from, fed_gives, marks_of, GoesPast, LeavesBy, Leaves};
+    ghost use Rattle.token_scan.specs.Scans.{begun, begun_escaped, refused, from_stage, token_from, fed_gives, LeavesBy, Leaves};
 
-    /// An empty token of at most `limit` characters, which bars and escapes are not. It keeps `alloc` for its marks, of
-    /// which 32 need no memory.
+    /// An empty token of at most `limit` characters, which bars and escapes are not. It keeps `alloc` for its marks.
     pub fn begin(alloc: Global, limit: usize) -> TokenScan
         ensures value { result ≡ begun limit }
         ensures token { (at : ℕ) (text : List TypedByte) → token_from result at text ≡ token limit at text }
@@ -73,20 +71,15 @@ impl TokenScan {
     ///
     /// # Errors
     ///
-    /// Out of memory for a mark, and so only where the token neither ends nor is refused at the byte; then nothing has
-    /// changed.
+    /// Out of memory for a mark; then nothing has changed.
     #[tactic(auto, unfolding(crate::specs::Tokens::outside))]
     pub fn feed(&mut self, syntax: Syntax, byte: u8) -> Result<Fed, AllocError>
         ensures gives { (at : ℕ) (more : List TypedByte) → IfOk result (λ fed.
             token_from self.old at (met syntax byte ∷ more) ≡ fed_gives fed self.new at (met syntax byte) more) }
         ensures leaves { IfOk result (λ fed. Leaves fed self.old (met syntax byte) self.new) }
         ensures unchanged { OnErr result (self.new ≡ self.old) }
-        ensures memory { (at : ℕ) (more : List TypedByte) → OnErr result
-            (GoesPast at (token_from self.old at (met syntax byte ∷ more))) }
         ensures repeats { (refusal : ScanRefusal) → self.old.stage ≡ Refused refusal
             → result ≡ Ok (FedRefused refusal) }
-        ensures inline { length self.old.marks < 32 → IsOk result }
-        ensures marks { OnErr result (0 < length (marks_of self.old.stage (met syntax byte))) }
         ensures no_end { result ≡ Ok (FedRefused EndOfFile) → self.old.stage ≡ Refused EndOfFile }
     {
         match (self.stage, kind_of(syntax, byte)) {
@@ -170,14 +163,12 @@ impl TokenScan {
         ensures after { self.new ≡ (if is_ok result
             then record self.old { marks = self.old.marks ++ Bar ∷ []; stage = stage }
             else self.old) }
-        ensures inline { length self.old.marks < 32 → IsOk result }
     {
         self.add(Mark::Bar, stage)?;
         Ok(Fed::More)
     }
 
     // Takes a character that is not escaped.
-    #[tactic(auto, using(crate::proofs::Forwards::past_plain))]
     fn feed_plain(&mut self, byte: u8) -> Result<Fed, AllocError>
         requires { byte < 128 }
         ensures gives { (x : TypedByte) (at : ℕ) (more : List TypedByte) → IfOk result (λ fed.
@@ -185,10 +176,6 @@ impl TokenScan {
             ≡ fed_gives fed self.new at x more) }
         ensures leaves { IfOk result (λ fed. LeavesBy (Plain byte ∷ []) false fed self.old self.new) }
         ensures unchanged { OnErr result (self.new ≡ self.old) }
-        ensures memory { (at : ℕ) (more : List TypedByte) → OnErr result
-            (GoesPast at (with_front self.old.marks
-            (one_more self.old.left at (λ left. plain byte at (outside left (at + 1) more))))) }
-        ensures inline { length self.old.marks < 32 → IsOk result }
         ensures no_end { result ≡ Ok (FedRefused EndOfFile) → ⊥ }
     {
         if self.left == 0 {
@@ -209,10 +196,6 @@ impl TokenScan {
             ≡ fed_gives fed self.new at (met syntax byte) more) }
         ensures leaves { IfOk result (λ fed. LeavesBy (Quoted byte ∷ []) false fed self.old self.new) }
         ensures unchanged { OnErr result (self.new ≡ self.old) }
-        ensures memory { (syntax : Syntax) (at : ℕ) (more : List TypedByte) → OnErr result
-            (GoesPast at (with_front self.old.marks
-            (escaped (met syntax byte) self.old.left at (λ left. from_stage back left (at + 1) more)))) }
-        ensures inline { length self.old.marks < 32 → IsOk result }
         ensures no_end { result ≡ Ok (FedRefused EndOfFile) → ⊥ }
     {
         if byte >= 128 {
@@ -222,7 +205,6 @@ impl TokenScan {
     }
 
     // Takes a character that is quoted, after which the next byte is at `back`.
-    #[tactic(auto, using(crate::proofs::Forwards::past_quoted))]
     fn feed_quoted(&mut self, byte: u8, back: Stage) -> Result<Fed, AllocError>
         requires { byte < 128 }
         ensures gives { (x : TypedByte) (at : ℕ) (more : List TypedByte) → IfOk result (λ fed.
@@ -230,10 +212,6 @@ impl TokenScan {
             ≡ fed_gives fed self.new at x more) }
         ensures leaves { IfOk result (λ fed. LeavesBy (Quoted byte ∷ []) false fed self.old self.new) }
         ensures unchanged { OnErr result (self.new ≡ self.old) }
-        ensures memory { (at : ℕ) (more : List TypedByte) → OnErr result
-            (GoesPast at (with_front self.old.marks
-            (one_more self.old.left at (λ left. quoted byte (from_stage back left (at + 1) more))))) }
-        ensures inline { length self.old.marks < 32 → IsOk result }
         ensures no_end { result ≡ Ok (FedRefused EndOfFile) → ⊥ }
     {
         if self.left == 0 {
@@ -250,7 +228,6 @@ impl TokenScan {
         ensures after { self.new ≡ (if is_ok result
             then record { marks = self.old.marks ++ mark ∷ []; left = self.old.left - 1; stage = stage }
             else self.old) }
-        ensures inline { length self.old.marks < 32 → IsOk result }
     {
         self.add(mark, stage)?;
         self.left -= 1;
@@ -262,7 +239,6 @@ impl TokenScan {
         ensures after { self.new ≡ (if is_ok result
             then record self.old { marks = self.old.marks ++ mark ∷ []; stage = stage }
             else self.old) }
-        ensures inline { length self.old.marks < 32 → IsOk result }
     {
         self.marks.push(mark)?;
         self.stage = stage;

@@ -1,6 +1,6 @@
 //! The six macro functions without a registry: each is called by its name. So a helper may make them, where it could not
 //! make the boxes of a registry.
-ghost use Rattle.std.specs.Prelude.{◌≡◌, true};
+ghost use Rattle.std.specs.Prelude.{◌≡◌, refl, true};
 ghost use Rattle.std.specs.List.{list_all};
 ghost use Rattle.std.specs.Option.{option_map_or};
 ghost use Rattle.readtable_core.specs.Named.{functions_at};

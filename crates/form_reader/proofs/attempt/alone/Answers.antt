@@ -1,9 +1,6 @@
 use Rattle.std.proofs.Common.{arith, refl, sym, ◌∙◌}
 use Rattle.form_reader.specs.Surrounding.{setting}
 use Rattle.form_reader.proofs.Attempts.{attempt_over, alone_by, alone_refused, alone_other, alone_calls, invalid_beyond}
-use Rattle.std.proofs.Common.{◌+◌}
-use Rattle.readtable_core.specs.declared.characters.Syntax.TheVariants.{TerminatingMacro, NonTerminatingMacro}
-use Rattle.form_reader.proofs.Spending.{spends_same}
 use Rattle.form_reader.proofs.attempt.alone.Goals as goal
 
 pub returns-then-at-with-clause-brings : goal.returns-then-at-with-clause-brings
@@ -36,15 +33,3 @@ returns-in_default-clause-brings g c = λ cs.
     let setting = setting g.R.MacroFunctions.functions c.args.with.now in
     alone_other setting c.args.at c.args.c cs c.args.frames.now c.syntax.result c.requires.nesting (omega (arith, c.if-at-with.false)) c.requires.alone (sym c.syntax.ensures)
     c.in_default.not-Whitespace c.in_default.not-TerminatingMacro c.in_default.not-NonTerminatingMacro
-
-pub returns-in-TerminatingMacro-clause-memory : goal.returns-in-TerminatingMacro-clause-memory
-returns-in-TerminatingMacro-clause-memory g c =
-    let setting = setting g.R.MacroFunctions.functions c.args.with.now in
-    spends_same _ _ _ setting c.args.frames.now (c.args.at + 1) _ _ c.begin_macro.result
-    (λ cs. alone_by setting c.args.at c.args.c cs c.args.frames.now TerminatingMacro c.requires.nesting (omega (arith, c.if-at-with.false)) c.requires.alone (sym c.syntax.ensures ∙ c.in-TerminatingMacro.is)) c.begin_macro.ensures.memory
-
-pub returns-in-NonTerminatingMacro-clause-memory : goal.returns-in-NonTerminatingMacro-clause-memory
-returns-in-NonTerminatingMacro-clause-memory g c =
-    let setting = setting g.R.MacroFunctions.functions c.args.with.now in
-    spends_same _ _ _ setting c.args.frames.now (c.args.at + 1) _ _ c.begin_macro-in-NonTerminatingMacro.result
-    (λ cs. alone_by setting c.args.at c.args.c cs c.args.frames.now NonTerminatingMacro c.requires.nesting (omega (arith, c.if-at-with.false)) c.requires.alone (sym c.syntax.ensures ∙ c.in-NonTerminatingMacro.is)) c.begin_macro-in-NonTerminatingMacro.ensures.memory

@@ -1,7 +1,7 @@
-use Rattle.std.proofs.Common.{◌≡◌, ◌≤◌, ℕ, List, false, length}
+use Rattle.std.proofs.Common.{◌≡◌, ◌≤◌, ℕ, List, length}
 use Rattle.form_reader.specs.Plans.{gives, run}
 use Rattle.form_reader.specs.Surrounding.{setting}
-use Rattle.form_reader.specs.Frames.{given, needs_to_take}
+use Rattle.form_reader.specs.Frames.{given}
 use Rattle.form_reader.specs.Ready.{lookahead}
 use Rattle.form_reader.proofs.deliver.deliver.Given as goal
 
@@ -12,7 +12,6 @@ invariant-calls g l =
     ≡ run setting.table setting.limits (given setting l.frames (gives l.found)) l.fn.at cs)
     × (length l.frames ≤ length l.fn.frames)
     × (lookahead l.found ≤ lookahead l.fn.found)
-    × (needs_to_take l.fn.frames l.fn.found ≡ false → (l.frames ≡ l.fn.frames) × (l.found ≡ l.fn.found))
 
 abbrev pub decreases-calls : goal.decreases-calls
 decreases-calls g l = length l.frames

@@ -1,14 +1,11 @@
 use Rattle.form_reader.specs.Surrounding.{setting}
-use Rattle.form_reader.proofs.Deliveries.{nothing_there, nothing_from, end_there, found_dot}
+use Rattle.form_reader.proofs.Deliveries.{nothing_there, end_there, found_dot}
 use Rattle.form_reader.proofs.deliver.take.Goals as goal
 
 pub returns-in-Nothing-clause-takes : goal.returns-in-Nothing-clause-takes
 returns-in-Nothing-clause-takes g c = λ cs.
     let setting = setting g.R.MacroFunctions.functions c.args.with.now in
     nothing_there setting c.args.at cs c.args.frames.now c.in-Nothing.token c.args.found c.in-Nothing.is c.requires.open
-
-pub returns-in-Nothing-clause-from : goal.returns-in-Nothing-clause-from
-returns-in-Nothing-clause-from g c = nothing_from c.args.frames.now c.args.found c.in-Nothing.token c.in-Nothing.is c.requires.open
 
 pub returns-in-LoneDot-clause-takes : goal.returns-in-LoneDot-clause-takes
 returns-in-LoneDot-clause-takes g c = λ cs.

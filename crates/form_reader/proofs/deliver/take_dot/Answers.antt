@@ -1,18 +1,10 @@
-use Rattle.form_reader.proofs.Deliveries.{dot_goes_on, dot_stops, stays_from, refused_from}
-use Rattle.std.proofs.Common.{false}
-use Rattle.form_reader.specs.declared.found.Found.TheVariants.{LoneDot as lone_dot}
+use Rattle.form_reader.proofs.Deliveries.{dot_goes_on, dot_stops}
 use Rattle.form_reader.proofs.deliver.take_dot.Goals as goal
 
 pub returns-then-take_dot-clause-takes : goal.returns-then-take_dot-clause-takes
 returns-then-take_dot-clause-takes c = λ setting cs h.
     dot_goes_on setting c.args.at cs c.args.frames.now c.take_dot.new.self (c.take_dot.ensures.takes c.if-take_dot.true)
 
-pub returns-then-take_dot-clause-from : goal.returns-then-take_dot-clause-from
-returns-then-take_dot-clause-from c = stays_from c.args.frames.now c.take_dot.new.self lone_dot false (c.take_dot.ensures.takes c.if-take_dot.true)
-
 pub returns-else-take_dot-clause-takes : goal.returns-else-take_dot-clause-takes
 returns-else-take_dot-clause-takes c = λ setting cs h.
     dot_stops setting c.args.at cs c.args.frames.now c.requires.open (c.take_dot.ensures.refuses c.if-take_dot.false).0
-
-pub returns-else-take_dot-clause-from : goal.returns-else-take_dot-clause-from
-returns-else-take_dot-clause-from c = refused_from c.args.frames.now c.take_dot.new.self lone_dot 0 0 (c.take_dot.ensures.refuses c.if-take_dot.false).1

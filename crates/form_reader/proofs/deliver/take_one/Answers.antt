@@ -1,9 +1,9 @@
-use Rattle.std.proofs.Common.{List, ap, ◌∙◌, sym}
+use Rattle.std.proofs.Common.{◌≡◌, List, length, ap, ◌∙◌, sym, arith}
 use Rattle.form_reader.specs.declared.frame.Frame.{Frame as OpenCall}
 use Rattle.form_reader.specs.declared.found.Found.TheVariants.{One as one}
 use Rattle.form_reader.specs.Frames.{calls_with}
 use Rattle.form_reader.specs.Surrounding.{setting}
-use Rattle.form_reader.proofs.Deliveries.{next_comes, object_goes_on, object_stops, stays_from, refused_from}
+use Rattle.form_reader.proofs.Deliveries.{next_comes, object_goes_on, object_stops, stays_open}
 use Rattle.form_reader.proofs.deliver.take_one.Goals as goal
 
 pub returns-in_ok-complete-in-Some-clause-takes : goal.returns-in_ok-complete-in-Some-clause-takes
@@ -18,17 +18,18 @@ returns-then-branch-clause-takes g c = λ cs.
     object_goes_on setting c.args.at cs c.args.frames.now c.take_object.new.self c.args.token c.args.x c.requires.place
     (ap (λ (fs : List OpenCall). calls_with fs (one c.args.token c.args.x)) (sym c.in-None.ensures.0) ∙ c.in_ok-take_object-in-None.ensures.takes c.args.token c.if-branch.true)
 
-pub returns-then-branch-clause-from : goal.returns-then-branch-clause-from
-returns-then-branch-clause-from g c =
-    stays_from c.args.frames.now c.take_object.new.self (one c.args.token c.args.x) c.args.token
-    (ap (λ (fs : List OpenCall). calls_with fs (one c.args.token c.args.x)) (sym c.in-None.ensures.0) ∙ c.in_ok-take_object-in-None.ensures.takes c.args.token c.if-branch.true)
-
 pub returns-else-branch-clause-takes : goal.returns-else-branch-clause-takes
 returns-else-branch-clause-takes g c = λ cs.
     let setting = setting g.R.MacroFunctions.functions c.args.with.now in
     object_stops setting c.args.at cs c.args.frames.now c.args.token c.args.x c.requires.open
     (ap (λ (fs : List OpenCall). calls_with fs (one c.args.token c.args.x)) (sym c.in-None.ensures.0) ∙ (c.in_ok-take_object-in-None.ensures.refuses c.args.token c.if-branch.false).0) c.in-None.ensures.1
 
-pub returns-else-branch-clause-from : goal.returns-else-branch-clause-from
-returns-else-branch-clause-from g c =
-    refused_from c.args.frames.now c.take_object.new.self (one c.args.token c.args.x) 0 0 ((c.in_ok-take_object-in-None.ensures.refuses c.args.token c.if-branch.false).1 ∙ c.in-None.ensures.0)
+pub returns-then-branch-clause-shorter : goal.returns-then-branch-clause-shorter
+returns-then-branch-clause-shorter g c =
+    stays_open c.args.frames.now c.take_object.new.self (one c.args.token c.args.x) c.args.token
+    (ap (λ (fs : List OpenCall). calls_with fs (one c.args.token c.args.x)) (sym c.in-None.ensures.0) ∙ c.in_ok-take_object-in-None.ensures.takes c.args.token c.if-branch.true)
+
+pub returns-else-branch-clause-shorter : goal.returns-else-branch-clause-shorter
+returns-else-branch-clause-shorter g c =
+    let many : length c.take_object.new.self ≡ length c.args.frames.now = ap length ((c.in_ok-take_object-in-None.ensures.refuses c.args.token c.if-branch.false).1 ∙ c.in-None.ensures.0) in
+    omega (arith, many)

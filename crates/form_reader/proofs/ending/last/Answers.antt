@@ -3,7 +3,6 @@ use Rattle.form_reader.specs.declared.stage.Stage.{Stage}
 use Rattle.form_reader.specs.Surrounding.{setting}
 use Rattle.form_reader.specs.Resuming.{stage_gives}
 use Rattle.form_reader.proofs.Endings.{stage_last, text_fails, byte_fails, block_fails, number_fails}
-use Rattle.form_reader.proofs.EndSpending.{stage_ends}
 use Rattle.form_reader.proofs.ending.last.Goals as goal
 
 pub returns-in-Token-clause-brings : goal.returns-in-Token-clause-brings
@@ -30,18 +29,3 @@ pub returns-clause-brings : goal.returns-clause-brings
 returns-clause-brings g c = λ frames open_calls.
     let setting = setting g.R.MacroFunctions.functions c.args.with.now in
     ap (λ (s : Stage). stage_gives setting frames s c.args.at []) c.in-Number.is ∙ number_fails setting frames c.args.at _ _ c.requires.place
-
-pub returns-in-Token-clause-memory : goal.returns-in-Token-clause-memory
-returns-in-Token-clause-memory g c = λ frames open_calls.
-    let setting = setting g.R.MacroFunctions.functions c.args.with.now in
-    stage_ends setting frames c.args.at c.last_token.result c.args.stage _ c.in-Token.is (c.last_token.ensures.memory frames)
-
-pub returns-in-CallToken-clause-memory : goal.returns-in-CallToken-clause-memory
-returns-in-CallToken-clause-memory g c = λ frames open_calls.
-    let setting = setting g.R.MacroFunctions.functions c.args.with.now in
-    stage_ends setting frames c.args.at c.last_call_token.result c.args.stage _ c.in-CallToken.is (c.last_call_token.ensures.memory frames open_calls)
-
-pub returns-in-Line-clause-memory : goal.returns-in-Line-clause-memory
-returns-in-Line-clause-memory g c = λ frames open_calls.
-    let setting = setting g.R.MacroFunctions.functions c.args.with.now in
-    stage_ends setting frames c.args.at c.last_line.result c.args.stage _ c.in-Line.is (c.last_line.ensures.memory frames open_calls)

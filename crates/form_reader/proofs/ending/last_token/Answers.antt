@@ -5,7 +5,6 @@ use Rattle.token_scan.specs.Scans.{Scan}
 use Rattle.form_reader.specs.Surrounding.{setting}
 use Rattle.form_reader.specs.Ending.{TokenStops}
 use Rattle.form_reader.proofs.Endings.{token_last, token_stopped}
-use Rattle.form_reader.proofs.EndSpending.{object_token_ends}
 use Rattle.form_reader.proofs.ending.last_token.Goals as goal
 
 pub returns-in-None-clause-brings : goal.returns-in-None-clause-brings
@@ -25,10 +24,3 @@ pub token_end-requires-clause-some : goal.token_end-requires-clause-some
 token_end-requires-clause-some g c =
     subst (λ (ms : List Mark). 0 < length ms) (sym (c.into_marks.ensures.value ∙ ap (λ (s : Scan). s.marks) (c.token_stop.ensures.same c.in-None.is)))
     (begun_has_mark c.into_scan-scan.result c.into_scan-scan.ensures.begun (c.in-None.ensures.stops c.args.with.now.readtable.now).1)
-
-pub returns-in-None-clause-memory : goal.returns-in-None-clause-memory
-returns-in-None-clause-memory g c = λ frames.
-    let setting = setting g.R.MacroFunctions.functions c.args.with.now in
-    object_token_ends setting frames c.args.at c.token_end.result c.args.scan _
-    (subst (λ (s : Scan). TokenStops setting.table setting.limits s c.args.at None) c.into_scan-scan.ensures.value (c.in-None.ensures.stops setting.table))
-    (c.into_marks.ensures.value ∙ ap (λ (s : Scan). s.marks) (c.token_stop.ensures.same c.in-None.is ∙ c.into_scan-scan.ensures.value)) c.token_end.ensures.memory

@@ -1,8 +1,5 @@
 use Rattle.form_reader.specs.Surrounding.{setting}
 use Rattle.form_reader.proofs.Goings.{goes_on, fails}
-use Rattle.std.proofs.Common.{[], ◌∷◌, ◌++◌, refl}
-use Rattle.form_reader.specs.declared.stage.Stage.TheVariants.{Text as AtText}
-use Rattle.form_reader.proofs.Spending.{spent, taken_costs}
 use Rattle.form_reader.proofs.gathering.in_escaped.Goals as goal
 
 pub returns-in-None-clause-brings : goal.returns-in-None-clause-brings
@@ -14,9 +11,3 @@ pub returns-in-Some-clause-brings : goal.returns-in-Some-clause-brings
 returns-in-Some-clause-brings g c = λ frames cs open_calls.
     let setting = setting g.R.MacroFunctions.functions c.args.with.now in
     fails setting frames _ _ c.args.at c.args.c cs c.in-Some.code (rw c.in-Some.is at (c.in_ok-escaped_byte.ensures.feeds cs))
-
-pub returns-in_err-escaped_byte-clause-memory : goal.returns-in_err-escaped_byte-clause-memory
-returns-in_err-escaped_byte-clause-memory g c =
-    let setting = setting g.R.MacroFunctions.functions c.args.with.now in
-    λ frames open_calls. spent _ c.from_residual.result _ (taken_costs tt setting frames _ _ _ (AtText c.args.call c.args.terminator (c.args.text ++ c.args.c ∷ [])) c.args.at c.args.c
-    c.in_err-escaped_byte.ensures.calm.0 tt c.in_err-escaped_byte.ensures.goes (λ cs. refl))

@@ -1,8 +1,5 @@
 use Rattle.form_reader.specs.Surrounding.{setting}
 use Rattle.form_reader.proofs.ObjectTokens.{begun_there}
-use Rattle.form_reader.specs.declared.stage.Stage.TheVariants.{Object as AtObject}
-use Rattle.token_scan.proofs.Forwards.{held}
-use Rattle.form_reader.proofs.Spending.{stage_costs}
 use Rattle.form_reader.proofs.Spaces.{discarded_there}
 use Rattle.form_reader.proofs.in_place.begin_in_place.Goals as goal
 
@@ -10,11 +7,6 @@ pub returns-in-Some-clause-feeds : goal.returns-in-Some-clause-feeds
 returns-in-Some-clause-feeds g c = λ cs.
     let setting = setting g.R.MacroFunctions.functions c.args.with.now in
     begun_there setting c.args.frames.now c.args.at c.args.c cs c.args.stage.now c.in-Some.scan c.in_ok-scan.field-0 c.requires.object c.in-Some.is (c.in_ok-scan.ensures.begins cs)
-
-pub returns-in_err-scan-clause-memory : goal.returns-in_err-scan-clause-memory
-returns-in_err-scan-clause-memory g c =
-    let setting = setting g.R.MacroFunctions.functions c.args.with.now in
-    held c.from_residual.result _ (stage_costs setting c.args.frames.now c.args.stage.now AtObject c.args.at c.args.c c.requires.object c.in_err-scan.ensures.memory)
 
 pub returns-in-None-clause-feeds : goal.returns-in-None-clause-feeds
 returns-in-None-clause-feeds g c = λ cs.

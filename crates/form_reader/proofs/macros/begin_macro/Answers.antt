@@ -1,8 +1,6 @@
 use Rattle.std.proofs.Common.{arith, sym, ◌∙◌}
 use Rattle.form_reader.specs.Surrounding.{setting}
 use Rattle.form_reader.proofs.Callers.{none_called, character_called}
-use Rattle.form_reader.proofs.Callers.{character_is, macro_ends, macro_opens}
-use Rattle.form_reader.proofs.Spending.{spends_same, ends_so}
 use Rattle.form_reader.proofs.macros.begin_macro.Goals as goal
 
 pub returns-in-None-clause-brings : goal.returns-in-None-clause-brings
@@ -15,14 +13,3 @@ returns-else-is_dispatch-clause-brings g c = λ cs.
     let setting = setting g.R.MacroFunctions.functions c.args.with.now in
     character_called setting c.args.frames.now c.args.c c.args.at cs _ _ c.in-Some.name c.function_of.result c.of_macro.result c.begin_call.result
     (sym c.macro_of.ensures ∙ c.in-Some.is) (sym c.is_dispatch.ensures ∙ c.if-is_dispatch.false) c.function_of.ensures c.of_macro.ensures (c.begin_call.ensures.begins cs)
-
-pub returns-else-is_dispatch-clause-memory : goal.returns-else-is_dispatch-clause-memory
-returns-else-is_dispatch-clause-memory g c =
-    let setting = setting g.R.MacroFunctions.functions c.args.with.now in
-    spends_same _ _ _ setting c.args.frames.now c.args.at _ _ c.begin_call.result
-    (λ cs. character_is setting c.args.frames.now c.args.c c.args.at cs _ c.in-Some.name c.function_of.result c.of_macro.result
-    (sym c.macro_of.ensures ∙ c.in-Some.is) (sym c.is_dispatch.ensures ∙ c.if-is_dispatch.false) c.function_of.ensures c.of_macro.ensures)
-    (ends_so _ _ _ _ setting c.args.frames.now c.args.at _
-    (macro_ends setting c.args.c c.in-Some.name c.function_of.result c.of_macro.result (sym c.macro_of.ensures ∙ c.in-Some.is) (sym c.is_dispatch.ensures ∙ c.if-is_dispatch.false) c.function_of.ensures c.of_macro.ensures)
-    (macro_opens setting c.args.c c.in-Some.name c.function_of.result c.of_macro.result (sym c.macro_of.ensures ∙ c.in-Some.is) (sym c.is_dispatch.ensures ∙ c.if-is_dispatch.false) c.function_of.ensures c.of_macro.ensures)
-    _ c.begin_call.result c.begin_call.ensures.memory)

@@ -2,9 +2,6 @@ use Rattle.std.proofs.Common.{arith, sym, ◌∙◌}
 use Rattle.form_reader.specs.Surrounding.{setting}
 use Rattle.readtable_core.proofs.Sound.{upper_is}
 use Rattle.form_reader.proofs.Dispatching.{sub_over, sub_invalid, sub_none, sub_some}
-use Rattle.std.proofs.Common.{◌+◌}
-use Rattle.form_reader.proofs.Dispatching.{sub_is, sub_ends, sub_opens}
-use Rattle.form_reader.proofs.Spending.{spends_same, ends_so}
 use Rattle.form_reader.proofs.macros.sub_byte.Goals as goal
 
 pub returns-then-at-with-clause-brings : goal.returns-then-at-with-clause-brings
@@ -27,16 +24,3 @@ returns-in-Some-clause-brings g c = λ cs.
     let setting = setting g.R.MacroFunctions.functions c.args.with.now in
     sub_some setting c.args.frames.now c.args.character c.args.at c.args.c c.args.number cs _ c.in-Some.name c.function_of-function.result c.to_ascii_uppercase-sub.result c.get.result c.of_sub-call.result c.begin_call.result
     (omega (arith, c.if-at-with.false)) (omega (arith, c.if-c-ge128.false)) (sym c.dispatch_of.ensures ∙ c.in-Some.is) c.function_of-function.ensures (c.to_ascii_uppercase-sub.ensures.value ∙ upper_is c.args.c) c.get.ensures.value c.of_sub-call.ensures (c.begin_call.ensures.begins cs)
-
-pub returns-in-Some-clause-memory : goal.returns-in-Some-clause-memory
-returns-in-Some-clause-memory g c =
-    let setting = setting g.R.MacroFunctions.functions c.args.with.now in
-    spends_same _ _ _ setting c.args.frames.now (c.args.at + 1) _ _ c.begin_call.result
-    (λ cs. sub_is setting c.args.frames.now c.args.character c.args.at c.args.c c.args.number cs c.in-Some.name c.function_of-function.result c.to_ascii_uppercase-sub.result c.get.result c.of_sub-call.result
-    (omega (arith, c.if-at-with.false)) (omega (arith, c.if-c-ge128.false)) (sym c.dispatch_of.ensures ∙ c.in-Some.is) c.function_of-function.ensures (c.to_ascii_uppercase-sub.ensures.value ∙ upper_is c.args.c) c.get.ensures.value c.of_sub-call.ensures)
-    (ends_so _ _ _ _ setting c.args.frames.now (c.args.at + 1) _
-    (sub_ends setting c.args.character c.args.c c.args.number c.in-Some.name c.function_of-function.result c.to_ascii_uppercase-sub.result c.get.result c.of_sub-call.result
-    (sym c.dispatch_of.ensures ∙ c.in-Some.is) c.function_of-function.ensures (c.to_ascii_uppercase-sub.ensures.value ∙ upper_is c.args.c) c.get.ensures.value c.of_sub-call.ensures)
-    (sub_opens setting c.args.character c.args.c c.args.number c.in-Some.name c.function_of-function.result c.to_ascii_uppercase-sub.result c.get.result c.of_sub-call.result
-    (sym c.dispatch_of.ensures ∙ c.in-Some.is) c.function_of-function.ensures (c.to_ascii_uppercase-sub.ensures.value ∙ upper_is c.args.c) c.get.ensures.value c.of_sub-call.ensures)
-    _ c.begin_call.result c.begin_call.ensures.memory)

@@ -1,8 +1,7 @@
 use Rattle.form_reader.specs.Surrounding.{setting}
-use Rattle.std.proofs.Common.{◌+◌, arith, sym, ◌∙◌, ap}
+use Rattle.std.proofs.Common.{arith, sym, ◌∙◌, ap}
 use Rattle.form_reader.specs.Reading.{is_blank}
-use Rattle.form_reader.proofs.ObjectTokens.{space_taken, space_over, space_passed, no_space_there}
-use Rattle.form_reader.proofs.Spending.{spends_same}
+use Rattle.form_reader.proofs.ObjectTokens.{space_taken, space_over, space_passed}
 use Rattle.form_reader.proofs.objects.after_token.Goals as goal
 
 pub returns-clause-brings : goal.returns-clause-brings
@@ -19,9 +18,3 @@ pub returns-then-is_blank-clause-brings : goal.returns-then-is_blank-clause-brin
 returns-then-is_blank-clause-brings g c = λ cs.
     let setting = setting g.R.MacroFunctions.functions c.args.with.now in
     space_taken setting c.args.frames.now c.args.at c.args.c cs (omega (arith, c.if-at-with.false)) (ap is_blank (sym c.syntax.ensures) ∙ sym c.is_blank.ensures ∙ c.if-is_blank.true)
-
-pub returns-clause-memory : goal.returns-clause-memory
-returns-clause-memory g c =
-    let setting = setting g.R.MacroFunctions.functions c.args.with.now in
-    spends_same _ _ _ setting c.args.frames.now (c.args.at + 1) _ _ c.at_object.result
-    (λ cs. no_space_there setting c.args.frames.now c.args.at c.args.c cs (ap is_blank (sym c.syntax.ensures) ∙ sym c.is_blank.ensures ∙ c.if-is_blank.false)) c.at_object.ensures.memory

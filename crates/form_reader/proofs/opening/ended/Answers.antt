@@ -1,9 +1,7 @@
-use Rattle.std_macros.specs.Results.{view_gathered}
 use Rattle.std.proofs.Common.{arith}
 use Rattle.form_reader.specs.Surrounding.{setting}
 use Rattle.form_reader.proofs.Closings.{call_ends}
 use Rattle.form_reader.proofs.Readiness.{end_within, or_none}
-use Rattle.form_reader.proofs.EndSpending.{called_costs, what_is_given}
 use Rattle.form_reader.proofs.opening.ended.Goals as goal
 
 pub returns-clause-brings : goal.returns-clause-brings
@@ -13,10 +11,3 @@ returns-clause-brings g c = λ frames cs open_calls.
 
 pub returns-clause-ends : goal.returns-clause-ends
 returns-clause-ends g c = end_within _ _ c.args.at c.event_of.result c.event_of.ensures.ends (omega (arith, c.in_ok-complete.ensures.ends, or_none c.args.token))
-
-pub returns-clause-some : goal.returns-clause-some
-returns-clause-some g c = λ needs.
-    called_costs needs c.event_of.result c.args.call.now (view_gathered c.args.gathered) _ _ c.in_ok-complete.ensures.gives (c.event_of.ensures.some needs c.args.call.now (view_gathered c.args.gathered))
-
-pub returns-clause-found : goal.returns-clause-found
-returns-clause-found g c = what_is_given c.event_of.result _ _ c.in_ok-complete.ensures.gives c.event_of.ensures.found

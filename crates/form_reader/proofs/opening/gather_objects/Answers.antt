@@ -1,6 +1,5 @@
 use Rattle.std.proofs.Common.{arith}
 use Rattle.form_reader.proofs.Beginnings.{next_deep_at, list_deep_at, until_deep_at, next_at, list_at, until_at}
-use Rattle.form_reader.proofs.Spending.{spent, next_costs, list_costs, until_costs}
 use Rattle.form_reader.proofs.opening.gather_objects.Goals as goal
 
 pub returns-then-deep-clause-gathers : goal.returns-then-deep-clause-gathers
@@ -26,15 +25,3 @@ returns-in_ok-push-in-List-clause-gathers g c = λ cs.
 pub returns-in_ok-push-in-Until-clause-gathers : goal.returns-in_ok-push-in-Until-clause-gathers
 returns-in_ok-push-in-Until-clause-gathers g c = λ cs.
     until_at _ c.args.frames.now c.args.call c.args.way c.args.at cs _ c.in-Until.close c.new-in-Until.result c.in-Until.is (omega (arith, c.len.ensures, c.if-deep-3.false)) c.requires.place c.new-in-Until.ensures c.in_ok-push-in-Until.ensures
-
-pub returns-in_err-push-in-Next-clause-memory : goal.returns-in_err-push-in-Next-clause-memory
-returns-in_err-push-in-Next-clause-memory g c =
-    spent _ c.from_residual.result _ (next_costs _ c.args.frames.now c.args.call c.args.way c.args.at c.requires.way c.in-Next.is (omega (arith, c.len.ensures, c.if-deep.false)) c.requires.place)
-
-pub returns-in_err-push-in-List-clause-memory : goal.returns-in_err-push-in-List-clause-memory
-returns-in_err-push-in-List-clause-memory g c =
-    spent _ c.from_residual-in_err-push-in-List.result _ (list_costs _ c.args.frames.now c.args.call c.args.way c.args.at c.requires.way c.in-List.is (omega (arith, c.len.ensures, c.if-deep-2.false)) c.requires.place)
-
-pub returns-in_err-push-in-Until-clause-memory : goal.returns-in_err-push-in-Until-clause-memory
-returns-in_err-push-in-Until-clause-memory g c =
-    spent _ c.from_residual-in_err-push-in-Until.result _ (until_costs _ c.args.frames.now c.args.call c.args.way c.args.at c.in-Until.close c.requires.way c.in-Until.is (omega (arith, c.len.ensures, c.if-deep-3.false)) c.requires.place)

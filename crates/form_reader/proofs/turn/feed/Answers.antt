@@ -1,5 +1,4 @@
 use Rattle.form_reader.specs.Surrounding.{setting}
-use Rattle.form_reader.proofs.Spending.{passed_so, before_runs_out}
 use Rattle.form_reader.proofs.Passing.{before_passes}
 use Rattle.form_reader.proofs.turn.feed.Goals as goal
 
@@ -8,10 +7,3 @@ returns-in-Gives-clause-passes g c = λ cs.
     let setting = setting g.R.MacroFunctions.functions c.args.with.now in
     before_passes setting c.advance.new.frames _ c.args.at c.args.c cs c.in_ok-event.field-0 c.in-Before.event c.in-Gives.found _ c.after_found.result
     c.in-Before.is c.in-Gives.is (c.in_ok-event.ensures.moves cs) (c.after_found.ensures.passes cs)
-
-pub returns-in-Gives-clause-memory : goal.returns-in-Gives-clause-memory
-returns-in-Gives-clause-memory g c =
-    let setting = setting g.R.MacroFunctions.functions c.args.with.now in
-    passed_so _ c.after_found.result _ _
-    (before_runs_out setting c.args.frames.now c.advance.new.frames c.args.stage c.args.at c.args.c c.in_ok-event.field-0 c.in-Before.event c.in-Gives.found
-    c.in-Before.is c.in-Gives.is c.in_ok-event.ensures.before c.in_ok-event.ensures.stays c.in_ok-event.ensures.moves) c.after_found.ensures.memory

@@ -1,7 +1,8 @@
-use Rattle.std.proofs.Common.{◌≡◌, take}
+use Rattle.std.proofs.Common.{◌≡◌, ◌<◌, true, take}
+use Rattle.std.specs.List.{list_all}
+use Rattle.form_reader.specs.Reading.{is_whitespace}
 use Rattle.form_reader.specs.Setting.{setting_of}
-use Rattle.form_reader.specs.Reader.{fed, IsAfter}
-use Rattle.form_reader.proofs.WholeTexts.{Remains}
+use Rattle.form_reader.specs.Reader.{fed, IsAfter, IsBetween}
 use Rattle.form_reader.proofs.whole.read_one.Given as goal
 
 abbrev pub invariant-loop-byte : goal.invariant-loop-byte
@@ -10,6 +11,5 @@ invariant-loop-byte g l = record {
   count : fed l.reader ≡ l.byte-index;
   after : IsAfter (setting_of l.fn.limits l.readtable l.packages.0 l.current (g.R.MacroFunctions.functions l.macros))
       l.reader (take l.byte-index l.bytes);
-  remains : Remains (setting_of l.fn.limits l.readtable l.packages.0 l.current (g.R.MacroFunctions.functions l.macros))
-      l.reader l.bytes l.byte-index;
+  blank : 0 < l.fn.limits.text → list_all (is_whitespace l.readtable) l.bytes ≡ true → IsBetween l.reader;
 }

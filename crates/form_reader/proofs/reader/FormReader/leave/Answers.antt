@@ -4,16 +4,8 @@ use Rattle.form_reader.specs.declared.reader.Step.TheVariants.{More as StepMore}
 use Rattle.form_reader.specs.Surrounding.{setting}
 use Rattle.form_reader.specs.Reader.{IsAfterIn}
 use Rattle.form_reader.proofs.Between.{leaves_between, anew_between}
-use Rattle.form_reader.proofs.ReaderSteps.{stepped, runs_out, left_space}
-use Rattle.token_scan.proofs.Forwards.{held}
+use Rattle.form_reader.proofs.ReaderSteps.{stepped}
 use Rattle.form_reader.proofs.reader.FormReader.leave.Goals as goal
-
-pub returns-in_err-next-in-Open-clause-needs : goal.returns-in_err-next-in-Open-clause-needs
-returns-in_err-next-in-Open-clause-needs g c = λ bytes after.
-    let setting = setting g.R.MacroFunctions.functions c.args.with.now in
-    let open_there = sym c.replace.ensures.value ∙ c.in-Open.is in
-    held c.from_residual.result _ (runs_out setting c.args.self.now c.in-Open.stage bytes c.args.byte open_there after c.in_err-next-in-Open.ensures.memory
-    (left_space setting c.args.self.now c.args.byte c.in-Open.stage open_there c.requires.left))
 
 pub returns-clause-steps : goal.returns-clause-steps
 returns-clause-steps g c = λ bytes after.

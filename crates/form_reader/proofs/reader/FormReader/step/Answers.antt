@@ -1,12 +1,11 @@
-use Rattle.std.proofs.Common.{◌+◌, [], Ok, OnErr, refl, sym, ap, subst, ◌∙◌}
+use Rattle.std.proofs.Common.{◌+◌, [], refl, sym, ap, subst, ◌∙◌}
 use Rattle.std.specs.Prelude.{IsTrue}
 use Rattle.form_reader.specs.Standing.{is_standing}
 use Rattle.form_reader.specs.declared.reader.State.{State}
 use Rattle.form_reader.specs.declared.reader.State.TheVariants.{Open}
 use Rattle.form_reader.specs.Setting.{setting_of}
-use Rattle.form_reader.specs.Reader.{IsAfterIn, MayRunOutIn}
-use Rattle.form_reader.proofs.ReaderSteps.{went_on, went_past, gave_up, taken_there, passed_there, left_there, refused_there, ready_there, ready_past, runs_out, ran_out}
-use Rattle.form_reader.proofs.Spaces.{stage_space}
+use Rattle.form_reader.specs.Reader.{IsAfterIn}
+use Rattle.form_reader.proofs.ReaderSteps.{went_on, went_past, gave_up, taken_there, passed_there, left_there, refused_there, ready_there, ready_past}
 use Rattle.form_reader.proofs.Standings.{standing_of}
 use Rattle.form_reader.proofs.reader.FormReader.step.Goals as goal
 
@@ -40,24 +39,8 @@ returns-in-Ok-Refused-clause-steps g c = λ bytes after.
       c.refuse.ensures,
     )
 
-pub returns-in-Err-clause-needs : goal.returns-in-Err-clause-needs
-returns-in-Err-clause-needs g c = λ bytes after.
-    let setting = setting_of c.args.self.now.limits c.args.readtable.now c.args.packages.now.0 c.args.current.now
-    (g.R.MacroFunctions.functions c.args.macros.now) in
-    runs_out setting c.args.self.now c.in-Open.stage bytes c.args.byte c.in-Open.is after c.in-Err.ensures.memory c.in-Err.ensures.space
-
-pub returns-in-OutOfMemory-clause-needs : goal.returns-in-OutOfMemory-clause-needs
-returns-in-OutOfMemory-clause-needs g c = λ bytes after.
-    let setting = setting_of c.args.self.now.limits c.args.readtable.now c.args.packages.now.0 c.args.current.now
-    (g.R.MacroFunctions.functions c.args.macros.now) in
-    ran_out setting c.args.self.now bytes c.args.byte c.in-OutOfMemory.is
-
-pub leave-requires-clause-left : goal.leave-requires-clause-left
-leave-requires-clause-left g c =
-    let setting = setting_of c.args.self.now.limits c.args.readtable.now c.args.packages.now.0 c.args.current.now
-    (g.R.MacroFunctions.functions c.args.macros.now) in
-    let stays = left_there setting c.args.self.now.frames c.args.self.now.start c.args.self.now.at c.args.byte c.in-Open.stage c.in_place.new.stage c.in-Ok-Left.field-0 [] c.in-Ok-Left.field-0-is (c.in-Ok-Left.ensures.feeds []) in
-    (c.in_place.new.stage, refl, stage_space setting c.args.self.now.frames c.args.self.now.at c.args.byte c.in_place.new.stage c.in-Open.stage stays (c.in-Ok-Left.ensures.left (ap Ok c.in-Ok-Left.field-0-is)))
+pub leave-requires-clause-open : goal.leave-requires-clause-open
+leave-requires-clause-open g c = (c.in_place.new.stage, refl)
 
 pub invariant_of-self-in-Ok-Left : goal.invariant_of-self-in-Ok-Left
 invariant_of-self-in-Ok-Left g c =
@@ -72,12 +55,3 @@ returns-in-Ok-Left-clause-steps g c = λ bytes after.
     (g.R.MacroFunctions.functions c.args.macros.now) in
     let stays = left_there setting c.args.self.now.frames c.args.self.now.start c.args.self.now.at c.args.byte c.in-Open.stage c.in_place.new.stage c.in-Ok-Left.field-0 [] c.in-Ok-Left.field-0-is (c.in-Ok-Left.ensures.feeds []) in
     c.leave.ensures.steps bytes (subst (λ (s : State). IsAfterIn setting c.args.self.now s bytes) (c.in-Open.is ∙ ap Open (sym stays)) after)
-
-pub returns-in-Ok-Left-clause-needs : goal.returns-in-Ok-Left-clause-needs
-returns-in-Ok-Left-clause-needs g c = λ bytes after.
-    let setting = setting_of c.args.self.now.limits c.args.readtable.now c.args.packages.now.0 c.args.current.now
-    (g.R.MacroFunctions.functions c.args.macros.now) in
-    let stays = left_there setting c.args.self.now.frames c.args.self.now.start c.args.self.now.at c.args.byte c.in-Open.stage c.in_place.new.stage c.in-Ok-Left.field-0 [] c.in-Ok-Left.field-0-is (c.in-Ok-Left.ensures.feeds []) in
-    let open_there = c.in-Open.is ∙ ap Open (sym stays) in
-    subst (λ (s : State). OnErr c.leave.result (MayRunOutIn setting c.args.self.now s bytes c.args.byte)) (sym open_there)
-    (c.leave.ensures.needs bytes (subst (λ (s : State). IsAfterIn setting c.args.self.now s bytes) open_there after))
