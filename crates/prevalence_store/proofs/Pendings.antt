@@ -32,7 +32,7 @@ use Rattle.plist_state.specs.State.{State as World}
 use Rattle.prevalence_store.specs.declared.input.Pending.{Pending}
 use Rattle.prevalence_store.specs.declared.mode.Mode.{Mode}
 use Rattle.prevalence_store.specs.Acceptance.{between, form_limits, package_in, read_in, setting_in, table_in}
-use Rattle.user_macros.specs.Functions.{Functions}
+use Rattle.user_macros.specs.Functions.{Functions, are_registered, named_among}
 use Rattle.prevalence_store.specs.Pending.{HasForm, IsLastForm, IsPending}
 use Rattle.prevalence_store.specs.Turns.{BeginsWith}
 use Rattle.prevalence_store.proofs.Executing.{form_places, length-between, own_whole}
