@@ -29,21 +29,21 @@ use Rattle.form_eval.specs.Outcomes.{Outcome, gives, also, and_then}
 use Rattle.form_eval.specs.Operators.{count, first}
 use Rattle.form_eval.specs.Value.{value, values, choice, other_value, values_at_place, values_before_place, symbol_value, action_value, unless, is_case_place, rest}
 use Rattle.form_eval.specs.Operations.{action_of, is_ordinary, function_of}
-use Rattle.form_eval.specs.Evaluated.{Answers, Gives, done, all_done}
+use Rattle.form_eval.specs.Evaluated.{Answers, done, all_done}
 use Rattle.form_eval.specs.Gathered.{arguments_of, parts, followed, subforms, gathered, refusal_of_place, is_case, IsHead, IsRefusal}
-use Rattle.form_eval.proofs.Steps.{gives_answers, value_symbol, value_constant, value_uninterned, is_constant, followed_start}
+use Rattle.form_eval.proofs.Steps.{value_symbol, value_constant, value_uninterned, is_constant, followed_start}
 
 -- ---- atoms
 pub symbol_form : (names : List Name) (s : State) (d : Datum) (home name : Name) (r : Result Evaluated EvaluationError) → d ≡ Datum.Symbol home name
-    → ((h n : Name) → a_symbol (object_of d) ≡ Some (h, n) → Gives done r s (symbol_value h n s)) → Answers done r s (value names s (object_of d))
+    → ((h n : Name) → a_symbol (object_of d) ≡ Some (h, n) → Answers done r s (symbol_value h n s)) → Answers done r s (value names s (object_of d))
 symbol_form names s d home name r is each =
     let same : object_of d ≡ symbol home name = ap object_of is ∙ object_of-Symbol home name in
-    subst (Answers done r s) (sym (ap (value names s) same ∙ value_symbol names s home name)) (gives_answers done r s (symbol_value home name s) (each home name (ap a_symbol same)))
+    subst (Answers done r s) (sym (ap (value names s) same ∙ value_symbol names s home name)) (each home name (ap a_symbol same))
 
 pub constant_form : (names : List Name) (s : State) (d : Datum) (r : Result Evaluated EvaluationError) → is_constant (object_of d) ≡ true
-    → ((t : State) → Gives done r t (gives (object_of d) t)) → Answers done r s (value names s (object_of d))
+    → ((t : State) → Answers done r t (gives (object_of d) t)) → Answers done r s (value names s (object_of d))
 constant_form names s d r is each =
-    subst (Answers done r s) (sym (value_constant names s (object_of d) is)) (gives_answers done r s (gives (object_of d) s) (each s))
+    subst (Answers done r s) (sym (value_constant names s (object_of d) is)) (each s)
 
 pub uninterned_form : (names : List Name) (s : State) (d : Datum) (name : Name) → d ≡ Datum.Uninterned name → value names s (object_of d) ≡ Err NOT_A_FORM
 uninterned_form names s d name is = ap (λ z. value names s (object_of z)) is ∙ ap (value names s) (object_of-Uninterned name) ∙ value_uninterned names s name

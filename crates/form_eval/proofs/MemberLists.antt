@@ -66,11 +66,6 @@ module _ {A : Type 0} (kind : Object → Option A) where
   members_or_each (uninterned n) None are = absurd (false≢true are.0)
   members_or_each (vector xs) None are = absurd (false≢true are.0)
 
--- the members of a list are these
-pub same_members : (xs : List Object) → AreMembers (list_of xs) (Some xs)
-same_members [] = (λ _. refl, λ other. absurd (false≢true (sym other)))
-same_members (x ∷ xs) = (λ _. refl, λ other. absurd (false≢true (sym other)))
-
 -- ---- the members of a datum
 pub members_list : (d : Datum) (items xs : List Datum) (tail : Option Datum) → d ≡ Datum.List items tail → is_proper d ≡ true → is_some tail ≡ false → xs ≡ items → AreMembers (object_of d) (Some (map object_of xs))
 members_list d items xs tail is proper none same = (

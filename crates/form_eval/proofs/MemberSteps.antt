@@ -1,9 +1,7 @@
 -- Members of a list of arguments, each of a kind.
---     each_found, front_found      what they are, all of them and those of a front
+--     each_found      what they are
 --     no_member      one is not of the kind
---     neither      no part of a disjunction
---     all_front, any_front      what holds of a list holds of a front of it
---     packages_found, packages_front, no_package      packages by their names
+--     packages_found, no_package      packages by their names
 use Rattle.std.proofs.Common.{◌≡◌, ◌<◌, ℕ, Bool, true, false, cond, ◌||◌, List, [], ◌∷◌, Option, Some, None, option_map, option_and_then, unwrap_or, map, take, length, get_or, All, refl, sym, ap, ◌∙◌, suc, zero, arith}
 use Rattle.std.specs.List.{list_all, list_any}
 use Rattle.std.specs.Option.{IsSome, option_map_or}
@@ -42,31 +40,6 @@ module _ {A : Type 0} (kind : Object → Option A) where
         ap (λ r. option_and_then (λ y. option_map (λ ys. y ∷ ys) r) (kind (object_of x))) (each_found xs (All-tail (λ d. IsSome (kind (object_of d))) x xs all))
         ∙ with_first (kind (object_of x)) (map (λ d. unwrap_or (kind (object_of d)) default) xs) (All-head (λ d. IsSome (kind (object_of d))) x xs all)
 
-    pub front_found : (k : ℕ) (xs : List Datum) → All (λ d. IsSome (kind (object_of d))) xs → one_or_each kind (list_of (take k (map object_of xs))) ≡ Some (take k (map (λ d. unwrap_or (kind (object_of d)) default) xs))
-    front_found k xs all =
-        ap (λ l. one_or_each kind (list_of l)) (take-map object_of k xs)
-        ∙ members_or_each kind (list_of (map object_of (take k xs))) (Some (map object_of (take k xs))) (same_members (map object_of (take k xs)))
-        ∙ each_found (take k xs) (All-take (λ d. IsSome (kind (object_of d))) k xs all)
-        ∙ ap Some (sym (take-map (λ d. unwrap_or (kind (object_of d)) default) k xs))
-
--- ---- fronts
-pub all_front : {X : Type 0} (test : X → Bool) (k : ℕ) (xs : List X) → list_all test xs ≡ true → list_all test (take k xs) ≡ true
-all_front test zero xs all = refl
-all_front test (suc k) [] all = refl
-all_front test (suc k) (x ∷ xs) all =
-    let both = and_parts (test x) (list_all test xs) all in and_from (test x) (list_all test (take k xs)) both.0 (all_front test k xs both.1)
-
-pub neither : (a b : Bool) → (a || b) ≡ false → (a ≡ false) × (b ≡ false)
-neither true b h = absurd (false≢true (sym h))
-neither false b h = (refl, h)
-
-pub any_front : {X : Type 0} (test : X → Bool) (k : ℕ) (xs : List X) → list_any test xs ≡ false → list_any test (take k xs) ≡ false
-any_front test zero xs none = refl
-any_front test (suc k) [] none = refl
-any_front test (suc k) (x ∷ xs) none =
-    let both = neither (test x) (list_any test xs) none in
-    ap (λ b. b || list_any test (take k xs)) both.0 ∙ any_front test k xs both.1
-
 -- ---- packages by their names
 abbrev pub IsThere : Table → Datum → Type 0
 IsThere u d = package_named u (name_in d) ≡ Some (full_name (name_in d))
@@ -86,10 +59,6 @@ packages_found u [] all = refl
 packages_found u (x ∷ xs) all =
     ap (λ o. first_and o (packages_named u (map name_in xs))) (All-head (IsThere u) x xs all)
     ∙ ap (first_and (Some (full_name (name_in x)))) (packages_found u xs (All-tail (IsThere u) x xs all))
-
-pub packages_front : (u : Table) (k : ℕ) (xs : List Datum) → All (IsThere u) xs → packages_named u (take k (map name_in xs)) ≡ Some (take k (map (λ d. full_name (name_in d)) xs))
-packages_front u k xs all =
-    ap (packages_named u) (take-map name_in k xs) ∙ packages_found u (take k xs) (All-take (IsThere u) k xs all) ∙ ap Some (sym (take-map (λ d. full_name (name_in d)) k xs))
 
 no_rest : (o : Option Name) → first_and o None ≡ None
 no_rest None = refl

@@ -1,7 +1,7 @@
 -- The operators that change a readtable, of arguments of their kinds.
 --     told_made, told_refused      what a change gives
 --     macro_opens, make_opens, dispatch_opens      they are the change
-use Rattle.std.proofs.Common.{◌≡◌, ℕ, Bool, true, false, cond, List, ◌∷◌, Option, Some, None, Result, Ok, Err, IsOk, bytes_eq, sym, ap, subst, ◌∙◌}
+use Rattle.std.proofs.Common.{◌≡◌, ℕ, Bool, true, false, cond, List, ◌∷◌, Option, Some, None, Result, Ok, Err, bytes_eq, sym, ap, subst, ◌∙◌}
 use Rattle.std.specs.Option.{option_map_or}
 use Rattle.std.specs.FinMap as finite
 use Rattle.lisp_object.specs.Object.{Object}
@@ -20,27 +20,23 @@ use Rattle.form_eval.specs.Outcomes.{Outcome}
 use Rattle.form_eval.specs.Kinds.{a_character, a_keyword, given_or, given_or_nil, is_true}
 use Rattle.form_eval.specs.Properties.{t}
 use Rattle.form_eval.specs.Readtables.{after, with_readtables, changeable, is_function, a_function, after_first, set_macro, make_dispatch, set_dispatch}
-use Rattle.form_eval.specs.Evaluated.{Gives, done}
+use Rattle.form_eval.specs.Evaluated.{Answers, done}
 use Rattle.form_eval.proofs.KindSteps.{kind_is}
 
 pub told_made : (s new : State) (said : Result State ReadtableError) (e : Evaluated) → object_of e.value ≡ t → e.wrote ≡ true → said ≡ Ok new → after s t said ≡ Ok (done e new)
 told_made s new said e value wrote made =
     ap (after s t) made ∙ (λ i. Ok (record { value = sym value i; state = new; wrote = sym wrote i }))
 
-pub told_refused : (s new : State) (said : Result State ReadtableError) (cause : ReadtableError) (error : EvaluationError) → error ≡ of_readtable cause → Refused cause said → Gives done (Err error) new (after s t said)
-told_refused s new said cause error is refused = subst (λ e. Gives done (Err e) new (after s t said)) (sym is) (by cause said refused)
+pub told_refused : (s new : State) (said : Result State ReadtableError) (cause : ReadtableError) (error : EvaluationError) → error ≡ of_readtable cause → Refused cause said → Answers done (Err error) new (after s t said)
+told_refused s new said cause error is refused = subst (λ e. Answers done (Err e) new (after s t said)) (sym is) (by cause said refused)
   where
-    good : (said : Result State ReadtableError) → IsOk said → IsOk (after s t said)
-    good (Ok later) h = h
-    good (Err e) h = h
-
-    by : (cause : ReadtableError) (said : Result State ReadtableError) → Refused cause said → Gives done (Err (of_readtable cause)) new (after s t said)
+    by : (cause : ReadtableError) (said : Result State ReadtableError) → Refused cause said → Answers done (Err (of_readtable cause)) new (after s t said)
     by NoReadtable said h = ap (after s t) h
     by StandardReadtable said h = ap (after s t) h
     by NotDispatching said h = ap (after s t) h
     by DigitSubcharacter said h = ap (after s t) h
     by Limit said h = ap (after s t) h
-    by OutOfMemory said h = good said h
+    by OutOfMemory said h = tt
 
 module _ (P : Outcome Object → Type 0) (s : State) where
   may_change : (n : Name) (table : Table) (on : Outcome Object) → writable s.readtables n ≡ Ok table → P on → P (changeable s n on)

@@ -1,5 +1,4 @@
 -- Evaluation, a step at a time.
---     gives_answers      an answer that says more
 --     value_symbol, value_constant, value_uninterned, value_dotted      forms that are no lists of arguments
 --     followed_start, followed_step, followed_refused, followed_end      forms one after the other
 --     good_value      what holds after the value of a form
@@ -25,17 +24,12 @@ use Rattle.form_eval.specs.declared.error.EvaluationError.TheVariants.{Refused, 
 use Rattle.form_eval.specs.Outcomes.{Done, Outcome, gives, also, and_then}
 use Rattle.form_eval.specs.Value.{value, values, symbol_value}
 use Rattle.form_eval.specs.Laws.{AreFunctionNames}
-use Rattle.form_eval.specs.Evaluated.{IsArgument, Answers, Gives, done, all_done}
+use Rattle.form_eval.specs.Evaluated.{IsArgument, Answers, done, all_done}
 use Rattle.form_eval.specs.Gathered.{followed}
 use Rattle.form_eval.proofs.Good.{Goods, IsGood}
 use Rattle.form_eval.proofs.Storable.{value_parts, value_grown}
 use Rattle.form_eval.proofs.SoundForms.{value_safe}
 use Rattle.form_eval.proofs.Shapes.{dotted_pair}
-
-pub gives_answers : {A B : Type 0} (view : A → State → Done B) (r : Result A EvaluationError) (s : State) (o : Outcome B) → Gives view r s o → Answers view r s o
-gives_answers view (Ok x) s o h = h
-gives_answers view (Err (Refused code)) s o h = h
-gives_answers view (Err OutOfMemory) s o h = tt
 
 -- ---- atoms, and lists that do not end in NIL
 pub value_symbol : (names : List Name) (s : State) (home name : Name) → value names s (symbol home name) ≡ symbol_value home name s

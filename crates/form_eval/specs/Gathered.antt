@@ -11,8 +11,6 @@ use Rattle.form_eval.specs.declared.operators.Operation.TheVariants.{Progn, Make
 use Rattle.form_eval.specs.Outcomes.{Outcome, gives, also, and_then}
 use Rattle.form_eval.specs.Operators.{count, first}
 use Rattle.form_eval.specs.Operations.{action_of, function_of}
-use Rattle.form_eval.specs.Packages.{export, import, use_package}
-use Rattle.form_eval.specs.Evaluated.{MayConflict, RanOutAmong}
 use Rattle.form_eval.specs.Value.{Parts, value, values, choice, values_at_place, values_before_place, action_value, place_refusal, get_place_refusal, is_case_place, rest}
 
 -- the arguments of a form, of the list of what is in it
@@ -71,13 +69,3 @@ IsHead names head n (Ok operation) = (s : State) (arguments : Object) → is_pro
 IsHead names head n (Err (Refused code)) = (s : State) (arguments : Object) → is_proper_list arguments ≡ true → count arguments ≡ n
     → value names s (pair head arguments) ≡ Err code
 IsHead names head n (Err OutOfMemory) = ⊥
-
--- Where an operator may run out of memory, of the values of its arguments: on a list of members, as `GivesSoFar` says; any other,
--- where the definition refuses nothing. PROGN and LIST keep these values, so that only NIL of none takes memory.
-abbrev pub MayRunOut : List Name → Operation → Bool → List Object → State → State → Type 0
-MayRunOut names Progn is_case xs old new = xs ≡ []
-MayRunOut names MakeList is_case xs old new = xs ≡ []
-MayRunOut names Export is_case xs old new = MayConflict (export xs old) × RanOutAmong export xs old new
-MayRunOut names Import is_case xs old new = MayConflict (import xs old) × RanOutAmong import xs old new
-MayRunOut names UsePackage is_case xs old new = MayConflict (use_package xs old) × RanOutAmong use_package xs old new
-MayRunOut names operation is_case xs old new = IsOk (function_of names operation is_case xs old)

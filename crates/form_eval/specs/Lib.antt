@@ -12,5 +12,3 @@ pub mod Laws
 pub mod Operations
 pub mod Gathered
 pub mod Members
-pub mod AtOnce
-pub mod Memory

@@ -9,6 +9,7 @@ use Rattle.package_table.specs.declared.error.PackageError.{PackageError}
 use Rattle.package_table.specs.Table.{Name, Table, keyword, is_locked, package_named}
 use Rattle.package_table.specs.Errors.{number_of}
 use Rattle.package_table.specs.Changes.{after_make, after_intern, after_export, after_import, after_use, finds_this, intern_changes, export_changes, import_changes, use_changes}
+use Rattle.plist_state.specs.Properties.{Symbol}
 use Rattle.plist_state.specs.State.{State}
 use Rattle.plist_state.specs.Changes.{with_packages}
 use Rattle.form_eval.specs.Outcomes.{Outcome, writes, of_kind}
@@ -54,6 +55,16 @@ module _ {A : Type 0} (change : Table → A → Result Table PackageError) (chan
   one_by_one packages wrote [] = Ok (packages, wrote)
   one_by_one packages wrote (x ∷ xs) = then_others (change packages x) (λ later. one_by_one later (wrote || changes packages x) xs)
 
+-- EXPORT of these symbols, IMPORT of these symbols, USE-PACKAGE of these packages
+abbrev pub after_exports : Table → Name → List Symbol → Result (Table × Bool) PackageError
+after_exports u p ys = one_by_one (λ v y. after_export v p y.0 y.1) (λ v y. export_changes v p y.1) u false ys
+
+abbrev pub after_imports : Table → Name → List Symbol → Result (Table × Bool) PackageError
+after_imports u p ys = one_by_one (λ v y. after_import v p y.0 y.1) (λ v y. import_changes v p y.1) u false ys
+
+abbrev pub after_uses : Table → Name → List Name → Result (Table × Bool) PackageError
+after_uses u p qs = one_by_one (λ v q. after_use v p q) (λ v q. use_changes v p q) u false qs
+
 -- T, in the state after such changes
 abbrev pub changed : State → Result (Table × Bool) PackageError → Outcome Object
 changed s (Ok p) = Ok (record { value = t; state = with_packages s p.0; wrote = p.1 })
@@ -68,7 +79,7 @@ export (x ∷ rest) s =
     of_kind (one_or_each a_symbol x) (λ xs. of_kind (given_or a_name s.current_package rest) (λ q.
     in_package s q (λ p. unlocked p
     (if not (list_all (λ y. finds_this s.packages p y.0 y.1) xs) then Err NOT_ACCESSIBLE
-    else changed s (one_by_one (λ u y. after_export u p y.0 y.1) (λ u y. export_changes u p y.1) s.packages false xs)))))
+    else changed s (after_exports s.packages p xs)))))
 export _ s = Err ARGUMENT_KIND
 
 -- IMPORT of a symbol or a list of them
@@ -76,7 +87,7 @@ abbrev pub import : List Object → State → Outcome Object
 import (x ∷ rest) s =
     of_kind (one_or_each a_symbol x) (λ xs. of_kind (given_or a_name s.current_package rest) (λ q.
     in_package s q (λ p. unlocked p
-    (changed s (one_by_one (λ u y. after_import u p y.0 y.1) (λ u y. import_changes u p y.1) s.packages false xs)))))
+    changed s (after_imports s.packages p xs))))
 import _ s = Err ARGUMENT_KIND
 
 -- the packages of these names, all of them
@@ -89,7 +100,7 @@ packages_named u (n ∷ ns) = option_map_or (λ p. option_map_or (λ ps. Some (p
 abbrev pub use_all : State → Name → List Name → Outcome Object
 use_all s p qs =
     if is_locked p || list_any (bytes_eq keyword) qs then Err PACKAGE_IS_LOCKED
-    else changed s (one_by_one (λ u q. after_use u p q) (λ u q. use_changes u p q) s.packages false qs)
+    else changed s (after_uses s.packages p qs)
 
 abbrev pub use_package : List Object → State → Outcome Object
 use_package (x ∷ rest) s =

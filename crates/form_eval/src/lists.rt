@@ -5,7 +5,7 @@ ghost use Rattle.form_eval.specs.Kinds.{a_symbol, a_name, one_or_each};
 ghost use Rattle.lisp_object.specs.declared.refusal.TheConstants.{ARGUMENT_KIND as KIND};
 ghost use Rattle.form_eval.specs.declared.error.EvaluationError.TheVariants.{Refused};
 ghost use Rattle.form_eval.specs.Members.{each_in, AreMembers, symbol_in, name_in};
-ghost use Rattle.form_eval.specs.Evaluated.{AreEach, IsOfKind};
+ghost use Rattle.form_eval.specs.Evaluated.{IsOfKind};
 
 use crate::EvaluationError::Refused;
 use crate::{EvaluationError, kinds};
@@ -71,11 +71,11 @@ fn check_names(members: &[Datum]) -> Result<(), EvaluationError>
     Ok(())
 }
 
-/// The members of a list, or the one argument, where each is an interned symbol. Takes no memory.
+/// The members of a list, or the one argument, where each is an interned symbol.
 pub(crate) fn symbols(datum: &Datum) -> Result<&[Datum], EvaluationError>
     requires { is_proper datum.now ≡ true }
     ensures value { IsOfKind (λ m. map symbol_in m.now) result (one_or_each a_symbol (object_of datum.now)) }
-    ensures each { IfOk result (λ m. AreEach a_symbol m.now (object_of datum.now)) }
+    ensures proper { IfOk result (λ m. All (λ d. is_proper d ≡ true) m.now) }
 {
     match members(datum) {
         Some(members) => match check_symbols(members) {
@@ -86,11 +86,11 @@ pub(crate) fn symbols(datum: &Datum) -> Result<&[Datum], EvaluationError>
     }
 }
 
-/// The members of a list, or the one argument, where each is a designator of a name. Takes no memory.
+/// The members of a list, or the one argument, where each is a designator of a name.
 pub(crate) fn names(datum: &Datum) -> Result<&[Datum], EvaluationError>
     requires { is_proper datum.now ≡ true }
     ensures value { IsOfKind (λ m. map name_in m.now) result (one_or_each a_name (object_of datum.now)) }
-    ensures each { IfOk result (λ m. AreEach a_name m.now (object_of datum.now)) }
+    ensures proper { IfOk result (λ m. All (λ d. is_proper d ≡ true) m.now) }
 {
     match members(datum) {
         Some(members) => match check_names(members) {

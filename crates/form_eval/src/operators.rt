@@ -5,8 +5,6 @@ ghost use Rattle.package_table.specs.Table.{Name};
 ghost use Rattle.form_eval.specs.Operators.{operator_named, counts};
 ghost use Rattle.form_eval.specs.Operations.{least, most, operator, IsCounted, is_ordinary, is_on_properties, is_on_packages, among, operators_on_data, operators_on_packages, operators_on_readtables};
 ghost use Rattle.form_eval.specs.Gathered.{IsHead};
-ghost use Rattle.form_eval.specs.AtOnce.{IsFirstHead};
-ghost use Rattle.form_eval.specs.Memory.{IsOperator};
 
 use crate::EvaluationError::Refused;
 use crate::{EvaluationError, kinds};
@@ -181,8 +179,6 @@ impl Operation {
 pub(crate) fn operation_of(head: &Datum, number: usize) -> Result<Operation, EvaluationError>
     requires { is_proper head.now ≡ true }
     ensures head { (names : List Name) → IsHead names (object_of head.now) number result }
-    ensures at_once { (names : List Name) → IsFirstHead names (object_of head.now) number result }
-    ensures operator { (names : List Name) → IfOk result (λ operation. IsOperator names (object_of head.now) number operation) }
     ensures counted { IfOk result (λ operation. IsCounted operation (number + 1)) }
 {
     let Ok((home, name)) = kinds::symbol(head) else {

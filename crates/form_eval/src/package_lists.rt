@@ -7,12 +7,11 @@ ghost use Rattle.lisp_object.specs.declared.refusal.TheConstants.{NO_SUCH_PACKAG
 ghost use Rattle.package_table.specs.Table.{IsPackage, package_named, full_name, keyword};
 ghost use Rattle.form_eval.specs.Packages.{export, import, use_package, packages_named};
 ghost use Rattle.form_eval.specs.Members.{name_in};
-ghost use Rattle.form_eval.specs.Evaluated.{IsArgument, IsUnlocked, name_held, FoundOr, GivesSoFar, TellsChange};
+ghost use Rattle.form_eval.specs.Evaluated.{IsArgument, IsUnlocked, FoundOr, Answers, TellsChange, done};
 
 use crate::EvaluationError::Refused;
 use crate::arguments::{name_or, one_and_rest};
 use crate::changes::{export_all, finds_all, import_all, use_each};
-use crate::owner::Owner;
 use crate::packages::{full_name, package_named};
 use crate::{Evaluated, EvaluationError, lists, values};
 use lisp_object::Datum;
@@ -37,16 +36,15 @@ fn changed(alloc: Global, made: Result<bool, PackageError>) -> Result<Evaluated,
 }
 
 // The package of this name or nickname, where it is not locked.
-fn unlocked(world: &World, name: &[u8]) -> Result<Owner, EvaluationError>
-    ensures unlocked { IsUnlocked result (package_named world.now.0.packages name.now) }
-    ensures there { IfOk result (λ p. IsPackage world.now.0.packages (name_held p)) }
+fn unlocked(alloc: Global, world: &World, name: &[u8]) -> Result<Vec<u8>, EvaluationError>
+    ensures unlocked { IsUnlocked (λ p. p.items) result (package_named world.now.0.packages name.now) }
+    ensures there { IfOk result (λ p. IsPackage world.now.0.packages p.items) }
 {
     let package = package_named(world, name)?;
     if world.packages().is_locked(package) {
         return Err(Refused(PACKAGE_IS_LOCKED));
     }
-    world.soundness();
-    Ok(Owner::new(package))
+    Ok(Vec::from_slice(alloc, package)?)
 }
 
 /// EXPORT of a symbol or a list of them. That the package finds each is looked at before any conflict.
@@ -56,14 +54,14 @@ pub(crate) fn export(
     values: &[Datum],
 ) -> Result<Evaluated, EvaluationError>
     requires { All (IsArgument world.old.0.packages) values.now }
-    ensures gives { GivesSoFar export (map object_of values.now) world.old.0 result world.new.0 }
+    ensures gives { Answers done result world.new.0 (export (map object_of values.now) world.old.0) }
     ensures proper { IfOk result (λ e. is_proper e.value ≡ true) }
     ensures marked { world.new.1 ≡ world.old.1 }
 {
     let (symbols, rest) = one_and_rest(values)?;
     let symbols = lists::symbols(symbols)?;
-    let package = unlocked(world, name_or(rest, world.current_package())?)?;
-    let package = package.name();
+    let package = unlocked(alloc, world, name_or(rest, world.current_package())?)?;
+    let package = package.as_slice();
     if !finds_all(world.packages(), package, symbols) {
         return Err(Refused(NOT_ACCESSIBLE));
     }
@@ -79,23 +77,22 @@ pub(crate) fn import(
     values: &[Datum],
 ) -> Result<Evaluated, EvaluationError>
     requires { All (IsArgument world.old.0.packages) values.now }
-    ensures gives { GivesSoFar import (map object_of values.now) world.old.0 result world.new.0 }
+    ensures gives { Answers done result world.new.0 (import (map object_of values.now) world.old.0) }
     ensures proper { IfOk result (λ e. is_proper e.value ≡ true) }
     ensures marked { world.new.1 ≡ world.old.1 }
 {
     let (imported, rest) = one_and_rest(values)?;
     let imported = lists::symbols(imported)?;
-    let package = unlocked(world, name_or(rest, world.current_package())?)?;
+    let package = unlocked(alloc, world, name_or(rest, world.current_package())?)?;
     world.soundness();
-    let made = import_all(world, package.name(), imported);
+    let made = import_all(world, package.as_slice(), imported);
     changed(alloc, made)
 }
 
 // That each of these names or nicknames is that of a package.
 fn check_packages(world: &World, names: &[Datum]) -> Result<(), EvaluationError>
     requires { All (λ d. is_proper d ≡ true) names.now }
-    ensures found { FoundOr NO_PACKAGE (λ _. map (λ d. full_name (name_in d)) names.now) result (packages_named world.now.0.packages (map name_in names.now)) }
-    ensures each { IfOk result (λ _. All (λ d. package_named world.now.0.packages (name_in d) ≡ Some (full_name (name_in d))) names.now) }
+    ensures { FoundOr NO_PACKAGE (λ _. map (λ d. full_name (name_in d)) names.now) result (packages_named world.now.0.packages (map name_in names.now)) }
 {
     for name in names {
         match package_named(world, lists::name_in(name)) {
@@ -126,7 +123,7 @@ pub(crate) fn use_package(
     values: &[Datum],
 ) -> Result<Evaluated, EvaluationError>
     requires { All (IsArgument world.old.0.packages) values.now }
-    ensures gives { GivesSoFar use_package (map object_of values.now) world.old.0 result world.new.0 }
+    ensures gives { Answers done result world.new.0 (use_package (map object_of values.now) world.old.0) }
     ensures proper { IfOk result (λ e. is_proper e.value ≡ true) }
     ensures marked { world.new.1 ≡ world.old.1 }
 {
@@ -134,11 +131,11 @@ pub(crate) fn use_package(
     let used = lists::names(used)?;
     let owner = name_or(rest, world.current_package())?;
     check_packages(world, used)?;
-    let package = unlocked(world, owner)?;
+    let package = unlocked(alloc, world, owner)?;
     if has_keyword(used) {
         return Err(Refused(PACKAGE_IS_LOCKED));
     }
     world.soundness();
-    let made = use_each(world, package.name(), used);
+    let made = use_each(world, package.as_slice(), used);
     changed(alloc, made)
 }

@@ -3,11 +3,10 @@ ghost use Rattle.std.specs.Prelude.{◌≡◌, true, map, All, IfErr, IfOk};
 ghost use Rattle.lisp_object.specs.Datum.{object_of, is_proper};
 ghost use Rattle.package_table.specs.Table.{IsPackage, package_named, full_name};
 ghost use Rattle.form_eval.specs.Packages.{make, enter, intern};
-ghost use Rattle.form_eval.specs.Evaluated.{IsArgument, IsPackageOr, Gives, done};
+ghost use Rattle.form_eval.specs.Evaluated.{IsArgument, IsPackageOr, Answers, done};
 
 use crate::EvaluationError::Refused;
 use crate::arguments::{name_or, one, one_and_rest};
-use crate::symbols::check_intern;
 use crate::{Evaluated, EvaluationError, kinds, values};
 use lisp_object::Datum;
 use lisp_object::refusal::NO_SUCH_PACKAGE;
@@ -43,7 +42,7 @@ pub(crate) fn make(
     values: &[Datum],
 ) -> Result<Evaluated, EvaluationError>
     requires { All (IsArgument world.old.0.packages) values.now }
-    ensures gives { Gives done result world.new.0 (make (map object_of values.now) world.old.0) }
+    ensures gives { Answers done result world.new.0 (make (map object_of values.now) world.old.0) }
     ensures proper { IfOk result (λ e. is_proper e.value ≡ true) }
     ensures marked { world.new.1 ≡ world.old.1 }
 {
@@ -62,7 +61,7 @@ pub(crate) fn enter(
     name: &Datum,
 ) -> Result<Evaluated, EvaluationError>
     requires { IsArgument world.old.0.packages name.now }
-    ensures gives { Gives done result world.new.0 (enter (object_of name.now) world.old.0) }
+    ensures gives { Answers done result world.new.0 (enter (object_of name.now) world.old.0) }
     ensures proper { IfOk result (λ e. is_proper e.value ≡ true) }
     ensures unchanged { IfErr result (λ _. world.new ≡ world.old) }
     ensures marked { world.new.1 ≡ world.old.1 }
@@ -81,14 +80,13 @@ pub(crate) fn intern(
     values: &[Datum],
 ) -> Result<Evaluated, EvaluationError>
     requires { All (IsArgument world.old.0.packages) values.now }
-    ensures gives { Gives done result world.new.0 (intern (map object_of values.now) world.old.0) }
+    ensures gives { Answers done result world.new.0 (intern (map object_of values.now) world.old.0) }
     ensures proper { IfOk result (λ e. is_proper e.value ≡ true) }
     ensures marked { world.new.1 ≡ world.old.1 }
 {
     let (name, rest) = one_and_rest(values)?;
     let name = kinds::text(name)?;
     let package = package_named(world, name_or(rest, world.current_package())?)?;
-    check_intern(world.packages(), package, name)?;
     let package = Vec::from_slice(alloc, package)?;
     let interned = world.intern(package.as_slice(), name)?;
     world.soundness();

@@ -6,8 +6,7 @@ ghost use Rattle.form_eval.specs.Outcomes.{also};
 ghost use Rattle.form_eval.specs.Properties.{set};
 ghost use Rattle.form_eval.specs.Readtables.{set_case};
 ghost use Rattle.form_eval.specs.Operations.{function_of};
-ghost use Rattle.form_eval.specs.Evaluated.{IsArgument, Answers, Gives, RunsOutWhere, done};
-ghost use Rattle.form_eval.specs.Gathered.{MayRunOut};
+ghost use Rattle.form_eval.specs.Evaluated.{IsArgument, Answers, done};
 
 use crate::EvaluationError::Refused;
 use crate::control::{after, last};
@@ -32,7 +31,6 @@ pub(crate) fn perform(
     requires names { AreFunctionNames names.now }
     requires values { All (IsArgument world.old.0.packages) values.values.items }
     ensures gives { Answers done result world.new.0 (also values.wrote (function_of names.now operation is_case (map object_of values.values.items) world.old.0)) }
-    ensures memory { RunsOutWhere result (MayRunOut names.now operation is_case (map object_of values.values.items) world.old.0 world.new.0) }
     ensures proper { IfOk result (λ e. is_proper e.value ≡ true) }
     ensures marked { world.new.1 ≡ world.old.1 }
 {
@@ -54,7 +52,6 @@ fn carry_out(
     requires names { AreFunctionNames names.now }
     requires values { All (IsArgument world.old.0.packages) values.items }
     ensures gives { Answers done result world.new.0 (function_of names.now operation is_case (map object_of values.items) world.old.0) }
-    ensures memory { RunsOutWhere result (MayRunOut names.now operation is_case (map object_of values.items) world.old.0 world.new.0) }
     ensures proper { IfOk result (λ e. is_proper e.value ≡ true) }
     ensures marked { world.new.1 ≡ world.old.1 }
 {
@@ -113,7 +110,7 @@ fn put(
     values: Vec<Datum>,
 ) -> Result<Evaluated, EvaluationError>
     requires { All (IsArgument world.old.0.packages) values.items }
-    ensures gives { Gives done result world.new.0 (if is_case then set_case (map object_of values.items) world.old.0 else set (map object_of values.items) world.old.0) }
+    ensures gives { Answers done result world.new.0 (if is_case then set_case (map object_of values.items) world.old.0 else set (map object_of values.items) world.old.0) }
     ensures proper { IfOk result (λ e. is_proper e.value ≡ true) }
     ensures marked { world.new.1 ≡ world.old.1 }
 {

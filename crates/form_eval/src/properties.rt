@@ -1,12 +1,12 @@
 //! The operators on property lists (standard 10.2, 14.2), of the values of their arguments.
-ghost use Rattle.std.specs.Prelude.{◌≡◌, true, [], ◌∷◌, nat_lt, map, option_map, All, IfErr, IfOk, IfSome};
+ghost use Rattle.std.specs.Prelude.{◌≡◌, true, [], ◌∷◌, map, option_map, All, IfErr, IfOk, IfSome};
 ghost use Rattle.std.specs.List.{list_all};
-ghost use Rattle.lisp_object.specs.Object.{IsSound, pair, list_of, object_depth, object_size};
+ghost use Rattle.lisp_object.specs.Object.{IsSound, pair};
 ghost use Rattle.lisp_object.specs.Datum.{object_of, is_proper};
 ghost use Rattle.plist_state.specs.Shown.{symbol_of, property_of};
 ghost use Rattle.form_eval.specs.Kinds.{a_symbol};
 ghost use Rattle.form_eval.specs.Properties.{get, set, remove, in_turn, symbol_plist, amount, increment, push};
-ghost use Rattle.form_eval.specs.Evaluated.{IsArgument, IsOfKind, IsPlace, Gives, done, object_of_symbol, or_nil};
+ghost use Rattle.form_eval.specs.Evaluated.{IsArgument, IsOfKind, IsPlace, Answers, done, object_of_symbol, or_nil};
 
 use crate::EvaluationError::Refused;
 use crate::arguments::given_or_nil;
@@ -37,7 +37,7 @@ fn symbol(datum: Datum) -> Result<Symbol, EvaluationError>
     }
 }
 
-// The symbol and the indicator of a property. Takes no memory, as both names are kept.
+// The symbol and the indicator of a property.
 fn place(key: Datum, indicator: Datum) -> Result<(Symbol, Symbol), EvaluationError>
     requires symbol { is_proper key ≡ true }
     requires indicator { is_proper indicator ≡ true }
@@ -53,7 +53,7 @@ pub(crate) fn get(
     values: Vec<Datum>,
 ) -> Result<Evaluated, EvaluationError>
     requires { All (IsArgument world.now.0.packages) values.items }
-    ensures gives { Gives done result world.now.0 (get (map object_of values.items) world.now.0) }
+    ensures gives { Answers done result world.now.0 (get (map object_of values.items) world.now.0) }
     ensures proper { IfOk result (λ e. is_proper e.value ≡ true) }
 {
     let (symbol, indicator, rest) = two_and_rest(values)?;
@@ -75,7 +75,7 @@ pub(crate) fn set(
     values: Vec<Datum>,
 ) -> Result<Evaluated, EvaluationError>
     requires { All (IsArgument world.old.0.packages) values.items }
-    ensures gives { Gives done result world.new.0 (set (map object_of values.items) world.old.0) }
+    ensures gives { Answers done result world.new.0 (set (map object_of values.items) world.old.0) }
     ensures proper { IfOk result (λ e. is_proper e.value ≡ true) }
     ensures unchanged { IfErr result (λ _. world.new ≡ world.old) }
     ensures marked { world.new.1 ≡ world.old.1 }
@@ -94,7 +94,7 @@ pub(crate) fn remove(
     values: Vec<Datum>,
 ) -> Result<Evaluated, EvaluationError>
     requires { All (IsArgument world.old.0.packages) values.items }
-    ensures gives { Gives done result world.new.0 (remove (map object_of values.items) world.old.0) }
+    ensures gives { Answers done result world.new.0 (remove (map object_of values.items) world.old.0) }
     ensures proper { IfOk result (λ e. is_proper e.value ≡ true) }
     ensures marked { world.new.1 ≡ world.old.1 }
 {
@@ -129,32 +129,6 @@ fn in_turn(alloc: Global, row: &[Property]) -> Result<Vec<Datum>, AllocError>
     Ok(values)
 }
 
-// Whether the list of indicators and values in turn has more levels than a value that is built may have.
-fn is_row_too_deep(row: &[Property]) -> bool
-    requires { All (λ p. is_proper p.value ≡ true) row.now }
-    ensures { result ≡ nat_lt 100 (object_depth (list_of (in_turn (map property_of row.now)))) }
-{
-    let mut depth = 0u64;
-    for property in row {
-        depth = depth.max(property.value().depth());
-    }
-    depth >= values::MOST_LEVELS
-}
-
-// Whether that list is larger than a value that is built may be.
-fn is_row_too_large(row: &[Property]) -> bool
-    requires { All (λ p. is_proper p.value ≡ true) row.now }
-    ensures { result ≡ nat_lt 1000000 (object_size (list_of (in_turn (map property_of row.now)))) }
-{
-    let mut size = 0u64;
-    for property in row {
-        size = size
-            .saturating_add(property.value().size())
-            .saturating_add(1);
-    }
-    size >= values::LARGEST_SIZE
-}
-
 /// SYMBOL-PLIST: the indicators and the values of a symbol in turn.
 pub(crate) fn symbol_plist(
     alloc: Global,
@@ -162,18 +136,12 @@ pub(crate) fn symbol_plist(
     values: Vec<Datum>,
 ) -> Result<Evaluated, EvaluationError>
     requires { All (IsArgument world.now.0.packages) values.items }
-    ensures gives { Gives done result world.now.0 (symbol_plist (map object_of values.items) world.now.0) }
+    ensures gives { Answers done result world.now.0 (symbol_plist (map object_of values.items) world.now.0) }
     ensures proper { IfOk result (λ e. is_proper e.value ≡ true) }
 {
     let symbol = symbol(one(values)?)?;
     world.soundness();
     let row = world.plist(&symbol);
-    if is_row_too_deep(row) {
-        return Err(Refused(VALUE_TOO_DEEP));
-    }
-    if is_row_too_large(row) {
-        return Err(Refused(LIMIT));
-    }
     values::list(alloc, in_turn(alloc, row)?)
 }
 
@@ -195,7 +163,7 @@ pub(crate) fn increment(
     values: Vec<Datum>,
 ) -> Result<Evaluated, EvaluationError>
     requires { All (IsArgument world.old.0.packages) values.items }
-    ensures gives { Gives done result world.new.0 (increment (map object_of values.items) world.old.0) }
+    ensures gives { Answers done result world.new.0 (increment (map object_of values.items) world.old.0) }
     ensures proper { IfOk result (λ e. is_proper e.value ≡ true) }
     ensures unchanged { IfErr result (λ _. world.new ≡ world.old) }
     ensures marked { world.new.1 ≡ world.old.1 }
@@ -239,7 +207,7 @@ pub(crate) fn push(
     values: Vec<Datum>,
 ) -> Result<Evaluated, EvaluationError>
     requires { All (IsArgument world.old.0.packages) values.items }
-    ensures gives { Gives done result world.new.0 (push (map object_of values.items) world.old.0) }
+    ensures gives { Answers done result world.new.0 (push (map object_of values.items) world.old.0) }
     ensures proper { IfOk result (λ e. is_proper e.value ≡ true) }
     ensures unchanged { IfErr result (λ _. world.new ≡ world.old) }
     ensures marked { world.new.1 ≡ world.old.1 }
@@ -247,13 +215,13 @@ pub(crate) fn push(
     let (value, symbol, indicator) = three(values)?;
     let (symbol, indicator) = place(symbol, indicator)?;
     let old = world.get(&symbol, &indicator);
-    if values::is_pair_too_deep(&value, old) {
+    let value = pushed(alloc, &value, old)?;
+    if values::is_too_deep(&value) {
         return Err(Refused(VALUE_TOO_DEEP));
     }
-    if values::is_pair_too_large(&value, old) {
+    if values::is_too_large(&value) {
         return Err(Refused(LIMIT));
     }
-    let value = pushed(alloc, &value, old)?;
     world.soundness();
     let stored = value.copy(alloc)?;
     world.put(&symbol, indicator, stored)?;

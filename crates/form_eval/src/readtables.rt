@@ -9,7 +9,7 @@ ghost use Rattle.plist_state.specs.Changes.{writable, Gives as Tells};
 ghost use Rattle.form_eval.specs.Properties.{t};
 ghost use Rattle.form_eval.specs.Readtables.{after, name_or_nil, is_function, readtable_case, set_case, copy_readtable, enter_readtable, set_syntax, set_macro, get_macro, make_dispatch, set_dispatch, get_dispatch};
 ghost use Rattle.form_eval.specs.Laws.{AreFunctionNames};
-ghost use Rattle.form_eval.specs.Evaluated.{IsArgument, IsReadtableOr, IsFunctionOr, IsWritableOr, Gives, done};
+ghost use Rattle.form_eval.specs.Evaluated.{IsArgument, IsReadtableOr, IsFunctionOr, IsWritableOr, Answers, done};
 
 use crate::EvaluationError::Refused;
 use crate::arguments::{
@@ -76,7 +76,7 @@ fn is_among(names: &[FnName], function: FnName) -> bool
 
 // What a change of the readtables gives: T.
 fn changed(alloc: Global, made: Result<(), ReadtableError>) -> Result<Evaluated, EvaluationError>
-    ensures gives { (s later : State) (said : Result State ReadtableError) → Tells (λ _. later) made said → Gives done result later (after s t said) }
+    ensures gives { (s later : State) (said : Result State ReadtableError) → Tells (λ _. later) made said → Answers done result later (after s t said) }
     ensures proper { IfOk result (λ e. is_proper e.value ≡ true) }
 {
     match made {
@@ -95,7 +95,7 @@ pub(crate) fn readtable_case(
     values: &[Datum],
 ) -> Result<Evaluated, EvaluationError>
     requires { All (IsArgument world.now.0.packages) values.now }
-    ensures gives { Gives done result world.now.0 (readtable_case (map object_of values.now) world.now.0) }
+    ensures gives { Answers done result world.now.0 (readtable_case (map object_of values.now) world.now.0) }
     ensures proper { IfOk result (λ e. is_proper e.value ≡ true) }
 {
     let table = readtable(world, kinds::keyword(one(values)?)?)?;
@@ -112,7 +112,7 @@ pub(crate) fn set_case(
     values: &[Datum],
 ) -> Result<Evaluated, EvaluationError>
     requires { All (IsArgument world.old.0.packages) values.now }
-    ensures gives { Gives done result world.new.0 (set_case (map object_of values.now) world.old.0) }
+    ensures gives { Answers done result world.new.0 (set_case (map object_of values.now) world.old.0) }
     ensures proper { IfOk result (λ e. is_proper e.value ≡ true) }
     ensures marked { world.new.1 ≡ world.old.1 }
 {
@@ -131,7 +131,7 @@ pub(crate) fn copy_readtable(
     values: &[Datum],
 ) -> Result<Evaluated, EvaluationError>
     requires { All (IsArgument world.old.0.packages) values.now }
-    ensures gives { Gives done result world.new.0 (copy_readtable (map object_of values.now) world.old.0) }
+    ensures gives { Answers done result world.new.0 (copy_readtable (map object_of values.now) world.old.0) }
     ensures proper { IfOk result (λ e. is_proper e.value ≡ true) }
     ensures marked { world.new.1 ≡ world.old.1 }
 {
@@ -150,7 +150,7 @@ pub(crate) fn enter_readtable(
     values: &[Datum],
 ) -> Result<Evaluated, EvaluationError>
     requires { All (IsArgument world.old.0.packages) values.now }
-    ensures gives { Gives done result world.new.0 (enter_readtable (map object_of values.now) world.old.0) }
+    ensures gives { Answers done result world.new.0 (enter_readtable (map object_of values.now) world.old.0) }
     ensures proper { IfOk result (λ e. is_proper e.value ≡ true) }
     ensures marked { world.new.1 ≡ world.old.1 }
 {
@@ -169,7 +169,7 @@ pub(crate) fn set_syntax(
     values: &[Datum],
 ) -> Result<Evaluated, EvaluationError>
     requires { All (IsArgument world.old.0.packages) values.now }
-    ensures gives { Gives done result world.new.0 (set_syntax (map object_of values.now) world.old.0) }
+    ensures gives { Answers done result world.new.0 (set_syntax (map object_of values.now) world.old.0) }
     ensures proper { IfOk result (λ e. is_proper e.value ≡ true) }
     ensures marked { world.new.1 ≡ world.old.1 }
 {
@@ -194,7 +194,7 @@ pub(crate) fn set_macro(
 ) -> Result<Evaluated, EvaluationError>
     requires names { AreFunctionNames names.now }
     requires values { All (IsArgument world.old.0.packages) values.now }
-    ensures gives { Gives done result world.new.0 (set_macro names.now (map object_of values.now) world.old.0) }
+    ensures gives { Answers done result world.new.0 (set_macro names.now (map object_of values.now) world.old.0) }
     ensures proper { IfOk result (λ e. is_proper e.value ≡ true) }
     ensures marked { world.new.1 ≡ world.old.1 }
 {
@@ -227,7 +227,7 @@ pub(crate) fn get_macro(
     values: &[Datum],
 ) -> Result<Evaluated, EvaluationError>
     requires { All (IsArgument world.now.0.packages) values.now }
-    ensures gives { Gives done result world.now.0 (get_macro (map object_of values.now) world.now.0) }
+    ensures gives { Answers done result world.now.0 (get_macro (map object_of values.now) world.now.0) }
     ensures proper { IfOk result (λ e. is_proper e.value ≡ true) }
 {
     let (character, rest) = one_and_rest(values)?;
@@ -246,7 +246,7 @@ pub(crate) fn make_dispatch(
     values: &[Datum],
 ) -> Result<Evaluated, EvaluationError>
     requires { All (IsArgument world.old.0.packages) values.now }
-    ensures gives { Gives done result world.new.0 (make_dispatch (map object_of values.now) world.old.0) }
+    ensures gives { Answers done result world.new.0 (make_dispatch (map object_of values.now) world.old.0) }
     ensures proper { IfOk result (λ e. is_proper e.value ≡ true) }
     ensures marked { world.new.1 ≡ world.old.1 }
 {
@@ -268,7 +268,7 @@ pub(crate) fn set_dispatch(
 ) -> Result<Evaluated, EvaluationError>
     requires names { AreFunctionNames names.now }
     requires values { All (IsArgument world.old.0.packages) values.now }
-    ensures gives { Gives done result world.new.0 (set_dispatch names.now (map object_of values.now) world.old.0) }
+    ensures gives { Answers done result world.new.0 (set_dispatch names.now (map object_of values.now) world.old.0) }
     ensures proper { IfOk result (λ e. is_proper e.value ≡ true) }
     ensures marked { world.new.1 ≡ world.old.1 }
 {
@@ -297,7 +297,7 @@ pub(crate) fn get_dispatch(
     values: &[Datum],
 ) -> Result<Evaluated, EvaluationError>
     requires { All (IsArgument world.now.0.packages) values.now }
-    ensures gives { Gives done result world.now.0 (get_dispatch (map object_of values.now) world.now.0) }
+    ensures gives { Answers done result world.now.0 (get_dispatch (map object_of values.now) world.now.0) }
     ensures proper { IfOk result (λ e. is_proper e.value ≡ true) }
 {
     let (character, sub, rest) = two_and_rest(values)?;

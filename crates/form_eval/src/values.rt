@@ -1,13 +1,13 @@
 //! Values that the operators build.
-ghost use Rattle.std.specs.Prelude.{◌≡◌, ◌^◌, [], true, nat_lt, min, map, option_map, IfOk, IfSome};
+ghost use Rattle.std.specs.Prelude.{◌≡◌, true, nat_lt, map, IfOk};
 ghost use Rattle.std.specs.List.{list_all};
 ghost use Rattle.lisp_object.specs.Ascii.{is_ascii};
-ghost use Rattle.lisp_object.specs.Object.{Object, nil, pair, object_depth, object_size, depth_along, size_along};
+ghost use Rattle.lisp_object.specs.Object.{Object, nil, object_depth, object_size};
 ghost use Rattle.lisp_object.specs.Datum.{object_of, is_proper};
 ghost use Rattle.package_table.specs.Table.{keyword};
 ghost use Rattle.plist_state.specs.State.{State};
 ghost use Rattle.form_eval.specs.Properties.{t, list};
-ghost use Rattle.form_eval.specs.Evaluated.{Gives, RunsOutWhere, done, or_nil};
+ghost use Rattle.form_eval.specs.Evaluated.{Answers, done};
 
 use crate::EvaluationError::Refused;
 use crate::{Evaluated, EvaluationError};
@@ -16,11 +16,11 @@ use lisp_object::{Bytes, Datum, Items};
 use package_table::standardized::{COMMON_LISP, KEYWORD};
 use std::alloc::{AllocError, Global};
 
-/// The most levels of a value that is built.
-pub(crate) const MOST_LEVELS: u64 = 100;
+// The most levels of a value that is built.
+const MOST_LEVELS: u64 = 100;
 
-/// The largest size of a value that is built.
-pub(crate) const LARGEST_SIZE: u64 = 1_000_000;
+// The largest size of a value that is built.
+const LARGEST_SIZE: u64 = 1_000_000;
 
 /// The symbol of this home and name, of bytes below 128.
 pub(crate) fn symbol(alloc: Global, home: &[u8], name: &[u8]) -> Result<Datum, AllocError>
@@ -83,65 +83,10 @@ pub(crate) fn is_too_large(value: &Datum) -> bool
     value.size() > LARGEST_SIZE
 }
 
-// How deep the parts of a list are that ends in this tail, or in NIL where there is none. More than 2^63 counts as that.
-#[tactic(auto, using(crate::proofs::Built::list_depth, crate::proofs::Built::other_depth))]
-fn depth_along(tail: Option<&Datum>) -> u64
-    requires { IfSome tail (λ d. is_proper d.now ≡ true) }
-    ensures { min result (2 ^ 63) ≡ min (depth_along (or_nil (option_map (λ d. object_of d.now) tail.entry))) (2 ^ 63) }
-{
-    match tail {
-        Some(tail) => {
-            if !tail.is_list() {
-                return tail.depth();
-            }
-            tail.depth().saturating_sub(1)
-        }
-        None => 0,
-    }
-}
-
-// How large the parts of that list are together.
-#[tactic(auto, using(crate::proofs::Built::list_size, crate::proofs::Built::other_size))]
-fn size_along(tail: Option<&Datum>) -> u64
-    requires { IfSome tail (λ d. is_proper d.now ≡ true) }
-    ensures { min result (2 ^ 63) ≡ min (size_along (or_nil (option_map (λ d. object_of d.now) tail.entry))) (2 ^ 63) }
-{
-    match tail {
-        Some(tail) => {
-            if !tail.is_list() {
-                return tail.size();
-            }
-            tail.size().saturating_sub(1)
-        }
-        None => 0,
-    }
-}
-
-/// Whether the pair of a value and a tail, or NIL where there is none, has more levels than a value that is built may have.
-#[tactic(auto, using(crate::proofs::Built::pair_depth_test))]
-pub(crate) fn is_pair_too_deep(value: &Datum, tail: Option<&Datum>) -> bool
-    requires value { is_proper value.now ≡ true }
-    requires tail { IfSome tail (λ d. is_proper d.now ≡ true) }
-    ensures { result ≡ nat_lt 100 (object_depth (pair (object_of value.now) (or_nil (option_map (λ d. object_of d.now) tail.entry)))) }
-{
-    value.depth().max(depth_along(tail)) >= MOST_LEVELS
-}
-
-/// Whether that pair is larger than a value that is built may be.
-#[tactic(auto, using(crate::proofs::Built::pair_size_test))]
-pub(crate) fn is_pair_too_large(value: &Datum, tail: Option<&Datum>) -> bool
-    requires value { is_proper value.now ≡ true }
-    requires tail { IfSome tail (λ d. is_proper d.now ≡ true) }
-    ensures { result ≡ nat_lt 1000000 (object_size (pair (object_of value.now) (or_nil (option_map (λ d. object_of d.now) tail.entry)))) }
-{
-    value.size().saturating_add(size_along(tail)) >= LARGEST_SIZE
-}
-
-/// LIST: the list of these values. Takes memory for NIL alone, where there is none.
+/// LIST: the list of these values.
 pub(crate) fn list(alloc: Global, values: Vec<Datum>) -> Result<Evaluated, EvaluationError>
     requires { list_all is_proper values.items ≡ true }
-    ensures gives { (s : State) → Gives done result s (list (map object_of values.items) s) }
-    ensures memory { RunsOutWhere result (map object_of values.items ≡ []) }
+    ensures gives { (s : State) → Answers done result s (list (map object_of values.items) s) }
     ensures proper { IfOk result (λ e. is_proper e.value ≡ true) }
 {
     let items = Items::from_vec(values);

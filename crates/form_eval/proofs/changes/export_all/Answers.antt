@@ -1,11 +1,9 @@
 use Rattle.std.proofs.Common.{◌≡◌, Bool, Ok, Err, sym, ap, subst, ◌∙◌, arith}
-use Rattle.package_table.specs.Changes.{after_export, export_changes, Gives, RunsOutOnlyIf}
-use Rattle.package_table.proofs.KeptChanges.{kept_export}
+use Rattle.package_table.specs.Changes.{after_export, export_changes, Gives}
 use Rattle.plist_state.specs.State.{Worlds}
 use Rattle.plist_state.specs.Changes.{with_packages}
 use Rattle.form_eval.specs.Members.{symbol_in}
-use Rattle.form_eval.specs.Evaluated.{AreOthers}
-use Rattle.form_eval.proofs.PackageSteps.{goes_on, stops, is_over, differs, next_changes}
+use Rattle.form_eval.proofs.PackageSteps.{goes_on, stops, is_over}
 use Rattle.form_eval.proofs.changes.export_all.Goals as goal
 
 pub loop-symbol-preserved : goal.loop-symbol-preserved
@@ -25,11 +23,8 @@ returns-in-Err-clause-gives c =
     let owner = c.args.owner.now in
     let u = c.loop-symbol.world.0.packages in
     let v = c.export.new.self.0.packages in
-    let y = symbol_in c.symbol-item.result in
-    stops (λ t y. after_export t owner y.0 y.1) (λ t y. export_changes t owner y.1) symbol_in {B = Bool} AreOthers (λ _. v) c.in-Err.error c.args.world.now.0.packages u v c.loop-symbol.wrote c.args.symbols.now c.loop-symbol.symbol-index c.symbol-item.result c.loop-symbol-test.true c.symbol-item.is c.loop-symbol.invariant.so_far
-    (subst (λ y. Gives {A = Bool} (λ _. v) (Err c.in-Err.error) (after_export u owner y.0 y.1)) c.symbol_in.ensures c.in-Err.ensures.gives) (ap (λ (k : Worlds). k.0.packages) c.in-Err.ensures.unchanged)
-    (λ memory may. next_changes (λ t y. after_export t owner y.0 y.1) (λ t y. export_changes t owner y.1) symbol_in u c.loop-symbol.wrote (export_changes u owner y.1) (after_export u owner y.0 y.1) may
-    (λ z made. differs (export_changes u owner y.1) c.in-Err.error u z (subst (λ y. RunsOutOnlyIf (export_changes u owner y.1) c.in-Err.error) c.symbol_in.ensures c.in-Err.ensures.memory) memory (kept_export u owner y.1 c.soundness.ensures.present.packages y.0 z made).0.told))
+    stops (λ t y. after_export t owner y.0 y.1) (λ t y. export_changes t owner y.1) symbol_in {B = Bool} (λ _. v) c.in-Err.error c.args.world.now.0.packages u v c.loop-symbol.wrote c.args.symbols.now c.loop-symbol.symbol-index c.symbol-item.result c.loop-symbol-test.true c.symbol-item.is c.loop-symbol.invariant.so_far
+    (subst (λ y. Gives {A = Bool} (λ _. v) (Err c.in-Err.error) (after_export u owner y.0 y.1)) c.symbol_in.ensures c.in-Err.ensures.gives)
 
 pub returns-clause-gives : goal.returns-clause-gives
 returns-clause-gives c =

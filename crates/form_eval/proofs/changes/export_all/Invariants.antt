@@ -1,12 +1,11 @@
-use Rattle.std.proofs.Common.{◌≡◌, false, Ok, map, take}
-use Rattle.package_table.specs.Changes.{after_export, export_changes}
+use Rattle.std.proofs.Common.{◌≡◌, Ok, map, take}
 use Rattle.plist_state.specs.Changes.{with_packages}
 use Rattle.form_eval.specs.Members.{symbol_in}
-use Rattle.form_eval.specs.Packages.{one_by_one}
+use Rattle.form_eval.specs.Packages.{after_exports}
 use Rattle.form_eval.proofs.changes.export_all.Given as goal
 
 abbrev pub invariant-loop-symbol : goal.invariant-loop-symbol
 invariant-loop-symbol l = record {
-  so_far : one_by_one (λ u y. after_export u l.owner y.0 y.1) (λ u y. export_changes u l.owner y.1) l.fn.world.0.packages false (map symbol_in (take l.symbol-index l.symbols)) ≡ Ok (l.world.0.packages, l.wrote);
+  so_far : after_exports l.fn.world.0.packages l.owner (map symbol_in (take l.symbol-index l.symbols)) ≡ Ok (l.world.0.packages, l.wrote);
   rest : l.world ≡ (with_packages l.fn.world.0 l.world.0.packages, l.fn.world.1);
 }

@@ -1,12 +1,10 @@
 use Rattle.std.proofs.Common.{◌≡◌, Bool, Ok, Err, sym, ap, subst, ◌∙◌, arith}
-use Rattle.package_table.specs.Changes.{after_import, import_changes, Gives, RunsOutOnlyIf}
-use Rattle.package_table.proofs.KeptChanges.{kept_import}
+use Rattle.package_table.specs.Changes.{after_import, import_changes, Gives}
 use Rattle.plist_state.specs.State.{Worlds}
 use Rattle.plist_state.specs.Changes.{with_packages}
 use Rattle.plist_state.specs.Sound.{IsSymbol}
 use Rattle.form_eval.specs.Members.{symbol_in}
-use Rattle.form_eval.specs.Evaluated.{AreOthers}
-use Rattle.form_eval.proofs.PackageSteps.{goes_on, stops, is_over, differs, next_changes}
+use Rattle.form_eval.proofs.PackageSteps.{goes_on, stops, is_over}
 use Rattle.form_eval.proofs.changes.import_all.Goals as goal
 
 pub import-requires : goal.import-requires
@@ -33,12 +31,8 @@ returns-in-Err-clause-gives c =
     let owner = c.args.owner.now in
     let u = c.loop-symbol.world.0.packages in
     let v = c.import.new.self.0.packages in
-    let y = symbol_in c.symbol-item.result in
-    let there = subst (λ d. IsSymbol u (symbol_in d)) (sym c.symbol-item.is) (c.loop-symbol.invariant.there c.loop-symbol.symbol-index c.symbol-item.result c.loop-symbol-test.true) in
-    stops (λ t y. after_import t owner y.0 y.1) (λ t y. import_changes t owner y.1) symbol_in {B = Bool} AreOthers (λ _. v) c.in-Err.error c.args.world.now.0.packages u v c.loop-symbol.wrote c.args.symbols.now c.loop-symbol.symbol-index c.symbol-item.result c.loop-symbol-test.true c.symbol-item.is c.loop-symbol.invariant.so_far
-    (subst (λ y. Gives {A = Bool} (λ _. v) (Err c.in-Err.error) (after_import u owner y.0 y.1)) c.symbol_in.ensures c.in-Err.ensures.gives) (ap (λ (k : Worlds). k.0.packages) c.in-Err.ensures.unchanged)
-    (λ memory may. next_changes (λ t y. after_import t owner y.0 y.1) (λ t y. import_changes t owner y.1) symbol_in u c.loop-symbol.wrote (import_changes u owner y.1) (after_import u owner y.0 y.1) may
-    (λ z made. differs (import_changes u owner y.1) c.in-Err.error u z (subst (λ y. RunsOutOnlyIf (import_changes u owner y.1) c.in-Err.error) c.symbol_in.ensures c.in-Err.ensures.memory) memory (kept_import u owner y.1 c.soundness.ensures.present.packages y.0 z there made).0.told))
+    stops (λ t y. after_import t owner y.0 y.1) (λ t y. import_changes t owner y.1) symbol_in {B = Bool} (λ _. v) c.in-Err.error c.args.world.now.0.packages u v c.loop-symbol.wrote c.args.symbols.now c.loop-symbol.symbol-index c.symbol-item.result c.loop-symbol-test.true c.symbol-item.is c.loop-symbol.invariant.so_far
+    (subst (λ y. Gives {A = Bool} (λ _. v) (Err c.in-Err.error) (after_import u owner y.0 y.1)) c.symbol_in.ensures c.in-Err.ensures.gives)
 
 pub returns-clause-gives : goal.returns-clause-gives
 returns-clause-gives c =

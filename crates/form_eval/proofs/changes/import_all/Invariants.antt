@@ -1,14 +1,13 @@
-use Rattle.std.proofs.Common.{◌≡◌, false, Ok, map, take, All}
-use Rattle.package_table.specs.Changes.{after_import, import_changes}
+use Rattle.std.proofs.Common.{◌≡◌, Ok, map, take, All}
 use Rattle.plist_state.specs.Changes.{with_packages}
 use Rattle.plist_state.specs.Sound.{IsSymbol}
 use Rattle.form_eval.specs.Members.{symbol_in}
-use Rattle.form_eval.specs.Packages.{one_by_one}
+use Rattle.form_eval.specs.Packages.{after_imports}
 use Rattle.form_eval.proofs.changes.import_all.Given as goal
 
 abbrev pub invariant-loop-symbol : goal.invariant-loop-symbol
 invariant-loop-symbol l = record {
-  so_far : one_by_one (λ u y. after_import u l.owner y.0 y.1) (λ u y. import_changes u l.owner y.1) l.fn.world.0.packages false (map symbol_in (take l.symbol-index l.symbols)) ≡ Ok (l.world.0.packages, l.wrote);
+  so_far : after_imports l.fn.world.0.packages l.owner (map symbol_in (take l.symbol-index l.symbols)) ≡ Ok (l.world.0.packages, l.wrote);
   rest : l.world ≡ (with_packages l.fn.world.0 l.world.0.packages, l.fn.world.1);
   there : All (λ d. IsSymbol l.world.0.packages (symbol_in d)) l.symbols;
 }

@@ -1,4 +1,4 @@
-use Rattle.std.proofs.Common.{ℕ, Ok, IsOk, List, Bor, sym, ap, ◌∙◌, arith}
+use Rattle.std.proofs.Common.{ℕ, Ok, List, Bor, sym, ap, ◌∙◌, arith}
 use Rattle.std.proofs.lemmas.List.{get_or_default}
 use Rattle.package_table.specs.Table.{Table}
 use Rattle.package_table.specs.Changes.{intern_changes}
@@ -6,7 +6,7 @@ use Rattle.plist_state.specs.Properties.{Symbol}
 use Rattle.plist_state.specs.State.{Worlds}
 use Rattle.plist_state.specs.Changes.{with_packages}
 use Rattle.form_eval.specs.Acceptance.{after_symbol}
-use Rattle.form_eval.proofs.PackageSteps.{goes_on, stops, is_over, next_good}
+use Rattle.form_eval.proofs.PackageSteps.{goes_on, stops, is_over}
 use Rattle.form_eval.proofs.changes.intern_all.Goals as goal
 
 abbrev seen : Bor (List ℕ) × Bor (List ℕ) → Symbol
@@ -24,9 +24,8 @@ loop-symbol-preserved c =
 
 pub returns-in-Err-clause-gives : goal.returns-in-Err-clause-gives
 returns-in-Err-clause-gives c =
-    stops after_symbol (λ t y. intern_changes t y.0 y.1) seen {B = Table} (λ r _. IsOk r) (λ t. t) c.in-Err.error c.args.world.now.0.packages c.loop-symbol.world.0.packages c.intern_one.new.world.0.packages c.loop-symbol.wrote c.args.symbols.now c.loop-symbol.symbol-index _ c.loop-symbol-test.true
-    (get_or_default c.args.symbols.now c.loop-symbol.symbol-index _ _ c.loop-symbol-test.true) c.loop-symbol.invariant.so_far c.in-Err.ensures.gives (ap (λ (k : Worlds). k.0.packages) c.in-Err.ensures.unchanged)
-    (λ _ may. next_good after_symbol (λ t y. intern_changes t y.0 y.1) seen c.loop-symbol.world.0.packages c.loop-symbol.wrote _ _ may)
+    stops after_symbol (λ t y. intern_changes t y.0 y.1) seen {B = Table} (λ t. t) c.in-Err.error c.args.world.now.0.packages c.loop-symbol.world.0.packages c.intern_one.new.world.0.packages c.loop-symbol.wrote c.args.symbols.now c.loop-symbol.symbol-index _ c.loop-symbol-test.true
+    (get_or_default c.args.symbols.now c.loop-symbol.symbol-index _ _ c.loop-symbol-test.true) c.loop-symbol.invariant.so_far c.in-Err.ensures.gives
 
 pub returns-clause-gives : goal.returns-clause-gives
 returns-clause-gives c =

@@ -1,9 +1,8 @@
-use Rattle.std.proofs.Common.{not, ap, sym, subst, ◌∙◌}
+use Rattle.std.proofs.Common.{ap, sym, subst}
 use Rattle.package_table.specs.Table.{Name, Table, IsPresent}
-use Rattle.package_table.specs.Lookup.{is_symbol}
 use Rattle.package_table.specs.Changes.{after_intern}
 use Rattle.form_eval.specs.Acceptance.{table_of}
-use Rattle.form_eval.proofs.Collected.{interned_gives, interned_there, old_there, runs_out}
+use Rattle.form_eval.proofs.Collected.{interned_gives, interned_there, old_there}
 use Rattle.form_eval.proofs.changes.intern_one.Goals as goal
 
 pub returns-then-is_symbol-clause-gives : goal.returns-then-is_symbol-clause-gives
@@ -24,10 +23,3 @@ returns-in-Ok-clause-gives c = ap table_of c.in-Ok.ensures.gives
 pub returns-in-Err-clause-gives : goal.returns-in-Err-clause-gives
 returns-in-Err-clause-gives c =
     interned_gives {A = Name × Table} (λ p. p) c.in-Err.error (after_intern c.args.world.now.0.packages c.args.symbol.now.0.now c.args.symbol.now.1.now) c.in-Err.ensures.gives
-
-pub returns-in-Err-clause-memory : goal.returns-in-Err-clause-memory
-returns-in-Err-clause-memory c =
-    let h = c.args.symbol.now.0.now in
-    let n = c.args.symbol.now.1.now in
-    runs_out (not (is_symbol c.args.world.now.0.packages h n)) c.in-Err.error
-    (ap not (ap (λ t. is_symbol t h n) (sym c.packages.ensures) ∙ sym c.is_symbol.ensures.value ∙ c.if-is_symbol.false))

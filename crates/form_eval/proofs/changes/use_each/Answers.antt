@@ -1,12 +1,10 @@
 use Rattle.std.proofs.Common.{◌≡◌, Bool, Ok, Err, sym, ap, subst, ◌∙◌, arith}
 use Rattle.package_table.specs.Table.{full_name}
-use Rattle.package_table.specs.Changes.{after_use, use_changes, Gives, RunsOutOnlyIf}
-use Rattle.package_table.proofs.KeptChanges.{kept_use}
+use Rattle.package_table.specs.Changes.{after_use, use_changes, Gives}
 use Rattle.plist_state.specs.State.{Worlds}
 use Rattle.plist_state.specs.Changes.{with_packages}
 use Rattle.form_eval.specs.Members.{name_in}
-use Rattle.form_eval.specs.Evaluated.{AreOthers}
-use Rattle.form_eval.proofs.PackageSteps.{goes_on, stops, is_over, differs, next_changes}
+use Rattle.form_eval.proofs.PackageSteps.{goes_on, stops, is_over}
 use Rattle.form_eval.proofs.changes.use_each.Goals as goal
 
 pub loop-package-preserved : goal.loop-package-preserved
@@ -27,12 +25,9 @@ returns-in-Err-clause-gives c =
     let owner = c.args.owner.now in
     let u = c.loop-package.world.0.packages in
     let v = c.use_package.new.self.0.packages in
-    let q = full_name (name_in c.package-item.result) in
     let same : c.full_name.result.now ≡ full_name (name_in c.package-item.result) = c.full_name.ensures ∙ ap full_name c.name_in.ensures in
-    stops (λ t q. after_use t owner q) (λ t q. use_changes t owner q) (λ d. full_name (name_in d)) {B = Bool} AreOthers (λ _. v) c.in-Err.error c.args.world.now.0.packages u v c.loop-package.wrote c.args.used.now c.loop-package.package-index c.package-item.result c.loop-package-test.true c.package-item.is c.loop-package.invariant.so_far
-    (subst (λ q. Gives {A = Bool} (λ _. v) (Err c.in-Err.error) (after_use u owner q)) same c.in-Err.ensures.gives) (ap (λ (k : Worlds). k.0.packages) c.in-Err.ensures.unchanged)
-    (λ memory may. next_changes (λ t q. after_use t owner q) (λ t q. use_changes t owner q) (λ d. full_name (name_in d)) u c.loop-package.wrote (use_changes u owner q) (after_use u owner q) may
-    (λ z made. differs (use_changes u owner q) c.in-Err.error u z (subst (λ q. RunsOutOnlyIf (use_changes u owner q) c.in-Err.error) same c.in-Err.ensures.memory) memory (kept_use u owner q c.soundness.ensures.present.packages z made).0.told))
+    stops (λ t q. after_use t owner q) (λ t q. use_changes t owner q) (λ d. full_name (name_in d)) {B = Bool} (λ _. v) c.in-Err.error c.args.world.now.0.packages u v c.loop-package.wrote c.args.used.now c.loop-package.package-index c.package-item.result c.loop-package-test.true c.package-item.is c.loop-package.invariant.so_far
+    (subst (λ q. Gives {A = Bool} (λ _. v) (Err c.in-Err.error) (after_use u owner q)) same c.in-Err.ensures.gives)
 
 pub returns-clause-gives : goal.returns-clause-gives
 returns-clause-gives c =

@@ -1,26 +1,20 @@
 -- What each call answers.
-use Rattle.std.proofs.Common.{◌≡◌, ◌≤◌, ◌+◌, [], ◌∷◌, ◌||◌, true, All, drop, map, length, inl, inr, refl, sym, ap, subst, ◌∙◌, arith}
+use Rattle.std.proofs.Common.{◌≡◌, ◌≤◌, ◌+◌, [], ◌∷◌, ◌||◌, true, All, drop, map, length, refl, sym, ap, subst, ◌∙◌, arith}
 use Rattle.lisp_object.specs.Object.{list_of}
 use Rattle.lisp_object.specs.Datum.{object_of}
 use Rattle.lisp_object.proofs.Objects.{object_of-Integer, object_of-Rational, object_of-Char, object_of-Text, object_of-Vector}
 use Rattle.std.proofs.lemmas.List.{map-append}
 use Rattle.lisp_object.specs.declared.datum.Datum.TheViews.{sized-List, the_lemmas}
 use Rattle.lisp_object.proofs.datum.Datum.TheLaws.{the_size}
-use Rattle.form_eval.specs.declared.evaluated.Evaluated.{Evaluated}
-use Rattle.form_eval.specs.declared.evaluated.Values.{Values}
 use Rattle.form_eval.specs.declared.operators.Operation.TheVariants.{Quote}
 use Rattle.form_eval.specs.Kinds.{is_pair}
-use Rattle.form_eval.specs.Outcomes.{gives}
-use Rattle.form_eval.specs.Operators.{first}
 use Rattle.form_eval.specs.Gathered.{arguments_of, parts, followed}
 use Rattle.form_eval.specs.Value.{value, action_value}
 use Rattle.form_eval.specs.Operations.{action_of, least}
-use Rattle.form_eval.specs.Evaluated.{IsArgument, Answers, RunsOutWhere, done}
-use Rattle.form_eval.specs.Memory.{OperationRunsOut}
-use Rattle.form_eval.proofs.Steps.{gives_answers, is_constant, value_dotted, items_arguments, good_value, followed_step, followed_stops, followed_at_end, argument_grown, all_more}
+use Rattle.form_eval.specs.Evaluated.{IsArgument, Answers, done}
+use Rattle.form_eval.proofs.Steps.{is_constant, value_dotted, items_arguments, good_value, followed_step, followed_stops, followed_at_end, argument_grown, all_more}
 use Rattle.form_eval.proofs.Shapes.{some_items}
 use Rattle.form_eval.proofs.Forms.{symbol_form, constant_form, uninterned_form, head_form, head_refused, quote_left, place_first, place_given, push_no_place, push_refused, push_given, choice_refused, choice_true, choice_none, choice_other, same_item, subforms_given}
-use Rattle.form_eval.proofs.RunningOut.{where_error, where_holds, where_after, symbol_runs, constant_runs, head_runs, head_never, forms_first, forms_after, place_runs, place_later, before_first, before_after, subforms_run, test_runs, true_runs, none_runs, other_runs, where_more}
 use Rattle.form_eval.proofs.evaluation.+evaluation.Goals as goal
 
 pub act-quoted-requires : goal.act-quoted-requires
@@ -36,9 +30,7 @@ act-returns-in_default t c =
     let quote : c.args.operation ≡ Quote = quote_left c.args.operation (sym c.is_ordinary.ensures ∙ c.if-is_ordinary.false) c.in_default.not-If c.in_default.not-InPackage in
     let arguments = arguments_of (map object_of c.args.items.now) in
     record {
-      gives = subst (λ o. Answers done c.quoted.result c.args.world.now.0 (action_value c.args.world.now.0 (action_of c.args.names.now o) arguments (parts c.args.names.now c.args.world.now.0 arguments))) (sym quote)
-          (gives_answers done c.quoted.result c.args.world.now.0 (gives (first arguments) c.args.world.now.0) (c.quoted.ensures.gives c.args.world.now.0));
-      memory = subst (λ o. RunsOutWhere c.quoted.result (OperationRunsOut c.args.names.now c.args.world.now.0 o arguments c.args.world.now.0)) (sym quote) (where_holds c.quoted.result _ refl);
+      gives = subst (λ o. Answers done c.quoted.result c.args.world.now.0 (action_value c.args.world.now.0 (action_of c.args.names.now o) arguments (parts c.args.names.now c.args.world.now.0 arguments))) (sym quote) (c.quoted.ensures.gives c.args.world.now.0);
       proper = c.quoted.ensures.proper;
       marked = refl;
     }
@@ -158,9 +150,6 @@ extended-loop-i-preserved t c =
       forms = λ k d h. c.in-Ok.ensures.kept _ (c.loop-i.invariant.forms k d h);
       kept = λ d is. c.in-Ok.ensures.kept d (c.loop-i.invariant.kept d is);
       marked = c.in-Ok.ensures.marked ∙ c.loop-i.invariant.marked;
-      out = λ end h.
-          c.loop-i.invariant.out end
-          (forms_after c.args.names.now c.loop-i.world.0 c.evaluate.new.world.0 end c.args.forms.now c.loop-i.i c.index-forms-i.result c.in-Ok.evaluated c.loop-i-test.true c.index-forms-i.is c.in-Ok.ensures.gives (inr h));
     }
 
 pub extended-returns-clause-gives : goal.extended-returns-clause-gives
@@ -194,102 +183,3 @@ pub subforms-returns-in-List-clause-gives : goal.subforms-returns-in-List-clause
 subforms-returns-in-List-clause-gives t c =
     subforms_given c.args.names.now c.args.world.now.0 c.extended.new.world.0 c.args.place.now c.in-List.items c.as_slice.result.now c.in-List.tail (map object_of c.args.values.values.items) c.args.values.wrote c.extended.result
     c.in-List.is c.requires.place.proper c.as_slice.ensures c.extended.ensures.gives
-
--- ---- where memory ran out
-pub any_form-returns-in-Symbol-clause-memory : goal.any_form-returns-in-Symbol-clause-memory
-any_form-returns-in-Symbol-clause-memory t c =
-    symbol_runs c.args.names.now c.args.world.now.0 c.args.form.now c.in-Symbol.package c.in-Symbol.name c.symbol_value.result c.in-Symbol.is c.symbol_value.ensures.gives
-
-pub any_form-returns-in-Integer-clause-memory : goal.any_form-returns-in-Integer-clause-memory
-any_form-returns-in-Integer-clause-memory t c =
-    constant_runs c.args.names.now c.args.world.now.0 c.args.form.now c.itself.result (ap (λ d. is_constant (object_of d)) c.in-Integer.is ∙ ap is_constant (object_of-Integer c.in-Integer.field-0))
-
-pub any_form-returns-in-Rational-clause-memory : goal.any_form-returns-in-Rational-clause-memory
-any_form-returns-in-Rational-clause-memory t c =
-    constant_runs c.args.names.now c.args.world.now.0 c.args.form.now c.itself-in-Rational.result (ap (λ d. is_constant (object_of d)) c.in-Rational.is ∙ ap is_constant (object_of-Rational c.in-Rational.field-0))
-
-pub any_form-returns-in-Char-clause-memory : goal.any_form-returns-in-Char-clause-memory
-any_form-returns-in-Char-clause-memory t c =
-    constant_runs c.args.names.now c.args.world.now.0 c.args.form.now c.itself-in-Char.result (ap (λ d. is_constant (object_of d)) c.in-Char.is ∙ ap is_constant (object_of-Char c.in-Char.field-0))
-
-pub any_form-returns-in-Text-clause-memory : goal.any_form-returns-in-Text-clause-memory
-any_form-returns-in-Text-clause-memory t c =
-    constant_runs c.args.names.now c.args.world.now.0 c.args.form.now c.itself-in-Text.result (ap (λ d. is_constant (object_of d)) c.in-Text.is ∙ ap is_constant (object_of-Text c.in-Text.field-0))
-
-pub any_form-returns-in-Vector-clause-memory : goal.any_form-returns-in-Vector-clause-memory
-any_form-returns-in-Vector-clause-memory t c =
-    constant_runs c.args.names.now c.args.world.now.0 c.args.form.now c.itself-in-Vector.result (ap (λ d. is_constant (object_of d)) c.in-Vector.is ∙ ap is_constant (object_of-Vector c.in-Vector.field-0))
-
-pub list_form-returns-in-Ok-clause-memory : goal.list_form-returns-in-Ok-clause-memory
-list_form-returns-in-Ok-clause-memory t c =
-    head_runs c.args.names.now c.args.world.now.0 c.act.new.world.0 c.args.items.now c.as_slice-items.result.now c.index-items-0.result c.in-Ok.operation c.act.result c.as_slice-items.ensures c.requires.some c.index-items-0.is
-    (c.in-Ok.ensures.operator c.args.names.now) c.act.ensures.memory
-
-pub list_form-returns-in-Err-clause-memory : goal.list_form-returns-in-Err-clause-memory
-list_form-returns-in-Err-clause-memory t c = head_never c.args.names.now _ _ c.in-Err.error _ (c.in-Err.ensures.head c.args.names.now)
-
-pub at_place-returns-in-Err-clause-memory : goal.at_place-returns-in-Err-clause-memory
-at_place-returns-in-Err-clause-memory t c =
-    place_runs c.args.names.now c.args.world.now.0 c.subforms.new.world.0 c.args.items.now c.index-items-1.result c.in-Err.error c.requires.counted c.index-items-1.is c.in-Err.ensures.memory
-
-pub at_place-returns-in-Ok-clause-memory : goal.at_place-returns-in-Ok-clause-memory
-at_place-returns-in-Ok-clause-memory t c =
-    place_later c.args.names.now c.args.world.now.0 c.subforms.new.world.0 c.extended.new.world.0 c.args.items.now c.index-items-1.result c.none-values.result.values.items c.none-values.result.wrote c.in-Ok.values c.extended.result
-    c.requires.counted c.index-items-1.is c.none-values.ensures.values c.none-values.ensures.wrote c.in-Ok.ensures.gives c.extended.ensures.memory
-
-pub before_place-returns-in-Err-clause-memory : goal.before_place-returns-in-Err-clause-memory
-before_place-returns-in-Err-clause-memory t c =
-    before_first c.args.names.now c.args.world.now.0 c.evaluate.new.world.0 c.args.items.now c.index-items-1.result c.index-items-2.result c.in-Err.error
-    c.requires.counted c.index-items-1.is c.index-items-2.is (sym c.is_pair.ensures ∙ c.if-not-is_pair.false) c.in-Err.ensures.memory
-
-pub before_place-returns-clause-memory : goal.before_place-returns-clause-memory
-before_place-returns-clause-memory t c =
-    let same : c.index-items-2.result ≡ c.index-items-2-2.result = same_item c.args.items.now 2 c.index-items-2.result c.index-items-2-2.result c.requires.counted c.index-items-2.is c.index-items-2-2.is in
-    where_more c.subforms.result _ _
-    (λ out. before_after c.args.names.now c.args.world.now.0 c.evaluate.new.world.0 c.subforms.new.world.0 c.args.items.now c.index-items-1.result c.index-items-2-2.result c.in-Ok.evaluated
-    c.requires.counted c.index-items-1.is c.index-items-2-2.is (subst (λ d. is_pair (object_of d) ≡ true) same (sym c.is_pair.ensures ∙ c.if-not-is_pair.false)) c.in-Ok.ensures.gives (inr out))
-    c.subforms.ensures.memory
-
-pub subforms-returns-in-List-clause-memory : goal.subforms-returns-in-List-clause-memory
-subforms-returns-in-List-clause-memory t c =
-    subforms_run c.args.names.now c.args.world.now.0 c.extended.new.world.0 c.args.place.now c.in-List.items c.as_slice.result.now c.in-List.tail c.extended.result c.in-List.is
-    (some_items c.args.place.now c.in-List.items c.in-List.items c.in-List.tail c.in-List.is c.requires.place.proper refl) c.as_slice.ensures c.extended.ensures.memory
-
-pub extended-returns-in-Err-clause-memory : goal.extended-returns-in-Err-clause-memory
-extended-returns-in-Err-clause-memory t c =
-    where_error Evaluated Values c.in-Err.error _ _
-    (λ out. c.loop-i.invariant.out c.evaluate.new.world.0 (forms_first c.args.names.now c.loop-i.world.0 c.evaluate.new.world.0 c.args.forms.now c.loop-i.i c.index-forms-i.result c.loop-i-test.true c.index-forms-i.is out))
-    c.in-Err.ensures.memory
-
-pub chosen-returns-in-Err-clause-memory : goal.chosen-returns-in-Err-clause-memory
-chosen-returns-in-Err-clause-memory t c =
-    test_runs c.args.names.now c.args.world.now.0 c.evaluate.new.world.0 c.args.items.now c.index-items-1.result c.in-Err.error c.requires.counted c.index-items-1.is c.in-Err.ensures.memory
-
-pub chosen-returns-then-is_true-clause-memory : goal.chosen-returns-then-is_true-clause-memory
-chosen-returns-then-is_true-clause-memory t c =
-    true_runs c.args.names.now c.args.world.now.0 c.evaluate.new.world.0 c.evaluate-then-is_true.new.world.0 c.args.items.now c.index-items-1.result c.index-items-2.result c.in-Ok.test c.after.result
-    c.requires.counted c.index-items-1.is c.index-items-2.is c.in-Ok.ensures.gives (sym c.is_true.ensures ∙ c.if-is_true.true)
-    (where_after c.evaluate-then-is_true.result c.after.result _ c.after.ensures.value c.after.ensures.error c.evaluate-then-is_true.ensures.memory)
-
-pub chosen-returns-clause-memory : goal.chosen-returns-clause-memory
-chosen-returns-clause-memory t c =
-    other_runs c.args.names.now c.args.world.now.0 c.evaluate.new.world.0 c.evaluate-2.new.world.0 c.args.items.now c.index-items-1.result c.index-items-3.result c.in-Ok.test c.after-2.result
-    c.requires.counted c.if-items-eq3.false c.index-items-1.is c.index-items-3.is c.in-Ok.ensures.gives (sym c.is_true.ensures ∙ c.if-is_true.false)
-    (where_after c.evaluate-2.result c.after-2.result _ c.after-2.ensures.value c.after-2.ensures.error c.evaluate-2.ensures.memory)
-
-pub before_place-returns-in_err-first-in-Ok-clause-memory : goal.before_place-returns-in_err-first-in-Ok-clause-memory
-before_place-returns-in_err-first-in-Ok-clause-memory t c =
-    where_holds c.from_residual.result _
-    (before_after c.args.names.now c.args.world.now.0 c.evaluate.new.world.0 c.evaluate.new.world.0 c.args.items.now c.index-items-1.result c.index-items-2.result c.in-Ok.evaluated
-    c.requires.counted c.index-items-1.is c.index-items-2.is (sym c.is_pair.ensures ∙ c.if-not-is_pair.false) c.in-Ok.ensures.gives (inl refl))
-
-pub chosen-returns-in_err-empty_list-clause-memory : goal.chosen-returns-in_err-empty_list-clause-memory
-chosen-returns-in_err-empty_list-clause-memory t c =
-    where_holds c.from_residual.result _
-    (none_runs c.args.names.now c.args.world.now.0 c.evaluate.new.world.0 c.args.items.now c.index-items-1.result c.in-Ok.test c.requires.counted c.if-items-eq3.true c.index-items-1.is c.in-Ok.ensures.gives (sym c.is_true.ensures ∙ c.if-is_true.false))
-
-pub extended-returns-in_err-values-clause-memory : goal.extended-returns-in_err-values-clause-memory
-extended-returns-in_err-values-clause-memory t c =
-    where_holds c.from_residual.result _
-    (c.loop-i.invariant.out c.evaluate.new.world.0
-    (forms_after c.args.names.now c.loop-i.world.0 c.evaluate.new.world.0 c.evaluate.new.world.0 c.args.forms.now c.loop-i.i c.index-forms-i.result c.in-Ok.evaluated c.loop-i-test.true c.index-forms-i.is c.in-Ok.ensures.gives (inl refl)))

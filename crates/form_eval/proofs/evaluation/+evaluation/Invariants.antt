@@ -1,9 +1,7 @@
 use Rattle.std.proofs.Common.{◌≡◌, All, map, drop}
 use Rattle.lisp_object.specs.Object.{list_of}
 use Rattle.lisp_object.specs.Datum.{object_of}
-use Rattle.plist_state.specs.State.{State}
 use Rattle.form_eval.specs.Gathered.{followed}
-use Rattle.form_eval.specs.Memory.{FormsRunOut}
 use Rattle.form_eval.specs.Evaluated.{IsArgument, Keeps}
 use Rattle.form_eval.proofs.evaluation.+evaluation.Given as goal
 
@@ -15,5 +13,4 @@ invariant-extended-loop-i l = record {
   forms : All (IsArgument l.world.0.packages) l.forms;
   kept : Keeps l.fn.world.0.packages l.world.0.packages;
   marked : l.world.1 ≡ l.fn.world.1;
-  out : (end : State) → FormsRunOut l.names l.world.0 (list_of (map object_of (drop l.i l.forms))) end → FormsRunOut l.names l.fn.world.0 (list_of (map object_of (drop l.fn.from l.forms))) end;
 }

@@ -10,9 +10,6 @@ returns-in-Ok-clause-value c =
     let ms = c.in-Some.members.now in
     sym (members_or_each a_name (object_of c.args.datum.now) (Some (map object_of ms)) c.in-Some.ensures.value ∙ each_found a_name [] ms c.in-Ok.ensures.each)
 
-pub returns-in-Ok-clause-each : goal.returns-in-Ok-clause-each
-returns-in-Ok-clause-each c = record { members = c.in-Some.ensures.value; proper = c.in-Some.ensures.proper; kinds = c.in-Ok.ensures.each }
-
 pub returns-in-Err-clause-value : goal.returns-in-Err-clause-value
 returns-in-Err-clause-value c =
     (c.in-Err.ensures.none.0, c.in-Err.ensures.none.1 ∙ sym (members_or_each a_name (object_of c.args.datum.now) (Some (map object_of c.in-Some.members.now)) c.in-Some.ensures.value))

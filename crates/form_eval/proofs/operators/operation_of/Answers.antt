@@ -2,8 +2,6 @@ use Rattle.std.proofs.Common.{cond, None, sym, ap, ◌∙◌}
 use Rattle.lisp_object.specs.Datum.{object_of}
 use Rattle.form_eval.specs.Operators.{operator_named}
 use Rattle.form_eval.proofs.Heads.{head_other, head_unknown, head_count, head_acts}
-use Rattle.form_eval.proofs.AtOnceHeads.{first_other, first_unknown, first_count, first_acts}
-use Rattle.form_eval.proofs.RunningOut.{operator_at}
 use Rattle.form_eval.proofs.operators.operation_of.Goals as goal
 
 pub returns-in_default-clause-head : goal.returns-in_default-clause-head
@@ -28,31 +26,3 @@ pub returns-clause-head : goal.returns-clause-head
 returns-clause-head c = λ names s arguments proper counted.
     head_acts names s (object_of c.args.head.now) arguments c.in-Ok.home.now c.in-Ok.name.now c.in-Some.operation c.args.number c.in-Ok.ensures proper
     (sym c.is_name.ensures ∙ c.if-not-is_name.false) (c.in-Some.ensures names) counted (sym (c.counts.ensures.value names) ∙ c.if-not-counts.false)
-
-pub returns-in_default-clause-at_once : goal.returns-in_default-clause-at_once
-returns-in_default-clause-at_once c = λ names s arguments proper counted. first_other names s (object_of c.args.head.now) arguments c.in_default.ensures.1
-
-pub returns-then-not-is_name-clause-at_once : goal.returns-then-not-is_name-clause-at_once
-returns-then-not-is_name-clause-at_once c = λ names s arguments proper counted.
-    first_unknown names s (object_of c.args.head.now) arguments c.in-Ok.home.now c.in-Ok.name.now c.in-Ok.ensures proper
-    (ap (λ b. cond b (operator_named names c.in-Ok.name.now) None) (sym c.is_name.ensures ∙ c.if-not-is_name.true))
-
-pub returns-in_default-named-clause-at_once : goal.returns-in_default-named-clause-at_once
-returns-in_default-named-clause-at_once c = λ names s arguments proper counted.
-    first_unknown names s (object_of c.args.head.now) arguments c.in-Ok.home.now c.in-Ok.name.now c.in-Ok.ensures proper
-    (ap (λ b. cond b (operator_named names c.in-Ok.name.now) None) (sym c.is_name.ensures ∙ c.if-not-is_name.false) ∙ sym (c.in_default-named.ensures names))
-
-pub returns-then-not-counts-clause-at_once : goal.returns-then-not-counts-clause-at_once
-returns-then-not-counts-clause-at_once c = λ names s arguments proper counted.
-    first_count names s (object_of c.args.head.now) arguments c.in-Ok.home.now c.in-Ok.name.now c.in-Some.operation c.args.number c.in-Ok.ensures proper
-    (sym c.is_name.ensures ∙ c.if-not-is_name.false) (c.in-Some.ensures names) counted (sym (c.counts.ensures.value names) ∙ c.if-not-counts.true)
-
-pub returns-clause-at_once : goal.returns-clause-at_once
-returns-clause-at_once c = λ names s arguments proper counted.
-    first_acts names s (object_of c.args.head.now) arguments c.in-Ok.home.now c.in-Ok.name.now c.in-Some.operation c.args.number c.in-Ok.ensures proper
-    (sym c.is_name.ensures ∙ c.if-not-is_name.false) (c.in-Some.ensures names) counted (sym (c.counts.ensures.value names) ∙ c.if-not-counts.false)
-
-pub returns-clause-operator : goal.returns-clause-operator
-returns-clause-operator c = λ names.
-    operator_at names (object_of c.args.head.now) c.in-Ok.home.now c.in-Ok.name.now c.in-Some.operation c.args.number c.in-Ok.ensures
-    (sym c.is_name.ensures ∙ c.if-not-is_name.false) (c.in-Some.ensures names) (sym (c.counts.ensures.value names) ∙ c.if-not-counts.false)

@@ -11,16 +11,12 @@ loop-name-preserved c =
     All-more (IsThere u) c.args.names.now c.loop-name.name-index c.name-item.result c.loop-name-test.true c.loop-name.invariant
     (subst (IsThere u) c.name-item.is (is_there u c.name-item.result _ (c.in-Ok.ensures.named ∙ ap (package_named u) c.name_in.ensures)))
 
-pub returns-in-Err-clause-found : goal.returns-in-Err-clause-found
-returns-in-Err-clause-found c =
+pub returns-in-Err : goal.returns-in-Err
+returns-in-Err c =
     let u = c.args.world.now.0.packages in
     (c.in-Err.ensures.named.0, sym (no_package u c.args.names.now c.loop-name.name-index c.name-item.result c.loop-name-test.true c.name-item.is (c.in-Err.ensures.named.1 ∙ ap (package_named u) c.name_in.ensures)))
 
-pub returns-clause-found : goal.returns-clause-found
-returns-clause-found c =
+pub returns : goal.returns
+returns c =
     let u = c.args.world.now.0.packages in
     sym (packages_found u c.args.names.now (subst (All (IsThere u)) (take_all c.loop-name.name-index c.args.names.now (omega arith)) c.loop-name.invariant))
-
-pub returns-clause-each : goal.returns-clause-each
-returns-clause-each c =
-    let u = c.args.world.now.0.packages in subst (All (IsThere u)) (take_all c.loop-name.name-index c.args.names.now (omega arith)) c.loop-name.invariant

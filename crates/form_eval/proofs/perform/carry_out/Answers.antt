@@ -1,10 +1,8 @@
 use Rattle.std.proofs.Common.{map, sym, subst}
 use Rattle.lisp_object.specs.Datum.{object_of}
-use Rattle.form_eval.specs.Outcomes.{gives}
-use Rattle.form_eval.specs.Value.{last}
 use Rattle.form_eval.specs.Operations.{function_of}
 use Rattle.form_eval.specs.Evaluated.{Answers, done}
-use Rattle.form_eval.proofs.Steps.{are_proper, gives_answers}
+use Rattle.form_eval.proofs.Steps.{are_proper}
 use Rattle.form_eval.proofs.perform.carry_out.Goals as goal
 
 pub last-requires : goal.last-requires
@@ -17,4 +15,4 @@ pub returns-in-Progn-clause-gives : goal.returns-in-Progn-clause-gives
 returns-in-Progn-clause-gives c =
     let s = c.args.world.now.0 in
     let xs = map object_of c.args.values.items in
-    subst (λ o. Answers done c.last.result s (function_of c.args.names.now o c.args.is_case xs s)) (sym c.in-Progn.is) (gives_answers done c.last.result s (gives (last xs) s) (c.last.ensures.gives s))
+    subst (λ o. Answers done c.last.result s (function_of c.args.names.now o c.args.is_case xs s)) (sym c.in-Progn.is) (c.last.ensures.gives s)

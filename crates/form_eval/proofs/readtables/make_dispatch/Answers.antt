@@ -4,7 +4,7 @@ use Rattle.plist_state.specs.Changes.{with_dispatching, in_state}
 use Rattle.form_eval.specs.Kinds.{a_keyword, given_or}
 use Rattle.form_eval.specs.Properties.{t}
 use Rattle.form_eval.specs.Readtables.{after, after_first, make_dispatch}
-use Rattle.form_eval.specs.Evaluated.{Gives, done}
+use Rattle.form_eval.specs.Evaluated.{Answers, done}
 use Rattle.form_eval.proofs.ReadtableSteps.{make_opens}
 use Rattle.form_eval.proofs.Storable.{character_kind}
 use Rattle.form_eval.proofs.readtables.make_dispatch.Goals as goal
@@ -23,7 +23,7 @@ returns-clause-gives c =
     let given : Some n ≡ given_or a_keyword s.current_readtable (after_first rest) =
     subst (λ k. Some n ≡ given_or a_keyword k (map object_of c.after_first.result.now)) c.current_readtable.ensures c.in_ok-name.ensures ∙ ap (given_or a_keyword s.current_readtable) c.after_first.ensures.value in
     let name_is : c.as_slice.result.now ≡ n = c.as_slice.ensures.value ∙ c.in_ok-name-2.ensures.items in
-    subst (λ vs. Gives done c.changed.result new (make_dispatch (map object_of vs) s)) (sym c.in_ok-character.ensures.value)
-    (make_opens (Gives done c.changed.result new) s (object_of c.in_ok-character.character.now) rest c.in_ok-c.c n c.in_ok-c.ensures given
-    (subst (λ said. Gives done c.changed.result new (after s t said)) (λ i. in_state s (with_dispatching s.readtables (name_is i) c.in_ok-c.c (c.is_given.ensures i)))
+    subst (λ vs. Answers done c.changed.result new (make_dispatch (map object_of vs) s)) (sym c.in_ok-character.ensures.value)
+    (make_opens (Answers done c.changed.result new) s (object_of c.in_ok-character.character.now) rest c.in_ok-c.c n c.in_ok-c.ensures given
+    (subst (λ said. Answers done c.changed.result new (after s t said)) (λ i. in_state s (with_dispatching s.readtables (name_is i) c.in_ok-c.c (c.is_given.ensures i)))
     (c.changed.ensures.gives s new (in_state s (with_dispatching s.readtables c.as_slice.result.now c.in_ok-c.c c.is_given.result)) c.make_dispatch-made.ensures.gives)))

@@ -6,7 +6,7 @@ use Rattle.plist_state.specs.Changes.{with_macro, in_state}
 use Rattle.form_eval.specs.Kinds.{a_keyword, given_or}
 use Rattle.form_eval.specs.Properties.{t}
 use Rattle.form_eval.specs.Readtables.{after, after_first, set_macro}
-use Rattle.form_eval.specs.Evaluated.{Gives, done}
+use Rattle.form_eval.specs.Evaluated.{Answers, done}
 use Rattle.form_eval.proofs.ReadtableSteps.{macro_opens}
 use Rattle.form_eval.proofs.Storable.{character_kind, keyword_kind}
 use Rattle.form_eval.proofs.readtables.set_macro.Goals as goal
@@ -31,8 +31,8 @@ returns-clause-gives c =
     let given : Some n ≡ given_or a_keyword s.current_readtable (after_first rest) =
     subst (λ k. Some n ≡ given_or a_keyword k (map object_of c.after_first.result.now)) c.current_readtable.ensures c.in_ok-name.ensures ∙ ap (given_or a_keyword s.current_readtable) c.after_first.ensures.value in
     let name_is : c.as_slice.result.now ≡ n = c.as_slice.ensures.value ∙ c.in_ok-name-2.ensures.items in
-    subst (λ vs. Gives done c.changed.result new (set_macro c.args.names.now (map object_of vs) s)) (sym c.in_ok-character.ensures.value)
-    (macro_opens (Gives done c.changed.result new) s c.args.names.now (object_of c.in_ok-character.character.now) (object_of c.in_ok-character.function.now) rest c.in_ok-c.c c.in_ok-function.function.now n c.in_ok-writable.field-0.now
+    subst (λ vs. Answers done c.changed.result new (set_macro c.args.names.now (map object_of vs) s)) (sym c.in_ok-character.ensures.value)
+    (macro_opens (Answers done c.changed.result new) s c.args.names.now (object_of c.in_ok-character.character.now) (object_of c.in_ok-character.function.now) rest c.in_ok-c.c c.in_ok-function.function.now n c.in_ok-writable.field-0.now
     c.in_ok-c.ensures c.in_ok-function.ensures given c.in_ok-writable.ensures c.in_ok-function-2.ensures.1
-    (subst (λ said. Gives done c.changed.result new (after s t said)) (λ i. in_state s (with_macro s.readtables (name_is i) c.in_ok-c.c (c.in_ok-function-2.ensures.0 i) (c.is_given.ensures i)))
+    (subst (λ said. Answers done c.changed.result new (after s t said)) (λ i. in_state s (with_macro s.readtables (name_is i) c.in_ok-c.c (c.in_ok-function-2.ensures.0 i) (c.is_given.ensures i)))
     (c.changed.ensures.gives s new (in_state s (with_macro s.readtables c.as_slice.result.now c.in_ok-c.c c.in_ok-function-2.function c.is_given.result)) c.set_macro-made.ensures.gives)))
