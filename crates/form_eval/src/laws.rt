@@ -4,9 +4,10 @@ ghost use Rattle.lisp_object.specs.Object.{Object};
 ghost use Rattle.package_table.specs.Table.{Name};
 ghost use Rattle.plist_state.specs.State.{State};
 ghost use Rattle.plist_state.specs.Sound.{IsSound};
-ghost use Rattle.form_eval.specs.Outcomes.{Done};
+ghost use Rattle.lisp_operators.specs.Outcomes.{Done};
 ghost use Rattle.form_eval.specs.Acceptance.{accept};
-ghost use Rattle.form_eval.specs.Laws.{AreCovered, AreFunctionNames, IsForm, IsSoundAfter};
+ghost use Rattle.lisp_operators.specs.Readtables.{AreCovered, AreFunctionNames};
+ghost use Rattle.form_eval.specs.Laws.{IsForm, IsSoundAfter};
 
 /// A form that is accepted and does not write leaves the state of the world as it was. For proofs: it does nothing.
 pub fn silent_forms_change_nothing()

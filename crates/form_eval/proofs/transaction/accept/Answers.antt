@@ -2,7 +2,7 @@ use Rattle.std.proofs.Common.{sym, subst, ap, ◌∙◌}
 use Rattle.lisp_object.specs.Datum.{object_of}
 use Rattle.plist_state.specs.State.{Worlds}
 use Rattle.form_eval.specs.Laws.{IsForm}
-use Rattle.form_eval.proofs.SilentForms.{accepted_silent}
+use Rattle.form_eval.proofs.Accepted.{accepted_silent}
 use Rattle.form_eval.proofs.transaction.accept.Goals as goal
 
 pub returns-in-Ok-run-clause-silent : goal.returns-in-Ok-run-clause-silent

@@ -2,7 +2,7 @@ use Rattle.std.proofs.Common.{◌≡◌, ◌<◌, ℕ, List, All, map, Bor, sym,
 use Rattle.lisp_object.specs.Datum.{object_of}
 use Rattle.plist_state.specs.Properties.{Symbol}
 use Rattle.form_eval.specs.Acceptance.{symbols, with_symbols}
-use Rattle.form_eval.specs.Evaluated.{Makes}
+use Rattle.lisp_operators.specs.Evaluated.{Makes}
 use Rattle.form_eval.proofs.SoundSymbols.{symbols_can, ascii_of, all_of_mapped}
 use Rattle.form_eval.proofs.transaction.intern_symbols.Goals as goal
 
