@@ -36,7 +36,7 @@ opened on s rest o ys q p kind given named =
 export_open : (s : State) (x : Object) (rest : List Object) (ys : List Symbol) (q p : Name) → one_or_each a_symbol x ≡ Some ys → given_or a_name s.current_package rest ≡ Some q → package_named s.packages q ≡ Some p → is_locked p ≡ false
     → export (x ∷ rest) s ≡ cond (not (list_all (λ y. finds_this s.packages p y.0 y.1) ys)) (Err NOT_ACCESSIBLE) (changed s (after_exports s.packages p ys))
 export_open s x rest ys q p kind given named free =
-    opened (λ xs m. unlocked m (cond (not (list_all (λ y. finds_this s.packages m y.0 y.1) xs)) (Err NOT_ACCESSIBLE) (changed s (exports s m xs)))) s rest (one_or_each a_symbol x) ys q p kind given named
+    opened (λ xs m. unlocked m (cond (not (list_all (λ y. finds_this s.packages m y.0 y.1) xs)) (Err NOT_ACCESSIBLE) (changed s (after_exports s.packages m xs)))) s rest (one_or_each a_symbol x) ys q p kind given named
     ∙ ap (λ b. cond b (Err PACKAGE_IS_LOCKED) (cond (not (list_all (λ y. finds_this s.packages p y.0 y.1) ys)) (Err NOT_ACCESSIBLE) (changed s (after_exports s.packages p ys)))) free
 
 pub export_is : (s : State) (x : Object) (rest : List Object) (ys : List Symbol) (q p : Name) → one_or_each a_symbol x ≡ Some ys → given_or a_name s.current_package rest ≡ Some q → package_named s.packages q ≡ Some p → is_locked p ≡ false
@@ -52,7 +52,7 @@ export_not_found s x rest ys q p kind given named free lost =
 pub import_is : (s : State) (x : Object) (rest : List Object) (ys : List Symbol) (q p : Name) → one_or_each a_symbol x ≡ Some ys → given_or a_name s.current_package rest ≡ Some q → package_named s.packages q ≡ Some p → is_locked p ≡ false
     → import (x ∷ rest) s ≡ changed s (after_imports s.packages p ys)
 import_is s x rest ys q p kind given named free =
-    opened (λ xs m. unlocked m (changed s (imports s m xs))) s rest (one_or_each a_symbol x) ys q p kind given named ∙ ap (λ b. cond b (Err PACKAGE_IS_LOCKED) (changed s (after_imports s.packages p ys))) free
+    opened (λ xs m. unlocked m (changed s (after_imports s.packages m xs))) s rest (one_or_each a_symbol x) ys q p kind given named ∙ ap (λ b. cond b (Err PACKAGE_IS_LOCKED) (changed s (after_imports s.packages p ys))) free
 
 use_open : (s : State) (x : Object) (rest : List Object) (ns qs : List Name) (q p : Name) → one_or_each a_name x ≡ Some ns → given_or a_name s.current_package rest ≡ Some q → packages_named s.packages ns ≡ Some qs → package_named s.packages q ≡ Some p
     → is_locked p ≡ false → use_package (x ∷ rest) s ≡ cond (list_any (bytes_eq keyword) qs) (Err PACKAGE_IS_LOCKED) (changed s (after_uses s.packages p qs))

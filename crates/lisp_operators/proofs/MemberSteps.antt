@@ -17,7 +17,7 @@ use Rattle.package_table.proofs.Names.{none_some}
 use Rattle.lisp_operators.specs.Kinds.{one_or_each}
 use Rattle.lisp_operators.specs.Members.{each_in, name_in}
 use Rattle.lisp_operators.specs.Packages.{packages_named}
-use Rattle.lisp_operators.proofs.MemberLists.{members_or_each, no_more, same_members}
+use Rattle.lisp_operators.proofs.MemberLists.{no_more}
 
 module _ {A : Type 0} (kind : Object → Option A) where
   first_none : (o : Option A) (r : Option (List A)) → None ≡ o → option_and_then (λ y. option_map (λ ys. y ∷ ys) r) o ≡ None

@@ -86,8 +86,7 @@ export _ s = Err ARGUMENT_KIND
 abbrev pub import : List Object → State → Outcome Object
 import (x ∷ rest) s =
     of_kind (one_or_each a_symbol x) (λ xs. of_kind (given_or a_name s.current_package rest) (λ q.
-    in_package s q (λ p. unlocked p
-    changed s (after_imports s.packages p xs))))
+    in_package s q (λ p. unlocked p (changed s (after_imports s.packages p xs)))))
 import _ s = Err ARGUMENT_KIND
 
 -- the packages of these names, all of them
