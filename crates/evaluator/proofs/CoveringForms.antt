@@ -56,8 +56,8 @@ module _ (names : List Name) where
     all_refused = λ s code _. record { covered = tt };
     itself = λ s x _. record { covered = λ all. all };
     nothing = λ s asked _. record { covered = λ all. all };
-    package = λ s asked _. record { covered = λ all. all };
-    readtable = λ s asked _. record { covered = λ all. all };
+    current_package = λ s asked _. record { covered = λ all. all };
+    current_readtable = λ s asked _. record { covered = λ all. all };
     none = λ s asked _. record { covered = λ all. all };
     parts = λ s a b _. (tt, tt);
     one_more = λ s o others is each. keeps_then names s o _ is (λ y t. keeps_then names t (others t) _ (each t (λ _ _. tt)) (λ ys end'. record { covered = λ all. all }));

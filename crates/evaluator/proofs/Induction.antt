@@ -80,8 +80,8 @@ module _ (names : List Name) (Asks : State → Object → Type 0) (One : State �
     pub all_refused : (s : State) (code : ℕ) → IsNumber code → All s (Err code)
     pub itself : (s : State) (x : Object) → Asks s x → One s (gives x s)
     pub nothing : (s : State) (asked : Object) → Asks s asked → One s (gives nil s)
-    pub package : (s : State) (asked : Object) → Asks s asked → One s (gives (text s.current_package) s)
-    pub readtable : (s : State) (asked : Object) → Asks s asked → One s (gives (a_keyword_of s.current_readtable) s)
+    pub current_package : (s : State) (asked : Object) → Asks s asked → One s (gives (text s.current_package) s)
+    pub current_readtable : (s : State) (asked : Object) → Asks s asked → One s (gives (a_keyword_of s.current_readtable) s)
     pub none : (s : State) (asked : Object) → Asks s asked → All s (gives [] s)
     pub parts : (s : State) (a b : Object) → Asks s (pair a b) → Asks s a × Asks s b
     -- a value, and then others; values, and then others
@@ -195,8 +195,8 @@ module _ (names : List Name) (Asks : State → Object → Type 0) (One : State �
     of_symbol : (s : State) (home name : List ℕ) → Asks s (symbol home name) → One s (symbol_value home name s)
     of_symbol s home name asks =
         if_one s (bytes_eq home keyword || is_standard (codes "T") (symbol home name) || is_standard (codes "NIL") (symbol home name)) _ _ (steps.itself s (symbol home name) asks)
-        (if_one s (is_standard (codes "*PACKAGE*") (symbol home name)) _ _ (steps.package s (symbol home name) asks)
-        (if_one s (is_standard (codes "*READTABLE*") (symbol home name)) _ _ (steps.readtable s (symbol home name) asks) (steps.refused s _ (omega arith, omega arith))))
+        (if_one s (is_standard (codes "*PACKAGE*") (symbol home name)) _ _ (steps.current_package s (symbol home name) asks)
+        (if_one s (is_standard (codes "*READTABLE*") (symbol home name)) _ _ (steps.current_readtable s (symbol home name) asks) (steps.refused s _ (omega arith, omega arith))))
 
     mutual
       unfolding value

@@ -52,8 +52,8 @@ module _ (names : List Name) where
     all_refused = λ s code is. record { number = is };
     itself = λ s x _. record { number = tt };
     nothing = λ s asked _. record { number = tt };
-    package = λ s asked _. record { number = tt };
-    readtable = λ s asked _. record { number = tt };
+    current_package = λ s asked _. record { number = tt };
+    current_readtable = λ s asked _. record { number = tt };
     none = λ s asked _. record { number = tt };
     parts = λ s a b _. (tt, tt);
     one_more = λ s o others is each. numbered_then o _ is (λ y t. numbered_then (others t) _ (each t (λ _ _. tt)) (λ ys end'. record { number = tt }));

@@ -75,8 +75,8 @@ module _ (names : List Name) (all : AreFunctionNames names) where
     all_refused = λ s code _. record { good = tt };
     itself = λ s x asks. goods_here IsValue s x false asks.0 asks.1;
     nothing = λ s asked asks. goods_here IsValue s nil false asks.0 (nil_value s.packages asks.0.packages);
-    package = λ s asked asks. goods_here IsValue s (text s.current_package) false asks.0 (text_value s.packages s.current_package (asks.0.packages.within.package_names s.current_package asks.0.current_package).ascii);
-    readtable = λ s asked asks. goods_here IsValue s (a_keyword_of s.current_readtable) false asks.0 (symbol_is_value s.packages keyword s.current_readtable asks.0.packages (asks.0.readtables.names s.current_readtable asks.0.current_readtable));
+    current_package = λ s asked asks. goods_here IsValue s (text s.current_package) false asks.0 (text_value s.packages s.current_package (asks.0.packages.within.package_names s.current_package asks.0.current_package).ascii);
+    current_readtable = λ s asked asks. goods_here IsValue s (a_keyword_of s.current_readtable) false asks.0 (symbol_is_value s.packages keyword s.current_readtable asks.0.packages (asks.0.readtables.names s.current_readtable asks.0.current_readtable));
     none = λ s asked asks. goods_here AreValues s [] false asks.0 (All-nil (IsValue s.packages));
     parts = λ s a b asks. let both = value_parts s.packages a b asks.1 in ((asks.0, both.0), (asks.0, both.1));
     one_more = λ s o others is each. goods_then IsValue AreValues s o _ is (λ y t sound grows fits. cons_safe t y (others t) fits (each t (stays s t sound grows)));
