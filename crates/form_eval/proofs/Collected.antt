@@ -14,7 +14,7 @@ use Rattle.package_table.specs.declared.error.PackageError.{PackageError}
 use Rattle.package_table.specs.declared.error.PackageError.TheVariants.{NoPackage, NotExternal, LockedPackage, EmptyName, NoSuchPackage, PackageExists, PackageIsLocked, NameConflict, NotAccessible, Limit, OutOfMemory}
 use Rattle.package_table.specs.Table.{Name, Table, Package, Entry, IsPresent, common_lisp, symbol_count}
 use Rattle.package_table.specs.Limits.{most_symbols, longest_symbol_name}
-use Rattle.package_table.specs.Changes.{Gives, RunsOutOnlyIf, intern_changes, with_new_symbol}
+use Rattle.package_table.specs.Changes.{Gives, intern_changes, with_new_symbol}
 use Rattle.package_table.proofs.Found.{present_found}
 use Rattle.form_eval.specs.Acceptance.{symbols, table_of, after_symbol}
 
@@ -50,20 +50,6 @@ interned_gives view NotAccessible r h = ap table_of h
 interned_gives view Limit r h = ap table_of h
 interned_gives view OutOfMemory (Ok p) h = h
 interned_gives view OutOfMemory (Err e) h = absurd cc
-
--- where the packages would change, memory may run out
-pub runs_out : (changes : Bool) (e : PackageError) → changes ≡ true → RunsOutOnlyIf changes e
-runs_out changes NoPackage is = tt
-runs_out changes NotExternal is = tt
-runs_out changes LockedPackage is = tt
-runs_out changes EmptyName is = tt
-runs_out changes NoSuchPackage is = tt
-runs_out changes PackageExists is = tt
-runs_out changes PackageIsLocked is = tt
-runs_out changes NameConflict is = tt
-runs_out changes NotAccessible is = tt
-runs_out changes Limit is = tt
-runs_out changes OutOfMemory is = is
 
 -- the last of some marks
 pub marked_last : {X : Type 0} (xs : List X) (x : X) → slice_get (xs ++ x ∷ []) (length xs) ≡ Some x

@@ -25,14 +25,15 @@ use Rattle.plist_state.specs.State.{State}
 use Rattle.plist_state.specs.Changes.{with_packages}
 use Rattle.plist_state.specs.Sound.{IsSymbol, IsKnown, IsValue, IsSound}
 use Rattle.plist_state.proofs.Soundness.{sound_packages}
-use Rattle.form_eval.specs.Outcomes.{Done}
-use Rattle.form_eval.specs.Packages.{one_by_one, then_others}
-use Rattle.form_eval.specs.Value.{value}
+use Rattle.lisp_operators.specs.Outcomes.{Done}
+use Rattle.lisp_operators.specs.Packages.{one_by_one, then_others}
+use Rattle.evaluator.specs.Value.{value}
 use Rattle.form_eval.specs.Acceptance.{symbols, table_of, after_symbol, with_symbols, accepted, accept}
-use Rattle.form_eval.specs.Laws.{AreFunctionNames, Fits, IsForm, IsSoundAfter}
-use Rattle.form_eval.proofs.Good.{Goods, goods_also}
-use Rattle.form_eval.proofs.Unmoved.{passed, same_ok}
-use Rattle.form_eval.proofs.SoundForms.{value_safe}
+use Rattle.lisp_operators.specs.Readtables.{AreFunctionNames}
+use Rattle.form_eval.specs.Laws.{Fits, IsForm, IsSoundAfter}
+use Rattle.lisp_operators.proofs.Good.{Goods, goods_also}
+use Rattle.lisp_operators.proofs.Unmoved.{passed, same_ok}
+use Rattle.evaluator.proofs.SoundForms.{value_safe}
 
 -- a symbol that can be interned: its home finds no other by its name, which is of characters below 128
 pub record CanIntern (u : Table) (y : Symbol) : Type 0 where

@@ -8,9 +8,9 @@ use Rattle.package_table.specs.Changes.{after_intern, intern_changes}
 use Rattle.plist_state.specs.Properties.{Symbol}
 use Rattle.plist_state.specs.State.{State}
 use Rattle.plist_state.specs.Changes.{with_packages}
-use Rattle.form_eval.specs.Outcomes.{Outcome, also}
-use Rattle.form_eval.specs.Packages.{one_by_one}
-use Rattle.form_eval.specs.Value.{value}
+use Rattle.lisp_operators.specs.Outcomes.{Outcome, also}
+use Rattle.lisp_operators.specs.Packages.{one_by_one}
+use Rattle.evaluator.specs.Value.{value}
 
 -- the interned symbols of an object, from left to right
 abbrev pub symbols : Object → List Symbol

@@ -1,23 +1,13 @@
 -- What is asked of a form, and what an accepted form leaves.
-use Rattle.std.specs.Prelude.{◌≡◌, ◌≤◌, true, IsTrue, List, All, length, Some}
-use Rattle.std.specs.List.{list_all}
-use Rattle.std.specs.FinMap as finite
+use Rattle.std.specs.Prelude.{◌≡◌, ◌≤◌, length, Some}
 use Rattle.lisp_object.specs.Object as object
 use Rattle.lisp_object.specs.Object.{Object, symbol, uninterned, AllAtoms, object_depth}
-use Rattle.readtable_core.specs.Names.{is_function_name}
-use Rattle.readtable_core.specs.Named.{functions_of}
-use Rattle.readtable_core.specs.Tables as readtable
 use Rattle.package_table.specs.Table.{Name, Table}
 use Rattle.package_table.specs.Lookup.{found}
 use Rattle.package_table.specs.Growth.{Grows}
-use Rattle.plist_state.specs.State.{Readtables, State}
+use Rattle.plist_state.specs.State.{State}
 use Rattle.plist_state.specs.Sound.{IsSound, IsValue}
-use Rattle.user_macros.specs.Registry.{is_covered}
-use Rattle.form_eval.specs.Outcomes.{Done}
-
--- the names of macro functions
-abbrev pub AreFunctionNames : List Name → Type 0
-AreFunctionNames names = All (λ f. IsTrue (is_function_name f)) names
+use Rattle.lisp_operators.specs.Outcomes.{Done}
 
 -- The home of an interned symbol finds no other symbol by its name, and the name of an uninterned one has at most 4,096
 -- characters.
@@ -37,7 +27,3 @@ pub record IsSoundAfter (s : State) (d : Done Object) : Type 0 where
   pub sound : IsSound d.state
   pub grows : Grows s.packages d.state.packages
   pub value : IsValue d.state.packages d.value
-
--- each function that one of these readtables names is standard, STD-DISPATCH or one of these names
-abbrev pub AreCovered : List Name → Readtables → Type 0
-AreCovered names m = (n : Name) (t : readtable.Table) → finite.get m n ≡ Some t → list_all (is_covered names) (functions_of t) ≡ true

@@ -1,16 +1,2 @@
-pub mod Errors
-pub mod Evaluated
-pub mod Outcomes
-pub mod Kinds
-pub mod Properties
-pub mod Packages
-pub mod Readtables
-pub mod Operators
-pub mod Value
 pub mod Acceptance
 pub mod Laws
-pub mod Operations
-pub mod Gathered
-pub mod Members
-pub mod AtOnce
-pub mod Memory

@@ -1,14 +1,13 @@
 //! What holds of every form, for proofs.
-ghost use Rattle.std.specs.Prelude.{◌≡◌, ◌≤◌, ℕ, false, List, None, Ok, Err};
+ghost use Rattle.std.specs.Prelude.{◌≡◌, ◌≤◌, ℕ, false, List, Ok, Err};
 ghost use Rattle.lisp_object.specs.Object.{Object};
 ghost use Rattle.package_table.specs.Table.{Name};
 ghost use Rattle.plist_state.specs.State.{State};
 ghost use Rattle.plist_state.specs.Sound.{IsSound};
-ghost use Rattle.form_eval.specs.Outcomes.{Done};
+ghost use Rattle.lisp_operators.specs.Outcomes.{Done};
 ghost use Rattle.form_eval.specs.Acceptance.{accept};
-ghost use Rattle.form_eval.specs.AtOnce.{at_once};
-ghost use Rattle.form_eval.specs.Laws.{AreCovered, AreFunctionNames, IsForm, IsSoundAfter};
-ghost use Rattle.form_eval.specs.Memory.{RunsOut};
+ghost use Rattle.lisp_operators.specs.Readtables.{AreCovered, AreFunctionNames};
+ghost use Rattle.form_eval.specs.Laws.{IsForm, IsSoundAfter};
 
 /// A form that is accepted and does not write leaves the state of the world as it was. For proofs: it does nothing.
 pub fn silent_forms_change_nothing()
@@ -33,9 +32,4 @@ pub fn accepted_readtables_are_covered()
 /// A form is refused under a number of evaluation alone, 30 to 46. For proofs: it does nothing.
 pub fn refusals_are_of_evaluation()
     ensures { (names : List Name) (s : State) (x : Object) (code : ℕ) → accept names s x ≡ Err code → (30 ≤ code) × (code ≤ 46) }
-{}
-
-/// Where memory ran out in the evaluation of a form, the form is not refused at once. For proofs: it does nothing.
-pub fn memory_runs_out_after_refusals_at_once()
-    ensures { (names : List Name) (s end : State) (x : Object) → RunsOut names s x end → at_once names s x ≡ None }
 {}

@@ -2,9 +2,7 @@ use Rattle.std.proofs.Common.{sym, subst, ap, ◌∙◌}
 use Rattle.lisp_object.specs.Datum.{object_of}
 use Rattle.plist_state.specs.State.{Worlds}
 use Rattle.form_eval.specs.Laws.{IsForm}
-use Rattle.form_eval.specs.AtOnce.{refused_at_once}
-use Rattle.form_eval.proofs.AtOnceForms.{once_number}
-use Rattle.form_eval.proofs.SilentForms.{accepted_silent}
+use Rattle.form_eval.proofs.Accepted.{accepted_silent}
 use Rattle.form_eval.proofs.transaction.accept.Goals as goal
 
 pub returns-in-Ok-run-clause-silent : goal.returns-in-Ok-run-clause-silent
@@ -15,7 +13,3 @@ returns-in-Ok-run-clause-silent g c = λ silent.
 pub run-requires-clause-form : goal.run-requires-clause-form
 run-requires-clause-form g c =
     subst (λ (w : Worlds). IsForm w.0.packages (object_of c.args.form.now)) (sym c.in_ok-mark.ensures.ok.1) c.requires.form
-
-pub returns-in-Err-clause-memory : goal.returns-in-Err-clause-memory
-returns-in-Err-clause-memory g c =
-    once_number (refused_at_once g.M.Meaning.functions.names c.args.world.now.0 (object_of c.args.form.now)) c.in-Err.error (c.in-Err.ensures.at_once g.M.Meaning.functions.names)

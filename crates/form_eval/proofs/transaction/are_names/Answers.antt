@@ -2,7 +2,7 @@ use Rattle.std.proofs.Common.{IsTrue, subst, arith}
 use Rattle.std.proofs.lemmas.List.{take_all}
 use Rattle.std.proofs.lemmas.List.Elements.{All-more}
 use Rattle.readtable_core.specs.Names.{is_function_name}
-use Rattle.form_eval.specs.Laws.{AreFunctionNames}
+use Rattle.lisp_operators.specs.Readtables.{AreFunctionNames}
 use Rattle.form_eval.proofs.transaction.are_names.Goals as goal
 
 pub loop-name-preserved : goal.loop-name-preserved

@@ -1,5 +1,5 @@
 use Rattle.std.proofs.Common.{take}
-use Rattle.form_eval.specs.Laws.{AreFunctionNames}
+use Rattle.lisp_operators.specs.Readtables.{AreFunctionNames}
 use Rattle.form_eval.proofs.transaction.are_names.Given as goal
 
 abbrev pub invariant-loop-name : goal.invariant-loop-name

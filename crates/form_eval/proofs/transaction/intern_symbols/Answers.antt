@@ -2,9 +2,7 @@ use Rattle.std.proofs.Common.{◌≡◌, ◌<◌, ℕ, List, All, map, Bor, sym,
 use Rattle.lisp_object.specs.Datum.{object_of}
 use Rattle.plist_state.specs.Properties.{Symbol}
 use Rattle.form_eval.specs.Acceptance.{symbols, with_symbols}
-use Rattle.form_eval.specs.Evaluated.{MayMake}
-use Rattle.form_eval.proofs.Known.{known_symbols}
-use Rattle.form_eval.proofs.RunningOut.{makes_may}
+use Rattle.lisp_operators.specs.Evaluated.{Makes}
 use Rattle.form_eval.proofs.SoundSymbols.{symbols_can, ascii_of, all_of_mapped}
 use Rattle.form_eval.proofs.transaction.intern_symbols.Goals as goal
 
@@ -17,14 +15,10 @@ intern_all-requires c =
     let x = object_of c.args.form.now in
     let same : map seen c.as_slice.result.now ≡ symbols x = ap (map seen) c.as_slice.ensures.value ∙ c.in_ok-symbols.ensures in
     all_of_mapped (λ (y : Symbol). All (λ b. b < 128) y.1) seen c.as_slice.result.now
-    (subst (All (λ (y : Symbol). All (λ b. b < 128) y.1)) (sym same) (ascii_of u (symbols x) (symbols_can u x c.requires.form.object c.requires.form.symbols)))
-
-pub returns-then-known-clause-gives : goal.returns-then-known-clause-gives
-returns-then-known-clause-gives c = known_symbols c.args.world.now.0.packages (symbols (object_of c.args.form.now)) (sym c.requires.known ∙ c.if-known.true)
+    (subst (All (λ (y : Symbol). All (λ b. b < 128) y.1)) (sym same) (ascii_of u (symbols x) (symbols_can u x c.requires.object c.requires.symbols)))
 
 pub returns-clause-gives : goal.returns-clause-gives
 returns-clause-gives c =
     let u = c.args.world.now.0.packages in
     let same : map seen c.as_slice.result.now ≡ symbols (object_of c.args.form.now) = ap (map seen) c.as_slice.ensures.value ∙ c.in_ok-symbols.ensures in
-    let made = c.intern_all.new.world.0.packages in
-    subst (λ xs. MayMake u (with_symbols u) xs c.intern_all.result made) same (makes_may u made (with_symbols u) (map seen c.as_slice.result.now) c.intern_all.result c.intern_all.ensures.gives)
+    subst (λ xs. Makes c.intern_all.result c.intern_all.new.world.0.packages (with_symbols u xs)) same c.intern_all.ensures.gives

@@ -1,0 +1,424 @@
+-- What the evaluator's calls answer, of the forms that they are handed.
+--     symbol_form, constant_form, uninterned_form      atoms
+--     head_at, arguments_proper, arguments_count, head_form, head_refused      a list by its head
+--     quote_left, ordinary_is, place_refused, gathered_refused, performed      operators
+--     plain_gathered, arguments_from, place_given, place_first, before_given      what operators take
+--     choice_refused, choice_true, choice_none, choice_other      IF
+use Rattle.std.proofs.Common.{◌≡◌, ◌<◌, ◌≤◌, ◌-◌, ℕ, Bool, true, false, cond, not, ◌||◌, ◌&&◌, suc, zero, List, [], ◌∷◌, ◌++◌, Result, Ok, Err, Option, Some, None, map, length, drop, get_or, refl, sym, ap, subst, ◌∙◌, arith}
+use Rattle.std.proofs.lemmas.Bool.{false≢true, and_parts}
+use Rattle.std.proofs.lemmas.List.{length-map}
+use Rattle.lisp_object.specs.declared.datum.Datum
+use Rattle.lisp_object.specs.declared.datum.Datum.{Datum}
+use Rattle.lisp_object.specs.declared.refusal.TheConstants.{NOT_A_FORM, ARGUMENT_KIND}
+use Rattle.lisp_object.specs.Object.{Object, integer, rational, character, text, vector, symbol, uninterned, pair, nil, pairs, list_of, is_proper_list, object_is_list}
+use Rattle.lisp_object.specs.Datum.{object_of, is_proper, is_list}
+use Rattle.lisp_object.proofs.Objects.{object_of-Symbol, object_of-Uninterned, object_of-List, object_of-dotted}
+use Rattle.lisp_object.proofs.ProperLists.{proper_pairs, items_of_proper, tail_of_proper, no_list_object}
+use Rattle.package_table.specs.Table.{Name}
+use Rattle.plist_state.specs.State.{State}
+use Rattle.lisp_operators.specs.declared.error.EvaluationError.{EvaluationError}
+use Rattle.lisp_operators.specs.declared.error.EvaluationError.TheVariants.{Refused, OutOfMemory}
+use Rattle.lisp_operators.specs.declared.evaluated.Evaluated.{Evaluated}
+use Rattle.evaluator.specs.declared.values.Values.{Values}
+use Rattle.evaluator.specs.declared.operation.Operation.{Operation}
+use Rattle.evaluator.specs.declared.operation.Operation.TheVariants.{Quote, Progn, If, MakeList, Get, Setf, Remprop, SymbolPlist, Incf, Push, MakePackage, InPackage, Export, Import, UsePackage, Intern, CopyReadtable, InReadtable, SetSyntaxFromChar, SetMacroCharacter, GetMacroCharacter, MakeDispatchMacroCharacter, SetDispatchMacroCharacter, GetDispatchMacroCharacter, ReadtableCase}
+use Rattle.lisp_operators.specs.Kinds.{a_symbol, is_pair, is_true}
+use Rattle.lisp_operators.specs.Properties.{set}
+use Rattle.lisp_operators.specs.Readtables.{set_case}
+use Rattle.lisp_operators.specs.Outcomes.{Outcome, gives, also, and_then}
+use Rattle.evaluator.specs.Operators.{count, first}
+use Rattle.evaluator.specs.Value.{value, values, choice, other_value, values_at_place, values_before_place, symbol_value, action_value, unless, is_case_place, rest}
+use Rattle.evaluator.specs.Operations.{action_of, is_ordinary, function_of}
+use Rattle.lisp_operators.specs.Evaluated.{Answers, done}
+use Rattle.evaluator.specs.Gathered.{all_done}
+use Rattle.evaluator.specs.Gathered.{arguments_of, parts, followed, subforms, gathered, refusal_of_place, is_case, IsHead, IsRefusal}
+use Rattle.evaluator.proofs.Steps.{value_symbol, value_constant, value_uninterned, is_constant, followed_start}
+
+-- ---- atoms
+pub symbol_form : (names : List Name) (s : State) (d : Datum) (home name : Name) (r : Result Evaluated EvaluationError) → d ≡ Datum.Symbol home name
+    → ((h n : Name) → a_symbol (object_of d) ≡ Some (h, n) → Answers done r s (symbol_value h n s)) → Answers done r s (value names s (object_of d))
+symbol_form names s d home name r is each =
+    let same : object_of d ≡ symbol home name = ap object_of is ∙ object_of-Symbol home name in
+    subst (Answers done r s) (sym (ap (value names s) same ∙ value_symbol names s home name)) (each home name (ap a_symbol same))
+
+pub constant_form : (names : List Name) (s : State) (d : Datum) (r : Result Evaluated EvaluationError) → is_constant (object_of d) ≡ true
+    → ((t : State) → Answers done r t (gives (object_of d) t)) → Answers done r s (value names s (object_of d))
+constant_form names s d r is each =
+    subst (Answers done r s) (sym (value_constant names s (object_of d) is)) (each s)
+
+pub uninterned_form : (names : List Name) (s : State) (d : Datum) (name : Name) → d ≡ Datum.Uninterned name → value names s (object_of d) ≡ Err NOT_A_FORM
+uninterned_form names s d name is = ap (λ z. value names s (object_of z)) is ∙ ap (value names s) (object_of-Uninterned name) ∙ value_uninterned names s name
+
+-- ---- a list by its head
+pub head_at : (items xs : List Datum) (x : Datum) → xs ≡ items → 0 < length items → x ≡ get_or xs 0 x → list_of (map object_of items) ≡ pair (object_of x) (arguments_of (map object_of xs))
+head_at items [] x same some is = absurd (let none : length items ≡ 0 = ap length (sym same) in omega arith)
+head_at items (y ∷ ys) x same some is = ap (λ l. list_of (map object_of l)) (sym same) ∙ ap (λ d. pair (object_of d) (pairs (map object_of ys) nil)) (sym is)
+
+pub arguments_proper : (xs : List Datum) → is_proper_list (arguments_of (map object_of xs)) ≡ true
+arguments_proper [] = refl
+arguments_proper (x ∷ xs) = proper_pairs (map object_of xs)
+
+count_pairs : (xs : List Object) → count (pairs xs nil) ≡ length xs
+count_pairs [] = refl
+count_pairs (x ∷ xs) = let e : count (pairs xs nil) ≡ length xs = count_pairs xs in omega arith
+
+pub arguments_count : (xs : List Datum) → count (arguments_of (map object_of xs)) ≡ length xs - 1
+arguments_count [] = refl
+arguments_count (x ∷ xs) = let e : count (pairs (map object_of xs) nil) ≡ length xs = count_pairs (map object_of xs) ∙ length-map xs object_of in omega arith
+
+-- the value of a list that is headed by x
+pub head_form : (names : List Name) (s : State) (items xs : List Datum) (x : Datum) (operation : Operation) → xs ≡ items → 0 < length items → x ≡ get_or xs 0 x → IsHead names (object_of x) (length xs - 1) (Ok operation)
+    → value names s (list_of (map object_of items)) ≡ action_value s (action_of names operation) (arguments_of (map object_of xs)) (parts names s (arguments_of (map object_of xs)))
+head_form names s items xs x operation same some is head =
+    ap (value names s) (head_at items xs x same some is) ∙ head s (arguments_of (map object_of xs)) (arguments_proper xs) (arguments_count xs)
+
+pub head_refused : (names : List Name) (s t : State) (items xs : List Datum) (x : Datum) (e : EvaluationError) → xs ≡ items → 0 < length items → x ≡ get_or xs 0 x → IsHead names (object_of x) (length xs - 1) (Err e)
+    → Answers done (Err e) t (value names s (list_of (map object_of items)))
+head_refused names s t items xs x (Refused code) same some is head =
+    ap (value names s) (head_at items xs x same some is) ∙ head s (arguments_of (map object_of xs)) (arguments_proper xs) (arguments_count xs)
+head_refused names s t items xs x OutOfMemory same some is head = tt
+
+-- ---- operators
+pub quote_left : (operation : Operation) → is_ordinary operation ≡ false → (operation ≡ If → ⊥) → (operation ≡ InPackage → ⊥) → operation ≡ Quote
+quote_left Quote e f g = refl
+quote_left Progn e f g = absurd (false≢true (sym e))
+quote_left If e f g = absurd (f refl)
+quote_left MakeList e f g = absurd (false≢true (sym e))
+quote_left Get e f g = absurd (false≢true (sym e))
+quote_left Setf e f g = absurd (false≢true (sym e))
+quote_left Remprop e f g = absurd (false≢true (sym e))
+quote_left SymbolPlist e f g = absurd (false≢true (sym e))
+quote_left Incf e f g = absurd (false≢true (sym e))
+quote_left Push e f g = absurd (false≢true (sym e))
+quote_left MakePackage e f g = absurd (false≢true (sym e))
+quote_left InPackage e f g = absurd (g refl)
+quote_left Export e f g = absurd (false≢true (sym e))
+quote_left Import e f g = absurd (false≢true (sym e))
+quote_left UsePackage e f g = absurd (false≢true (sym e))
+quote_left Intern e f g = absurd (false≢true (sym e))
+quote_left CopyReadtable e f g = absurd (false≢true (sym e))
+quote_left InReadtable e f g = absurd (false≢true (sym e))
+quote_left SetSyntaxFromChar e f g = absurd (false≢true (sym e))
+quote_left SetMacroCharacter e f g = absurd (false≢true (sym e))
+quote_left GetMacroCharacter e f g = absurd (false≢true (sym e))
+quote_left MakeDispatchMacroCharacter e f g = absurd (false≢true (sym e))
+quote_left SetDispatchMacroCharacter e f g = absurd (false≢true (sym e))
+quote_left GetDispatchMacroCharacter e f g = absurd (false≢true (sym e))
+quote_left ReadtableCase e f g = absurd (false≢true (sym e))
+
+case_or_property : (names : List Name) (s : State) (arguments : Object) → action_value s (action_of names Setf) arguments (parts names s arguments)
+    ≡ unless (refusal_of_place Setf arguments) (and_then (gathered names s Setf arguments) (function_of names Setf (is_case Setf arguments)))
+case_or_property names s arguments =
+    elim (is_case_place (first arguments)) as (λ b. unless (refusal_of_place Setf arguments) (and_then (values_at_place names s arguments) (cond b set_case set)) ≡ unless (refusal_of_place Setf arguments) (and_then (values_at_place names s arguments) (λ xs t. cond b (set_case xs t) (set xs t)))) [ true ↦ refl | false ↦ refl ]
+
+pub ordinary_is : (names : List Name) (operation : Operation) (s : State) (arguments : Object) → is_ordinary operation ≡ true → action_value s (action_of names operation) arguments (parts names s arguments)
+    ≡ unless (refusal_of_place operation arguments) (and_then (gathered names s operation arguments) (function_of names operation (is_case operation arguments)))
+ordinary_is names Quote s arguments e = absurd (false≢true e)
+ordinary_is names Progn s arguments e = refl
+ordinary_is names If s arguments e = absurd (false≢true e)
+ordinary_is names MakeList s arguments e = refl
+ordinary_is names Get s arguments e = refl
+ordinary_is names Setf s arguments e = case_or_property names s arguments
+ordinary_is names Remprop s arguments e = refl
+ordinary_is names SymbolPlist s arguments e = refl
+ordinary_is names Incf s arguments e = refl
+ordinary_is names Push s arguments e = refl
+ordinary_is names MakePackage s arguments e = refl
+ordinary_is names InPackage s arguments e = absurd (false≢true e)
+ordinary_is names Export s arguments e = refl
+ordinary_is names Import s arguments e = refl
+ordinary_is names UsePackage s arguments e = refl
+ordinary_is names Intern s arguments e = refl
+ordinary_is names CopyReadtable s arguments e = refl
+ordinary_is names InReadtable s arguments e = refl
+ordinary_is names SetSyntaxFromChar s arguments e = refl
+ordinary_is names SetMacroCharacter s arguments e = refl
+ordinary_is names GetMacroCharacter s arguments e = refl
+ordinary_is names MakeDispatchMacroCharacter s arguments e = refl
+ordinary_is names SetDispatchMacroCharacter s arguments e = refl
+ordinary_is names GetDispatchMacroCharacter s arguments e = refl
+ordinary_is names ReadtableCase s arguments e = refl
+
+pub place_refused : (refusal : Option ℕ) (e : EvaluationError) (t : State) (o : Outcome Object) → IsRefusal {A = Bool} refusal (Err e) → Answers done (Err e) t (unless refusal o)
+place_refused refusal (Refused code) t o h = ap (λ r. unless r o) h
+place_refused refusal OutOfMemory t o h = tt
+
+pub gathered_refused : (e : EvaluationError) (t u : State) (refusal : Option ℕ) (o : Outcome (List Object)) (next : List Object → State → Outcome Object) → refusal ≡ None → Answers all_done (Err e) t o
+    → Answers done (Err e) u (unless refusal (and_then o next))
+gathered_refused (Refused code) t u refusal o next none h = ap (λ r. unless r (and_then o next)) none ∙ ap (λ x. and_then x next) h
+gathered_refused OutOfMemory t u refusal o next none h = tt
+
+pub performed : (r : Result Evaluated EvaluationError) (t u : State) (v : Values) (refusal : Option ℕ) (o : Outcome (List Object)) (next : List Object → State → Outcome Object) → refusal ≡ None → o ≡ Ok (all_done v t)
+    → Answers done r u (also v.wrote (next (map object_of v.values.items) t)) → Answers done r u (unless refusal (and_then o next))
+performed r t u v refusal o next none is h =
+    subst (Answers done r u) (sym (ap (λ k. unless k (and_then o next)) none ∙ ap (λ x. and_then x next) is)) h
+
+-- ---- what operators take
+pub arguments_from : (xs : List Datum) → arguments_of (map object_of xs) ≡ list_of (map object_of (drop 1 xs))
+arguments_from [] = refl
+arguments_from (x ∷ xs) = refl
+
+pub plain_gathered : (names : List Name) (s : State) (operation : Operation) (arguments : Object) → (operation ≡ Setf → ⊥) → (operation ≡ Incf → ⊥) → (operation ≡ Push → ⊥)
+    → gathered names s operation arguments ≡ values names s arguments
+plain_gathered names s Quote arguments e f g = refl
+plain_gathered names s Progn arguments e f g = refl
+plain_gathered names s If arguments e f g = refl
+plain_gathered names s MakeList arguments e f g = refl
+plain_gathered names s Get arguments e f g = refl
+plain_gathered names s Setf arguments e f g = absurd (e refl)
+plain_gathered names s Remprop arguments e f g = refl
+plain_gathered names s SymbolPlist arguments e f g = refl
+plain_gathered names s Incf arguments e f g = absurd (f refl)
+plain_gathered names s Push arguments e f g = absurd (g refl)
+plain_gathered names s MakePackage arguments e f g = refl
+plain_gathered names s InPackage arguments e f g = refl
+plain_gathered names s Export arguments e f g = refl
+plain_gathered names s Import arguments e f g = refl
+plain_gathered names s UsePackage arguments e f g = refl
+plain_gathered names s Intern arguments e f g = refl
+plain_gathered names s CopyReadtable arguments e f g = refl
+plain_gathered names s InReadtable arguments e f g = refl
+plain_gathered names s SetSyntaxFromChar arguments e f g = refl
+plain_gathered names s SetMacroCharacter arguments e f g = refl
+plain_gathered names s GetMacroCharacter arguments e f g = refl
+plain_gathered names s MakeDispatchMacroCharacter arguments e f g = refl
+plain_gathered names s SetDispatchMacroCharacter arguments e f g = refl
+plain_gathered names s GetDispatchMacroCharacter arguments e f g = refl
+plain_gathered names s ReadtableCase arguments e f g = refl
+
+pub plain_extended : (names : List Name) (s t : State) (operation : Operation) (xs : List Datum) (vs : List Datum) (w : Bool) (r : Result Values EvaluationError) → (operation ≡ Setf → ⊥) → (operation ≡ Incf → ⊥) → (operation ≡ Push → ⊥)
+    → vs ≡ [] → w ≡ false → Answers all_done r t (followed names (map object_of vs) w s (list_of (map object_of (drop 1 xs)))) → Answers all_done r t (gathered names s operation (arguments_of (map object_of xs)))
+plain_extended names s t operation xs vs w r e f g none nothing h =
+    subst (Answers all_done r t)
+    (ap (λ l. followed names (map object_of l) w s (list_of (map object_of (drop 1 xs)))) none ∙ ap (λ b. followed names [] b s (list_of (map object_of (drop 1 xs)))) nothing
+    ∙ followed_start names s (list_of (map object_of (drop 1 xs))) ∙ ap (values names s) (sym (arguments_from xs)) ∙ sym (plain_gathered names s operation (arguments_of (map object_of xs)) e f g)) h
+
+-- the first of the arguments, and the first two
+pub one_argument : (items : List Datum) (x : Datum) → 2 ≤ length items → x ≡ get_or items 1 x → arguments_of (map object_of items) ≡ pair (object_of x) (list_of (map object_of (drop 2 items)))
+one_argument [] x some is = absurd (omega arith)
+one_argument (a ∷ []) x some is = absurd (omega arith)
+one_argument (a ∷ b ∷ bs) x some is = ap (λ d. pair (object_of d) (list_of (map object_of bs))) (sym is)
+
+pub two_arguments : (items : List Datum) (x y : Datum) → 3 ≤ length items → x ≡ get_or items 1 x → y ≡ get_or items 2 y
+    → arguments_of (map object_of items) ≡ pair (object_of x) (pair (object_of y) (list_of (map object_of (drop 3 items))))
+two_arguments [] x y some is then' = absurd (omega arith)
+two_arguments (a ∷ []) x y some is then' = absurd (omega arith)
+two_arguments (a ∷ b ∷ []) x y some is then' = absurd (omega arith)
+two_arguments (a ∷ b ∷ e ∷ es) x y some is then' =
+    ap (λ d. pair (object_of d) (pair (object_of e) (list_of (map object_of es)))) (sym is) ∙ ap (λ d. pair (object_of x) (pair (object_of d) (list_of (map object_of es)))) (sym then')
+
+at_place_of : (names : List Name) (s : State) (p f : Object) → values_at_place names s (pair p f) ≡ and_then (subforms names [] false s p) (λ xs later. and_then (values names later f) (λ ys end'. gives (xs ++ ys) end'))
+unfolding value
+at_place_of names s (pair a b) f = ap (λ o. and_then o (λ xs later. and_then (values names later f) (λ ys end'. gives (xs ++ ys) end'))) (sym (followed_start names s b))
+at_place_of names s (symbol h n) f = refl
+at_place_of names s (uninterned n) f = refl
+at_place_of names s (integer n) f = refl
+at_place_of names s (rational n d) f = refl
+at_place_of names s (character c) f = refl
+at_place_of names s (text b) f = refl
+at_place_of names s (vector xs) f = refl
+
+pub none_before : (names : List Name) (s : State) (p : Object) (vs : List Datum) (w : Bool) → vs ≡ [] → w ≡ false → subforms names (map object_of vs) w s p ≡ subforms names [] false s p
+none_before names s p vs w none nothing = ap (λ l. subforms names (map object_of l) w s p) none ∙ ap (λ b. subforms names [] b s p) nothing
+
+pub place_first : (names : List Name) (s t u : State) (items : List Datum) (x : Datum) (vs : List Datum) (w : Bool) (e : EvaluationError) → 2 ≤ length items → x ≡ get_or items 1 x → vs ≡ [] → w ≡ false
+    → Answers all_done (Err e) t (subforms names (map object_of vs) w s (object_of x)) → Answers all_done (Err e) u (values_at_place names s (arguments_of (map object_of items)))
+place_first names s t u items x vs w (Refused code) some is none nothing h =
+    ap (values_at_place names s) (one_argument items x some is) ∙ at_place_of names s (object_of x) (list_of (map object_of (drop 2 items)))
+    ∙ ap (λ o. and_then o (λ xs later. and_then (values names later (list_of (map object_of (drop 2 items)))) (λ ys end'. gives (xs ++ ys) end'))) (sym (none_before names s (object_of x) vs w none nothing) ∙ h)
+place_first names s t u items x vs w OutOfMemory some is none nothing h = tt
+
+pub place_given : (names : List Name) (s t u : State) (items : List Datum) (x : Datum) (vs : List Datum) (w : Bool) (v : Values) (r : Result Values EvaluationError) → 2 ≤ length items → x ≡ get_or items 1 x → vs ≡ [] → w ≡ false
+    → subforms names (map object_of vs) w s (object_of x) ≡ Ok (all_done v t) → Answers all_done r u (followed names (map object_of v.values.items) v.wrote t (list_of (map object_of (drop 2 items))))
+    → Answers all_done r u (values_at_place names s (arguments_of (map object_of items)))
+place_given names s t u items x vs w v r some is none nothing h after =
+    subst (Answers all_done r u)
+    (sym (ap (values_at_place names s) (one_argument items x some is) ∙ at_place_of names s (object_of x) (list_of (map object_of (drop 2 items)))
+    ∙ ap (λ o. and_then o (λ xs later. and_then (values names later (list_of (map object_of (drop 2 items)))) (λ ys end'. gives (xs ++ ys) end'))) (sym (none_before names s (object_of x) vs w none nothing) ∙ h)))
+    after
+
+-- ---- PUSH
+before_pair : (names : List Name) (s : State) (x p f : Object) (y : Object) (t : State) (w : Bool) → is_pair p ≡ true → value names s x ≡ Ok (record { value = y; state = t; wrote = w })
+    → values_before_place names s (pair x (pair p f)) ≡ subforms names (y ∷ []) w t p
+unfolding value
+before_pair names s x (pair a b) f y t w is e = ap (λ o. and_then o (λ z later. and_then (values names later b) (λ ys end'. gives (z ∷ ys) end'))) e
+before_pair names s x (symbol h n) f y t w is e = absurd (false≢true is)
+before_pair names s x (uninterned n) f y t w is e = absurd (false≢true is)
+before_pair names s x (integer n) f y t w is e = absurd (false≢true is)
+before_pair names s x (rational n d) f y t w is e = absurd (false≢true is)
+before_pair names s x (character c) f y t w is e = absurd (false≢true is)
+before_pair names s x (text b) f y t w is e = absurd (false≢true is)
+before_pair names s x (vector xs) f y t w is e = absurd (false≢true is)
+
+before_refused : (names : List Name) (s : State) (x p f : Object) (code : ℕ) → is_pair p ≡ true → value names s x ≡ Err code → values_before_place names s (pair x (pair p f)) ≡ Err code
+unfolding value
+before_refused names s x (pair a b) f code is e = ap (λ o. and_then o (λ z later. and_then (values names later b) (λ ys end'. gives (z ∷ ys) end'))) e
+before_refused names s x (symbol h n) f code is e = absurd (false≢true is)
+before_refused names s x (uninterned n) f code is e = absurd (false≢true is)
+before_refused names s x (integer n) f code is e = absurd (false≢true is)
+before_refused names s x (rational n d) f code is e = absurd (false≢true is)
+before_refused names s x (character c) f code is e = absurd (false≢true is)
+before_refused names s x (text b) f code is e = absurd (false≢true is)
+before_refused names s x (vector xs) f code is e = absurd (false≢true is)
+
+before_other : (names : List Name) (s : State) (x p f : Object) → is_pair p ≡ false → values_before_place names s (pair x (pair p f)) ≡ Err ARGUMENT_KIND
+unfolding value
+before_other names s x (pair a b) f is = absurd (false≢true (sym is))
+before_other names s x (symbol h n) f is = refl
+before_other names s x (uninterned n) f is = refl
+before_other names s x (integer n) f is = refl
+before_other names s x (rational n d) f is = refl
+before_other names s x (character c) f is = refl
+before_other names s x (text b) f is = refl
+before_other names s x (vector xs) f is = refl
+
+pub push_no_place : (names : List Name) (s : State) (items : List Datum) (p : Datum) → 3 ≤ length items → p ≡ get_or items 2 p → is_pair (object_of p) ≡ false
+    → values_before_place names s (arguments_of (map object_of items)) ≡ Err ARGUMENT_KIND
+push_no_place names s items p some at other =
+    ap (values_before_place names s) (two_arguments items (get_or items 1 p) p some (at_one items p some) at) ∙ before_other names s (object_of (get_or items 1 p)) (object_of p) (list_of (map object_of (drop 3 items))) other
+  where
+    at_one : (xs : List Datum) (d : Datum) → 3 ≤ length xs → get_or xs 1 d ≡ get_or xs 1 (get_or xs 1 d)
+    at_one [] d some' = absurd (omega arith)
+    at_one (a ∷ []) d some' = absurd (omega arith)
+    at_one (a ∷ b ∷ bs) d some' = refl
+
+pub push_refused : (names : List Name) (s t u : State) (items : List Datum) (x p : Datum) (e : EvaluationError) → 3 ≤ length items → x ≡ get_or items 1 x → p ≡ get_or items 2 p → is_pair (object_of p) ≡ true
+    → Answers done (Err e) t (value names s (object_of x)) → Answers all_done (Err e) u (values_before_place names s (arguments_of (map object_of items)))
+push_refused names s t u items x p (Refused code) some is at place h =
+    ap (values_before_place names s) (two_arguments items x p some is at) ∙ before_refused names s (object_of x) (object_of p) (list_of (map object_of (drop 3 items))) code place h
+push_refused names s t u items x p OutOfMemory some is at place h = tt
+
+pub push_given : (names : List Name) (s t u : State) (items : List Datum) (x p : Datum) (d : Evaluated) (vs : List Datum) (w : Bool) (r : Result Values EvaluationError) → 3 ≤ length items → x ≡ get_or items 1 x → p ≡ get_or items 2 p
+    → is_pair (object_of p) ≡ true → value names s (object_of x) ≡ Ok (done d t) → vs ≡ d.value ∷ [] → w ≡ d.wrote → Answers all_done r u (subforms names (map object_of vs) w t (object_of p))
+    → Answers all_done r u (values_before_place names s (arguments_of (map object_of items)))
+push_given names s t u items x p d vs w r some is at place h one wrote after =
+    subst (Answers all_done r u)
+    (ap (λ l. subforms names (map object_of l) w t (object_of p)) one ∙ ap (λ b. subforms names (object_of d.value ∷ []) b t (object_of p)) wrote
+    ∙ sym (ap (values_before_place names s) (two_arguments items x p some is at) ∙ before_pair names s (object_of x) (object_of p) (list_of (map object_of (drop 3 items))) (object_of d.value) t d.wrote place h))
+    after
+
+-- ---- IF
+choice_of : (names : List Name) (s : State) (x y others : Object)
+    → choice names s (pair x (pair y others)) ≡ and_then (value names s x) (λ z later. cond (is_true z) (value names later y) (other_value names later others))
+unfolding value
+choice_of names s x y others = refl
+
+pub choice_refused : (names : List Name) (s t u : State) (items : List Datum) (x : Datum) (e : EvaluationError) → 3 ≤ length items → x ≡ get_or items 1 x → Answers done (Err e) t (value names s (object_of x))
+    → Answers done (Err e) u (choice names s (arguments_of (map object_of items)))
+choice_refused names s t u items x (Refused code) some is h =
+    ap (choice names s) (two_arguments items x (get_or items 2 x) some is (at_two items x some))
+    ∙ choice_of names s (object_of x) (object_of (get_or items 2 x)) (list_of (map object_of (drop 3 items)))
+    ∙ ap (λ o. and_then o (λ z later. cond (is_true z) (value names later (object_of (get_or items 2 x))) (other_value names later (list_of (map object_of (drop 3 items)))))) h
+  where
+    at_two : (xs : List Datum) (d : Datum) → 3 ≤ length xs → get_or xs 2 d ≡ get_or xs 2 (get_or xs 2 d)
+    at_two [] d some' = absurd (omega arith)
+    at_two (a ∷ []) d some' = absurd (omega arith)
+    at_two (a ∷ b ∷ []) d some' = absurd (omega arith)
+    at_two (a ∷ b ∷ c ∷ cs) d some' = refl
+choice_refused names s t u items x OutOfMemory some is h = tt
+
+after_test : (names : List Name) (s t : State) (items : List Datum) (x y : Datum) (d : Evaluated) (b : Bool) → 3 ≤ length items → x ≡ get_or items 1 x → y ≡ get_or items 2 y → value names s (object_of x) ≡ Ok (done d t) → is_true (object_of d.value) ≡ b
+    → choice names s (arguments_of (map object_of items)) ≡ also d.wrote (cond b (value names t (object_of y)) (other_value names t (list_of (map object_of (drop 3 items)))))
+after_test names s t items x y d b some is at h test =
+    ap (choice names s) (two_arguments items x y some is at) ∙ choice_of names s (object_of x) (object_of y) (list_of (map object_of (drop 3 items)))
+    ∙ ap (λ o. and_then o (λ z later. cond (is_true z) (value names later (object_of y)) (other_value names later (list_of (map object_of (drop 3 items)))))) h
+    ∙ ap (λ k. also d.wrote (cond k (value names t (object_of y)) (other_value names t (list_of (map object_of (drop 3 items)))))) test
+
+pub choice_true : (names : List Name) (s t u : State) (items : List Datum) (x y : Datum) (d : Evaluated) (r : Result Evaluated EvaluationError) → 3 ≤ length items → x ≡ get_or items 1 x → y ≡ get_or items 2 y → value names s (object_of x) ≡ Ok (done d t)
+    → is_true (object_of d.value) ≡ true → Answers done r u (also d.wrote (value names t (object_of y))) → Answers done r u (choice names s (arguments_of (map object_of items)))
+choice_true names s t u items x y d r some is at h test after = subst (Answers done r u) (sym (after_test names s t items x y d true some is at h test)) after
+
+other_none : (names : List Name) (s : State) → other_value names s nil ≡ gives nil s
+unfolding value
+other_none names s = refl
+
+other_one : (names : List Name) (s : State) (x rest : Object) → other_value names s (pair x rest) ≡ value names s x
+unfolding value
+other_one names s x rest = refl
+
+pub choice_none : (names : List Name) (s t : State) (items : List Datum) (x : Datum) (d : Evaluated) (v : Datum) → 3 ≤ length items → length items ≡ 3 → x ≡ get_or items 1 x → value names s (object_of x) ≡ Ok (done d t)
+    → is_true (object_of d.value) ≡ false → object_of v ≡ nil → choice names s (arguments_of (map object_of items)) ≡ Ok (record { value = object_of v; state = t; wrote = d.wrote })
+choice_none names s t items x d v some three is h test empty =
+    after_test names s t items x (get_or items 2 x) d false some is (at_two items x some) h test
+    ∙ ap (λ l. also d.wrote (other_value names t (list_of (map object_of l)))) (none_left items three)
+    ∙ ap (also d.wrote) (other_none names t)
+    ∙ ap (λ k. Ok (record { value = k; state = t; wrote = d.wrote || false })) (sym empty) ∙ ap (λ b. Ok (record { value = object_of v; state = t; wrote = b })) (or_false d.wrote)
+  where
+    at_two : (xs : List Datum) (e : Datum) → 3 ≤ length xs → get_or xs 2 e ≡ get_or xs 2 (get_or xs 2 e)
+    at_two [] e some' = absurd (omega arith)
+    at_two (a ∷ []) e some' = absurd (omega arith)
+    at_two (a ∷ b ∷ []) e some' = absurd (omega arith)
+    at_two (a ∷ b ∷ c ∷ cs) e some' = refl
+
+    none_left : (xs : List Datum) → length xs ≡ 3 → drop 3 xs ≡ []
+    none_left [] e = absurd (omega arith)
+    none_left (a ∷ []) e = absurd (omega arith)
+    none_left (a ∷ b ∷ []) e = absurd (omega arith)
+    none_left (a ∷ b ∷ c ∷ []) e = refl
+    none_left (a ∷ b ∷ c ∷ k ∷ ks) e = absurd (omega arith)
+
+    or_false : (b : Bool) → (b || false) ≡ b
+    or_false true = refl
+    or_false false = refl
+
+pub choice_other : (names : List Name) (s t u : State) (items : List Datum) (x z : Datum) (d : Evaluated) (r : Result Evaluated EvaluationError) → 3 ≤ length items → (length items ≡ 3 → ⊥) → x ≡ get_or items 1 x → z ≡ get_or items 3 z
+    → value names s (object_of x) ≡ Ok (done d t) → is_true (object_of d.value) ≡ false → Answers done r u (also d.wrote (value names t (object_of z))) → Answers done r u (choice names s (arguments_of (map object_of items)))
+choice_other names s t u items x z d r some more is at h test after =
+    subst (Answers done r u)
+    (sym (after_test names s t items x (get_or items 2 x) d false some is (at_two items x some) h test ∙ ap (λ l. also d.wrote (other_value names t l)) (one_left items z some more at) ∙ ap (also d.wrote) (other_one names t (object_of z) (list_of (map object_of (drop 4 items))))))
+    after
+  where
+    at_two : (xs : List Datum) (e : Datum) → 3 ≤ length xs → get_or xs 2 e ≡ get_or xs 2 (get_or xs 2 e)
+    at_two [] e some' = absurd (omega arith)
+    at_two (a ∷ []) e some' = absurd (omega arith)
+    at_two (a ∷ b ∷ []) e some' = absurd (omega arith)
+    at_two (a ∷ b ∷ c ∷ cs) e some' = refl
+
+    one_left : (xs : List Datum) (e : Datum) → 3 ≤ length xs → (length xs ≡ 3 → ⊥) → e ≡ get_or xs 3 e → list_of (map object_of (drop 3 xs)) ≡ pair (object_of e) (list_of (map object_of (drop 4 xs)))
+    one_left [] e some' more' at' = absurd (omega arith)
+    one_left (a ∷ []) e some' more' at' = absurd (omega arith)
+    one_left (a ∷ b ∷ []) e some' more' at' = absurd (omega arith)
+    one_left (a ∷ b ∷ c ∷ []) e some' more' at' = absurd (more' refl)
+    one_left (a ∷ b ∷ c ∷ k ∷ ks) e some' more' at' = ap (λ w. pair (object_of w) (list_of (map object_of ks))) (sym at')
+
+pub same_item : (xs : List Datum) (i : ℕ) (x y : Datum) → i < length xs → x ≡ get_or xs i x → y ≡ get_or xs i y → x ≡ y
+same_item xs i x y within is at = is ∙ get_or-any xs i x y within ∙ sym at
+  where
+    get_or-any : (zs : List Datum) (j : ℕ) (a b : Datum) → j < length zs → get_or zs j a ≡ get_or zs j b
+    get_or-any [] j a b below = absurd (omega arith)
+    get_or-any (z ∷ zs) zero a b below = refl
+    get_or-any (z ∷ zs) (suc j) a b below = get_or-any zs j a b (omega arith)
+
+-- ---- the subforms of a place
+values_of_pairs : (names : List Name) (s : State) (xs : List Object) (end : Object) → object_is_list end ≡ false → values names s (pairs xs end) ≡ values names s (list_of xs)
+unfolding value
+values_of_pairs names s [] (symbol h n) other = refl
+values_of_pairs names s [] (uninterned n) other = refl
+values_of_pairs names s [] (integer n) other = refl
+values_of_pairs names s [] (rational n d) other = refl
+values_of_pairs names s [] (character c) other = refl
+values_of_pairs names s [] (text b) other = refl
+values_of_pairs names s [] (vector xs) other = refl
+values_of_pairs names s [] (pair a b) other = absurd (false≢true (sym other))
+values_of_pairs names s (x ∷ xs) end other = and_then_same (value names s x) _ _ (λ y later. ap (λ o. and_then o (λ ys end'. gives (y ∷ ys) end')) (values_of_pairs names later xs end other))
+  where
+    and_then_same : {A B : Type 0} (o : Outcome A) (f g : A → State → Outcome B) → ((a : A) (t : State) → f a t ≡ g a t) → and_then o f ≡ and_then o g
+    and_then_same (Ok d) f g same = ap (also d.wrote) (same d.value d.state)
+    and_then_same (Err code) f g same = refl
+
+pub subforms_given : (names : List Name) (s t : State) (d : Datum) (items xs : List Datum) (tail : Option Datum) (vs : List Object) (w : Bool) (r : Result Values EvaluationError) → d ≡ Datum.List items tail → is_proper d ≡ true → xs ≡ items
+    → Answers all_done r t (followed names vs w s (list_of (map object_of (drop 1 xs)))) → Answers all_done r t (subforms names vs w s (object_of d))
+subforms_given names s t d [] xs tail vs w r is proper same h = absurd (omega (arith, (items_of_proper [] tail (ap is_proper (sym is) ∙ proper)).0))
+subforms_given names s t d (y ∷ ys) xs None vs w r is proper same h =
+    subst (Answers all_done r t) (ap (λ l. followed names vs w s (list_of (map object_of (drop 1 l)))) same ∙ sym (ap (subforms names vs w s) (ap object_of is ∙ object_of-List (y ∷ ys)))) h
+subforms_given names s t d (y ∷ ys) xs (Some end) vs w r is proper same h =
+    let last : (is_proper end && not (is_list end)) ≡ true = tail_of_proper (y ∷ ys) (Some end) (ap is_proper (sym is) ∙ proper) in
+    let both = and_parts (is_proper end) (not (is_list end)) last in
+    subst (Answers all_done r t)
+    (ap (λ l. followed names vs w s (list_of (map object_of (drop 1 l)))) same
+    ∙ ap (λ o. also w (and_then o (λ zs end'. gives (vs ++ zs) end'))) (sym (values_of_pairs names s (map object_of ys) (object_of end) (no_list_object end both.0 (not_true (is_list end) both.1))))
+    ∙ sym (ap (subforms names vs w s) (ap object_of is ∙ object_of-dotted (y ∷ ys) end))) h
+  where
+    not_true : (b : Bool) → not b ≡ true → b ≡ false
+    not_true true e = sym e
+    not_true false e = refl

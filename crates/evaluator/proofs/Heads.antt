@@ -1,0 +1,116 @@
+-- What is at the head of a form.
+--     operator_named_among      the operators by their names
+--     head_value      a form by its operator
+use Rattle.std.proofs.Common.{◌≡◌, ℕ, Bool, true, false, cond, not, List, [], ◌∷◌, ◌++◌, Option, Some, None, Err, option_map, bytes_eq, codes, refl, sym, ap, subst, ◌∙◌}
+use Rattle.std.specs.Option.{option_or}
+use Rattle.package_table.specs.Table.{Name, common_lisp}
+use Rattle.lisp_object.specs.Object.{Object, integer, rational, character, text, symbol, uninterned, pair, vector, is_proper_list}
+use Rattle.plist_state.specs.State.{State}
+use Rattle.evaluator.specs.declared.operation.Operation.{Operation}
+use Rattle.evaluator.specs.declared.operation.Operation.TheVariants.{Quote, Progn, If, MakeList, Get, Setf, Remprop, SymbolPlist, Incf, Push, MakePackage, InPackage, Export, Import, UsePackage, Intern, CopyReadtable, InReadtable, SetSyntaxFromChar, SetMacroCharacter, GetMacroCharacter, MakeDispatchMacroCharacter, SetDispatchMacroCharacter, GetDispatchMacroCharacter, ReadtableCase}
+use Rattle.lisp_object.specs.declared.refusal.TheConstants.{NOT_A_FORM, UNKNOWN_OPERATOR, ARGUMENT_COUNT}
+use Rattle.package_table.proofs.Names.{same_some, none_some}
+use Rattle.lisp_operators.specs.Kinds.{a_symbol}
+use Rattle.evaluator.specs.Operators.{Operator, operator_named, operator_of, is_interned, count, counts}
+use Rattle.evaluator.specs.Operations.{operator, action_of, among, operators_on_data, operators_on_packages, operators_on_readtables}
+use Rattle.evaluator.specs.Value.{value, form_value, action_value}
+use Rattle.evaluator.specs.Gathered.{parts}
+
+module _ (names : List Name) (name : Name) where
+  pick : (b : Bool) (x : Operation) (r : Option Operation) (q : Option Operator) → option_map (operator names) r ≡ q → option_map (operator names) (cond b (Some x) r) ≡ cond b (Some (operator names x)) q
+  pick true x r q e = refl
+  pick false x r q e = e
+
+  all_among : option_map (operator names) (among (operators_on_data ++ (operators_on_packages ++ operators_on_readtables)) name) ≡ operator_named names name
+  all_among =
+      pick (bytes_eq name (codes "QUOTE")) Quote _ _
+      (pick (bytes_eq name (codes "PROGN")) Progn _ _
+      (pick (bytes_eq name (codes "IF")) If _ _
+      (pick (bytes_eq name (codes "LIST")) MakeList _ _
+      (pick (bytes_eq name (codes "GET")) Get _ _
+      (pick (bytes_eq name (codes "SETF")) Setf _ _
+      (pick (bytes_eq name (codes "REMPROP")) Remprop _ _
+      (pick (bytes_eq name (codes "SYMBOL-PLIST")) SymbolPlist _ _
+      (pick (bytes_eq name (codes "INCF")) Incf _ _
+      (pick (bytes_eq name (codes "PUSH")) Push _ _
+      (pick (bytes_eq name (codes "MAKE-PACKAGE")) MakePackage _ _
+      (pick (bytes_eq name (codes "IN-PACKAGE")) InPackage _ _
+      (pick (bytes_eq name (codes "EXPORT")) Export _ _
+      (pick (bytes_eq name (codes "IMPORT")) Import _ _
+      (pick (bytes_eq name (codes "USE-PACKAGE")) UsePackage _ _
+      (pick (bytes_eq name (codes "INTERN")) Intern _ _
+      (pick (bytes_eq name (codes "COPY-READTABLE")) CopyReadtable _ _
+      (pick (bytes_eq name (codes "IN-READTABLE")) InReadtable _ _
+      (pick (bytes_eq name (codes "SET-SYNTAX-FROM-CHAR")) SetSyntaxFromChar _ _
+      (pick (bytes_eq name (codes "SET-MACRO-CHARACTER")) SetMacroCharacter _ _
+      (pick (bytes_eq name (codes "GET-MACRO-CHARACTER")) GetMacroCharacter _ _
+      (pick (bytes_eq name (codes "MAKE-DISPATCH-MACRO-CHARACTER")) MakeDispatchMacroCharacter _ _
+      (pick (bytes_eq name (codes "SET-DISPATCH-MACRO-CHARACTER")) SetDispatchMacroCharacter _ _
+      (pick (bytes_eq name (codes "GET-DISPATCH-MACRO-CHARACTER")) GetDispatchMacroCharacter _ _
+      (pick (bytes_eq name (codes "READTABLE-CASE")) ReadtableCase _ _ refl))))))))))))))))))))))))
+
+among_joined : (xs ys : List (Name × Operation)) (name : Name) → among (xs ++ ys) name ≡ option_or (among xs name) (among ys name)
+among_joined [] ys name = refl
+among_joined (x ∷ xs) ys name = elim (bytes_eq name x.0) as (λ b. cond b (Some x.1) (among (xs ++ ys) name) ≡ option_or (cond b (Some x.1) (among xs name)) (among ys name)) [ true ↦ refl | false ↦ among_joined xs ys name ]
+
+pub operator_named_among : (names : List Name) (name : Name) (r : Option Operation) → r ≡ option_or (among operators_on_data name) (option_or (among operators_on_packages name) (among operators_on_readtables name)) → option_map (operator names) r ≡ operator_named names name
+operator_named_among names name r is =
+    ap (option_map (operator names)) (is ∙ (ap (option_or (among operators_on_data name)) (sym (among_joined operators_on_packages operators_on_readtables name)) ∙ sym (among_joined operators_on_data (operators_on_packages ++ operators_on_readtables) name)))
+    ∙ all_among names name
+
+-- an interned symbol at the head
+pub symbol_of_some : (x : Object) (p : Name × Name) → a_symbol x ≡ Some p → x ≡ symbol p.0 p.1
+symbol_of_some (symbol h n) p e = ap (λ q. symbol q.0 q.1) (same_some (h, n) p e)
+symbol_of_some (integer n) p e = absurd (none_some p e)
+symbol_of_some (rational n d) p e = absurd (none_some p e)
+symbol_of_some (character c) p e = absurd (none_some p e)
+symbol_of_some (text b) p e = absurd (none_some p e)
+symbol_of_some (uninterned n) p e = absurd (none_some p e)
+symbol_of_some (pair a b) p e = absurd (none_some p e)
+symbol_of_some (vector xs) p e = absurd (none_some p e)
+
+pub head_value : (names : List Name) (s : State) (head arguments : Object) → is_interned head ≡ true → is_proper_list arguments ≡ true → value names s (pair head arguments) ≡ form_value s (operator_of names head) arguments (parts names s arguments)
+unfolding value
+head_value names s head arguments interned proper = rw (interned, proper) refl
+
+pub head_symbol : (names : List Name) (s : State) (head arguments : Object) (h n : Name) → Some (h, n) ≡ a_symbol head → is_proper_list arguments ≡ true
+    → value names s (pair head arguments) ≡ form_value s (cond (bytes_eq h common_lisp) (operator_named names n) None) arguments (parts names s arguments)
+head_symbol names s head arguments h n is proper =
+    let same : head ≡ symbol h n = symbol_of_some head (h, n) (sym is) in
+    subst (λ k. value names s (pair k arguments) ≡ form_value s (cond (bytes_eq h common_lisp) (operator_named names n) None) arguments (parts names s arguments)) (sym same)
+    (head_value names s (symbol h n) arguments refl proper)
+
+pub head_other : (names : List Name) (s : State) (head arguments : Object) → None ≡ a_symbol head → value names s (pair head arguments) ≡ Err NOT_A_FORM
+unfolding value
+head_other names s (symbol h n) arguments is = absurd (none_some (h, n) is)
+head_other names s (integer n) arguments is = refl
+head_other names s (rational n d) arguments is = refl
+head_other names s (character c) arguments is = refl
+head_other names s (text b) arguments is = refl
+head_other names s (uninterned n) arguments is = refl
+head_other names s (pair a b) arguments is = refl
+head_other names s (vector xs) arguments is = refl
+
+-- no operator
+pub head_unknown : (names : List Name) (s : State) (head arguments : Object) (h n : Name) → Some (h, n) ≡ a_symbol head → is_proper_list arguments ≡ true
+    → cond (bytes_eq h common_lisp) (operator_named names n) None ≡ None → value names s (pair head arguments) ≡ Err UNKNOWN_OPERATOR
+head_unknown names s head arguments h n is proper none =
+    head_symbol names s head arguments h n is proper ∙ ap (λ o. form_value s o arguments (parts names s arguments)) none
+
+-- a wrong count, and a right one
+pub head_count : (names : List Name) (s : State) (head arguments : Object) (h n : Name) (operation : Operation) (number : ℕ) → Some (h, n) ≡ a_symbol head → is_proper_list arguments ≡ true
+    → bytes_eq h common_lisp ≡ true → Some (operator names operation) ≡ operator_named names n → count arguments ≡ number → counts (operator names operation) number ≡ false → value names s (pair head arguments) ≡ Err ARGUMENT_COUNT
+head_count names s head arguments h n operation number is proper home named counted wrong =
+    head_symbol names s head arguments h n is proper
+    ∙ ap (λ b. form_value s (cond b (operator_named names n) None) arguments (parts names s arguments)) home
+    ∙ ap (λ o. form_value s o arguments (parts names s arguments)) (sym named)
+    ∙ ap (λ b. cond (not b) (Err ARGUMENT_COUNT) (action_value s (action_of names operation) arguments (parts names s arguments))) (ap (counts (operator names operation)) counted ∙ wrong)
+
+pub head_acts : (names : List Name) (s : State) (head arguments : Object) (h n : Name) (operation : Operation) (number : ℕ) → Some (h, n) ≡ a_symbol head → is_proper_list arguments ≡ true
+    → bytes_eq h common_lisp ≡ true → Some (operator names operation) ≡ operator_named names n → count arguments ≡ number → counts (operator names operation) number ≡ true
+    → value names s (pair head arguments) ≡ action_value s (action_of names operation) arguments (parts names s arguments)
+head_acts names s head arguments h n operation number is proper home named counted right =
+    head_symbol names s head arguments h n is proper
+    ∙ ap (λ b. form_value s (cond b (operator_named names n) None) arguments (parts names s arguments)) home
+    ∙ ap (λ o. form_value s o arguments (parts names s arguments)) (sym named)
+    ∙ ap (λ b. cond (not b) (Err ARGUMENT_COUNT) (action_value s (action_of names operation) arguments (parts names s arguments))) (ap (counts (operator names operation)) counted ∙ right)

@@ -1,0 +1,10 @@
+pub mod Places
+pub mod Heads
+pub mod Steps
+pub mod Forms
+pub mod Rows
+pub mod Induction
+pub mod SilentForms
+pub mod SoundForms
+pub mod NumberedForms
+pub mod CoveringForms

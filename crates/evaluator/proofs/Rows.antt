@@ -1,0 +1,543 @@
+-- Forms, and what each gives, in any state; what a row needs of the state, it asks for.
+use Rattle.std.proofs.Common.{◌≡◌, ℕ, zero, suc, true, false, cond, nat_le, nat_lt, List, [], ◌∷◌, pos, negsuc, codes, Some, None, Err, refl, ap, ◌∙◌}
+use Rattle.std.specs.FinMap as finite
+use Rattle.lisp_object.specs.Object.{Object, integer, symbol, text, character, uninterned, pair, vector, nil, list_of, object_depth, object_size}
+use Rattle.readtable_core.specs.declared.table.Case.TheVariants.{Invert}
+use Rattle.readtable_core.specs.Tables as readtable
+use Rattle.readtable_core.specs.Tables.{entry_at, dispatch_at}
+use Rattle.readtable_core.specs.Cases.{case_name}
+use Rattle.readtable_core.specs.Changes.{macro_entry, dispatching_entry, with_function}
+use Rattle.readtable_core.specs.Changes.{with_entry as with_entry_at}
+use Rattle.readtable_core.specs.Sound.{is_dispatching}
+use Rattle.package_table.specs.Table.{Name, common_lisp, keyword, symbol_count, with_entry, with_used, with_new_package}
+use Rattle.package_table.specs.Lookup.{found, is_present, is_external, is_used}
+use Rattle.package_table.specs.Changes.{user_finds_other, with_external, finds_other_than_shown}
+use Rattle.plist_state.specs.Properties.{Symbol, Plist, value_at, with_value, same_symbol}
+use Rattle.plist_state.specs.State.{State, standard_name}
+use Rattle.plist_state.specs.Changes.{plist, property, with_property, without_property, with_packages}
+use Rattle.plist_state.proofs.Lists.{list-with_list}
+use Rattle.plist_state.proofs.Orders.{symbol_tied}
+use Rattle.lisp_operators.specs.Outcomes.{gives, writes}
+use Rattle.lisp_operators.specs.Properties.{t}
+use Rattle.lisp_operators.specs.Readtables.{name_or_nil}
+use Rattle.evaluator.specs.Value.{value}
+
+abbrev own : Name → Object
+own name = symbol (codes "COMMON-LISP-USER") name
+
+abbrev named : Name → Object
+named name = symbol (codes "KEYWORD") name
+
+abbrev standard : Name → Object
+standard name = symbol (codes "COMMON-LISP") name
+
+abbrev call : Name → List Object → Object
+call operator arguments = list_of (standard operator ∷ arguments)
+
+abbrev quoted : Object → Object
+quoted x = call (codes "QUOTE") (x ∷ [])
+
+abbrev number : ℕ → Object
+number n = integer (pos n)
+
+abbrev a_symbol : Symbol
+a_symbol = (codes "COMMON-LISP-USER", codes "A")
+
+abbrev b_symbol : Symbol
+b_symbol = (codes "COMMON-LISP-USER", codes "B")
+
+abbrev a : Object
+a = quoted (own (codes "A"))
+
+abbrev b : Object
+b = quoted (own (codes "B"))
+
+-- the place of A's property B
+abbrev place : Object
+place = call (codes "GET") (a ∷ b ∷ [])
+
+-- a list in a list, and so on
+abbrev nested : ℕ → Object
+nested zero = nil
+nested (suc k) = pair (nested k) nil
+
+-- what was put last
+property_put : (s : State) (x i : Symbol) (v : Object) → property (with_property s x i v) x i ≡ Some v
+property_put s x i v = ap (λ ps. value_at ps i) (list-with_list s.properties x (with_value (plist s x) i v)) ∙ value_there (plist s x)
+  where
+    value_there : (ps : Plist) → value_at (with_value ps i v) i ≡ Some v
+    value_there [] = ap (λ b. cond b (Some v) None) (symbol_tied i)
+    value_there (p ∷ ps) =
+        elim (same_symbol i p.0) as (λ b. same_symbol i p.0 ≡ b → value_at (cond b ((p.0, v) ∷ ps) (p ∷ with_value ps i v)) i ≡ Some v) [
+          | true ↦ λ same. ap (λ b. cond b (Some v) (value_at ps i)) same
+          | false ↦ λ other. ap (λ b. cond b (Some p.1) (value_at (with_value ps i v) i)) other ∙ value_there ps
+        ] refl
+
+module _ (s : State) where
+  -- ---- what gives itself
+  keyword_itself : value [] s (named (codes "K")) ≡ gives (named (codes "K")) s
+  unfolding value
+  keyword_itself = refl
+
+  t_itself : value [] s t ≡ gives t s
+  unfolding value
+  t_itself = refl
+
+  nil_itself : value [] s nil ≡ gives nil s
+  unfolding value
+  nil_itself = refl
+
+  vector_itself : value [] s (vector (own (codes "A"))) ≡ gives (vector (own (codes "A"))) s
+  unfolding value
+  vector_itself = refl
+
+  current_package : value [] s (standard (codes "*PACKAGE*")) ≡ gives (text s.current_package) s
+  unfolding value
+  current_package = refl
+
+  current_readtable : value [] s (standard (codes "*READTABLE*")) ≡ gives (named s.current_readtable) s
+  unfolding value
+  current_readtable = refl
+
+  -- ---- 30
+  variable : value [] s (own (codes "X")) ≡ Err 30
+  unfolding value
+  variable = refl
+
+  no_value : value [] s (standard (codes "*READ-BASE*")) ≡ Err 30
+  unfolding value
+  no_value = refl
+
+  uninterned_symbol : value [] s (uninterned (codes "X")) ≡ Err 30
+  unfolding value
+  uninterned_symbol = refl
+
+  dotted : value [] s (pair (standard (codes "QUOTE")) (number 1)) ≡ Err 30
+  unfolding value
+  dotted = refl
+
+  number_at_head : value [] s (list_of (number 1 ∷ [])) ≡ Err 30
+  unfolding value
+  number_at_head = refl
+
+  -- ---- 31, before 32
+  unknown : value [] s (list_of (own (codes "FROB") ∷ own (codes "A") ∷ [])) ≡ Err 31
+  unfolding value
+  unknown = refl
+
+  no_operator : value [] s (call (codes "FUNCTION") []) ≡ Err 31
+  unfolding value
+  no_operator = refl
+
+  -- ---- 32, before 33
+  one_argument : value [] s (call (codes "GET") (number 1 ∷ [])) ≡ Err 32
+  unfolding value
+  one_argument = refl
+
+  four_arguments : value [] s (call (codes "IF") (t ∷ t ∷ t ∷ t ∷ [])) ≡ Err 32
+  unfolding value
+  four_arguments = refl
+
+  -- ---- control
+  empty_sequence : value [] s (call (codes "PROGN") []) ≡ gives nil s
+  unfolding value
+  empty_sequence = refl
+
+  chosen : value [] s (call (codes "IF") (nil ∷ own (codes "X") ∷ number 2 ∷ [])) ≡ gives (number 2) s
+  unfolding value
+  chosen = refl
+
+  last_of_sequence : value [] s (call (codes "PROGN") (t ∷ number 2 ∷ [])) ≡ gives (number 2) s
+  unfolding value
+  last_of_sequence = refl
+
+  true_chosen : value [] s (call (codes "IF") (number 0 ∷ number 1 ∷ own (codes "X") ∷ [])) ≡ gives (number 1) s
+  unfolding value
+  true_chosen = refl
+
+  not_chosen : value [] s (call (codes "IF") (nil ∷ own (codes "X") ∷ [])) ≡ gives nil s
+  unfolding value
+  not_chosen = refl
+
+  -- ---- lists, and 45
+  a_list : value [] s (call (codes "LIST") (number 1 ∷ a ∷ [])) ≡ gives (list_of (number 1 ∷ own (codes "A") ∷ [])) s
+  unfolding value
+  a_list = refl
+
+  deepest : value [] s (call (codes "LIST") (quoted (nested 99) ∷ [])) ≡ gives (list_of (nested 99 ∷ [])) s
+  unfolding value
+  deepest = refl
+
+  too_deep : value [] s (call (codes "LIST") (quoted (nested 100) ∷ [])) ≡ Err 45
+  unfolding value
+  too_deep = refl
+
+  too_large : (x : Object) → nat_lt 100 (object_depth (list_of (x ∷ []))) ≡ false → nat_lt 1000000 (object_size (list_of (x ∷ []))) ≡ true
+      → value [] s (call (codes "LIST") (quoted x ∷ [])) ≡ Err 46
+  unfolding value
+  too_large x shallow large = rw (shallow, large) refl
+
+  -- ---- properties
+  absent : property s a_symbol b_symbol ≡ None → value [] s place ≡ gives nil s
+  unfolding value
+  absent none = rw none refl
+
+  present_property : property s a_symbol b_symbol ≡ Some (number 5) → value [] s (call (codes "GET") (a ∷ b ∷ number 1 ∷ [])) ≡ gives (number 5) s
+  unfolding value
+  present_property five = rw five refl
+
+  in_its_place : property s a_symbol b_symbol ≡ None → value [] s (call (codes "GET") (a ∷ b ∷ number 1 ∷ [])) ≡ gives (number 1) s
+  unfolding value
+  in_its_place none = rw none refl
+
+  stored : value [] s (call (codes "SETF") (place ∷ number 7 ∷ [])) ≡ writes (number 7) (with_property s a_symbol b_symbol (number 7))
+  unfolding value
+  stored = refl
+
+  none_removed : property s a_symbol b_symbol ≡ None → value [] s (call (codes "REMPROP") (a ∷ b ∷ [])) ≡ gives nil s
+  unfolding value
+  none_removed none = rw none refl
+
+  taken_away : property s a_symbol b_symbol ≡ Some (number 5) → value [] s (call (codes "REMPROP") (a ∷ b ∷ [])) ≡ writes t (without_property s a_symbol b_symbol)
+  unfolding value
+  taken_away five = rw five refl
+
+  in_turn : plist s a_symbol ≡ (b_symbol, number 1) ∷ (a_symbol, number 2) ∷ []
+      → value [] s (call (codes "SYMBOL-PLIST") (a ∷ [])) ≡ gives (list_of (own (codes "B") ∷ number 1 ∷ own (codes "A") ∷ number 2 ∷ [])) s
+  unfolding value
+  in_turn two = rw two refl
+
+  increased : property s a_symbol b_symbol ≡ Some (number 5) → value [] s (call (codes "INCF") (place ∷ [])) ≡ writes (number 6) (with_property s a_symbol b_symbol (number 6))
+  unfolding value
+  increased five = rw five refl
+
+  beyond : property s a_symbol b_symbol ≡ Some (integer (negsuc 170141183460469231731687303715884105727)) → value [] s (call (codes "INCF") (place ∷ integer (negsuc 0) ∷ [])) ≡ Err 44
+  unfolding value
+  beyond lowest = rw lowest refl
+
+  beyond_above : property s a_symbol b_symbol ≡ Some (number 170141183460469231731687303715884105727) → value [] s (call (codes "INCF") (place ∷ [])) ≡ Err 44
+  unfolding value
+  beyond_above highest = rw highest refl
+
+  nothing_to_increase : property s a_symbol b_symbol ≡ None → value [] s (call (codes "INCF") (place ∷ [])) ≡ Err 33
+  unfolding value
+  nothing_to_increase none = rw none refl
+
+  -- the property is read after the arguments
+  read_late : value [] s (call (codes "INCF") (place ∷ call (codes "PROGN") (call (codes "SETF") (place ∷ number 5 ∷ []) ∷ number 1 ∷ []) ∷ []))
+      ≡ writes (number 6) (with_property (with_property s a_symbol b_symbol (number 5)) a_symbol b_symbol (number 6))
+  unfolding value
+  read_late = rw (property_put s a_symbol b_symbol (number 5)) refl
+
+  pushed_late : value [] s (call (codes "PUSH") (call (codes "SETF") (place ∷ number 1 ∷ []) ∷ place ∷ []))
+      ≡ writes (pair (number 1) (number 1)) (with_property (with_property s a_symbol b_symbol (number 1)) a_symbol b_symbol (pair (number 1) (number 1)))
+  unfolding value
+  pushed_late = rw (property_put s a_symbol b_symbol (number 1)) refl
+
+  pushed : property s a_symbol b_symbol ≡ None → value [] s (call (codes "PUSH") (number 1 ∷ place ∷ []))
+      ≡ writes (list_of (number 1 ∷ [])) (with_property s a_symbol b_symbol (list_of (number 1 ∷ [])))
+  unfolding value
+  pushed none = rw none refl
+
+  too_deep_to_push : property s a_symbol b_symbol ≡ None → value [] s (call (codes "PUSH") (quoted (nested 100) ∷ place ∷ [])) ≡ Err 45
+  unfolding value
+  too_deep_to_push none = rw none refl
+
+  -- ---- places: 33, then 32, before anything is evaluated
+  symbol_as_place : value [] s (call (codes "SETF") (own (codes "A") ∷ own (codes "X") ∷ [])) ≡ Err 33
+  unfolding value
+  symbol_as_place = refl
+
+  nil_as_place : value [] s (call (codes "SETF") (nil ∷ own (codes "X") ∷ [])) ≡ Err 33
+  unfolding value
+  nil_as_place = refl
+
+  dotted_place : value [] s (call (codes "SETF") (pair (standard (codes "GET")) (number 1) ∷ own (codes "X") ∷ [])) ≡ Err 33
+  unfolding value
+  dotted_place = refl
+
+  short_place : value [] s (call (codes "SETF") (call (codes "GET") (a ∷ []) ∷ own (codes "X") ∷ [])) ≡ Err 32
+  unfolding value
+  short_place = refl
+
+  long_place : value [] s (call (codes "SETF") (call (codes "GET") (a ∷ b ∷ nil ∷ []) ∷ number 1 ∷ [])) ≡ Err 32
+  unfolding value
+  long_place = refl
+
+  short_case : value [] s (call (codes "SETF") (call (codes "READTABLE-CASE") [] ∷ number 1 ∷ [])) ≡ Err 32
+  unfolding value
+  short_case = refl
+
+  case_increased : value [] s (call (codes "INCF") (call (codes "READTABLE-CASE") (named (codes "USER") ∷ []) ∷ [])) ≡ Err 33
+  unfolding value
+  case_increased = refl
+
+  short_increased : value [] s (call (codes "INCF") (call (codes "GET") (own (codes "X") ∷ []) ∷ [])) ≡ Err 32
+  unfolding value
+  short_increased = refl
+
+  short_pushed : value [] s (call (codes "PUSH") (own (codes "X") ∷ call (codes "GET") [] ∷ [])) ≡ Err 32
+  unfolding value
+  short_pushed = refl
+
+  variable_pushed : value [] s (call (codes "PUSH") (own (codes "X") ∷ place ∷ [])) ≡ Err 30
+  unfolding value
+  variable_pushed = refl
+
+  -- ---- packages
+  no_name : value [] s (call (codes "MAKE-PACKAGE") (text [] ∷ [])) ≡ Err 33
+  unfolding value
+  no_name = refl
+
+  not_quoted : value [] s (call (codes "IN-PACKAGE") (a ∷ [])) ≡ Err 33
+  unfolding value
+  not_quoted = refl
+
+  module _ (lisp : finite.contains_key s.packages common_lisp ≡ true) where
+    nickname_taken : value [] s (call (codes "MAKE-PACKAGE") (text (codes "CL") ∷ [])) ≡ Err 35
+    unfolding value
+    nickname_taken = rw lisp refl
+
+    entered : value [] s (call (codes "IN-PACKAGE") (own (codes "CL") ∷ [])) ≡ writes (text common_lisp) (record s { current_package = common_lisp })
+    unfolding value
+    entered = rw lisp refl
+
+    new_in_lisp : found s.packages common_lisp (codes "Q") ≡ None → value [] s (call (codes "INTERN") (text (codes "Q") ∷ text (codes "CL") ∷ [])) ≡ Err 36
+    unfolding value
+    new_in_lisp none = rw (lisp, none, lisp) refl
+
+    locked_for_none : value [] s (call (codes "EXPORT") (nil ∷ text (codes "CL") ∷ [])) ≡ Err 36
+    unfolding value
+    locked_for_none = rw lisp refl
+
+    uses_itself : value [] s (call (codes "USE-PACKAGE") (text (codes "CL") ∷ text (codes "CL") ∷ [])) ≡ Err 36
+    unfolding value
+    uses_itself = rw lisp refl
+
+    second_keyword : finite.contains_key s.packages keyword ≡ true → finite.contains_key s.packages (codes "P") ≡ true
+        → value [] s (call (codes "USE-PACKAGE") (quoted (list_of (text common_lisp ∷ text keyword ∷ [])) ∷ text (codes "P") ∷ [])) ≡ Err 36
+    unfolding value
+    second_keyword there p = rw (lisp, there, p) refl
+
+    second_absent : finite.contains_key s.packages (codes "NO") ≡ false
+        → value [] s (call (codes "USE-PACKAGE") (quoted (list_of (text common_lisp ∷ text (codes "NO") ∷ [])) ∷ text (codes "CL") ∷ [])) ≡ Err 34
+    unfolding value
+    second_absent absent = rw (lisp, absent) refl
+
+    module _ (p : finite.contains_key s.packages (codes "P") ≡ true) where
+      second_conflicts : is_used s.packages (codes "P") common_lisp ≡ true → is_used s.packages (codes "P") (codes "P") ≡ false → finite.contains_key s.packages (codes "Q") ≡ true
+          → is_used s.packages (codes "P") (codes "Q") ≡ false → finds_other_than_shown s.packages (codes "P") (codes "Q") ≡ true
+          → value [] s (call (codes "USE-PACKAGE") (quoted (list_of (text common_lisp ∷ text (codes "Q") ∷ [])) ∷ text (codes "P") ∷ [])) ≡ Err 37
+      unfolding value
+      second_conflicts used itself q not_used conflict = rw (lisp, q, p, lisp, p, used, q, p, not_used, conflict) refl
+
+  no_package : finite.contains_key s.packages (codes "NO") ≡ false → value [] s (call (codes "IN-PACKAGE") (text (codes "NO") ∷ [])) ≡ Err 34
+  unfolding value
+  no_package none = rw none refl
+
+  no_target : finite.contains_key s.packages (codes "NO") ≡ false → value [] s (call (codes "IMPORT") (nil ∷ text (codes "NO") ∷ [])) ≡ Err 34
+  unfolding value
+  no_target none = rw none refl
+
+  kind_first : value [] s (call (codes "IMPORT") (number 1 ∷ number 2 ∷ [])) ≡ Err 33
+  unfolding value
+  kind_first = refl
+
+  module _ (p : finite.contains_key s.packages (codes "P") ≡ true) where
+    name_taken : value [] s (call (codes "MAKE-PACKAGE") (text (codes "P") ∷ [])) ≡ Err 35
+    unfolding value
+    name_taken = rw p refl
+
+    all_none : value [] s (call (codes "EXPORT") (nil ∷ text (codes "P") ∷ [])) ≡ gives t s
+    unfolding value
+    all_none = rw p refl
+
+    second_not_found : found s.packages (codes "P") (codes "A") ≡ Some (codes "COMMON-LISP-USER") → found s.packages (codes "P") (codes "B") ≡ None
+        → value [] s (call (codes "EXPORT") (quoted (list_of (own (codes "A") ∷ own (codes "B") ∷ [])) ∷ text (codes "P") ∷ [])) ≡ Err 38
+    unfolding value
+    second_not_found first second = rw (p, first, second) refl
+
+    -- another symbol of that name is found
+    other_found : found s.packages (codes "P") (codes "A") ≡ Some (codes "P") → value [] s (call (codes "EXPORT") (a ∷ text (codes "P") ∷ [])) ≡ Err 38
+    unfolding value
+    other_found here = rw (p, here) refl
+
+    user_conflicts : found s.packages (codes "P") (codes "A") ≡ Some (codes "COMMON-LISP-USER") → user_finds_other s.packages (codes "P") (codes "COMMON-LISP-USER") (codes "A") ≡ true
+        → value [] s (call (codes "EXPORT") (a ∷ text (codes "P") ∷ [])) ≡ Err 37
+    unfolding value
+    user_conflicts first conflict = rw (p, first, p, conflict) refl
+
+    second_other : found s.packages (codes "P") (codes "A") ≡ Some (codes "COMMON-LISP-USER") → is_present s.packages (codes "P") (codes "A") ≡ true → found s.packages (codes "P") (codes "B") ≡ Some (codes "P")
+        → value [] s (call (codes "IMPORT") (quoted (list_of (own (codes "A") ∷ own (codes "B") ∷ [])) ∷ text (codes "P") ∷ [])) ≡ Err 37
+    unfolding value
+    second_other first present second = rw (p, p, first, present, p, second) refl
+
+    exported : found s.packages (codes "P") (codes "A") ≡ Some (codes "COMMON-LISP-USER") → user_finds_other s.packages (codes "P") (codes "COMMON-LISP-USER") (codes "A") ≡ false
+        → is_external s.packages (codes "P") (codes "A") ≡ false
+        → value [] s (call (codes "EXPORT") (a ∷ text (codes "P") ∷ [])) ≡ writes t (with_packages s (with_external s.packages (codes "P") (codes "COMMON-LISP-USER") (codes "A")))
+    unfolding value
+    exported first alone hidden = rw (p, first, hidden, p, alone) refl
+
+    -- a symbol that is inherited becomes present
+    inherited_imported : found s.packages (codes "P") (codes "A") ≡ Some (codes "COMMON-LISP-USER") → is_present s.packages (codes "P") (codes "A") ≡ false
+        → value [] s (call (codes "IMPORT") (a ∷ text (codes "P") ∷ []))
+        ≡ writes t (with_packages s (with_entry s.packages (codes "P") (codes "A") (record { home = codes "COMMON-LISP-USER"; external = false })))
+    unfolding value
+    inherited_imported here absent = rw (p, absent, p, here) refl
+
+    present_imported : found s.packages (codes "P") (codes "A") ≡ Some (codes "COMMON-LISP-USER") → is_present s.packages (codes "P") (codes "A") ≡ true
+        → value [] s (call (codes "IMPORT") (a ∷ text (codes "P") ∷ [])) ≡ gives t s
+    unfolding value
+    present_imported here present = rw (p, present, p, here) refl
+
+    made_in : found s.packages (codes "P") (codes "Q") ≡ None → nat_le 1000000 (symbol_count s.packages) ≡ false
+        → value [] s (call (codes "INTERN") (text (codes "Q") ∷ text (codes "P") ∷ []))
+        ≡ writes (symbol (codes "P") (codes "Q")) (with_packages s (with_entry s.packages (codes "P") (codes "Q") (record { home = codes "P"; external = false })))
+    unfolding value
+    made_in none room = rw (p, none, p, room) refl
+
+    imported : found s.packages (codes "P") (codes "A") ≡ None → is_present s.packages (codes "P") (codes "A") ≡ false
+        → value [] s (call (codes "IMPORT") (a ∷ text (codes "P") ∷ []))
+        ≡ writes t (with_packages s (with_entry s.packages (codes "P") (codes "A") (record { home = codes "COMMON-LISP-USER"; external = false })))
+    unfolding value
+    imported none absent = rw (p, absent, p, none) refl
+
+    used : finite.contains_key s.packages (codes "Q") ≡ true → is_used s.packages (codes "P") (codes "Q") ≡ false → finds_other_than_shown s.packages (codes "P") (codes "Q") ≡ false
+        → value [] s (call (codes "USE-PACKAGE") (text (codes "Q") ∷ text (codes "P") ∷ [])) ≡ writes t (with_packages s (with_used s.packages (codes "P") (codes "Q")))
+    unfolding value
+    used q not_used alike = rw (q, p, not_used, p, q, alike) refl
+
+    inherited : found s.packages (codes "P") (codes "CAR") ≡ Some (codes "L") → value [] s (call (codes "INTERN") (text (codes "CAR") ∷ text (codes "P") ∷ [])) ≡ gives (symbol (codes "L") (codes "CAR")) s
+    unfolding value
+    inherited here = rw (p, here, p) refl
+
+    too_many : found s.packages (codes "P") (codes "Q") ≡ None → nat_le 1000000 (symbol_count s.packages) ≡ true → value [] s (call (codes "INTERN") (text (codes "Q") ∷ text (codes "P") ∷ [])) ≡ Err 46
+    unfolding value
+    too_many none full = rw (p, none, p, full) refl
+
+  a_keyword_made : finite.contains_key s.packages keyword ≡ true → found s.packages keyword (codes "Q") ≡ None → nat_le 1000000 (symbol_count s.packages) ≡ false
+      → value [] s (call (codes "INTERN") (text (codes "Q") ∷ text keyword ∷ [])) ≡ writes (named (codes "Q")) (with_packages s (with_entry s.packages keyword (codes "Q") (record { home = keyword; external = true })))
+  unfolding value
+  a_keyword_made there none room = rw (there, none, there, room) refl
+
+  too_many_packages : finite.contains_key s.packages (codes "P") ≡ false → nat_le 1000 (finite.len s.packages) ≡ true → value [] s (call (codes "MAKE-PACKAGE") (text (codes "P") ∷ [])) ≡ Err 46
+  unfolding value
+  too_many_packages new full = rw (new, full) refl
+
+  made : finite.contains_key s.packages (codes "P") ≡ false → nat_le 1000 (finite.len s.packages) ≡ false
+      → value [] s (call (codes "MAKE-PACKAGE") (quoted (own (codes "P")) ∷ [])) ≡ writes (text (codes "P")) (with_packages s (with_new_package s.packages (codes "P")))
+  unfolding value
+  made new room = rw (new, room) refl
+
+  -- ---- readtables
+  no_table : finite.get s.readtables (codes "X") ≡ None → value [] s (call (codes "READTABLE-CASE") (named (codes "X") ∷ [])) ≡ Err 39
+  unfolding value
+  no_table none = rw none refl
+
+  no_table_changed : finite.get s.readtables (codes "X") ≡ None → value [] s (call (codes "SET-MACRO-CHARACTER") (character 97 ∷ named (codes "NO") ∷ nil ∷ named (codes "X") ∷ [])) ≡ Err 39
+  unfolding value
+  no_table_changed none = rw none refl
+
+  nil_no_name : value [] s (call (codes "READTABLE-CASE") (nil ∷ [])) ≡ Err 33
+  unfolding value
+  nil_no_name = refl
+
+  no_case : value [] s (call (codes "SETF") (call (codes "READTABLE-CASE") (named (codes "X") ∷ []) ∷ named (codes "LOWER") ∷ [])) ≡ Err 33
+  unfolding value
+  no_case = refl
+
+  module _ (table : readtable.Table) where
+    module _ (there : finite.get s.readtables standard_name ≡ Some table) where
+      standard_case : value [] s (call (codes "SETF") (call (codes "READTABLE-CASE") (named standard_name ∷ []) ∷ named (codes "INVERT") ∷ [])) ≡ Err 40
+      unfolding value
+      standard_case = rw there refl
+
+      standard_first : value [] s (call (codes "SET-MACRO-CHARACTER") (character 97 ∷ named (codes "NO") ∷ nil ∷ named standard_name ∷ [])) ≡ Err 40
+      unfolding value
+      standard_first = rw there refl
+
+      copied_over : value [] s (call (codes "COPY-READTABLE") (nil ∷ named standard_name ∷ [])) ≡ Err 40
+      unfolding value
+      copied_over = rw there refl
+
+      copied : finite.contains_key s.readtables (codes "X") ≡ true
+          → value [] s (call (codes "COPY-READTABLE") (nil ∷ named (codes "X") ∷ [])) ≡ writes (named (codes "X")) (record s { readtables = finite.insert s.readtables (codes "X") table })
+      unfolding value
+      copied old = rw (there, old) refl
+
+      standard_first_macro : value [] s (call (codes "GET-MACRO-CHARACTER") (character 97 ∷ nil ∷ [])) ≡ gives (name_or_nil (entry_at table 97).function) s
+      unfolding value
+      standard_first_macro = rw there refl
+
+      no_room : finite.contains_key s.readtables (codes "X") ≡ false → nat_le 64 (finite.len s.readtables) ≡ true → value [] s (call (codes "COPY-READTABLE") (nil ∷ named (codes "X") ∷ [])) ≡ Err 46
+      unfolding value
+      no_room new full = rw (there, new, full) refl
+
+    module _ (there : finite.get s.readtables (codes "X") ≡ Some table) where
+      a_case : value [] s (call (codes "READTABLE-CASE") (named (codes "X") ∷ [])) ≡ gives (named (case_name table.letters)) s
+      unfolding value
+      a_case = rw there refl
+
+      no_function : value [] s (call (codes "SET-MACRO-CHARACTER") (character 97 ∷ named (codes "NO") ∷ nil ∷ named (codes "X") ∷ [])) ≡ Err 41
+      unfolding value
+      no_function = rw there refl
+
+      dispatch_is_fixed : value [] s (call (codes "SET-MACRO-CHARACTER") (character 97 ∷ named (codes "STD-DISPATCH") ∷ nil ∷ named (codes "X") ∷ [])) ≡ Err 41
+      unfolding value
+      dispatch_is_fixed = rw there refl
+
+      set_again : value (codes "SQUARE" ∷ []) s (call (codes "SET-MACRO-CHARACTER") (character 91 ∷ named (codes "SQUARE") ∷ nil ∷ named (codes "X") ∷ []))
+          ≡ writes t (record s { readtables = finite.insert s.readtables (codes "X") (with_entry_at table 91 (macro_entry (codes "SQUARE") false)) })
+      unfolding value
+      set_again = rw there refl
+
+      cased : value [] s (call (codes "SETF") (call (codes "READTABLE-CASE") (named (codes "X") ∷ []) ∷ named (codes "INVERT") ∷ []))
+          ≡ writes (named (codes "INVERT")) (record s { readtables = finite.insert s.readtables (codes "X") (record table { letters = Invert }) })
+      unfolding value
+      cased = rw there refl
+
+      not_dispatching : is_dispatching (entry_at table 97) ≡ false → value [] s (call (codes "SET-DISPATCH-MACRO-CHARACTER") (character 97 ∷ character 53 ∷ named (codes "STD-LIST") ∷ named (codes "X") ∷ [])) ≡ Err 42
+      unfolding value
+      not_dispatching none = rw (there, none) refl
+
+      no_dispatch_to_get : is_dispatching (entry_at table 97) ≡ false → value [] s (call (codes "GET-DISPATCH-MACRO-CHARACTER") (character 97 ∷ character 53 ∷ named (codes "X") ∷ [])) ≡ Err 42
+      unfolding value
+      no_dispatch_to_get none = rw (there, none) refl
+
+      digit : is_dispatching (entry_at table 97) ≡ true → value [] s (call (codes "SET-DISPATCH-MACRO-CHARACTER") (character 97 ∷ character 53 ∷ named (codes "STD-LIST") ∷ named (codes "X") ∷ [])) ≡ Err 43
+      unfolding value
+      digit dispatches = rw (there, dispatches) refl
+
+      first_digit : is_dispatching (entry_at table 97) ≡ true
+          → value [] s (call (codes "SET-DISPATCH-MACRO-CHARACTER") (character 97 ∷ character 48 ∷ named (codes "STD-LIST") ∷ named (codes "X") ∷ [])) ≡ Err 43
+      unfolding value
+      first_digit dispatches = rw (there, dispatches) refl
+
+      dispatches_set : is_dispatching (entry_at table 97) ≡ true
+          → value [] s (call (codes "SET-DISPATCH-MACRO-CHARACTER") (character 97 ∷ character 98 ∷ named (codes "STD-LIST") ∷ named (codes "X") ∷ []))
+          ≡ writes t (record s { readtables = finite.insert s.readtables (codes "X") (with_entry_at table 97 (with_function (entry_at table 97) 98 (codes "STD-LIST"))) })
+      unfolding value
+      dispatches_set dispatches = rw (there, dispatches) refl
+
+      dispatches_got : is_dispatching (entry_at table 97) ≡ true
+          → value [] s (call (codes "GET-DISPATCH-MACRO-CHARACTER") (character 97 ∷ character 98 ∷ named (codes "X") ∷ [])) ≡ gives (name_or_nil (dispatch_at table 97 98)) s
+      unfolding value
+      dispatches_got dispatches = rw (there, dispatches) refl
+
+      dispatching_made : value [] s (call (codes "MAKE-DISPATCH-MACRO-CHARACTER") (character 64 ∷ t ∷ named (codes "X") ∷ []))
+          ≡ writes t (record s { readtables = finite.insert s.readtables (codes "X") (with_entry_at table 64 (dispatching_entry true)) })
+      unfolding value
+      dispatching_made = rw there refl
+
+      syntax_set : value [] s (call (codes "SET-SYNTAX-FROM-CHAR") (character 36 ∷ character 34 ∷ named (codes "X") ∷ named (codes "X") ∷ []))
+          ≡ writes t (record s { readtables = finite.insert s.readtables (codes "X") (with_entry_at table 36 (entry_at table 34)) })
+      unfolding value
+      syntax_set = rw there refl
+
+  table_entered : finite.contains_key s.readtables (codes "X") ≡ true → value [] s (call (codes "IN-READTABLE") (named (codes "X") ∷ [])) ≡ writes (named (codes "X")) (record s { current_readtable = codes "X" })
+  unfolding value
+  table_entered there = rw there refl
+
+  no_table_entered : finite.contains_key s.readtables (codes "X") ≡ false → value [] s (call (codes "IN-READTABLE") (named (codes "X") ∷ [])) ≡ Err 39
+  unfolding value
+  no_table_entered none = rw none refl

@@ -1,0 +1,16 @@
+use Rattle.std.proofs.Common.{◌≡◌, All, map, drop}
+use Rattle.lisp_object.specs.Object.{list_of}
+use Rattle.lisp_object.specs.Datum.{object_of}
+use Rattle.evaluator.specs.Gathered.{followed}
+use Rattle.lisp_operators.specs.Evaluated.{IsArgument, Keeps}
+use Rattle.evaluator.proofs.evaluation.+evaluation.Given as goal
+
+abbrev pub invariant-extended-loop-i : goal.invariant-extended-loop-i
+invariant-extended-loop-i l = record {
+  same : followed l.names (map object_of l.fn.values.values.items) l.fn.values.wrote l.fn.world.0 (list_of (map object_of (drop l.fn.from l.forms)))
+      ≡ followed l.names (map object_of l.values.values.items) l.values.wrote l.world.0 (list_of (map object_of (drop l.i l.forms)));
+  values : All (IsArgument l.world.0.packages) l.values.values.items;
+  forms : All (IsArgument l.world.0.packages) l.forms;
+  kept : Keeps l.fn.world.0.packages l.world.0.packages;
+  marked : l.world.1 ≡ l.fn.world.1;
+}

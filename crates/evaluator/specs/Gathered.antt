@@ -1,0 +1,78 @@
+-- Forms that are evaluated one after the other, and what an operator makes of their values.
+use Rattle.std.specs.Prelude.{◌≡◌, ℕ, Bool, true, false, List, [], ◌∷◌, ◌++◌, map, Option, Some, None, Result, Ok, Err, IsOk}
+use Rattle.lisp_object.specs.Object.{Object, nil, list_of, is_proper_list, pair}
+use Rattle.package_table.specs.Table.{Name}
+use Rattle.plist_state.specs.State.{State}
+use Rattle.lisp_operators.specs.declared.error.EvaluationError.{EvaluationError}
+use Rattle.lisp_operators.specs.declared.error.EvaluationError.TheVariants.{Refused, OutOfMemory}
+use Rattle.lisp_object.specs.declared.refusal.TheConstants.{ARGUMENT_KIND}
+use Rattle.lisp_object.specs.Datum.{object_of}
+use Rattle.lisp_operators.specs.Outcomes.{Done}
+use Rattle.evaluator.specs.declared.values.Values.{Values}
+use Rattle.evaluator.specs.declared.operation.Operation.{Operation}
+use Rattle.evaluator.specs.declared.operation.Operation.TheVariants.{Progn, MakeList, Setf, Incf, Push, Export, Import, UsePackage}
+use Rattle.lisp_operators.specs.Outcomes.{Outcome, gives, also, and_then}
+use Rattle.evaluator.specs.Operators.{count, first}
+use Rattle.evaluator.specs.Operations.{action_of, function_of}
+use Rattle.evaluator.specs.Value.{Parts, value, values, choice, values_at_place, values_before_place, action_value, place_refusal, get_place_refusal, is_case_place, rest}
+
+-- values that leave this state
+abbrev pub all_done : Values → State → Done (List Object)
+all_done v s = record { value = map object_of v.values.items; state = s; wrote = v.wrote }
+
+-- the arguments of a form, of the list of what is in it
+abbrev pub arguments_of : List Object → Object
+arguments_of [] = nil
+arguments_of (x ∷ xs) = list_of xs
+
+-- what the arguments of a form give
+abbrev pub parts : List Name → State → Object → Parts
+parts names s arguments = record {
+  in_order = values names s arguments;
+  chosen = choice names s arguments;
+  at_place = values_at_place names s arguments;
+  before_place = values_before_place names s arguments;
+}
+
+-- the values of forms after these values, where whether those wrote is known
+abbrev pub followed : List Name → List Object → Bool → State → Object → Outcome (List Object)
+followed names xs wrote s forms = also wrote (and_then (values names s forms) (λ ys end'. gives (xs ++ ys) end'))
+
+-- the same of the subforms of a place
+abbrev pub subforms : List Name → List Object → Bool → State → Object → Outcome (List Object)
+subforms names xs wrote s (pair operator forms) = followed names xs wrote s forms
+subforms names xs wrote s _ = Err ARGUMENT_KIND
+
+-- what an operator takes of these
+abbrev pub gathered : List Name → State → Operation → Object → Outcome (List Object)
+gathered names s Setf arguments = values_at_place names s arguments
+gathered names s Incf arguments = values_at_place names s arguments
+gathered names s Push arguments = values_before_place names s arguments
+gathered names s _ arguments = values names s arguments
+
+-- why the place of an operator is none
+abbrev pub refusal_of_place : Operation → Object → Option ℕ
+refusal_of_place Setf arguments = place_refusal (first arguments)
+refusal_of_place Incf arguments = get_place_refusal (first arguments)
+refusal_of_place Push arguments = get_place_refusal (first (rest arguments))
+refusal_of_place _ arguments = None
+
+-- whether it is SETF of a readtable's case
+abbrev pub is_case : Operation → Object → Bool
+is_case Setf arguments = is_case_place (first arguments)
+is_case _ arguments = false
+
+-- nothing is refused, or this is the number of the refusal
+abbrev pub IsRefusal : {A : Type 0} → Option ℕ → Result A EvaluationError → Type 0
+IsRefusal refusal (Ok _) = refusal ≡ None
+IsRefusal refusal (Err (Refused code)) = refusal ≡ Some code
+IsRefusal refusal (Err OutOfMemory) = ⊥
+
+-- What is at the head of a form of so many arguments: an operator that takes them, or the reason for which the form has no
+-- value.
+abbrev pub IsHead : List Name → Object → ℕ → Result Operation EvaluationError → Type 0
+IsHead names head n (Ok operation) = (s : State) (arguments : Object) → is_proper_list arguments ≡ true → count arguments ≡ n
+    → value names s (pair head arguments) ≡ action_value s (action_of names operation) arguments (parts names s arguments)
+IsHead names head n (Err (Refused code)) = (s : State) (arguments : Object) → is_proper_list arguments ≡ true → count arguments ≡ n
+    → value names s (pair head arguments) ≡ Err code
+IsHead names head n (Err OutOfMemory) = ⊥

@@ -1,0 +1,4 @@
+pub mod Operators
+pub mod Value
+pub mod Operations
+pub mod Gathered

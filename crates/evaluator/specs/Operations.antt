@@ -1,0 +1,182 @@
+-- The operators as the evaluator has them: how many arguments each takes, and what it does.
+use Rattle.std.specs.Prelude.{ℕ, ◌+◌, ◌≤◌, Bool, true, false, if◌then◌else◌, List, [], ◌∷◌, bytes_eq, codes, Option, Some, None, IfSome, Err}
+use Rattle.lisp_object.specs.Object.{Object}
+use Rattle.lisp_object.specs.declared.refusal.TheConstants.{ARGUMENT_KIND}
+use Rattle.plist_state.specs.State.{State}
+use Rattle.package_table.specs.Table.{Name}
+use Rattle.evaluator.specs.declared.operation.Operation.{Operation}
+use Rattle.evaluator.specs.declared.operation.Operation.TheVariants.{Quote, Progn, If, MakeList, Get, Setf, Remprop, SymbolPlist, Incf, Push, MakePackage, InPackage, Export, Import, UsePackage, Intern, CopyReadtable, InReadtable, SetSyntaxFromChar, SetMacroCharacter, GetMacroCharacter, MakeDispatchMacroCharacter, SetDispatchMacroCharacter, GetDispatchMacroCharacter, ReadtableCase}
+use Rattle.lisp_operators.specs.Outcomes.{Outcome, gives}
+use Rattle.lisp_operators.specs.Properties.{list, get, set, remove, symbol_plist, increment, push}
+use Rattle.lisp_operators.specs.Packages.{make, intern, export, import, use_package}
+use Rattle.evaluator.specs.Value.{last}
+use Rattle.lisp_operators.specs.Readtables.{readtable_case, set_case, copy_readtable, enter_readtable, set_syntax, set_macro, get_macro, make_dispatch, set_dispatch, get_dispatch}
+use Rattle.evaluator.specs.Operators.{Operator, Action, quotes, sequence, chooses, assigns, increments, pushes, enters_package, calls}
+
+abbrev pub least : Operation → ℕ
+least Quote = 1
+least Progn = 0
+least If = 2
+least MakeList = 0
+least Get = 2
+least Setf = 2
+least Remprop = 2
+least SymbolPlist = 1
+least Incf = 1
+least Push = 2
+least MakePackage = 1
+least InPackage = 1
+least Export = 1
+least Import = 1
+least UsePackage = 1
+least Intern = 1
+least CopyReadtable = 2
+least InReadtable = 1
+least SetSyntaxFromChar = 2
+least SetMacroCharacter = 2
+least GetMacroCharacter = 1
+least MakeDispatchMacroCharacter = 1
+least SetDispatchMacroCharacter = 3
+least GetDispatchMacroCharacter = 2
+least ReadtableCase = 1
+
+abbrev pub most : Operation → Option ℕ
+most Quote = Some 1
+most Progn = None
+most If = Some 3
+most MakeList = None
+most Get = Some 3
+most Setf = Some 2
+most Remprop = Some 2
+most SymbolPlist = Some 1
+most Incf = Some 2
+most Push = Some 2
+most MakePackage = Some 1
+most InPackage = Some 1
+most Export = Some 2
+most Import = Some 2
+most UsePackage = Some 2
+most Intern = Some 2
+most CopyReadtable = Some 2
+most InReadtable = Some 1
+most SetSyntaxFromChar = Some 4
+most SetMacroCharacter = Some 4
+most GetMacroCharacter = Some 2
+most MakeDispatchMacroCharacter = Some 3
+most SetDispatchMacroCharacter = Some 4
+most GetDispatchMacroCharacter = Some 3
+most ReadtableCase = Some 1
+
+-- what it does, where these are the names of macro functions
+abbrev pub action_of : List Name → Operation → Action
+action_of names Quote = quotes
+action_of names Progn = sequence
+action_of names If = chooses
+action_of names MakeList = calls list
+action_of names Get = calls get
+action_of names Setf = assigns
+action_of names Remprop = calls remove
+action_of names SymbolPlist = calls symbol_plist
+action_of names Incf = increments
+action_of names Push = pushes
+action_of names MakePackage = calls make
+action_of names InPackage = enters_package
+action_of names Export = calls export
+action_of names Import = calls import
+action_of names UsePackage = calls use_package
+action_of names Intern = calls intern
+action_of names CopyReadtable = calls copy_readtable
+action_of names InReadtable = calls enter_readtable
+action_of names SetSyntaxFromChar = calls set_syntax
+action_of names SetMacroCharacter = calls (set_macro names)
+action_of names GetMacroCharacter = calls get_macro
+action_of names MakeDispatchMacroCharacter = calls make_dispatch
+action_of names SetDispatchMacroCharacter = calls (set_dispatch names)
+action_of names GetDispatchMacroCharacter = calls get_dispatch
+action_of names ReadtableCase = calls readtable_case
+
+abbrev pub operator : List Name → Operation → Operator
+operator names operation = record { least = least operation; most = most operation; action = action_of names operation }
+
+-- a list with so many elements, an operator among them, has a right number of arguments
+abbrev pub IsCounted : Operation → ℕ → Type 0
+IsCounted operation n = (least operation + 1 ≤ n) × IfSome (most operation) (λ m. n ≤ m + 1)
+
+-- whether it gives a function of the values of its arguments
+abbrev pub is_ordinary : Operation → Bool
+is_ordinary Quote = false
+is_ordinary If = false
+is_ordinary InPackage = false
+is_ordinary _ = true
+
+-- that function; SETF has two, as its place is a readtable's case or a property
+abbrev pub of_values : Action → List Object → State → Outcome Object
+of_values (calls function) xs s = function xs s
+of_values _ xs s = Err ARGUMENT_KIND
+
+abbrev pub function_of : List Name → Operation → Bool → List Object → State → Outcome Object
+function_of names Progn is_case xs s = gives (last xs) s
+function_of names Setf is_case xs s = if is_case then set_case xs s else set xs s
+function_of names Incf is_case xs s = increment xs s
+function_of names Push is_case xs s = push xs s
+function_of names operation is_case xs s = of_values (action_of names operation) xs s
+
+-- the family of operators to which it belongs
+abbrev pub is_on_properties : Operation → Bool
+is_on_properties Get = true
+is_on_properties Setf = true
+is_on_properties Remprop = true
+is_on_properties SymbolPlist = true
+is_on_properties Incf = true
+is_on_properties Push = true
+is_on_properties _ = false
+
+abbrev pub is_on_packages : Operation → Bool
+is_on_packages MakePackage = true
+is_on_packages Export = true
+is_on_packages Import = true
+is_on_packages UsePackage = true
+is_on_packages Intern = true
+is_on_packages _ = false
+
+-- the operators of control and on data, by their names
+abbrev pub operators_on_data : List (Name × Operation)
+operators_on_data =
+    (codes "QUOTE", Quote) ∷
+    (codes "PROGN", Progn) ∷
+    (codes "IF", If) ∷
+    (codes "LIST", MakeList) ∷
+    (codes "GET", Get) ∷
+    (codes "SETF", Setf) ∷
+    (codes "REMPROP", Remprop) ∷
+    (codes "SYMBOL-PLIST", SymbolPlist) ∷
+    (codes "INCF", Incf) ∷
+    (codes "PUSH", Push) ∷ []
+
+-- the operators on packages
+abbrev pub operators_on_packages : List (Name × Operation)
+operators_on_packages =
+    (codes "MAKE-PACKAGE", MakePackage) ∷
+    (codes "IN-PACKAGE", InPackage) ∷
+    (codes "EXPORT", Export) ∷
+    (codes "IMPORT", Import) ∷
+    (codes "USE-PACKAGE", UsePackage) ∷
+    (codes "INTERN", Intern) ∷ []
+
+-- the operators on readtables
+abbrev pub operators_on_readtables : List (Name × Operation)
+operators_on_readtables =
+    (codes "COPY-READTABLE", CopyReadtable) ∷
+    (codes "IN-READTABLE", InReadtable) ∷
+    (codes "SET-SYNTAX-FROM-CHAR", SetSyntaxFromChar) ∷
+    (codes "SET-MACRO-CHARACTER", SetMacroCharacter) ∷
+    (codes "GET-MACRO-CHARACTER", GetMacroCharacter) ∷
+    (codes "MAKE-DISPATCH-MACRO-CHARACTER", MakeDispatchMacroCharacter) ∷
+    (codes "SET-DISPATCH-MACRO-CHARACTER", SetDispatchMacroCharacter) ∷
+    (codes "GET-DISPATCH-MACRO-CHARACTER", GetDispatchMacroCharacter) ∷
+    (codes "READTABLE-CASE", ReadtableCase) ∷ []
+
+-- the one beside this name
+abbrev pub among : List (Name × Operation) → Name → Option Operation
+among [] name = None
+among (r ∷ rs) name = if bytes_eq name r.0 then Some r.1 else among rs name

@@ -1,0 +1,92 @@
+-- The operators (standard 3.1.2.1.2): the symbols of COMMON-LISP that may be at the head of a form, and how many arguments each
+-- takes.
+use Rattle.std.specs.Prelude.{ℕ, ◌+◌, Bool, true, false, ◌&&◌, nat_le, if◌then◌else◌, List, Option, Some, None, codes}
+use Rattle.std.specs.Str.{bytes_eq}
+use Rattle.std.specs.Option.{option_map_or}
+use Rattle.lisp_object.specs.Object.{Object, symbol, pair, nil}
+use Rattle.package_table.specs.Table.{Name, common_lisp}
+use Rattle.plist_state.specs.State.{State}
+use Rattle.lisp_operators.specs.Outcomes.{Outcome}
+use Rattle.lisp_operators.specs.Properties.{list, get, remove, symbol_plist}
+use Rattle.lisp_operators.specs.Packages.{make, intern, export, import, use_package}
+use Rattle.lisp_operators.specs.Readtables.{readtable_case, copy_readtable, enter_readtable, set_syntax, set_macro, get_macro, make_dispatch, set_dispatch, get_dispatch}
+
+-- What a form does: an operator with a rule of its own, or a function of the values of its arguments.
+pub data Action : Type 0 where
+  quotes : Action
+  sequence : Action
+  chooses : Action
+  assigns : Action
+  increments : Action
+  pushes : Action
+  enters_package : Action
+  calls : (List Object → State → Outcome Object) → Action
+
+pub record Operator : Type 0 where
+  -- how many arguments at least, and how many at most
+  pub least : ℕ
+  pub most : Option ℕ
+  pub action : Action
+
+abbrev pub takes : ℕ → ℕ → Action → Option Operator
+takes least most action = Some (record { least = least; most = Some most; action = action })
+
+abbrev pub takes_any : Action → Option Operator
+takes_any action = Some (record { least = 0; most = None; action = action })
+
+-- the operator of this name, where these are the names of macro functions
+abbrev pub operator_named : List Name → Name → Option Operator
+operator_named names name =
+    if bytes_eq name (codes "QUOTE") then takes 1 1 quotes
+    else (if bytes_eq name (codes "PROGN") then takes_any sequence
+    else (if bytes_eq name (codes "IF") then takes 2 3 chooses
+    else (if bytes_eq name (codes "LIST") then takes_any (calls list)
+    else (if bytes_eq name (codes "GET") then takes 2 3 (calls get)
+    else (if bytes_eq name (codes "SETF") then takes 2 2 assigns
+    else (if bytes_eq name (codes "REMPROP") then takes 2 2 (calls remove)
+    else (if bytes_eq name (codes "SYMBOL-PLIST") then takes 1 1 (calls symbol_plist)
+    else (if bytes_eq name (codes "INCF") then takes 1 2 increments
+    else (if bytes_eq name (codes "PUSH") then takes 2 2 pushes
+    else (if bytes_eq name (codes "MAKE-PACKAGE") then takes 1 1 (calls make)
+    else (if bytes_eq name (codes "IN-PACKAGE") then takes 1 1 enters_package
+    else (if bytes_eq name (codes "EXPORT") then takes 1 2 (calls export)
+    else (if bytes_eq name (codes "IMPORT") then takes 1 2 (calls import)
+    else (if bytes_eq name (codes "USE-PACKAGE") then takes 1 2 (calls use_package)
+    else (if bytes_eq name (codes "INTERN") then takes 1 2 (calls intern)
+    else (if bytes_eq name (codes "COPY-READTABLE") then takes 2 2 (calls copy_readtable)
+    else (if bytes_eq name (codes "IN-READTABLE") then takes 1 1 (calls enter_readtable)
+    else (if bytes_eq name (codes "SET-SYNTAX-FROM-CHAR") then takes 2 4 (calls set_syntax)
+    else (if bytes_eq name (codes "SET-MACRO-CHARACTER") then takes 2 4 (calls (set_macro names))
+    else (if bytes_eq name (codes "GET-MACRO-CHARACTER") then takes 1 2 (calls get_macro)
+    else (if bytes_eq name (codes "MAKE-DISPATCH-MACRO-CHARACTER") then takes 1 3 (calls make_dispatch)
+    else (if bytes_eq name (codes "SET-DISPATCH-MACRO-CHARACTER") then takes 3 4 (calls (set_dispatch names))
+    else (if bytes_eq name (codes "GET-DISPATCH-MACRO-CHARACTER") then takes 2 3 (calls get_dispatch)
+    else (if bytes_eq name (codes "READTABLE-CASE") then takes 1 1 (calls readtable_case)
+    else None))))))))))))))))))))))))
+
+-- the operator of a symbol of COMMON-LISP
+abbrev pub operator_of : List Name → Object → Option Operator
+operator_of names (symbol home name) = if bytes_eq home common_lisp then operator_named names name else None
+operator_of names _ = None
+
+-- whether it is the symbol of COMMON-LISP with this name
+abbrev pub is_standard : List ℕ → Object → Bool
+is_standard name (symbol home own) = bytes_eq home common_lisp && bytes_eq own name
+is_standard name _ = false
+
+abbrev pub is_interned : Object → Bool
+is_interned (symbol home name) = true
+is_interned _ = false
+
+-- the number of the elements of a list
+abbrev pub count : Object → ℕ
+count (pair x xs) = count xs + 1
+count _ = 0
+
+abbrev pub counts : Operator → ℕ → Bool
+counts operator n = nat_le operator.least n && option_map_or (λ most. nat_le n most) operator.most true
+
+-- the first element of a list, or NIL of the empty one (standard 14.2, car)
+abbrev pub first : Object → Object
+first (pair x xs) = x
+first _ = nil

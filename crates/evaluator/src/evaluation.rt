@@ -1,0 +1,312 @@
+//! Evaluation (standard 3.1.2.1): the value of a form.
+ghost use Rattle.std.specs.Prelude.{◌≡◌, ◌<◌, ◌≤◌, true, length, drop, map, All, IfOk};
+ghost use Rattle.lisp_object.specs.Object.{list_of};
+ghost use Rattle.lisp_object.specs.Datum.{object_of, is_proper};
+ghost use Rattle.evaluator.specs.Value.{value, values_at_place, values_before_place, choice, action_value};
+ghost use Rattle.lisp_operators.specs.Readtables.{AreFunctionNames};
+ghost use Rattle.lisp_operators.specs.Evaluated.{IsArgument, Keeps, Answers, done};
+ghost use Rattle.evaluator.specs.Gathered.{all_done};
+ghost use Rattle.evaluator.specs.Operations.{IsCounted, is_ordinary, action_of};
+ghost use Rattle.evaluator.specs.Gathered.{arguments_of, parts, followed, subforms, gathered};
+
+use crate::control::{after, itself, quoted, symbol_value};
+use crate::operation::{Operation, operation_of};
+use crate::perform::perform;
+use crate::place::check_place;
+use crate::values::Values;
+use lisp_object::refusal::{ARGUMENT_KIND, NOT_A_FORM};
+use lisp_object::{Datum, Items};
+use lisp_operators::EvaluationError::Refused;
+use lisp_operators::{Evaluated, EvaluationError, kinds, packages, values};
+use plist_state::World;
+use readtable_core::FnName;
+use std::alloc::Global;
+
+/// The value of a form. Where it is refused, or memory runs out, the world is as evaluation left it.
+#[cycle(evaluation)]
+pub fn evaluate(
+    alloc: Global,
+    world: &mut World,
+    names: &[FnName],
+    form: &Datum,
+) -> Result<Evaluated, EvaluationError>
+    requires names { AreFunctionNames names.now }
+    requires form { IsArgument world.old.0.packages form.now }
+    ensures gives { Answers done result world.new.0 (value names.now world.old.0 (object_of form.now)) }
+    ensures value { IfOk result (λ e. IsArgument world.new.0.packages e.value) }
+    ensures kept { IfOk result (λ _. Keeps world.old.0.packages world.new.0.packages) }
+    ensures marked { world.new.1 ≡ world.old.1 }
+{
+    world.soundness();
+    match any_form(alloc, world, names, form) {
+        Ok(evaluated) => Ok(evaluated),
+        Err(error) => Err(error),
+    }
+}
+
+// The value of a form, by what it is.
+#[cycle(evaluation)]
+fn any_form(
+    alloc: Global,
+    world: &mut World,
+    names: &[FnName],
+    form: &Datum,
+) -> Result<Evaluated, EvaluationError>
+    requires names { AreFunctionNames names.now }
+    requires form { IsArgument world.old.0.packages form.now }
+    ensures gives { Answers done result world.new.0 (value names.now world.old.0 (object_of form.now)) }
+    ensures proper { IfOk result (λ e. is_proper e.value ≡ true) }
+    ensures marked { world.new.1 ≡ world.old.1 }
+{
+    match form {
+        Datum::Symbol { .. } => symbol_value(alloc, world, form),
+        Datum::Uninterned(_) => Err(Refused(NOT_A_FORM)),
+        Datum::List { items, tail } => {
+            if tail.is_some() {
+                return Err(Refused(NOT_A_FORM));
+            }
+            list_form(alloc, world, names, items)
+        }
+        Datum::Integer(_) => itself(alloc, form),
+        Datum::Rational(_) => itself(alloc, form),
+        Datum::Char(_) => itself(alloc, form),
+        Datum::Text(_) => itself(alloc, form),
+        Datum::Vector(_) => itself(alloc, form),
+    }
+}
+
+// The value of a list, by what is at its head.
+#[cycle(evaluation)]
+fn list_form(
+    alloc: Global,
+    world: &mut World,
+    names: &[FnName],
+    items: &Items<Datum>,
+) -> Result<Evaluated, EvaluationError>
+    requires some { 0 < length items.now }
+    requires names { AreFunctionNames names.now }
+    requires items { All (IsArgument world.old.0.packages) items.now }
+    ensures gives { Answers done result world.new.0 (value names.now world.old.0 (list_of (map object_of items.now))) }
+    ensures proper { IfOk result (λ e. is_proper e.value ≡ true) }
+    ensures marked { world.new.1 ≡ world.old.1 }
+{
+    let items = items.as_slice();
+    match operation_of(&items[0], items.len() - 1) {
+        Ok(operation) => act(alloc, world, names, operation, items),
+        Err(error) => Err(error),
+    }
+}
+
+// What an operator gives, of a form with a right number of arguments.
+#[cycle(evaluation)]
+fn act(
+    alloc: Global,
+    world: &mut World,
+    names: &[FnName],
+    operation: Operation,
+    items: &[Datum],
+) -> Result<Evaluated, EvaluationError>
+    requires counted { IsCounted operation (length items.now) }
+    requires names { AreFunctionNames names.now }
+    requires items { All (IsArgument world.old.0.packages) items.now }
+    ensures gives { Answers done result world.new.0 (action_value world.old.0 (action_of names.now operation) (arguments_of (map object_of items.now)) (parts names.now world.old.0 (arguments_of (map object_of items.now)))) }
+    ensures proper { IfOk result (λ e. is_proper e.value ≡ true) }
+    ensures marked { world.new.1 ≡ world.old.1 }
+{
+    if operation.is_ordinary() {
+        return ordinary(alloc, world, names, operation, items);
+    }
+    match operation {
+        Operation::If => chosen(alloc, world, names, items),
+        Operation::InPackage => packages::enter(alloc, world, &items[1]),
+        _ => quoted(alloc, items),
+    }
+}
+
+// What an operator gives that is a function of the values of its arguments.
+#[cycle(evaluation)]
+fn ordinary(
+    alloc: Global,
+    world: &mut World,
+    names: &[FnName],
+    operation: Operation,
+    items: &[Datum],
+) -> Result<Evaluated, EvaluationError>
+    requires ordinary { is_ordinary operation ≡ true }
+    requires counted { IsCounted operation (length items.now) }
+    requires names { AreFunctionNames names.now }
+    requires items { All (IsArgument world.old.0.packages) items.now }
+    ensures gives { Answers done result world.new.0 (action_value world.old.0 (action_of names.now operation) (arguments_of (map object_of items.now)) (parts names.now world.old.0 (arguments_of (map object_of items.now)))) }
+    ensures proper { IfOk result (λ e. is_proper e.value ≡ true) }
+    ensures marked { world.new.1 ≡ world.old.1 }
+{
+    let is_case = match check_place(operation, items) {
+        Ok(is_case) => is_case,
+        Err(error) => return Err(error),
+    };
+    match gathered(alloc, world, names, operation, items) {
+        Ok(values) => perform(alloc, world, names, operation, is_case, values),
+        Err(error) => Err(error),
+    }
+}
+
+// The values of the arguments of such an operator, in the order in which it takes them.
+#[cycle(evaluation)]
+fn gathered(
+    alloc: Global,
+    world: &mut World,
+    names: &[FnName],
+    operation: Operation,
+    items: &[Datum],
+) -> Result<Values, EvaluationError>
+    requires counted { IsCounted operation (length items.now) }
+    requires names { AreFunctionNames names.now }
+    requires items { All (IsArgument world.old.0.packages) items.now }
+    ensures gives { Answers all_done result world.new.0 (gathered names.now world.old.0 operation (arguments_of (map object_of items.now))) }
+    ensures values { IfOk result (λ v. All (IsArgument world.new.0.packages) v.values.items) }
+    ensures marked { world.new.1 ≡ world.old.1 }
+{
+    match operation {
+        Operation::Setf => at_place(alloc, world, names, items),
+        Operation::Incf => at_place(alloc, world, names, items),
+        Operation::Push => before_place(alloc, world, names, items),
+        _ => extended(alloc, world, names, Values::none(alloc), items, 1),
+    }
+}
+
+// The values of the subforms of a place, and of the forms after it.
+#[cycle(evaluation)]
+fn at_place(
+    alloc: Global,
+    world: &mut World,
+    names: &[FnName],
+    items: &[Datum],
+) -> Result<Values, EvaluationError>
+    requires counted { 2 ≤ length items.now }
+    requires names { AreFunctionNames names.now }
+    requires items { All (IsArgument world.old.0.packages) items.now }
+    ensures gives { Answers all_done result world.new.0 (values_at_place names.now world.old.0 (arguments_of (map object_of items.now))) }
+    ensures values { IfOk result (λ v. All (IsArgument world.new.0.packages) v.values.items) }
+    ensures marked { world.new.1 ≡ world.old.1 }
+{
+    let values = Values::none(alloc);
+    match subforms(alloc, world, names, values, &items[1]) {
+        Ok(values) => extended(alloc, world, names, values, items, 2),
+        Err(error) => Err(error),
+    }
+}
+
+// The value of a form, and then those of the subforms of the place after it.
+#[cycle(evaluation)]
+fn before_place(
+    alloc: Global,
+    world: &mut World,
+    names: &[FnName],
+    items: &[Datum],
+) -> Result<Values, EvaluationError>
+    requires counted { 3 ≤ length items.now }
+    requires names { AreFunctionNames names.now }
+    requires items { All (IsArgument world.old.0.packages) items.now }
+    ensures gives { Answers all_done result world.new.0 (values_before_place names.now world.old.0 (arguments_of (map object_of items.now))) }
+    ensures values { IfOk result (λ v. All (IsArgument world.new.0.packages) v.values.items) }
+    ensures marked { world.new.1 ≡ world.old.1 }
+{
+    if !kinds::is_pair(&items[2]) {
+        return Err(Refused(ARGUMENT_KIND));
+    }
+    let first = match evaluate(alloc, world, names, &items[1]) {
+        Ok(evaluated) => Values::one(alloc, evaluated)?,
+        Err(error) => return Err(error),
+    };
+    subforms(alloc, world, names, first, &items[2])
+}
+
+// These values, and after them those of the subforms of a place.
+#[cycle(evaluation)]
+fn subforms(
+    alloc: Global,
+    world: &mut World,
+    names: &[FnName],
+    values: Values,
+    place: &Datum,
+) -> Result<Values, EvaluationError>
+    requires names { AreFunctionNames names.now }
+    requires values { All (IsArgument world.old.0.packages) values.values.items }
+    requires place { IsArgument world.old.0.packages place.now }
+    ensures gives { Answers all_done result world.new.0 (subforms names.now (map object_of values.values.items) values.wrote world.old.0 (object_of place.now)) }
+    ensures values { IfOk result (λ v. All (IsArgument world.new.0.packages) v.values.items) }
+    ensures kept { IfOk result (λ _. Keeps world.old.0.packages world.new.0.packages) }
+    ensures marked { world.new.1 ≡ world.old.1 }
+{
+    match place {
+        Datum::List { items, .. } => extended(alloc, world, names, values, items.as_slice(), 1),
+        Datum::Integer(_) => Err(Refused(ARGUMENT_KIND)),
+        Datum::Rational(_) => Err(Refused(ARGUMENT_KIND)),
+        Datum::Char(_) => Err(Refused(ARGUMENT_KIND)),
+        Datum::Text(_) => Err(Refused(ARGUMENT_KIND)),
+        Datum::Symbol { .. } => Err(Refused(ARGUMENT_KIND)),
+        Datum::Uninterned(_) => Err(Refused(ARGUMENT_KIND)),
+        Datum::Vector(_) => Err(Refused(ARGUMENT_KIND)),
+    }
+}
+
+// These values, and after them those of the forms from a place in a list on.
+#[cycle(evaluation)]
+fn extended(
+    alloc: Global,
+    world: &mut World,
+    names: &[FnName],
+    values: Values,
+    forms: &[Datum],
+    from: usize,
+) -> Result<Values, EvaluationError>
+    requires from { from ≤ length forms.now }
+    requires names { AreFunctionNames names.now }
+    requires values { All (IsArgument world.old.0.packages) values.values.items }
+    requires forms { All (IsArgument world.old.0.packages) forms.now }
+    ensures gives { Answers all_done result world.new.0 (followed names.now (map object_of values.values.items) values.wrote world.old.0 (list_of (map object_of (drop from forms.now)))) }
+    ensures values { IfOk result (λ v. All (IsArgument world.new.0.packages) v.values.items) }
+    ensures kept { IfOk result (λ _. Keeps world.old.0.packages world.new.0.packages) }
+    ensures marked { world.new.1 ≡ world.old.1 }
+{
+    let mut values = values;
+    for i in from..forms.len() {
+        let evaluated = match evaluate(alloc, world, names, &forms[i]) {
+            Ok(evaluated) => evaluated,
+            Err(error) => return Err(error),
+        };
+        values = values.with(evaluated)?;
+    }
+    Ok(values)
+}
+
+// IF: the second or the third, as the first is true or false (standard 5.3, `if`).
+#[cycle(evaluation)]
+fn chosen(
+    alloc: Global,
+    world: &mut World,
+    names: &[FnName],
+    items: &[Datum],
+) -> Result<Evaluated, EvaluationError>
+    requires counted { 3 ≤ length items.now }
+    requires names { AreFunctionNames names.now }
+    requires items { All (IsArgument world.old.0.packages) items.now }
+    ensures gives { Answers done result world.new.0 (choice names.now world.old.0 (arguments_of (map object_of items.now))) }
+    ensures proper { IfOk result (λ e. is_proper e.value ≡ true) }
+    ensures marked { world.new.1 ≡ world.old.1 }
+{
+    let test = match evaluate(alloc, world, names, &items[1]) {
+        Ok(test) => test,
+        Err(error) => return Err(error),
+    };
+    if kinds::is_true(&test.value) {
+        return after(test.wrote, evaluate(alloc, world, names, &items[2]));
+    }
+    if items.len() == 3 {
+        return Ok(Evaluated {
+            value: values::empty_list(alloc)?,
+            wrote: test.wrote,
+        });
+    }
+    after(test.wrote, evaluate(alloc, world, names, &items[3]))
+}

@@ -1,0 +1,280 @@
+//! The operators, by their names.
+ghost use Rattle.std.specs.Prelude.{◌≡◌, ◌+◌, true, bytes_eq, List, option_map, IfOk};
+ghost use Rattle.lisp_object.specs.Datum.{object_of, is_proper};
+ghost use Rattle.package_table.specs.Table.{Name};
+ghost use Rattle.evaluator.specs.Operators.{operator_named, counts};
+ghost use Rattle.evaluator.specs.Operations.{least, most, operator, IsCounted, is_ordinary, is_on_properties, is_on_packages, among, operators_on_data, operators_on_packages, operators_on_readtables};
+ghost use Rattle.evaluator.specs.Gathered.{IsHead};
+
+use lisp_object::Datum;
+use lisp_object::refusal::{ARGUMENT_COUNT, NOT_A_FORM, UNKNOWN_OPERATOR};
+use lisp_operators::EvaluationError::Refused;
+use lisp_operators::{EvaluationError, kinds};
+use package_table::standardized::COMMON_LISP;
+
+/// An operator: a symbol of COMMON-LISP that may be at the head of a form (standard 3.1.2.1.2).
+#[derive(Clone, Copy, Debug, PartialEq, Eq)]
+pub(crate) enum Operation {
+    Quote,
+    Progn,
+    If,
+    MakeList,
+    Get,
+    Setf,
+    Remprop,
+    SymbolPlist,
+    Incf,
+    Push,
+    MakePackage,
+    InPackage,
+    Export,
+    Import,
+    UsePackage,
+    Intern,
+    CopyReadtable,
+    InReadtable,
+    SetSyntaxFromChar,
+    SetMacroCharacter,
+    GetMacroCharacter,
+    MakeDispatchMacroCharacter,
+    SetDispatchMacroCharacter,
+    GetDispatchMacroCharacter,
+    ReadtableCase,
+}
+
+impl Operation {
+    /// The operator of this name.
+    #[tactic(auto, using(crate::proofs::Heads::operator_named_among))]
+    pub(crate) fn named(name: &[u8]) -> Option<Operation>
+        ensures { (names : List Name) → option_map (operator names) result ≡ operator_named names name.now }
+    {
+        match on_data(name) {
+            Some(operation) => Some(operation),
+            None => match on_packages(name) {
+                Some(operation) => Some(operation),
+                None => on_readtables(name),
+            },
+        }
+    }
+
+    // How many arguments it takes at least.
+    fn least(self) -> usize
+        ensures { result ≡ least self }
+    {
+        match self {
+            Operation::Quote
+            | Operation::SymbolPlist
+            | Operation::Incf
+            | Operation::MakePackage
+            | Operation::InPackage
+            | Operation::Export
+            | Operation::Import
+            | Operation::UsePackage
+            | Operation::Intern
+            | Operation::InReadtable
+            | Operation::GetMacroCharacter
+            | Operation::MakeDispatchMacroCharacter
+            | Operation::ReadtableCase => 1,
+            Operation::Progn | Operation::MakeList => 0,
+            Operation::If
+            | Operation::Get
+            | Operation::Setf
+            | Operation::Remprop
+            | Operation::Push
+            | Operation::CopyReadtable
+            | Operation::SetSyntaxFromChar
+            | Operation::SetMacroCharacter
+            | Operation::GetDispatchMacroCharacter => 2,
+            Operation::SetDispatchMacroCharacter => 3,
+        }
+    }
+
+    // How many it takes at most, where there is such a number.
+    fn most(self) -> Option<usize>
+        ensures { result ≡ most self }
+    {
+        match self {
+            Operation::Quote
+            | Operation::SymbolPlist
+            | Operation::MakePackage
+            | Operation::InPackage
+            | Operation::InReadtable
+            | Operation::ReadtableCase => Some(1),
+            Operation::Progn | Operation::MakeList => None,
+            Operation::If
+            | Operation::Get
+            | Operation::MakeDispatchMacroCharacter
+            | Operation::GetDispatchMacroCharacter => Some(3),
+            Operation::Setf
+            | Operation::Remprop
+            | Operation::Incf
+            | Operation::Push
+            | Operation::Export
+            | Operation::Import
+            | Operation::UsePackage
+            | Operation::Intern
+            | Operation::CopyReadtable
+            | Operation::GetMacroCharacter => Some(2),
+            Operation::SetSyntaxFromChar
+            | Operation::SetMacroCharacter
+            | Operation::SetDispatchMacroCharacter => Some(4),
+        }
+    }
+
+    /// Whether it gives a function of the values of its arguments.
+    pub(crate) fn is_ordinary(self) -> bool
+        ensures { result ≡ is_ordinary self }
+    {
+        !matches!(
+            self,
+            Operation::Quote | Operation::If | Operation::InPackage
+        )
+    }
+
+    /// Whether it is on property lists.
+    pub(crate) fn is_on_properties(self) -> bool
+        ensures { result ≡ is_on_properties self }
+    {
+        matches!(
+            self,
+            Operation::Get
+                | Operation::Setf
+                | Operation::Remprop
+                | Operation::SymbolPlist
+                | Operation::Incf
+                | Operation::Push
+        )
+    }
+
+    /// Whether it is on packages.
+    pub(crate) fn is_on_packages(self) -> bool
+        ensures { result ≡ is_on_packages self }
+    {
+        matches!(
+            self,
+            Operation::MakePackage
+                | Operation::Export
+                | Operation::Import
+                | Operation::UsePackage
+                | Operation::Intern
+        )
+    }
+
+    /// Whether it takes so many arguments.
+    pub(crate) fn counts(self, number: usize) -> bool
+        ensures value { (names : List Name) → result ≡ counts (operator names self) number }
+        ensures counted { result ≡ true → IsCounted self (number + 1) }
+    {
+        if number < self.least() {
+            return false;
+        }
+        match self.most() {
+            Some(most) => number <= most,
+            None => true,
+        }
+    }
+}
+
+/// What is at the head of a form of so many arguments.
+pub(crate) fn operation_of(head: &Datum, number: usize) -> Result<Operation, EvaluationError>
+    requires { is_proper head.now ≡ true }
+    ensures head { (names : List Name) → IsHead names (object_of head.now) number result }
+    ensures counted { IfOk result (λ operation. IsCounted operation (number + 1)) }
+{
+    let Ok((home, name)) = kinds::symbol(head) else {
+        return Err(Refused(NOT_A_FORM));
+    };
+    if !is_name(home, COMMON_LISP) {
+        return Err(Refused(UNKNOWN_OPERATOR));
+    }
+    let Some(operation) = Operation::named(name) else {
+        return Err(Refused(UNKNOWN_OPERATOR));
+    };
+    if !operation.counts(number) {
+        return Err(Refused(ARGUMENT_COUNT));
+    }
+    Ok(operation)
+}
+
+fn is_name(name: &[u8], wanted: &[u8]) -> bool
+    ensures { result ≡ bytes_eq name.now wanted.now }
+{
+    name == wanted
+}
+
+// The operators of control and on data.
+fn on_data(name: &[u8]) -> Option<Operation>
+    ensures { result ≡ among operators_on_data name.now }
+{
+    if is_name(name, b"QUOTE") {
+        Some(Operation::Quote)
+    } else if is_name(name, b"PROGN") {
+        Some(Operation::Progn)
+    } else if is_name(name, b"IF") {
+        Some(Operation::If)
+    } else if is_name(name, b"LIST") {
+        Some(Operation::MakeList)
+    } else if is_name(name, b"GET") {
+        Some(Operation::Get)
+    } else if is_name(name, b"SETF") {
+        Some(Operation::Setf)
+    } else if is_name(name, b"REMPROP") {
+        Some(Operation::Remprop)
+    } else if is_name(name, b"SYMBOL-PLIST") {
+        Some(Operation::SymbolPlist)
+    } else if is_name(name, b"INCF") {
+        Some(Operation::Incf)
+    } else if is_name(name, b"PUSH") {
+        Some(Operation::Push)
+    } else {
+        None
+    }
+}
+
+// The operators on packages.
+fn on_packages(name: &[u8]) -> Option<Operation>
+    ensures { result ≡ among operators_on_packages name.now }
+{
+    if is_name(name, b"MAKE-PACKAGE") {
+        Some(Operation::MakePackage)
+    } else if is_name(name, b"IN-PACKAGE") {
+        Some(Operation::InPackage)
+    } else if is_name(name, b"EXPORT") {
+        Some(Operation::Export)
+    } else if is_name(name, b"IMPORT") {
+        Some(Operation::Import)
+    } else if is_name(name, b"USE-PACKAGE") {
+        Some(Operation::UsePackage)
+    } else if is_name(name, b"INTERN") {
+        Some(Operation::Intern)
+    } else {
+        None
+    }
+}
+
+// The operators on readtables.
+fn on_readtables(name: &[u8]) -> Option<Operation>
+    ensures { result ≡ among operators_on_readtables name.now }
+{
+    if is_name(name, b"COPY-READTABLE") {
+        Some(Operation::CopyReadtable)
+    } else if is_name(name, b"IN-READTABLE") {
+        Some(Operation::InReadtable)
+    } else if is_name(name, b"SET-SYNTAX-FROM-CHAR") {
+        Some(Operation::SetSyntaxFromChar)
+    } else if is_name(name, b"SET-MACRO-CHARACTER") {
+        Some(Operation::SetMacroCharacter)
+    } else if is_name(name, b"GET-MACRO-CHARACTER") {
+        Some(Operation::GetMacroCharacter)
+    } else if is_name(name, b"MAKE-DISPATCH-MACRO-CHARACTER") {
+        Some(Operation::MakeDispatchMacroCharacter)
+    } else if is_name(name, b"SET-DISPATCH-MACRO-CHARACTER") {
+        Some(Operation::SetDispatchMacroCharacter)
+    } else if is_name(name, b"GET-DISPATCH-MACRO-CHARACTER") {
+        Some(Operation::GetDispatchMacroCharacter)
+    } else if is_name(name, b"READTABLE-CASE") {
+        Some(Operation::ReadtableCase)
+    } else {
+        None
+    }
+}

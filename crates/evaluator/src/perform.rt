@@ -1,0 +1,124 @@
+//! What an operator makes of the values of its arguments.
+ghost use Rattle.std.specs.Prelude.{◌≡◌, true, if◌then◌else◌, map, All, IfOk};
+ghost use Rattle.lisp_object.specs.Datum.{object_of, is_proper};
+ghost use Rattle.lisp_operators.specs.Readtables.{AreFunctionNames};
+ghost use Rattle.lisp_operators.specs.Outcomes.{also};
+ghost use Rattle.lisp_operators.specs.Properties.{set};
+ghost use Rattle.lisp_operators.specs.Readtables.{set_case};
+ghost use Rattle.evaluator.specs.Operations.{function_of};
+ghost use Rattle.lisp_operators.specs.Evaluated.{IsArgument, Answers, done};
+
+use crate::control::{after, last};
+use crate::operation::Operation;
+use crate::values::Values;
+use lisp_object::Datum;
+use lisp_object::refusal::ARGUMENT_KIND;
+use lisp_operators::EvaluationError::Refused;
+use lisp_operators::{
+    Evaluated, EvaluationError, package_lists, packages, properties, readtables, values,
+};
+use plist_state::World;
+use readtable_core::FnName;
+use std::alloc::Global;
+
+/// What an operator gives of these values, which were evaluated for it.
+pub(crate) fn perform(
+    alloc: Global,
+    world: &mut World,
+    names: &[FnName],
+    operation: Operation,
+    is_case: bool,
+    values: Values,
+) -> Result<Evaluated, EvaluationError>
+    requires names { AreFunctionNames names.now }
+    requires values { All (IsArgument world.old.0.packages) values.values.items }
+    ensures gives { Answers done result world.new.0 (also values.wrote (function_of names.now operation is_case (map object_of values.values.items) world.old.0)) }
+    ensures proper { IfOk result (λ e. is_proper e.value ≡ true) }
+    ensures marked { world.new.1 ≡ world.old.1 }
+{
+    let Values { values, wrote } = values;
+    after(
+        wrote,
+        carry_out(alloc, world, names, operation, is_case, values),
+    )
+}
+
+fn carry_out(
+    alloc: Global,
+    world: &mut World,
+    names: &[FnName],
+    operation: Operation,
+    is_case: bool,
+    values: Vec<Datum>,
+) -> Result<Evaluated, EvaluationError>
+    requires names { AreFunctionNames names.now }
+    requires values { All (IsArgument world.old.0.packages) values.items }
+    ensures gives { Answers done result world.new.0 (function_of names.now operation is_case (map object_of values.items) world.old.0) }
+    ensures proper { IfOk result (λ e. is_proper e.value ≡ true) }
+    ensures marked { world.new.1 ≡ world.old.1 }
+{
+    match operation {
+        Operation::Progn => last(alloc, values),
+        Operation::MakeList => values::list(alloc, values),
+        Operation::Get => properties::get(alloc, world, values),
+        Operation::Setf => put(alloc, world, is_case, values),
+        Operation::Remprop => properties::remove(alloc, world, values),
+        Operation::SymbolPlist => properties::symbol_plist(alloc, world, values),
+        Operation::Incf => properties::increment(alloc, world, values),
+        Operation::Push => properties::push(alloc, world, values),
+        Operation::MakePackage => packages::make(alloc, world, values.as_slice()),
+        Operation::Export => package_lists::export(alloc, world, values.as_slice()),
+        Operation::Import => package_lists::import(alloc, world, values.as_slice()),
+        Operation::UsePackage => package_lists::use_package(alloc, world, values.as_slice()),
+        Operation::Intern => packages::intern(alloc, world, values.as_slice()),
+        Operation::CopyReadtable => readtables::copy_readtable(alloc, world, values.as_slice()),
+        Operation::InReadtable => readtables::enter_readtable(alloc, world, values.as_slice()),
+        Operation::SetSyntaxFromChar => readtables::set_syntax(alloc, world, values.as_slice()),
+        Operation::SetMacroCharacter => readtables::set_macro(
+            alloc,
+            world,
+            names,
+            values.as_slice(),
+        ),
+        Operation::GetMacroCharacter => readtables::get_macro(alloc, world, values.as_slice()),
+        Operation::MakeDispatchMacroCharacter => readtables::make_dispatch(
+            alloc,
+            world,
+            values.as_slice(),
+        ),
+        Operation::SetDispatchMacroCharacter => readtables::set_dispatch(
+            alloc,
+            world,
+            names,
+            values.as_slice(),
+        ),
+        Operation::GetDispatchMacroCharacter => readtables::get_dispatch(
+            alloc,
+            world,
+            values.as_slice(),
+        ),
+        Operation::ReadtableCase => readtables::readtable_case(alloc, world, values.as_slice()),
+        Operation::Quote => Err(Refused(ARGUMENT_KIND)),
+        Operation::If => Err(Refused(ARGUMENT_KIND)),
+        Operation::InPackage => Err(Refused(ARGUMENT_KIND)),
+    }
+}
+
+// SETF of a readtable's case, or of a property.
+fn put(
+    alloc: Global,
+    world: &mut World,
+    is_case: bool,
+    values: Vec<Datum>,
+) -> Result<Evaluated, EvaluationError>
+    requires { All (IsArgument world.old.0.packages) values.items }
+    ensures gives { Answers done result world.new.0 (if is_case then set_case (map object_of values.items) world.old.0 else set (map object_of values.items) world.old.0) }
+    ensures proper { IfOk result (λ e. is_proper e.value ≡ true) }
+    ensures marked { world.new.1 ≡ world.old.1 }
+{
+    if is_case {
+        readtables::set_case(alloc, world, values.as_slice())
+    } else {
+        properties::set(alloc, world, values)
+    }
+}

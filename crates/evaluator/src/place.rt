@@ -1,0 +1,106 @@
+//! The places that SETF, INCF and PUSH take (standard 5.1).
+ghost use Rattle.std.specs.Prelude.{◌≡◌, true, false, Some, None, map, length, All, IfOk, MatchOption};
+ghost use Rattle.lisp_object.specs.Object.{Object, pair, is_proper_list};
+ghost use Rattle.lisp_object.specs.Datum.{object_of, is_proper};
+ghost use Rattle.lisp_object.specs.declared.refusal.TheConstants.{ARGUMENT_KIND as WRONG_KIND};
+ghost use Rattle.evaluator.specs.Operators.{is_standard, count};
+ghost use Rattle.evaluator.specs.Value.{get_place_refusal, place_refusal, is_case_place};
+ghost use Rattle.evaluator.specs.Operations.{IsCounted};
+ghost use Rattle.evaluator.specs.Gathered.{arguments_of, refusal_of_place, is_case, IsRefusal};
+
+use crate::operation::Operation;
+use lisp_object::Datum;
+use lisp_object::refusal::{ARGUMENT_COUNT, ARGUMENT_KIND};
+use lisp_operators::EvaluationError::Refused;
+use lisp_operators::{EvaluationError, kinds};
+use package_table::standardized::COMMON_LISP;
+
+// The operator of a list as a place, and the number of its subforms.
+fn accessor(place: &Datum) -> Option<(&Datum, usize)>
+    requires { is_proper place.now ≡ true }
+    ensures value { MatchOption result
+        ((get_place_refusal (object_of place.now) ≡ Some WRONG_KIND) × (place_refusal (object_of place.now) ≡ Some WRONG_KIND))
+        (λ p. (subforms : Object) × (object_of place.now ≡ pair (object_of p.0.now) subforms) × (is_proper_list subforms ≡ true) × (count subforms ≡ p.1)) }
+    ensures proper { MatchOption result (Unit {0}) (λ p. is_proper p.0.now ≡ true) }
+{
+    match place {
+        Datum::List { items, tail } => {
+            if tail.is_some() {
+                return None;
+            }
+            let items = items.as_slice();
+            Some((&items[0], items.len() - 1))
+        }
+        Datum::Integer(_) => None,
+        Datum::Rational(_) => None,
+        Datum::Char(_) => None,
+        Datum::Text(_) => None,
+        Datum::Symbol { .. } => None,
+        Datum::Uninterned(_) => None,
+        Datum::Vector(_) => None,
+    }
+}
+
+// Whether it is the symbol of COMMON-LISP with this name.
+#[tactic(auto, using(crate::proofs::Places::standard_by_parts))]
+fn is_standard(datum: &Datum, name: &[u8]) -> bool
+    requires { is_proper datum.now ≡ true }
+    ensures { result ≡ is_standard name.now (object_of datum.now) }
+{
+    match kinds::symbol(datum) {
+        Ok((home, own)) => home == COMMON_LISP && own == name,
+        Err(_) => false,
+    }
+}
+
+// That it is a place that GET names.
+fn check_property(place: &Datum) -> Result<bool, EvaluationError>
+    requires { is_proper place.now ≡ true }
+    ensures refusal { IsRefusal (get_place_refusal (object_of place.now)) result }
+    ensures value { IfOk result (λ b. b ≡ false) }
+{
+    let Some((operator, number)) = accessor(place) else {
+        return Err(Refused(ARGUMENT_KIND));
+    };
+    if !is_standard(operator, b"GET") {
+        return Err(Refused(ARGUMENT_KIND));
+    }
+    if number != 2 {
+        return Err(Refused(ARGUMENT_COUNT));
+    }
+    Ok(false)
+}
+
+// That it is a place for SETF, and whether it is the case of a readtable.
+fn check_either(place: &Datum) -> Result<bool, EvaluationError>
+    requires { is_proper place.now ≡ true }
+    ensures refusal { IsRefusal (place_refusal (object_of place.now)) result }
+    ensures value { IfOk result (λ b. b ≡ is_case_place (object_of place.now)) }
+{
+    let Some((operator, number)) = accessor(place) else {
+        return Err(Refused(ARGUMENT_KIND));
+    };
+    if !is_standard(operator, b"READTABLE-CASE") {
+        return check_property(place);
+    }
+    if number != 1 {
+        return Err(Refused(ARGUMENT_COUNT));
+    }
+    Ok(true)
+}
+
+/// That the place of an operator, if it takes one, is a place, and whether it is the case of a readtable. The first of the
+/// items is the operator itself.
+pub(crate) fn check_place(operation: Operation, items: &[Datum]) -> Result<bool, EvaluationError>
+    requires counted { IsCounted operation (length items.now) }
+    requires proper { All (λ d. is_proper d ≡ true) items.now }
+    ensures refusal { IsRefusal (refusal_of_place operation (arguments_of (map object_of items.now))) result }
+    ensures value { IfOk result (λ b. b ≡ is_case operation (arguments_of (map object_of items.now))) }
+{
+    match operation {
+        Operation::Setf => check_either(&items[1]),
+        Operation::Incf => check_property(&items[1]),
+        Operation::Push => check_property(&items[2]),
+        _ => Ok(false),
+    }
+}

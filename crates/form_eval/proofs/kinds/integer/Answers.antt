@@ -1,7 +1,0 @@
-use Rattle.std.proofs.Common.{None, refl}
-use Rattle.form_eval.specs.Kinds.{an_integer}
-use Rattle.form_eval.proofs.Shapes.{pair_at}
-use Rattle.form_eval.proofs.kinds.integer.Goals as goal
-
-pub returns-in-List : goal.returns-in-List
-returns-in-List c = (refl, pair_at an_integer None c.args.datum.now c.in-List.items c.in-List.tail (λ _ _. refl) c.in-List.is c.requires)

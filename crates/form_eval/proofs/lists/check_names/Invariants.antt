@@ -1,8 +1,0 @@
-use Rattle.std.proofs.Common.{All, take}
-use Rattle.std.specs.Option.{IsSome}
-use Rattle.lisp_object.specs.Datum.{object_of}
-use Rattle.form_eval.specs.Kinds.{a_name}
-use Rattle.form_eval.proofs.lists.check_names.Given as goal
-
-abbrev pub invariant-loop-member : goal.invariant-loop-member
-invariant-loop-member l = All (λ d. IsSome (a_name (object_of d))) (take l.member-index l.members)

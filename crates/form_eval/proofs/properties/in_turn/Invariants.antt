@@ -1,9 +1,0 @@
-use Rattle.std.proofs.Common.{◌≡◌, true, map, take}
-use Rattle.std.specs.List.{list_all}
-use Rattle.lisp_object.specs.Datum.{object_of, is_proper}
-use Rattle.plist_state.specs.Shown.{property_of}
-use Rattle.form_eval.specs.Properties.{in_turn}
-use Rattle.form_eval.proofs.properties.in_turn.Given as goal
-
-abbrev pub invariant-loop-property : goal.invariant-loop-property
-invariant-loop-property l = (map object_of l.values.items ≡ in_turn (map property_of (take l.property-index l.row))) × (list_all is_proper l.values.items ≡ true)

@@ -1,4 +1,0 @@
-use Rattle.form_eval.proofs.taken.one.Goals as goal
-
-pub returns-clause-arguments : goal.returns-clause-arguments
-returns-clause-arguments c = λ u all. (c.in_ok-head.ensures.arguments u all).0

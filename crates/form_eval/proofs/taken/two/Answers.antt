@@ -1,8 +1,0 @@
-use Rattle.std.proofs.Common.{◌∷◌, ap, ◌∙◌}
-use Rattle.form_eval.proofs.taken.two.Goals as goal
-
-pub returns-clause-value : goal.returns-clause-value
-returns-clause-value c = c.in_ok-head.ensures.value ∙ ap (λ l. c.in_ok-head.head ∷ l) c.in_ok-one.ensures.value
-
-pub returns-clause-arguments : goal.returns-clause-arguments
-returns-clause-arguments c = λ u all. let first = c.in_ok-head.ensures.arguments u all in (first.0, c.in_ok-one.ensures.arguments u first.1)

@@ -1,0 +1,102 @@
+-- What the operators on property lists build.
+--     pushed_value      a pair that PUSH stores
+--     indicators_sound      the indicators of a symbol
+--     in_turn_more, turn_proper      one more property of a list in turn
+--     all_ascii, ascii_home, ascii_name, package_ascii, readtable_ascii      names of characters below 128
+use Rattle.std.proofs.Common.{◌≡◌, ◌<◌, ◌+◌, ℕ, true, false, List, [], ◌∷◌, ◌++◌, All, map, length, take, get_or, nat_lt, unwrap_or, Some, refl, sym, ap, subst, ◌∙◌, arith}
+use Rattle.std.specs.List.{list_all}
+use Rattle.std.proofs.lemmas.Bool.{ltb-false, and_from}
+use Rattle.std.proofs.lemmas.List.{take_more, map-append}
+use Rattle.std.proofs.lemmas.List.Folds.{list_all-append}
+use Rattle.std.proofs.lemmas.List.Elements.{All-weaker, All-cons, All-head, All-tail}
+use Rattle.lisp_object.specs.Ascii.{is_ascii}
+use Rattle.lisp_object.specs.declared.datum.Datum.{Datum}
+use Rattle.lisp_object.specs.Object as object
+use Rattle.lisp_object.specs.Object.{Object, symbol, pair, nil, object_depth}
+use Rattle.lisp_object.specs.Datum.{object_of, is_proper}
+use Rattle.lisp_object.proofs.Sound.{all_ascii}
+use Rattle.package_table.specs.Table.{Table, keyword, IsPackage}
+use Rattle.package_table.specs.Lookup.{found}
+use Rattle.package_table.proofs.Found.{found_finds}
+use Rattle.package_table.proofs.Keeping.{present_at_home}
+use Rattle.lisp_operators.specs.Kinds.{a_name, a_text}
+use Rattle.plist_state.specs.declared.property.Property.{Property}
+use Rattle.plist_state.specs.Properties.{Symbol, Plist}
+use Rattle.plist_state.specs.State.{State}
+use Rattle.plist_state.specs.Changes.{plist, property}
+use Rattle.plist_state.specs.Shown.{property_of}
+use Rattle.plist_state.specs.Sound.{IsSymbol, IsValue, IsSound}
+use Rattle.lisp_operators.specs.Properties.{in_turn}
+use Rattle.lisp_operators.specs.Evaluated.{object_of_symbol}
+use Rattle.lisp_operators.proofs.Storable.{name_kind, text_kind, symbol_is_value, nil_value, pair_value}
+use Rattle.lisp_operators.proofs.SoundProperties.{property_value, held}
+
+pub pushed_value : (s : State) (x i : Symbol) (v o : Object) → IsSound s → IsValue s.packages v → o ≡ pair v (unwrap_or (property s x i) nil)
+    → nat_lt 100 (object_depth (pair v (unwrap_or (property s x i) nil))) ≡ false → IsValue s.packages o
+pushed_value s x i v o sound value is shallow =
+    subst (IsValue s.packages) (sym is)
+    (pair_value s.packages v (unwrap_or (property s x i) nil) value (property_value s x i nil sound (nil_value s.packages sound.packages))
+    (ltb-false 100 (object_depth (pair v (unwrap_or (property s x i) nil))) shallow))
+
+of_row : (P : Symbol → Type 0) (row : List Property) → All (λ p. P p.0) (map property_of row) → All (λ p. P (property_of p).0) row
+of_row P [] all = λ k d h. absurd (omega arith)
+of_row P (p ∷ ps) all = All-cons (λ (q : Property). P (property_of q).0) p ps (All-head (λ (q : Symbol × Object). P q.0) (property_of p) (map property_of ps) all) (of_row P ps (All-tail (λ (q : Symbol × Object). P q.0) (property_of p) (map property_of ps) all))
+
+pub indicators_sound : (s : State) (x : Symbol) (row : List Property) → IsSound s → map property_of row ≡ plist s x → All (λ p. object.IsSound (object_of_symbol (property_of p).0)) row
+indicators_sound s x row sound is =
+    of_row (λ y. object.IsSound (object_of_symbol y)) row
+    (All-weaker (λ (p : Symbol × Object). IsSymbol s.packages p.0) (λ p. object.IsSound (object_of_symbol p.0)) (λ p there. (symbol_is_value s.packages p.0.0 p.0.1 sound.packages there).object) (map property_of row)
+    (subst (λ ps. All (λ (p : Symbol × Object). IsSymbol s.packages p.0) ps) (sym is) (held s x sound).indicators))
+
+in_turn_push : (ps : Plist) (p : Symbol × Object) → in_turn (ps ++ p ∷ []) ≡ in_turn ps ++ (symbol p.0.0 p.0.1 ∷ p.1 ∷ [])
+in_turn_push [] p = refl
+in_turn_push (q ∷ ps) p = ap (λ rest. symbol q.0.0 q.0.1 ∷ q.1 ∷ rest) (in_turn_push ps p)
+
+pub in_turn_more : (row : List Property) (i : ℕ) (p : Property) (vs : List Datum) (k v : Datum) → i < length row → p ≡ get_or row i p → map object_of vs ≡ in_turn (map property_of (take i row))
+    → object_of k ≡ object_of_symbol (property_of p).0 → object_of v ≡ object_of p.value → map object_of ((vs ++ k ∷ []) ++ v ∷ []) ≡ in_turn (map property_of (take (i + 1) row))
+in_turn_more row i p vs k v within is before key value =
+    map-append object_of (vs ++ k ∷ []) (v ∷ []) ∙ ap (λ xs. xs ++ object_of v ∷ []) (map-append object_of vs (k ∷ []))
+    ∙ (ap (λ xs. (xs ++ object_of k ∷ []) ++ object_of v ∷ []) before ∙ (ap (λ x. (in_turn (map property_of (take i row)) ++ x ∷ []) ++ object_of v ∷ []) key ∙ ap (λ x. (in_turn (map property_of (take i row)) ++ object_of_symbol (property_of p).0 ∷ []) ++ x ∷ []) value))
+    ∙ two (in_turn (map property_of (take i row))) (object_of_symbol (property_of p).0) (object_of p.value)
+    ∙ sym (in_turn_push (map property_of (take i row)) (property_of p))
+    ∙ ap in_turn (sym (map-append property_of (take i row) (p ∷ [])))
+    ∙ ap (λ q. in_turn (map property_of (take i row ++ q ∷ []))) is
+    ∙ ap (λ r. in_turn (map property_of r)) (sym (take_more row i p within))
+  where
+    two : (xs : List Object) (x y : Object) → (xs ++ x ∷ []) ++ y ∷ [] ≡ xs ++ (x ∷ y ∷ [])
+    two [] x y = refl
+    two (z ∷ zs) x y = ap (λ r. z ∷ r) (two zs x y)
+
+pub ascii_home : (h n : List ℕ) → object.IsSound (symbol h n) → list_all is_ascii h ≡ true
+ascii_home h n sound = all_ascii h sound.0
+
+pub ascii_name : (h n : List ℕ) → object.IsSound (symbol h n) → list_all is_ascii n ≡ true
+ascii_name h n sound = all_ascii n sound.1
+
+pub turn_proper : (vs : List Datum) (k v : Datum) → list_all is_proper vs ≡ true → is_proper k ≡ true → is_proper v ≡ true → list_all is_proper ((vs ++ k ∷ []) ++ v ∷ []) ≡ true
+turn_proper vs k v all key value =
+    let one : list_all is_proper (vs ++ k ∷ []) ≡ true = list_all-append is_proper vs (k ∷ []) ∙ and_from (list_all is_proper vs) (list_all is_proper (k ∷ [])) all (and_from (is_proper k) true key refl) in
+    list_all-append is_proper (vs ++ k ∷ []) (v ∷ []) ∙ and_from (list_all is_proper (vs ++ k ∷ [])) (list_all is_proper (v ∷ [])) one (and_from (is_proper v) true value refl)
+
+pub package_ascii : (s : State) (n : List ℕ) → IsSound s → n ≡ s.current_package → list_all is_ascii n ≡ true
+package_ascii s n sound is = ap (list_all is_ascii) is ∙ all_ascii s.current_package (sound.packages.within.package_names s.current_package sound.current_package).ascii
+
+pub readtable_ascii : (s : State) (n : List ℕ) → IsSound s → n ≡ s.current_readtable → list_all is_ascii n ≡ true
+readtable_ascii s n sound is =
+    ap (list_all is_ascii) is ∙ ascii_name keyword s.current_readtable (symbol_is_value s.packages keyword s.current_readtable sound.packages (sound.readtables.names s.current_readtable sound.current_readtable)).object
+
+-- a package that is there
+pub package_name_ascii : (s : State) (u : Table) (n : List ℕ) → IsSound s → u ≡ s.packages → IsPackage u n → list_all is_ascii n ≡ true
+package_name_ascii s u n sound is there = all_ascii n (sound.packages.within.package_names n (subst (λ t. IsPackage t n) is there)).ascii
+
+-- arguments
+pub name_ascii : (u : Table) (x : Object) (n : List ℕ) → Some n ≡ a_name x → IsValue u x → list_all is_ascii n ≡ true
+name_ascii u x n e is = all_ascii n (name_kind u x n (sym e) is)
+
+pub text_ascii : (u : Table) (x : Object) (n : List ℕ) → Some n ≡ a_text x → IsValue u x → list_all is_ascii n ≡ true
+text_ascii u x n e is = all_ascii n (text_kind u x n (sym e) is)
+
+-- the home of a symbol that a package finds
+pub home_ascii : (s : State) (p n h : List ℕ) → IsSound s → found s.packages p n ≡ Some h → list_all is_ascii h ≡ true
+home_ascii s p n h sound e =
+    all_ascii h ((symbol_is_value s.packages h n sound.packages (present_at_home s.packages p n h sound.packages.joined (found_finds s.packages n p h e))).object.0)

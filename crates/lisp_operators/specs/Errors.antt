@@ -1,0 +1,17 @@
+-- The refusals of the world's calls, as the evaluator gives them.
+use Rattle.package_table.specs.declared.error.PackageError.{PackageError}
+use Rattle.package_table.specs.declared.error.PackageError.TheVariants.{OutOfMemory as NoRoomForPackages}
+use Rattle.package_table.specs.Errors.{number_of as package_number}
+use Rattle.plist_state.specs.declared.error.ReadtableError.{ReadtableError}
+use Rattle.plist_state.specs.declared.error.ReadtableError.TheVariants.{OutOfMemory as NoRoomForReadtables}
+use Rattle.plist_state.specs.Refused.{number_of as readtable_number}
+use Rattle.lisp_operators.specs.declared.error.EvaluationError.{EvaluationError}
+use Rattle.lisp_operators.specs.declared.error.EvaluationError.TheVariants.{Refused, OutOfMemory}
+
+abbrev pub of_package : PackageError → EvaluationError
+of_package NoRoomForPackages = OutOfMemory
+of_package e = Refused (package_number e)
+
+abbrev pub of_readtable : ReadtableError → EvaluationError
+of_readtable NoRoomForReadtables = OutOfMemory
+of_readtable e = Refused (readtable_number e)

@@ -1,0 +1,109 @@
+-- What the calls of the evaluator answer.
+use Rattle.std.specs.Prelude.{◌≡◌, ◌≢◌, ◌<◌, ◌⊎◌, ℕ, ◌+◌, Bool, true, false, List, [], ◌∷◌, map, take, length, All, Option, Some, None, IsSome, unwrap_or, Result, Ok, Err, IsOk}
+use Rattle.lisp_object.specs.Object.{Object, symbol, nil, list_of}
+use Rattle.lisp_object.specs.declared.refusal.TheConstants.{ARGUMENT_KIND, NO_SUCH_PACKAGE, PACKAGE_IS_LOCKED, NAME_CONFLICT, NO_READTABLE, NO_MACRO}
+use Rattle.lisp_object.specs.declared.datum.Datum.{Datum}
+use Rattle.lisp_object.specs.Datum.{object_of, is_proper}
+use Rattle.package_table.specs.declared.error.PackageError.{PackageError}
+use Rattle.package_table.specs.declared.error.PackageError.TheVariants.{OutOfMemory as NoRoom}
+use Rattle.package_table.specs.Table.{Name, Table, is_locked}
+use Rattle.plist_state.specs.Properties.{Symbol}
+use Rattle.plist_state.specs.State.{State}
+use Rattle.plist_state.specs.Sound.{IsValue}
+use Rattle.plist_state.specs.Shown.{symbol_of}
+use Rattle.plist_state.specs.declared.symbol.Symbol.{Symbol as Stored}
+use Rattle.plist_state.specs.declared.error.ReadtableError.{ReadtableError}
+use Rattle.plist_state.specs.Refused.{number_of}
+use Rattle.lisp_operators.specs.declared.error.EvaluationError.{EvaluationError}
+use Rattle.lisp_operators.specs.declared.error.EvaluationError.TheVariants.{Refused, OutOfMemory}
+use Rattle.lisp_operators.specs.declared.evaluated.Evaluated.{Evaluated}
+use Rattle.lisp_operators.specs.Errors.{of_package}
+use Rattle.lisp_operators.specs.Members.{AreMembers}
+use Rattle.lisp_operators.specs.Outcomes.{Done, Outcome}
+use Rattle.lisp_operators.specs.Properties.{t}
+
+-- a proper datum whose value may be stored in these packages
+pub record IsArgument (u : Table) (d : Datum) : Type 0 where
+  pub proper : is_proper d ≡ true
+  pub value : IsValue u (object_of d)
+
+-- what could be stored in the first can be stored in the second
+abbrev pub Keeps : Table → Table → Type 0
+Keeps u v = (d : Datum) → IsArgument u d → IsArgument v d
+
+abbrev pub object_of_symbol : Symbol → Object
+object_of_symbol x = symbol x.0 x.1
+
+-- NIL where there is no object
+abbrev pub or_nil : Option Object → Object
+or_nil x = unwrap_or x nil
+
+-- a value that leaves this state
+abbrev pub done : Evaluated → State → Done Object
+done e s = record { value = object_of e.value; state = s; wrote = e.wrote }
+
+-- A call answers what the definition says: what was evaluated, in the state that it leaves, or the number of the refusal.
+-- Where memory ran out it says nothing.
+abbrev pub Answers : {A B : Type 0} → (A → State → Done B) → Result A EvaluationError → State → Outcome B → Type 0
+Answers view (Ok x) s said = said ≡ Ok (view x s)
+Answers view (Err (Refused code)) s said = said ≡ Err code
+Answers view (Err OutOfMemory) s said = Unit {0}
+
+-- Changes of the packages answer what the definition says: the packages that they leave, and whether these are others; or the
+-- refusal. Where memory ran out it says nothing.
+abbrev pub Makes : Result Bool PackageError → Table → Result (Table × Bool) PackageError → Type 0
+Makes (Ok wrote) u said = said ≡ Ok (u, wrote)
+Makes (Err NoRoom) u said = Unit {0}
+Makes (Err e) u said = said ≡ Err e
+
+-- T, and whether the packages changed; or the refusal of the changes. T takes memory.
+abbrev pub TellsChange : Result Bool PackageError → Result Evaluated EvaluationError → Type 0
+TellsChange (Ok wrote) (Ok e) = (object_of e.value ≡ t) × (e.wrote ≡ wrote)
+TellsChange (Ok wrote) (Err error) = error ≡ OutOfMemory
+TellsChange (Err cause) (Ok e) = ⊥
+TellsChange (Err cause) (Err error) = error ≡ of_package cause
+
+-- what was found; or where there is nothing, the refusal of this number
+abbrev pub FoundOr : {A B : Type 0} → ℕ → (A → B) → Result A EvaluationError → Option B → Type 0
+FoundOr code view (Ok x) o = Some (view x) ≡ o
+FoundOr code view (Err error) o = (error ≡ Refused code) × (None ≡ o)
+
+-- what an argument stands for, where it is of the kind that is asked for
+abbrev pub IsOfKind : {A B : Type 0} → (A → B) → Result A EvaluationError → Option B → Type 0
+IsOfKind view result o = FoundOr ARGUMENT_KIND view result o
+
+-- the package of a name, where there is one
+abbrev pub IsPackageOr : {A B : Type 0} → (A → B) → Result A EvaluationError → Option B → Type 0
+IsPackageOr view result o = FoundOr NO_SUCH_PACKAGE view result o
+
+-- the package of a name, where there is one and it is not locked
+abbrev pub IsUnlocked : {A : Type 0} → (A → Name) → Result A EvaluationError → Option Name → Type 0
+IsUnlocked view (Ok p) o = (Some (view p) ≡ o) × (is_locked (view p) ≡ false)
+IsUnlocked view (Err (Refused code)) o =
+    ((code ≡ NO_SUCH_PACKAGE) × (None ≡ o)) ⊎ ((p : Name) × (code ≡ PACKAGE_IS_LOCKED) × (Some p ≡ o) × (is_locked p ≡ true))
+IsUnlocked view (Err OutOfMemory) o = Unit {0}
+
+-- the readtable of a name, where there is one
+abbrev pub IsReadtableOr : {A B : Type 0} → (A → B) → Result A EvaluationError → Option B → Type 0
+IsReadtableOr view result o = FoundOr NO_READTABLE view result o
+
+-- the readtable of a name, where it may be written
+abbrev pub IsWritableOr : {A B : Type 0} → (A → B) → Result A EvaluationError → Result B ReadtableError → Type 0
+IsWritableOr view (Ok x) said = said ≡ Ok (view x)
+IsWritableOr view (Err error) said = (e : ReadtableError) × (error ≡ Refused (number_of e)) × (said ≡ Err e)
+
+-- the function of a name, where a readtable may name it
+abbrev pub IsFunctionOr : Result Name EvaluationError → Name → Bool → Type 0
+IsFunctionOr (Ok f) name b = (f ≡ name) × (b ≡ true)
+IsFunctionOr (Err error) name b = (error ≡ Refused NO_MACRO) × (b ≡ false)
+
+-- arguments of the number that is asked for; or they are refused, and then this is so
+abbrev pub AreArguments : {A : Type 0} → (A → List Datum) → Result A EvaluationError → List Datum → Type 0 → Type 0
+AreArguments view (Ok x) values other = values ≡ view x
+AreArguments view (Err error) values other = (error ≡ Refused ARGUMENT_KIND) × other
+
+-- The symbol and the indicator of a property, where both arguments are symbols. It takes no memory.
+abbrev pub IsPlace : Result (Stored × Stored) EvaluationError → Option Symbol → Option Symbol → Type 0
+IsPlace (Ok p) o i = (Some (symbol_of p.0) ≡ o) × (Some (symbol_of p.1) ≡ i)
+IsPlace (Err (Refused code)) o i = (code ≡ ARGUMENT_KIND) × ((None ≡ o) ⊎ (None ≡ i))
+IsPlace (Err OutOfMemory) o i = ⊥

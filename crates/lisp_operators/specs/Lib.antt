@@ -1,0 +1,8 @@
+pub mod Errors
+pub mod Evaluated
+pub mod Outcomes
+pub mod Kinds
+pub mod Members
+pub mod Properties
+pub mod Packages
+pub mod Readtables

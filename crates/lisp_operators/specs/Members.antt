@@ -1,0 +1,27 @@
+-- One argument of a kind, or a list of such.
+use Rattle.std.specs.Prelude.{◌≡◌, true, false, List, [], ◌∷◌, Option, Some, None, option_map, unwrap_or}
+use Rattle.std.specs.Option.{option_and_then}
+use Rattle.lisp_object.specs.Object.{Object, list_of, object_is_list, is_proper_list}
+use Rattle.lisp_object.specs.declared.datum.Datum.{Datum}
+use Rattle.lisp_object.specs.Datum.{object_of}
+use Rattle.package_table.specs.Table.{Name}
+use Rattle.plist_state.specs.Properties.{Symbol}
+use Rattle.lisp_operators.specs.Kinds.{a_symbol, a_name}
+
+-- what these are, where each is of the kind
+abbrev pub each_in : {A : Type 0} → (Object → Option A) → List Object → Option (List A)
+each_in kind [] = Some []
+each_in kind (x ∷ xs) = option_and_then (λ y. option_map (λ ys. y ∷ ys) (each_in kind xs)) (kind x)
+
+-- the members of a list, or the one object that is none; a list that ends in another object has no members
+abbrev pub AreMembers : Object → Option (List Object) → Type 0
+AreMembers x (Some xs) = (object_is_list x ≡ true → x ≡ list_of xs) × (object_is_list x ≡ false → xs ≡ x ∷ [])
+AreMembers x None = (object_is_list x ≡ true) × (is_proper_list x ≡ false)
+
+-- the symbol that a member is, where it is one
+abbrev pub symbol_in : Datum → Symbol
+symbol_in d = unwrap_or (a_symbol (object_of d)) ([], [])
+
+-- the name of which a member is a designator, where it is one
+abbrev pub name_in : Datum → Name
+name_in d = unwrap_or (a_name (object_of d)) []

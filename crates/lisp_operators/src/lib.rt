@@ -1,0 +1,27 @@
+//! The operators on property lists, packages and readtables, each of the list of the values of its arguments.
+//!
+//! `specs/` says what each gives in a state of the world: a value, the state after it and whether anything was written, or the
+//! number of its refusal. Each function does with a `World` what its definition says, or answers that memory ran out (`Answers`
+//! of specs/Evaluated.antt). Which form is a call of which operator, the crate `evaluator` says.
+//!
+//! - `properties`, `packages`, `package_lists`, `readtables`: the operators of each family
+//! - `error`, `evaluated`: what an operator gives, `EvaluationError` and `Evaluated`
+//! - `arguments`, `owned_arguments`, `kinds`, `lists`, `values`: so many arguments, what each stands for, lists of them, and
+//!   values that are built; `changes`: changes of the packages, one after the other
+#![tactic(auto)]
+
+mod arguments;
+mod changes;
+mod error;
+mod evaluated;
+pub mod kinds;
+mod lists;
+mod owned_arguments;
+pub mod package_lists;
+pub mod packages;
+pub mod properties;
+pub mod readtables;
+pub mod values;
+
+pub use error::EvaluationError;
+pub use evaluated::{Evaluated, either};

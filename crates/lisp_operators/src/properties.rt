@@ -1,0 +1,225 @@
+//! The operators on property lists (standard 10.2, 14.2), of the values of their arguments.
+ghost use Rattle.std.specs.Prelude.{◌≡◌, true, [], ◌∷◌, map, option_map, All, IfErr, IfOk, IfSome};
+ghost use Rattle.std.specs.List.{list_all};
+ghost use Rattle.lisp_object.specs.Object.{IsSound, pair};
+ghost use Rattle.lisp_object.specs.Datum.{object_of, is_proper};
+ghost use Rattle.plist_state.specs.Shown.{symbol_of, property_of};
+ghost use Rattle.lisp_operators.specs.Kinds.{a_symbol};
+ghost use Rattle.lisp_operators.specs.Properties.{get, set, remove, in_turn, symbol_plist, amount, increment, push};
+ghost use Rattle.lisp_operators.specs.Evaluated.{IsArgument, IsOfKind, IsPlace, Answers, done, object_of_symbol, or_nil};
+
+use crate::EvaluationError::Refused;
+use crate::arguments::given_or_nil;
+use crate::owned_arguments::{one, three, two, two_and_rest};
+use crate::{Evaluated, EvaluationError, kinds, values};
+use lisp_object::Datum;
+use lisp_object::refusal::{ARGUMENT_KIND, INTEGER_RANGE, LIMIT, VALUE_TOO_DEEP};
+use plist_state::{Property, Symbol, World};
+use std::alloc::{AllocError, Global};
+
+// The symbol that an argument is.
+fn symbol(datum: Datum) -> Result<Symbol, EvaluationError>
+    requires { is_proper datum ≡ true }
+    ensures { IsOfKind symbol_of result (a_symbol (object_of datum)) }
+{
+    match datum {
+        Datum::Symbol { package, name } => Ok(Symbol {
+            home: package.into_vec(),
+            name: name.into_vec(),
+        }),
+        Datum::Integer(_) => Err(Refused(ARGUMENT_KIND)),
+        Datum::Rational(_) => Err(Refused(ARGUMENT_KIND)),
+        Datum::Char(_) => Err(Refused(ARGUMENT_KIND)),
+        Datum::Text(_) => Err(Refused(ARGUMENT_KIND)),
+        Datum::Uninterned(_) => Err(Refused(ARGUMENT_KIND)),
+        Datum::List { .. } => Err(Refused(ARGUMENT_KIND)),
+        Datum::Vector(_) => Err(Refused(ARGUMENT_KIND)),
+    }
+}
+
+// The symbol and the indicator of a property.
+fn place(key: Datum, indicator: Datum) -> Result<(Symbol, Symbol), EvaluationError>
+    requires symbol { is_proper key ≡ true }
+    requires indicator { is_proper indicator ≡ true }
+    ensures { IsPlace result (a_symbol (object_of key)) (a_symbol (object_of indicator)) }
+{
+    Ok((symbol(key)?, symbol(indicator)?))
+}
+
+/// GET: the value of a property, or what is given where there is no such property.
+pub fn get(alloc: Global, world: &World, values: Vec<Datum>) -> Result<Evaluated, EvaluationError>
+    requires { All (IsArgument world.now.0.packages) values.items }
+    ensures gives { Answers done result world.now.0 (get (map object_of values.items) world.now.0) }
+    ensures proper { IfOk result (λ e. is_proper e.value ≡ true) }
+{
+    let (symbol, indicator, rest) = two_and_rest(values)?;
+    let (symbol, indicator) = place(symbol, indicator)?;
+    let value = match world.get(&symbol, &indicator) {
+        Some(value) => value.copy(alloc)?,
+        None => given_or_nil(alloc, rest.as_slice())?,
+    };
+    Ok(Evaluated {
+        value,
+        wrote: false,
+    })
+}
+
+/// SETF of a property: the new value.
+pub fn set(
+    alloc: Global,
+    world: &mut World,
+    values: Vec<Datum>,
+) -> Result<Evaluated, EvaluationError>
+    requires { All (IsArgument world.old.0.packages) values.items }
+    ensures gives { Answers done result world.new.0 (set (map object_of values.items) world.old.0) }
+    ensures proper { IfOk result (λ e. is_proper e.value ≡ true) }
+    ensures unchanged { IfErr result (λ _. world.new ≡ world.old) }
+    ensures marked { world.new.1 ≡ world.old.1 }
+{
+    let (symbol, indicator, value) = three(values)?;
+    let (symbol, indicator) = place(symbol, indicator)?;
+    let stored = value.copy(alloc)?;
+    world.put(&symbol, indicator, stored)?;
+    Ok(Evaluated { value, wrote: true })
+}
+
+/// REMPROP: whether the symbol had the property.
+pub fn remove(
+    alloc: Global,
+    world: &mut World,
+    values: Vec<Datum>,
+) -> Result<Evaluated, EvaluationError>
+    requires { All (IsArgument world.old.0.packages) values.items }
+    ensures gives { Answers done result world.new.0 (remove (map object_of values.items) world.old.0) }
+    ensures proper { IfOk result (λ e. is_proper e.value ≡ true) }
+    ensures marked { world.new.1 ≡ world.old.1 }
+{
+    let (symbol, indicator) = two(values)?;
+    let (symbol, indicator) = place(symbol, indicator)?;
+    if world.get(&symbol, &indicator).is_none() {
+        return Ok(Evaluated {
+            value: values::empty_list(alloc)?,
+            wrote: false,
+        });
+    }
+    let _had = world.remove(&symbol, &indicator)?;
+    Ok(Evaluated {
+        value: values::truth(alloc)?,
+        wrote: true,
+    })
+}
+
+// Indicators and values in turn.
+fn in_turn(alloc: Global, row: &[Property]) -> Result<Vec<Datum>, AllocError>
+    requires indicators { All (λ p. IsSound (object_of_symbol (property_of p).0)) row.now }
+    requires values { All (λ p. is_proper p.value ≡ true) row.now }
+    ensures value { IfOk result (λ v. map object_of v.items ≡ in_turn (map property_of row.now)) }
+    ensures proper { IfOk result (λ v. list_all is_proper v.items ≡ true) }
+{
+    let mut values = Vec::new(alloc);
+    for property in row {
+        let indicator = property.indicator();
+        values.push(values::symbol(alloc, indicator.home(), indicator.name())?)?;
+        values.push(property.value().copy(alloc)?)?;
+    }
+    Ok(values)
+}
+
+/// SYMBOL-PLIST: the indicators and the values of a symbol in turn.
+pub fn symbol_plist(
+    alloc: Global,
+    world: &World,
+    values: Vec<Datum>,
+) -> Result<Evaluated, EvaluationError>
+    requires { All (IsArgument world.now.0.packages) values.items }
+    ensures gives { Answers done result world.now.0 (symbol_plist (map object_of values.items) world.now.0) }
+    ensures proper { IfOk result (λ e. is_proper e.value ≡ true) }
+{
+    let symbol = symbol(one(values)?)?;
+    world.soundness();
+    let row = world.plist(&symbol);
+    values::list(alloc, in_turn(alloc, row)?)
+}
+
+// By how much INCF adds: 1 where it is not given.
+fn amount(rest: &[Datum]) -> Result<i128, EvaluationError>
+    requires { All (λ d. is_proper d ≡ true) rest.now }
+    ensures { IsOfKind (λ n. n) result (amount (map object_of rest.now)) }
+{
+    match rest {
+        [given, ..] => kinds::integer(given),
+        [] => Ok(1),
+    }
+}
+
+/// INCF of a property, by an integer or by 1: the sum.
+pub fn increment(
+    alloc: Global,
+    world: &mut World,
+    values: Vec<Datum>,
+) -> Result<Evaluated, EvaluationError>
+    requires { All (IsArgument world.old.0.packages) values.items }
+    ensures gives { Answers done result world.new.0 (increment (map object_of values.items) world.old.0) }
+    ensures proper { IfOk result (λ e. is_proper e.value ≡ true) }
+    ensures unchanged { IfErr result (λ _. world.new ≡ world.old) }
+    ensures marked { world.new.1 ≡ world.old.1 }
+{
+    let (symbol, indicator, rest) = two_and_rest(values)?;
+    let amount = amount(rest.as_slice())?;
+    let (symbol, indicator) = place(symbol, indicator)?;
+    let Some(value) = world.get(&symbol, &indicator) else {
+        return Err(Refused(ARGUMENT_KIND));
+    };
+    let Some(sum) = kinds::integer(value)?.checked_add(amount) else {
+        return Err(Refused(INTEGER_RANGE));
+    };
+    world.put(&symbol, indicator, Datum::Integer(sum))?;
+    Ok(Evaluated {
+        value: Datum::Integer(sum),
+        wrote: true,
+    })
+}
+
+// The pair of a value and a property, or NIL where there is none.
+fn pushed(alloc: Global, value: &Datum, old: Option<&Datum>) -> Result<Datum, AllocError>
+    requires value { is_proper value.now ≡ true }
+    requires old { IfSome old (λ d. is_proper d.now ≡ true) }
+    ensures value { IfOk result (λ d. object_of d ≡ pair (object_of value.now) (or_nil (option_map (λ d. object_of d.now) old.entry))) }
+    ensures proper { IfOk result (λ d. is_proper d ≡ true) }
+{
+    let old = match old {
+        Some(old) => old.copy(alloc)?,
+        None => values::empty_list(alloc)?,
+    };
+    let mut items = Vec::new(alloc);
+    items.push(value.copy(alloc)?)?;
+    Datum::list(alloc, items, Some(old))
+}
+
+/// PUSH of a value to a property: the pair of the two.
+pub fn push(
+    alloc: Global,
+    world: &mut World,
+    values: Vec<Datum>,
+) -> Result<Evaluated, EvaluationError>
+    requires { All (IsArgument world.old.0.packages) values.items }
+    ensures gives { Answers done result world.new.0 (push (map object_of values.items) world.old.0) }
+    ensures proper { IfOk result (λ e. is_proper e.value ≡ true) }
+    ensures unchanged { IfErr result (λ _. world.new ≡ world.old) }
+    ensures marked { world.new.1 ≡ world.old.1 }
+{
+    let (value, symbol, indicator) = three(values)?;
+    let (symbol, indicator) = place(symbol, indicator)?;
+    let old = world.get(&symbol, &indicator);
+    let value = pushed(alloc, &value, old)?;
+    if values::is_too_deep(&value) {
+        return Err(Refused(VALUE_TOO_DEEP));
+    }
+    if values::is_too_large(&value) {
+        return Err(Refused(LIMIT));
+    }
+    world.soundness();
+    let stored = value.copy(alloc)?;
+    world.put(&symbol, indicator, stored)?;
+    Ok(Evaluated { value, wrote: true })
+}
