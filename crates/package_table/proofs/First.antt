@@ -17,7 +17,7 @@ use Rattle.package_table.proofs.Seen.{entries_in_order}
 abbrev has : List Name → Name → Bool
 has ns n = list_any (eq_by_cmp name_cmp n) ns
 
-abbrev at_home : Name → Entry
+abbrev pub at_home : Name → Entry
 at_home p = record { home = p; external = true }
 
 abbrev rows : List (Name × Package)
@@ -54,7 +54,7 @@ find_alike v (n ∷ ns) q =
       | false ↦ find_alike v ns q
     ]
 
-symbol_first : (p : Name) (ns : List Name) (n : Name) → finite.get (package_of_names p ns).symbols n ≡ cond (has ns n) (Some (at_home p)) None
+pub symbol_first : (p : Name) (ns : List Name) (n : Name) → finite.get (package_of_names p ns).symbols n ≡ cond (has ns n) (Some (at_home p)) None
 symbol_first p ns n = get-from_entries name_total (map (λ n. (n, at_home p)) ns) n ∙ find_alike (at_home p) ns n
 
 through : {A B : Type 0} (f : A → Option B) {C : Type 0} (g : B → C) (o : Option A) (y : C) → option_map g (option_and_then f o) ≡ Some y
@@ -165,7 +165,7 @@ some_there : {A : Type 0} (o : Option A) → is_some o ≡ true → (x : A) × (
 some_there None e = absurd (false≢true e)
 some_there (Some x) e = (x, refl)
 
-among_has : (ns : List Name) (n : Name) → IsTrue (list_any (bytes_eq n) ns) → has ns n ≡ true
+pub among_has : (ns : List Name) (n : Name) → IsTrue (list_any (bytes_eq n) ns) → has ns n ≡ true
 among_has [] n e = absurd (false≢true e)
 among_has (x ∷ ns) n e =
     elim (bytes_eq n x) as (λ b. bytes_eq n x ≡ b → (b || list_any (bytes_eq n) ns) ≡ true → (eq_by_cmp name_cmp n x || has ns n) ≡ true) [

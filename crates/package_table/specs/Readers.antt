@@ -1,10 +1,15 @@
 -- What the lists of the packages, of a package's uses and of its symbols hold, each in the order of its bytes.
 use Rattle.std.specs.Prelude.{not, List, [], map, filter, bytes_eq}
 use Rattle.std.specs.Option.{option_map_or}
+use Rattle.std.specs.Borrow.{Bor}
 use Rattle.std.specs.FinMap as finite
 use Rattle.package_table.specs.declared.error.PackageError.{PackageError}
 use Rattle.package_table.specs.declared.error.PackageError.TheVariants.{NoSuchPackage, OutOfMemory}
 use Rattle.package_table.specs.Table.{Name, Entry, Table, IsPackage}
+
+-- names as the packages have them
+abbrev pub names_of : List (Bor Name) → List Name
+names_of names = map (λ n. n.now) names
 
 -- the names of the packages
 abbrev pub package_names : Table → List Name

@@ -34,6 +34,10 @@ has_room [] = Unit {0}
 has_room (m ∷ []) = vec_len m.notes < vec_capacity m.notes
 has_room (m ∷ n ∷ ms) = has_room (n ∷ ms)
 
+-- the tables at these marks are the same as those at the marks of before
+abbrev pub SameMarks : List Mark → Numbered → List Mark → Numbered → Type 0
+SameMarks ms s ns u = marked_tables ns u ≡ marked_tables ms s
+
 abbrev pub tables_of : Inside → Tables
 tables_of a = (a.table.0, record { numbers = a.table.1; marked = map (λ m. m.0) (marked_tables a.marks.items a.table) })
 

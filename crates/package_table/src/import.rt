@@ -1,11 +1,11 @@
 //! `import`: a symbol becomes present.
-ghost use Rattle.std.specs.Prelude.{◌≡◌, ℕ, IfErr, IfOk};
+ghost use Rattle.std.specs.Prelude.{◌≡◌, IfErr, IfOk};
 ghost use Rattle.package_table.specs.Table.{IsPresent};
-ghost use Rattle.package_table.specs.Changes.{after_import, import_changes, with_present, Gives, RunsOutOnlyIf};
+ghost use Rattle.package_table.specs.Changes.{after_import, import_changes, with_present, Gives, RunsOutOnlyIf, Yields};
 ghost use Rattle.package_table.specs.Growth.{Grows, Tells};
 ghost use Rattle.package_table.specs.Numbers.{numbered};
-ghost use Rattle.package_table.specs.Numbering.{Keeps, KeepsNumbers};
-ghost use Rattle.package_table.specs.Shown.{marked_tables};
+ghost use Rattle.package_table.specs.Numbering.{Keeps, KeepsEachNumber};
+ghost use Rattle.package_table.specs.Shown.{SameMarks};
 
 use crate::find::is_locked;
 use crate::journal::Mark;
@@ -49,11 +49,11 @@ fn import_symbol(
     requires { IsPresent table.old.0 home.now name.now home.now }
     ensures gives { Gives (λ _. table.new.0) result
         (after_import table.old.0 owner.now home.now name.now) }
-    ensures changed { IfOk result (λ changed. changed ≡ import_changes table.old.0 owner.now name.now) }
+    ensures changed { Yields result (import_changes table.old.0 owner.now name.now) }
     ensures memory { IfErr result (RunsOutOnlyIf (import_changes table.old.0 owner.now name.now)) }
     ensures unchanged { IfErr result (λ _. table.new ≡ table.old) }
-    ensures numbers { IfOk result (λ _. (count : ℕ) → KeepsNumbers table.old count table.new count) }
-    ensures marked { marked_tables marks.new.items table.new ≡ marked_tables marks.old.items table.old }
+    ensures numbers { IfOk result (λ _. KeepsEachNumber table.old table.new) }
+    ensures marked { SameMarks marks.old.items table.old marks.new.items table.new }
 {
     import_refusal(table, owner, home, name)?;
     if table.is_present(owner, name) {
@@ -77,10 +77,11 @@ impl Packages {
         requires { IsPresent self.old.0 home.now name.now home.now }
         ensures gives { Gives (λ _. self.new.0) result
             (after_import self.old.0 owner.now home.now name.now) }
-        ensures changed { IfOk result (λ changed. changed ≡ import_changes self.old.0 owner.now name.now) }
+        ensures changed { Yields result (import_changes self.old.0 owner.now name.now) }
         ensures exactly { IfOk result (λ changed. Tells changed self.old.0 self.new.0) }
         ensures grows { Grows self.old.0 self.new.0 }
-        ensures memory { IfErr result (RunsOutOnlyIf (import_changes self.old.0 owner.now name.now)) }
+        ensures memory { IfErr result
+            (RunsOutOnlyIf (import_changes self.old.0 owner.now name.now)) }
         ensures unchanged { IfErr result (λ _. self.new ≡ self.old) }
         ensures numbers { Keeps (numbered self.old) (numbered self.new) }
         ensures marked { self.new.1.marked ≡ self.old.1.marked }

@@ -36,7 +36,6 @@
 //! `keeps_same`, `keeps_both`.
 #![tactic(auto)]
 
-mod entry;
 mod error;
 mod export;
 mod find;
@@ -52,6 +51,7 @@ mod put;
 mod queries;
 mod resolve;
 pub mod standardized;
+mod entry;
 mod table;
 mod undo;
 mod use_package;

@@ -13,5 +13,5 @@ returns-clause-marked c =
     c.push_note.ensures c.insert_entry-2.new.self s
     ((λ i. undone (put (c.in_ok-noted_owner.ensures.items i) (c.in_ok-noted_name.ensures.items i) before) (c.in_ok-before.ensures.ok i))
     ∙ undone_put s c.args.owner.now c.args.name.now (entry_of c.args.symbol) c.args.symbol.number before c.requires.package c.requires.shown (c.insert_entry-2.ensures.packages c.args.owner.now)
-    (entry_noted c.in_ok-before.before ∙ c.in_ok-before.ensures.before) (number_noted c.in_ok-before.before ∙ c.in_ok-before.ensures.number))
+    (entry_noted c.in_ok-before.before ∙ c.in_ok-before.ensures.before.entry) (number_noted c.in_ok-before.before ∙ c.in_ok-before.ensures.before.number))
     ∙ ap (λ ms. tables_at ms s) c.in_ok-reserve_note.ensures.same

@@ -22,14 +22,12 @@ returns-clause-ok c =
     ∙ ap (λ (s : Numbered). with_numbered s c.args.owner.now c.args.name.now (entry_of c.args.symbol) c.args.symbol.number) c.self.view_is
 
 pub returns-clause-before : goal.returns-clause-before
-returns-clause-before c =
-    c.in-Ok.ensures.before ∙ sym (entry_there c.self.inside.packages.entries c.args.owner.now c.args.name.now c.in-Some.contents.now c.in-Some.ensures.value)
-    ∙ ap (λ (s : Numbered). entry_at s.0 c.args.owner.now c.args.name.now) c.self.view_is
-
-pub returns-clause-number : goal.returns-clause-number
-returns-clause-number c =
-    c.in-Ok.ensures.number ∙ sym (number_there c.self.inside.packages.entries c.args.owner.now c.args.name.now c.in-Some.contents.now c.in-Some.ensures.value)
-    ∙ ap (λ (s : Numbered). number_at s.1 c.args.owner.now c.args.name.now) c.self.view_is
+returns-clause-before c = record {
+  entry = c.in-Ok.ensures.before.entry ∙ sym (entry_there c.self.inside.packages.entries c.args.owner.now c.args.name.now c.in-Some.contents.now c.in-Some.ensures.value)
+      ∙ ap (λ (s : Numbered). entry_at s.0 c.args.owner.now c.args.name.now) c.self.view_is;
+  number = c.in-Ok.ensures.before.number ∙ sym (number_there c.self.inside.packages.entries c.args.owner.now c.args.name.now c.in-Some.contents.now c.in-Some.ensures.value)
+      ∙ ap (λ (s : Numbered). number_at s.1 c.args.owner.now c.args.name.now) c.self.view_is;
+}
 
 pub returns-clause-packages : goal.returns-clause-packages
 returns-clause-packages c p = subst (λ (s : Numbered). finite.contains_key s.1 p ≡ finite.contains_key s.0 p) c.self.view_is (same_packages c.self.inside.packages.entries p)

@@ -8,7 +8,7 @@ use Rattle.package_table.specs.Reached.{is_shown}
 use Rattle.package_table.specs.Entries.{entry_of}
 use Rattle.package_table.specs.Kept.{as_map, as_set}
 use Rattle.package_table.proofs.Index.{shown_more, shown_again}
-use Rattle.package_table.proofs.Inserted.{symbols_inserted, held_inserted, seen_before}
+use Rattle.package_table.proofs.Inserted.{symbols_inserted, held_inserted, was_at}
 use Rattle.package_table.proofs.Seen.{got_name, as_set-insert, as_set-remove}
 use Rattle.package_table.proofs.table.contents.Contents.insert_external.Goals as goal
 
@@ -39,10 +39,5 @@ returns-in-Ok-clause-ok c =
 
 pub returns-in-Ok-clause-before : goal.returns-in-Ok-clause-before
 returns-in-Ok-clause-before c =
-    seen_before entry_of c.self.inside.symbols.entries c.in_ok-key.key c.args.name.now _ _ c.in-Ok.ensures.old c.in_ok-key.ensures.items
-    (ap (λ (k : Held). k.0.symbols) c.self.view_is)
-
-pub returns-in-Ok-clause-number : goal.returns-in-Ok-clause-number
-returns-in-Ok-clause-number c =
-    seen_before (λ (s : Symbol). s.number) c.self.inside.symbols.entries c.in_ok-key.key c.args.name.now _ _ c.in-Ok.ensures.old c.in_ok-key.ensures.items
-    (ap (λ (k : Held). k.1) c.self.view_is)
+    was_at c.self.inside.symbols.entries c.in_ok-key.key c.args.name.now _ c.in-Ok.ensures.old c.in_ok-key.ensures.items
+    c.self.inside.uses.keys c.args.self.now c.self.view_is
