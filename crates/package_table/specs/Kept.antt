@@ -4,12 +4,12 @@ use Rattle.std.specs.Global.{Vec}
 use Rattle.std.specs.BTreeMap.{BTreeMap}
 use Rattle.std.specs.FinMap as finite
 use Rattle.std.specs.FinSet as set
-use Rattle.package_table.specs.declared.entry.Symbol.{Symbol}
+use Rattle.package_table.specs.declared.symbol.Symbol.{Symbol}
 use Rattle.package_table.specs.declared.table.contents.Contents.TheInside.{Inside}
-use Rattle.package_table.specs.Table.{Name, name_cmp, Entry, Package, Table}
+use Rattle.package_table.specs.Table.{Name, name_cmp, Present, Package, Table}
 use Rattle.package_table.specs.Numbers.{Held, Numbered, Numbers}
 use Rattle.package_table.specs.Reached.{shows}
-use Rattle.package_table.specs.Entries.{entry_of}
+use Rattle.package_table.specs.Symbols.{present_of}
 
 abbrev pub as_map : {X V : Type 0} → (X → V) → List (Vec ℕ × X) → finite.FinMap name_cmp V
 as_map g es = finite.from_entries (map (λ e. (e.0.items, g e.1)) es)
@@ -18,8 +18,8 @@ abbrev pub as_set : List (Vec ℕ) → set.FinSet name_cmp
 as_set ks = finite.from_entries (map (λ k. (k.items, tt {0})) ks)
 
 -- the symbols of a package as they are kept, and their numbers
-abbrev pub symbols_of : BTreeMap (Vec ℕ) Symbol → finite.FinMap name_cmp Entry
-symbols_of symbols = as_map entry_of symbols.entries
+abbrev pub symbols_of : BTreeMap (Vec ℕ) Symbol → finite.FinMap name_cmp Present
+symbols_of symbols = as_map present_of symbols.entries
 
 abbrev pub numbers_of : BTreeMap (Vec ℕ) Symbol → finite.FinMap name_cmp ℕ
 numbers_of symbols = as_map (λ s. s.number) symbols.entries

@@ -4,7 +4,7 @@ use Rattle.std.specs.Prelude.{◌≡◌, ℕ, ◌++◌, List, [], ◌∷◌, Opt
 use Rattle.std.specs.Option.{option_map_or}
 use Rattle.std.specs.Coded.{Coded, code_by, coded×, coded_list, coded_ℕ}
 use Rattle.std.specs.FinMap as finite
-use Rattle.package_table.specs.Table.{Name, name_cmp, name_code, Entry, Package, Table, package_code, table_code, with_entry, with_used, with_new_package}
+use Rattle.package_table.specs.Table.{Name, name_cmp, name_code, Present, Package, Table, package_code, table_code, with_entry, with_used, with_new_package}
 use Rattle.package_table.specs.Lookup.{is_symbol}
 
 -- for each package, the number of the symbol that is present by each name
@@ -75,7 +75,7 @@ abbrev pub with_numbers : Numbers → Name → (finite.FinMap name_cmp ℕ → f
 with_numbers ns p change = option_map_or (λ m. finite.insert ns p (change m)) (finite.get ns p) ns
 
 -- the table where the entry e, of the symbol with the number i, is at the name n in p
-abbrev pub with_numbered : Numbered → Name → Name → Entry → ℕ → Numbered
+abbrev pub with_numbered : Numbered → Name → Name → Present → ℕ → Numbered
 with_numbered s p n e i = (with_entry s.0 p n e, with_numbers s.1 p (λ m. finite.insert m n i))
 
 -- the table where p uses q

@@ -8,14 +8,14 @@ use Rattle.package_table.specs.declared.packages.Packages.TheInside.{Inside}
 use Rattle.package_table.specs.Table.{IsSound, symbol_count}
 use Rattle.package_table.specs.Numbers.{Numbered, Tables}
 use Rattle.package_table.specs.Numbering.{IsNumbered}
-use Rattle.package_table.specs.Entries.{numbered_entry}
+use Rattle.package_table.specs.Symbols.{numbered_present}
 pub use Rattle.package_table.specs.Kept.{as_map}
 use Rattle.package_table.specs.Undo.{Change, made, put, used, Marked, tables_at}
 
 -- what a note says
 abbrev pub change_of : Note → Change
 change_of (Made name) = made name.items
-change_of (Put owner name before) = put owner.items name.items (option_map numbered_entry before)
+change_of (Put owner name before) = put owner.items name.items (option_map numbered_present before)
 change_of (Used owner other) = used owner.items other.items
 
 abbrev pub marked_of : Mark → Marked

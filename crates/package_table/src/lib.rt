@@ -9,7 +9,7 @@
 //! - `packages`: `Packages`, and its calls
 //! - `queries`: what callers ask of them
 //! - `table`: `PackageTable`, the packages by their names, and the numbers of their symbols: how they are kept, it alone knows
-//! - `entry`: what a package has at the name of a symbol
+//! - `symbol`: what a package has at the name of a symbol
 //! - `standardized`, `limits`: the names of the first packages, and how much there may be
 //! - `find`, `resolve`: names of packages, and what the name in a token stands for; they take no memory
 //! - `make`, `intern`, `export`, `import`, `use_package`: the calls that write, over `put` (single changes, noted where there
@@ -51,7 +51,7 @@ mod put;
 mod queries;
 mod resolve;
 pub mod standardized;
-mod entry;
+mod symbol;
 mod table;
 mod undo;
 mod use_package;

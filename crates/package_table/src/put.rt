@@ -4,11 +4,11 @@ ghost use Rattle.std.specs.FinMap as finite;
 ghost use Rattle.package_table.specs.Table.{IsExternal, IsPackage};
 ghost use Rattle.package_table.specs.Numbers.{HasNumbers, with_numbered, with_package_made, with_use};
 ghost use Rattle.package_table.specs.Lookup.{is_used};
-ghost use Rattle.package_table.specs.Entries.{entry_of};
+ghost use Rattle.package_table.specs.Symbols.{present_of};
 ghost use Rattle.package_table.specs.Shown.{SameMarks};
 
 use crate::journal::{Mark, Note, push_note, reserve_note};
-use crate::entry::Symbol;
+use crate::symbol::Symbol;
 use crate::table::PackageTable;
 use std::alloc::{AllocError, Global};
 
@@ -46,7 +46,7 @@ fn put_entry(
     requires package { IsPackage table.old.0 owner.now }
     requires shown { IsExternal table.old.0 owner.now name.now → symbol.external ≡ true }
     ensures ok { OnOk result (table.new
-        ≡ with_numbered table.old owner.now name.now (entry_of symbol) symbol.number) }
+        ≡ with_numbered table.old owner.now name.now (present_of symbol) symbol.number) }
     ensures err { OnErr result (table.new ≡ table.old) }
     ensures packages { IfOk result (λ _. HasNumbers table.old owner.now) }
     ensures marked { SameMarks marks.old.items table.old marks.new.items table.new }

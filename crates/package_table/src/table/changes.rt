@@ -2,12 +2,12 @@
 ghost use Rattle.std.specs.Prelude.{◌≡◌, true, IfOk, OnErr, OnOk};
 ghost use Rattle.package_table.specs.Table.{Name, IsExternal, IsPackage};
 ghost use Rattle.package_table.specs.Numbers.{HasNumbers, with_numbered, with_package_made, with_use};
-ghost use Rattle.package_table.specs.Entries.{entry_of, WasIn};
+ghost use Rattle.package_table.specs.Symbols.{present_of, WasIn};
 
 use super::PackageTable;
 use super::contents::Contents;
 use super::sharing::new_name;
-use crate::entry::Symbol;
+use crate::symbol::Symbol;
 use std::alloc::{AllocError, Global};
 
 impl PackageTable {
@@ -36,7 +36,7 @@ impl PackageTable {
         requires package { IsPackage self.old.0 owner.now }
         requires shown { IsExternal self.old.0 owner.now name.now → symbol.external ≡ true }
         ensures ok { OnOk result
-            (self.new ≡ with_numbered self.old owner.now name.now (entry_of symbol) symbol.number) }
+            (self.new ≡ with_numbered self.old owner.now name.now (present_of symbol) symbol.number) }
         ensures before { IfOk result (WasIn self.old owner.now name.now) }
         ensures packages { (p : Name) → HasNumbers self.old p }
         ensures err { OnErr result (self.new ≡ self.old) }

@@ -4,9 +4,9 @@ ghost use Rattle.std.specs.FinMap as finite;
 ghost use Rattle.package_table.specs.Table.{empty_package};
 ghost use Rattle.package_table.specs.Numbers.{HasEachNumber};
 ghost use Rattle.package_table.specs.Reached.{shows};
-ghost use Rattle.package_table.specs.Entries.{entry_of, with_symbol, WasAt};
+ghost use Rattle.package_table.specs.Symbols.{present_of, with_symbol, WasAt};
 
-use crate::entry::Symbol;
+use crate::symbol::Symbol;
 use std::alloc::{AllocError, Global};
 use std::collections::{BTreeMap, BTreeSet};
 use std::marker::Model;
@@ -51,7 +51,7 @@ impl Contents {
 
     /// What is present at a name.
     pub(crate) fn symbol_at(&self, name: &[u8]) -> Option<&Symbol>
-        ensures entry { option_map (λ s. entry_of s.now) result
+        ensures entry { option_map (λ s. present_of s.now) result
             ≡ finite.get self.now.0.symbols name.now }
         ensures number { option_map (λ s. s.now.number) result ≡ finite.get self.now.1 name.now }
     {

@@ -1,19 +1,19 @@
 //! Copies of the table.
 ghost use Rattle.std.specs.Prelude.{◌≡◌, IfOk};
-ghost use Rattle.package_table.specs.Entries.{entry_of};
+ghost use Rattle.package_table.specs.Symbols.{present_of};
 ghost use Rattle.package_table.specs.Kept.{all_numbers_of, as_set, numbers_of, symbols_of, table_of};
 
 use super::PackageTable;
 use super::contents::Contents;
 use super::sharing::{new_name, share};
-use crate::entry::Symbol;
+use crate::symbol::Symbol;
 use std::alloc::{AllocError, Global};
 use std::collections::{BTreeMap, BTreeSet};
 use std::rc::Rc;
 
 // The home's name is shared with `owner` where that is the same.
 fn copy_symbol(alloc: Global, owner: &Rc<Vec<u8>>, symbol: &Symbol) -> Result<Symbol, AllocError>
-    ensures entry { IfOk result (λ s. entry_of s ≡ entry_of symbol.now) }
+    ensures entry { IfOk result (λ s. present_of s ≡ present_of symbol.now) }
     ensures number { IfOk result (λ s. s.number ≡ symbol.now.number) }
 {
     Ok(Symbol {

@@ -11,7 +11,7 @@ use super::PackageTable;
 use super::contents::Contents;
 use super::sharing::new_name;
 use crate::standardized::{COMMON_LISP, COMMON_LISP_USER, KEYWORD};
-use crate::entry::Symbol;
+use crate::symbol::Symbol;
 use std::alloc::{AllocError, Global};
 use std::collections::BTreeMap;
 

@@ -1,5 +1,5 @@
 use Rattle.std.proofs.Common.{rules, ◌≡◌, ◌∙◌, ℕ, true, ap, sym, subst}
-use Rattle.package_table.specs.Table.{Entry}
+use Rattle.package_table.specs.Table.{Present}
 use Rattle.package_table.specs.Numbers.{Numbered, with_numbered}
 use Rattle.package_table.specs.Numbering.{KeepsNumbers}
 use Rattle.package_table.specs.Lookup.{is_external}
@@ -15,7 +15,7 @@ returns-then-is_some-clause-gives c =
 pub returns-clause-numbers : goal.returns-clause-numbers
 returns-clause-numbers c =
     let s : Numbered = c.args.table.now in
-    let e : Entry = record { home = c.args.home.now; external = true } in
+    let e : Present = record { home = c.args.home.now; external = true } in
     let home = exported_home s.0 c.args.owner.now c.args.home.now c.args.name.now _ c.requires c.in_ok-export_refusal.ensures.gives in
     λ count.
     subst (λ (u : Numbered). KeepsNumbers s count u count) (sym (c.in_ok-put_symbol.ensures.ok ∙ ap (λ (i : ℕ). with_numbered s c.args.owner.now c.args.name.now e i) c.number_or_none-number.ensures))
