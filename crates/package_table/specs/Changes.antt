@@ -1,6 +1,6 @@
 -- What the calls that write make of the packages, or the first reason for which they refuse. Which symbol a package finds by
 -- a name, `found` of Lookup.antt says.
-use Rattle.std.specs.Prelude.{◌≡◌, Bool, true, false, not, ◌&&◌, ◌||◌, ◌==◌, nat_lt, nat_le, length, is_none, is_some, bytes_eq, if◌then◌else◌, IsTrue, Result, Ok, Err, IsOk, IfOk}
+use Rattle.std.specs.Prelude.{◌≡◌, Bool, true, false, not, ◌&&◌, ◌||◌, ◌==◌, nat_lt, nat_le, length, is_none, is_some, bytes_eq, if◌then◌else◌, IsTrue, Result, Ok, Err, IsOk, IfOk, MatchResult}
 use Rattle.std.specs.List.{list_any}
 use Rattle.std.specs.Option.{option_map_or}
 use Rattle.std.specs.FinMap as finite
@@ -116,3 +116,7 @@ Yields said v = IfOk said (λ x. x ≡ v)
 abbrev pub RunsOutOnlyIf : Bool → PackageError → Type 0
 RunsOutOnlyIf changes OutOfMemory = IsTrue changes
 RunsOutOnlyIf changes e = Unit {0}
+
+-- whether the packages change, as a call answers it that takes memory for a change alone
+abbrev pub TellsChange : Bool → Result Bool PackageError → Type 0
+TellsChange changes said = MatchResult said (λ changed. changed ≡ changes) (RunsOutOnlyIf changes)

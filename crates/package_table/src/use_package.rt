@@ -1,7 +1,7 @@
 //! `use_package`: a package uses another.
 ghost use Rattle.std.specs.Prelude.{◌≡◌, if◌then◌else◌, IfErr, IfOk};
 ghost use Rattle.package_table.specs.Table.{with_used};
-ghost use Rattle.package_table.specs.Changes.{after_use, use_changes, Gives, RunsOutOnlyIf, Yields};
+ghost use Rattle.package_table.specs.Changes.{after_use, use_changes, Gives, RunsOutOnlyIf, TellsChange, Yields};
 ghost use Rattle.package_table.specs.Growth.{Grows, Tells};
 ghost use Rattle.package_table.specs.Numbers.{numbered};
 ghost use Rattle.package_table.specs.Numbering.{Keeps, KeepsEachNumber};
@@ -20,8 +20,7 @@ fn use_refusal(table: &PackageTable, owner: &[u8], used: &[u8]) -> Result<bool, 
     ensures gives { let t = table.now.0 in
         Gives (λ changes. if changes then with_used t owner.now used.now else t) result
         (after_use t owner.now used.now) }
-    ensures changes { Yields result (use_changes table.now.0 owner.now used.now) }
-    ensures memory { IfErr result (RunsOutOnlyIf (use_changes table.now.0 owner.now used.now)) }
+    ensures changes { TellsChange (use_changes table.now.0 owner.now used.now) result }
 {
     if !table.has_package(owner) || !table.has_package(used) {
         return Err(PackageError::NoSuchPackage);
@@ -47,8 +46,7 @@ fn use_other(
 ) -> Result<bool, PackageError>
     ensures gives { Gives (λ _. table.new.0) result
         (after_use table.old.0 owner.now used.now) }
-    ensures changed { Yields result (use_changes table.old.0 owner.now used.now) }
-    ensures memory { IfErr result (RunsOutOnlyIf (use_changes table.old.0 owner.now used.now)) }
+    ensures changed { TellsChange (use_changes table.old.0 owner.now used.now) result }
     ensures unchanged { IfErr result (λ _. table.new ≡ table.old) }
     ensures numbers { IfOk result (λ _. KeepsEachNumber table.old table.new) }
     ensures marked { SameMarks marks.old.items table.old marks.new.items table.new }

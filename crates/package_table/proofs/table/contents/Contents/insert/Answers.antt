@@ -1,5 +1,4 @@
 use Rattle.std.proofs.Common.{◌∙◌, ap, sym}
-use Rattle.package_table.specs.declared.symbol.Symbol.{Symbol}
 use Rattle.package_table.specs.Numbers.{Held}
 use Rattle.package_table.specs.Reached.{is_shown}
 use Rattle.package_table.specs.Symbols.{present_of}

@@ -1,8 +1,6 @@
 use Rattle.std.proofs.Common.{◌∙◌, Option, false, ap, sym, option_map}
 use Rattle.std.specs.Option.{option_map_or}
 use Rattle.std.specs.FinMap as finite
-use Rattle.package_table.specs.declared.symbol.Symbol.{Symbol}
-use Rattle.package_table.specs.Numbers.{Held}
 use Rattle.package_table.specs.Table.{Present}
 use Rattle.package_table.specs.Reached.{is_shown}
 use Rattle.package_table.specs.Symbols.{present_of}
