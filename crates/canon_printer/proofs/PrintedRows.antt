@@ -2,14 +2,14 @@
 use Rattle.std.proofs.Common.{◌≡◌, Some, None, true, false, pos, codes, refl, [], ◌∷◌}
 use Rattle.std.specs.Fmt.{digits}
 use Rattle.lisp_object.specs.Object.{integer, character, text, symbol, uninterned, pair, vector, nil, list_of}
-use Rattle.package_table.specs.Table.{Name, Table, Entry, entry_at, common_lisp, keyword}
+use Rattle.package_table.specs.Table.{Name, Table, Present, entry_at, common_lisp, keyword}
 use Rattle.package_table.specs.Lookup.{found}
 use Rattle.canon_printer.specs.Printed.{printed}
 
-abbrev shown : Name → Entry
+abbrev shown : Name → Present
 shown home = record { home = home; external = true }
 
-abbrev hidden : Name → Entry
+abbrev hidden : Name → Present
 hidden home = record { home = home; external = false }
 
 module _ (t : Table) (p : Name) where

@@ -5,7 +5,7 @@ use Rattle.std.specs.Str.{bytes_eq}
 use Rattle.std.specs.FinMap as finite
 use Rattle.std.specs.FinMap.{get-from_entries}
 use Rattle.std.proofs.lemmas.Slice.Eq.{bytes_eq-Decides}
-use Rattle.package_table.specs.Table.{Name, Table, Entry, Package, IsSound, IsPresent, IsPackage, keyword, common_lisp, common_lisp_names, common_lisp_package, full_name, entry_at}
+use Rattle.package_table.specs.Table.{Name, Table, Present, Package, IsSound, IsPresent, IsPackage, keyword, common_lisp, common_lisp_names, common_lisp_package, full_name, entry_at}
 use Rattle.package_table.specs.Lookup.{found, external_home, is_external}
 use Rattle.package_table.specs.Resolving.{found_at, resolution, external_resolution, internal_resolution}
 use Rattle.package_table.proofs.Names.{name_total, same_some}
@@ -13,7 +13,7 @@ use Rattle.package_table.proofs.Found.{found_is, external_entry}
 use Rattle.canon_printer.specs.Printed.{has_home, is_accessible}
 
 -- a symbol of COMMON-LISP as it is first
-abbrev at_home : Entry
+abbrev at_home : Present
 at_home = record { home = common_lisp; external = true }
 
 -- a symbol that was found with this home
@@ -25,7 +25,7 @@ pub accessible_resolved : (t : Table) (current home own : Name) → is_accessibl
 accessible_resolved t current home own e = rw (is_home (found t current own) home e) refl
 
 -- what is present somewhere is in a package
-in_package : (k : Option Package) (own h : Name) → option_map (λ (e : Entry). e.home) (option_and_then (λ (k : Package). finite.get k.symbols own) k) ≡ Some h
+in_package : (k : Option Package) (own h : Name) → option_map (λ (e : Present). e.home) (option_and_then (λ (k : Package). finite.get k.symbols own) k) ≡ Some h
     → IsTrue (is_some k)
 in_package None own h e = absurd (cc)
 in_package (Some k) own h e = refl
@@ -34,8 +34,8 @@ in_package (Some k) own h e = refl
 pub nil_present : (t : Table) → IsSound t → IsPresent t common_lisp (codes "NIL") common_lisp
 unfolding common_lisp_package common_lisp_names
 nil_present t sound =
-    ap (λ (o : Option Package). option_map (λ (e : Entry). e.home) (option_and_then (λ (k : Package). finite.get k.symbols (codes "NIL")) o)) sound.first.fixed
-    ∙ ap (option_map (λ (e : Entry). e.home)) (get-from_entries name_total (map (λ n. (n, at_home)) common_lisp_names) (codes "NIL"))
+    ap (λ (o : Option Package). option_map (λ (e : Present). e.home) (option_and_then (λ (k : Package). finite.get k.symbols (codes "NIL")) o)) sound.first.fixed
+    ∙ ap (option_map (λ (e : Present). e.home)) (get-from_entries name_total (map (λ n. (n, at_home)) common_lisp_names) (codes "NIL"))
 
 module _ (t : Table) (home own : Name) (sound : IsSound t) (present : IsPresent t home own home) where
   pub home_there : IsPackage t home
@@ -50,7 +50,7 @@ module _ (t : Table) (home own : Name) (sound : IsSound t) (present : IsPresent 
   external_there : is_external t home own ≡ true → external_home t home own ≡ Some home
   external_there e =
       let shown : (h : Name) × (entry_at t home own ≡ Some (record { home = h; external = true })) = external_entry t home own e in
-      let same : shown.0 ≡ home = same_some shown.0 home (sym (ap (λ o. option_map (λ (e : Entry). e.home) o) shown.1) ∙ present) in
+      let same : shown.0 ≡ home = same_some shown.0 home (sym (ap (λ o. option_map (λ (e : Present). e.home) o) shown.1) ∙ present) in
       rw (shown.1, same) refl
 
   pub keyword_resolved : bytes_eq home keyword ≡ true → resolution t keyword own ≡ Ok (found_at home)

@@ -12,7 +12,7 @@ use Rattle.lisp_object.proofs.Objects.{object_of-List, object_of-dotted, object_
 use Rattle.plist_state.specs.Properties.{Symbol}
 use Rattle.package_table.specs.declared.error.PackageError.{PackageError}
 use Rattle.package_table.specs.declared.error.PackageError.TheVariants.{NoPackage, NotExternal, LockedPackage, EmptyName, NoSuchPackage, PackageExists, PackageIsLocked, NameConflict, NotAccessible, Limit, OutOfMemory}
-use Rattle.package_table.specs.Table.{Name, Table, Package, Entry, IsPresent, common_lisp, symbol_count}
+use Rattle.package_table.specs.Table.{Name, Table, Package, Present, IsPresent, common_lisp, symbol_count}
 use Rattle.package_table.specs.Limits.{most_symbols, longest_symbol_name}
 use Rattle.package_table.specs.Changes.{Gives, intern_changes, with_new_symbol}
 use Rattle.package_table.proofs.Found.{present_found}
@@ -60,7 +60,7 @@ marked_last (y ∷ ys) x = marked_last ys x
 module _ (t : Table) (h n : Name) (there : IsPresent t h n h) where
   is_package : finite.contains_key t h ≡ true
   is_package =
-      elim (finite.get t h) as (λ o. option_map (λ (e : Entry). e.home) (option_and_then (λ (k : Package). finite.get k.symbols n) o) ≡ Some h → is_some o ≡ true) [
+      elim (finite.get t h) as (λ o. option_map (λ (e : Present). e.home) (option_and_then (λ (k : Package). finite.get k.symbols n) o) ≡ Some h → is_some o ≡ true) [
         | None ↦ λ e. absurd (let none : None ≡ Some h = e in cc)
         | Some k ↦ λ _. refl
       ] there

@@ -85,7 +85,7 @@ case_value s Invert sound = keyword_value s (case_name Invert) sound (sound.pack
 
 symbol_there : (u : packages.Table) (h n : Name) → is_symbol u h n ≡ true → IsPresent u h n h
 symbol_there u h n e =
-    elim (packages.entry_at u h n) as (λ o. option_map_or (λ (k : packages.Entry). bytes_eq k.home h) o false ≡ true → option_map (λ (k : packages.Entry). k.home) o ≡ Some h) [
+    elim (packages.entry_at u h n) as (λ o. option_map_or (λ (k : packages.Present). bytes_eq k.home h) o false ≡ true → option_map (λ (k : packages.Present). k.home) o ≡ Some h) [
       | None ↦ λ e. absurd (false≢true e)
       | Some k ↦ λ e. ap Some (equal_names k.home h e)
     ] e

@@ -12,7 +12,7 @@ use Rattle.lisp_object.specs.Object.{Object, integer, rational, character, text,
 use Rattle.lisp_object.proofs.Atoms.{atoms_weaker}
 use Rattle.lisp_object.proofs.Sound.{sound_nil}
 use Rattle.package_table.specs.Table as packages
-use Rattle.package_table.specs.Table.{Name, Entry, Package, common_lisp, common_lisp_names, common_lisp_package, keyword, IsPresent, IsPackage}
+use Rattle.package_table.specs.Table.{Name, Present, Package, common_lisp, common_lisp_names, common_lisp_package, keyword, IsPresent, IsPackage}
 use Rattle.package_table.specs.Growth.{Grows}
 use Rattle.package_table.proofs.Names.{name_total, same_some, none_some}
 use Rattle.package_table.proofs.Frames.{equal_names}
@@ -22,22 +22,22 @@ use Rattle.lisp_operators.specs.Kinds.{a_symbol, a_name, a_text, a_keyword, a_ch
 use Rattle.lisp_operators.specs.Properties.{t}
 
 -- ---- symbols and texts
-at_home : Entry
+at_home : Present
 at_home = record { home = common_lisp; external = true }
 
-lisp_present : (u : packages.Table) → packages.IsSound u → (n : Name) → option_map (λ (e : Entry). e.home) (finite.get common_lisp_package.symbols n) ≡ Some common_lisp → IsPresent u common_lisp n common_lisp
+lisp_present : (u : packages.Table) → packages.IsSound u → (n : Name) → option_map (λ (e : Present). e.home) (finite.get common_lisp_package.symbols n) ≡ Some common_lisp → IsPresent u common_lisp n common_lisp
 lisp_present u sound n there =
-    ap (λ (o : Option Package). option_map (λ (e : Entry). e.home) (option_and_then (λ (k : Package). finite.get k.symbols n) o)) sound.first.fixed ∙ there
+    ap (λ (o : Option Package). option_map (λ (e : Present). e.home) (option_and_then (λ (k : Package). finite.get k.symbols n) o)) sound.first.fixed ∙ there
 
 t_present : (u : packages.Table) → packages.IsSound u → IsPresent u common_lisp (codes "T") common_lisp
 unfolding common_lisp_package common_lisp_names
-t_present u sound = lisp_present u sound (codes "T") (ap (option_map (λ (e : Entry). e.home)) (get-from_entries name_total (map (λ n. (n, record { home = common_lisp; external = true })) common_lisp_names) (codes "T")))
+t_present u sound = lisp_present u sound (codes "T") (ap (option_map (λ (e : Present). e.home)) (get-from_entries name_total (map (λ n. (n, record { home = common_lisp; external = true })) common_lisp_names) (codes "T")))
 
 pub nil_present : (u : packages.Table) → packages.IsSound u → IsPresent u common_lisp (codes "NIL") common_lisp
 unfolding common_lisp_package common_lisp_names
-nil_present u sound = lisp_present u sound (codes "NIL") (ap (option_map (λ (e : Entry). e.home)) (get-from_entries name_total (map (λ n. (n, record { home = common_lisp; external = true })) common_lisp_names) (codes "NIL")))
+nil_present u sound = lisp_present u sound (codes "NIL") (ap (option_map (λ (e : Present). e.home)) (get-from_entries name_total (map (λ n. (n, record { home = common_lisp; external = true })) common_lisp_names) (codes "NIL")))
 
-present_package : (o : Option Package) (n h : Name) → option_map (λ (e : Entry). e.home) (option_and_then (λ (k : Package). finite.get k.symbols n) o) ≡ Some h → IsTrue (is_some o)
+present_package : (o : Option Package) (n h : Name) → option_map (λ (e : Present). e.home) (option_and_then (λ (k : Package). finite.get k.symbols n) o) ≡ Some h → IsTrue (is_some o)
 present_package None n h e = absurd (none_some h e)
 present_package (Some k) n h e = refl
 

@@ -3,7 +3,7 @@
 --     interned_found, interned_new      where the symbol was there, and where it is new
 use Rattle.std.proofs.Common.{◌≡◌, ◌≢◌, ◌⊎◌, Bool, true, false, cond, Option, None, Some, is_some, bytes_eq, refl, sym, ap, subst, ◌∙◌, inl, inr}
 use Rattle.std.specs.Option.{option_map, option_map_or}
-use Rattle.package_table.specs.Table.{Name, Entry, Table, keyword, IsPackage, IsExternal, Uses, Finds, FindsNone, IsSound, with_entry}
+use Rattle.package_table.specs.Table.{Name, Present, Table, keyword, IsPackage, IsExternal, Uses, Finds, FindsNone, IsSound, with_entry}
 use Rattle.package_table.specs.Lookup.{found}
 use Rattle.package_table.specs.Growth.{Grows, IsSameBut}
 use Rattle.package_table.proofs.Names.{none_some}
@@ -26,14 +26,14 @@ interned_found t p n h sound is = record {
 }
 
 module _ (t : Table) (p n : Name) (sound : IsSound t) (there : IsPackage t p) (none : FindsNone t p n) where
-  abbrev e : Entry
+  abbrev e : Present
   e = record { home = p; external = bytes_eq p keyword }
 
   abbrev u : Table
   u = with_entry t p n e
 
   none_external : IsExternal t p n → ⊥
-  none_external shown = none_some true (sym (ap (option_map (λ (e : Entry). e.external)) (no_entry t p n none)) ∙ shown)
+  none_external shown = none_some true (sym (ap (option_map (λ (e : Present). e.external)) (no_entry t p n none)) ∙ shown)
 
   none_there : (r m : Name) → r ≡ p → m ≡ n → IsExternal t r m → ⊥
   none_there r m same alike shown = none_external (subst (λ (x : Name). IsExternal t p x) alike (subst (λ (x : Name). IsExternal t x m) same shown))
@@ -70,7 +70,7 @@ module _ (t : Table) (p n : Name) (sound : IsSound t) (there : IsPackage t p) (n
           | None ↦ λ is. finds_none u m q (λ h finds. found_none t m q is h (found_before q m h differ finds))
           | Some h ↦ λ is. found_is u m sound_then.joined q h (finds_grown t u grows q m h (found_finds t m q h is))
         ] refl;
-    externals = λ q m differ. ap (λ (o : Option Entry). option_map_or (λ (e : Entry). cond e.external (Some e.home) None) o None) (entry_other t p n e q m differ);
+    externals = λ q m differ. ap (λ (o : Option Present). option_map_or (λ (e : Present). cond e.external (Some e.home) None) o None) (entry_other t p n e q m differ);
   }
 
   pub interned_new : IsSound u → Interned t u p n p true
@@ -81,5 +81,5 @@ module _ (t : Table) (p n : Name) (sound : IsSound t) (there : IsPackage t p) (n
       told = differs_entry t p n e there (ap is_some (no_entry t p n none));
     };
     others = others sound_then;
-    finds = present_found u n p p (ap (option_map (λ (e : Entry). e.home)) (entry_new t p n e there));
+    finds = present_found u n p p (ap (option_map (λ (e : Present). e.home)) (entry_new t p n e there));
   }

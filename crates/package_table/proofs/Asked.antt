@@ -8,7 +8,7 @@ use Rattle.std.specs.List.{list_any}
 use Rattle.std.specs.Ordering.{is_eq, eq_by_cmp}
 use Rattle.std.specs.FinMap as finite
 use Rattle.std.specs.FinMap.Entries.{find, is_sorted, below_all}
-use Rattle.package_table.specs.Table.{Name, name_cmp, Entry, Package, Table, Uses, Finds, IsExternal, IsPresent, IsSound}
+use Rattle.package_table.specs.Table.{Name, name_cmp, Present, Package, Table, Uses, Finds, IsExternal, IsPresent, IsSound}
 use Rattle.package_table.specs.Lookup.{found}
 use Rattle.package_table.specs.Changes.{finds_other, user_finds_other, finds_other_than_shown}
 use Rattle.package_table.proofs.Names.{tied_same, same_tied}
@@ -86,19 +86,19 @@ shown_other t sound p q = (from_shown, to_shown)
   where
     from_shown : finds_other_than_shown t p q ≡ true → (n : Name) × (g : Name) × (h : Name) × Finds t p n g × IsExternal t q n × IsPresent t q n h × (g ≢ h)
     from_shown some =
-        elim (finite.get t q) as (λ o. list_any (λ (s : Name × Entry). s.1.external && finds_other t p s.1.home s.0) (option_map_or (λ (k : Package). finite.entries k.symbols) o []) ≡ true
-        → (n : Name) × (g : Name) × (h : Name) × Finds t p n g × (option_map (λ (e : Entry). e.external) (option_and_then (λ (k : Package). finite.get k.symbols n) o) ≡ Some true) × (option_map (λ (e : Entry). e.home) (option_and_then (λ (k : Package). finite.get k.symbols n) o) ≡ Some h) × (g ≢ h)) [
+        elim (finite.get t q) as (λ o. list_any (λ (s : Name × Present). s.1.external && finds_other t p s.1.home s.0) (option_map_or (λ (k : Package). finite.entries k.symbols) o []) ≡ true
+        → (n : Name) × (g : Name) × (h : Name) × Finds t p n g × (option_map (λ (e : Present). e.external) (option_and_then (λ (k : Package). finite.get k.symbols n) o) ≡ Some true) × (option_map (λ (e : Present). e.home) (option_and_then (λ (k : Package). finite.get k.symbols n) o) ≡ Some h) × (g ≢ h)) [
           | None ↦ λ none. absurd (false≢true none)
           | Some k ↦ λ some.
-              let shown = some_in (λ (s : Name × Entry). s.1.external && finds_other t p s.1.home s.0) k.symbols some in
+              let shown = some_in (λ (s : Name × Present). s.1.external && finds_other t p s.1.home s.0) k.symbols some in
               let asked = both _ _ shown.3 in
               let other = other_found t p shown.1.home shown.0 asked.1 in (
                 shown.0,
                 other.0,
                 shown.1.home,
                 other.1,
-                ap (option_map (λ (e : Entry). e.external)) shown.2 ∙ ap Some asked.0,
-                ap (option_map (λ (e : Entry). e.home)) shown.2,
+                ap (option_map (λ (e : Present). e.external)) shown.2 ∙ ap Some asked.0,
+                ap (option_map (λ (e : Present). e.home)) shown.2,
                 other.2,
               )
         ] some

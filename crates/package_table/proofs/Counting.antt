@@ -11,7 +11,7 @@ use Rattle.std.specs.Option.{option_map_or, option_and_then}
 use Rattle.std.specs.Ordering.{is_eq, is_lt}
 use Rattle.std.specs.FinMap as finite
 use Rattle.std.specs.FinMap.Entries.{find, put, is_sorted, below_all, by_order}
-use Rattle.package_table.specs.Table.{Name, name_cmp, Entry, Package, Table, entry_at, IsPackage, with_package, with_entry, with_used, empty_package, symbol_count, own_count, with_new_package}
+use Rattle.package_table.specs.Table.{Name, name_cmp, Present, Package, Table, entry_at, IsPackage, with_package, with_entry, with_used, empty_package, symbol_count, own_count, with_new_package}
 use Rattle.package_table.proofs.Names.{name_total, name_exact}
 use Rattle.package_table.proofs.Frames.{equal_itself, not_equal, package_there}
 
@@ -68,12 +68,12 @@ module _ {X : Type 0} (w : Name → X → ℕ) where
       (λ i. weight (finite.entries-insert name_total m k v i) + weight_of k (finite.get-entries m k i)) ∙ weight-put k v (finite.entries m) (finite.entries_sorted m)
 
 -- 1 for an entry at home in p
-abbrev pub at_home : Name → Entry → ℕ
+abbrev pub at_home : Name → Present → ℕ
 at_home p e = cond (bytes_eq e.home p) 1 0
 
 -- how many are at home in p, as a sum
-own_as_sum : (p : Name) (es : List (Name × Entry)) → length (filter (λ s. bytes_eq s.1.home p) es) ≡ weight (λ _ e. at_home p e) es
-own_as_sum p es = length-filter (λ (s : Name × Entry). bytes_eq s.1.home p) es
+own_as_sum : (p : Name) (es : List (Name × Present)) → length (filter (λ s. bytes_eq s.1.home p) es) ≡ weight (λ _ e. at_home p e) es
+own_as_sum p es = length-filter (λ (s : Name × Present). bytes_eq s.1.home p) es
 
 -- after a change of a package that is there
 symbols-change : (t : Table) (p : Name) (f : Package → Package) (k : Package) → finite.get t p ≡ Some k → symbol_count (with_package t p f) + own_count p k ≡ symbol_count t + own_count p (f k)
@@ -84,7 +84,7 @@ symbols-change t p f k e =
     let is : symbol_count (with_package t p f) ≡ symbol_count (finite.insert t p (f k)) = ap symbol_count inserted in
     omega (arith, sums, was, is)
 
-module _ (t : Table) (p n : Name) (e : Entry) (there : IsPackage t p) where
+module _ (t : Table) (p n : Name) (e : Present) (there : IsPackage t p) where
   symbols-entry : symbol_count (with_entry t p n e) + option_map_or (at_home p) (entry_at t p n) 0 ≡ symbol_count t + at_home p e
   symbols-entry =
       let k : Package = (package_there t p there).0 in
@@ -101,7 +101,7 @@ module _ (t : Table) (p n : Name) (e : Entry) (there : IsPackage t p) where
   pub symbols_new : entry_at t p n ≡ None → e.home ≡ p → symbol_count (with_entry t p n e) ≡ symbol_count t + 1
   symbols_new none same =
       let sums = symbols-entry in
-      let was : option_map_or (at_home p) (entry_at t p n) 0 ≡ 0 = ap (λ (o : Option Entry). option_map_or (at_home p) o 0) none in
+      let was : option_map_or (at_home p) (entry_at t p n) 0 ≡ 0 = ap (λ (o : Option Present). option_map_or (at_home p) o 0) none in
       let is : at_home p e ≡ 1 = ap (λ (h : Name). cond (bytes_eq h p) 1 0) same ∙ ap (λ b. cond b 1 0) (equal_itself p) in
       omega (arith, sums, was, is)
 
@@ -109,15 +109,15 @@ module _ (t : Table) (p n : Name) (e : Entry) (there : IsPackage t p) where
   pub symbols_from_elsewhere : entry_at t p n ≡ None → e.home ≢ p → symbol_count (with_entry t p n e) ≡ symbol_count t
   symbols_from_elsewhere none apart =
       let sums = symbols-entry in
-      let was : option_map_or (at_home p) (entry_at t p n) 0 ≡ 0 = ap (λ (o : Option Entry). option_map_or (at_home p) o 0) none in
+      let was : option_map_or (at_home p) (entry_at t p n) 0 ≡ 0 = ap (λ (o : Option Present). option_map_or (at_home p) o 0) none in
       let is : at_home p e ≡ 0 = ap (λ b. cond b 1 0) (not_equal e.home p apart) in
       omega (arith, sums, was, is)
 
   -- the symbol that was there
-  pub symbols_again : (old : Entry) → entry_at t p n ≡ Some old → old.home ≡ e.home → symbol_count (with_entry t p n e) ≡ symbol_count t
+  pub symbols_again : (old : Present) → entry_at t p n ≡ Some old → old.home ≡ e.home → symbol_count (with_entry t p n e) ≡ symbol_count t
   symbols_again old there_was same =
       let sums = symbols-entry in
-      let was : option_map_or (at_home p) (entry_at t p n) 0 ≡ at_home p e = ap (λ (o : Option Entry). option_map_or (at_home p) o 0) there_was ∙ ap (λ h. cond (bytes_eq h p) 1 0) same in
+      let was : option_map_or (at_home p) (entry_at t p n) 0 ≡ at_home p e = ap (λ (o : Option Present). option_map_or (at_home p) o 0) there_was ∙ ap (λ h. cond (bytes_eq h p) 1 0) same in
       omega (arith, sums, was)
 
 pub symbols_with_used : (t : Table) (p q : Name) → IsPackage t p → symbol_count (with_used t p q) ≡ symbol_count t
@@ -134,8 +134,8 @@ pub symbols_with_new : (t : Table) (p : Name) → finite.get t p ≡ None → sy
 symbols_with_new t p absent =
     let sums : symbol_count (with_new_package t p) + weight_of own_count p (finite.get t p) ≡ symbol_count t + own_count p empty_package = weight-insert own_count t p empty_package in
     let was : weight_of own_count p (finite.get t p) ≡ 0 = ap (weight_of own_count p) absent in
-    let no_symbols : finite.entries empty_package.symbols ≡ [] = no_items (finite.entries empty_package.symbols) (sym (finite.len-entries empty_package.symbols) ∙ finite.len-empty name_cmp Entry) in
-    let none : own_count p empty_package ≡ 0 = ap (λ (es : List (Name × Entry)). length (filter (λ s. bytes_eq s.1.home p) es)) no_symbols in
+    let no_symbols : finite.entries empty_package.symbols ≡ [] = no_items (finite.entries empty_package.symbols) (sym (finite.len-entries empty_package.symbols) ∙ finite.len-empty name_cmp Present) in
+    let none : own_count p empty_package ≡ 0 = ap (λ (es : List (Name × Present)). length (filter (λ s. bytes_eq s.1.home p) es)) no_symbols in
     omega (arith, sums, was, none)
 
 pub len_with_package : (t : Table) (p : Name) (f : Package → Package) → finite.len (with_package t p f) ≡ finite.len t

@@ -10,14 +10,14 @@ use Rattle.lisp_object.specs.Ascii.{is_ascii}
 use Rattle.lisp_object.proofs.Sound.{all_below}
 use Rattle.std.proofs.lemmas.Slice.Eq.{bytes_eq-Decides}
 use Rattle.package_table.specs.Limits.{most_packages, most_symbols, longest_symbol_name}
-use Rattle.package_table.specs.Table.{Name, name_cmp, Entry, Package, common_lisp, common_lisp_user, keyword, package_of_names, common_lisp_names, keyword_names, common_lisp_package, keyword_package, user_package, initial, entry_at, IsPackage, IsPresent, Uses, Finds, IsPackageName, IsSymbolName, IsJoined, HasFirst, IsWithin, IsSound, symbol_count, own_count}
+use Rattle.package_table.specs.Table.{Name, name_cmp, Present, Package, common_lisp, common_lisp_user, keyword, package_of_names, common_lisp_names, keyword_names, common_lisp_package, keyword_package, user_package, initial, entry_at, IsPackage, IsPresent, Uses, Finds, IsPackageName, IsSymbolName, IsJoined, HasFirst, IsWithin, IsSound, symbol_count, own_count}
 use Rattle.package_table.proofs.Names.{name_total, tied_same, same_tied, same_some, none_some}
 use Rattle.package_table.proofs.Seen.{entries_in_order}
 
 abbrev has : List Name → Name → Bool
 has ns n = list_any (eq_by_cmp name_cmp n) ns
 
-abbrev at_home : Name → Entry
+abbrev pub at_home : Name → Present
 at_home p = record { home = p; external = true }
 
 abbrev rows : List (Name × Package)
@@ -46,7 +46,7 @@ where_first p k e =
       ]
     ]
 
-find_alike : (v : Entry) (ns : List Name) (q : Name) → find name_cmp q (map (λ n. (n, v)) ns) ≡ cond (has ns q) (Some v) None
+find_alike : (v : Present) (ns : List Name) (q : Name) → find name_cmp q (map (λ n. (n, v)) ns) ≡ cond (has ns q) (Some v) None
 find_alike v [] q = refl
 find_alike v (n ∷ ns) q =
     elim (eq_by_cmp name_cmp q n) as (λ b. cond b (Some v) (find name_cmp q (map (λ n. (n, v)) ns)) ≡ cond (b || has ns q) (Some v) None) [
@@ -54,7 +54,7 @@ find_alike v (n ∷ ns) q =
       | false ↦ find_alike v ns q
     ]
 
-symbol_first : (p : Name) (ns : List Name) (n : Name) → finite.get (package_of_names p ns).symbols n ≡ cond (has ns n) (Some (at_home p)) None
+pub symbol_first : (p : Name) (ns : List Name) (n : Name) → finite.get (package_of_names p ns).symbols n ≡ cond (has ns n) (Some (at_home p)) None
 symbol_first p ns n = get-from_entries name_total (map (λ n. (n, at_home p)) ns) n ∙ find_alike (at_home p) ns n
 
 through : {A B : Type 0} (f : A → Option B) {C : Type 0} (g : B → C) (o : Option A) (y : C) → option_map g (option_and_then f o) ≡ Some y
@@ -165,7 +165,7 @@ some_there : {A : Type 0} (o : Option A) → is_some o ≡ true → (x : A) × (
 some_there None e = absurd (false≢true e)
 some_there (Some x) e = (x, refl)
 
-among_has : (ns : List Name) (n : Name) → IsTrue (list_any (bytes_eq n) ns) → has ns n ≡ true
+pub among_has : (ns : List Name) (n : Name) → IsTrue (list_any (bytes_eq n) ns) → has ns n ≡ true
 among_has [] n e = absurd (false≢true e)
 among_has (x ∷ ns) n e =
     elim (bytes_eq n x) as (λ b. bytes_eq n x ≡ b → (b || list_any (bytes_eq n) ns) ≡ true → (eq_by_cmp name_cmp n x || has ns n) ≡ true) [
@@ -247,7 +247,7 @@ keyword_count = ap (λ es. length (filter (λ s. bytes_eq s.1.home keyword) es))
 
 user_count : own_count common_lisp_user user_package ≡ 0
 unfolding user_package
-user_count = ap (λ es. length (filter (λ s. bytes_eq s.1.home common_lisp_user) es)) (entries_in_order {V = Entry} [] refl)
+user_count = ap (λ es. length (filter (λ s. bytes_eq s.1.home common_lisp_user) es)) (entries_in_order {V = Present} [] refl)
 
 -- 31 symbols of COMMON-LISP and 22 of KEYWORD
 pub first_count : symbol_count initial ≡ 53

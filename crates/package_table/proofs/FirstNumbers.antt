@@ -5,7 +5,7 @@ use Rattle.std.proofs.Common.{◌≡◌, ◌⊎◌, ◌<◌, ◌≤◌, ◌+◌,
 use Rattle.std.proofs.lemmas.Bool.{false≢true}
 use Rattle.std.specs.Option.{option_map, option_and_then}
 use Rattle.std.specs.FinMap as finite
-use Rattle.package_table.specs.Table.{Name, name_cmp, Entry, Table, IsPresent, entry_at, common_lisp, common_lisp_user, keyword}
+use Rattle.package_table.specs.Table.{Name, name_cmp, Present, Table, IsPresent, entry_at, common_lisp, common_lisp_user, keyword}
 use Rattle.package_table.specs.Numbers.{Numbers, number_at}
 use Rattle.package_table.specs.Numbering.{IsNumbered, IsRun}
 use Rattle.package_table.proofs.Names.{same_some, none_some}
@@ -95,7 +95,7 @@ module _ (t : Table) (ns : Numbers) (lisp user keys : finite.FinMap name_cmp ℕ
             | inr (_, at) ↦ (b.0, b.1, (keys_run.within n b.0 at).1)
           ]
         where
-          present : (o : Option Entry) → option_map (λ (e : Entry). e.home) o ≡ Some h → is_some o ≡ true
+          present : (o : Option Present) → option_map (λ (e : Present). e.home) o ≡ Some h → is_some o ≡ true
           present None none = absurd (none_some h none)
           present (Some e) found = refl
 

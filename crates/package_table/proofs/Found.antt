@@ -13,12 +13,12 @@ use Rattle.std.specs.Ordering.{eq_by_cmp}
 use Rattle.std.specs.FinMap as finite
 use Rattle.std.specs.FinMap.{contains_key-keys}
 use Rattle.std.proofs.lemmas.Bool.{false≢true, or_right}
-use Rattle.package_table.specs.Table.{Name, name_cmp, Entry, Package, Table, entry_at, IsPresent, IsExternal, Uses, Finds, FindsNone, IsJoined}
+use Rattle.package_table.specs.Table.{Name, name_cmp, Present, Package, Table, entry_at, IsPresent, IsExternal, Uses, Finds, FindsNone, IsJoined}
 use Rattle.package_table.specs.Lookup.{external_home, first_external, found, is_external, is_used}
 use Rattle.package_table.proofs.Names.{tied_same, same_tied, same_some, none_some}
 
 -- an external symbol, as the function has it
-external_is : (o : Option Entry) (h : Name) → option_map_or (λ e. cond e.external (Some e.home) None) o None ≡ Some h
+external_is : (o : Option Present) (h : Name) → option_map_or (λ e. cond e.external (Some e.home) None) o None ≡ Some h
     → (option_map (λ e. e.external) o ≡ Some true) × (option_map (λ e. e.home) o ≡ Some h)
 external_is None h e = absurd (none_some h e)
 external_is (Some x) h e =
@@ -27,7 +27,7 @@ external_is (Some x) h e =
       | false ↦ λ is. absurd (none_some h is)
     ] e
 
-external_home_is : (o : Option Entry) (h : Name) → option_map (λ e. e.external) o ≡ Some true → option_map (λ e. e.home) o ≡ Some h
+external_home_is : (o : Option Present) (h : Name) → option_map (λ e. e.external) o ≡ Some true → option_map (λ e. e.home) o ≡ Some h
     → option_map_or (λ e. cond e.external (Some e.home) None) o None ≡ Some h
 external_home_is None h e p = absurd (none_some true e)
 external_home_is (Some x) h e p = ap (λ b. cond b (Some x.home) None) (same_some x.external true e) ∙ p
@@ -38,20 +38,20 @@ shown false h e = absurd (false≢true e)
 
 pub external_shows : (t : Table) (p n : Name) → IsExternal t p n → is_external t p n ≡ true
 external_shows t p n e =
-    elim (entry_at t p n) as (λ o. option_map (λ (e : Entry). e.external) o ≡ Some true → is_some (option_map_or (λ (e : Entry). cond e.external (Some e.home) None) o None) ≡ true) [
+    elim (entry_at t p n) as (λ o. option_map (λ (e : Present). e.external) o ≡ Some true → is_some (option_map_or (λ (e : Present). cond e.external (Some e.home) None) o None) ≡ true) [
       | None ↦ λ e. absurd (none_some true e)
       | Some x ↦ λ e. ap (λ b. is_some (cond b (Some x.home) None)) (same_some x.external true e)
     ] e
 
 pub external_entry : (t : Table) (p n : Name) → is_external t p n ≡ true → (h : Name) × (entry_at t p n ≡ Some (record { home = h; external = true }))
 external_entry t p n e =
-    elim (entry_at t p n) as (λ o. is_some (option_map_or (λ (e : Entry). cond e.external (Some e.home) None) o None) ≡ true → (h : Name) × (o ≡ Some (record { home = h; external = true }))) [
+    elim (entry_at t p n) as (λ o. is_some (option_map_or (λ (e : Present). cond e.external (Some e.home) None) o None) ≡ true → (h : Name) × (o ≡ Some (record { home = h; external = true }))) [
       | None ↦ λ e. absurd (false≢true e)
       | Some x ↦ λ e. (x.home, λ i. Some (record { home = x.home; external = shown x.external x.home e i }))
     ] e
 
 pub shows_external : (t : Table) (p n : Name) → is_external t p n ≡ true → IsExternal t p n
-shows_external t p n e = ap (option_map (λ (e : Entry). e.external)) (external_entry t p n e).1
+shows_external t p n e = ap (option_map (λ (e : Present). e.external)) (external_entry t p n e).1
 
 pub used_shows : (t : Table) (p q : Name) → Uses t p q → is_used t p q ≡ true
 used_shows t p q e =
@@ -60,7 +60,7 @@ used_shows t p q e =
       | Some k ↦ λ e. same_some (finite.contains_key k.uses q) true e
     ] e
 
-present_at : (o : Option Entry) (other : Option Name) (h : Name) → option_map (λ e. e.home) o ≡ Some h → option_map_or (λ e. Some e.home) o other ≡ Some h
+present_at : (o : Option Present) (other : Option Name) (h : Name) → option_map (λ e. e.home) o ≡ Some h → option_map_or (λ e. Some e.home) o other ≡ Some h
 present_at None other h e = absurd (none_some h e)
 present_at (Some x) other h e = e
 
@@ -94,7 +94,7 @@ module _ (t : Table) (n : Name) where
   abbrev look : Option Package → Option Name
   look o = option_map_or (λ k. option_map_or (λ e. Some e.home) (finite.get k.symbols n) (first_external t n (finite.keys k.uses))) o None
 
-  abbrev there : Option Package → Option Entry
+  abbrev there : Option Package → Option Present
   there o = option_and_then (λ k. finite.get k.symbols n) o
 
   abbrev using : Option Package → Name → Option Bool

@@ -12,7 +12,7 @@ use Rattle.std.specs.Ordering.{eq_by_cmp}
 use Rattle.std.specs.Cmp.Lexicographic.{texts_ties}
 use Rattle.std.specs.FinMap as finite
 use Rattle.package_table.proofs.Names.{name_total, tied_same, same_tied}
-use Rattle.package_table.specs.Table.{Name, name_cmp, Entry, Package, Table, entry_at, IsPackage, Uses, with_package, with_entry, with_used, with_new_package, empty_package}
+use Rattle.package_table.specs.Table.{Name, name_cmp, Present, Package, Table, entry_at, IsPackage, Uses, with_package, with_entry, with_used, with_new_package, empty_package}
 
 pub not_same : (q p : Name) → q ≢ p → eq_by_cmp name_cmp q p ≡ false
 not_same q p differ =
@@ -89,7 +89,7 @@ module _ (t : Table) (p : Name) (f : Package → Package) where
             | Some k ↦ λ e. ap look (get_with_same k e) ∙ alike k
           ] refl
 
-module _ (t : Table) (p n : Name) (e : Entry) where
+module _ (t : Table) (p n : Name) (e : Present) where
   changed : Package → Package
   changed k = record k { symbols = finite.insert k.symbols n e }
 

@@ -9,7 +9,7 @@ use Rattle.std.specs.Option.{option_map, option_and_then, option_map_or}
 use Rattle.std.specs.FinMap as finite
 use Rattle.std.proofs.lemmas.Bool.{false≢true}
 use Rattle.lisp_object.proofs.Tree.{insert_same}
-use Rattle.package_table.specs.Table.{Name, name_cmp, Entry, Package, Table, entry_at, IsPackage, IsExternal, Finds, IsSound, with_entry, with_used, with_new_package, empty_package}
+use Rattle.package_table.specs.Table.{Name, name_cmp, Present, Package, Table, entry_at, IsPackage, IsExternal, Finds, IsSound, with_entry, with_used, with_new_package, empty_package}
 use Rattle.package_table.specs.Lookup.{is_external, is_present, is_used}
 use Rattle.package_table.specs.Growth.{Grows, Tells}
 use Rattle.package_table.proofs.Names.{name_total, name_exact, none_some}
@@ -38,9 +38,9 @@ pub finds_grown : (t u : Table) → Grows t u → (p n h : Name) → Finds t p n
 finds_grown t u grows p n h (inl here) = inl (grows.homes p n h here)
 finds_grown t u grows p n h (inr used) = inr (used.0, grows.uses p used.0 used.1, grows.externals used.0 n used.2, grows.homes used.0 n h used.3)
 
-module _ (t : Table) (p n : Name) (e : Entry) (there : IsPackage t p) where
+module _ (t : Table) (p n : Name) (e : Present) (there : IsPackage t p) where
   external_new : e.external ≡ true → IsExternal (with_entry t p n e) p n
-  external_new shown = ap (option_map (λ (e : Entry). e.external)) (entry_new t p n e there) ∙ ap Some shown
+  external_new shown = ap (option_map (λ (e : Present). e.external)) (entry_new t p n e there) ∙ ap Some shown
 
   pub grows_with_entry : ((g : Name) → Finds t p n g → g ≡ e.home) → (IsExternal t p n → e.external ≡ true) → Grows t (with_entry t p n e)
   grows_with_entry finds shown = record {
@@ -51,7 +51,7 @@ module _ (t : Table) (p n : Name) (e : Entry) (there : IsPackage t p) where
           | inl (same, alike) ↦
               let was : IsExternal t p n = subst (λ (x : Name). IsExternal t p x) alike (subst (λ (x : Name). IsExternal t x m) same here) in
               subst (λ (x : Name). IsExternal (with_entry t p n e) x m) (sym same) (subst (λ (x : Name). IsExternal (with_entry t p n e) p x) (sym alike) (external_new (shown was)))
-          | inr differ ↦ ap (option_map (λ (e : Entry). e.external)) (entry_other t p n e q m differ) ∙ here
+          | inr differ ↦ ap (option_map (λ (e : Present). e.external)) (entry_other t p n e q m differ) ∙ here
         ];
     uses = λ q r used. uses_with_entry t p n e q r ∙ used;
   }
@@ -67,8 +67,8 @@ module _ (t : Table) (p n : Name) (e : Entry) (there : IsPackage t p) where
 pub grows_with_used : (t : Table) (p q : Name) → IsPackage t p → Grows t (with_used t p q)
 grows_with_used t p q there = record {
   packages = λ r here. package_with_used t p q r ∙ here;
-  homes = λ r m h here. ap (option_map (λ (e : Entry). e.home)) (entry_with_used t p q r m) ∙ here;
-  externals = λ r m here. ap (option_map (λ (e : Entry). e.external)) (entry_with_used t p q r m) ∙ here;
+  homes = λ r m h here. ap (option_map (λ (e : Present). e.home)) (entry_with_used t p q r m) ∙ here;
+  externals = λ r m here. ap (option_map (λ (e : Present). e.external)) (entry_with_used t p q r m) ∙ here;
   uses = uses_still t p q there;
 }
 
@@ -78,8 +78,8 @@ differs_used t p q there unused = λ (same : with_used t p q ≡ t). false≢tru
 pub grows_with_new : (t : Table) (p : Name) → finite.get t p ≡ None → Grows t (with_new_package t p)
 grows_with_new t p absent = record {
   packages = package_with_new t p absent;
-  homes = λ r m h here. ap (option_map (λ (e : Entry). e.home)) (entry_with_new t p absent r m) ∙ here;
-  externals = λ r m here. ap (option_map (λ (e : Entry). e.external)) (entry_with_new t p absent r m) ∙ here;
+  homes = λ r m h here. ap (option_map (λ (e : Present). e.home)) (entry_with_new t p absent r m) ∙ here;
+  externals = λ r m here. ap (option_map (λ (e : Present). e.external)) (entry_with_new t p absent r m) ∙ here;
   uses = uses_beside_new t p absent;
 }
 
@@ -89,7 +89,7 @@ differs_new t p absent = λ (same : with_new_package t p ≡ t). false≢true (a
 again : {V : Type 0} (m : finite.FinMap name_cmp V) (k : Name) (v : V) → finite.get m k ≡ Some v → finite.insert m k v ≡ m
 again {V = V} = insert_same (λ (x : Name). x) (λ (v : V). v) name_cmp name_total name_exact
 
-pub entry_again : (t : Table) (p n : Name) (e : Entry) → entry_at t p n ≡ Some e → with_entry t p n e ≡ t
+pub entry_again : (t : Table) (p n : Name) (e : Present) → entry_at t p n ≡ Some e → with_entry t p n e ≡ t
 entry_again t p n e =
     elim (finite.get t p) as (λ o. finite.get t p ≡ o → option_and_then (λ (k : Package). finite.get k.symbols n) o ≡ Some e → option_map_or (λ (k : Package). finite.insert t p (record k { symbols = finite.insert k.symbols n e })) o t ≡ t) [
       | None ↦ λ _ no. absurd (none_some e no)

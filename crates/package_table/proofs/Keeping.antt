@@ -7,7 +7,7 @@
 use Rattle.std.proofs.Common.{◌≡◌, ◌≢◌, ◌⊎◌, true, None, Some, refl, sym, ap, subst, ◌∙◌, inl, inr}
 use Rattle.std.specs.Option.{option_map}
 use Rattle.std.specs.FinMap as finite
-use Rattle.package_table.specs.Table.{Name, Entry, Table, entry_at, IsPackage, IsPresent, IsExternal, Uses, Finds, IsJoined, with_entry, with_used, with_new_package}
+use Rattle.package_table.specs.Table.{Name, Present, Table, entry_at, IsPackage, IsPresent, IsExternal, Uses, Finds, IsJoined, with_entry, with_used, with_new_package}
 use Rattle.package_table.proofs.Frames.{place_cases, entry_new, entry_other, uses_with_entry, package_with_entry, entry_with_used, uses_either, package_with_used, entry_with_new, uses_with_new, package_with_new}
 
 -- one home in a place
@@ -27,10 +27,10 @@ module _ (t u : Table)
     (uses : (q r : Name) → Uses u q r → Uses t q r)
     (packages : (q : Name) → IsPackage t q → IsPackage u q) where
   present_as : (q m h : Name) → IsPresent u q m h → IsPresent t q m h
-  present_as q m h there = sym (ap (option_map (λ (e : Entry). e.home)) (entries q m)) ∙ there
+  present_as q m h there = sym (ap (option_map (λ (e : Present). e.home)) (entries q m)) ∙ there
 
   external_as : (q m : Name) → IsExternal u q m → IsExternal t q m
-  external_as q m there = sym (ap (option_map (λ (e : Entry). e.external)) (entries q m)) ∙ there
+  external_as q m there = sym (ap (option_map (λ (e : Present). e.external)) (entries q m)) ∙ there
 
   found_as : (q m h : Name) → Finds u q m h → Finds t q m h
   found_as q m h found =
@@ -41,25 +41,25 @@ module _ (t u : Table)
 
   pub joined_alike : IsJoined t → IsJoined u
   joined_alike joined = record {
-    homes = λ p n h there. ap (option_map (λ (e : Entry). e.home)) (entries h n) ∙ joined.homes p n h (present_as p n h there);
+    homes = λ p n h there. ap (option_map (λ (e : Present). e.home)) (entries h n) ∙ joined.homes p n h (present_as p n h there);
     used = λ p q used. packages q (joined.used p q (uses p q used));
     one = λ p n g h a b. joined.one p n g h (found_as p n g a) (found_as p n h b);
     apart = λ p used. joined.apart p (uses p p used);
   }
 
 -- after an entry e at the name n of p
-module _ (t : Table) (p n : Name) (e : Entry) (there : IsPackage t p) where
+module _ (t : Table) (p n : Name) (e : Present) (there : IsPackage t p) where
   abbrev after : Table
   after = with_entry t p n e
 
   pub new_home : IsPresent after p n e.home
-  new_home = ap (option_map (λ (e : Entry). e.home)) (entry_new t p n e there)
+  new_home = ap (option_map (λ (e : Present). e.home)) (entry_new t p n e there)
 
   pub present_either : (q m h : Name) → IsPresent after q m h → ((q ≡ p) × (m ≡ n) × (h ≡ e.home)) ⊎ IsPresent t q m h
   present_either q m h found =
       elim (place_cases q m p n) [
         | inl (same, alike) ↦ inl (same, alike, present_once after p n h e.home (subst (λ (x : Name). IsPresent after p x h) alike (subst (λ (x : Name). IsPresent after x m h) same found)) new_home)
-        | inr differ ↦ inr (sym (ap (option_map (λ (e : Entry). e.home)) (entry_other t p n e q m differ)) ∙ found)
+        | inr differ ↦ inr (sym (ap (option_map (λ (e : Present). e.home)) (entry_other t p n e q m differ)) ∙ found)
       ]
 
   pub present_kept : ((g : Name) → Finds t p n g → g ≡ e.home) → (q m h : Name) → IsPresent t q m h → IsPresent after q m h
@@ -68,7 +68,7 @@ module _ (t : Table) (p n : Name) (e : Entry) (there : IsPackage t p) where
         | inl (same, alike) ↦
             let h_is : h ≡ e.home = finds h (inl (subst (λ (x : Name). IsPresent t p x h) alike (subst (λ (x : Name). IsPresent t x m h) same found))) in
             subst (λ (x : Name). IsPresent after q m x) (sym h_is) (subst (λ (x : Name). IsPresent after x m e.home) (sym same) (subst (λ (x : Name). IsPresent after p x e.home) (sym alike) new_home))
-        | inr differ ↦ ap (option_map (λ (e : Entry). e.home)) (entry_other t p n e q m differ) ∙ found
+        | inr differ ↦ ap (option_map (λ (e : Present). e.home)) (entry_other t p n e q m differ) ∙ found
       ]
 
   pub external_either : (q m : Name) → IsExternal after q m → ((q ≡ p) × (m ≡ n) × (e.external ≡ true)) ⊎ IsExternal t q m
@@ -77,15 +77,15 @@ module _ (t : Table) (p n : Name) (e : Entry) (there : IsPackage t p) where
         | inl (same, alike) ↦ inl (
           same,
           alike,
-          (let seen : Some e.external ≡ Some true = sym (ap (option_map (λ (e : Entry). e.external)) (entry_new t p n e there)) ∙ subst (λ (x : Name). IsExternal after p x) alike (subst (λ (x : Name). IsExternal after x m) same found) in cc),
+          (let seen : Some e.external ≡ Some true = sym (ap (option_map (λ (e : Present). e.external)) (entry_new t p n e there)) ∙ subst (λ (x : Name). IsExternal after p x) alike (subst (λ (x : Name). IsExternal after x m) same found) in cc),
         )
-        | inr differ ↦ inr (sym (ap (option_map (λ (e : Entry). e.external)) (entry_other t p n e q m differ)) ∙ found)
+        | inr differ ↦ inr (sym (ap (option_map (λ (e : Present). e.external)) (entry_other t p n e q m differ)) ∙ found)
       ]
 
   pub uses_kept : (q r : Name) → Uses after q r → Uses t q r
   uses_kept q r used = sym (uses_with_entry t p n e q r) ∙ used
 
-module _ (t : Table) (p n : Name) (e : Entry)
+module _ (t : Table) (p n : Name) (e : Present)
     (there : IsPackage t p)
     (home : (e.home ≡ p) ⊎ IsPresent t e.home n e.home)
     (finds : (g : Name) → Finds t p n g → g ≡ e.home)
@@ -127,10 +127,10 @@ module _ (t : Table) (p n : Name) (e : Entry)
       -- an entry that was external there was present there, with the same home
       still : (r m g : Name) → (r ≡ p) → (m ≡ n) → (g ≡ e.home) → IsExternal t r m → IsPresent t r m g
       still r m g same alike is old =
-          elim (entry_at t r m) as (λ o. entry_at t r m ≡ o → option_map (λ (e : Entry). e.external) o ≡ Some true → IsPresent t r m g) [
+          elim (entry_at t r m) as (λ o. entry_at t r m ≡ o → option_map (λ (e : Present). e.external) o ≡ Some true → IsPresent t r m g) [
             | None ↦ λ found shown. absurd (let none : None ≡ Some true = shown in cc)
             | Some old_entry ↦ λ found shown.
-                let present : IsPresent t r m old_entry.home = ap (option_map (λ (e : Entry). e.home)) found in
+                let present : IsPresent t r m old_entry.home = ap (option_map (λ (e : Present). e.home)) found in
                 let home_is : old_entry.home ≡ e.home = finds old_entry.home (inl (subst (λ (x : Name). IsPresent t p x old_entry.home) alike (subst (λ (x : Name). IsPresent t x m old_entry.home) same present))) in
                 present ∙ ap Some (home_is ∙ sym is)
           ] refl old
@@ -175,10 +175,10 @@ module _ (t : Table) (p q : Name)
   then = with_used t p q
 
   present_then : (r m h : Name) → IsPresent then r m h → IsPresent t r m h
-  present_then r m h found = sym (ap (option_map (λ (e : Entry). e.home)) (entry_with_used t p q r m)) ∙ found
+  present_then r m h found = sym (ap (option_map (λ (e : Present). e.home)) (entry_with_used t p q r m)) ∙ found
 
   external_then : (r m : Name) → IsExternal then r m → IsExternal t r m
-  external_then r m found = sym (ap (option_map (λ (e : Entry). e.external)) (entry_with_used t p q r m)) ∙ found
+  external_then r m found = sym (ap (option_map (λ (e : Present). e.external)) (entry_with_used t p q r m)) ∙ found
 
   found_then : (r m g : Name) → Finds then r m g → Finds t r m g ⊎ ((r ≡ p) × IsExternal t q m × IsPresent t q m g)
   found_then r m g found =
@@ -193,7 +193,7 @@ module _ (t : Table) (p q : Name)
 
   pub joined_with_used : IsJoined t → IsJoined then
   joined_with_used joined = record {
-    homes = λ r m h found. ap (option_map (λ (e : Entry). e.home)) (entry_with_used t p q h m) ∙ joined.homes r m h (present_then r m h found);
+    homes = λ r m h found. ap (option_map (λ (e : Present). e.home)) (entry_with_used t p q h m) ∙ joined.homes r m h (present_then r m h found);
     used = λ r s used.
         package_with_used t p q s
         ∙ elim (uses_either t p q r s used) [

@@ -5,6 +5,7 @@
 --     exported_again      where a symbol is external already
 --     exported_home, imported_there      where a symbol is that is exported or imported
 --     counted_new      the count after a new symbol
+--     holds      a test whose contrary was not met
 use Rattle.std.proofs.Common.{◌≡◌, ◌≢◌, ◌==◌, ◌<◌, ◌≤◌, ◌+◌, ◌&&◌, ◌||◌, not, ℕ, Bool, true, false, cond, List, [], ◌∷◌, length, Option, None, Some, Result, Ok, Err, IfErr, IfOk, is_some, is_none, inl, bytes_eq, nat_le, nat_lt, All, refl, sym, ap, subst, ◌∙◌, arith, leb-false, ltb-false}
 use Rattle.std.proofs.lemmas.Bool.{false≢true}
 use Rattle.std.specs.Option.{option_map, option_map_or, option_and_then}
@@ -17,7 +18,7 @@ use Rattle.package_table.specs.declared.error.PackageError.{PackageError}
 use Rattle.package_table.specs.declared.error.PackageError.TheVariants.{EmptyName, NoSuchPackage, PackageExists, PackageIsLocked, NameConflict, NotAccessible, Limit}
 use Rattle.package_table.specs.Limits.{most_packages, most_symbols, longest_package_name, longest_symbol_name}
 use Rattle.package_table.specs.declared.standardized.TheConstants.{CL, CL_USER}
-use Rattle.package_table.specs.Table.{Name, name_cmp, Entry, Package, Table, entry_at, full_name, is_locked, package_named, common_lisp, common_lisp_user, keyword, IsPackage, IsPresent, IsExternal, Uses, Finds, IsSound, IsPackageName, symbol_count, with_entry, with_used, with_new_package}
+use Rattle.package_table.specs.Table.{Name, name_cmp, Present, Package, Table, entry_at, full_name, is_locked, package_named, common_lisp, common_lisp_user, keyword, IsPackage, IsPresent, IsExternal, Uses, Finds, IsSound, IsPackageName, symbol_count, with_entry, with_used, with_new_package}
 use Rattle.package_table.specs.Lookup.{found, is_external, is_used}
 use Rattle.package_table.specs.Changes.{after_make, after_intern, after_export, after_import, after_use, intern_changes, export_changes, import_changes, use_changes, with_external, finds_this, finds_other, user_finds_other, finds_other_than_shown, Gives}
 use Rattle.package_table.proofs.Names.{tied_same, same_some, none_some}
@@ -42,7 +43,7 @@ neither : (a b : Bool) → (a || b) ≡ false → (a ≡ false) × (b ≡ false)
 neither true b e = absurd (false≢true (sym e))
 neither false b e = (refl, e)
 
-holds : (b : Bool) → not b ≡ false → b ≡ true
+pub holds : (b : Bool) → not b ≡ false → b ≡ true
 holds true e = refl
 holds false e = absurd (false≢true (sym e))
 
@@ -106,15 +107,15 @@ users_agree t p h n sound none q g used finds =
 
 pub shown_agree : (t : Table) (p q : Name) → IsSound t → finds_other_than_shown t p q ≡ false → (n g h : Name) → Finds t p n g → IsExternal t q n → IsPresent t q n h → g ≡ h
 shown_agree t p q sound none n g h finds shown there =
-    elim (finite.get t q) as (λ o. list_any (λ (s : Name × Entry). s.1.external && finds_other t p s.1.home s.0) (option_map_or (λ (k : Package). finite.entries k.symbols) o []) ≡ false
-    → option_map (λ (e : Entry). e.external) (option_and_then (λ (k : Package). finite.get k.symbols n) o) ≡ Some true → option_map (λ (e : Entry). e.home) (option_and_then (λ (k : Package). finite.get k.symbols n) o) ≡ Some h → g ≡ h) [
+    elim (finite.get t q) as (λ o. list_any (λ (s : Name × Present). s.1.external && finds_other t p s.1.home s.0) (option_map_or (λ (k : Package). finite.entries k.symbols) o []) ≡ false
+    → option_map (λ (e : Present). e.external) (option_and_then (λ (k : Package). finite.get k.symbols n) o) ≡ Some true → option_map (λ (e : Present). e.home) (option_and_then (λ (k : Package). finite.get k.symbols n) o) ≡ Some h → g ≡ h) [
       | None ↦ λ _ no _. absurd (none_some true no)
       | Some k ↦ λ none shown there.
-          elim (finite.get k.symbols n) as (λ o. finite.get k.symbols n ≡ o → option_map (λ (e : Entry). e.external) o ≡ Some true → option_map (λ (e : Entry). e.home) o ≡ Some h → g ≡ h) [
+          elim (finite.get k.symbols n) as (λ o. finite.get k.symbols n ≡ o → option_map (λ (e : Present). e.external) o ≡ Some true → option_map (λ (e : Present). e.home) o ≡ Some h → g ≡ h) [
             | None ↦ λ _ no _. absurd (none_some true no)
             | Some e ↦ λ here external home.
                 only_this t p e.home n sound
-                (second_false e.external (finds_other t p e.home n) (none_in (λ (s : Name × Entry). s.1.external && finds_other t p s.1.home s.0) k.symbols n e none here) (same_some e.external true external))
+                (second_false e.external (finds_other t p e.home n) (none_in (λ (s : Name × Present). s.1.external && finds_other t p s.1.home s.0) k.symbols n e none here) (same_some e.external true external))
                 g finds
                 ∙ same_some e.home h home
           ] refl shown there
@@ -178,7 +179,7 @@ counted_new t p n there none = symbols_new t p n (record { home = p; external = 
 again_external : (t : Table) (p h n : Name) → finds_this t p h n ≡ true → is_external t p n ≡ true → with_external t p h n ≡ t
 again_external t p h n this shown =
     let here = external_entry t p n shown in
-    let is : found t p n ≡ Some here.0 = present_found t n p here.0 (ap (option_map (λ (e : Entry). e.home)) here.1) in
+    let is : found t p n ≡ Some here.0 = present_found t n p here.0 (ap (option_map (λ (e : Present). e.home)) here.1) in
     let same : here.0 ≡ h = equal_names here.0 h (sym (ap (λ (o : Option Name). option_map_or (λ g. bytes_eq g h) o false) is) ∙ this) in
     entry_again t p n (record { home = h; external = true }) (here.1 ∙ (λ i. Some (record { home = same i; external = true })))
 
@@ -229,7 +230,7 @@ module _ (t : Table) (p n : Name) (sound : IsSound t) where
         let finds : Finds t p n h = this_found t p h n (holds _ this.0) in
         let agree = users_agree t p h n sound users.0 in
         let only : (g : Name) → Finds t p n g → g ≡ h = λ g found. sound.joined.one p n g h found finds in
-        let e : Entry = record { home = h; external = true } in
+        let e : Present = record { home = h; external = true } in
         subst (λ (u : Table). Kept t u (export_changes t p n) × (symbol_count u ≡ symbol_count t)) (same_ok (with_entry t p n e) u users.1) (
           record {
             sound = sound_exported t p n sound is_package apart.0 h apart.1 finds agree;
@@ -247,7 +248,7 @@ module _ (t : Table) (p n : Name) (sound : IsSound t) where
         let apart = open_to_change p open_to.0 in
         let is_package : IsPackage t p = holds _ there.0 in
         let only = only_this t p h n sound alike.0 in
-        let e : Entry = record { home = h; external = false } in
+        let e : Present = record { home = h; external = false } in
         elim (entry_at t p n) as (λ o. entry_at t p n ≡ o → ◌≡◌ {A = Result Table PackageError} (Ok (cond (is_some o) t (with_entry t p n e))) (Ok u) → Kept t u (not (is_some o)) × (symbol_count u ≡ symbol_count t)) [
           | Some x ↦ λ _ same.
               subst (λ (u : Table). Kept t u false × (symbol_count u ≡ symbol_count t)) (same_ok t u same) (record { sound = sound; grows = grows_same t; told = refl }, refl)
@@ -255,7 +256,7 @@ module _ (t : Table) (p n : Name) (sound : IsSound t) where
               subst (λ (u : Table). Kept t u true × (symbol_count u ≡ symbol_count t)) (same_ok (with_entry t p n e) u made) (
                 record {
                   sound = sound_imported t p n sound is_package apart.0 h apart.1 at_home only none;
-                  grows = grows_with_entry t p n e is_package only (λ shown. absurd (none_some true (sym (ap (option_map (λ (e : Entry). e.external)) none) ∙ shown)));
+                  grows = grows_with_entry t p n e is_package only (λ shown. absurd (none_some true (sym (ap (option_map (λ (e : Present). e.external)) none) ∙ shown)));
                   told = differs_entry t p n e is_package (ap is_some none);
                 },
                 count_imported t p n sound is_package apart.0 h apart.1 at_home none,

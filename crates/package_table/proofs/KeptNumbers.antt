@@ -8,7 +8,7 @@ use Rattle.std.proofs.Common.{◌≡◌, ◌≢◌, ◌⊎◌, ◌<◌, ◌+◌,
 use Rattle.std.proofs.lemmas.Bool.{false≢true}
 use Rattle.std.specs.Option.{option_map, option_map_or, option_and_then}
 use Rattle.std.specs.FinMap as finite
-use Rattle.package_table.specs.Table.{Name, name_cmp, Entry, IsPackage, IsPresent, entry_at}
+use Rattle.package_table.specs.Table.{Name, name_cmp, Present, IsPackage, IsPresent, entry_at}
 use Rattle.package_table.specs.Numbers.{Numbers, Numbered, number_at, number_or_none, with_numbers, with_numbered, with_package_made, with_use}
 use Rattle.package_table.specs.Numbering.{IsNumbered, Keeps, KeepsNumbers}
 use Rattle.package_table.proofs.Names.{same_some, none_some}
@@ -58,7 +58,7 @@ numbers_alike s u back same count numbered = (
   same,
 )
 
-module _ (s : Numbered) (p n : Name) (e : Entry) (there : IsPackage s.0 p) (placed : finite.contains_key s.1 p ≡ finite.contains_key s.0 p) where
+module _ (s : Numbered) (p n : Name) (e : Present) (there : IsPackage s.0 p) (placed : finite.contains_key s.1 p ≡ finite.contains_key s.0 p) where
   pub numbers_put : IsPresent s.0 e.home n e.home → ((g : Name) → IsPresent s.0 p n g → g ≡ e.home) → (count : ℕ)
       → KeepsNumbers s count (with_numbered s p n e (number_or_none s e.home n)) count
   numbers_put at_home only count numbered =
@@ -98,7 +98,7 @@ module _ (s : Numbered) (p n : Name) (e : Entry) (there : IsPackage s.0 p) (plac
       same g m found =
           elim (place_cases g m p n) [
             | inr differ ↦ number_other s.1 p n count g m differ
-            | inl (at_p, at_n) ↦ absurd (none_some g (sym (ap (option_map (λ (e : Entry). e.home)) ((λ i. entry_at s.0 (at_p i) (at_n i)) ∙ none)) ∙ found))
+            | inl (at_p, at_n) ↦ absurd (none_some g (sym (ap (option_map (λ (e : Present). e.home)) ((λ i. entry_at s.0 (at_p i) (at_n i)) ∙ none)) ∙ found))
           ]
 
       -- a symbol is the new one, or it was there, with a number below the count
@@ -147,16 +147,16 @@ module _ (s : Numbered) (p n : Name) (e : Entry) (there : IsPackage s.0 p) (plac
           ]
 
 pub numbers_used : (s : Numbered) (p q : Name) (count : ℕ) → KeepsNumbers s count (with_use s p q) count
-numbers_used s p q = numbers_alike s (with_use s p q) (λ g m found. sym (ap (option_map (λ (e : Entry). e.home)) (entry_with_used s.0 p q g m)) ∙ found) (λ g m _. refl)
+numbers_used s p q = numbers_alike s (with_use s p q) (λ g m found. sym (ap (option_map (λ (e : Present). e.home)) (entry_with_used s.0 p q g m)) ∙ found) (λ g m _. refl)
 
 pub numbers_made : (s : Numbered) (p : Name) → finite.get s.0 p ≡ None → (count : ℕ) → KeepsNumbers s count (with_package_made s p) count
-numbers_made s p absent = numbers_alike s (with_package_made s p) (λ g m found. sym (ap (option_map (λ (e : Entry). e.home)) (entry_with_new s.0 p absent g m)) ∙ found) same
+numbers_made s p absent = numbers_alike s (with_package_made s p) (λ g m found. sym (ap (option_map (λ (e : Present). e.home)) (entry_with_new s.0 p absent g m)) ∙ found) same
   where
     same : (g m : Name) → IsPresent s.0 g m g → number_at (with_package_made s p).1 g m ≡ number_at s.1 g m
     same g m found =
         elim (name_cases g p) [
           | inr differ ↦ ap (option_and_then (λ (m' : finite.FinMap name_cmp ℕ). finite.get m' m)) (get_kept s.1 p finite.empty g differ)
-          | inl alike ↦ absurd (none_some g (sym (ap (λ o. option_map (λ (e : Entry). e.home) (option_and_then (λ k. finite.get k.symbols m) o)) (ap (finite.get s.0) alike ∙ absent)) ∙ found))
+          | inl alike ↦ absurd (none_some g (sym (ap (λ o. option_map (λ (e : Present). e.home) (option_and_then (λ k. finite.get k.symbols m) o)) (ap (finite.get s.0) alike ∙ absent)) ∙ found))
         ]
 
 -- what a call leaves, whether it is refused or not

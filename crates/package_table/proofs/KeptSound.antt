@@ -7,12 +7,12 @@ use Rattle.std.proofs.lemmas.Bool.{false≢true}
 use Rattle.std.specs.Option.{option_map}
 use Rattle.std.specs.FinMap as finite
 use Rattle.package_table.specs.Limits.{most_packages, most_symbols}
-use Rattle.package_table.specs.Table.{Name, Entry, Package, Table, entry_at, IsPackage, IsPresent, IsExternal, Uses, Finds, FindsNone, HasFirst, IsWithin, IsSound, IsPackageName, IsSymbolName, common_lisp, common_lisp_user, keyword, symbol_count, with_entry, with_used, with_new_package, empty_package}
+use Rattle.package_table.specs.Table.{Name, Present, Package, Table, entry_at, IsPackage, IsPresent, IsExternal, Uses, Finds, FindsNone, HasFirst, IsWithin, IsSound, IsPackageName, IsSymbolName, common_lisp, common_lisp_user, keyword, symbol_count, with_entry, with_used, with_new_package, empty_package}
 use Rattle.package_table.proofs.Frames.{place_cases, name_cases, equal_names, get_with_other, get_kept, entry_new, entry_other, uses_with_entry, package_with_entry, entry_with_used, uses_either, uses_still, package_with_used, entry_with_new, uses_with_new, uses_beside_new, other_than_new}
 use Rattle.package_table.proofs.Keeping.{present_at_home, present_either, present_kept, uses_kept, joined_with_entry, joined_with_used, joined_with_new}
 use Rattle.package_table.proofs.Counting.{symbols_new, symbols_from_elsewhere, symbols_again, symbols_with_used, symbols_with_new, len_with_package, len_with_new}
 
-module _ (t : Table) (p n : Name) (e : Entry)
+module _ (t : Table) (p n : Name) (e : Present)
     (there : IsPackage t p)
     (open_to : p ≢ common_lisp)
     (finds : (g : Name) → Finds t p n g → g ≡ e.home)
@@ -33,10 +33,10 @@ module _ (t : Table) (p n : Name) (e : Entry)
           | inl (same, alike) ↦
               subst (λ (x : Name). IsExternal (with_entry t p n e) x m) (sym same)
               (subst (λ (x : Name). IsExternal (with_entry t p n e) p x) (sym alike)
-              (ap (option_map (λ (e : Entry). e.external)) (entry_new t p n e there) ∙ ap Some (keyword_shown (sym same))))
+              (ap (option_map (λ (e : Present). e.external)) (entry_new t p n e there) ∙ ap Some (keyword_shown (sym same))))
           | inr differ ↦
               let same_entry = entry_other t p n e keyword m differ in
-              ap (option_map (λ (e : Entry). e.external)) same_entry ∙ first.shown m h (sym (ap (option_map (λ (e : Entry). e.home)) same_entry) ∙ found)
+              ap (option_map (λ (e : Present). e.external)) same_entry ∙ first.shown m h (sym (ap (option_map (λ (e : Present). e.home)) same_entry) ∙ found)
         ];
     unusing = λ q used. first.unusing q (uses_kept t p n e there keyword q used);
     unused = λ q used. first.unused q (uses_kept t p n e there q keyword used);
@@ -47,9 +47,9 @@ module _ (t : Table) (p q : Name) (there : IsPackage t p) (open_to : p ≢ commo
   first_with_used first = record {
     fixed = get_with_other t p (λ k. record k { uses = finite.insert k.uses q tt }) common_lisp (λ (is : common_lisp ≡ p). open_to (sym is)) ∙ first.fixed;
     user = uses_still t p q there common_lisp_user common_lisp first.user;
-    keywords = λ m among. ap (option_map (λ (e : Entry). e.home)) (entry_with_used t p q keyword m) ∙ first.keywords m among;
-    own = λ m h found. first.own m h (sym (ap (option_map (λ (e : Entry). e.home)) (entry_with_used t p q keyword m)) ∙ found);
-    shown = λ m h found. ap (option_map (λ (e : Entry). e.external)) (entry_with_used t p q keyword m) ∙ first.shown m h (sym (ap (option_map (λ (e : Entry). e.home)) (entry_with_used t p q keyword m)) ∙ found);
+    keywords = λ m among. ap (option_map (λ (e : Present). e.home)) (entry_with_used t p q keyword m) ∙ first.keywords m among;
+    own = λ m h found. first.own m h (sym (ap (option_map (λ (e : Present). e.home)) (entry_with_used t p q keyword m)) ∙ found);
+    shown = λ m h found. ap (option_map (λ (e : Present). e.external)) (entry_with_used t p q keyword m) ∙ first.shown m h (sym (ap (option_map (λ (e : Present). e.home)) (entry_with_used t p q keyword m)) ∙ found);
     unusing = λ r used. elim (uses_either t p q keyword r used) [ inl old ↦ first.unusing r old | inr (same, _) ↦ no_keyword (sym same) ];
     unused = λ r used. elim (uses_either t p q r keyword used) [ inl old ↦ first.unused r old | inr (_, same) ↦ other (sym same) ];
   }
@@ -66,9 +66,9 @@ module _ (t : Table) (p : Name) (absent : finite.get t p ≡ None) where
   first_with_new first = record {
     fixed = get_kept t p empty_package common_lisp (other_than_new t p absent common_lisp (ap is_some first.fixed)) ∙ first.fixed;
     user = uses_beside_new t p absent common_lisp_user common_lisp first.user;
-    keywords = λ m among. ap (option_map (λ (e : Entry). e.home)) (entry_with_new t p absent keyword m) ∙ first.keywords m among;
-    own = λ m h found. first.own m h (sym (ap (option_map (λ (e : Entry). e.home)) (entry_with_new t p absent keyword m)) ∙ found);
-    shown = λ m h found. ap (option_map (λ (e : Entry). e.external)) (entry_with_new t p absent keyword m) ∙ first.shown m h (sym (ap (option_map (λ (e : Entry). e.home)) (entry_with_new t p absent keyword m)) ∙ found);
+    keywords = λ m among. ap (option_map (λ (e : Present). e.home)) (entry_with_new t p absent keyword m) ∙ first.keywords m among;
+    own = λ m h found. first.own m h (sym (ap (option_map (λ (e : Present). e.home)) (entry_with_new t p absent keyword m)) ∙ found);
+    shown = λ m h found. ap (option_map (λ (e : Present). e.external)) (entry_with_new t p absent keyword m) ∙ first.shown m h (sym (ap (option_map (λ (e : Present). e.home)) (entry_with_new t p absent keyword m)) ∙ found);
     unusing = λ r used. first.unusing r (uses_with_new t p absent keyword r used);
     unused = λ r used. first.unused r (uses_with_new t p absent r keyword used);
   }
@@ -78,10 +78,10 @@ pub no_entry : (t : Table) (p n : Name) → FindsNone t p n → entry_at t p n �
 no_entry t p n none =
     elim (entry_at t p n) as (λ o. entry_at t p n ≡ o → o ≡ None) [
       | None ↦ λ e. refl
-      | Some old ↦ λ e. absurd (none old.home (inl (ap (option_map (λ (e : Entry). e.home)) e)))
+      | Some old ↦ λ e. absurd (none old.home (inl (ap (option_map (λ (e : Present). e.home)) e)))
     ] refl
 
-within_with_entry : (t : Table) (p n : Name) (e : Entry) → IsPackage t p → IsSymbolName n → symbol_count (with_entry t p n e) ≤ most_symbols → IsWithin t → IsWithin (with_entry t p n e)
+within_with_entry : (t : Table) (p n : Name) (e : Present) → IsPackage t p → IsSymbolName n → symbol_count (with_entry t p n e) ≤ most_symbols → IsWithin t → IsWithin (with_entry t p n e)
 within_with_entry t p n e there good count within = record {
   package_names = λ q found. within.package_names q (sym (package_with_entry t p n e q) ∙ found);
   symbol_names = λ q m h found.
@@ -96,7 +96,7 @@ within_with_entry t p n e there good count within = record {
 module _ (t : Table) (p n : Name) (sound : IsSound t) (there : IsPackage t p) (open_to : p ≢ common_lisp) where
   pub sound_interned : FindsNone t p n → IsSymbolName n → symbol_count t < most_symbols → IsSound (with_entry t p n (record { home = p; external = bytes_eq p keyword }))
   sound_interned none good few =
-      let e : Entry = record { home = p; external = bytes_eq p keyword } in
+      let e : Present = record { home = p; external = bytes_eq p keyword } in
       let finds : (g : Name) → Finds t p n g → g ≡ e.home = λ g found. absurd (none g found) in
       let keyword_shown : p ≡ keyword → e.external ≡ true = λ is. equal_keyword p is in
       record {
@@ -112,12 +112,12 @@ module _ (t : Table) (p n : Name) (sound : IsSound t) (there : IsPackage t p) (o
   module _ (h : Name) (no_keyword : p ≢ keyword) (at_home : IsPresent t h n h) where
     pub count_imported : entry_at t p n ≡ None → symbol_count (with_entry t p n (record { home = h; external = false })) ≡ symbol_count t
     count_imported none =
-        let elsewhere : h ≢ p = λ (is : h ≡ p). (let there_too : Some h ≡ None = sym (subst (λ (x : Name). IsPresent t x n h) is at_home) ∙ ap (option_map (λ (e : Entry). e.home)) none in cc) in
+        let elsewhere : h ≢ p = λ (is : h ≡ p). (let there_too : Some h ≡ None = sym (subst (λ (x : Name). IsPresent t x n h) is at_home) ∙ ap (option_map (λ (e : Present). e.home)) none in cc) in
         symbols_from_elsewhere t p n (record { home = h; external = false }) there none elsewhere
 
     pub sound_imported : ((g : Name) → Finds t p n g → g ≡ h) → entry_at t p n ≡ None → IsSound (with_entry t p n (record { home = h; external = false }))
     sound_imported finds none =
-        let e : Entry = record { home = h; external = false } in
+        let e : Present = record { home = h; external = false } in
         record {
           joined = joined_with_entry t p n e there (inr at_home) finds (λ shown q g used found. absurd (false≢true shown)) sound.joined;
           first = first_with_entry t p n e there open_to finds (λ is. absurd (no_keyword is)) (λ is. absurd (no_keyword is)) sound.first;
@@ -128,19 +128,19 @@ module _ (t : Table) (p n : Name) (sound : IsSound t) (there : IsPackage t p) (o
     at_its_home : IsPresent t h n h
     at_its_home = present_at_home t p n h sound.joined finds
 
-    same_count : (o : Option Entry) → entry_at t p n ≡ o → symbol_count (with_entry t p n (record { home = h; external = true })) ≡ symbol_count t
+    same_count : (o : Option Present) → entry_at t p n ≡ o → symbol_count (with_entry t p n (record { home = h; external = true })) ≡ symbol_count t
     same_count None is =
         symbols_from_elsewhere t p n (record { home = h; external = true }) there is
-        (λ (e : h ≡ p). (let there_too : Some h ≡ None = sym (subst (λ (x : Name). IsPresent t x n h) e at_its_home) ∙ ap (option_map (λ (e : Entry). e.home)) is in cc))
+        (λ (e : h ≡ p). (let there_too : Some h ≡ None = sym (subst (λ (x : Name). IsPresent t x n h) e at_its_home) ∙ ap (option_map (λ (e : Present). e.home)) is in cc))
     same_count (Some old) is =
-        symbols_again t p n (record { home = h; external = true }) there old is (sound.joined.one p n old.home h (inl (ap (option_map (λ (e : Entry). e.home)) is)) finds)
+        symbols_again t p n (record { home = h; external = true }) there old is (sound.joined.one p n old.home h (inl (ap (option_map (λ (e : Present). e.home)) is)) finds)
 
     pub count_exported : symbol_count (with_entry t p n (record { home = h; external = true })) ≡ symbol_count t
     count_exported = same_count (entry_at t p n) refl
 
     pub sound_exported : IsSound (with_entry t p n (record { home = h; external = true }))
     sound_exported =
-        let e : Entry = record { home = h; external = true } in
+        let e : Present = record { home = h; external = true } in
         let only : (g : Name) → Finds t p n g → g ≡ h = λ g found. sound.joined.one p n g h found finds in
         record {
           joined = joined_with_entry t p n e there (inr at_its_home) only (λ _. users) sound.joined;
@@ -155,7 +155,7 @@ module _ (t : Table) (p q : Name) (sound : IsSound t) (there : IsPackage t p) (o
     first = first_with_used t p q there open_to no_keyword no_keyword_used sound.first;
     within = record {
       package_names = λ r found. sound.within.package_names r (sym (package_with_used t p q r) ∙ found);
-      symbol_names = λ r m h found. sound.within.symbol_names r m h (sym (ap (option_map (λ (e : Entry). e.home)) (entry_with_used t p q r m)) ∙ found);
+      symbol_names = λ r m h found. sound.within.symbol_names r m h (sym (ap (option_map (λ (e : Present). e.home)) (entry_with_used t p q r m)) ∙ found);
       packages = (let same = len_with_package t p (λ k. record k { uses = finite.insert k.uses q tt }) in let few = sound.within.packages in omega (arith, same, few));
       symbols = (let same = symbols_with_used t p q there in let few = sound.within.symbols in omega (arith, same, few));
     };
@@ -171,7 +171,7 @@ sound_made t p sound absent good few = record {
           | inl same ↦ subst (λ (x : Name). IsPackageName x) (sym same) good
           | inr differ ↦ sound.within.package_names q (sym (ap is_some (get_kept t p empty_package q differ)) ∙ found)
         ];
-    symbol_names = λ q m h found. sound.within.symbol_names q m h (sym (ap (option_map (λ (e : Entry). e.home)) (entry_with_new t p absent q m)) ∙ found);
+    symbol_names = λ q m h found. sound.within.symbol_names q m h (sym (ap (option_map (λ (e : Present). e.home)) (entry_with_new t p absent q m)) ∙ found);
     packages = (let more = len_with_new t p absent in omega (arith, more, few));
     symbols = (let same = symbols_with_new t p absent in let few = sound.within.symbols in omega (arith, same, few));
   };

@@ -5,6 +5,7 @@ pub mod Calls
 pub mod Conflicts
 pub mod Counting
 pub mod First
+pub mod FirstNames
 pub mod FirstNumbers
 pub mod Found
 pub mod Frames

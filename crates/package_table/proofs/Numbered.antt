@@ -9,7 +9,7 @@
 use Rattle.std.proofs.Common.{◌≡◌, ◌<◌, ℕ, true, false, cond, Bool, Option, None, Some, bytes_eq, refl, sym, ap, ◌∙◌}
 use Rattle.std.proofs.lemmas.Bool.{false≢true}
 use Rattle.std.specs.Option.{option_map, option_map_or}
-use Rattle.package_table.specs.Table.{Name, Entry, IsPresent, entry_at}
+use Rattle.package_table.specs.Table.{Name, Present, IsPresent, entry_at}
 use Rattle.package_table.specs.Lookup.{is_symbol}
 use Rattle.package_table.specs.Numbers.{Numbered, number_at, number_of}
 use Rattle.package_table.specs.Numbering.{IsNumbered, Keeps}
@@ -17,11 +17,11 @@ use Rattle.package_table.specs.Growth.{Grows}
 use Rattle.package_table.proofs.Names.{same_some, none_some}
 use Rattle.package_table.proofs.Frames.{equal_names, equal_itself}
 
-symbol_there : (o : Option Entry) (h : Name) → option_map (λ (e : Entry). e.home) o ≡ Some h → option_map_or (λ (e : Entry). bytes_eq e.home h) o false ≡ true
+symbol_there : (o : Option Present) (h : Name) → option_map (λ (e : Present). e.home) o ≡ Some h → option_map_or (λ (e : Present). bytes_eq e.home h) o false ≡ true
 symbol_there None h none = absurd (none_some h none)
 symbol_there (Some e) h home = ap (λ x. bytes_eq x h) (same_some e.home h home) ∙ equal_itself h
 
-there_symbol : (o : Option Entry) (h : Name) → option_map_or (λ (e : Entry). bytes_eq e.home h) o false ≡ true → option_map (λ (e : Entry). e.home) o ≡ Some h
+there_symbol : (o : Option Present) (h : Name) → option_map_or (λ (e : Present). bytes_eq e.home h) o false ≡ true → option_map (λ (e : Present). e.home) o ≡ Some h
 there_symbol None h none = absurd (false≢true none)
 there_symbol (Some e) h same = ap Some (equal_names e.home h same)
 

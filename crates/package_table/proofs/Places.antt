@@ -10,11 +10,11 @@ use Rattle.std.specs.Ordering.{eq_by_cmp}
 use Rattle.std.specs.BTreeMap.{insert_entry}
 use Rattle.std.specs.FinMap as finite
 use Rattle.lisp_object.proofs.Tree.{insert_same}
-use Rattle.package_table.specs.declared.entry.Symbol.{Symbol}
-use Rattle.package_table.specs.Table.{Name, name_cmp, Entry, Package, entry_at}
+use Rattle.package_table.specs.declared.symbol.Symbol.{Symbol}
+use Rattle.package_table.specs.Table.{Name, name_cmp, Present, Package, entry_at}
 use Rattle.package_table.specs.Numbers.{Held, Numbered, number_at, number_of}
 use Rattle.package_table.specs.Undo.{entry_back, put_back}
-use Rattle.package_table.specs.Entries.{entry_of, numbered_entry}
+use Rattle.package_table.specs.Symbols.{present_of, numbered_present}
 use Rattle.package_table.specs.Kept.{as_map, numbers_in, package_of}
 use Rattle.package_table.specs.Reached.{is_shown}
 use Rattle.package_table.proofs.Names.{name_total, name_exact, same_tied}
@@ -77,7 +77,7 @@ entry_there table owner n k there =
 
 pub external_there : (table : List (Vec ℕ × Held)) (owner n : Name) (k : Held) → Some k ≡ lookup (at owner) table → is_shown (package_of k).symbols n ≡ true → option_map (λ e. e.external) (entry_at (as_map package_of table) owner n) ≡ Some true
 external_there table owner n k there shown =
-    ap (option_map (λ (e : Entry). e.external)) (entry_there table owner n k there) ∙ shown_external (finite.get (package_of k).symbols n) shown
+    ap (option_map (λ (e : Present). e.external)) (entry_there table owner n k there) ∙ shown_external (finite.get (package_of k).symbols n) shown
 
 -- a package that is not there, changed
 pub unchanged_table : {V : Type 0} (g : Held → V) (table : List (Vec ℕ × Held)) (owner : Name) (change : V → V) → None ≡ lookup (at owner) table
@@ -97,33 +97,33 @@ module _ {V : Type 0} (g : Symbol → V) (symbols : List (Vec ℕ × Symbol)) (n
       sym (ap (λ (o : Option V). cond (is_some o) (finite.insert (as_map g symbols) n (g w)) (as_map g symbols)) (got_name g n symbols ∙ sym (ap (option_map g) none)))
 
 -- the same of an entry, which is external only where it still is
-module _ (symbols : List (Vec ℕ × Symbol)) (n : Name) (e : Entry) where
+module _ (symbols : List (Vec ℕ × Symbol)) (n : Name) (e : Present) where
   pub entry_is_back : (w : Symbol) (later : List (Vec ℕ × Symbol)) (k : Symbol) → Some k ≡ lookup (at n) symbols → later ≡ set_value (at n) symbols w
-      → entry_of w ≡ record { home = e.home; external = e.external && k.external } → as_map entry_of later ≡ entry_back (as_map entry_of symbols) n (Some e)
+      → present_of w ≡ record { home = e.home; external = e.external && k.external } → as_map present_of later ≡ entry_back (as_map present_of symbols) n (Some e)
   entry_is_back w later k there written is =
-      ap (as_map entry_of) written ∙ written_at entry_of n w symbols (subst (λ (o : Option Symbol). IsSome o) there refl)
-      ∙ ap (finite.insert (as_map entry_of symbols) n) is
-      ∙ sym (ap (λ (o : Option Entry). option_map_or (λ now. finite.insert (as_map entry_of symbols) n (record { home = e.home; external = e.external && now.external })) o (as_map entry_of symbols)) (got_name entry_of n symbols ∙ sym (ap (option_map entry_of) there)))
+      ap (as_map present_of) written ∙ written_at present_of n w symbols (subst (λ (o : Option Symbol). IsSome o) there refl)
+      ∙ ap (finite.insert (as_map present_of symbols) n) is
+      ∙ sym (ap (λ (o : Option Present). option_map_or (λ now. finite.insert (as_map present_of symbols) n (record { home = e.home; external = e.external && now.external })) o (as_map present_of symbols)) (got_name present_of n symbols ∙ sym (ap (option_map present_of) there)))
 
-  pub no_entry_back : None ≡ lookup (at n) symbols → as_map entry_of symbols ≡ entry_back (as_map entry_of symbols) n (Some e)
+  pub no_entry_back : None ≡ lookup (at n) symbols → as_map present_of symbols ≡ entry_back (as_map present_of symbols) n (Some e)
   no_entry_back none =
-      sym (ap (λ (o : Option Entry). option_map_or (λ now. finite.insert (as_map entry_of symbols) n (record { home = e.home; external = e.external && now.external })) o (as_map entry_of symbols)) (got_name entry_of n symbols ∙ sym (ap (option_map entry_of) none)))
+      sym (ap (λ (o : Option Present). option_map_or (λ now. finite.insert (as_map present_of symbols) n (record { home = e.home; external = e.external && now.external })) o (as_map present_of symbols)) (got_name present_of n symbols ∙ sym (ap (option_map present_of) none)))
 
 -- no symbol is external by a name that was taken away, and one that was written is so as it was written
-pub gone : (m : finite.FinMap name_cmp Entry) (n : Name) → is_shown (finite.remove m n) n ≡ false
-gone m n = ap (λ (o : Option Entry). option_map_or (λ e. e.external) o false) (finite.get-remove name_total m n n ∙ ap (λ b. cond b None (finite.get m n)) (same_tied n))
+pub gone : (m : finite.FinMap name_cmp Present) (n : Name) → is_shown (finite.remove m n) n ≡ false
+gone m n = ap (λ (o : Option Present). option_map_or (λ e. e.external) o false) (finite.get-remove name_total m n n ∙ ap (λ b. cond b None (finite.get m n)) (same_tied n))
 
-pub shown_there : (symbols : List (Vec ℕ × Symbol)) (n : Name) (w : Symbol) (later : List (Vec ℕ × Symbol)) (k : Symbol) → Some k ≡ lookup (at n) symbols → later ≡ set_value (at n) symbols w → w.external ≡ is_shown (as_map entry_of later) n
+pub shown_there : (symbols : List (Vec ℕ × Symbol)) (n : Name) (w : Symbol) (later : List (Vec ℕ × Symbol)) (k : Symbol) → Some k ≡ lookup (at n) symbols → later ≡ set_value (at n) symbols w → w.external ≡ is_shown (as_map present_of later) n
 shown_there symbols n w later k there written =
-    sym (ap (λ m. is_shown m n) (ap (as_map entry_of) written ∙ written_at entry_of n w symbols (subst (λ (o : Option Symbol). IsSome o) there refl))
-    ∙ ap (λ (o : Option Entry). option_map_or (λ e. e.external) o false) (get_inserted (as_map entry_of symbols) n (entry_of w)))
+    sym (ap (λ m. is_shown m n) (ap (as_map present_of) written ∙ written_at present_of n w symbols (subst (λ (o : Option Symbol). IsSome o) there refl))
+    ∙ ap (λ (o : Option Present). option_map_or (λ e. e.external) o false) (get_inserted (as_map present_of symbols) n (present_of w)))
 
 -- what was at a name, as it is seen of a note
-pub entry_noted : (o : Option Symbol) → option_map (λ (b : Entry × ℕ). b.0) (option_map numbered_entry o) ≡ option_map entry_of o
+pub entry_noted : (o : Option Symbol) → option_map (λ (b : Present × ℕ). b.0) (option_map numbered_present o) ≡ option_map present_of o
 entry_noted None = refl
 entry_noted (Some s) = refl
 
-pub number_noted : (o : Option Symbol) → option_map (λ (b : Entry × ℕ). b.1) (option_map numbered_entry o) ≡ option_map (λ s. s.number) o
+pub number_noted : (o : Option Symbol) → option_map (λ (b : Present × ℕ). b.1) (option_map numbered_present o) ≡ option_map (λ s. s.number) o
 number_noted None = refl
 number_noted (Some s) = refl
 
@@ -140,9 +140,9 @@ number_there table owner n k there =
     ap (option_and_then (λ (m : finite.FinMap name_cmp ℕ). finite.get m n)) (got_name numbers_in owner table ∙ sym (ap (option_map numbers_in) there))
 
 -- what is present by a name has a number
-pub placed_names : (symbols : List (Vec ℕ × Symbol)) (n : Name) → finite.contains_key (as_map (λ s. s.number) symbols) n ≡ finite.contains_key (as_map entry_of symbols) n
+pub placed_names : (symbols : List (Vec ℕ × Symbol)) (n : Name) → finite.contains_key (as_map (λ s. s.number) symbols) n ≡ finite.contains_key (as_map present_of symbols) n
 placed_names symbols n =
-    ap is_some (got_name (λ (s : Symbol). s.number) n symbols) ∙ some_mapped (λ (s : Symbol). s.number) entry_of (lookup (at n) symbols) ∙ sym (ap is_some (got_name entry_of n symbols))
+    ap is_some (got_name (λ (s : Symbol). s.number) n symbols) ∙ some_mapped (λ (s : Symbol). s.number) present_of (lookup (at n) symbols) ∙ sym (ap is_some (got_name present_of n symbols))
 
 -- Each symbol that is present has a number. So it is of a table that is made by adding such packages.
 abbrev pub IsPlaced : List (Vec ℕ × Held) → Type 0
@@ -173,16 +173,16 @@ placed_more table later name k is held placed p n =
 module _ (table : List (Vec ℕ × Held)) (h n : Name) where
   pub no_home : None ≡ lookup (at h) table → number_of (as_map package_of table, as_map numbers_in table) h n ≡ None
   no_home none =
-      ap (λ (o : Option Package). cond (option_map_or (λ (e : Entry). bytes_eq e.home h) (option_and_then (λ k. finite.get k.symbols n) o) false) (number_at (as_map numbers_in table) h n) None)
+      ap (λ (o : Option Package). cond (option_map_or (λ (e : Present). bytes_eq e.home h) (option_and_then (λ k. finite.get k.symbols n) o) false) (number_at (as_map numbers_in table) h n) None)
       (got_name package_of h table ∙ sym (ap (option_map package_of) none))
 
-  pub at_its_home : (k : Held) → Some k ≡ lookup (at h) table → (o : Option Symbol) → option_map entry_of o ≡ finite.get (package_of k).symbols n → option_map (λ s. s.number) o ≡ finite.get (numbers_in k) n
+  pub at_its_home : (k : Held) → Some k ≡ lookup (at h) table → (o : Option Symbol) → option_map present_of o ≡ finite.get (package_of k).symbols n → option_map (λ s. s.number) o ≡ finite.get (numbers_in k) n
       → number_of (as_map package_of table, as_map numbers_in table) h n ≡ option_map_or (λ (s : Symbol). cond (bytes_eq s.home.value.items h) (Some s.number) None) o None
   at_its_home k there o is number =
-      (λ i. cond (option_map_or (λ (e : Entry). bytes_eq e.home h) ((entry_there table h n k there ∙ sym is) i) false) ((number_there table h n k there ∙ sym number) i) None)
+      (λ i. cond (option_map_or (λ (e : Present). bytes_eq e.home h) ((entry_there table h n k there ∙ sym is) i) false) ((number_there table h n k there ∙ sym number) i) None)
       ∙ seen o
     where
-      seen : (o : Option Symbol) → cond (option_map_or (λ (e : Entry). bytes_eq e.home h) (option_map entry_of o) false) (option_map (λ (s : Symbol). s.number) o) None
+      seen : (o : Option Symbol) → cond (option_map_or (λ (e : Present). bytes_eq e.home h) (option_map present_of o) false) (option_map (λ (s : Symbol). s.number) o) None
           ≡ option_map_or (λ (s : Symbol). cond (bytes_eq s.home.value.items h) (Some s.number) None) o None
       seen None = refl
       seen (Some s) = refl

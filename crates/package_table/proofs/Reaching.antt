@@ -4,7 +4,7 @@ use Rattle.std.proofs.lemmas.Bool.{false≢true}
 use Rattle.std.specs.Option.{option_map, option_map_or, option_and_then}
 use Rattle.std.specs.List.{list_any}
 use Rattle.std.specs.FinMap as finite
-use Rattle.package_table.specs.Table.{Name, Entry, Package, Table, Uses, Finds, IsExternal, IsPresent, IsSound}
+use Rattle.package_table.specs.Table.{Name, Present, Package, Table, Uses, Finds, IsExternal, IsPresent, IsSound}
 use Rattle.package_table.specs.Changes.{user_finds_other}
 use Rattle.package_table.specs.Reached.{has_other, shows, share_user, reaches}
 use Rattle.package_table.proofs.Names.{same_some, none_some}
@@ -29,13 +29,13 @@ module _ (t : Table) (p n : Name) (k : Package) (there : finite.get t p ≡ Some
   entry_is : option_and_then (λ (k : Package). finite.get k.symbols n) (finite.get t p) ≡ finite.get k.symbols n
   entry_is = ap (option_and_then (λ (k : Package). finite.get k.symbols n)) there
 
-  pub present_in : (e : Entry) → finite.get k.symbols n ≡ Some e → IsPresent t p n e.home
-  present_in e is = ap (option_map (λ (e : Entry). e.home)) (entry_is ∙ is)
+  pub present_in : (e : Present) → finite.get k.symbols n ≡ Some e → IsPresent t p n e.home
+  present_in e is = ap (option_map (λ (e : Present). e.home)) (entry_is ∙ is)
 
   pub external_in : shows n k ≡ true → IsExternal t p n
-  external_in shown = ap (option_map (λ (e : Entry). e.external)) entry_is ∙ shown_is (finite.get k.symbols n) shown
+  external_in shown = ap (option_map (λ (e : Present). e.external)) entry_is ∙ shown_is (finite.get k.symbols n) shown
     where
-      shown_is : (o : Option Entry) → option_map_or (λ (e : Entry). e.external) o false ≡ true → option_map (λ (e : Entry). e.external) o ≡ Some true
+      shown_is : (o : Option Present) → option_map_or (λ (e : Present). e.external) o false ≡ true → option_map (λ (e : Present). e.external) o ≡ Some true
       shown_is None e = absurd (false≢true e)
       shown_is (Some e) is = ap Some is
 
@@ -43,9 +43,9 @@ module _ (t : Table) (p n : Name) (k : Package) (there : finite.get t p ≡ Some
   used_in q used = ap (option_map (λ (k : Package). finite.contains_key k.uses q)) there ∙ ap Some used
 
 -- the entry that is another symbol
-other_entry : (h n : Name) (k : Package) → has_other h n k ≡ true → (e : Entry) × (finite.get k.symbols n ≡ Some e) × (e.home ≢ h)
+other_entry : (h n : Name) (k : Package) → has_other h n k ≡ true → (e : Present) × (finite.get k.symbols n ≡ Some e) × (e.home ≢ h)
 other_entry h n k other =
-    elim (finite.get k.symbols n) as (λ o. finite.get k.symbols n ≡ o → option_map_or (λ (e : Entry). not (bytes_eq e.home h)) o false ≡ true → (e : Entry) × (finite.get k.symbols n ≡ Some e) × (e.home ≢ h)) [
+    elim (finite.get k.symbols n) as (λ o. finite.get k.symbols n ≡ o → option_map_or (λ (e : Present). not (bytes_eq e.home h)) o false ≡ true → (e : Present) × (finite.get k.symbols n ≡ Some e) × (e.home ≢ h)) [
       | None ↦ λ _ no. absurd (false≢true no)
       | Some e ↦ λ is differs. (e, is, unequal_names e.home h (turned (bytes_eq e.home h) differs))
     ] refl other
@@ -72,9 +72,9 @@ module _ (t : Table) (p h n : Name) (sound : IsSound t) where
             )
       ] refl parts.1
 
-  holds_other : (g : Name) (k : Package) → option_map (λ (e : Entry). e.home) (finite.get k.symbols n) ≡ Some g → (g ≢ h) → has_other h n k ≡ true
+  holds_other : (g : Name) (k : Package) → option_map (λ (e : Present). e.home) (finite.get k.symbols n) ≡ Some g → (g ≢ h) → has_other h n k ≡ true
   holds_other g k =
-      elim (finite.get k.symbols n) as (λ o. option_map (λ (e : Entry). e.home) o ≡ Some g → (g ≢ h) → option_map_or (λ (e : Entry). not (bytes_eq e.home h)) o false ≡ true) [
+      elim (finite.get k.symbols n) as (λ o. option_map (λ (e : Present). e.home) o ≡ Some g → (g ≢ h) → option_map_or (λ (e : Present). not (bytes_eq e.home h)) o false ≡ true) [
         | None ↦ λ no _. absurd (none_some g no)
         | Some e ↦ λ is differs. differs_so (bytes_eq e.home h) (λ same. differs (sym (same_some e.home g is) ∙ equal_names e.home h same))
       ]
@@ -102,19 +102,19 @@ module _ (t : Table) (p h n : Name) (sound : IsSound t) where
   and_both true b _ e = e
   and_both false b e _ = absurd (false≢true e)
 
-  there_home : (r g : Name) (k : Package) → finite.get t r ≡ Some k → IsPresent t r n g → option_map (λ (e : Entry). e.home) (finite.get k.symbols n) ≡ Some g
-  there_home r g k there present = sym (ap (option_map (λ (e : Entry). e.home)) (entry_is t r n k there)) ∙ present
+  there_home : (r g : Name) (k : Package) → finite.get t r ≡ Some k → IsPresent t r n g → option_map (λ (e : Present). e.home) (finite.get k.symbols n) ≡ Some g
+  there_home r g k there present = sym (ap (option_map (λ (e : Present). e.home)) (entry_is t r n k there)) ∙ present
 
   shown_there : (r : Name) (k : Package) → finite.get t r ≡ Some k → IsExternal t r n → shows n k ≡ true
-  shown_there r k there external = shown_so (finite.get k.symbols n) (sym (ap (option_map (λ (e : Entry). e.external)) (entry_is t r n k there)) ∙ external)
+  shown_there r k there external = shown_so (finite.get k.symbols n) (sym (ap (option_map (λ (e : Present). e.external)) (entry_is t r n k there)) ∙ external)
     where
-      shown_so : (o : Option Entry) → option_map (λ (e : Entry). e.external) o ≡ Some true → option_map_or (λ (e : Entry). e.external) o false ≡ true
+      shown_so : (o : Option Present) → option_map (λ (e : Present). e.external) o ≡ Some true → option_map_or (λ (e : Present). e.external) o false ≡ true
       shown_so None wrong = absurd (none_some true wrong)
       shown_so (Some e) is = same_some e.external true is
 
   some_package : (r g : Name) → IsPresent t r n g → (k : Package) × (finite.get t r ≡ Some k)
   some_package r g present =
-      elim (finite.get t r) as (λ o. finite.get t r ≡ o → option_map (λ (e : Entry). e.home) (option_and_then (λ (k : Package). finite.get k.symbols n) o) ≡ Some g → (k : Package) × (finite.get t r ≡ Some k)) [
+      elim (finite.get t r) as (λ o. finite.get t r ≡ o → option_map (λ (e : Present). e.home) (option_and_then (λ (k : Package). finite.get k.symbols n) o) ≡ Some g → (k : Package) × (finite.get t r ≡ Some k)) [
         | None ↦ λ _ no. absurd (none_some g no)
         | Some k ↦ λ there _. (k, there)
       ] refl present

@@ -5,7 +5,7 @@ use Rattle.std.proofs.lemmas.Bool.{false≢true}
 use Rattle.std.specs.Option.{option_map, option_map_or, option_and_then}
 use Rattle.std.specs.Ordering.{eq_by_cmp}
 use Rattle.std.specs.FinMap as finite
-use Rattle.package_table.specs.Table.{Name, name_cmp, Entry, Package, IsPackage, IsExternal, entry_at, empty_package}
+use Rattle.package_table.specs.Table.{Name, name_cmp, Present, Package, IsPackage, IsExternal, entry_at, empty_package}
 use Rattle.package_table.specs.Numbers.{Numbered, number_at, with_numbered, with_package_made, with_use}
 use Rattle.package_table.specs.Lookup.{is_used}
 use Rattle.package_table.specs.Reached.{is_shown}
@@ -48,7 +48,7 @@ something None e = absurd (cc)
 something (Some x) e = (x, refl)
 
 -- a symbol that is shown is external
-pub shown_external : (o : Option Entry) → option_map_or (λ (e : Entry). e.external) o false ≡ true → option_map (λ (e : Entry). e.external) o ≡ Some true
+pub shown_external : (o : Option Present) → option_map_or (λ (e : Present). e.external) o false ≡ true → option_map (λ (e : Present). e.external) o ≡ Some true
 shown_external None wrong = absurd (false≢true wrong)
 shown_external (Some e) is = ap Some is
 
@@ -60,12 +60,12 @@ put_again {X} m n e =
     ] refl
 
 -- an entry that hides no name, put and undone
-entry_again : (m : finite.FinMap name_cmp Entry) (n : Name) (e : Entry) → (is_shown m n ≡ true → e.external ≡ true) → entry_back (finite.insert m n e) n (finite.get m n) ≡ m
+entry_again : (m : finite.FinMap name_cmp Present) (n : Name) (e : Present) → (is_shown m n ≡ true → e.external ≡ true) → entry_back (finite.insert m n e) n (finite.get m n) ≡ m
 entry_again m n e stays =
-    elim (finite.get m n) as (λ o. finite.get m n ≡ o → (option_map_or (λ (e : Entry). e.external) o false ≡ true → e.external ≡ true) → entry_back (finite.insert m n e) n o ≡ m) [
+    elim (finite.get m n) as (λ o. finite.get m n ≡ o → (option_map_or (λ (e : Present). e.external) o false ≡ true → e.external ≡ true) → entry_back (finite.insert m n e) n o ≡ m) [
       | None ↦ λ none _. removed_again m n e none
       | Some x ↦ λ there stays.
-          ap (λ (o : Option Entry). option_map_or (λ now. finite.insert (finite.insert m n e) n (record { home = x.home; external = x.external && now.external })) o (finite.insert m n e)) (get_inserted m n e)
+          ap (λ (o : Option Present). option_map_or (λ now. finite.insert (finite.insert m n e) n (record { home = x.home; external = x.external && now.external })) o (finite.insert m n e)) (get_inserted m n e)
           ∙ (λ i. finite.insert (finite.insert m n e) n (record { home = x.home; external = same x.external e.external stays i })) ∙ replaced_again m n e x there
     ] refl stays
   where
@@ -77,7 +77,7 @@ pub undone_made : (s : Numbered) (p : Name) → finite.get s.0 p ≡ None → fi
 undone_made s p none same =
     λ i. (removed_again s.0 p empty_package none i, removed_again s.1 p finite.empty (nothing (finite.get s.1 p) (same ∙ ap is_some none)) i)
 
-pub undone_put : (s : Numbered) (p n : Name) (e : Entry) (i : ℕ) (before : Option (Entry × ℕ)) → IsPackage s.0 p → (IsExternal s.0 p n → e.external ≡ true) → finite.contains_key s.1 p ≡ finite.contains_key s.0 p
+pub undone_put : (s : Numbered) (p n : Name) (e : Present) (i : ℕ) (before : Option (Present × ℕ)) → IsPackage s.0 p → (IsExternal s.0 p n → e.external ≡ true) → finite.contains_key s.1 p ≡ finite.contains_key s.0 p
     → option_map (λ b. b.0) before ≡ entry_at s.0 p n → option_map (λ b. b.1) before ≡ number_at s.1 p n → undone (put p n before) (with_numbered s p n e i) ≡ s
 undone_put s p n e i before there stays same entry number =
     let k = package_there s.0 p there in
@@ -85,7 +85,7 @@ undone_put s p n e i before there stays same entry number =
     let was = entry ∙ ap (option_and_then (λ (k : Package). finite.get k.symbols n)) k.1 in
     let had = number ∙ ap (option_and_then (λ (m : finite.FinMap name_cmp ℕ). finite.get m n)) m.1 in
     let table = changed_back s.0 p (λ k. record k { symbols = finite.insert k.symbols n e }) (λ j. record j { symbols = entry_back j.symbols n (option_map (λ b. b.0) before) }) k.0 k.1
-    (λ x. record { symbols = (ap (entry_back (finite.insert k.0.symbols n e) n) was ∙ entry_again k.0.symbols n e (λ shown. stays (ap (option_map (λ (e : Entry). e.external)) (ap (option_and_then (λ (k : Package). finite.get k.symbols n)) k.1) ∙ shown_external (finite.get k.0.symbols n) shown))) x; uses = k.0.uses }) in
+    (λ x. record { symbols = (ap (entry_back (finite.insert k.0.symbols n e) n) was ∙ entry_again k.0.symbols n e (λ shown. stays (ap (option_map (λ (e : Present). e.external)) (ap (option_and_then (λ (k : Package). finite.get k.symbols n)) k.1) ∙ shown_external (finite.get k.0.symbols n) shown))) x; uses = k.0.uses }) in
     let numbers = changed_back s.1 p (λ m. finite.insert m n i) (λ m. put_back m n (option_map (λ b. b.1) before)) m.0 m.1
     (ap (put_back (finite.insert m.0 n i) n) had ∙ put_again m.0 n i) in
     λ x. (table x, numbers x)

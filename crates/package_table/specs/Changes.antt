@@ -1,6 +1,6 @@
 -- What the calls that write make of the packages, or the first reason for which they refuse. Which symbol a package finds by
 -- a name, `found` of Lookup.antt says.
-use Rattle.std.specs.Prelude.{◌≡◌, Bool, true, false, not, ◌&&◌, ◌||◌, ◌==◌, nat_lt, nat_le, length, is_none, is_some, bytes_eq, if◌then◌else◌, IsTrue, Result, Ok, Err, IsOk}
+use Rattle.std.specs.Prelude.{◌≡◌, Bool, true, false, not, ◌&&◌, ◌||◌, ◌==◌, nat_lt, nat_le, length, is_none, is_some, bytes_eq, if◌then◌else◌, IsTrue, Result, Ok, Err, IsOk, IfOk, MatchResult}
 use Rattle.std.specs.List.{list_any}
 use Rattle.std.specs.Option.{option_map_or}
 use Rattle.std.specs.FinMap as finite
@@ -108,7 +108,15 @@ Gives view (Ok x) said = said ≡ Ok (view x)
 Gives view (Err OutOfMemory) said = IsOk said
 Gives view (Err e) said = said ≡ Err e
 
+-- A call that is not refused answers v.
+abbrev pub Yields : {B : Type 0} → Result B PackageError → B → Type 0
+Yields said v = IfOk said (λ x. x ≡ v)
+
 -- Memory runs out only where the call would change the packages.
 abbrev pub RunsOutOnlyIf : Bool → PackageError → Type 0
 RunsOutOnlyIf changes OutOfMemory = IsTrue changes
 RunsOutOnlyIf changes e = Unit {0}
+
+-- whether the packages change, as a call answers it that takes memory for a change alone
+abbrev pub TellsChange : Bool → Result Bool PackageError → Type 0
+TellsChange changes said = MatchResult said (λ changed. changed ≡ changes) (RunsOutOnlyIf changes)

@@ -10,6 +10,6 @@ pub mod Changes
 pub mod Reached
 pub mod Growth
 pub mod Undo
-pub mod Entries
+pub mod Symbols
 pub mod Kept
 pub mod Shown

@@ -1,10 +1,10 @@
 -- The numbers of symbols. They are beside the table and no part of it: packages with the same symbols are equal, whatever
 -- their numbers.
-use Rattle.std.specs.Prelude.{ℕ, ◌++◌, List, [], ◌∷◌, Option, None, option_and_then, if◌then◌else◌, refl}
+use Rattle.std.specs.Prelude.{◌≡◌, ℕ, ◌++◌, List, [], ◌∷◌, Option, None, option_and_then, if◌then◌else◌, refl}
 use Rattle.std.specs.Option.{option_map_or}
 use Rattle.std.specs.Coded.{Coded, code_by, coded×, coded_list, coded_ℕ}
 use Rattle.std.specs.FinMap as finite
-use Rattle.package_table.specs.Table.{Name, name_cmp, name_code, Entry, Package, Table, package_code, table_code, with_entry, with_used, with_new_package}
+use Rattle.package_table.specs.Table.{Name, name_cmp, name_code, Present, Package, Table, package_code, table_code, with_entry, with_used, with_new_package}
 use Rattle.package_table.specs.Lookup.{is_symbol}
 
 -- for each package, the number of the symbol that is present by each name
@@ -62,12 +62,20 @@ without_marks ts = (ts.0, record ts.1 { marked = [] })
 abbrev pub number_at : Numbers → Name → Name → Option ℕ
 number_at ns p n = option_and_then (λ m. finite.get m n) (finite.get ns p)
 
+-- there are numbers for the package p exactly if there is the package
+abbrev pub HasNumbers : Numbered → Name → Type 0
+HasNumbers s p = finite.contains_key s.1 p ≡ finite.contains_key s.0 p
+
+-- each symbol that is present in the package has a number, and nothing else has one
+abbrev pub HasEachNumber : Held → Type 0
+HasEachNumber k = (n : Name) → finite.contains_key k.1 n ≡ finite.contains_key k.0.symbols n
+
 -- the numbers after a change of those of the package p, where there is one
 abbrev pub with_numbers : Numbers → Name → (finite.FinMap name_cmp ℕ → finite.FinMap name_cmp ℕ) → Numbers
 with_numbers ns p change = option_map_or (λ m. finite.insert ns p (change m)) (finite.get ns p) ns
 
 -- the table where the entry e, of the symbol with the number i, is at the name n in p
-abbrev pub with_numbered : Numbered → Name → Name → Entry → ℕ → Numbered
+abbrev pub with_numbered : Numbered → Name → Name → Present → ℕ → Numbered
 with_numbered s p n e i = (with_entry s.0 p n e, with_numbers s.1 p (λ m. finite.insert m n i))
 
 -- the table where p uses q

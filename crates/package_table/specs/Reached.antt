@@ -4,14 +4,14 @@ use Rattle.std.specs.Prelude.{Bool, false, not, ◌&&◌, ◌||◌, bytes_eq}
 use Rattle.std.specs.Option.{option_map_or}
 use Rattle.std.specs.List.{list_any}
 use Rattle.std.specs.FinMap as finite
-use Rattle.package_table.specs.Table.{Name, name_cmp, Entry, Package, Table}
+use Rattle.package_table.specs.Table.{Name, name_cmp, Present, Package, Table}
 
 -- another symbol than that of home h is present in the package by the name n
 abbrev pub has_other : Name → Name → Package → Bool
 has_other h n k = option_map_or (λ e. not (bytes_eq e.home h)) (finite.get k.symbols n) false
 
 -- one of these symbols is external by the name n
-abbrev pub is_shown : finite.FinMap name_cmp Entry → Name → Bool
+abbrev pub is_shown : finite.FinMap name_cmp Present → Name → Bool
 is_shown m n = option_map_or (λ e. e.external) (finite.get m n) false
 
 -- a symbol is external in the package by the name n

@@ -1,5 +1,5 @@
 -- What the name in a token stands for (standard 2.3.5): in the current package, after one package marker, after two.
-use Rattle.std.specs.Prelude.{if◌then◌else◌, bytes_eq, Result, Ok, Err}
+use Rattle.std.specs.Prelude.{if◌then◌else◌, bytes_eq, Result, Ok, Err, MatchResult, ◌≡◌}
 use Rattle.std.specs.Option.{option_map_or}
 use Rattle.package_table.specs.declared.error.PackageError.{PackageError}
 use Rattle.package_table.specs.declared.error.PackageError.TheVariants.{NoPackage, NotExternal, LockedPackage}
@@ -22,6 +22,10 @@ resolution_of (New home) = new_in home.now
 abbrev pub home_of : Resolution → Name
 home_of (found_at h) = h
 home_of (new_in p) = p
+
+-- A call that takes no memory answers what the definition says.
+abbrev pub Answers : {A B : Type 0} → (B → A) → Result B PackageError → Result A PackageError → Type 0
+Answers view said is = MatchResult said (λ x. is ≡ Ok (view x)) (λ e. is ≡ Err e)
 
 -- a name in p: it may be new, but not in COMMON-LISP
 abbrev pub resolution : Table → Name → Name → Result Resolution PackageError

@@ -8,14 +8,14 @@ use Rattle.package_table.specs.declared.packages.Packages.TheInside.{Inside}
 use Rattle.package_table.specs.Table.{IsSound, symbol_count}
 use Rattle.package_table.specs.Numbers.{Numbered, Tables}
 use Rattle.package_table.specs.Numbering.{IsNumbered}
-use Rattle.package_table.specs.Entries.{numbered_entry}
+use Rattle.package_table.specs.Symbols.{numbered_present}
 pub use Rattle.package_table.specs.Kept.{as_map}
 use Rattle.package_table.specs.Undo.{Change, made, put, used, Marked, tables_at}
 
 -- what a note says
 abbrev pub change_of : Note → Change
 change_of (Made name) = made name.items
-change_of (Put owner name before) = put owner.items name.items (option_map numbered_entry before)
+change_of (Put owner name before) = put owner.items name.items (option_map numbered_present before)
 change_of (Used owner other) = used owner.items other.items
 
 abbrev pub marked_of : Mark → Marked
@@ -33,6 +33,10 @@ abbrev pub has_room : List Mark → Type 0
 has_room [] = Unit {0}
 has_room (m ∷ []) = vec_len m.notes < vec_capacity m.notes
 has_room (m ∷ n ∷ ms) = has_room (n ∷ ms)
+
+-- the tables at these marks are the same as those at the marks of before
+abbrev pub SameMarks : List Mark → Numbered → List Mark → Numbered → Type 0
+SameMarks ms s ns u = marked_tables ns u ≡ marked_tables ms s
 
 abbrev pub tables_of : Inside → Tables
 tables_of a = (a.table.0, record { numbers = a.table.1; marked = map (λ m. m.0) (marked_tables a.marks.items a.table) })

@@ -20,13 +20,13 @@ abbrev pub name_cmp : Name → Name → Ordering
 name_cmp = slice_cmp nat_cmp
 
 -- what a package has at a name that is present: the symbol, by its home, and whether it is external there
-pub record Entry : Type 0 where
+pub record Present : Type 0 where
   pub home : Name
   pub external : Bool
 
 -- its present symbols by their names, and the packages that it uses
 pub record Package : Type 0 where
-  pub symbols : finite.FinMap name_cmp Entry
+  pub symbols : finite.FinMap name_cmp Present
   pub uses : set.FinSet name_cmp
 
 -- the packages by their names
@@ -36,13 +36,13 @@ Table = finite.FinMap name_cmp Package
 abbrev pub name_code : Coded Name
 name_code = coded_list coded_ℕ
 
-abbrev pub entry_code : Coded Entry
-entry_code =
+abbrev pub present_code : Coded Present
+present_code =
     code_by (Name × Bool) (coded× name_code coded_bool) (λ e. (e.home, e.external)) (λ p. record { home = p.0; external = p.1 }) (λ _. refl)
 
 abbrev pub package_code : Coded Package
 package_code =
-    code_by (finite.FinMap name_cmp Entry × set.FinSet name_cmp) (coded× (finite.code name_code entry_code) (set.code name_code))
+    code_by (finite.FinMap name_cmp Present × set.FinSet name_cmp) (coded× (finite.code name_code present_code) (set.code name_code))
     (λ k. (k.symbols, k.uses)) (λ p. record { symbols = p.0; uses = p.1 }) (λ _. refl)
 
 abbrev pub table_code : Coded Table
@@ -75,7 +75,7 @@ module _ (t : Table) where
   abbrev pub package_named : Name → Option Name
   package_named n = if finite.contains_key t (full_name n) then Some (full_name n) else None
 
-  abbrev pub entry_at : Name → Name → Option Entry
+  abbrev pub entry_at : Name → Name → Option Present
   entry_at p n = option_and_then (λ k. finite.get k.symbols n) (finite.get t p)
 
   -- the symbol of home h and name n is present in p
@@ -110,7 +110,7 @@ abbrev pub with_package : Table → Name → (Package → Package) → Table
 with_package t p change = option_map_or (λ k. finite.insert t p (change k)) (finite.get t p) t
 
 -- the table where e is at the name n in p
-abbrev pub with_entry : Table → Name → Name → Entry → Table
+abbrev pub with_entry : Table → Name → Name → Present → Table
 with_entry t p n e = with_package t p (λ k. record k { symbols = finite.insert k.symbols n e })
 
 -- the table where p uses q

@@ -2,14 +2,14 @@
 use Rattle.std.specs.Prelude.{ℕ, ◌&&◌, List, [], ◌∷◌, Option, Some, None, option_map, if◌then◌else◌}
 use Rattle.std.specs.Option.{option_map_or}
 use Rattle.std.specs.FinMap as finite
-use Rattle.package_table.specs.Table.{Name, name_cmp, Entry, with_package}
+use Rattle.package_table.specs.Table.{Name, name_cmp, Present, with_package}
 use Rattle.package_table.specs.Numbers.{Numbered, with_numbers}
 
 -- A package was made. A symbol was put at a name of a package, and what was there before, with its number. The first package
 -- uses the other from then on.
 pub data Change : Type 0 where
   made : Name → Change
-  put : Name → Name → Option (Entry × ℕ) → Change
+  put : Name → Name → Option (Present × ℕ) → Change
   used : Name → Name → Change
 
 -- the numbers of a package with what was at the name n before
@@ -18,7 +18,7 @@ put_back m n None = finite.remove m n
 put_back m n (Some e) = if finite.contains_key m n then finite.insert m n e else m
 
 -- The same of the symbols, where what is put back is external only where it still is: no change hides a name.
-abbrev pub entry_back : finite.FinMap name_cmp Entry → Name → Option Entry → finite.FinMap name_cmp Entry
+abbrev pub entry_back : finite.FinMap name_cmp Present → Name → Option Present → finite.FinMap name_cmp Present
 entry_back m n None = finite.remove m n
 entry_back m n (Some e) = option_map_or (λ now. finite.insert m n (record { home = e.home; external = e.external && now.external })) (finite.get m n) m
 

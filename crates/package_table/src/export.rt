@@ -1,11 +1,11 @@
 //! `export`: a symbol becomes external.
-ghost use Rattle.std.specs.Prelude.{◌≡◌, ℕ, IfErr, IfOk};
+ghost use Rattle.std.specs.Prelude.{◌≡◌, IfErr, IfOk};
 ghost use Rattle.package_table.specs.Table.{IsSound};
-ghost use Rattle.package_table.specs.Changes.{after_export, export_changes, with_external, Gives, RunsOutOnlyIf};
+ghost use Rattle.package_table.specs.Changes.{after_export, export_changes, with_external, Gives, RunsOutOnlyIf, TellsChange, Yields};
 ghost use Rattle.package_table.specs.Growth.{Grows, Tells};
 ghost use Rattle.package_table.specs.Numbers.{numbered};
-ghost use Rattle.package_table.specs.Numbering.{Keeps, KeepsNumbers};
-ghost use Rattle.package_table.specs.Shown.{marked_tables};
+ghost use Rattle.package_table.specs.Numbering.{Keeps, KeepsEachNumber};
+ghost use Rattle.package_table.specs.Shown.{SameMarks};
 
 use crate::find::is_locked;
 use crate::journal::Mark;
@@ -14,18 +14,18 @@ use crate::table::PackageTable;
 use crate::{PackageError, Packages};
 use std::alloc::Global;
 
-// The first reason to refuse that this symbol becomes external in `owner`.
+// The first reason to refuse that this symbol becomes external in `owner`, and else whether it is not external yet.
 fn export_refusal(
     table: &PackageTable,
     owner: &[u8],
     home: &[u8],
     name: &[u8],
-) -> Result<(), PackageError>
+) -> Result<bool, PackageError>
     requires { IsSound table.now.0 }
     ensures gives { let t = table.now.0 in
         Gives (λ _. with_external t owner.now home.now name.now) result
         (after_export t owner.now home.now name.now) }
-    ensures memory { IfErr result (RunsOutOnlyIf (export_changes table.now.0 owner.now name.now)) }
+    ensures changes { TellsChange (export_changes table.now.0 owner.now name.now) result }
 {
     if !table.has_package(owner) {
         return Err(PackageError::NoSuchPackage);
@@ -39,7 +39,7 @@ fn export_refusal(
     if table.user_finds_other(owner, home, name) {
         return Err(PackageError::NameConflict);
     }
-    Ok(())
+    Ok(table.external_home(owner, name).is_none())
 }
 
 fn export_symbol(
@@ -53,14 +53,12 @@ fn export_symbol(
     requires { IsSound table.old.0 }
     ensures gives { Gives (λ _. table.new.0) result
         (after_export table.old.0 owner.now home.now name.now) }
-    ensures changed { IfOk result (λ changed. changed ≡ export_changes table.old.0 owner.now name.now) }
-    ensures memory { IfErr result (RunsOutOnlyIf (export_changes table.old.0 owner.now name.now)) }
+    ensures changed { TellsChange (export_changes table.old.0 owner.now name.now) result }
     ensures unchanged { IfErr result (λ _. table.new ≡ table.old) }
-    ensures numbers { IfOk result (λ _. (count : ℕ) → KeepsNumbers table.old count table.new count) }
-    ensures marked { marked_tables marks.new.items table.new ≡ marked_tables marks.old.items table.old }
+    ensures numbers { IfOk result (λ _. KeepsEachNumber table.old table.new) }
+    ensures marked { SameMarks marks.old.items table.old marks.new.items table.new }
 {
-    export_refusal(table, owner, home, name)?;
-    if table.external_home(owner, name).is_some() {
+    if !export_refusal(table, owner, home, name)? {
         return Ok(false);
     }
     let number = table.number_or_none(home, name);
@@ -79,10 +77,11 @@ impl Packages {
     pub fn export(&mut self, owner: &[u8], home: &[u8], name: &[u8]) -> Result<bool, PackageError>
         ensures gives { Gives (λ _. self.new.0) result
             (after_export self.old.0 owner.now home.now name.now) }
-        ensures changed { IfOk result (λ changed. changed ≡ export_changes self.old.0 owner.now name.now) }
+        ensures changed { Yields result (export_changes self.old.0 owner.now name.now) }
         ensures exactly { IfOk result (λ changed. Tells changed self.old.0 self.new.0) }
         ensures grows { Grows self.old.0 self.new.0 }
-        ensures memory { IfErr result (RunsOutOnlyIf (export_changes self.old.0 owner.now name.now)) }
+        ensures memory { IfErr result
+            (RunsOutOnlyIf (export_changes self.old.0 owner.now name.now)) }
         ensures unchanged { IfErr result (λ _. self.new ≡ self.old) }
         ensures numbers { Keeps (numbered self.old) (numbered self.new) }
         ensures marked { self.new.1.marked ≡ self.old.1.marked }

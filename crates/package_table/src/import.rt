@@ -1,11 +1,11 @@
 //! `import`: a symbol becomes present.
-ghost use Rattle.std.specs.Prelude.{◌≡◌, ℕ, IfErr, IfOk};
+ghost use Rattle.std.specs.Prelude.{◌≡◌, IfErr, IfOk};
 ghost use Rattle.package_table.specs.Table.{IsPresent};
-ghost use Rattle.package_table.specs.Changes.{after_import, import_changes, with_present, Gives, RunsOutOnlyIf};
+ghost use Rattle.package_table.specs.Changes.{after_import, import_changes, with_present, Gives, RunsOutOnlyIf, TellsChange, Yields};
 ghost use Rattle.package_table.specs.Growth.{Grows, Tells};
 ghost use Rattle.package_table.specs.Numbers.{numbered};
-ghost use Rattle.package_table.specs.Numbering.{Keeps, KeepsNumbers};
-ghost use Rattle.package_table.specs.Shown.{marked_tables};
+ghost use Rattle.package_table.specs.Numbering.{Keeps, KeepsEachNumber};
+ghost use Rattle.package_table.specs.Shown.{SameMarks};
 
 use crate::find::is_locked;
 use crate::journal::Mark;
@@ -14,17 +14,17 @@ use crate::table::PackageTable;
 use crate::{PackageError, Packages};
 use std::alloc::Global;
 
-// The first reason to refuse that this symbol becomes present in `owner`.
+// The first reason to refuse that this symbol becomes present in `owner`, and else whether it is not present yet.
 fn import_refusal(
     table: &PackageTable,
     owner: &[u8],
     home: &[u8],
     name: &[u8],
-) -> Result<(), PackageError>
+) -> Result<bool, PackageError>
     ensures gives { let t = table.now.0 in
         Gives (λ _. with_present t owner.now home.now name.now) result
         (after_import t owner.now home.now name.now) }
-    ensures memory { IfErr result (RunsOutOnlyIf (import_changes table.now.0 owner.now name.now)) }
+    ensures changes { TellsChange (import_changes table.now.0 owner.now name.now) result }
 {
     if !table.has_package(owner) {
         return Err(PackageError::NoSuchPackage);
@@ -35,7 +35,7 @@ fn import_refusal(
     if table.finds_other(owner, home, name) {
         return Err(PackageError::NameConflict);
     }
-    Ok(())
+    Ok(!table.is_present(owner, name))
 }
 
 fn import_symbol(
@@ -49,14 +49,12 @@ fn import_symbol(
     requires { IsPresent table.old.0 home.now name.now home.now }
     ensures gives { Gives (λ _. table.new.0) result
         (after_import table.old.0 owner.now home.now name.now) }
-    ensures changed { IfOk result (λ changed. changed ≡ import_changes table.old.0 owner.now name.now) }
-    ensures memory { IfErr result (RunsOutOnlyIf (import_changes table.old.0 owner.now name.now)) }
+    ensures changed { TellsChange (import_changes table.old.0 owner.now name.now) result }
     ensures unchanged { IfErr result (λ _. table.new ≡ table.old) }
-    ensures numbers { IfOk result (λ _. (count : ℕ) → KeepsNumbers table.old count table.new count) }
-    ensures marked { marked_tables marks.new.items table.new ≡ marked_tables marks.old.items table.old }
+    ensures numbers { IfOk result (λ _. KeepsEachNumber table.old table.new) }
+    ensures marked { SameMarks marks.old.items table.old marks.new.items table.new }
 {
-    import_refusal(table, owner, home, name)?;
-    if table.is_present(owner, name) {
+    if !import_refusal(table, owner, home, name)? {
         return Ok(false);
     }
     let number = table.number_or_none(home, name);
@@ -77,10 +75,11 @@ impl Packages {
         requires { IsPresent self.old.0 home.now name.now home.now }
         ensures gives { Gives (λ _. self.new.0) result
             (after_import self.old.0 owner.now home.now name.now) }
-        ensures changed { IfOk result (λ changed. changed ≡ import_changes self.old.0 owner.now name.now) }
+        ensures changed { Yields result (import_changes self.old.0 owner.now name.now) }
         ensures exactly { IfOk result (λ changed. Tells changed self.old.0 self.new.0) }
         ensures grows { Grows self.old.0 self.new.0 }
-        ensures memory { IfErr result (RunsOutOnlyIf (import_changes self.old.0 owner.now name.now)) }
+        ensures memory { IfErr result
+            (RunsOutOnlyIf (import_changes self.old.0 owner.now name.now)) }
         ensures unchanged { IfErr result (λ _. self.new ≡ self.old) }
         ensures numbers { Keeps (numbered self.old) (numbered self.new) }
         ensures marked { self.new.1.marked ≡ self.old.1.marked }

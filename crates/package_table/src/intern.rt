@@ -1,13 +1,12 @@
 //! `intern`: the symbol of a name in a package, new where there is none.
 ghost use Rattle.std.specs.Prelude.{◌≡◌, ◌<◌, All, Some, None, IfErr, IfOk, OnOk, bytes_eq};
-ghost use Rattle.std.specs.FinMap as finite;
 ghost use Rattle.package_table.specs.Table.{IsPackage, keyword, symbol_count};
 ghost use Rattle.package_table.specs.Lookup.{found};
 ghost use Rattle.package_table.specs.Changes.{after_intern, intern_changes, Gives};
 ghost use Rattle.package_table.specs.Growth.{Grows, IsSameBut, Tells};
-ghost use Rattle.package_table.specs.Numbers.{numbered, with_numbered};
+ghost use Rattle.package_table.specs.Numbers.{HasNumbers, numbered, with_numbered};
 ghost use Rattle.package_table.specs.Numbering.{Keeps, KeepsNumbers};
-ghost use Rattle.package_table.specs.Shown.{marked_tables};
+ghost use Rattle.package_table.specs.Shown.{SameMarks};
 
 use crate::journal::Mark;
 use crate::limits::{MAX_SYMBOL_NAME, MAX_SYMBOLS};
@@ -39,8 +38,8 @@ fn put_new(
     ensures ok { OnOk result (table.new ≡ with_numbered table.old owner.now name.now
         (record { home = owner.now; external = bytes_eq owner.now keyword }) number) }
     ensures err { IfErr result (λ _. table.new ≡ table.old) }
-    ensures packages { IfOk result (λ _. finite.contains_key table.old.1 owner.now ≡ finite.contains_key table.old.0 owner.now) }
-    ensures marked { marked_tables marks.new.items table.new ≡ marked_tables marks.old.items table.old }
+    ensures packages { IfOk result (λ _. HasNumbers table.old owner.now) }
+    ensures marked { SameMarks marks.old.items table.old marks.new.items table.new }
 {
     let external = owner == KEYWORD;
     put_symbol(alloc, table, marks, owner, owner, name, external, number)?;
@@ -58,12 +57,13 @@ fn intern_symbol(
     requires { count.old ≡ symbol_count table.old.0 }
     ensures gives { Gives (λ interned. (interned.home, table.new.0)) result
         (after_intern table.old.0 owner.now name.now) }
-    ensures is_new { IfOk result (λ interned. interned.is_new ≡ intern_changes table.old.0 owner.now name.now) }
+    ensures is_new { IfOk result
+        (λ interned. interned.is_new ≡ intern_changes table.old.0 owner.now name.now) }
     ensures unchanged { IfErr result (λ _. table.new ≡ table.old) }
     ensures counted { count.new ≡ symbol_count table.new.0 }
     ensures numbers { IfOk result (λ _. KeepsNumbers table.old count.old table.new count.new) }
     ensures uncounted { IfErr result (λ _. count.new ≡ count.old) }
-    ensures marked { marked_tables marks.new.items table.new ≡ marked_tables marks.old.items table.old }
+    ensures marked { SameMarks marks.old.items table.old marks.new.items table.new }
 {
     if !table.has_package(owner) {
         return Err(PackageError::NoSuchPackage);
@@ -99,9 +99,11 @@ impl Packages {
         requires { All (λ b. b < 128) name.now }
         ensures gives { Gives (λ interned. (interned.home, self.new.0)) result
             (after_intern self.old.0 owner.now name.now) }
-        ensures is_new { IfOk result (λ interned. interned.is_new ≡ intern_changes self.old.0 owner.now name.now) }
+        ensures is_new { IfOk result
+            (λ interned. interned.is_new ≡ intern_changes self.old.0 owner.now name.now) }
         ensures exactly { IfOk result (λ interned. Tells interned.is_new self.old.0 self.new.0) }
-        ensures finds { IfOk result (λ interned. found self.new.0 owner.now name.now ≡ Some interned.home) }
+        ensures finds { IfOk result
+            (λ interned. found self.new.0 owner.now name.now ≡ Some interned.home) }
         ensures others { IsSameBut self.old.0 self.new.0 owner.now name.now }
         ensures grows { Grows self.old.0 self.new.0 }
         ensures unchanged { IfErr result (λ _. self.new ≡ self.old) }

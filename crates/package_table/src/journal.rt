@@ -4,7 +4,7 @@ ghost use Rattle.package_table.specs.Numbers.{Numbered};
 ghost use Rattle.package_table.specs.Undo.{tables_at, undone};
 ghost use Rattle.package_table.specs.Shown.{change_of, has_room, marks_of};
 
-use crate::entry::Symbol;
+use crate::symbol::Symbol;
 use std::alloc::AllocError;
 
 /// One change, with what undoes it.

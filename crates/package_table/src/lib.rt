@@ -9,7 +9,7 @@
 //! - `packages`: `Packages`, and its calls
 //! - `queries`: what callers ask of them
 //! - `table`: `PackageTable`, the packages by their names, and the numbers of their symbols: how they are kept, it alone knows
-//! - `entry`: what a package has at the name of a symbol
+//! - `symbol`: what a package has at the name of a symbol
 //! - `standardized`, `limits`: the names of the first packages, and how much there may be
 //! - `find`, `resolve`: names of packages, and what the name in a token stands for; they take no memory
 //! - `make`, `intern`, `export`, `import`, `use_package`: the calls that write, over `put` (single changes, noted where there
@@ -33,10 +33,9 @@
 //! `user_is_package`. On lists that grow and shrink at their end, as journals do (proofs/Undoing.antt): `IsLast`, `at_last`,
 //! `no_more`, `take_seam`, `get_seam`, `on_ok`. On the order of names (proofs/Names.antt): `name_total`, `name_exact`. On
 //! numbers (proofs/Numbered.antt): `number_some`, `number_there`, `number_apart`, `number_kept`, `number_none`, `at_symbol`,
-//! `keeps_same`, `keeps_both`.
+//! `keeps_same`, `keeps_both`. On what COMMON-LISP has first (proofs/FirstNames.antt): `lisp_present`, `nil_present`.
 #![tactic(auto)]
 
-mod entry;
 mod error;
 mod export;
 mod find;
@@ -52,6 +51,7 @@ mod put;
 mod queries;
 mod resolve;
 pub mod standardized;
+mod symbol;
 mod table;
 mod undo;
 mod use_package;

@@ -1,11 +1,11 @@
 //! `make`: a new package.
-ghost use Rattle.std.specs.Prelude.{◌≡◌, ◌<◌, ℕ, All, IfErr, IfOk};
+ghost use Rattle.std.specs.Prelude.{◌≡◌, ◌<◌, All, IfErr, IfOk};
 ghost use Rattle.package_table.specs.Table.{IsSound, with_new_package};
 ghost use Rattle.package_table.specs.Changes.{after_make, Gives};
 ghost use Rattle.package_table.specs.Growth.{Grows};
 ghost use Rattle.package_table.specs.Numbers.{numbered};
-ghost use Rattle.package_table.specs.Numbering.{Keeps, KeepsNumbers};
-ghost use Rattle.package_table.specs.Shown.{marked_tables};
+ghost use Rattle.package_table.specs.Numbering.{Keeps, KeepsEachNumber};
+ghost use Rattle.package_table.specs.Shown.{SameMarks};
 
 use crate::find::package_name;
 use crate::journal::Mark;
@@ -42,8 +42,8 @@ fn make_package(
     ensures gives { Gives (λ _. table.new.0) result
         (after_make table.old.0 name.now) }
     ensures unchanged { IfErr result (λ _. table.new ≡ table.old) }
-    ensures numbers { IfOk result (λ _. (count : ℕ) → KeepsNumbers table.old count table.new count) }
-    ensures marked { marked_tables marks.new.items table.new ≡ marked_tables marks.old.items table.old }
+    ensures numbers { IfOk result (λ _. KeepsEachNumber table.old table.new) }
+    ensures marked { SameMarks marks.old.items table.old marks.new.items table.new }
 {
     make_refusal(table, name)?;
     let name = Vec::from_slice(alloc, name)?;

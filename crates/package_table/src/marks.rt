@@ -9,25 +9,26 @@ use crate::undo::undo_to;
 use std::alloc::AllocError;
 
 impl Packages {
-    /// Marks the packages as they are, so that `back_to` can go back to them, and gives the place of the mark. From then on
+    /// Marks the packages as they are, so that `back_to` can go back to them, and gives the number of the mark. From then on
     /// each call that writes notes what it changes.
     ///
     /// # Errors
     /// `AllocError` where memory runs out. Nothing is changed then.
     pub fn mark(&mut self) -> Result<usize, AllocError>
-        ensures ok { IfOk result (λ place. (place ≡ length self.old.1.marked) × (self.new ≡ with_mark self.old)) }
+        ensures ok { IfOk result
+            (λ mark. (mark ≡ length self.old.1.marked) × (self.new ≡ with_mark self.old)) }
         ensures err { IfErr result (λ _. self.new ≡ self.old) }
     {
-        let place = self.marks.len();
+        let mark = self.marks.len();
         self.marks.reserve(1)?;
         self.marks.push_reserved(Mark {
             notes: Vec::new(self.alloc),
             count: self.count,
         });
-        Ok(place)
+        Ok(mark)
     }
 
-    /// How many marks there are; their places are the numbers below. Takes no memory.
+    /// How many marks there are; they have the numbers below. Takes no memory.
     pub fn mark_count(&self) -> usize
         ensures { result ≡ length self.now.1.marked }
     {

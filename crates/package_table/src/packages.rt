@@ -1,10 +1,10 @@
 //! The packages, and the calls on them.
-ghost use Rattle.std.specs.Prelude.{◌≡◌, [], Ok, Err, map, IfOk, IfErr, IfSome, All, MatchResult, option_map};
+ghost use Rattle.std.specs.Prelude.{◌≡◌, [], IfOk, IfErr, IfSome, All, option_map};
 ghost use Rattle.package_table.specs.Table.{initial, is_locked, package_named, symbol_count, IsPackage, IsSound};
 ghost use Rattle.package_table.specs.Numbers.{numbered, without_marks};
 ghost use Rattle.package_table.specs.Numbering.{IsNumbered, IsNumberedSound};
-ghost use Rattle.package_table.specs.Resolving.{resolution, external_resolution, internal_resolution, resolution_of};
-ghost use Rattle.package_table.specs.Readers.{package_names, used_names, own_names, external_names, imports, ListRefused};
+ghost use Rattle.package_table.specs.Resolving.{resolution, external_resolution, internal_resolution, resolution_of, Answers};
+ghost use Rattle.package_table.specs.Readers.{names_of, package_names, used_names, own_names, external_names, imports, ListRefused};
 
 use crate::find::{is_locked, package_name};
 use crate::journal::Mark;
@@ -96,7 +96,7 @@ impl Packages {
 
     /// The same names in the same order, as the packages have them: no name is copied.
     pub fn package_names(&self, alloc: Global) -> Result<Vec<&[u8]>, AllocError>
-        ensures { IfOk result (λ names. map (λ n. n.now) names.items ≡ package_names self.now.0) }
+        ensures { IfOk result (λ names. names_of names.items ≡ package_names self.now.0) }
     {
         self.table.package_names(alloc)
     }
@@ -130,7 +130,7 @@ impl Packages {
     /// # Errors
     /// `NoSuchPackage` where no package has the name `owner`; `OutOfMemory` where memory runs out.
     pub fn own_names(&self, alloc: Global, owner: &[u8]) -> Result<Vec<&[u8]>, PackageError>
-        ensures list { IfOk result (λ names. map (λ n. n.now) names.items ≡ own_names self.now.0 owner.now) }
+        ensures list { IfOk result (λ names. names_of names.items ≡ own_names self.now.0 owner.now) }
         ensures there { IfOk result (λ _. IsPackage self.now.0 owner.now) }
         ensures refused { IfErr result (ListRefused self.now.0 owner.now) }
     {
@@ -154,7 +154,7 @@ impl Packages {
     /// # Errors
     /// `NoSuchPackage` where no package has the name `owner`; `OutOfMemory` where memory runs out.
     pub fn external_names(&self, alloc: Global, owner: &[u8]) -> Result<Vec<&[u8]>, PackageError>
-        ensures list { IfOk result (λ names. map (λ n. n.now) names.items ≡ external_names self.now.0 owner.now) }
+        ensures list { IfOk result (λ names. names_of names.items ≡ external_names self.now.0 owner.now) }
         ensures there { IfOk result (λ _. IsPackage self.now.0 owner.now) }
         ensures refused { IfErr result (ListRefused self.now.0 owner.now) }
     {
@@ -200,7 +200,7 @@ impl Packages {
     /// `LockedPackage` for a new name in COMMON-LISP.
     pub fn resolve(&self, current: &[u8], name: &[u8]) -> Result<Resolved<'_>, PackageError>
         requires { IsPackage self.now.0 current.now }
-        ensures { MatchResult result (λ r. resolution self.now.0 current.now name.now ≡ Ok (resolution_of r)) (λ e. resolution self.now.0 current.now name.now ≡ Err e) }
+        ensures { Answers resolution_of result (resolution self.now.0 current.now name.now) }
     {
         resolve_in(&self.table, current, name)
     }
@@ -211,7 +211,7 @@ impl Packages {
     /// # Errors
     /// `NoPackage` where `prefix` names no package, then `NotExternal` where `name` is not external there.
     pub fn resolve_external(&self, prefix: &[u8], name: &[u8]) -> Result<&[u8], PackageError>
-        ensures { MatchResult result (λ h. external_resolution self.now.0 prefix.now name.now ≡ Ok h.now) (λ e. external_resolution self.now.0 prefix.now name.now ≡ Err e) }
+        ensures { Answers (λ h. h.now) result (external_resolution self.now.0 prefix.now name.now) }
     {
         resolve_external(&self.table, prefix, name)
     }
@@ -222,7 +222,7 @@ impl Packages {
     /// # Errors
     /// `NoPackage` where `prefix` names no package, then `LockedPackage` for a new name in COMMON-LISP.
     pub fn resolve_internal(&self, prefix: &[u8], name: &[u8]) -> Result<Resolved<'_>, PackageError>
-        ensures { MatchResult result (λ r. internal_resolution self.now.0 prefix.now name.now ≡ Ok (resolution_of r)) (λ e. internal_resolution self.now.0 prefix.now name.now ≡ Err e) }
+        ensures { Answers resolution_of result (internal_resolution self.now.0 prefix.now name.now) }
     {
         resolve_internal(&self.table, prefix, name)
     }

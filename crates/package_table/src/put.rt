@@ -2,13 +2,13 @@
 ghost use Rattle.std.specs.Prelude.{◌≡◌, true, false, None, IfOk, OnOk, OnErr};
 ghost use Rattle.std.specs.FinMap as finite;
 ghost use Rattle.package_table.specs.Table.{IsExternal, IsPackage};
-ghost use Rattle.package_table.specs.Numbers.{with_numbered, with_package_made, with_use};
+ghost use Rattle.package_table.specs.Numbers.{HasNumbers, with_numbered, with_package_made, with_use};
 ghost use Rattle.package_table.specs.Lookup.{is_used};
-ghost use Rattle.package_table.specs.Entries.{entry_of};
-ghost use Rattle.package_table.specs.Shown.{marked_tables};
+ghost use Rattle.package_table.specs.Symbols.{present_of};
+ghost use Rattle.package_table.specs.Shown.{SameMarks};
 
-use crate::entry::Symbol;
 use crate::journal::{Mark, Note, push_note, reserve_note};
+use crate::symbol::Symbol;
 use crate::table::PackageTable;
 use std::alloc::{AllocError, Global};
 
@@ -22,7 +22,7 @@ pub(crate) fn put_package(
     requires { finite.get table.old.0 name.items ≡ None }
     ensures ok { OnOk result (table.new ≡ with_package_made table.old name.items) }
     ensures err { OnErr result (table.new ≡ table.old) }
-    ensures marked { marked_tables marks.new.items table.new ≡ marked_tables marks.old.items table.old }
+    ensures marked { SameMarks marks.old.items table.old marks.new.items table.new }
 {
     if marks.is_empty() {
         return table.insert_package(alloc, name);
@@ -46,10 +46,10 @@ fn put_entry(
     requires package { IsPackage table.old.0 owner.now }
     requires shown { IsExternal table.old.0 owner.now name.now → symbol.external ≡ true }
     ensures ok { OnOk result (table.new
-        ≡ with_numbered table.old owner.now name.now (entry_of symbol) symbol.number) }
+        ≡ with_numbered table.old owner.now name.now (present_of symbol) symbol.number) }
     ensures err { OnErr result (table.new ≡ table.old) }
-    ensures packages { IfOk result (λ _. finite.contains_key table.old.1 owner.now ≡ finite.contains_key table.old.0 owner.now) }
-    ensures marked { marked_tables marks.new.items table.new ≡ marked_tables marks.old.items table.old }
+    ensures packages { IfOk result (λ _. HasNumbers table.old owner.now) }
+    ensures marked { SameMarks marks.old.items table.old marks.new.items table.new }
 {
     if marks.is_empty() {
         table.insert_entry(alloc, owner, name, symbol)?;
@@ -87,8 +87,8 @@ pub(crate) fn put_symbol(
     ensures ok { OnOk result (table.new
         ≡ with_numbered table.old owner.now name.now (record { home = home.now; external = external }) number) }
     ensures err { OnErr result (table.new ≡ table.old) }
-    ensures packages { IfOk result (λ _. finite.contains_key table.old.1 owner.now ≡ finite.contains_key table.old.0 owner.now) }
-    ensures marked { marked_tables marks.new.items table.new ≡ marked_tables marks.old.items table.old }
+    ensures packages { IfOk result (λ _. HasNumbers table.old owner.now) }
+    ensures marked { SameMarks marks.old.items table.old marks.new.items table.new }
 {
     let symbol = Symbol {
         home: table.shared_name(alloc, home)?,
@@ -110,7 +110,7 @@ pub(crate) fn put_use(
     requires unused { is_used table.old.0 owner.now used.items ≡ false }
     ensures ok { OnOk result (table.new ≡ with_use table.old owner.now used.items) }
     ensures err { OnErr result (table.new ≡ table.old) }
-    ensures marked { marked_tables marks.new.items table.new ≡ marked_tables marks.old.items table.old }
+    ensures marked { SameMarks marks.old.items table.old marks.new.items table.new }
 {
     if marks.is_empty() {
         return table.insert_use(owner, used);

@@ -1,7 +1,7 @@
 //! What the name in a token stands for (standard 2.3.5).
-ghost use Rattle.std.specs.Prelude.{◌≡◌, Ok, Err, MatchResult};
+ghost use Rattle.std.specs.Prelude.{◌≡◌};
 ghost use Rattle.package_table.specs.Table.{IsPackage};
-ghost use Rattle.package_table.specs.Resolving.{resolution, external_resolution, internal_resolution, resolution_of};
+ghost use Rattle.package_table.specs.Resolving.{resolution, external_resolution, internal_resolution, resolution_of, Answers};
 
 use crate::PackageError;
 use crate::find::package_name;
@@ -24,7 +24,7 @@ pub(crate) fn resolve_in<'a>(
     name: &[u8],
 ) -> Result<Resolved<'a>, PackageError>
     requires { IsPackage table.now.0 owner.now }
-    ensures { MatchResult result (λ r. resolution table.now.0 owner.now name.now ≡ Ok (resolution_of r)) (λ e. resolution table.now.0 owner.now name.now ≡ Err e) }
+    ensures { Answers resolution_of result (resolution table.now.0 owner.now name.now) }
 {
     if let Some(home) = table.home_of(owner, name) {
         return Ok(Resolved::Found(home));
@@ -44,7 +44,7 @@ pub(crate) fn resolve_external<'a>(
     prefix: &[u8],
     name: &[u8],
 ) -> Result<&'a [u8], PackageError>
-    ensures { MatchResult result (λ h. external_resolution table.now.0 prefix.now name.now ≡ Ok h.now) (λ e. external_resolution table.now.0 prefix.now name.now ≡ Err e) }
+    ensures { Answers (λ h. h.now) result (external_resolution table.now.0 prefix.now name.now) }
 {
     let Some(owner) = package_name(table, prefix) else {
         return Err(PackageError::NoPackage);
@@ -61,7 +61,7 @@ pub(crate) fn resolve_internal<'a>(
     prefix: &[u8],
     name: &[u8],
 ) -> Result<Resolved<'a>, PackageError>
-    ensures { MatchResult result (λ r. internal_resolution table.now.0 prefix.now name.now ≡ Ok (resolution_of r)) (λ e. internal_resolution table.now.0 prefix.now name.now ≡ Err e) }
+    ensures { Answers resolution_of result (internal_resolution table.now.0 prefix.now name.now) }
 {
     match package_name(table, prefix) {
         Some(owner) => resolve_in(table, owner, name),

@@ -1,11 +1,11 @@
 //! `use_package`: a package uses another.
-ghost use Rattle.std.specs.Prelude.{◌≡◌, ℕ, if◌then◌else◌, IfErr, IfOk};
+ghost use Rattle.std.specs.Prelude.{◌≡◌, if◌then◌else◌, IfErr, IfOk};
 ghost use Rattle.package_table.specs.Table.{with_used};
-ghost use Rattle.package_table.specs.Changes.{after_use, use_changes, Gives, RunsOutOnlyIf};
+ghost use Rattle.package_table.specs.Changes.{after_use, use_changes, Gives, RunsOutOnlyIf, TellsChange, Yields};
 ghost use Rattle.package_table.specs.Growth.{Grows, Tells};
 ghost use Rattle.package_table.specs.Numbers.{numbered};
-ghost use Rattle.package_table.specs.Numbering.{Keeps, KeepsNumbers};
-ghost use Rattle.package_table.specs.Shown.{marked_tables};
+ghost use Rattle.package_table.specs.Numbering.{Keeps, KeepsEachNumber};
+ghost use Rattle.package_table.specs.Shown.{SameMarks};
 
 use crate::find::is_locked;
 use crate::journal::Mark;
@@ -20,8 +20,7 @@ fn use_refusal(table: &PackageTable, owner: &[u8], used: &[u8]) -> Result<bool, 
     ensures gives { let t = table.now.0 in
         Gives (λ changes. if changes then with_used t owner.now used.now else t) result
         (after_use t owner.now used.now) }
-    ensures changes { IfOk result (λ changes. changes ≡ use_changes table.now.0 owner.now used.now) }
-    ensures memory { IfErr result (RunsOutOnlyIf (use_changes table.now.0 owner.now used.now)) }
+    ensures changes { TellsChange (use_changes table.now.0 owner.now used.now) result }
 {
     if !table.has_package(owner) || !table.has_package(used) {
         return Err(PackageError::NoSuchPackage);
@@ -47,11 +46,10 @@ fn use_other(
 ) -> Result<bool, PackageError>
     ensures gives { Gives (λ _. table.new.0) result
         (after_use table.old.0 owner.now used.now) }
-    ensures changed { IfOk result (λ changed. changed ≡ use_changes table.old.0 owner.now used.now) }
-    ensures memory { IfErr result (RunsOutOnlyIf (use_changes table.old.0 owner.now used.now)) }
+    ensures changed { TellsChange (use_changes table.old.0 owner.now used.now) result }
     ensures unchanged { IfErr result (λ _. table.new ≡ table.old) }
-    ensures numbers { IfOk result (λ _. (count : ℕ) → KeepsNumbers table.old count table.new count) }
-    ensures marked { marked_tables marks.new.items table.new ≡ marked_tables marks.old.items table.old }
+    ensures numbers { IfOk result (λ _. KeepsEachNumber table.old table.new) }
+    ensures marked { SameMarks marks.old.items table.old marks.new.items table.new }
 {
     if !use_refusal(table, owner, used)? {
         return Ok(false);
@@ -70,7 +68,7 @@ impl Packages {
     /// in `used`; `OutOfMemory` where memory runs out. Nothing is changed then.
     pub fn use_package(&mut self, owner: &[u8], used: &[u8]) -> Result<bool, PackageError>
         ensures gives { Gives (λ _. self.new.0) result (after_use self.old.0 owner.now used.now) }
-        ensures changed { IfOk result (λ changed. changed ≡ use_changes self.old.0 owner.now used.now) }
+        ensures changed { Yields result (use_changes self.old.0 owner.now used.now) }
         ensures exactly { IfOk result (λ changed. Tells changed self.old.0 self.new.0) }
         ensures grows { Grows self.old.0 self.new.0 }
         ensures memory { IfErr result (RunsOutOnlyIf (use_changes self.old.0 owner.now used.now)) }

@@ -16,7 +16,7 @@ use Rattle.std.specs.FinMap.{find, is_sorted, contains_key-keys, get-entries, en
 use Rattle.std.specs.FinMap.Entries.{below_all}
 use Rattle.std.proofs.lemmas.Bool.{false≢true, and_parts, and_from}
 use Rattle.std.proofs.lemmas.List.Folds.{list_any-append}
-use Rattle.package_table.specs.Table.{Name, name_cmp, Entry, Package, Table}
+use Rattle.package_table.specs.Table.{Name, name_cmp, Present, Package, Table}
 use Rattle.package_table.specs.Lookup.{is_symbol}
 use Rattle.package_table.specs.Readers.{package_names, own_names, own_among}
 use Rattle.plist_state.specs.Properties.{Symbol, Plist, symbol_cmp}
@@ -25,16 +25,16 @@ use Rattle.plist_state.proofs.Orders.{name_total, one_name, one_symbol}
 
 -- ---- a symbol that is there is among them
 -- a name of an entry that passes
-among_own : (h n : Name) (e : Entry) (es : List (Name × Entry)) → bytes_eq e.home h ≡ true → find name_cmp n es ≡ Some e → list_any (eq_by_cmp name_cmp n) (own_among h es) ≡ true
+among_own : (h n : Name) (e : Present) (es : List (Name × Present)) → bytes_eq e.home h ≡ true → find name_cmp n es ≡ Some e → list_any (eq_by_cmp name_cmp n) (own_among h es) ≡ true
 among_own h n e [] home found = absurd (false≢true (ap is_some found))
 among_own h n e (x ∷ xs) home found =
     elim (eq_by_cmp name_cmp n x.0) as (λ b. eq_by_cmp name_cmp n x.0 ≡ b → cond b (Some x.1) (find name_cmp n xs) ≡ Some e → list_any (eq_by_cmp name_cmp n) (own_among h (x ∷ xs)) ≡ true) [
       | true ↦ λ t same.
           let passes : bytes_eq x.1.home h ≡ true = ap (λ o. bytes_eq (unwrap_or o e).home h) same ∙ home in
-          ap (λ b. list_any (eq_by_cmp name_cmp n) (map (λ (s : Name × Entry). s.0) (cond b (x ∷ filter (λ s. bytes_eq s.1.home h) xs) (filter (λ s. bytes_eq s.1.home h) xs)))) passes
+          ap (λ b. list_any (eq_by_cmp name_cmp n) (map (λ (s : Name × Present). s.0) (cond b (x ∷ filter (λ s. bytes_eq s.1.home h) xs) (filter (λ s. bytes_eq s.1.home h) xs)))) passes
           ∙ ap (λ b. b || list_any (eq_by_cmp name_cmp n) (own_among h xs)) t
       | false ↦ λ t later.
-          elim (bytes_eq x.1.home h) as (λ b. list_any (eq_by_cmp name_cmp n) (map (λ (s : Name × Entry). s.0) (cond b (x ∷ filter (λ s. bytes_eq s.1.home h) xs) (filter (λ s. bytes_eq s.1.home h) xs))) ≡ true) [
+          elim (bytes_eq x.1.home h) as (λ b. list_any (eq_by_cmp name_cmp n) (map (λ (s : Name × Present). s.0) (cond b (x ∷ filter (λ s. bytes_eq s.1.home h) xs) (filter (λ s. bytes_eq s.1.home h) xs))) ≡ true) [
             | true ↦ ap (λ b. b || list_any (eq_by_cmp name_cmp n) (own_among h xs)) t ∙ among_own h n e xs home later
             | false ↦ among_own h n e xs home later
           ]
@@ -77,10 +77,10 @@ among_homes t h n (p ∷ ps) among own =
 
 pub symbol_among : (t : Table) (x : Symbol) → is_symbol t x.0 x.1 ≡ true → list_any (eq_by_cmp symbol_cmp x) (symbols t) ≡ true
 symbol_among t x there =
-    elim (finite.get t x.0) as (λ o. finite.get t x.0 ≡ o → option_map_or (λ (e : Entry). bytes_eq e.home x.0) (option_and_then (λ (k : Package). finite.get k.symbols x.1) o) false ≡ true → list_any (eq_by_cmp symbol_cmp x) (symbols t) ≡ true) [
+    elim (finite.get t x.0) as (λ o. finite.get t x.0 ≡ o → option_map_or (λ (e : Present). bytes_eq e.home x.0) (option_and_then (λ (k : Package). finite.get k.symbols x.1) o) false ≡ true → list_any (eq_by_cmp symbol_cmp x) (symbols t) ≡ true) [
       | None ↦ λ _ e. absurd (false≢true e)
       | Some k ↦ λ has e.
-          elim (finite.get k.symbols x.1) as (λ o. finite.get k.symbols x.1 ≡ o → option_map_or (λ (e : Entry). bytes_eq e.home x.0) o false ≡ true → list_any (eq_by_cmp symbol_cmp x) (symbols t) ≡ true) [
+          elim (finite.get k.symbols x.1) as (λ o. finite.get k.symbols x.1 ≡ o → option_map_or (λ (e : Present). bytes_eq e.home x.0) o false ≡ true → list_any (eq_by_cmp symbol_cmp x) (symbols t) ≡ true) [
             | None ↦ λ _ f. absurd (false≢true f)
             | Some d ↦ λ at home.
                 let here : list_any (eq_by_cmp name_cmp x.0) (package_names t) ≡ true = sym (contains_key-keys t x.0) ∙ ap is_some has in

@@ -62,14 +62,14 @@ plist_grown t u grows ps is = record {
 
 pub symbol_is : (t : packages.Table) (h n : Name) → is_symbol t h n ≡ true → IsPresent t h n h
 symbol_is t h n e =
-    elim (packages.entry_at t h n) as (λ o. option_map_or (λ (k : packages.Entry). bytes_eq k.home h) o false ≡ true → option_map (λ (k : packages.Entry). k.home) o ≡ Some h) [
+    elim (packages.entry_at t h n) as (λ o. option_map_or (λ (k : packages.Present). bytes_eq k.home h) o false ≡ true → option_map (λ (k : packages.Present). k.home) o ≡ Some h) [
       | None ↦ λ e. absurd (false≢true e)
       | Some k ↦ λ e. ap Some (equal_names k.home h e)
     ] e
 
 pub symbol_from : (t : packages.Table) (h n : Name) → IsPresent t h n h → is_symbol t h n ≡ true
 symbol_from t h n e =
-    elim (packages.entry_at t h n) as (λ o. option_map (λ (k : packages.Entry). k.home) o ≡ Some h → option_map_or (λ (k : packages.Entry). bytes_eq k.home h) o false ≡ true) [
+    elim (packages.entry_at t h n) as (λ o. option_map (λ (k : packages.Present). k.home) o ≡ Some h → option_map_or (λ (k : packages.Present). bytes_eq k.home h) o false ≡ true) [
       | None ↦ λ e. absurd (false≢true (ap is_some e))
       | Some k ↦ λ e. ap (λ y. bytes_eq y h) (ap (λ o. unwrap_or o h) e) ∙ equal_itself h
     ] e

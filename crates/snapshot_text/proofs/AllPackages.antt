@@ -6,7 +6,7 @@
 use Rattle.std.proofs.Common.{◌≡◌, ◌≢◌, ℕ, ◌<◌, List, [], true, Some, length, get_or, is_some, sym, ap, subst, ◌∙◌, inl, inr, arith}
 use Rattle.std.specs.Prelude.{All, option_map, option_and_then}
 use Rattle.std.specs.FinMap as finite
-use Rattle.package_table.specs.Table.{Name, Entry, Package, Table, common_lisp, IsPackage, IsPresent, IsSound}
+use Rattle.package_table.specs.Table.{Name, Present, Package, Table, common_lisp, IsPackage, IsPresent, IsSound}
 use Rattle.package_table.proofs.Frames.{name_cases}
 use Rattle.package_table.proofs.KeptSound.{used_is_package}
 use Rattle.package_table.proofs.Names.{same_some}
@@ -21,10 +21,10 @@ module _ (t s : Table) (sound_t : IsSound t) (sound_s : IsSound s) where
   same_lisp = sound_s.first.fixed ∙ sym sound_t.first.fixed
 
   lisp_symbols : HasSymbols t s common_lisp
-  lisp_symbols = record { names = λ n h there. ap (λ o. option_map (λ (e : Entry). e.home) (option_and_then (λ (k : Package). finite.get k.symbols n) o)) (sym same_lisp) ∙ there }
+  lisp_symbols = record { names = λ n h there. ap (λ o. option_map (λ (e : Present). e.home) (option_and_then (λ (k : Package). finite.get k.symbols n) o)) (sym same_lisp) ∙ there }
 
   lisp_externals : HasExternals t s common_lisp
-  lisp_externals = record { names = λ n there. ap (λ o. option_map (λ (e : Entry). e.external) (option_and_then (λ (k : Package). finite.get k.symbols n) o)) (sym same_lisp) ∙ there }
+  lisp_externals = record { names = λ n there. ap (λ o. option_map (λ (e : Present). e.external) (option_and_then (λ (k : Package). finite.get k.symbols n) o)) (sym same_lisp) ∙ there }
 
   lisp_uses : HasUses t s common_lisp
   lisp_uses = record { names = λ q there. ap (λ o. option_map (λ (k : Package). finite.contains_key k.uses q) o) (sym same_lisp) ∙ there }
@@ -79,7 +79,7 @@ pub same_packages : (t s : Table) → IsBegun t s → Everywhere s (HasSymbols t
 same_packages t s begun symbols externals uses = same_parts t s begun.part (record {
   packages = λ p there. (begun.own p there).there;
   symbols = λ p n e at.
-      let here : IsPresent s p n e.home = ap (option_map (λ (e : Entry). e.home)) at in
+      let here : IsPresent s p n e.home = ap (option_map (λ (e : Present). e.home)) at in
       let owner = present_package s p n e.home here in
       let f = present_entry t p n e.home ((symbols p owner).names n e.home here) in (
         f.0,
@@ -87,7 +87,7 @@ same_packages t s begun symbols externals uses = same_parts t s begun.part (reco
         record {
           home = sym f.2;
           external = λ shown.
-              same_some f.0.external true (sym (ap (option_map (λ (e : Entry). e.external)) f.1) ∙ (externals p owner).names n (ap (option_map (λ (e : Entry). e.external)) at ∙ ap (λ b. Some b) shown));
+              same_some f.0.external true (sym (ap (option_map (λ (e : Present). e.external)) f.1) ∙ (externals p owner).names n (ap (option_map (λ (e : Present). e.external)) at ∙ ap (λ b. Some b) shown));
         },
       );
   uses = λ p q used. (uses p (used_is_package s p q used)).names q used;

@@ -4,7 +4,7 @@ use Rattle.std.specs.Prelude.{Ok, Err, if◌then◌else◌, bytes_eq, option_map
 use Rattle.std.specs.Option.{option_map_or}
 use Rattle.package_table.specs.declared.error.PackageError.TheVariants.{NoSuchPackage, PackageIsLocked, Limit}
 use Rattle.package_table.specs.Limits.{most_symbols, longest_symbol_name}
-use Rattle.package_table.specs.Table.{Name, Table, Entry, common_lisp, keyword, IsPackage, IsPresent, IsExternal, IsSound, symbol_count}
+use Rattle.package_table.specs.Table.{Name, Table, Present, common_lisp, keyword, IsPackage, IsPresent, IsExternal, IsSound, symbol_count}
 use Rattle.package_table.specs.Changes.{after_intern, after_export, with_external, with_new_symbol}
 use Rattle.package_table.proofs.Found.{present_found}
 use Rattle.snapshot_text.specs.Part.{IsPartOf}
@@ -26,7 +26,7 @@ module _ (t s : Table) (p n : Name) (begun : IsBegun t s) (has : HasSymbols t s 
   home = (external_entry s p n shown).0.home
 
   got : IsPresent s p n home
-  got = ap (option_map (λ (e : Entry). e.home)) (external_entry s p n shown).1
+  got = ap (option_map (λ (e : Present). e.home)) (external_entry s p n shown).1
 
   there : IsPackage t p
   there = (begun.own p (present_package s p n home got)).there

@@ -13,7 +13,7 @@ use Rattle.std.proofs.lemmas.List.Elements.{All-nil, All-cons}
 use Rattle.lisp_object.specs.declared.datum.Datum.{Datum}
 use Rattle.lisp_object.specs.Object.{text}
 use Rattle.lisp_object.specs.Datum.{object_of, is_proper}
-use Rattle.package_table.specs.Table.{Name, name_cmp, Entry, Package, Table, entry_at, IsPackage, IsPresent, HasFirst, initial}
+use Rattle.package_table.specs.Table.{Name, name_cmp, Present, Package, Table, entry_at, IsPackage, IsPresent, HasFirst, initial}
 use Rattle.package_table.specs.Lookup.{is_present}
 use Rattle.package_table.specs.Readers.{own_names}
 use Rattle.package_table.specs.Growth.{Grows}
@@ -32,7 +32,7 @@ use Rattle.snapshot_text.proofs.PartSame.{first_part}
 
 -- ---- the names of a package's own symbols
 
-abbrev at_home : Name → Entry → Bool
+abbrev at_home : Name → Present → Bool
 at_home p e = bytes_eq e.home p
 
 own_listed : (s : Table) (p n : Name) → list_any (eq n) (own_names s p) ≡ option_map_or (at_home p) (entry_at s p n) false
@@ -46,7 +46,7 @@ own_listed s p n =
 
 own_there : (s : Table) (p n : Name) → list_any (eq n) (own_names s p) ≡ true → IsPresent s p n p
 own_there s p n listed =
-    elim (entry_at s p n) as (λ o. option_map_or (at_home p) o false ≡ true → option_map (λ (e : Entry). e.home) o ≡ Some p) [
+    elim (entry_at s p n) as (λ o. option_map_or (at_home p) o false ≡ true → option_map (λ (e : Present). e.home) o ≡ Some p) [
       | None ↦ λ e. absurd (false≢true e)
       | Some e ↦ λ home. ap (λ h. Some h) (equal_names e.home p home)
     ] (sym (own_listed s p n) ∙ listed)
@@ -116,6 +116,6 @@ own_all t u s first grows part p ds names are here = record {
         elim (entry_at initial p n) as (λ o. entry_at initial p n ≡ o → is_some o ≡ true → IsPresent u p n p) [
           | None ↦ λ _ no. absurd (false≢true no)
           | Some e ↦ λ is _.
-              let was : IsPresent u p n e.home = grows.homes p n e.home (present_more initial t (first_part t first) p n e.home (ap (option_map (λ (e : Entry). e.home)) is)) in
+              let was : IsPresent u p n e.home = grows.homes p n e.home (present_more initial t (first_part t first) p n e.home (ap (option_map (λ (e : Present). e.home)) is)) in
               subst (λ (h : Name). IsPresent u p n h) (present_once s p n e.home p (present_more u s part p n e.home was) home) was
         ] refl old

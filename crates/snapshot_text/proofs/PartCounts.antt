@@ -10,7 +10,7 @@ use Rattle.std.specs.Ordering.{is_eq, eq_by_cmp}
 use Rattle.std.specs.FinMap as finite
 use Rattle.std.specs.FinMap.Entries.{find, is_sorted, below_all}
 use Rattle.package_table.specs.Limits.{most_packages, most_symbols}
-use Rattle.package_table.specs.Table.{Name, name_cmp, Entry, Package, Table, entry_at, IsPackage, IsPresent, IsWithin, symbol_count, own_count, with_entry, with_new_package}
+use Rattle.package_table.specs.Table.{Name, name_cmp, Present, Package, Table, entry_at, IsPackage, IsPresent, IsWithin, symbol_count, own_count, with_entry, with_new_package}
 use Rattle.package_table.proofs.Names.{name_total, name_exact, tied_same, same_tied, same_some, none_some}
 use Rattle.package_table.proofs.Frames.{not_same, package_there}
 use Rattle.package_table.proofs.Counting.{first_of_both, second_of_both, below, weight, at_home, symbols_new, len_with_new}
@@ -106,7 +106,7 @@ len_as_sum : (t : Table) → finite.len t ≡ weight (λ _ _. 1) (finite.entries
 len_as_sum t = finite.len-entries t ∙ length_as_sum (finite.entries t)
 
 own_as_sum : (p : Name) (k : Package) → own_count p k ≡ weight (λ _ e. at_home p e) (finite.entries k.symbols)
-own_as_sum p k = length-filter (λ (s : Name × Entry). bytes_eq s.1.home p) (finite.entries k.symbols)
+own_as_sum p k = length-filter (λ (s : Name × Present). bytes_eq s.1.home p) (finite.entries k.symbols)
 
 module _ (t s : Table) (part : IsPartOf t s) where
   package_too : (p : Name) (k : Package) → finite.get t p ≡ Some k → (l : Package) × (finite.get s p ≡ Some l)
@@ -140,7 +140,7 @@ module _ (t s : Table) (part : IsPartOf t s) (within : IsWithin s) where
   pub room_for_symbol : (p n : Name) → IsPackage t p → entry_at t p n ≡ None → IsPresent s p n p → symbol_count t < most_symbols
   room_for_symbol p n here absent there =
       let f = present_entry s p n p there in
-      let e : Entry = record { home = p; external = false } in
+      let e : Present = record { home = p; external = false } in
       let after = part_with_entry t s part p n e f.0 here f.1 (record { home = sym f.2; external = λ shown. absurd (false≢true shown) }) in
       let more = symbols_new t p n e here absent refl in
       let fewer = symbols_part (with_entry t p n e) s after in

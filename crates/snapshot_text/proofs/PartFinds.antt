@@ -5,7 +5,7 @@
 use Rattle.std.proofs.Common.{◌≡◌, Bool, true, false, not, None, Some, IsTrue, bytes_eq, is_some, refl, sym, ap, ◌∙◌, inl, inr}
 use Rattle.std.specs.Option.{option_map, option_map_or, option_and_then}
 use Rattle.std.specs.FinMap as finite
-use Rattle.package_table.specs.Table.{Name, Entry, Package, Table, entry_at, IsPackage, IsPresent, IsExternal, Uses, Finds, IsJoined, IsSound}
+use Rattle.package_table.specs.Table.{Name, Present, Package, Table, entry_at, IsPackage, IsPresent, IsExternal, Uses, Finds, IsJoined, IsSound}
 use Rattle.package_table.specs.Lookup.{found}
 use Rattle.package_table.specs.Changes.{finds_other, user_finds_other, finds_other_than_shown}
 use Rattle.package_table.proofs.Names.{same_some, none_some}
@@ -15,16 +15,16 @@ use Rattle.package_table.proofs.Asked.{users_other, shown_other}
 use Rattle.snapshot_text.specs.Part.{IsPartOf}
 
 -- what is at the name of a symbol that is present
-pub present_entry : (t : Table) (p n h : Name) → IsPresent t p n h → (e : Entry) × (entry_at t p n ≡ Some e) × (e.home ≡ h)
+pub present_entry : (t : Table) (p n h : Name) → IsPresent t p n h → (e : Present) × (entry_at t p n ≡ Some e) × (e.home ≡ h)
 present_entry t p n h there =
-    elim (entry_at t p n) as (λ o. entry_at t p n ≡ o → option_map (λ (e : Entry). e.home) o ≡ Some h → (e : Entry) × (entry_at t p n ≡ Some e) × (e.home ≡ h)) [
+    elim (entry_at t p n) as (λ o. entry_at t p n ≡ o → option_map (λ (e : Present). e.home) o ≡ Some h → (e : Present) × (entry_at t p n ≡ Some e) × (e.home ≡ h)) [
       | None ↦ λ _ no. absurd (none_some h no)
       | Some e ↦ λ is home. (e, is, same_some e.home h home)
     ] refl there
 
-pub external_entry : (t : Table) (p n : Name) → IsExternal t p n → (e : Entry) × (entry_at t p n ≡ Some e) × (e.external ≡ true)
+pub external_entry : (t : Table) (p n : Name) → IsExternal t p n → (e : Present) × (entry_at t p n ≡ Some e) × (e.external ≡ true)
 external_entry t p n shown =
-    elim (entry_at t p n) as (λ o. entry_at t p n ≡ o → option_map (λ (e : Entry). e.external) o ≡ Some true → (e : Entry) × (entry_at t p n ≡ Some e) × (e.external ≡ true)) [
+    elim (entry_at t p n) as (λ o. entry_at t p n ≡ o → option_map (λ (e : Present). e.external) o ≡ Some true → (e : Present) × (entry_at t p n ≡ Some e) × (e.external ≡ true)) [
       | None ↦ λ _ no. absurd (none_some true no)
       | Some e ↦ λ is external. (e, is, same_some e.external true external)
     ] refl shown
@@ -32,7 +32,7 @@ external_entry t p n shown =
 -- a package where a symbol is present
 pub present_package : (t : Table) (p n h : Name) → IsPresent t p n h → IsPackage t p
 present_package t p n h there =
-    elim (finite.get t p) as (λ o. option_map (λ (e : Entry). e.home) (option_and_then (λ (k : Package). finite.get k.symbols n) o) ≡ Some h → IsTrue (is_some o)) [
+    elim (finite.get t p) as (λ o. option_map (λ (e : Present). e.home) (option_and_then (λ (k : Package). finite.get k.symbols n) o) ≡ Some h → IsTrue (is_some o)) [
       | None ↦ λ no. absurd (none_some h no)
       | Some k ↦ λ _. refl
     ] there
@@ -46,13 +46,13 @@ module _ (t s : Table) (part : IsPartOf t s) where
   present_more p n h there =
       let e = present_entry t p n h there in
       let f = part.symbols p n e.0 e.1 in
-      ap (option_map (λ (e : Entry). e.home)) f.1 ∙ ap (λ h. Some h) (sym f.2.home ∙ e.2)
+      ap (option_map (λ (e : Present). e.home)) f.1 ∙ ap (λ h. Some h) (sym f.2.home ∙ e.2)
 
   pub external_more : (p n : Name) → IsExternal t p n → IsExternal s p n
   external_more p n shown =
       let e = external_entry t p n shown in
       let f = part.symbols p n e.0 e.1 in
-      ap (option_map (λ (e : Entry). e.external)) f.1 ∙ ap (λ b. Some b) (f.2.external e.2)
+      ap (option_map (λ (e : Present). e.external)) f.1 ∙ ap (λ b. Some b) (f.2.external e.2)
 
   pub finds_more : (p n h : Name) → Finds t p n h → Finds s p n h
   finds_more p n h (inl here) = inl (present_more p n h here)

@@ -11,7 +11,7 @@ use Rattle.std.proofs.lemmas.Bool.{false≢true}
 use Rattle.package_table.specs.declared.error.PackageError.{PackageError}
 use Rattle.package_table.specs.declared.error.PackageError.TheVariants.{EmptyName, NoSuchPackage, PackageExists, PackageIsLocked, Limit, OutOfMemory}
 use Rattle.package_table.specs.Limits.{most_packages, most_symbols, longest_package_name, longest_symbol_name}
-use Rattle.package_table.specs.Table.{Name, Entry, Table, entry_at, common_lisp, keyword, package_named, IsPackage, IsPresent, IsExternal, IsSound, IsPackageName, symbol_count, with_new_package, empty_package}
+use Rattle.package_table.specs.Table.{Name, Present, Table, entry_at, common_lisp, keyword, package_named, IsPackage, IsPresent, IsExternal, IsSound, IsPackageName, symbol_count, with_new_package, empty_package}
 use Rattle.package_table.specs.Lookup.{found}
 use Rattle.package_table.specs.Changes.{after_make, after_intern, with_new_symbol, Gives}
 use Rattle.package_table.proofs.Names.{same_some}
@@ -97,7 +97,7 @@ module _ (t s : Table) (part : IsPartOf t s) (sound : IsSound s) where
             let other : bytes_eq p common_lisp ≡ false = not_equal p common_lisp lisp in
             let short = not_long longest_symbol_name (length n) (sound.within.symbol_names p n p there).short in
             let few = not_full most_symbols (symbol_count t) (room_for_symbol t s part sound.within p n here empty there) in
-            let e : Entry = record { home = p; external = bytes_eq p keyword } in
+            let e : Present = record { home = p; external = bytes_eq p keyword } in
             let f = present_entry s p n p there in (
               with_new_symbol t p n,
               record {
@@ -110,7 +110,7 @@ module _ (t s : Table) (part : IsPartOf t s) (sound : IsSound s) where
                   home = sym f.2;
                   external = λ key.
                       let shown : IsExternal s p n = subst (λ (x : Name). IsPresent s x n x → IsExternal s x n) (sym (equal_names p keyword key)) (sound.first.shown n keyword) there in
-                      same_some f.0.external true (sym (ap (option_map (λ (e : Entry). e.external)) f.1) ∙ shown);
+                      same_some f.0.external true (sym (ap (option_map (λ (e : Present). e.external)) f.1) ∙ shown);
                 });
                 home = new_home t p n e here;
               },

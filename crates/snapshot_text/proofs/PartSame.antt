@@ -8,7 +8,7 @@ use Rattle.std.specs.Ordering.{eq_by_cmp}
 use Rattle.std.specs.FinMap as finite
 use Rattle.std.specs.FinMap.{same_map, get-empty, get-from_entries}
 use Rattle.std.proofs.lemmas.Bool.{false≢true}
-use Rattle.package_table.specs.Table.{Name, name_cmp, Entry, Package, Table, entry_at, IsPackage, IsExternal, Uses, HasFirst, common_lisp, common_lisp_user, keyword, common_lisp_package, user_package, keyword_package, keyword_names, initial}
+use Rattle.package_table.specs.Table.{Name, name_cmp, Present, Package, Table, entry_at, IsPackage, IsExternal, Uses, HasFirst, common_lisp, common_lisp_user, keyword, common_lisp_package, user_package, keyword_package, keyword_names, initial}
 use Rattle.package_table.proofs.Names.{name_total, name_exact, tied_same, same_some, none_some}
 use Rattle.package_table.proofs.Frames.{package_there}
 use Rattle.package_table.proofs.KeptSound.{used_is_package}
@@ -29,7 +29,7 @@ same_truth true b f g = sym (f refl)
 same_truth false true f g = g refl
 same_truth false false f g = refl
 
-same_entry : (e f : Entry) → IsAsFar e f → IsAsFar f e → e ≡ f
+same_entry : (e f : Present) → IsAsFar e f → IsAsFar f e → e ≡ f
 same_entry e f a b = let external = same_truth e.external f.external a.external b.external in λ i. record { home = a.home i; external = external i }
 
 same_unit : (a b : Option (Unit {0})) → is_some a ≡ is_some b → a ≡ b
@@ -52,12 +52,12 @@ module _ (t s : Table) (a : IsPartOf t s) (b : IsPartOf s t) (p : Name) (k l : P
       let f = a.symbols p n e (entry_in t k n here ∙ is) in
       let g = b.symbols p n f.0 f.1 in
       let again : g.0 ≡ e = same_some g.0 e (sym g.1 ∙ entry_in t k n here ∙ is) in
-      sym (entry_in s l n there) ∙ f.1 ∙ ap (λ x. Some x) (sym (same_entry e f.0 f.2 (subst (λ (x : Entry). IsAsFar f.0 x) again g.2))))
+      sym (entry_in s l n there) ∙ f.1 ∙ ap (λ x. Some x) (sym (same_entry e f.0 f.2 (subst (λ (x : Present). IsAsFar f.0 x) again g.2))))
       (λ e is.
       let f = b.symbols p n e (entry_in s l n there ∙ is) in
       let g = a.symbols p n f.0 f.1 in
       let again : g.0 ≡ e = same_some g.0 e (sym g.1 ∙ entry_in s l n there ∙ is) in
-      sym (entry_in t k n here) ∙ f.1 ∙ ap (λ x. Some x) (sym (same_entry e f.0 f.2 (subst (λ (x : Entry). IsAsFar f.0 x) again g.2)))))
+      sym (entry_in t k n here) ∙ f.1 ∙ ap (λ x. Some x) (sym (same_entry e f.0 f.2 (subst (λ (x : Present). IsAsFar f.0 x) again g.2)))))
 
   same_uses : k.uses ≡ l.uses
   same_uses = same_map name_total name_exact k.uses l.uses (λ q.
@@ -93,7 +93,7 @@ where_first p k e =
       ]
     ]
 
-no_user_symbols : (n : Name) (e : Entry) → finite.get user_package.symbols n ≡ Some e → ⊥
+no_user_symbols : (n : Name) (e : Present) → finite.get user_package.symbols n ≡ Some e → ⊥
 unfolding user_package
 no_user_symbols n e is = none_some e (sym (get-empty name_cmp n) ∙ is)
 
@@ -105,8 +105,8 @@ user_uses : (q : Name) → finite.contains_key user_package.uses q ≡ true → 
 unfolding user_package
 user_uses q used = tied_same q common_lisp (one_used (eq_by_cmp name_cmp q common_lisp) (sym (ap is_some (get-from_entries name_total ((common_lisp, tt {0}) ∷ []) q)) ∙ used))
 
-package_at : (t : Table) (p n : Name) (e : Entry) → entry_at t p n ≡ Some e → (k : Package) × (finite.get t p ≡ Some k)
-package_at t p n e is = package_there t p (present_package t p n e.home (ap (option_map (λ (e : Entry). e.home)) is))
+package_at : (t : Table) (p n : Name) (e : Present) → entry_at t p n ≡ Some e → (k : Package) × (finite.get t p ≡ Some k)
+package_at t p n e is = package_there t p (present_package t p n e.home (ap (option_map (λ (e : Present). e.home)) is))
 
 user_keyword : IsTrue (list_any (bytes_eq (codes "USER")) keyword_names)
 unfolding keyword_names
@@ -116,12 +116,12 @@ module _ (s : Table) (first_s : HasFirst s) where
   same_lisp : finite.get s common_lisp ≡ finite.get initial common_lisp
   same_lisp = first_s.fixed ∙ sym first.sound.first.fixed
 
-  keyword_too : (n : Name) (e : Entry) → entry_at initial keyword n ≡ Some e → (f : Entry) × (entry_at s keyword n ≡ Some f) × IsAsFar e f
+  keyword_too : (n : Name) (e : Present) → entry_at initial keyword n ≡ Some e → (f : Present) × (entry_at s keyword n ≡ Some f) × IsAsFar e f
   keyword_too n e is =
       let f = present_entry s keyword n keyword (first_s.keywords n (keyword_first n (ap is_some is))) in
-      let shown : IsExternal s keyword n = first_s.shown n keyword (ap (option_map (λ (e : Entry). e.home)) f.1 ∙ ap (λ h. Some h) f.2) in
-      let home : e.home ≡ keyword = first.sound.first.own n e.home (ap (option_map (λ (e : Entry). e.home)) is) in
-      (f.0, f.1, record { home = home ∙ sym f.2; external = λ _. same_some f.0.external true (sym (ap (option_map (λ (e : Entry). e.external)) f.1) ∙ shown) })
+      let shown : IsExternal s keyword n = first_s.shown n keyword (ap (option_map (λ (e : Present). e.home)) f.1 ∙ ap (λ h. Some h) f.2) in
+      let home : e.home ≡ keyword = first.sound.first.own n e.home (ap (option_map (λ (e : Present). e.home)) is) in
+      (f.0, f.1, record { home = home ∙ sym f.2; external = λ _. same_some f.0.external true (sym (ap (option_map (λ (e : Present). e.external)) f.1) ∙ shown) })
 
   pub first_part : IsPartOf initial s
   first_part = record {

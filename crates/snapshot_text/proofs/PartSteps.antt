@@ -10,7 +10,7 @@ use Rattle.std.specs.FinMap as finite
 use Rattle.std.proofs.lemmas.Bool.{false≢true}
 use Rattle.package_table.specs.declared.error.PackageError.{PackageError}
 use Rattle.package_table.specs.declared.error.PackageError.TheVariants.{NoSuchPackage, PackageIsLocked, NameConflict, NotAccessible}
-use Rattle.package_table.specs.Table.{Name, Entry, Package, Table, entry_at, common_lisp, keyword, is_locked, IsPackage, IsPresent, IsExternal, Uses, IsSound, with_entry, with_used}
+use Rattle.package_table.specs.Table.{Name, Present, Package, Table, entry_at, common_lisp, keyword, is_locked, IsPackage, IsPresent, IsExternal, Uses, IsSound, with_entry, with_used}
 use Rattle.package_table.specs.Lookup.{is_present, is_used}
 use Rattle.package_table.specs.Changes.{finds_this, finds_other_than_shown, with_present, with_external, after_import, after_export, after_use}
 use Rattle.package_table.proofs.Names.{same_some}
@@ -21,8 +21,8 @@ use Rattle.snapshot_text.specs.Part.{IsPartOf}
 use Rattle.snapshot_text.proofs.PartFinds.{present_entry, present_more, none_other, no_user_other, no_shown_other}
 use Rattle.snapshot_text.proofs.PartOrder.{part_with_entry, part_with_used}
 
-pub entry_present : (t : Table) (p n : Name) (e : Entry) → entry_at t p n ≡ Some e → IsPresent t p n e.home
-entry_present t p n e at = ap (option_map (λ (e : Entry). e.home)) at
+pub entry_present : (t : Table) (p n : Name) (e : Present) → entry_at t p n ≡ Some e → IsPresent t p n e.home
+entry_present t p n e at = ap (option_map (λ (e : Present). e.home)) at
 
 used_uses : (t : Table) (p q : Name) → is_used t p q ≡ true → Uses t p q
 used_uses t p q e =
@@ -79,11 +79,11 @@ module _ (t s : Table) (part : IsPartOf t s) (sound : IsSound s) where
       pub export_part : IsPartOf (with_external t p h n) s
       export_part =
           let old = present_entry s p n h got in
-          let far : old.0.external ≡ true = same_some old.0.external true (sym (ap (option_map (λ (e : Entry). e.external)) old.1) ∙ shown) in
+          let far : old.0.external ≡ true = same_some old.0.external true (sym (ap (option_map (λ (e : Present). e.external)) old.1) ∙ shown) in
           part_with_entry t s part p n (record { home = h; external = true }) old.0 there old.1 (record { home = sym old.2; external = λ _. far })
 
       pub export_there : IsExternal (with_external t p h n) p n
-      export_there = ap (option_map (λ (e : Entry). e.external)) (entry_new t p n (record { home = h; external = true }) there)
+      export_there = ap (option_map (λ (e : Present). e.external)) (entry_new t p n (record { home = h; external = true }) there)
 
   -- ---- USE-PACKAGE
 

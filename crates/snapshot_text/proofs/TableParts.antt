@@ -87,7 +87,7 @@ still_writable s n t u w many = made_writable s n u w.other w.standard many
 
 pub symbol_is : (t : packages.Table) (h n : Name) → is_symbol t h n ≡ true → IsSymbol t (h, n)
 symbol_is t h n e =
-    elim (packages.entry_at t h n) as (λ o. option_map_or (λ (k : packages.Entry). bytes_eq k.home h) o false ≡ true → option_map (λ (k : packages.Entry). k.home) o ≡ Some h) [
+    elim (packages.entry_at t h n) as (λ o. option_map_or (λ (k : packages.Present). bytes_eq k.home h) o false ≡ true → option_map (λ (k : packages.Present). k.home) o ≡ Some h) [
       | None ↦ λ e. absurd cc
       | Some k ↦ λ e. ap Some (equal_names k.home h e)
     ] e

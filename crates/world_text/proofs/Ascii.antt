@@ -11,7 +11,7 @@ use Rattle.std.specs.FinMap.{contains_key-keys, get-entries, entries_sorted, fin
 use Rattle.std.specs.FinMap.Entries.{below_all}
 use Rattle.std.proofs.lemmas.Bool.{lt-ltb, or_left, or_right, and_from, and_parts}
 use Rattle.lisp_object.specs.Ascii.{is_ascii}
-use Rattle.package_table.specs.Table.{Name, Table, Package, Entry, name_cmp, IsSound, IsPackage, IsPresent, keyword}
+use Rattle.package_table.specs.Table.{Name, Table, Package, Present, name_cmp, IsSound, IsPackage, IsPresent, keyword}
 use Rattle.package_table.specs.Table.{initial}
 use Rattle.package_table.specs.Lookup.{is_present}
 use Rattle.package_table.specs.Readers.{package_names, used_names, present, own_names, external_names, imports}
@@ -95,20 +95,20 @@ module _ (t : Table) (sound : IsSound t) where
   package_names_ascii = keys_pass t is_ascii_name package_ascii
 
   -- each entry of a package: its name, and the name of its home
-  entry_ascii : (p : Name) (k : Package) → finite.get t p ≡ Some k → list_all (λ (s : Name × Entry). is_ascii_name s.0 && is_ascii_name s.1.home) (finite.entries k.symbols) ≡ true
+  entry_ascii : (p : Name) (k : Package) → finite.get t p ≡ Some k → list_all (λ (s : Name × Present). is_ascii_name s.0 && is_ascii_name s.1.home) (finite.entries k.symbols) ≡ true
   entry_ascii p k there = entries_pass k.symbols _ (λ n e got.
-      let present : IsPresent t p n e.home = ap (λ o. option_map (λ (e : Entry). e.home) (option_and_then (λ (k : Package). finite.get k.symbols n) o)) there ∙ ap (option_map (λ (e : Entry). e.home)) got in
+      let present : IsPresent t p n e.home = ap (λ o. option_map (λ (e : Present). e.home) (option_and_then (λ (k : Package). finite.get k.symbols n) o)) there ∙ ap (option_map (λ (e : Present). e.home)) got in
       and_from (is_ascii_name n) (is_ascii_name e.home) (ascii_all n (sound.within.symbol_names p n e.home present).ascii)
       (package_ascii e.home (home_there t e.home n sound (sound.joined.homes p n e.home present))))
 
-  present_ascii : (p : Name) → list_all (λ (s : Name × Entry). is_ascii_name s.0 && is_ascii_name s.1.home) (present t p) ≡ true
+  present_ascii : (p : Name) → list_all (λ (s : Name × Present). is_ascii_name s.0 && is_ascii_name s.1.home) (present t p) ≡ true
   present_ascii p =
-      elim (finite.get t p) as (λ o. finite.get t p ≡ o → list_all (λ (s : Name × Entry). is_ascii_name s.0 && is_ascii_name s.1.home) (option_map_or (λ (k : Package). finite.entries k.symbols) o []) ≡ true) [
+      elim (finite.get t p) as (λ o. finite.get t p ≡ o → list_all (λ (s : Name × Present). is_ascii_name s.0 && is_ascii_name s.1.home) (option_map_or (λ (k : Package). finite.entries k.symbols) o []) ≡ true) [
         | None ↦ λ _. refl
         | Some k ↦ λ there. entry_ascii p k there
       ] refl
 
-  only_names : (es : List (Name × Entry)) → list_all (λ (s : Name × Entry). is_ascii_name s.0 && is_ascii_name s.1.home) es ≡ true → list_all (λ (s : Name × Entry). is_ascii_name s.0) es ≡ true
+  only_names : (es : List (Name × Present)) → list_all (λ (s : Name × Present). is_ascii_name s.0 && is_ascii_name s.1.home) es ≡ true → list_all (λ (s : Name × Present). is_ascii_name s.0) es ≡ true
   only_names [] h = refl
   only_names (s ∷ es) h =
       let both = and_parts (is_ascii_name s.0 && is_ascii_name s.1.home) _ h in
@@ -116,23 +116,23 @@ module _ (t : Table) (sound : IsSound t) where
 
   pub own_names_ascii : (p : Name) → are_ascii_names (own_names t p) ≡ true
   own_names_ascii p =
-      all_mapped is_ascii_name (λ (s : Name × Entry). s.0) (filter (λ (s : Name × Entry). bytes_eq s.1.home p) (present t p))
-      (all_filtered (λ (s : Name × Entry). is_ascii_name s.0) (λ (s : Name × Entry). bytes_eq s.1.home p) (present t p) (only_names (present t p) (present_ascii p)))
+      all_mapped is_ascii_name (λ (s : Name × Present). s.0) (filter (λ (s : Name × Present). bytes_eq s.1.home p) (present t p))
+      (all_filtered (λ (s : Name × Present). is_ascii_name s.0) (λ (s : Name × Present). bytes_eq s.1.home p) (present t p) (only_names (present t p) (present_ascii p)))
 
   pub made_names_ascii : (p : Name) → are_ascii_names (made_names t p) ≡ true
   made_names_ascii p = all_filtered is_ascii_name (λ n. not (is_present initial p n)) (own_names t p) (own_names_ascii p)
 
   pub external_names_ascii : (p : Name) → are_ascii_names (external_names t p) ≡ true
   external_names_ascii p =
-      all_mapped is_ascii_name (λ (s : Name × Entry). s.0) (filter (λ (s : Name × Entry). s.1.external) (present t p))
-      (all_filtered (λ (s : Name × Entry). is_ascii_name s.0) (λ (s : Name × Entry). s.1.external) (present t p) (only_names (present t p) (present_ascii p)))
+      all_mapped is_ascii_name (λ (s : Name × Present). s.0) (filter (λ (s : Name × Present). s.1.external) (present t p))
+      (all_filtered (λ (s : Name × Present). is_ascii_name s.0) (λ (s : Name × Present). s.1.external) (present t p) (only_names (present t p) (present_ascii p)))
 
   pub shown_names_ascii : (p : Name) → are_ascii_names (shown_names t p) ≡ true
   shown_names_ascii p = elim (bytes_eq p keyword) as (λ b. are_ascii_names (if b then [] else external_names t p) ≡ true) [ true ↦ refl | false ↦ external_names_ascii p ]
 
   pub imports_ascii : (p : Name) → are_ascii_imports (imports t p) ≡ true
-  imports_ascii p = all_mapped (λ (r : Name × Name). is_ascii_name r.0 && is_ascii_name r.1) (λ (s : Name × Entry). (s.0, s.1.home)) (filter (λ (s : Name × Entry). not (bytes_eq s.1.home p)) (present t p))
-      (all_filtered (λ (s : Name × Entry). is_ascii_name s.0 && is_ascii_name s.1.home) (λ (s : Name × Entry). not (bytes_eq s.1.home p)) (present t p) (present_ascii p))
+  imports_ascii p = all_mapped (λ (r : Name × Name). is_ascii_name r.0 && is_ascii_name r.1) (λ (s : Name × Present). (s.0, s.1.home)) (filter (λ (s : Name × Present). not (bytes_eq s.1.home p)) (present t p))
+      (all_filtered (λ (s : Name × Present). is_ascii_name s.0 && is_ascii_name s.1.home) (λ (s : Name × Present). not (bytes_eq s.1.home p)) (present t p) (present_ascii p))
 
   used_ascii : (p : Name) (k : Package) → finite.get t p ≡ Some k → are_ascii_names (finite.keys k.uses) ≡ true
   used_ascii p k there = keys_pass k.uses is_ascii_name (λ q uses.

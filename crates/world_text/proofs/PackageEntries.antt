@@ -10,7 +10,7 @@ use Rattle.std.specs.FinMap.{find, is_sorted, get-from_entries, get-empty}
 use Rattle.std.specs.FinMap.Entries.{below_all}
 use Rattle.std.proofs.lemmas.Bool.{and_parts}
 use Rattle.std.proofs.lemmas.Map.Text.{is_eq-slice_cmp}
-use Rattle.package_table.specs.Table.{Name, name_cmp, Entry, Package, common_lisp, common_lisp_user, keyword, keyword_names, common_lisp_package, keyword_package, user_package, initial}
+use Rattle.package_table.specs.Table.{Name, name_cmp, Present, Package, common_lisp, common_lisp_user, keyword, keyword_names, common_lisp_package, keyword_package, user_package, initial}
 use Rattle.package_table.specs.Lookup.{is_present}
 use Rattle.package_table.specs.Readers.{imported_among}
 use Rattle.package_table.proofs.Names.{name_total, tied_same}
@@ -24,10 +24,10 @@ same_bytes a b e = tied_same a b (is_eq-slice_cmp a b ∙ e)
 
 -- ---- a list of entries in order
 
-missing : (n : Name) (e : Name × Entry) (es : List (Name × Entry)) → below_all name_cmp e.0 es ≡ true → eq n e.0 ≡ true → find name_cmp n es ≡ None
+missing : (n : Name) (e : Name × Present) (es : List (Name × Present)) → below_all name_cmp e.0 es ≡ true → eq n e.0 ≡ true → find name_cmp n es ≡ None
 missing n e es below same = ap (λ (k : Name). find name_cmp k es) (tied_same n e.0 same) ∙ below_none e.0 es below
 
-pub names_passing : (n : Name) (P : Entry → Bool) (es : List (Name × Entry)) → is_sorted name_cmp es ≡ true
+pub names_passing : (n : Name) (P : Present → Bool) (es : List (Name × Present)) → is_sorted name_cmp es ≡ true
     → list_any (eq n) (map (λ s. s.0) (filter (λ s. P s.1) es)) ≡ option_map_or P (find name_cmp n es) false
 names_passing n P [] h = refl
 names_passing n P (e ∷ es) h =
@@ -44,10 +44,10 @@ names_passing n P (e ∷ es) h =
       ] refl
     ] refl
 
-abbrev pub other_home : Name → Entry → Option Name
+abbrev pub other_home : Name → Present → Option Name
 other_home p e = cond (bytes_eq e.home p) None (Some e.home)
 
-pub imported_at : (p n : Name) (es : List (Name × Entry)) → is_sorted name_cmp es ≡ true
+pub imported_at : (p n : Name) (es : List (Name × Present)) → is_sorted name_cmp es ≡ true
     → find name_cmp n (imported_among p es) ≡ option_and_then (other_home p) (find name_cmp n es)
 imported_at p n [] h = refl
 imported_at p n (e ∷ es) h =
@@ -67,7 +67,7 @@ imported_at p n (e ∷ es) h =
 
 -- ---- one entry
 
-same_homes : (p : Name) (e f : Entry) (x y : Bool) → bytes_eq e.home p ≡ x → bytes_eq f.home p ≡ y → x ≡ y
+same_homes : (p : Name) (e f : Present) (x y : Bool) → bytes_eq e.home p ≡ x → bytes_eq f.home p ≡ y → x ≡ y
     → ◌≡◌ {A = Option Name} (cond x None (Some e.home)) (cond y None (Some f.home)) → e.home ≡ f.home
 same_homes p e f true true a b same other = same_bytes e.home p a ∙ sym (same_bytes f.home p b)
 same_homes p e f true false a b same other = absurd cc
@@ -79,7 +79,7 @@ none_here true h same other = cc
 none_here false h same other = cc
 
 -- by whether it is at home, whether it is external, and its home if that is another
-pub same_entry : (p : Name) (a b : Option Entry) → option_map_or (λ e. bytes_eq e.home p) a false ≡ option_map_or (λ e. bytes_eq e.home p) b false
+pub same_entry : (p : Name) (a b : Option Present) → option_map_or (λ e. bytes_eq e.home p) a false ≡ option_map_or (λ e. bytes_eq e.home p) b false
     → option_map_or (λ e. e.external) a false ≡ option_map_or (λ e. e.external) b false
     → option_and_then (other_home p) a ≡ option_and_then (other_home p) b → a ≡ b
 same_entry p None None own shown other = refl
@@ -106,7 +106,7 @@ none_first p n lisp key =
       | false ↦ refl
     ]
 
-named_in : (v : Entry) (n : Name) (ns : List Name) → is_some (find name_cmp n (map (λ m. (m, v)) ns)) ≡ list_any (bytes_eq n) ns
+named_in : (v : Present) (n : Name) (ns : List Name) → is_some (find name_cmp n (map (λ m. (m, v)) ns)) ≡ list_any (bytes_eq n) ns
 named_in v n [] = refl
 named_in v n (m ∷ ns) =
     elim (eq n m) as (λ b. eq n m ≡ b → is_some (cond b (Some v) (find name_cmp n (map (λ m. (m, v)) ns))) ≡ (bytes_eq n m || list_any (bytes_eq n) ns)) [

@@ -9,7 +9,7 @@ use Rattle.lisp_object.specs.Object as o
 use Rattle.lisp_object.specs.Object.{Object, AllAtoms, IsSound, nil, list_of}
 use Rattle.lisp_object.proofs.Sound.{all_below}
 use Rattle.package_table.specs.Table as packages
-use Rattle.package_table.specs.Table.{Name, Table, Entry, Package, IsExternal, common_lisp, common_lisp_user, common_lisp_names, common_lisp_package}
+use Rattle.package_table.specs.Table.{Name, Table, Present, Package, IsExternal, common_lisp, common_lisp_user, common_lisp_names, common_lisp_package}
 use Rattle.package_table.specs.Lookup.{found}
 use Rattle.package_table.proofs.Names.{name_total}
 use Rattle.package_table.proofs.Found.{found_is}
@@ -81,8 +81,8 @@ module _ (f g : Name → Name → List ℕ) (same : f common_lisp (codes "NIL") 
 nil_external : (t : Table) → packages.IsSound t → IsExternal t common_lisp (codes "NIL")
 unfolding common_lisp_package common_lisp_names
 nil_external t sound =
-    ap (λ (k : Option Package). option_map (λ (e : Entry). e.external) (option_and_then (λ (k : Package). finite.get k.symbols (codes "NIL")) k)) sound.first.fixed
-    ∙ ap (option_map (λ (e : Entry). e.external)) (get-from_entries name_total (map (λ n. (n, record { home = common_lisp; external = true })) common_lisp_names) (codes "NIL"))
+    ap (λ (k : Option Package). option_map (λ (e : Present). e.external) (option_and_then (λ (k : Package). finite.get k.symbols (codes "NIL")) k)) sound.first.fixed
+    ∙ ap (option_map (λ (e : Present). e.external)) (get-from_entries name_total (map (λ n. (n, record { home = common_lisp; external = true })) common_lisp_names) (codes "NIL"))
 
 -- COMMON-LISP-USER finds it
 nil_accessible : (t : Table) → packages.IsSound t → is_accessible t common_lisp_user common_lisp (codes "NIL") ≡ true

@@ -9,7 +9,7 @@ use Rattle.std.specs.FinMap.{find, is_sorted, contains_key-keys, get-entries, en
 use Rattle.std.proofs.lemmas.Map.Text.{is_eq-slice_cmp}
 use Rattle.lisp_object.specs.Object as object
 use Rattle.lisp_object.specs.Object.{Object, list_of}
-use Rattle.package_table.specs.Table.{Name, name_cmp, Entry, Package, Table, common_lisp, keyword, initial, entry_at, HasFirst, IsSound}
+use Rattle.package_table.specs.Table.{Name, name_cmp, Present, Package, Table, common_lisp, keyword, initial, entry_at, HasFirst, IsSound}
 use Rattle.package_table.specs.Lookup.{is_present}
 use Rattle.package_table.specs.Readers.{package_names, used_names, present, own_among, external_among, imported_among, own_names, external_names, imports}
 use Rattle.package_table.proofs.Names.{name_total, name_exact, tied_same}
@@ -67,7 +67,7 @@ module _ (k : Package) where
   sorted : is_sorted name_cmp (finite.entries k.symbols) ≡ true
   sorted = from_truth (is_sorted name_cmp (finite.entries k.symbols)) (entries_sorted k.symbols)
 
-  passing : (n : Name) (P : Entry → Bool) → option_map_or P (finite.get k.symbols n) false ≡ list_any (eq n) (map (λ s. s.0) (filter (λ s. P s.1) (finite.entries k.symbols)))
+  passing : (n : Name) (P : Present → Bool) → option_map_or P (finite.get k.symbols n) false ≡ list_any (eq n) (map (λ s. s.0) (filter (λ s. P s.1) (finite.entries k.symbols)))
   passing n P = ap (λ o. option_map_or P o false) (get-entries k.symbols n) ∙ sym (names_passing n P (finite.entries k.symbols) sorted)
 
   importing : (p n : Name) → option_and_then (other_home p) (finite.get k.symbols n) ≡ find name_cmp n (imported_among p (finite.entries k.symbols))
@@ -93,38 +93,38 @@ same_uses k l e = same_map name_total name_exact k.uses l.uses (λ q.
 
 -- ---- KEYWORD
 
-abbrev keyword_entry : Entry
+abbrev keyword_entry : Present
 keyword_entry = record { home = keyword; external = true }
 
 -- all its symbols are at home there and external
-keyword_at : (t : Table) → HasFirst t → (k : Package) → finite.get t keyword ≡ Some k → (n : Name) (e : Entry) → finite.get k.symbols n ≡ Some e → e ≡ keyword_entry
+keyword_at : (t : Table) → HasFirst t → (k : Package) → finite.get t keyword ≡ Some k → (n : Name) (e : Present) → finite.get k.symbols n ≡ Some e → e ≡ keyword_entry
 keyword_at t first k got n e found =
     let at : entry_at t keyword n ≡ Some e = ap (λ o. option_and_then (λ (k : Package). finite.get k.symbols n) o) got ∙ found in
-    let present : option_map (λ (e : Entry). e.home) (entry_at t keyword n) ≡ Some e.home = ap (option_map (λ (e : Entry). e.home)) at in
+    let present : option_map (λ (e : Present). e.home) (entry_at t keyword n) ≡ Some e.home = ap (option_map (λ (e : Present). e.home)) at in
     let home : e.home ≡ keyword = first.own n e.home present in
-    let shown : Some e.external ≡ Some true = sym (ap (option_map (λ (e : Entry). e.external)) at) ∙ first.shown n e.home present in
+    let shown : Some e.external ≡ Some true = sym (ap (option_map (λ (e : Present). e.external)) at) ∙ first.shown n e.home present in
     let external : e.external ≡ true = ap (λ o. unwrap_or o true) shown in
     λ i. record { home = home i; external = external i }
 
 keyword_still : (t : Table) → HasFirst t → (k : Package) → finite.get t keyword ≡ Some k → (n : Name) → is_present initial keyword n ≡ true → is_some (finite.get k.symbols n) ≡ true
 keyword_still t first k got n there =
     let present = first.keywords n (keyword_first n there) in
-    let here : option_map (λ (e : Entry). e.home) (finite.get k.symbols n) ≡ Some keyword =
-    sym (ap (λ o. option_map (λ (e : Entry). e.home) (option_and_then (λ (k : Package). finite.get k.symbols n) o)) got) ∙ present in
-    elim (finite.get k.symbols n) as (λ o. option_map (λ (e : Entry). e.home) o ≡ Some keyword → is_some o ≡ true) [
+    let here : option_map (λ (e : Present). e.home) (finite.get k.symbols n) ≡ Some keyword =
+    sym (ap (λ o. option_map (λ (e : Present). e.home) (option_and_then (λ (k : Package). finite.get k.symbols n) o)) got) ∙ present in
+    elim (finite.get k.symbols n) as (λ o. option_map (λ (e : Present). e.home) o ≡ Some keyword → is_some o ≡ true) [
       | None ↦ λ e. absurd cc
       | Some x ↦ λ e. refl
     ] here
 
-keyword_one : (a b : Option Entry) → ((e : Entry) → a ≡ Some e → e ≡ keyword_entry) → ((e : Entry) → b ≡ Some e → e ≡ keyword_entry) → is_some a ≡ is_some b → a ≡ b
+keyword_one : (a b : Option Present) → ((e : Present) → a ≡ Some e → e ≡ keyword_entry) → ((e : Present) → b ≡ Some e → e ≡ keyword_entry) → is_some a ≡ is_some b → a ≡ b
 keyword_one None None fa fb e = refl
 keyword_one None (Some y) fa fb e = absurd cc
 keyword_one (Some x) None fa fb e = absurd cc
 keyword_one (Some x) (Some y) fa fb e = ap (λ z. Some z) (fa x refl ∙ sym (fb y refl))
 
-own_is_some : (a : Option Entry) → ((e : Entry) → a ≡ Some e → e ≡ keyword_entry) → option_map_or (λ e. bytes_eq e.home keyword) a false ≡ is_some a
+own_is_some : (a : Option Present) → ((e : Present) → a ≡ Some e → e ≡ keyword_entry) → option_map_or (λ e. bytes_eq e.home keyword) a false ≡ is_some a
 own_is_some None f = refl
-own_is_some (Some x) f = ap (λ (e : Entry). bytes_eq e.home keyword) (f x refl)
+own_is_some (Some x) f = ap (λ (e : Present). bytes_eq e.home keyword) (f x refl)
 
 module _ (t u : Table) (sound_t : IsSound t) (sound_u : IsSound u) where
   keyword_symbols : (k l : Package) → finite.get t keyword ≡ Some k → finite.get u keyword ≡ Some l → made_names t keyword ≡ made_names u keyword → k.symbols ≡ l.symbols

@@ -1,21 +1,20 @@
 //! Single changes of the table: each grows it once, or leaves it as it was.
-ghost use Rattle.std.specs.Prelude.{◌≡◌, true, IfOk, OnErr, OnOk, option_map};
-ghost use Rattle.std.specs.FinMap as finite;
-ghost use Rattle.package_table.specs.Table.{Name, IsExternal, IsPackage, entry_at};
-ghost use Rattle.package_table.specs.Numbers.{number_at, with_numbered, with_package_made, with_use};
-ghost use Rattle.package_table.specs.Entries.{entry_of};
+ghost use Rattle.std.specs.Prelude.{◌≡◌, true, IfOk, OnErr, OnOk};
+ghost use Rattle.package_table.specs.Table.{Name, IsExternal, IsPackage};
+ghost use Rattle.package_table.specs.Numbers.{HasNumbers, with_numbered, with_package_made, with_use};
+ghost use Rattle.package_table.specs.Symbols.{present_of, WasIn};
 
 use super::PackageTable;
 use super::contents::Contents;
 use super::sharing::new_name;
-use crate::entry::Symbol;
+use crate::symbol::Symbol;
 use std::alloc::{AllocError, Global};
 
 impl PackageTable {
     /// Adds a package of this name, which has no symbols and uses nothing.
     pub(crate) fn insert_package(&mut self, alloc: Global, name: Vec<u8>) -> Result<(), AllocError>
         ensures ok { OnOk result (self.new ≡ with_package_made self.old name.items) }
-        ensures packages { OnOk result ((p : Name) → finite.contains_key self.old.1 p ≡ finite.contains_key self.old.0 p) }
+        ensures packages { OnOk result ((p : Name) → HasNumbers self.old p) }
         ensures err { OnErr result (self.new ≡ self.old) }
     {
         let contents = Contents::new(alloc, new_name(alloc, name.as_slice())?);
@@ -37,10 +36,9 @@ impl PackageTable {
         requires package { IsPackage self.old.0 owner.now }
         requires shown { IsExternal self.old.0 owner.now name.now → symbol.external ≡ true }
         ensures ok { OnOk result
-            (self.new ≡ with_numbered self.old owner.now name.now (entry_of symbol) symbol.number) }
-        ensures before { IfOk result (λ before. option_map entry_of before ≡ entry_at self.old.0 owner.now name.now) }
-        ensures number { IfOk result (λ before. option_map (λ s. s.number) before ≡ number_at self.old.1 owner.now name.now) }
-        ensures packages { (p : Name) → finite.contains_key self.old.1 p ≡ finite.contains_key self.old.0 p }
+            (self.new ≡ with_numbered self.old owner.now name.now (present_of symbol) symbol.number) }
+        ensures before { IfOk result (WasIn self.old owner.now name.now) }
+        ensures packages { (p : Name) → HasNumbers self.old p }
         ensures err { OnErr result (self.new ≡ self.old) }
     {
         let Some(contents) = self.packages.get_mut(owner) else {

@@ -53,7 +53,8 @@ impl PackageTable {
         holder: &[u8],
         contents: &Contents,
     ) -> bool
-        ensures { result ≡ reaches self.now.0 owner.now home.now name.now (holder.now, package_of contents.now) }
+        ensures { result
+            ≡ reaches self.now.0 owner.now home.now name.now (holder.now, package_of contents.now) }
     {
         let Some(symbol) = contents.symbol_at(name) else {
             return false;

@@ -1,11 +1,12 @@
 //! What a package holds.
 ghost use Rattle.std.specs.Prelude.{◌≡◌, true, IfOk, OnErr, OnOk, option_map};
 ghost use Rattle.std.specs.FinMap as finite;
-ghost use Rattle.package_table.specs.Table.{Name, empty_package};
+ghost use Rattle.package_table.specs.Table.{empty_package};
+ghost use Rattle.package_table.specs.Numbers.{HasEachNumber};
 ghost use Rattle.package_table.specs.Reached.{shows};
-ghost use Rattle.package_table.specs.Entries.{entry_of};
+ghost use Rattle.package_table.specs.Symbols.{present_of, with_symbol, WasAt};
 
-use crate::entry::Symbol;
+use crate::symbol::Symbol;
 use std::alloc::{AllocError, Global};
 use std::collections::{BTreeMap, BTreeSet};
 use std::marker::Model;
@@ -50,7 +51,8 @@ impl Contents {
 
     /// What is present at a name.
     pub(crate) fn symbol_at(&self, name: &[u8]) -> Option<&Symbol>
-        ensures entry { option_map (λ s. entry_of s.now) result ≡ finite.get self.now.0.symbols name.now }
+        ensures entry { option_map (λ s. present_of s.now) result
+            ≡ finite.get self.now.0.symbols name.now }
         ensures number { option_map (λ s. s.now.number) result ≡ finite.get self.now.1 name.now }
     {
         self.symbols.get(name)
@@ -58,7 +60,7 @@ impl Contents {
 
     /// Each symbol that is present has a number. For proofs: it does nothing.
     pub(crate) fn placement(&self)
-        ensures { (n : Name) → finite.contains_key self.now.1 n ≡ finite.contains_key self.now.0.symbols n }
+        ensures { HasEachNumber self.now }
     {
         let _ = &self.symbols;
     }
@@ -79,9 +81,8 @@ impl Contents {
     ) -> Result<Option<Symbol>, AllocError>
         requires { shows name.now self.old.0 ≡ true → symbol.external ≡ true }
         ensures ok { OnOk result
-            (self.new ≡ (record self.old.0 { symbols = finite.insert self.old.0.symbols name.now (entry_of symbol) }, finite.insert self.old.1 name.now symbol.number)) }
-        ensures before { IfOk result (λ before. option_map entry_of before ≡ finite.get self.old.0.symbols name.now) }
-        ensures number { IfOk result (λ before. option_map (λ s. s.number) before ≡ finite.get self.old.1 name.now) }
+            (self.new ≡ with_symbol self.old name.now symbol) }
+        ensures before { IfOk result (WasAt self.old name.now) }
         ensures err { OnErr result (self.new ≡ self.old) }
     {
         if symbol.external {
@@ -103,9 +104,8 @@ impl Contents {
     ) -> Result<Option<Symbol>, AllocError>
         requires { symbol.external ≡ true }
         ensures ok { OnOk result
-            (self.new ≡ (record self.old.0 { symbols = finite.insert self.old.0.symbols name.now (entry_of symbol) }, finite.insert self.old.1 name.now symbol.number)) }
-        ensures before { IfOk result (λ before. option_map entry_of before ≡ finite.get self.old.0.symbols name.now) }
-        ensures number { IfOk result (λ before. option_map (λ s. s.number) before ≡ finite.get self.old.1 name.now) }
+            (self.new ≡ with_symbol self.old name.now symbol) }
+        ensures before { IfOk result (WasAt self.old name.now) }
         ensures err { OnErr result (self.new ≡ self.old) }
     {
         let key = Vec::from_slice(alloc, name)?;

@@ -1,19 +1,19 @@
 //! Copies of the table.
 ghost use Rattle.std.specs.Prelude.{◌≡◌, IfOk};
-ghost use Rattle.package_table.specs.Entries.{entry_of};
-ghost use Rattle.package_table.specs.Kept.{as_map, as_set, numbers_in, table_of};
+ghost use Rattle.package_table.specs.Symbols.{present_of};
+ghost use Rattle.package_table.specs.Kept.{all_numbers_of, as_set, numbers_of, symbols_of, table_of};
 
 use super::PackageTable;
 use super::contents::Contents;
 use super::sharing::{new_name, share};
-use crate::entry::Symbol;
+use crate::symbol::Symbol;
 use std::alloc::{AllocError, Global};
 use std::collections::{BTreeMap, BTreeSet};
 use std::rc::Rc;
 
 // The home's name is shared with `owner` where that is the same.
 fn copy_symbol(alloc: Global, owner: &Rc<Vec<u8>>, symbol: &Symbol) -> Result<Symbol, AllocError>
-    ensures entry { IfOk result (λ s. entry_of s ≡ entry_of symbol.now) }
+    ensures entry { IfOk result (λ s. present_of s ≡ present_of symbol.now) }
     ensures number { IfOk result (λ s. s.number ≡ symbol.now.number) }
 {
     Ok(Symbol {
@@ -29,8 +29,8 @@ fn copy_symbols(
     owner: &Rc<Vec<u8>>,
     symbols: &BTreeMap<Vec<u8>, Symbol>,
 ) -> Result<BTreeMap<Vec<u8>, Symbol>, AllocError>
-    ensures entries { IfOk result (λ copied. as_map entry_of copied.entries ≡ as_map entry_of symbols.now.entries) }
-    ensures numbers { IfOk result (λ copied. as_map (λ s. s.number) copied.entries ≡ as_map (λ s. s.number) symbols.now.entries) }
+    ensures entries { IfOk result (λ copied. symbols_of copied ≡ symbols_of symbols.now) }
+    ensures numbers { IfOk result (λ copied. numbers_of copied ≡ numbers_of symbols.now) }
 {
     let mut copied = BTreeMap::new(alloc);
     for (name, symbol) in symbols {
@@ -70,7 +70,7 @@ fn copy_packages(
     packages: &BTreeMap<Vec<u8>, Contents>,
 ) -> Result<BTreeMap<Vec<u8>, Contents>, AllocError>
     ensures table { IfOk result (λ t. table_of t ≡ table_of packages.now) }
-    ensures numbers { IfOk result (λ t. as_map numbers_in t.entries ≡ as_map numbers_in packages.now.entries) }
+    ensures numbers { IfOk result (λ t. all_numbers_of t ≡ all_numbers_of packages.now) }
 {
     let mut copied = BTreeMap::new(alloc);
     for (name, contents) in packages {

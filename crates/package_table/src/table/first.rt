@@ -2,14 +2,16 @@
 ghost use Rattle.std.specs.Prelude.{◌≡◌, ◌<◌, ◌+◌, IfOk, length, map};
 ghost use Rattle.std.specs.FinMap as finite;
 ghost use Rattle.package_table.specs.Table.{Name, initial, package_of_names, common_lisp_package, keyword_package, user_package};
+ghost use Rattle.package_table.specs.Numbers.{HasEachNumber};
 ghost use Rattle.package_table.specs.Numbering.{IsNumbered, IsRun};
+ghost use Rattle.package_table.specs.Readers.{names_of};
 ghost use Rattle.package_table.specs.Kept.{numbers_in, package_of};
 
 use super::PackageTable;
 use super::contents::Contents;
 use super::sharing::new_name;
-use crate::entry::Symbol;
 use crate::standardized::{COMMON_LISP, COMMON_LISP_USER, KEYWORD};
+use crate::symbol::Symbol;
 use std::alloc::{AllocError, Global};
 use std::collections::BTreeMap;
 
@@ -80,9 +82,10 @@ fn package_of_names(
     first: u32,
 ) -> Result<Contents, AllocError>
     requires { first + length names.now < 1000 }
-    ensures package { IfOk result (λ c. package_of c ≡ package_of_names owner.now (map (λ n. n.now) names.now)) }
+    ensures package { IfOk result
+        (λ c. package_of c ≡ package_of_names owner.now (names_of names.now)) }
     ensures numbers { IfOk result (λ c. IsRun (numbers_in c) first (first + length names.now)) }
-    ensures placed { IfOk result (λ c. (n : Name) → finite.contains_key c.1 n ≡ finite.contains_key c.0.symbols n) }
+    ensures placed { IfOk result HasEachNumber }
 {
     let shared = new_name(alloc, owner)?;
     let mut contents = Contents::new(alloc, shared.clone()?);
@@ -104,7 +107,7 @@ fn package_of_names(
 fn lisp_package(alloc: Global) -> Result<Contents, AllocError>
     ensures package { IfOk result (λ c. package_of c ≡ common_lisp_package) }
     ensures numbers { IfOk result (λ c. IsRun (numbers_in c) 0 31) }
-    ensures placed { IfOk result (λ c. (n : Name) → finite.contains_key c.1 n ≡ finite.contains_key c.0.symbols n) }
+    ensures placed { IfOk result HasEachNumber }
 {
     package_of_names(alloc, COMMON_LISP, &COMMON_LISP_NAMES, 0)
 }
@@ -113,7 +116,7 @@ fn lisp_package(alloc: Global) -> Result<Contents, AllocError>
 fn keyword_package(alloc: Global) -> Result<Contents, AllocError>
     ensures package { IfOk result (λ c. package_of c ≡ keyword_package) }
     ensures numbers { IfOk result (λ c. IsRun (numbers_in c) 31 53) }
-    ensures placed { IfOk result (λ c. (n : Name) → finite.contains_key c.1 n ≡ finite.contains_key c.0.symbols n) }
+    ensures placed { IfOk result HasEachNumber }
 {
     package_of_names(alloc, KEYWORD, &KEYWORD_NAMES, 31)
 }
@@ -122,7 +125,7 @@ fn keyword_package(alloc: Global) -> Result<Contents, AllocError>
 fn user_package(alloc: Global) -> Result<Contents, AllocError>
     ensures package { IfOk result (λ c. package_of c ≡ user_package) }
     ensures numbers { IfOk result (λ c. IsRun (numbers_in c) 53 53) }
-    ensures placed { IfOk result (λ c. (n : Name) → finite.contains_key c.1 n ≡ finite.contains_key c.0.symbols n) }
+    ensures placed { IfOk result HasEachNumber }
 {
     let mut contents = Contents::new(alloc, new_name(alloc, COMMON_LISP_USER)?);
     contents.insert_use(Vec::from_slice(alloc, COMMON_LISP)?)?;

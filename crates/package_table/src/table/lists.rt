@@ -1,8 +1,8 @@
 //! Lists of names, each sorted by its bytes.
-ghost use Rattle.std.specs.Prelude.{◌≡◌, Some, map, IfOk, IfErr, MatchResult};
+ghost use Rattle.std.specs.Prelude.{◌≡◌, Some, IfOk, IfErr, MatchResult};
 ghost use Rattle.std.specs.FinMap as finite;
 ghost use Rattle.package_table.specs.Table.{IsPackage};
-ghost use Rattle.package_table.specs.Readers.{package_names, used_names, own_names, external_names, imports, ListRefused};
+ghost use Rattle.package_table.specs.Readers.{names_of, package_names, used_names, own_names, external_names, imports, ListRefused};
 ghost use Rattle.package_table.specs.Kept.{package_of};
 
 use super::PackageTable;
@@ -13,7 +13,7 @@ use std::alloc::{AllocError, Global};
 
 // Copies of these names.
 fn copies(alloc: Global, names: &[&[u8]]) -> Result<Items<Bytes>, AllocError>
-    ensures { IfOk result (λ copies. copies ≡ map (λ n. n.now) names.now) }
+    ensures { IfOk result (λ copies. copies ≡ names_of names.now) }
 {
     let mut copies = Items::new(alloc);
     for name in names {
@@ -25,7 +25,7 @@ fn copies(alloc: Global, names: &[&[u8]]) -> Result<Items<Bytes>, AllocError>
 impl PackageTable {
     /// The names of the packages, as they are kept.
     pub(crate) fn package_names(&self, alloc: Global) -> Result<Vec<&[u8]>, AllocError>
-        ensures { IfOk result (λ names. map (λ n. n.now) names.items ≡ package_names self.now.0) }
+        ensures { IfOk result (λ names. names_of names.items ≡ package_names self.now.0) }
     {
         let mut names = Vec::with_capacity(alloc, self.packages.len())?;
         for owner in self.packages.keys() {
@@ -43,7 +43,8 @@ impl PackageTable {
 
     // What the package of this name holds, of which a list is given.
     fn listed(&self, owner: &[u8]) -> Result<&Contents, PackageError>
-        ensures { MatchResult result (λ c. Some (package_of c.now) ≡ finite.get self.now.0 owner.now) (ListRefused self.now.0 owner.now) }
+        ensures { MatchResult result
+            (λ c. Some (package_of c.now) ≡ finite.get self.now.0 owner.now) (ListRefused self.now.0 owner.now) }
     {
         match self.contents_of(owner) {
             Some(contents) => Ok(contents),
@@ -67,7 +68,7 @@ impl PackageTable {
 
     /// The names at home in `owner`, as they are kept.
     pub(crate) fn own_names(&self, alloc: Global, owner: &[u8]) -> Result<Vec<&[u8]>, PackageError>
-        ensures list { IfOk result (λ names. map (λ n. n.now) names.items ≡ own_names self.now.0 owner.now) }
+        ensures list { IfOk result (λ names. names_of names.items ≡ own_names self.now.0 owner.now) }
         ensures there { IfOk result (λ _. IsPackage self.now.0 owner.now) }
         ensures refused { IfErr result (ListRefused self.now.0 owner.now) }
     {
@@ -89,7 +90,7 @@ impl PackageTable {
         alloc: Global,
         owner: &[u8],
     ) -> Result<Vec<&[u8]>, PackageError>
-        ensures list { IfOk result (λ names. map (λ n. n.now) names.items ≡ external_names self.now.0 owner.now) }
+        ensures list { IfOk result (λ names. names_of names.items ≡ external_names self.now.0 owner.now) }
         ensures there { IfOk result (λ _. IsPackage self.now.0 owner.now) }
         ensures refused { IfErr result (ListRefused self.now.0 owner.now) }
     {

@@ -19,7 +19,8 @@ impl PackageTable {
 
     /// The name of the package of this name, where there is one, as the table has it.
     pub(crate) fn stored_name(&self, owner: &[u8]) -> Option<&[u8]>
-        ensures { option_map (λ p. p.now) result ≡ (if finite.contains_key self.now.0 owner.now then Some owner.now else None) }
+        ensures { option_map (λ p. p.now) result
+            ≡ (if finite.contains_key self.now.0 owner.now then Some owner.now else None) }
     {
         match self.packages.get_key_value(owner) {
             Some((stored, _)) => Some(stored.as_slice()),
@@ -118,7 +119,8 @@ impl PackageTable {
 
     // The home of the symbol that one of the used packages has external by this name.
     fn inherited_home(&self, uses: &BTreeSet<Vec<u8>>, name: &[u8]) -> Option<&[u8]>
-        ensures home { option_map (λ h. h.now) result ≡ first_external self.now.0 name.now (map (λ q. q.items) uses.now.keys) }
+        ensures home { option_map (λ h. h.now) result
+            ≡ first_external self.now.0 name.now (map (λ q. q.items) uses.now.keys) }
         ensures order { finite.keys (as_set uses.now.keys) ≡ map (λ q. q.items) uses.now.keys }
     {
         for used in uses {

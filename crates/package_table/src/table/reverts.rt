@@ -3,12 +3,12 @@ ghost use Rattle.std.specs.Prelude.{◌≡◌, ◌&&◌, option_map};
 ghost use Rattle.std.specs.FinMap as finite;
 ghost use Rattle.package_table.specs.Undo.{entry_back, made, put, put_back, undone, used};
 ghost use Rattle.package_table.specs.Reached.{is_shown};
-ghost use Rattle.package_table.specs.Entries.{entry_of, numbered_entry};
-ghost use Rattle.package_table.specs.Kept.{as_map};
+ghost use Rattle.package_table.specs.Symbols.{present_of, numbered_present};
+ghost use Rattle.package_table.specs.Kept.{symbols_of, numbers_of};
 
 use super::PackageTable;
 use super::contents::Contents;
-use crate::entry::Symbol;
+use crate::symbol::Symbol;
 use std::collections::BTreeMap;
 
 fn both(before: bool, now: bool) -> bool
@@ -19,11 +19,11 @@ fn both(before: bool, now: bool) -> bool
 
 // What was at the name before is there again, external only where it still is. Gives whether it is.
 fn put_back(symbols: &mut BTreeMap<Vec<u8>, Symbol>, name: &[u8], before: Option<Symbol>) -> bool
-    ensures entries { as_map entry_of symbols.new.entries
-        ≡ entry_back (as_map entry_of symbols.old.entries) name.now (option_map entry_of before) }
-    ensures numbers { as_map (λ s. s.number) symbols.new.entries
-        ≡ put_back (as_map (λ s. s.number) symbols.old.entries) name.now (option_map (λ s. s.number) before) }
-    ensures shown { result ≡ is_shown (as_map entry_of symbols.new.entries) name.now }
+    ensures entries { symbols_of symbols.new
+        ≡ entry_back (symbols_of symbols.old) name.now (option_map present_of before) }
+    ensures numbers { numbers_of symbols.new
+        ≡ put_back (numbers_of symbols.old) name.now (option_map (λ s. s.number) before) }
+    ensures shown { result ≡ is_shown (symbols_of symbols.new) name.now }
 {
     let _count = symbols.len();
     let Some(before) = before else {
@@ -46,7 +46,7 @@ impl Contents {
     // What was at the name before is there again, external only where it still is.
     fn put_back(&mut self, name: &[u8], before: Option<Symbol>)
         ensures { self.new ≡ (
-          record self.old.0 { symbols = entry_back self.old.0.symbols name.now (option_map entry_of before) },
+          record self.old.0 { symbols = entry_back self.old.0.symbols name.now (option_map present_of before) },
           put_back self.old.1 name.now (option_map (λ s. s.number) before),
         ) }
     {
@@ -59,7 +59,8 @@ impl Contents {
 
     // The package uses the other no more.
     fn remove_use(&mut self, used: &[u8])
-        ensures { self.new ≡ (record self.old.0 { uses = finite.remove self.old.0.uses used.now }, self.old.1) }
+        ensures { self.new
+            ≡ (record self.old.0 { uses = finite.remove self.old.0.uses used.now }, self.old.1) }
     {
         let _count = self.uses.len();
         self.uses.remove(used);
@@ -69,7 +70,8 @@ impl Contents {
 impl PackageTable {
     /// What was at the name in `owner` before is there again.
     pub(crate) fn undo_put(&mut self, owner: &[u8], name: &[u8], before: Option<Symbol>)
-        ensures { self.new ≡ undone (put owner.now name.now (option_map numbered_entry before)) self.old }
+        ensures { self.new
+            ≡ undone (put owner.now name.now (option_map numbered_present before)) self.old }
     {
         let Some(contents) = self.packages.get_mut(owner) else {
             return;

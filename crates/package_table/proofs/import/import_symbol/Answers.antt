@@ -1,6 +1,6 @@
 use Rattle.std.proofs.Common.{rules, ◌≡◌, ◌∙◌, ℕ, true, false, is_some, option_map, Option, None, Some, ap, sym, subst}
 use Rattle.std.proofs.lemmas.Bool.{false≢true}
-use Rattle.package_table.specs.Table.{Name, Entry, entry_at}
+use Rattle.package_table.specs.Table.{Name, Present, entry_at}
 use Rattle.package_table.specs.Lookup.{is_present}
 use Rattle.package_table.specs.Numbers.{Numbered, with_numbered}
 use Rattle.package_table.specs.Numbering.{KeepsNumbers}
@@ -10,12 +10,12 @@ use Rattle.package_table.proofs.KeptNumbers.{numbers_put}
 use Rattle.package_table.proofs.import.import_symbol.Goals as goal
 
 -- nothing is present where nothing is found to be
-none_there : (o : Option Entry) (g h : Name) → is_some o ≡ false → option_map (λ (e : Entry). e.home) o ≡ Some g → g ≡ h
+none_there : (o : Option Present) (g h : Name) → is_some o ≡ false → option_map (λ (e : Present). e.home) o ≡ Some g → g ≡ h
 none_there None g h none found = absurd (cc)
 none_there (Some e) g h none found = absurd (false≢true (sym none))
 
 -- nor is anything external there
-hidden_there : (o : Option Entry) → is_some o ≡ false → option_map (λ (e : Entry). e.external) o ≡ Some true → ⊥
+hidden_there : (o : Option Present) → is_some o ≡ false → option_map (λ (e : Present). e.external) o ≡ Some true → ⊥
 hidden_there None none shown = none_some true shown
 hidden_there (Some e) none shown = false≢true (sym none)
 
@@ -27,7 +27,7 @@ put_symbol-requires-clause-shown c shown =
 pub returns-clause-numbers : goal.returns-clause-numbers
 returns-clause-numbers c =
     let s : Numbered = c.args.table.now in
-    let e : Entry = record { home = c.args.home.now; external = false } in
+    let e : Present = record { home = c.args.home.now; external = false } in
     let there = imported_there s.0 c.args.owner.now c.args.home.now c.args.name.now _ c.in_ok-import_refusal.ensures.gives in
     let absent : is_present s.0 c.args.owner.now c.args.name.now ≡ false = search rules in
     λ count.

@@ -1,5 +1,5 @@
 use Rattle.std.proofs.Common.{rules, ◌≡◌, true, option_map, bytes_eq, ap, sym, ◌∙◌}
-use Rattle.package_table.specs.Table.{Entry, keyword}
+use Rattle.package_table.specs.Table.{Present, keyword}
 use Rattle.package_table.specs.Numbers.{with_numbered}
 use Rattle.package_table.proofs.Names.{none_some}
 use Rattle.package_table.proofs.Found.{found_none}
@@ -9,7 +9,7 @@ use Rattle.package_table.proofs.intern.put_new.Goals as goal
 pub put_symbol-requires-clause-shown : goal.put_symbol-requires-clause-shown
 put_symbol-requires-clause-shown c shown =
     let none = no_entry c.args.table.now.0 c.args.owner.now c.args.name.now (found_none c.args.table.now.0 c.args.name.now c.args.owner.now c.requires.apart) in
-    absurd (none_some true (sym (ap (option_map (λ (e : Entry). e.external)) none) ∙ shown))
+    absurd (none_some true (sym (ap (option_map (λ (e : Present). e.external)) none) ∙ shown))
 
 pub returns-clause-ok : goal.returns-clause-ok
 returns-clause-ok c =

@@ -28,6 +28,6 @@ returns-clause-ok c =
     let marked : map (λ m. m.0) (marked_tables c.push_reserved.new.self.items s) ≡ map (λ m. m.0) (marked_tables c.self.inside.marks.items s) ++ s ∷ [] =
     ap (λ ms. map (λ m. m.0) (marked_tables ms s)) (c.push_reserved.ensures.items ∙ ap (λ ms. ms ++ m ∷ []) c.in_ok-reserve.ensures.items)
     ∙ ap (map (λ m. m.0)) (mark_tables c.self.inside.marks.items m s c.new.ensures.items) ∙ map-push (λ (m : Numbered × ℕ). m.0) (marked_tables c.self.inside.marks.items s) (s, m.count) in (
-      c.len-place.ensures ∙ c.self.inside.marks.ok.0 ∙ sym (length_marked c.self.inside.marks.items s) ∙ ap (λ (ts : Tables). length ts.1.marked) c.self.view_is,
+      c.len-mark.ensures ∙ c.self.inside.marks.ok.0 ∙ sym (length_marked c.self.inside.marks.items s) ∙ ap (λ (ts : Tables). length ts.1.marked) c.self.view_is,
       (λ i. (s.0, record { numbers = s.1; marked = marked i })) ∙ ap with_mark c.self.view_is,
     )

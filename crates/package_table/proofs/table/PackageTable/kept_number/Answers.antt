@@ -1,5 +1,5 @@
 use Rattle.std.proofs.Common.{rules, ◌≡◌, ◌∙◌, true, false, None, Some, bytes_eq, cond, ap, sym}
-use Rattle.package_table.specs.declared.entry.Symbol.{Symbol}
+use Rattle.package_table.specs.declared.symbol.Symbol.{Symbol}
 use Rattle.package_table.specs.Numbers.{Numbered, number_of}
 use Rattle.package_table.proofs.Places.{no_home, at_its_home}
 use Rattle.package_table.proofs.table.PackageTable.kept_number.Goals as goal

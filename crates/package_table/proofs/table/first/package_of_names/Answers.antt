@@ -1,7 +1,7 @@
 use Rattle.std.proofs.Common.{◌∙◌, ◌≡◌, ◌+◌, ◌≤◌, ℕ, ap, sym, subst, arith, true, [], take, length, get_or, Bor}
 use Rattle.std.proofs.lemmas.List.{take_more, take_all}
 use Rattle.std.specs.FinMap as finite
-use Rattle.package_table.specs.Table.{Name, name_cmp, Entry}
+use Rattle.package_table.specs.Table.{Name, name_cmp, Present}
 use Rattle.package_table.specs.Numbers.{Held}
 use Rattle.package_table.specs.Numbering.{IsRun}
 use Rattle.package_table.proofs.FirstNumbers.{run_none, run_more}
@@ -18,7 +18,7 @@ loop-name-init c = (
 pub loop-name-preserved : goal.loop-name-preserved
 loop-name-preserved c =
     let none : Bor Name = record { ref_ptr = (0, 0); now = [] } in
-    let v : Entry = record { home = c.args.owner.now; external = true } in
+    let v : Present = record { home = c.args.owner.now; external = true } in
     let name = get_or c.args.names.now c.loop-name.name-index none in
     let number : c.loop-name.number ≡ c.args.first + c.loop-name.name-index = c.loop-name.invariant.2 in
     let after : c.args.first ≤ c.loop-name.number = omega (arith, number) in (
@@ -36,7 +36,7 @@ loop-name-preserved c =
 
 pub returns-clause-package : goal.returns-clause-package
 returns-clause-package c =
-    let v : Entry = record { home = c.args.owner.now; external = true } in
+    let v : Present = record { home = c.args.owner.now; external = true } in
     c.loop-name.invariant.0
     ∙ (λ i. record {
       symbols = (ap (λ ns. finite.from_entries {R = name_cmp} (alike (λ (n : Bor Name). n.now) v ns)) (take_all c.loop-name.name-index c.args.names.now c.loop-name-test.false)

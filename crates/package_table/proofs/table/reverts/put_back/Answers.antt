@@ -1,10 +1,10 @@
 use Rattle.std.proofs.Common.{ap, sym, option_map, ◌∙◌, Option, false}
 use Rattle.std.specs.Option.{option_map_or}
-use Rattle.package_table.specs.declared.entry.Symbol.{Symbol}
-use Rattle.package_table.specs.Table.{Entry}
+use Rattle.package_table.specs.declared.symbol.Symbol.{Symbol}
+use Rattle.package_table.specs.Table.{Present}
 use Rattle.package_table.specs.Reached.{is_shown}
 use Rattle.package_table.specs.Undo.{entry_back, put_back}
-use Rattle.package_table.specs.Entries.{entry_of}
+use Rattle.package_table.specs.Symbols.{present_of}
 use Rattle.package_table.specs.Kept.{as_map}
 use Rattle.package_table.proofs.Seen.{as_map-remove, got_name}
 use Rattle.package_table.proofs.Places.{symbol_back, no_symbol_back, entry_is_back, no_entry_back, gone, shown_there}
@@ -12,8 +12,8 @@ use Rattle.package_table.proofs.table.reverts.put_back.Goals as goal
 
 pub returns-in_default-clause-entries : goal.returns-in_default-clause-entries
 returns-in_default-clause-entries c =
-    ap (as_map entry_of) c.remove.ensures.entries ∙ as_map-remove entry_of c.args.name.now c.args.symbols.now.entries c.len-count.ensures.ordered
-    ∙ ap (λ before. entry_back (as_map entry_of c.args.symbols.now.entries) c.args.name.now (option_map entry_of before)) (sym c.in_default.is)
+    ap (as_map present_of) c.remove.ensures.entries ∙ as_map-remove present_of c.args.name.now c.args.symbols.now.entries c.len-count.ensures.ordered
+    ∙ ap (λ before. entry_back (as_map present_of c.args.symbols.now.entries) c.args.name.now (option_map present_of before)) (sym c.in_default.is)
 
 pub returns-in_default-clause-numbers : goal.returns-in_default-clause-numbers
 returns-in_default-clause-numbers c =
@@ -22,14 +22,14 @@ returns-in_default-clause-numbers c =
 
 pub returns-in_default-clause-shown : goal.returns-in_default-clause-shown
 returns-in_default-clause-shown c =
-    sym (ap (λ m. is_shown m c.args.name.now) (ap (as_map entry_of) c.remove.ensures.entries ∙ as_map-remove entry_of c.args.name.now c.args.symbols.now.entries c.len-count.ensures.ordered)
-    ∙ gone (as_map entry_of c.args.symbols.now.entries) c.args.name.now)
+    sym (ap (λ m. is_shown m c.args.name.now) (ap (as_map present_of) c.remove.ensures.entries ∙ as_map-remove present_of c.args.name.now c.args.symbols.now.entries c.len-count.ensures.ordered)
+    ∙ gone (as_map present_of c.args.symbols.now.entries) c.args.name.now)
 
 pub returns-clause-entries : goal.returns-clause-entries
 returns-clause-entries c =
     let w : Symbol = record { home = c.in-Some.before.home; external = c.both-external.result; number = c.in-Some.before.number } in
-    entry_is_back c.args.symbols.now.entries c.args.name.now (entry_of c.in-Some.before) w (c.get_mut.follows.lender w).entries c.in-Some-get_mut.symbol.now c.in-Some-get_mut.ensures.value (c.get_mut.follows.holds w).0 (λ i. record { home = c.in-Some.before.home.value.items; external = c.both-external.ensures i })
-    ∙ ap (λ before. entry_back (as_map entry_of c.args.symbols.now.entries) c.args.name.now (option_map entry_of before)) (sym c.in-Some.is)
+    entry_is_back c.args.symbols.now.entries c.args.name.now (present_of c.in-Some.before) w (c.get_mut.follows.lender w).entries c.in-Some-get_mut.symbol.now c.in-Some-get_mut.ensures.value (c.get_mut.follows.holds w).0 (λ i. record { home = c.in-Some.before.home.value.items; external = c.both-external.ensures i })
+    ∙ ap (λ before. entry_back (as_map present_of c.args.symbols.now.entries) c.args.name.now (option_map present_of before)) (sym c.in-Some.is)
 
 pub returns-clause-numbers : goal.returns-clause-numbers
 returns-clause-numbers c =
@@ -44,8 +44,8 @@ returns-clause-shown c =
 
 pub returns-in_default-get_mut-clause-entries : goal.returns-in_default-get_mut-clause-entries
 returns-in_default-get_mut-clause-entries c =
-    ap (λ symbols. (as_map entry_of) symbols.entries) c.get_mut.follows.holds-at-none ∙ no_entry_back c.args.symbols.now.entries c.args.name.now (entry_of c.in-Some.before) c.in_default-get_mut.ensures.value
-    ∙ ap (λ before. entry_back (as_map entry_of c.args.symbols.now.entries) c.args.name.now (option_map entry_of before)) (sym c.in-Some.is)
+    ap (λ symbols. (as_map present_of) symbols.entries) c.get_mut.follows.holds-at-none ∙ no_entry_back c.args.symbols.now.entries c.args.name.now (present_of c.in-Some.before) c.in_default-get_mut.ensures.value
+    ∙ ap (λ before. entry_back (as_map present_of c.args.symbols.now.entries) c.args.name.now (option_map present_of before)) (sym c.in-Some.is)
 
 pub returns-in_default-get_mut-clause-numbers : goal.returns-in_default-get_mut-clause-numbers
 returns-in_default-get_mut-clause-numbers c =
@@ -54,5 +54,5 @@ returns-in_default-get_mut-clause-numbers c =
 
 pub returns-in_default-get_mut-clause-shown : goal.returns-in_default-get_mut-clause-shown
 returns-in_default-get_mut-clause-shown c =
-    sym (ap (λ symbols. is_shown (as_map entry_of symbols.entries) c.args.name.now) c.get_mut.follows.holds-at-none
-    ∙ ap (λ (o : Option Entry). option_map_or (λ e. e.external) o false) (got_name entry_of c.args.name.now c.args.symbols.now.entries ∙ sym (ap (option_map entry_of) c.in_default-get_mut.ensures.value)))
+    sym (ap (λ symbols. is_shown (as_map present_of symbols.entries) c.args.name.now) c.get_mut.follows.holds-at-none
+    ∙ ap (λ (o : Option Present). option_map_or (λ e. e.external) o false) (got_name present_of c.args.name.now c.args.symbols.now.entries ∙ sym (ap (option_map present_of) c.in_default-get_mut.ensures.value)))
