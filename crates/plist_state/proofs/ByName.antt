@@ -9,7 +9,7 @@ use Rattle.std.specs.Ordering.{eq_by_cmp}
 use Rattle.std.specs.FinMap as finite
 use Rattle.std.specs.FinMap.{same_map, get-insert, get-remove}
 use Rattle.lisp_object.proofs.Tree.{insert_same}
-use Rattle.readtable_core.specs.Tables.{Entry, Table, entry_at}
+use Rattle.readtable_core.specs.Tables.{CharacterEntry, Table, entry_at}
 use Rattle.readtable_core.specs.Changes.{with_entry}
 use Rattle.readtable_core.proofs.PutBack.{put_back}
 use Rattle.package_table.specs.Table.{Name, name_cmp}
@@ -125,7 +125,7 @@ module _ (tables later : List (Vec ℕ × Table)) (n : Name) (t w : Table)
 -- a change of a character of a readtable, written through `get_mut` and noted with what was there
 pub entry_noted : (ms ks ns : List (List Note)) → ks ≡ ms → (note : Note) → ((t u : NumberedRest) → IsNoted note → undone note u ≡ t → Continues ks t ns u)
     → (tables later : List (Vec ℕ × Table)) (n : Name) (t w : Table) → Some t ≡ lookup (at n) tables → later ≡ set_value (at n) tables w
-    → (name : Vec ℕ) → name.items ≡ n → (c : ℕ) (before e : Entry) → c < 128 → note ≡ Changed name (Character c before)
+    → (name : Vec ℕ) → name.items ≡ n → (c : ℕ) (before e : CharacterEntry) → c < 128 → note ≡ Changed name (Character c before)
     → ((x : Table) → finite.get (shown tables) n ≡ Some x → before ≡ entry_at x c) → w ≡ with_entry t c e
     → (r : NumberedRest) → Continues ms (record r { readtables = shown tables }) ns (record r { readtables = shown later })
 entry_noted ms ks ns same note pushed tables later n t w there holds name named c before e below is was made r =

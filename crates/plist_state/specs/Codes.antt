@@ -54,14 +54,14 @@ syntax_code = code_by ℕ coded_ℕ syntax_number numbered_syntax syntax_back
 abbrev pub case_code : Coded Case
 case_code = code_by ℕ coded_ℕ case_number numbered_case case_back
 
-abbrev pub entry_code : Coded readtable.Entry
+abbrev pub entry_code : Coded readtable.CharacterEntry
 entry_code =
     code_by (Syntax × (Option Name × List (Option Name))) (coded× syntax_code (coded× (coded_option name_code) (coded_list (coded_option name_code))))
     (λ e. (e.syntax, (e.function, e.dispatch))) (λ p. record { syntax = p.0; function = p.1.0; dispatch = p.1.1 }) (λ _. refl)
 
 abbrev pub readtable_code : Coded readtable.Table
 readtable_code =
-    code_by (Case × List readtable.Entry) (coded× case_code (coded_list entry_code)) (λ t. (t.letters, t.entries)) (λ p. record { letters = p.0; entries = p.1 }) (λ _. refl)
+    code_by (Case × List readtable.CharacterEntry) (coded× case_code (coded_list entry_code)) (λ t. (t.letters, t.entries)) (λ p. record { letters = p.0; entries = p.1 }) (λ _. refl)
 
 abbrev pub readtables_code : Coded Readtables
 readtables_code = finite.code name_code readtable_code

@@ -1,7 +1,7 @@
 //! Changes, each with what it overwrote.
 use crate::Property;
 use lisp_object::Datum;
-use readtable_core::{Case, CharacterEntry, Readtable};
+use readtable_core::{Case, CharacterSlot, Readtable};
 
 /// What has changed in a property list.
 #[derive(Drop)]
@@ -22,7 +22,7 @@ pub(crate) enum TableChange {
     /// The case was set; before, it was this one.
     Letters(Case),
     /// What is at a character was set; before, this was there.
-    Character { c: u8, entry: CharacterEntry },
+    Character { c: u8, entry: CharacterSlot },
 }
 
 /// One change of what a world keeps besides its packages.

@@ -16,7 +16,7 @@ ghost use Rattle.plist_state.specs.Journal.{marks_of, IsTableChange, Continues};
 use crate::ReadtableError;
 use crate::journal::{push_note, reserve_named};
 use crate::note::{Note, TableChange};
-use readtable_core::{Case, CharacterEntry, FnName, Readtable};
+use readtable_core::{Case, CharacterSlot, FnName, Readtable};
 use std::alloc::{AllocError, Global};
 use std::collections::BTreeMap;
 
@@ -83,7 +83,7 @@ fn copy_entry(
     tables: &BTreeMap<Vec<u8>, Readtable>,
     name: &[u8],
     c: u8,
-) -> Result<CharacterEntry, AllocError>
+) -> Result<CharacterSlot, AllocError>
     requires character { c < 128 }
     requires there { IsTrue (finite.contains_key (readtables_of tables.now) name.now) }
     ensures { (t : Table) → finite.get (readtables_of tables.now) name.now ≡ Some t → IfOk result (λ entry. entry ≡ entry_at t c) }
@@ -95,7 +95,7 @@ fn copy_entry(
 }
 
 // The note that this was at the character of the readtable of this name.
-fn was_at(name: Vec<u8>, c: u8, entry: CharacterEntry) -> Note
+fn was_at(name: Vec<u8>, c: u8, entry: CharacterSlot) -> Note
     ensures { result ≡ Changed name (Character c entry) }
 {
     let change = TableChange::Character { c, entry };
@@ -225,8 +225,8 @@ fn put_entry(
     tables: &mut BTreeMap<Vec<u8>, Readtable>,
     name: &[u8],
     c: u8,
-    entry: CharacterEntry,
-) -> CharacterEntry
+    entry: CharacterSlot,
+) -> CharacterSlot
     requires character { c < 128 }
     requires there { IsTrue (finite.contains_key (readtables_of tables.old) name.now) }
     ensures after { let m = readtables_of tables.old in (t : Table) → finite.get m name.now ≡ Some t

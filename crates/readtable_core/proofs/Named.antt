@@ -12,7 +12,7 @@ use Rattle.readtable_core.specs.declared.table.Case.TheVariants.{Upcase, Downcas
 use Rattle.readtable_core.specs.Cases.{case_name, case_names}
 use Rattle.readtable_core.specs.Characters.{syntax_number, upper_case}
 use Rattle.readtable_core.specs.Names.{is_among, is_standard, is_dispatch_name, dispatch_name}
-use Rattle.readtable_core.specs.Tables.{Entry, Table, standard, entry_at, dispatch_at, no_entry}
+use Rattle.readtable_core.specs.Tables.{CharacterEntry, Table, standard, entry_at, dispatch_at, no_entry}
 use Rattle.readtable_core.specs.Changes.{with_entry, with_function, dispatching_entry}
 use Rattle.readtable_core.specs.Named.{same_function, same_entry, functions_at, functions_of}
 
@@ -83,7 +83,7 @@ function_decides (Some x) (Some y) =
     (λ e. ap Some ((bytes_decides x y).0 e), λ p. let same : x ≡ y = cc in (bytes_decides x y).1 same)
 
 -- the comparison of entries says exactly that they are equal
-pub same_is : (a b : Entry) → same_entry a b ≡ true → a ≡ b
+pub same_is : (a b : CharacterEntry) → same_entry a b ≡ true → a ≡ b
 same_is a b e =
     let first = and_parts _ _ e in
     let rest = and_parts _ _ first.1 in
@@ -93,11 +93,11 @@ same_is a b e =
       dispatch = (pointwise_decides function_decides a.dispatch b.dispatch).0 rest.1 i;
     }
 
-pub same_itself : (a b : Entry) → a ≡ b → same_entry a b ≡ true
+pub same_itself : (a b : CharacterEntry) → a ≡ b → same_entry a b ≡ true
 same_itself a b e =
-    and_from _ _ (eq-eqb _ _ (ap (λ (x : Entry). syntax_number x.syntax) e))
-    (and_from _ _ ((function_decides a.function b.function).1 (ap (λ (x : Entry). x.function) e))
-    ((pointwise_decides function_decides a.dispatch b.dispatch).1 (ap (λ (x : Entry). x.dispatch) e)))
+    and_from _ _ (eq-eqb _ _ (ap (λ (x : CharacterEntry). syntax_number x.syntax) e))
+    (and_from _ _ ((function_decides a.function b.function).1 (ap (λ (x : CharacterEntry). x.function) e))
+    ((pointwise_decides function_decides a.dispatch b.dispatch).1 (ap (λ (x : CharacterEntry). x.dispatch) e)))
 
 -- A test of the functions that an entry names is one of its own function and of each sub-character's; one of the functions
 -- that a readtable names is one of each entry.
@@ -109,7 +109,7 @@ all_named p [] = refl
 all_named p (None ∷ fs) = all_named p fs
 all_named p (Some name ∷ fs) = ap (λ b. p name && b) (all_named p fs)
 
-all_flat : (p : List ℕ → Bool) (es : List Entry) → list_all p (flat_map functions_at es) ≡ list_all (λ e. list_all p (functions_at e)) es
+all_flat : (p : List ℕ → Bool) (es : List CharacterEntry) → list_all p (flat_map functions_at es) ≡ list_all (λ e. list_all p (functions_at e)) es
 all_flat p [] = refl
 all_flat p (e ∷ es) = list_all-append p (functions_at e) (flat_map functions_at es) ∙ ap (λ b. list_all p (functions_at e) && b) (all_flat p es)
 
@@ -146,12 +146,12 @@ named_sub_function p t c sub name h e =
     sym (ap (passes p) e) ∙ each_at (passes p) x.dispatch (upper_case sub) None both.1 refl
 
 -- and each function of the readtable that has another entry in one place, if the functions of that entry pass it
-pub named_after : (p : List ℕ → Bool) (t : Table) (c : ℕ) (x : Entry) → list_all p (functions_of t) ≡ true → list_all p (functions_at x) ≡ true
+pub named_after : (p : List ℕ → Bool) (t : Table) (c : ℕ) (x : CharacterEntry) → list_all p (functions_of t) ≡ true → list_all p (functions_at x) ≡ true
     → list_all p (functions_of (with_entry t c x)) ≡ true
 named_after p t c x e f =
     all_functions p (with_entry t c x) ∙ each_set (λ y. list_all p (functions_at y)) t.entries c x (sym (all_functions p t) ∙ e) f
 
-pub named_with_function : (p : List ℕ → Bool) (e : Entry) (sub : ℕ) (name : List ℕ) → list_all p (functions_at e) ≡ true → p name ≡ true
+pub named_with_function : (p : List ℕ → Bool) (e : CharacterEntry) (sub : ℕ) (name : List ℕ) → list_all p (functions_at e) ≡ true → p name ≡ true
     → list_all p (functions_at (with_function e sub name)) ≡ true
 named_with_function p e sub name h f =
     let both = and_parts (passes p e.function) (list_all (passes p) e.dispatch) (sym (all_named p (e.function ∷ e.dispatch)) ∙ h) in

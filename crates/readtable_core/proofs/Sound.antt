@@ -8,8 +8,8 @@ use Rattle.std.proofs.lemmas.List.{get_or_past, get_or-replicate, length-replica
 use Rattle.std.proofs.lemmas.Bool.{cases_lt, cases_eq}
 use Rattle.readtable_core.specs.Characters.{standard_syntax, is_lower_case, is_digit, upper_case}
 use Rattle.readtable_core.specs.Names.{is_function_name, is_dispatch_name}
-use Rattle.readtable_core.specs.Tables.{Entry, Table, standard, standard_entry, standard_function, standard_sub_function, no_entry}
-use Rattle.readtable_core.specs.Sound.{IsEntry, IsReadtable, is_macro, is_dispatching, dispatches, is_none_or_name}
+use Rattle.readtable_core.specs.Tables.{CharacterEntry, Table, standard, standard_entry, standard_function, standard_sub_function, no_entry}
+use Rattle.readtable_core.specs.Sound.{IsCharacterEntry, IsReadtable, is_macro, is_dispatching, dispatches, is_none_or_name}
 use Rattle.readtable_core.specs.Changes.{with_entry, macro_entry, macro_syntax, dispatching_entry, with_function}
 use Rattle.readtable_core.proofs.Standard.{standard_at, sub_at}
 
@@ -17,7 +17,7 @@ macro_is_macro : (b : Bool) → true ≡ is_macro (macro_syntax b)
 macro_is_macro true = refl
 macro_is_macro false = refl
 
-pub macro_sound : (name : List ℕ) (b : Bool) → IsFalse (is_dispatch_name name) → IsTrue (is_function_name name) → IsEntry (macro_entry name b)
+pub macro_sound : (name : List ℕ) (b : Bool) → IsFalse (is_dispatch_name name) → IsTrue (is_function_name name) → IsCharacterEntry (macro_entry name b)
 macro_sound name b h fits = record {
   function = macro_is_macro b;
   places = rw h refl;
@@ -32,7 +32,7 @@ none_filled sub =
     let none : Option (List ℕ) = None in
     elim (cases_lt sub 128) [ inl below ↦ get_or-replicate 128 sub none none below | inr past ↦ get_or_past (replicate 128 none) sub none (rw length-replicate past) ]
 
-pub dispatching_sound : (b : Bool) → IsEntry (dispatching_entry b)
+pub dispatching_sound : (b : Bool) → IsCharacterEntry (dispatching_entry b)
 dispatching_sound b = record {
   function = macro_is_macro b;
   places = refl;
@@ -83,7 +83,7 @@ unfolding dispatch_of_hash
 names_by true sub = ap is_none_or_name (sub_at sub) ∙ sub_named sub
 names_by false sub = refl
 
-pub standard_entry_sound : (c : ℕ) → IsEntry (standard_entry c)
+pub standard_entry_sound : (c : ℕ) → IsCharacterEntry (standard_entry c)
 unfolding dispatch_of_hash
 standard_entry_sound c = record {
   function = function_macro c;
@@ -98,15 +98,15 @@ pub standard_sound : IsReadtable standard
 unfolding standard
 standard_sound = record {
   count = length-map-range_with_len standard_entry 0 128;
-  each = λ c. subst IsEntry (sym (standard_at c)) (standard_entry_sound c);
+  each = λ c. subst IsCharacterEntry (sym (standard_at c)) (standard_entry_sound c);
 }
 
-pub kept : (t : Table) (c : ℕ) (e : Entry) → c < 128 → IsReadtable t → IsEntry e → IsReadtable (with_entry t c e)
+pub kept : (t : Table) (c : ℕ) (e : CharacterEntry) → c < 128 → IsReadtable t → IsCharacterEntry e → IsReadtable (with_entry t c e)
 kept t c e below s i = record {
   count = length-set t.entries c e ∙ s.count;
   each = λ k. elim (cases_eq k c) [
-    | inl same ↦ subst IsEntry (sym (ap (λ n. get_or (set t.entries c e) n no_entry) same ∙ get_or-set_same t.entries c e no_entry (rw s.count below))) i
-    | inr other ↦ subst IsEntry (sym (get_or-set_other t.entries c k e no_entry other)) (s.each k)
+    | inl same ↦ subst IsCharacterEntry (sym (ap (λ n. get_or (set t.entries c e) n no_entry) same ∙ get_or-set_same t.entries c e no_entry (rw s.count below))) i
+    | inr other ↦ subst IsCharacterEntry (sym (get_or-set_other t.entries c k e no_entry other)) (s.each k)
   ];
 }
 
@@ -127,8 +127,8 @@ each_place test b places i name below new old k = elim (cases_eq k i) [
   | inr differs ↦ ap test (get_or-set_other places i k (Some name) None differs) ∙ old k
 ]
 
-pub function_sound : (e : Entry) (sub : ℕ) (name : List ℕ) → IsEntry e → upper_case sub < length e.dispatch → IsFalse (is_digit sub)
-    → IsFalse (is_dispatch_name name) → IsTrue (is_function_name name) → IsEntry (with_function e sub name)
+pub function_sound : (e : CharacterEntry) (sub : ℕ) (name : List ℕ) → IsCharacterEntry e → upper_case sub < length e.dispatch → IsFalse (is_digit sub)
+    → IsFalse (is_dispatch_name name) → IsTrue (is_function_name name) → IsCharacterEntry (with_function e sub name)
 function_sound e sub name s below digit other fits = record {
   function = s.function;
   places = length-set e.dispatch (upper_case sub) (Some name) ∙ s.places;
@@ -138,5 +138,5 @@ function_sound e sub name s below digit other fits = record {
   names = each_place is_none_or_name true e.dispatch (upper_case sub) name below fits s.names;
 }
 
-pub place_of : (e : Entry) (sub : ℕ) → IsEntry e → is_dispatching e ≡ true → sub < 128 → upper_case sub < length e.dispatch
+pub place_of : (e : CharacterEntry) (sub : ℕ) → IsCharacterEntry e → is_dispatching e ≡ true → sub < 128 → upper_case sub < length e.dispatch
 place_of e sub s d below = rw (s.places, d) (upper_below sub below)

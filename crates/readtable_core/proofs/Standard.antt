@@ -8,7 +8,7 @@ use Rattle.std.proofs.lemmas.Bool.{cases_lt}
 use Rattle.readtable_core.specs.declared.table.Case.TheVariants.{Upcase}
 use Rattle.readtable_core.specs.declared.characters.Syntax.TheVariants.{Invalid}
 use Rattle.readtable_core.specs.Characters.{standard_syntax, upper_case}
-use Rattle.readtable_core.specs.Tables.{Entry, standard, standard_entry, standard_function, standard_dispatch, standard_sub_function, entry_at, dispatch_at, no_entry}
+use Rattle.readtable_core.specs.Tables.{CharacterEntry, standard, standard_entry, standard_function, standard_dispatch, standard_sub_function, entry_at, dispatch_at, no_entry}
 
 -- one more element of a table that is made in order
 pub range_grown : {X : Type 0} (f : ℕ → X) (xs : List X) (n : ℕ) (y : X)
@@ -27,7 +27,7 @@ dispatch_past c h = grind (arith, common_steps)
 pub entry_past : (c : ℕ) → 128 ≤ c → standard_entry c ≡ no_entry
 entry_past c h = λ i. record { syntax = syntax_past c h i; function = function_past c h i; dispatch = dispatch_past c h i }
 
-pub standard_of_rows : (rows : List Entry) (n : ℕ) → rows ≡ map standard_entry (range_with_len 0 n) → n ≡ 128
+pub standard_of_rows : (rows : List CharacterEntry) (n : ℕ) → rows ≡ map standard_entry (range_with_len 0 n) → n ≡ 128
     → record { letters = Upcase; entries = rows } ≡ standard
 unfolding standard
 standard_of_rows rows n e same = rw (e, same)
@@ -53,13 +53,13 @@ sub_at sub =
 
 -- for the layers above: the syntax type and the function of each character of the standard readtable
 pub standard_syntax_at : (c : ℕ) → (entry_at standard c).syntax ≡ standard_syntax c
-standard_syntax_at c = ap (λ (e : Entry). e.syntax) (standard_at c)
+standard_syntax_at c = ap (λ (e : CharacterEntry). e.syntax) (standard_at c)
 
 pub standard_function_at : (c : ℕ) → (entry_at standard c).function ≡ standard_function c
-standard_function_at c = ap (λ (e : Entry). e.function) (standard_at c)
+standard_function_at c = ap (λ (e : CharacterEntry). e.function) (standard_at c)
 
 pub standard_dispatch_at : (c : ℕ) → (entry_at standard c).dispatch ≡ standard_dispatch c
-standard_dispatch_at c = ap (λ (e : Entry). e.dispatch) (standard_at c)
+standard_dispatch_at c = ap (λ (e : CharacterEntry). e.dispatch) (standard_at c)
 
 -- the function at a sub-character of #, the only dispatching character of the standard readtable
 pub standard_sub_function_at : (sub : ℕ) → dispatch_at standard 35 sub ≡ standard_sub_function (upper_case sub)

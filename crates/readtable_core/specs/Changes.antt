@@ -6,31 +6,31 @@ use Rattle.readtable_core.specs.declared.refusal.DispatchRefusal.{DispatchRefusa
 use Rattle.readtable_core.specs.declared.refusal.DispatchRefusal.TheVariants.{NotDispatching, DigitSubcharacter}
 use Rattle.readtable_core.specs.Characters.{upper_case, is_digit}
 use Rattle.readtable_core.specs.Names.{dispatch_name}
-use Rattle.readtable_core.specs.Tables.{Entry, Table, entry_at}
+use Rattle.readtable_core.specs.Tables.{CharacterEntry, Table, entry_at}
 use Rattle.readtable_core.specs.Sound.{is_dispatching}
 
-abbrev pub with_entry : Table → ℕ → Entry → Table
+abbrev pub with_entry : Table → ℕ → CharacterEntry → Table
 with_entry table c e = record table { entries = set table.entries c e }
 
 -- the same, if the call that puts it succeeded
-abbrev pub put_if : Bool → Table → ℕ → Entry → Table
+abbrev pub put_if : Bool → Table → ℕ → CharacterEntry → Table
 put_if succeeded table c e = if succeeded then with_entry table c e else table
 
 abbrev pub macro_syntax : Bool → Syntax
 macro_syntax non_terminating = if non_terminating then NonTerminatingMacro else TerminatingMacro
 
 -- a macro character with this function; what was dispatched there is gone
-abbrev pub macro_entry : List ℕ → Bool → Entry
+abbrev pub macro_entry : List ℕ → Bool → CharacterEntry
 macro_entry name non_terminating =
     record { syntax = macro_syntax non_terminating; function = Some name; dispatch = [] }
 
 -- a dispatching macro character with no function at any sub-character
-abbrev pub dispatching_entry : Bool → Entry
+abbrev pub dispatching_entry : Bool → CharacterEntry
 dispatching_entry non_terminating =
     record { syntax = macro_syntax non_terminating; function = Some dispatch_name; dispatch = replicate 128 None }
 
 -- the entry with this function at the sub-character, which is taken in upper case
-abbrev pub with_function : Entry → ℕ → List ℕ → Entry
+abbrev pub with_function : CharacterEntry → ℕ → List ℕ → CharacterEntry
 with_function e sub name = record e { dispatch = set e.dispatch (upper_case sub) (Some name) }
 
 -- why a function cannot be set at the sub-character: the first reason that holds

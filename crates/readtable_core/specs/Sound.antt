@@ -4,7 +4,7 @@ use Rattle.readtable_core.specs.declared.characters.Syntax.{Syntax}
 use Rattle.readtable_core.specs.declared.characters.Syntax.TheVariants.{TerminatingMacro, NonTerminatingMacro}
 use Rattle.readtable_core.specs.Characters.{is_lower_case, is_digit}
 use Rattle.readtable_core.specs.Names.{is_function_name, is_dispatch_name}
-use Rattle.readtable_core.specs.Tables.{Entry, Table, entry_at}
+use Rattle.readtable_core.specs.Tables.{CharacterEntry, Table, entry_at}
 
 abbrev pub is_macro : Syntax → Bool
 is_macro TerminatingMacro = true
@@ -15,7 +15,7 @@ abbrev pub dispatches : Option (List ℕ) → Bool
 dispatches None = false
 dispatches (Some name) = is_dispatch_name name
 
-abbrev pub is_dispatching : Entry → Bool
+abbrev pub is_dispatching : CharacterEntry → Bool
 is_dispatching e = dispatches e.function
 
 -- a name where there is one
@@ -25,7 +25,7 @@ is_none_or_name (Some name) = is_function_name name
 
 -- A function is exactly at macro characters. There are places for sub-characters exactly at dispatching ones; none is
 -- filled at a lower-case letter or a digit, and none with STD-DISPATCH. Names are names of functions.
-pub record IsEntry (e : Entry) : Type 0 where
+pub record IsCharacterEntry (e : CharacterEntry) : Type 0 where
   pub function : is_some e.function ≡ is_macro e.syntax
   pub places : length e.dispatch ≡ (if is_dispatching e then 128 else 0)
   pub keys : (sub : ℕ) → IsTrue (is_lower_case sub || is_digit sub) → get_or e.dispatch sub None ≡ None
@@ -35,4 +35,4 @@ pub record IsEntry (e : Entry) : Type 0 where
 
 pub record IsReadtable (table : Table) : Type 0 where
   pub count : length table.entries ≡ 128
-  pub each : (c : ℕ) → IsEntry (entry_at table c)
+  pub each : (c : ℕ) → IsCharacterEntry (entry_at table c)

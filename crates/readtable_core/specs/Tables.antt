@@ -13,7 +13,7 @@ use Rattle.readtable_core.specs.Names.{dispatch_name}
 
 -- What is at one character. The dispatch table is the list of the functions of the sub-characters 0 to 127 at a
 -- dispatching character, and empty elsewhere.
-pub record Entry : Type 0 where
+pub record CharacterEntry : Type 0 where
   pub syntax : Syntax
   pub function : Option (List ℕ)
   pub dispatch : List (Option (List ℕ))
@@ -21,13 +21,13 @@ pub record Entry : Type 0 where
 -- the entries of the characters 0 to 127, in order
 pub record Table : Type 0 where
   pub letters : Case
-  pub entries : List Entry
+  pub entries : List CharacterEntry
 
 -- what is beyond 127
-abbrev pub no_entry : Entry
+abbrev pub no_entry : CharacterEntry
 no_entry = record { syntax = Invalid; function = None; dispatch = [] }
 
-abbrev pub entry_at : Table → ℕ → Entry
+abbrev pub entry_at : Table → ℕ → CharacterEntry
 entry_at table c = get_or table.entries c no_entry
 
 -- the function at the sub-character, which is taken in upper case
@@ -71,7 +71,7 @@ standard_sub_function sub =
 abbrev pub standard_dispatch : ℕ → List (Option (List ℕ))
 standard_dispatch c = if c == 35 then map standard_sub_function (range_with_len 0 128) else []
 
-abbrev pub standard_entry : ℕ → Entry
+abbrev pub standard_entry : ℕ → CharacterEntry
 standard_entry c = record { syntax = standard_syntax c; function = standard_function c; dispatch = standard_dispatch c }
 
 -- the standard readtable; its entry at each character is `standard_entry` (`standard_at` of proofs/Standard.antt)

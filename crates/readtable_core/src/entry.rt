@@ -4,7 +4,7 @@ ghost use Rattle.std.specs.List.{range_with_len};
 ghost use Rattle.readtable_core.specs.Characters.{upper_case, is_digit};
 ghost use Rattle.readtable_core.specs.Names.{is_dispatch_name};
 ghost use Rattle.readtable_core.specs.Tables.{standard_entry, standard_function, standard_sub_function};
-ghost use Rattle.readtable_core.specs.Sound.{IsEntry, is_dispatching};
+ghost use Rattle.readtable_core.specs.Sound.{IsCharacterEntry, is_dispatching};
 ghost use Rattle.readtable_core.specs.Changes.{with_function, macro_entry, dispatching_entry, macro_syntax};
 ghost use Rattle.readtable_core.specs.Named.{same_entry};
 
@@ -17,19 +17,19 @@ use std::alloc::{AllocError, Global};
 use std::marker::Model;
 
 /// The entry of one character in a readtable: its syntax type, its function where it is a macro character, and its
-/// dispatch table where it is a dispatching one. Contracts see it as an `Entry`.
+/// dispatch table where it is a dispatching one. Contracts see it as a `CharacterEntry`.
 #[derive(Drop)]
-pub struct CharacterEntry {
+pub struct CharacterSlot {
     syntax: Syntax,
     function: Option<FnName>,
     // a place for each sub-character from 0 to 127 where the character is dispatching, and none elsewhere
     dispatch: Vec<Option<FnName>>,
 }
 
-impl Model for CharacterEntry {
-    ghost use Rattle.readtable_core.specs.Tables.{Entry};
+impl Model for CharacterSlot {
+    ghost use Rattle.readtable_core.specs.Tables.{CharacterEntry};
 
-    ghost Value = { Entry };
+    ghost Value = { CharacterEntry };
 
     ghost use Rattle.readtable_core.specs.Entries.{entry_of, IsKept};
 
@@ -38,7 +38,7 @@ impl Model for CharacterEntry {
     ghost invariant = { IsKept };
 }
 
-impl CharacterEntry {
+impl CharacterSlot {
     /// The syntax type (standard 2.1.4). Takes no memory.
     pub fn syntax(&self) -> Syntax
         ensures { result ≡ self.now.syntax }
@@ -63,13 +63,13 @@ impl CharacterEntry {
 
     /// What holds of every entry. For proofs: it does nothing.
     pub fn soundness(&self)
-        ensures { IsEntry self.now }
+        ensures { IsCharacterEntry self.now }
     {
         let _ = &self.dispatch;
     }
 
     // The same entry, dispatch table and all.
-    pub(crate) fn copy(&self, alloc: Global) -> Result<CharacterEntry, AllocError>
+    pub(crate) fn copy(&self, alloc: Global) -> Result<CharacterSlot, AllocError>
         ensures value { IfOk result (λ entry. entry ≡ self.now) }
         ensures memory { OnErr result (IsTrue (is_dispatching self.now)) }
     {
@@ -78,7 +78,7 @@ impl CharacterEntry {
         } else {
             self.dispatch.iter().copied().collect(alloc)?
         };
-        Ok(CharacterEntry {
+        Ok(CharacterSlot {
             syntax: self.syntax,
             function: self.function,
             dispatch,
@@ -86,7 +86,7 @@ impl CharacterEntry {
     }
 
     // Whether the other entry is the same.
-    pub(crate) fn is_same(&self, other: &CharacterEntry) -> bool
+    pub(crate) fn is_same(&self, other: &CharacterSlot) -> bool
         ensures { result ≡ same_entry self.now other.now }
     {
         self.syntax.number() == other.syntax.number()
@@ -108,12 +108,12 @@ impl CharacterEntry {
 }
 
 /// A macro character with a function and no dispatch table.
-pub(crate) fn macro_character(alloc: Global, name: FnName, non_terminating: bool) -> CharacterEntry
+pub(crate) fn macro_character(alloc: Global, name: FnName, non_terminating: bool) -> CharacterSlot
     requires { IsFalse (is_dispatch_name name) }
     ensures { result ≡ macro_entry name non_terminating }
 {
     let _ = name.as_bytes();
-    CharacterEntry {
+    CharacterSlot {
         syntax: macro_syntax_of(non_terminating),
         function: Some(name),
         dispatch: Vec::new(alloc),
@@ -124,11 +124,11 @@ pub(crate) fn macro_character(alloc: Global, name: FnName, non_terminating: bool
 pub(crate) fn dispatching_character(
     alloc: Global,
     non_terminating: bool,
-) -> Result<CharacterEntry, AllocError>
+) -> Result<CharacterSlot, AllocError>
     ensures { IfOk result (λ entry. entry ≡ dispatching_entry non_terminating) }
 {
     let dispatch = empty_dispatch(alloc)?;
-    Ok(CharacterEntry {
+    Ok(CharacterSlot {
         syntax: macro_syntax_of(non_terminating),
         function: Some(named(STD_DISPATCH)),
         dispatch,
@@ -136,7 +136,7 @@ pub(crate) fn dispatching_character(
 }
 
 /// The entry of `c` in the standard readtable.
-pub(crate) fn standard_character(alloc: Global, c: u8) -> Result<CharacterEntry, AllocError>
+pub(crate) fn standard_character(alloc: Global, c: u8) -> Result<CharacterSlot, AllocError>
     ensures { IfOk result (λ entry. entry ≡ standard_entry c) }
 {
     let dispatch = if c == b'#' {
@@ -144,7 +144,7 @@ pub(crate) fn standard_character(alloc: Global, c: u8) -> Result<CharacterEntry,
     } else {
         Vec::new(alloc)
     };
-    Ok(CharacterEntry {
+    Ok(CharacterSlot {
         syntax: standard_syntax_of(c),
         function: standard_function_of(c),
         dispatch,

@@ -8,7 +8,7 @@
 //! - `characters`: `Syntax`, `Traits`, `traits_of`
 //! - `names`: `FnName`, the name of a reader macro function
 //! - `standard_names`: the names of the functions of the standard readtable
-//! - `entry`: `CharacterEntry`, what is at one character
+//! - `entry`: `CharacterSlot`, what is at one character
 //! - `table`: `Case`, `Readtable` and the calls that read or change it
 //! - `refusal`: `DispatchRefusal`
 //! - `standard_table`: the functions of the standard readtable, character by character
@@ -43,7 +43,7 @@ mod standard_table;
 mod table;
 
 pub use characters::{Syntax, Traits, traits_of};
-pub use entry::CharacterEntry;
+pub use entry::CharacterSlot;
 pub use names::FnName;
 pub use refusal::DispatchRefusal;
 pub use table::{Case, Readtable};

@@ -9,7 +9,7 @@ ghost use Rattle.readtable_core.specs.Sound.{IsReadtable, is_dispatching};
 ghost use Rattle.readtable_core.specs.Changes.{put_if, with_entry, macro_entry, dispatching_entry, with_function, dispatch_refusal};
 
 use crate::entry::{dispatching_character, macro_character, standard_character};
-use crate::{CharacterEntry, DispatchRefusal, FnName, Syntax};
+use crate::{CharacterSlot, DispatchRefusal, FnName, Syntax};
 use std::alloc::{AllocError, Global};
 use std::marker::Model;
 use std::mem;
@@ -65,7 +65,7 @@ impl Case {
 pub struct Readtable {
     alloc: Global,
     letters: Case,
-    entries: Vec<CharacterEntry>,
+    entries: Vec<CharacterSlot>,
 }
 
 impl Model for Readtable {
@@ -162,14 +162,14 @@ impl Readtable {
     }
 
     /// The entries of the characters 0 to 127, in order: all that the readtable names is in them. Takes no memory.
-    pub fn entries(&self) -> &[CharacterEntry]
+    pub fn entries(&self) -> &[CharacterSlot]
         ensures { result.now ≡ self.now.entries }
     {
         self.entries.as_slice()
     }
 
     /// A copy of the entry of `c`, which is below 128. Out of memory only where it has a dispatch table.
-    pub fn entry(&self, alloc: Global, c: u8) -> Result<CharacterEntry, AllocError>
+    pub fn entry(&self, alloc: Global, c: u8) -> Result<CharacterSlot, AllocError>
         requires { c < 128 }
         ensures value { IfOk result (λ entry. entry ≡ entry_at self.now c) }
         ensures memory { OnErr result (IsTrue (is_dispatching (entry_at self.now c))) }
@@ -179,7 +179,7 @@ impl Readtable {
 
     /// Puts `entry` in place of the entry of `c`, which is below 128, and answers the old one; that one put back gives the
     /// old readtable. Takes no memory.
-    pub fn put_entry(&mut self, c: u8, entry: CharacterEntry) -> CharacterEntry
+    pub fn put_entry(&mut self, c: u8, entry: CharacterSlot) -> CharacterSlot
         requires { c < 128 }
         ensures old { result ≡ entry_at self.old c }
         ensures after { self.new ≡ with_entry self.old c entry }

@@ -7,8 +7,8 @@ use Rattle.lisp_object.specs.Object.{Object, text, list_of}
 use Rattle.lisp_object.specs.Datum.{object_of, is_proper}
 use Rattle.readtable_core.specs.declared.characters.Syntax.{Syntax}
 use Rattle.readtable_core.specs.Characters.{standard_syntax, syntax_number}
-use Rattle.readtable_core.specs.Tables.{Entry, entry_at, standard}
-use Rattle.readtable_core.specs.Sound.{IsEntry, is_macro, dispatches}
+use Rattle.readtable_core.specs.Tables.{CharacterEntry, entry_at, standard}
+use Rattle.readtable_core.specs.Sound.{IsCharacterEntry, is_macro, dispatches}
 use Rattle.readtable_core.proofs.Sound.{standard_sound}
 use Rattle.readtable_core.proofs.Standard.{standard_syntax_at}
 use Rattle.readtable_core.proofs.Named.{number_known}
@@ -21,12 +21,12 @@ no_function : (o : Option (List ℕ)) → is_some o ≡ false → o ≡ None
 no_function None e = refl
 no_function (Some f) e = absurd cc
 
-plain : (e : Entry) → IsEntry e → is_macro e.syntax ≡ false → (e.function ≡ None) × (e.dispatch ≡ [])
+plain : (e : CharacterEntry) → IsCharacterEntry e → is_macro e.syntax ≡ false → (e.function ≡ None) × (e.dispatch ≡ [])
 plain e sound other =
     let function = no_function e.function (sound.function ∙ other) in
     (function, no_places e sound (ap dispatches function))
 
-pub standard_is : (e : Entry) (syntax : Syntax) (c : ℕ) → IsEntry e → e.syntax ≡ syntax → standard_syntax c ≡ syntax → is_macro syntax ≡ false → entry_at standard c ≡ e
+pub standard_is : (e : CharacterEntry) (syntax : Syntax) (c : ℕ) → IsCharacterEntry e → e.syntax ≡ syntax → standard_syntax c ≡ syntax → is_macro syntax ≡ false → entry_at standard c ≡ e
 standard_is e syntax c sound is at_c other =
     let f = entry_at standard c in
     let typed : f.syntax ≡ syntax = standard_syntax_at c ∙ at_c in
@@ -65,7 +65,7 @@ four_items items a b c d x y z v e proper is_a is_b is_c is_d =
     }
 
 -- the parts of an entry
-abbrev pub entry_items : ℕ → Entry → List Object
+abbrev pub entry_items : ℕ → CharacterEntry → List Object
 entry_items c e = number c ∷ number (syntax_number e.syntax) ∷ text (unwrap_or e.function []) ∷ list_of (dispatch_objects e) ∷ []
 
 pub syntax_small : (s : Syntax) → syntax_number s < 128

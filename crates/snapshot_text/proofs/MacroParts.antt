@@ -12,8 +12,8 @@ use Rattle.lisp_object.specs.Object.{Object, text, list_of}
 use Rattle.lisp_object.specs.Datum.{object_of, is_proper}
 use Rattle.readtable_core.specs.Characters.{is_lower_case, is_digit}
 use Rattle.readtable_core.specs.Names.{is_function_name, is_dispatch_name, dispatch_name}
-use Rattle.readtable_core.specs.Tables.{Entry, Table, entry_at}
-use Rattle.readtable_core.specs.Sound.{IsEntry, is_macro, is_dispatching, dispatches, is_none_or_name}
+use Rattle.readtable_core.specs.Tables.{CharacterEntry, Table, entry_at}
+use Rattle.readtable_core.specs.Sound.{IsCharacterEntry, is_macro, is_dispatching, dispatches, is_none_or_name}
 use Rattle.readtable_core.specs.Changes.{with_entry, with_function, macro_entry, macro_syntax, dispatching_entry}
 use Rattle.readtable_core.proofs.Named.{all_named, passes}
 use Rattle.package_table.specs.Table.{Name, keyword}
@@ -34,10 +34,10 @@ macro_is true = refl
 macro_is false = refl
 
 -- the function of a macro character
-pub function_of : Entry → Name
+pub function_of : CharacterEntry → Name
 function_of e = unwrap_or e.function []
 
-pub has_function : (e : Entry) (b : Bool) → IsEntry e → e.syntax ≡ macro_syntax b → e.function ≡ Some (function_of e)
+pub has_function : (e : CharacterEntry) (b : Bool) → IsCharacterEntry e → e.syntax ≡ macro_syntax b → e.function ≡ Some (function_of e)
 unfolding function_of
 has_function e b sound is =
     elim e.function as (λ o. is_some o ≡ true → o ≡ Some (unwrap_or o [])) [
@@ -45,14 +45,14 @@ has_function e b sound is =
       | Some f ↦ λ e. refl
     ] (sound.function ∙ ap is_macro is ∙ macro_is b)
 
-pub function_is : (e : Entry) → function_of e ≡ unwrap_or e.function []
+pub function_is : (e : CharacterEntry) → function_of e ≡ unwrap_or e.function []
 unfolding function_of
 function_is e = refl
 
-pub function_name : (e : Entry) (b : Bool) → IsEntry e → e.syntax ≡ macro_syntax b → IsTrue (is_function_name (function_of e))
+pub function_name : (e : CharacterEntry) (b : Bool) → IsCharacterEntry e → e.syntax ≡ macro_syntax b → IsTrue (is_function_name (function_of e))
 function_name e b sound is = ap is_none_or_name (sym (has_function e b sound is)) ∙ sound.name
 
-pub function_named : (t : packages.Table) (e : Entry) (b : Bool) → IsNamedEntry t e → e.syntax ≡ macro_syntax b → IsSymbol t (keyword, function_of e)
+pub function_named : (t : packages.Table) (e : CharacterEntry) (b : Bool) → IsNamedEntry t e → e.syntax ≡ macro_syntax b → IsSymbol t (keyword, function_of e)
 function_named t e b sound is =
     let all = sym (all_named (is_symbol t keyword) (e.function ∷ e.dispatch)) ∙ sound.functions in
     symbol_is t keyword (function_of e) (ap (passes (is_symbol t keyword)) (sym (has_function e b sound.entry is))
@@ -63,10 +63,10 @@ none : {A : Type 0} (xs : List A) → length xs ≡ 0 → xs ≡ []
 none [] e = refl
 none (x ∷ xs) e = absurd (omega arith)
 
-pub no_places : (e : Entry) → IsEntry e → is_dispatching e ≡ false → e.dispatch ≡ []
+pub no_places : (e : CharacterEntry) → IsCharacterEntry e → is_dispatching e ≡ false → e.dispatch ≡ []
 no_places e sound other = none e.dispatch (sound.places ∙ ap (λ b. if b then 128 else 0) other)
 
-pub macro_is_entry : (e : Entry) (b : Bool) → IsEntry e → e.syntax ≡ macro_syntax b → is_dispatch_name (function_of e) ≡ false → macro_entry (function_of e) b ≡ e
+pub macro_is_entry : (e : CharacterEntry) (b : Bool) → IsCharacterEntry e → e.syntax ≡ macro_syntax b → is_dispatch_name (function_of e) ≡ false → macro_entry (function_of e) b ≡ e
 macro_is_entry e b sound is other =
     let function = has_function e b sound is in
     let dispatch = no_places e sound (ap dispatches function ∙ other) in
@@ -76,7 +76,7 @@ macro_is_entry e b sound is other =
 abbrev pub sub_update : List (Option Name) → ℕ → Option (Option Name)
 sub_update fs sub = option_map (λ f. Some f) (get_or fs sub None)
 
-abbrev pub subs : Entry → List (ℕ × Option Name)
+abbrev pub subs : CharacterEntry → List (ℕ × Option Name)
 subs e = updates (sub_update e.dispatch) (range_with_len 0 128)
 
 abbrev pub sub_object : ℕ × Option Name → Object
@@ -91,30 +91,30 @@ flat_updates fs (x ∷ xs) =
       | Some f ↦ ap (λ ys. list_of (number x ∷ text f ∷ []) ∷ ys) (flat_updates fs xs)
     ]
 
-pub subs_are : (e : Entry) → dispatch_objects e ≡ map sub_object (subs e)
+pub subs_are : (e : CharacterEntry) → dispatch_objects e ≡ map sub_object (subs e)
 unfolding dispatch_objects
 subs_are e = flat_updates e.dispatch (range_with_len 0 128)
 
-abbrev pub with_places : Entry → List (Option Name) → Entry
+abbrev pub with_places : CharacterEntry → List (Option Name) → CharacterEntry
 with_places e places = record e { dispatch = places }
 
 -- The readtable has at c the entry e, but for the pairs that are left.
-pub record IsFilling (s : State) (n : Name) (t : Table) (c : ℕ) (e : Entry) (pairs : List Datum) (k : ℕ) (now : State) : Type 0 where
+pub record IsFilling (s : State) (n : Name) (t : Table) (c : ℕ) (e : CharacterEntry) (pairs : List Datum) (k : ℕ) (now : State) : Type 0 where
   pub proper : list_all is_proper pairs ≡ true
   pub objects : map object_of pairs ≡ dispatch_objects e
   pub places : List (Option Name)
   pub is : now ≡ with_table s n (with_entry t c (with_places e places))
   pub left : put_all places (drop k (subs e)) ≡ e.dispatch
 
-dispatching_is : (e : Entry) (b : Bool) → IsEntry e → e.syntax ≡ macro_syntax b → is_dispatch_name (function_of e) ≡ true → dispatching_entry b ≡ with_places e (replicate 128 None)
+dispatching_is : (e : CharacterEntry) (b : Bool) → IsCharacterEntry e → e.syntax ≡ macro_syntax b → is_dispatch_name (function_of e) ≡ true → dispatching_entry b ≡ with_places e (replicate 128 None)
 dispatching_is e b sound is named =
     let function : Some dispatch_name ≡ e.function = ap Some ((bytes_decides dispatch_name (function_of e)).0 named) ∙ sym (has_function e b sound is) in
     λ i. record { syntax = sym is i; function = function i; dispatch = replicate 128 None }
 
-many_places : (e : Entry) (b : Bool) → IsEntry e → e.syntax ≡ macro_syntax b → is_dispatch_name (function_of e) ≡ true → length e.dispatch ≡ 128
+many_places : (e : CharacterEntry) (b : Bool) → IsCharacterEntry e → e.syntax ≡ macro_syntax b → is_dispatch_name (function_of e) ≡ true → length e.dispatch ≡ 128
 many_places e b sound is named = sound.places ∙ ap (λ b. if b then 128 else 0) (ap dispatches (has_function e b sound is) ∙ named)
 
-pub first_filling : (s : State) (n : Name) (t : Table) (c : ℕ) (e : Entry) (b : Bool) (pairs : List Datum) (now : State) → IsEntry e → e.syntax ≡ macro_syntax b
+pub first_filling : (s : State) (n : Name) (t : Table) (c : ℕ) (e : CharacterEntry) (b : Bool) (pairs : List Datum) (now : State) → IsCharacterEntry e → e.syntax ≡ macro_syntax b
     → is_dispatch_name (function_of e) ≡ true → list_all is_proper pairs ≡ true → map object_of pairs ≡ dispatch_objects e
     → now ≡ with_table s n (with_entry t c (dispatching_entry b)) → IsFilling s n t c e pairs 0 now
 first_filling s n t c e b pairs now sound is named proper objects made = record {
@@ -141,7 +141,7 @@ first_filling s n t c e b pairs now sound is named proper objects made = record 
     set_to (Some f) x e = let same : Some f ≡ x = cc in sym same
 
 -- the pair at a place is a function that may be set at a sub-character, in a readtable that may be written
-pub record IsPair (s : State) (n : Name) (t : Table) (c : ℕ) (e : Entry) (pairs : List Datum) (k : ℕ) (now : State) (pair : Datum) : Type 0 where
+pub record IsPair (s : State) (n : Name) (t : Table) (c : ℕ) (e : CharacterEntry) (pairs : List Datum) (k : ℕ) (now : State) (pair : Datum) : Type 0 where
   pub proper : is_proper pair ≡ true
   pub sub : ℕ
   pub function : Name
@@ -163,7 +163,7 @@ of_update (Some f) x e =
     let named : f ≡ unwrap_or x [] = ap (λ o. unwrap_or o []) same in
     (ap Some named, sym same ∙ ap Some named)
 
-pub pair_at : (s : State) (n : Name) (t : Table) (c : ℕ) (e : Entry) (b : Bool) (pairs : List Datum) (k : ℕ) (now : State) (pair : Datum)
+pub pair_at : (s : State) (n : Name) (t : Table) (c : ℕ) (e : CharacterEntry) (b : Bool) (pairs : List Datum) (k : ℕ) (now : State) (pair : Datum)
     → IsNamedEntry s.packages e → e.syntax ≡ macro_syntax b → is_dispatch_name (function_of e) ≡ true → c < 128 → IsWritable s.readtables n t
     → IsFilling s n t c e pairs k now → k < length pairs → pair ≡ get_or pairs k pair → IsPair s n t c e pairs k now pair
 pair_at s n t c e b pairs k now pair named syntax dispatches_here small w so_far few is =
@@ -213,7 +213,7 @@ pair_at s n t c e b pairs k now pair named syntax dispatches_here small w so_far
       };
     }
 
-pub last_filling : (s : State) (n : Name) (t : Table) (c : ℕ) (e : Entry) (pairs : List Datum) (k : ℕ) (now : State) → IsFilling s n t c e pairs k now → k ≡ length pairs
+pub last_filling : (s : State) (n : Name) (t : Table) (c : ℕ) (e : CharacterEntry) (pairs : List Datum) (k : ℕ) (now : State) → IsFilling s n t c e pairs k now → k ≡ length pairs
     → now ≡ with_table s n (with_entry t c e)
 last_filling s n t c e pairs k now so_far all =
     let us = subs e in

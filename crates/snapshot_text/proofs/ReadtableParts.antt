@@ -12,7 +12,7 @@ use Rattle.std.proofs.lemmas.List.{get_or-map, length-map}
 use Rattle.lisp_object.specs.declared.datum.Datum.{Datum}
 use Rattle.lisp_object.specs.Object.{Object}
 use Rattle.lisp_object.specs.Datum.{object_of, is_proper}
-use Rattle.readtable_core.specs.Tables.{Entry, Table, entry_at, no_entry, standard}
+use Rattle.readtable_core.specs.Tables.{CharacterEntry, Table, entry_at, no_entry, standard}
 use Rattle.readtable_core.specs.Named.{same_entry}
 use Rattle.readtable_core.specs.Changes.{with_entry}
 use Rattle.readtable_core.proofs.Named.{same_is, named_at}
@@ -50,13 +50,13 @@ copy_writable s n can = made_writable s n standard can.other can.standard standa
 abbrev differs : Table → ℕ → Bool
 differs t c = not (same_entry (entry_at t c) (entry_at standard c))
 
-abbrev pub entry_update : Table → ℕ → Option Entry
+abbrev pub entry_update : Table → ℕ → Option CharacterEntry
 entry_update t c = cond (differs t c) (Some (entry_at t c)) None
 
-abbrev pub entry_updates : Table → List (ℕ × Entry)
+abbrev pub entry_updates : Table → List (ℕ × CharacterEntry)
 entry_updates t = updates (entry_update t) (range_with_len 0 128)
 
-abbrev pub update_object : ℕ × Entry → Object
+abbrev pub update_object : ℕ × CharacterEntry → Object
 update_object u = entry_object u.0 u.1
 
 filtered_updates : (t : Table) (xs : List ℕ) → map (λ c. entry_object c (entry_at t c)) (filter (differs t) xs) ≡ map update_object (updates (entry_update t) xs)
@@ -72,14 +72,14 @@ pub updates_are : (t : Table) → entry_objects t ≡ map update_object (entry_u
 unfolding entry_objects
 updates_are t = filtered_updates t (range_with_len 0 128)
 
-abbrev pub with_entries : Table → List Entry → Table
+abbrev pub with_entries : Table → List CharacterEntry → Table
 with_entries t entries = record t { entries = entries }
 
 -- The readtable of this name is t, but for the entries that are left.
 pub record IsMaking (s : State) (n : Name) (t : Table) (rows : List Datum) (k : ℕ) (now : State) : Type 0 where
   pub proper : list_all is_proper rows ≡ true
   pub objects : map object_of rows ≡ entry_objects t
-  pub entries : List Entry
+  pub entries : List CharacterEntry
   pub count : length entries ≡ 128
   pub is : now ≡ with_table s n (with_entries t entries)
   pub left : put_all entries (drop k (entry_updates t)) ≡ t.entries
@@ -92,11 +92,11 @@ table_same s n t there = ap (λ (m : Readtables). record s { readtables = m }) (
       | false ↦ λ e. refl
     ] refl ∙ sym (get-insert name_total s.readtables n t q)))
 
-of_update : (b : Bool) (e x : Entry) → ◌≡◌ {A = Option Entry} (cond b (Some e) None) (Some x) → x ≡ e
+of_update : (b : Bool) (e x : CharacterEntry) → ◌≡◌ {A = Option CharacterEntry} (cond b (Some e) None) (Some x) → x ≡ e
 of_update true e x is = let same : e ≡ x = cc in sym same
 of_update false e x is = absurd cc
 
-not_set : (a : Bool) (e : Entry) → ◌≡◌ {A = Option Entry} (cond (not a) (Some e) None) None → a ≡ true
+not_set : (a : Bool) (e : CharacterEntry) → ◌≡◌ {A = Option CharacterEntry} (cond (not a) (Some e) None) None → a ≡ true
 not_set true e is = refl
 not_set false e is = absurd cc
 
@@ -117,7 +117,7 @@ first_making s n t rows named w proper objects = record {
 pub record IsEntryRow (s : State) (n : Name) (t : Table) (rows : List Datum) (k : ℕ) (now : State) (row : Datum) : Type 0 where
   pub proper : is_proper row ≡ true
   pub character : ℕ
-  pub entry : Entry
+  pub entry : CharacterEntry
   pub object : object_of row ≡ entry_object character entry
   pub small : character < 128
   pub named : IsNamedEntry now.packages entry

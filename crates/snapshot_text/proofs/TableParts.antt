@@ -12,7 +12,7 @@ use Rattle.std.proofs.lemmas.List.{set-set}
 use Rattle.std.proofs.lemmas.Map.Text.{is_eq-slice_cmp}
 use Rattle.readtable_core.specs.Characters.{upper_case, is_lower_case, is_digit}
 use Rattle.readtable_core.specs.Tables as readtable
-use Rattle.readtable_core.specs.Tables.{Entry, Table, entry_at, no_entry}
+use Rattle.readtable_core.specs.Tables.{CharacterEntry, Table, entry_at, no_entry}
 use Rattle.readtable_core.specs.Sound.{is_dispatching}
 use Rattle.readtable_core.specs.Changes.{with_entry, with_function}
 use Rattle.readtable_core.specs.declared.refusal.DispatchRefusal.TheVariants.{NotDispatching as NoDispatch, DigitSubcharacter as Digit}
@@ -65,10 +65,10 @@ table_twice s n t u = ap (λ (m : Readtables). record s { readtables = m }) (sam
     ∙ elim (eq_by_cmp name_cmp q n) as (λ b. cond b (Some u) (cond b (Some t) (finite.get s.readtables q)) ≡ cond b (Some u) (finite.get s.readtables q)) [ true ↦ refl | false ↦ refl ]
     ∙ sym (get-insert name_total s.readtables n u q)))
 
-pub entry_twice : (t : Table) (c : ℕ) (e f : Entry) → with_entry (with_entry t c e) c f ≡ with_entry t c f
-entry_twice t c e f = ap (λ (es : List Entry). record t { entries = es }) (set-set t.entries c e f)
+pub entry_twice : (t : Table) (c : ℕ) (e f : CharacterEntry) → with_entry (with_entry t c e) c f ≡ with_entry t c f
+entry_twice t c e f = ap (λ (es : List CharacterEntry). record t { entries = es }) (set-set t.entries c e f)
 
-pub entry_there : (t : Table) (c : ℕ) (e : Entry) → c < length t.entries → entry_at (with_entry t c e) c ≡ e
+pub entry_there : (t : Table) (c : ℕ) (e : CharacterEntry) → c < length t.entries → entry_at (with_entry t c e) c ≡ e
 entry_there t c e few = get_or-set_same t.entries c e no_entry few
 
 -- it may be written then, and again

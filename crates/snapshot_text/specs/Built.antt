@@ -7,8 +7,8 @@ use Rattle.std.specs.FinMap as finite
 use Rattle.readtable_core.specs.Characters.{is_lower_case, is_digit}
 use Rattle.readtable_core.specs.Names.{is_function_name, is_dispatch_name}
 use Rattle.readtable_core.specs.Tables as readtable
-use Rattle.readtable_core.specs.Tables.{Entry}
-use Rattle.readtable_core.specs.Sound.{IsEntry}
+use Rattle.readtable_core.specs.Tables.{CharacterEntry}
+use Rattle.readtable_core.specs.Sound.{IsCharacterEntry}
 use Rattle.readtable_core.specs.Named.{functions_at}
 use Rattle.package_table.specs.Table as packages
 use Rattle.package_table.specs.Table.{Name, keyword}
@@ -57,8 +57,8 @@ pub record IsWritable (m : Readtables) (n : Name) (t : readtable.Table) : Type 0
   pub standard : finite.get m standard_name ≡ Some readtable.standard
 
 -- an entry whose functions are named by keywords
-pub record IsNamedEntry (t : packages.Table) (e : Entry) : Type 0 where
-  pub entry : IsEntry e
+pub record IsNamedEntry (t : packages.Table) (e : CharacterEntry) : Type 0 where
+  pub entry : IsCharacterEntry e
   pub functions : list_all (is_symbol t keyword) (functions_at e) ≡ true
 
 -- a function that a sub-character may be given in a dispatch table

@@ -6,7 +6,7 @@ ghost use Rattle.readtable_core.specs.declared.table.Case.{Case};
 ghost use Rattle.readtable_core.specs.Cases.{case_name};
 ghost use Rattle.readtable_core.specs.Names.{is_function_name, is_dispatch_name};
 ghost use Rattle.readtable_core.specs.Tables as readtable;
-ghost use Rattle.readtable_core.specs.Tables.{Entry, entry_at};
+ghost use Rattle.readtable_core.specs.Tables.{CharacterEntry, entry_at};
 ghost use Rattle.readtable_core.specs.Sound.{is_dispatching};
 ghost use Rattle.readtable_core.specs.Changes.{macro_syntax, with_entry, with_function};
 ghost use Rattle.package_table.specs.Table.{Name, keyword};
@@ -68,7 +68,7 @@ fn put_macro(
     dispatch: &Datum,
 ) -> Result<(), BuildError>
     requires { c < 128 }
-    ensures { is_proper function.now ≡ true → is_proper dispatch.now ≡ true → (t : readtable.Table) (e : Entry)
+    ensures { is_proper function.now ≡ true → is_proper dispatch.now ≡ true → (t : readtable.Table) (e : CharacterEntry)
         → object_of function.now ≡ text (unwrap_or e.function []) → object_of dispatch.now ≡ list_of (dispatch_objects e)
         → e.syntax ≡ macro_syntax non_terminating → IsNamedEntry world.old.0.packages e → IsWritable world.old.0.readtables table.now t
         → MatchResult result (λ _. world.new.0 ≡ with_table world.old.0 table.now (with_entry t c e)) (λ e. e ≡ BuildError.OutOfMemory) }
@@ -109,7 +109,7 @@ fn put_typed(
     dispatch: &Datum,
 ) -> Result<(), BuildError>
     requires { c < 128 }
-    ensures { is_proper function.now ≡ true → is_proper dispatch.now ≡ true → (t : readtable.Table) (e : Entry)
+    ensures { is_proper function.now ≡ true → is_proper dispatch.now ≡ true → (t : readtable.Table) (e : CharacterEntry)
         → object_of function.now ≡ text (unwrap_or e.function []) → object_of dispatch.now ≡ list_of (dispatch_objects e)
         → e.syntax ≡ syntax → IsNamedEntry world.old.0.packages e → IsWritable world.old.0.readtables table.now t
         → MatchResult result (λ _. world.new.0 ≡ with_table world.old.0 table.now (with_entry t c e)) (λ e. e ≡ BuildError.OutOfMemory) }
@@ -127,7 +127,7 @@ fn put_typed(
 
 // Sets the entry of a character: its code, its syntax type, its function and its dispatch table.
 fn put_entry(world: &mut World, table: &[u8], entry: &Datum) -> Result<(), BuildError>
-    ensures { is_proper entry.now ≡ true → (t : readtable.Table) (c : ℕ) (e : Entry) → object_of entry.now ≡ entry_object c e → c < 128
+    ensures { is_proper entry.now ≡ true → (t : readtable.Table) (c : ℕ) (e : CharacterEntry) → object_of entry.now ≡ entry_object c e → c < 128
         → IsNamedEntry world.old.0.packages e → IsWritable world.old.0.readtables table.now t
         → MatchResult result (λ _. world.new.0 ≡ with_table world.old.0 table.now (with_entry t c e)) (λ e. e ≡ BuildError.OutOfMemory) }
 {

@@ -14,7 +14,7 @@ ghost use Rattle.world_text.specs.Snapshot.{table_named, readtables_object, tabl
 use crate::texts::{list_of_three, text_of};
 use lisp_object::{Bytes, Datum};
 use plist_state::{STANDARD, World};
-use readtable_core::{Case, CharacterEntry, FnName, Readtable};
+use readtable_core::{Case, CharacterSlot, FnName, Readtable};
 use std::alloc::{AllocError, Global};
 
 // A number as a datum.
@@ -55,7 +55,7 @@ fn pair_of(alloc: Global, sub: u8, function: FnName) -> Result<Datum, AllocError
 }
 
 // The function of a sub-character in an entry.
-fn function_at(entry: &CharacterEntry, sub: u8) -> Option<FnName>
+fn function_at(entry: &CharacterSlot, sub: u8) -> Option<FnName>
     ensures { result ≡ get_or entry.now.dispatch sub None }
 {
     let function = entry.dispatch().get(usize::from(sub))?;
@@ -83,7 +83,7 @@ fn push_pair(
 
 // The sub-characters below `count` that have a function, in their order.
 #[tactic(auto, using(crate::proofs::Ranges::flat_map_more))]
-fn pairs_below(alloc: Global, entry: &CharacterEntry, count: u8) -> Result<Vec<Datum>, AllocError>
+fn pairs_below(alloc: Global, entry: &CharacterSlot, count: u8) -> Result<Vec<Datum>, AllocError>
     ensures objects { IfOk result (λ pairs. map object_of pairs.items
         ≡ flat_map (λ sub. dispatch_object (get_or entry.now.dispatch sub None) sub) (range_with_len 0 count)) }
     ensures proper { IfOk result (λ pairs. list_all is_proper pairs.items ≡ true) }
@@ -96,7 +96,7 @@ fn pairs_below(alloc: Global, entry: &CharacterEntry, count: u8) -> Result<Vec<D
 }
 
 // The sub-characters that have a function, in their order.
-fn dispatch_rows(alloc: Global, entry: &CharacterEntry) -> Result<Vec<Datum>, AllocError>
+fn dispatch_rows(alloc: Global, entry: &CharacterSlot) -> Result<Vec<Datum>, AllocError>
     ensures objects { IfOk result (λ pairs. map object_of pairs.items ≡ dispatch_objects entry.now) }
     ensures proper { IfOk result (λ pairs. list_all is_proper pairs.items ≡ true) }
 {
@@ -104,7 +104,7 @@ fn dispatch_rows(alloc: Global, entry: &CharacterEntry) -> Result<Vec<Datum>, Al
 }
 
 // A character and what is there.
-fn entry_of(alloc: Global, c: u8, entry: &CharacterEntry) -> Result<Datum, AllocError>
+fn entry_of(alloc: Global, c: u8, entry: &CharacterSlot) -> Result<Datum, AllocError>
     ensures object { IfOk result (λ d. object_of d ≡ entry_object c entry.now) }
     ensures proper { IfOk result (λ d. is_proper d ≡ true) }
 {
@@ -119,7 +119,7 @@ fn entry_of(alloc: Global, c: u8, entry: &CharacterEntry) -> Result<Datum, Alloc
 }
 
 // The entry of a character of a readtable.
-fn entry_here(table: &Readtable, c: u8) -> &CharacterEntry
+fn entry_here(table: &Readtable, c: u8) -> &CharacterSlot
     requires { c < 128 }
     ensures { result.now ≡ entry_at table.now c }
 {

@@ -12,7 +12,7 @@ ghost use Rattle.user_macros.specs.Known.{known_among};
 
 use crate::stored::Stored;
 use crate::{Answer, Call, Gather, MacroFn, MacroFunctions, Meaning};
-use readtable_core::{CharacterEntry, FnName, Readtable};
+use readtable_core::{CharacterSlot, FnName, Readtable};
 use std::alloc::{AllocError, Global};
 
 /// Why a function is not registered.
@@ -116,7 +116,7 @@ impl<M: Meaning> Macros<M> {
         None
     }
 
-    fn covers_entry(&self, entry: &CharacterEntry) -> bool
+    fn covers_entry(&self, entry: &CharacterSlot) -> bool
         ensures { let names = map (λ s. s.name) self.now.stored.items in
             result ≡ list_all (is_covered names) (functions_at entry.now) }
     {

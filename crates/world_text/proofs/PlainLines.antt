@@ -15,8 +15,8 @@ use Rattle.readtable_core.specs.Characters.{syntax_number}
 use Rattle.readtable_core.specs.Cases.{case_name}
 use Rattle.readtable_core.specs.Names.{is_function_name}
 use Rattle.readtable_core.specs.Tables as readtable
-use Rattle.readtable_core.specs.Tables.{Entry, entry_at, standard}
-use Rattle.readtable_core.specs.Sound.{IsEntry, IsReadtable, is_none_or_name}
+use Rattle.readtable_core.specs.Tables.{CharacterEntry, entry_at, standard}
+use Rattle.readtable_core.specs.Sound.{IsCharacterEntry, IsReadtable, is_none_or_name}
 use Rattle.readtable_core.specs.Named.{same_entry}
 use Rattle.readtable_core.proofs.Sound.{standard_sound}
 use Rattle.package_table.specs.Table as packages
@@ -83,13 +83,13 @@ plain_pair : (f : Option Name) (sub : ℕ) → sub < 128 → IsTrue (is_none_or_
 plain_pair None sub few named = tt
 plain_pair (Some f) sub few named = ((plain_number sub few, (plain_function f named, plain_nil)), tt)
 
-plain_pairs : (e : Entry) → IsEntry e → (a n : ℕ) → a + n ≤ 128 → ArePlain (flat_map (λ sub. dispatch_object (get_or e.dispatch sub None) sub) (range_with_len a n))
+plain_pairs : (e : CharacterEntry) → IsCharacterEntry e → (a n : ℕ) → a + n ≤ 128 → ArePlain (flat_map (λ sub. dispatch_object (get_or e.dispatch sub None) sub) (range_with_len a n))
 plain_pairs e sound a zero few = tt
 plain_pairs e sound a (suc n) few =
     plain_both (dispatch_object (get_or e.dispatch a None) a) (flat_map (λ sub. dispatch_object (get_or e.dispatch sub None) sub) (range_with_len (a + 1) n))
     (plain_pair (get_or e.dispatch a None) a (omega arith) (sound.names a)) (plain_pairs e sound (a + 1) n (omega arith))
 
-plain_dispatch : (e : Entry) → IsEntry e → ArePlain (dispatch_objects e)
+plain_dispatch : (e : CharacterEntry) → IsCharacterEntry e → ArePlain (dispatch_objects e)
 unfolding dispatch_objects
 plain_dispatch e sound = plain_pairs e sound 0 128 (omega arith)
 
@@ -97,7 +97,7 @@ plain_name : (f : Option Name) → IsTrue (is_none_or_name f) → IsPlain (o.tex
 plain_name None named = plain_text [] refl
 plain_name (Some f) named = plain_function f named
 
-plain_entry : (c : ℕ) (e : Entry) → c < 128 → IsEntry e → IsPlain (entry_object c e)
+plain_entry : (c : ℕ) (e : CharacterEntry) → c < 128 → IsCharacterEntry e → IsPlain (entry_object c e)
 plain_entry c e few sound =
     (plain_number c few, (plain_number (syntax_number e.syntax) (type_small e.syntax), (plain_name e.function sound.name, (plain_list (dispatch_objects e) (plain_dispatch e sound), plain_nil))))
 

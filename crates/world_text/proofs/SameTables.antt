@@ -15,8 +15,8 @@ use Rattle.lisp_object.specs.Object as object
 use Rattle.lisp_object.specs.Object.{Object, list_of}
 use Rattle.readtable_core.specs.Characters.{syntax_number}
 use Rattle.readtable_core.specs.Cases.{case_name}
-use Rattle.readtable_core.specs.Tables.{Entry, Table, entry_at, no_entry, standard}
-use Rattle.readtable_core.specs.Sound.{IsEntry, IsReadtable, is_macro, is_dispatching, dispatches}
+use Rattle.readtable_core.specs.Tables.{CharacterEntry, Table, entry_at, no_entry, standard}
+use Rattle.readtable_core.specs.Sound.{IsCharacterEntry, IsReadtable, is_macro, is_dispatching, dispatches}
 use Rattle.readtable_core.specs.Named.{same_entry}
 use Rattle.readtable_core.proofs.Named as named
 use Rattle.package_table.specs.Table.{Name, name_cmp}
@@ -95,7 +95,7 @@ few_places : (b : Bool) (n : ℕ) → n ≡ (if b then 128 else 0) → n ≤ 128
 few_places true n e = omega arith
 few_places false n e = omega arith
 
-same_dispatch : (a b : Entry) → IsEntry a → IsEntry b → a.function ≡ b.function → dispatch_objects a ≡ dispatch_objects b → a.dispatch ≡ b.dispatch
+same_dispatch : (a b : CharacterEntry) → IsCharacterEntry a → IsCharacterEntry b → a.function ≡ b.function → dispatch_objects a ≡ dispatch_objects b → a.dispatch ≡ b.dispatch
 unfolding dispatch_objects
 same_dispatch a b sa sb function e =
     let many : length a.dispatch ≡ length b.dispatch = sa.places ∙ ap (λ f. if dispatches f then 128 else 0) function ∙ sym sb.places in
@@ -104,7 +104,7 @@ same_dispatch a b sa sb function e =
 
 -- ---- entries
 
-same_entries : (c : ℕ) (a b : Entry) → IsEntry a → IsEntry b → entry_object c a ≡ entry_object c b → a ≡ b
+same_entries : (c : ℕ) (a b : CharacterEntry) → IsCharacterEntry a → IsCharacterEntry b → entry_object c a ≡ entry_object c b → a ≡ b
 same_entries c a b sa sb e =
     let types : syntax_number a.syntax ≡ syntax_number b.syntax = cc in
     let syntax : a.syntax ≡ b.syntax = named.same_number a.syntax b.syntax types in
@@ -126,7 +126,7 @@ entry_of t q x b e =
       | false ↦ λ e. absurd cc
     ] e
 
-alike_at : (c : ℕ) (a b first : Entry) → IsEntry a → IsEntry b
+alike_at : (c : ℕ) (a b first : CharacterEntry) → IsCharacterEntry a → IsCharacterEntry b
     → ◌≡◌ {A = Option Object} (cond (not (same_entry a first)) (Some (entry_object c a)) None) (cond (not (same_entry b first)) (Some (entry_object c b)) None) → a ≡ b
 alike_at c a b first sa sb e =
     elim (same_entry a first) as (λ x. same_entry a first ≡ x

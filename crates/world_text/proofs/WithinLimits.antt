@@ -11,7 +11,7 @@ use Rattle.std.proofs.lemmas.List.{length-append}
 use Rattle.lisp_object.specs.Object as o
 use Rattle.lisp_object.specs.Object.{Object, AllAtoms, IsSound, object_depth, depth_along, list_of}
 use Rattle.readtable_core.specs.Tables as readtable
-use Rattle.readtable_core.specs.Tables.{Entry, entry_at, standard}
+use Rattle.readtable_core.specs.Tables.{CharacterEntry, entry_at, standard}
 use Rattle.readtable_core.specs.Named.{same_entry}
 use Rattle.package_table.specs.Table as packages
 use Rattle.package_table.specs.Table.{Name, Table, keyword, common_lisp}
@@ -144,11 +144,11 @@ pair_deep : (f : Option Name) (sub : ℕ) → AreDeep 1 (dispatch_object f sub)
 pair_deep None sub = tt
 pair_deep (Some f) sub = (list_depth 0 (number sub ∷ o.text f ∷ []) (omega arith, (omega arith, tt)), tt)
 
-dispatch_deep : (e : Entry) → AreDeep 1 (dispatch_objects e)
+dispatch_deep : (e : CharacterEntry) → AreDeep 1 (dispatch_objects e)
 unfolding dispatch_objects
 dispatch_deep e = flat_deep (λ sub. dispatch_object (get_or e.dispatch sub None) sub) 1 (λ sub. pair_deep (get_or e.dispatch sub None) sub) (range_with_len 0 128)
 
-entry_depth : (c : ℕ) (e : Entry) → object_depth (entry_object c e) ≤ 3
+entry_depth : (c : ℕ) (e : CharacterEntry) → object_depth (entry_object c e) ≤ 3
 entry_depth c e =
     let dispatch = list_depth 1 (dispatch_objects e) (dispatch_deep e) in
     omega arith

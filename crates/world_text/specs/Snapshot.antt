@@ -10,7 +10,7 @@ use Rattle.readtable_core.specs.Characters.{syntax_number}
 use Rattle.readtable_core.specs.Cases.{case_name}
 use Rattle.readtable_core.specs.Named.{same_entry}
 use Rattle.readtable_core.specs.Tables as readtable
-use Rattle.readtable_core.specs.Tables.{Entry, entry_at, standard}
+use Rattle.readtable_core.specs.Tables.{CharacterEntry, entry_at, standard}
 use Rattle.package_table.specs.Table.{Name, Table, common_lisp, common_lisp_user, keyword, initial as initial_packages}
 use Rattle.package_table.specs.Lookup.{is_present}
 use Rattle.package_table.specs.Readers.{package_names, used_names, own_names, external_names, imports}
@@ -68,11 +68,11 @@ dispatch_object None sub = []
 dispatch_object (Some function) sub = list_of (number sub ∷ text function ∷ []) ∷ []
 
 -- its dispatch table, in the order of the sub-characters
-unfoldable pub dispatch_objects : Entry → List Object
+unfoldable pub dispatch_objects : CharacterEntry → List Object
 dispatch_objects e = flat_map (λ sub. dispatch_object (get_or e.dispatch sub None) sub) (range_with_len 0 128)
 
 -- a character, its syntax type, its function or the empty text, and its dispatch table
-abbrev pub entry_object : ℕ → Entry → Object
+abbrev pub entry_object : ℕ → CharacterEntry → Object
 entry_object c e =
     list_of (number c ∷ number (syntax_number e.syntax) ∷ text (unwrap_or e.function []) ∷ list_of (dispatch_objects e) ∷ [])
 

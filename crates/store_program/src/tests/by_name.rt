@@ -9,7 +9,7 @@ ghost use Rattle.store_program.specs.MacroFunctions.{function_names, six_functio
 
 use crate::macro_functions;
 use crate::meaning::SixFunctions;
-use readtable_core::{CharacterEntry, FnName, Readtable};
+use readtable_core::{CharacterSlot, FnName, Readtable};
 use std::alloc::{AllocError, Global};
 use user_macros::{Answer, Call, Gather, MacroFunctions, Meaning};
 
@@ -48,7 +48,7 @@ impl ByName {
         true
     }
 
-    fn covers_entry(&self, entry: &CharacterEntry) -> bool
+    fn covers_entry(&self, entry: &CharacterSlot) -> bool
         ensures { result ≡ list_all (is_covered function_names) (functions_at entry.now) }
     {
         self.covers_function(entry.function()) && self.covers_each(entry.dispatch())
