@@ -4,7 +4,7 @@ use Rattle.std.proofs.Common.{List}
 use Rattle.lisp_object.specs.Object.{Object}
 use Rattle.package_table.specs.Table.{Name}
 use Rattle.plist_state.specs.State.{State}
-use Rattle.lisp_operators.specs.Outcomes.{Outcome}
+use Rattle.lisp_operators.specs.Evaluation.{Evaluation}
 use Rattle.lisp_operators.proofs.Covering as covering
 use Rattle.lisp_operators.proofs.Covering.{keeps_then}
 use Rattle.lisp_operators.proofs.CoveringOperators as covers
@@ -15,10 +15,10 @@ module _ (names : List Name) where
   abbrev Asks : State → Object → Type 0
   Asks s x = Unit {0}
 
-  abbrev Keeps : {A : Type 0} → State → Outcome A → Type 0
+  abbrev Keeps : {A : Type 0} → State → Evaluation A → Type 0
   Keeps = covering.Keeps names
 
-  abbrev IsCovering : (List Object → State → Outcome Object) → Type 0
+  abbrev IsCovering : (List Object → State → Evaluation Object) → Type 0
   IsCovering = covers.IsCovering names
 
   operators : Operators names Asks Keeps Keeps IsCovering
@@ -56,8 +56,8 @@ module _ (names : List Name) where
     all_refused = λ s code _. record { covered = tt };
     itself = λ s x _. record { covered = λ all. all };
     nothing = λ s asked _. record { covered = λ all. all };
-    package = λ s asked _. record { covered = λ all. all };
-    readtable = λ s asked _. record { covered = λ all. all };
+    current_package = λ s asked _. record { covered = λ all. all };
+    current_readtable = λ s asked _. record { covered = λ all. all };
     none = λ s asked _. record { covered = λ all. all };
     parts = λ s a b _. (tt, tt);
     one_more = λ s o others is each. keeps_then names s o _ is (λ y t. keeps_then names t (others t) _ (each t (λ _ _. tt)) (λ ys end'. record { covered = λ all. all }));

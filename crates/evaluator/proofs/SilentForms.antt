@@ -48,8 +48,8 @@ module _ (names : List Name) where
     all_refused = λ s code _. record { same = tt };
     itself = λ s x _. record { same = λ _. refl };
     nothing = λ s asked _. record { same = λ _. refl };
-    package = λ s asked _. record { same = λ _. refl };
-    readtable = λ s asked _. record { same = λ _. refl };
+    current_package = λ s asked _. record { same = λ _. refl };
+    current_readtable = λ s asked _. record { same = λ _. refl };
     none = λ s asked _. record { same = λ _. refl };
     parts = λ s a b _. (tt, tt);
     one_more = λ s o others is each. keeps_then s o _ is (λ y t. keeps_then t (others t) _ (each t (λ _ _. tt)) (λ ys end'. record { same = λ _. refl }));

@@ -8,7 +8,7 @@ use Rattle.package_table.specs.Table.{Name, Table, keyword}
 use Rattle.package_table.specs.Growth.{Grows}
 use Rattle.plist_state.specs.State.{State}
 use Rattle.plist_state.specs.Sound.{IsValue, IsSound}
-use Rattle.lisp_operators.specs.Outcomes.{Outcome, gives, and_then}
+use Rattle.lisp_operators.specs.Evaluation.{Evaluation, gives, and_then}
 use Rattle.lisp_operators.specs.Readtables.{AreFunctionNames, a_keyword_of}
 use Rattle.lisp_operators.proofs.Good.{Goods, goods_here, goods_then}
 use Rattle.lisp_operators.proofs.Storable.{AreValues, symbol_is_value, nil_value, text_value, value_grown, values_grown, value_parts}
@@ -31,11 +31,11 @@ last_value u sound (x ∷ []) are = All-head (IsValue u) x [] are
 last_value u sound (x ∷ y ∷ ys) are = last_value u sound (y ∷ ys) (All-tail (IsValue u) x (y ∷ ys) are)
 
 -- one value, and then more
-cons_safe : (s : State) (y : Object) (o : Outcome (List Object)) → IsValue s.packages y → Goods AreValues s o → Goods AreValues s (and_then o (λ ys end'. gives (y ∷ ys) end'))
+cons_safe : (s : State) (y : Object) (o : Evaluation (List Object)) → IsValue s.packages y → Goods AreValues s o → Goods AreValues s (and_then o (λ ys end'. gives (y ∷ ys) end'))
 cons_safe s y o is safe =
     goods_then AreValues AreValues s o _ safe (λ ys end' sound grows are. goods_here AreValues end' (y ∷ ys) false sound (All-cons (IsValue end'.packages) y ys (value_grown s.packages end'.packages grows y is) are))
 
-append_safe : (s : State) (xs : List Object) (o : Outcome (List Object)) → AreValues s.packages xs → Goods AreValues s o → Goods AreValues s (and_then o (λ ys end'. gives (xs ++ ys) end'))
+append_safe : (s : State) (xs : List Object) (o : Evaluation (List Object)) → AreValues s.packages xs → Goods AreValues s o → Goods AreValues s (and_then o (λ ys end'. gives (xs ++ ys) end'))
 append_safe s xs o before safe =
     goods_then AreValues AreValues s o _ safe (λ ys end' sound grows are. goods_here AreValues end' (xs ++ ys) false sound (All-append (IsValue end'.packages) xs ys (values_grown s.packages end'.packages grows xs before) are))
 
@@ -75,8 +75,8 @@ module _ (names : List Name) (all : AreFunctionNames names) where
     all_refused = λ s code _. record { good = tt };
     itself = λ s x asks. goods_here IsValue s x false asks.0 asks.1;
     nothing = λ s asked asks. goods_here IsValue s nil false asks.0 (nil_value s.packages asks.0.packages);
-    package = λ s asked asks. goods_here IsValue s (text s.current_package) false asks.0 (text_value s.packages s.current_package (asks.0.packages.within.package_names s.current_package asks.0.current_package).ascii);
-    readtable = λ s asked asks. goods_here IsValue s (a_keyword_of s.current_readtable) false asks.0 (symbol_is_value s.packages keyword s.current_readtable asks.0.packages (asks.0.readtables.names s.current_readtable asks.0.current_readtable));
+    current_package = λ s asked asks. goods_here IsValue s (text s.current_package) false asks.0 (text_value s.packages s.current_package (asks.0.packages.within.package_names s.current_package asks.0.current_package).ascii);
+    current_readtable = λ s asked asks. goods_here IsValue s (a_keyword_of s.current_readtable) false asks.0 (symbol_is_value s.packages keyword s.current_readtable asks.0.packages (asks.0.readtables.names s.current_readtable asks.0.current_readtable));
     none = λ s asked asks. goods_here AreValues s [] false asks.0 (All-nil (IsValue s.packages));
     parts = λ s a b asks. let both = value_parts s.packages a b asks.1 in ((asks.0, both.0), (asks.0, both.1));
     one_more = λ s o others is each. goods_then IsValue AreValues s o _ is (λ y t sound grows fits. cons_safe t y (others t) fits (each t (stays s t sound grows)));

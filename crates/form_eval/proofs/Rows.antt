@@ -6,7 +6,7 @@ use Rattle.package_table.specs.Table.{Name, keyword, symbol_count, with_entry}
 use Rattle.package_table.specs.Lookup.{found}
 use Rattle.plist_state.specs.State.{State}
 use Rattle.plist_state.specs.Changes.{with_packages}
-use Rattle.lisp_operators.specs.Outcomes.{gives, writes}
+use Rattle.lisp_operators.specs.Evaluation.{gives, writes}
 use Rattle.evaluator.specs.Value.{value}
 use Rattle.form_eval.specs.Acceptance.{accept}
 
