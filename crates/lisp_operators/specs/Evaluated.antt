@@ -21,7 +21,8 @@ use Rattle.lisp_operators.specs.declared.error.EvaluationError.TheVariants.{Refu
 use Rattle.lisp_operators.specs.declared.evaluated.Evaluated.{Evaluated}
 use Rattle.lisp_operators.specs.Errors.{of_package}
 use Rattle.lisp_operators.specs.Members.{each_in}
-use Rattle.lisp_operators.specs.Evaluation.{Done, Evaluation}
+use Rattle.plist_state.specs.Changes.{with_property}
+use Rattle.lisp_operators.specs.Evaluation.{Done, Evaluation, writes}
 use Rattle.lisp_operators.specs.Properties.{t}
 
 -- a proper datum whose value may be stored in these packages
@@ -77,6 +78,10 @@ Answers view (Err OutOfMemory) s said = Unit {0}
 -- An operator answers what its definition says of these values, from the first of two states to the second.
 abbrev pub CarriesOut : (List Object → State → Evaluation Object) → List Datum → State → State → Result Evaluated EvaluationError → Type 0
 CarriesOut function values old new result = Answers done result new (function (objects values) old)
+
+-- the value of a property is told, which the second state has in place of the first
+abbrev pub Stores : State → Symbol → Symbol → Object → State → Result Evaluated EvaluationError → Type 0
+Stores old x i v new result = Answers done result new (writes v (with_property old x i v))
 
 -- Changes of the packages answer what the definition says: the packages that they leave, and whether these are others; or the
 -- refusal. Where memory ran out it says nothing.

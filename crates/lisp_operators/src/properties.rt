@@ -4,9 +4,10 @@ ghost use Rattle.std.specs.List.{list_all};
 ghost use Rattle.lisp_object.specs.Object.{IsSound, pair};
 ghost use Rattle.lisp_object.specs.Datum.{object_of, is_proper};
 ghost use Rattle.plist_state.specs.Shown.{symbol_of, property_of};
+ghost use Rattle.plist_state.specs.Sound.{IsSymbol};
 ghost use Rattle.lisp_operators.specs.Kinds.{a_symbol};
 ghost use Rattle.lisp_operators.specs.Properties.{get, set, remove, in_turn, symbol_plist, amount, increment, push};
-ghost use Rattle.lisp_operators.specs.Evaluated.{IsOfKind, IsPropertyKey, object_of_symbol, or_nil, IsProper, AreProper, IsProperValue, AreArgumentsOf, CarriesOut, objects};
+ghost use Rattle.lisp_operators.specs.Evaluated.{IsOfKind, IsPropertyKey, object_of_symbol, or_nil, IsProper, AreProper, IsProperValue, AreArgumentsOf, CarriesOut, IsArgument, Stores, objects};
 
 use crate::EvaluationError::Refused;
 use crate::arguments::given_or_nil;
@@ -64,6 +65,27 @@ pub fn get(alloc: Global, world: &World, values: Vec<Datum>) -> Result<Evaluated
     })
 }
 
+// A value becomes that of a property.
+fn store(
+    alloc: Global,
+    world: &mut World,
+    symbol: &Symbol,
+    indicator: Symbol,
+    value: Datum,
+) -> Result<Evaluated, EvaluationError>
+    requires symbol { IsSymbol world.old.0.packages (symbol_of symbol.now) }
+    requires indicator { IsSymbol world.old.0.packages (symbol_of indicator) }
+    requires value { IsArgument world.old.0.packages value }
+    ensures gives { Stores world.old.0 (symbol_of symbol.now) (symbol_of indicator) (object_of value) world.new.0 result }
+    ensures proper { IfOk result IsProperValue }
+    ensures unchanged { IfErr result (λ _. world.new ≡ world.old) }
+    ensures marked { world.new.1 ≡ world.old.1 }
+{
+    let stored = value.copy(alloc)?;
+    world.put(symbol, indicator, stored)?;
+    Ok(Evaluated { value, wrote: true })
+}
+
 /// SETF of a property: the new value.
 pub fn set(
     alloc: Global,
@@ -78,9 +100,7 @@ pub fn set(
 {
     let (symbol, indicator, value) = three(values)?;
     let (symbol, indicator) = property_key(symbol, indicator)?;
-    let stored = value.copy(alloc)?;
-    world.put(&symbol, indicator, stored)?;
-    Ok(Evaluated { value, wrote: true })
+    store(alloc, world, &symbol, indicator, value)
 }
 
 /// REMPROP: whether the symbol had the property.
@@ -219,7 +239,5 @@ pub fn push(
         return Err(Refused(LIMIT));
     }
     world.soundness();
-    let stored = value.copy(alloc)?;
-    world.put(&symbol, indicator, stored)?;
-    Ok(Evaluated { value, wrote: true })
+    store(alloc, world, &symbol, indicator, value)
 }
