@@ -186,13 +186,6 @@ plain_gathered names s SetDispatchMacroCharacter arguments e f g = refl
 plain_gathered names s GetDispatchMacroCharacter arguments e f g = refl
 plain_gathered names s ReadtableCase arguments e f g = refl
 
-pub plain_extended : (names : List Name) (s t : State) (operation : Operation) (xs : List Datum) (vs : List Datum) (w : Bool) (r : Result Values EvaluationError) → (operation ≡ Setf → ⊥) → (operation ≡ Incf → ⊥) → (operation ≡ Push → ⊥)
-    → vs ≡ [] → w ≡ false → Answers all_done r t (followed names (map object_of vs) w s (list_of (map object_of (drop 1 xs)))) → Answers all_done r t (gathered names s operation (arguments_of (map object_of xs)))
-plain_extended names s t operation xs vs w r e f g none nothing h =
-    subst (Answers all_done r t)
-    (ap (λ l. followed names (map object_of l) w s (list_of (map object_of (drop 1 xs)))) none ∙ ap (λ b. followed names [] b s (list_of (map object_of (drop 1 xs)))) nothing
-    ∙ followed_start names s (list_of (map object_of (drop 1 xs))) ∙ ap (values names s) (sym (arguments_from xs)) ∙ sym (plain_gathered names s operation (arguments_of (map object_of xs)) e f g)) h
-
 -- the first of the arguments, and the first two
 pub one_argument : (items : List Datum) (x : Datum) → 2 ≤ length items → x ≡ get_or items 1 x → arguments_of (map object_of items) ≡ pair (object_of x) (list_of (map object_of (drop 2 items)))
 one_argument [] x some is = absurd (omega arith)

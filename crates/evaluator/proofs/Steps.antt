@@ -180,9 +180,6 @@ pub are_proper : (u : Table) (xs : List Datum) → All (IsArgument u) xs → lis
 are_proper u [] all = refl
 are_proper u (x ∷ xs) all = and_from (is_proper x) (list_all is_proper xs) ((All-head (IsArgument u) x xs all).proper) (are_proper u xs (All-tail (IsArgument u) x xs all))
 
-pub all_grown : (u v : Table) → Grows u v → (xs : List Datum) → All (IsArgument u) xs → All (IsArgument v) xs
-all_grown u v grows xs all = All-weaker (IsArgument u) (IsArgument v) (argument_grown u v grows) xs all
-
 pub all_more : (v : Table) (xs ys : List Datum) (x : Datum) → ys ≡ xs ++ x ∷ [] → All (IsArgument v) xs → IsArgument v x → All (IsArgument v) ys
 all_more v xs ys x is all one = subst (All (IsArgument v)) (sym is) (All-append (IsArgument v) xs (x ∷ []) all (All-cons (IsArgument v) x [] one (All-nil (IsArgument v))))
 

@@ -124,24 +124,6 @@ function_of names Incf is_case xs s = increment xs s
 function_of names Push is_case xs s = push xs s
 function_of names operation is_case xs s = of_values (action_of names operation) xs s
 
--- the family of operators to which it belongs
-abbrev pub is_on_properties : Operation → Bool
-is_on_properties Get = true
-is_on_properties Setf = true
-is_on_properties Remprop = true
-is_on_properties SymbolPlist = true
-is_on_properties Incf = true
-is_on_properties Push = true
-is_on_properties _ = false
-
-abbrev pub is_on_packages : Operation → Bool
-is_on_packages MakePackage = true
-is_on_packages Export = true
-is_on_packages Import = true
-is_on_packages UsePackage = true
-is_on_packages Intern = true
-is_on_packages _ = false
-
 -- the operators of control and on data, by their names
 abbrev pub operators_on_data : List (Name × Operation)
 operators_on_data =

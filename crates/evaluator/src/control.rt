@@ -78,8 +78,8 @@ pub(crate) fn last(alloc: Global, mut values: Vec<Datum>) -> Result<Evaluated, E
     }
 }
 
-/// Whether it is the symbol of COMMON-LISP with this name.
-pub(crate) fn is_standard(home: &[u8], own: &[u8], name: &[u8]) -> bool
+// Whether it is the symbol of COMMON-LISP with this name.
+fn is_standard_name(home: &[u8], own: &[u8], name: &[u8]) -> bool
     ensures { result ≡ (bytes_eq home.now common_lisp && bytes_eq own.now name.now) }
 {
     home == COMMON_LISP && own == name
@@ -99,17 +99,17 @@ pub(crate) fn symbol_value(
     let Ok((home, name)) = kinds::symbol(form) else {
         return Err(Refused(NOT_A_FORM));
     };
-    if home == KEYWORD || is_standard(home, name, b"T") || is_standard(home, name, b"NIL") {
+    if home == KEYWORD || is_standard_name(home, name, b"T") || is_standard_name(home, name, b"NIL") {
         return itself(alloc, form);
     }
     world.soundness();
-    if is_standard(home, name, b"*PACKAGE*") {
+    if is_standard_name(home, name, b"*PACKAGE*") {
         return Ok(Evaluated {
             value: values::text(alloc, world.current_package())?,
             wrote: false,
         });
     }
-    if is_standard(home, name, b"*READTABLE*") {
+    if is_standard_name(home, name, b"*READTABLE*") {
         return Ok(Evaluated {
             value: values::keyword(alloc, world.current_readtable())?,
             wrote: false,

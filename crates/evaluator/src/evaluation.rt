@@ -254,7 +254,7 @@ fn subforms(
     }
 }
 
-// These values, and after them those of the forms from a place in a list on.
+// These values, and after them those of the forms from an index in a list on.
 #[cycle(evaluation)]
 fn extended(
     alloc: Global,

@@ -3,7 +3,7 @@ ghost use Rattle.std.specs.Prelude.{◌≡◌, ◌+◌, true, bytes_eq, List, op
 ghost use Rattle.lisp_object.specs.Datum.{object_of};
 ghost use Rattle.package_table.specs.Table.{Name};
 ghost use Rattle.evaluator.specs.Operators.{operator_named, counts};
-ghost use Rattle.evaluator.specs.Operations.{least, most, operator, IsCounted, is_ordinary, is_on_properties, is_on_packages, among, operators_on_data, operators_on_packages, operators_on_readtables};
+ghost use Rattle.evaluator.specs.Operations.{least, most, operator, IsCounted, is_ordinary, among, operators_on_data, operators_on_packages, operators_on_readtables};
 ghost use Rattle.evaluator.specs.Gathered.{IsHead};
 ghost use Rattle.lisp_operators.specs.Evaluated.{IsProper};
 
@@ -130,35 +130,6 @@ impl Operation {
         !matches!(
             self,
             Operation::Quote | Operation::If | Operation::InPackage
-        )
-    }
-
-    /// Whether it is on property lists.
-    pub(crate) fn is_on_properties(self) -> bool
-        ensures { result ≡ is_on_properties self }
-    {
-        matches!(
-            self,
-            Operation::Get
-                | Operation::Setf
-                | Operation::Remprop
-                | Operation::SymbolPlist
-                | Operation::Incf
-                | Operation::Push
-        )
-    }
-
-    /// Whether it is on packages.
-    pub(crate) fn is_on_packages(self) -> bool
-        ensures { result ≡ is_on_packages self }
-    {
-        matches!(
-            self,
-            Operation::MakePackage
-                | Operation::Export
-                | Operation::Import
-                | Operation::UsePackage
-                | Operation::Intern
         )
     }
 
