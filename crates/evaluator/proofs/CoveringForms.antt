@@ -4,7 +4,7 @@ use Rattle.std.proofs.Common.{List}
 use Rattle.lisp_object.specs.Object.{Object}
 use Rattle.package_table.specs.Table.{Name}
 use Rattle.plist_state.specs.State.{State}
-use Rattle.lisp_operators.specs.Outcomes.{Outcome}
+use Rattle.lisp_operators.specs.Evaluation.{Evaluation}
 use Rattle.lisp_operators.proofs.Covering as covering
 use Rattle.lisp_operators.proofs.Covering.{keeps_then}
 use Rattle.lisp_operators.proofs.CoveringOperators as covers
@@ -15,10 +15,10 @@ module _ (names : List Name) where
   abbrev Asks : State → Object → Type 0
   Asks s x = Unit {0}
 
-  abbrev Keeps : {A : Type 0} → State → Outcome A → Type 0
+  abbrev Keeps : {A : Type 0} → State → Evaluation A → Type 0
   Keeps = covering.Keeps names
 
-  abbrev IsCovering : (List Object → State → Outcome Object) → Type 0
+  abbrev IsCovering : (List Object → State → Evaluation Object) → Type 0
   IsCovering = covers.IsCovering names
 
   operators : Operators names Asks Keeps Keeps IsCovering

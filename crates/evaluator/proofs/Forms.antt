@@ -25,7 +25,7 @@ use Rattle.evaluator.specs.declared.operation.Operation.TheVariants.{Quote, Prog
 use Rattle.lisp_operators.specs.Kinds.{a_symbol, is_pair, is_true}
 use Rattle.lisp_operators.specs.Properties.{set}
 use Rattle.lisp_operators.specs.Readtables.{set_case}
-use Rattle.lisp_operators.specs.Outcomes.{Outcome, gives, also, and_then}
+use Rattle.lisp_operators.specs.Evaluation.{Evaluation, gives, also, and_then}
 use Rattle.evaluator.specs.Operators.{count, first}
 use Rattle.evaluator.specs.Value.{value, values, choice, other_value, values_at_place, values_before_place, symbol_value, action_value, unless, is_case_place, rest}
 use Rattle.evaluator.specs.Operations.{action_of, is_ordinary, function_of}
@@ -139,16 +139,16 @@ ordinary_is names SetDispatchMacroCharacter s arguments e = refl
 ordinary_is names GetDispatchMacroCharacter s arguments e = refl
 ordinary_is names ReadtableCase s arguments e = refl
 
-pub place_refused : (refusal : Option ℕ) (e : EvaluationError) (t : State) (o : Outcome Object) → IsRefusal {A = Bool} refusal (Err e) → Answers done (Err e) t (unless refusal o)
+pub place_refused : (refusal : Option ℕ) (e : EvaluationError) (t : State) (o : Evaluation Object) → IsRefusal {A = Bool} refusal (Err e) → Answers done (Err e) t (unless refusal o)
 place_refused refusal (Refused code) t o h = ap (λ r. unless r o) h
 place_refused refusal OutOfMemory t o h = tt
 
-pub gathered_refused : (e : EvaluationError) (t u : State) (refusal : Option ℕ) (o : Outcome (List Object)) (next : List Object → State → Outcome Object) → refusal ≡ None → Answers all_done (Err e) t o
+pub gathered_refused : (e : EvaluationError) (t u : State) (refusal : Option ℕ) (o : Evaluation (List Object)) (next : List Object → State → Evaluation Object) → refusal ≡ None → Answers all_done (Err e) t o
     → Answers done (Err e) u (unless refusal (and_then o next))
 gathered_refused (Refused code) t u refusal o next none h = ap (λ r. unless r (and_then o next)) none ∙ ap (λ x. and_then x next) h
 gathered_refused OutOfMemory t u refusal o next none h = tt
 
-pub performed : (r : Result Evaluated EvaluationError) (t u : State) (v : Values) (refusal : Option ℕ) (o : Outcome (List Object)) (next : List Object → State → Outcome Object) → refusal ≡ None → o ≡ Ok (all_done v t)
+pub performed : (r : Result Evaluated EvaluationError) (t u : State) (v : Values) (refusal : Option ℕ) (o : Evaluation (List Object)) (next : List Object → State → Evaluation Object) → refusal ≡ None → o ≡ Ok (all_done v t)
     → Answers done r u (also v.wrote (next (map object_of v.values.items) t)) → Answers done r u (unless refusal (and_then o next))
 performed r t u v refusal o next none is h =
     subst (Answers done r u) (sym (ap (λ k. unless k (and_then o next)) none ∙ ap (λ x. and_then x next) is)) h
@@ -185,13 +185,6 @@ plain_gathered names s MakeDispatchMacroCharacter arguments e f g = refl
 plain_gathered names s SetDispatchMacroCharacter arguments e f g = refl
 plain_gathered names s GetDispatchMacroCharacter arguments e f g = refl
 plain_gathered names s ReadtableCase arguments e f g = refl
-
-pub plain_extended : (names : List Name) (s t : State) (operation : Operation) (xs : List Datum) (vs : List Datum) (w : Bool) (r : Result Values EvaluationError) → (operation ≡ Setf → ⊥) → (operation ≡ Incf → ⊥) → (operation ≡ Push → ⊥)
-    → vs ≡ [] → w ≡ false → Answers all_done r t (followed names (map object_of vs) w s (list_of (map object_of (drop 1 xs)))) → Answers all_done r t (gathered names s operation (arguments_of (map object_of xs)))
-plain_extended names s t operation xs vs w r e f g none nothing h =
-    subst (Answers all_done r t)
-    (ap (λ l. followed names (map object_of l) w s (list_of (map object_of (drop 1 xs)))) none ∙ ap (λ b. followed names [] b s (list_of (map object_of (drop 1 xs)))) nothing
-    ∙ followed_start names s (list_of (map object_of (drop 1 xs))) ∙ ap (values names s) (sym (arguments_from xs)) ∙ sym (plain_gathered names s operation (arguments_of (map object_of xs)) e f g)) h
 
 -- the first of the arguments, and the first two
 pub one_argument : (items : List Datum) (x : Datum) → 2 ≤ length items → x ≡ get_or items 1 x → arguments_of (map object_of items) ≡ pair (object_of x) (list_of (map object_of (drop 2 items)))
@@ -402,7 +395,7 @@ values_of_pairs names s [] (vector xs) other = refl
 values_of_pairs names s [] (pair a b) other = absurd (false≢true (sym other))
 values_of_pairs names s (x ∷ xs) end other = and_then_same (value names s x) _ _ (λ y later. ap (λ o. and_then o (λ ys end'. gives (y ∷ ys) end')) (values_of_pairs names later xs end other))
   where
-    and_then_same : {A B : Type 0} (o : Outcome A) (f g : A → State → Outcome B) → ((a : A) (t : State) → f a t ≡ g a t) → and_then o f ≡ and_then o g
+    and_then_same : {A B : Type 0} (o : Evaluation A) (f g : A → State → Evaluation B) → ((a : A) (t : State) → f a t ≡ g a t) → and_then o f ≡ and_then o g
     and_then_same (Ok d) f g same = ap (also d.wrote) (same d.value d.state)
     and_then_same (Err code) f g same = refl
 

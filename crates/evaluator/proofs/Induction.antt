@@ -8,7 +8,7 @@ use Rattle.lisp_object.specs.Object.{Object, integer, rational, character, text,
 use Rattle.package_table.specs.Table.{Name, common_lisp, keyword}
 use Rattle.plist_state.specs.State.{State}
 use Rattle.lisp_operators.specs.Kinds.{is_true}
-use Rattle.lisp_operators.specs.Outcomes.{Outcome, gives, and_then}
+use Rattle.lisp_operators.specs.Evaluation.{Evaluation, gives, and_then}
 use Rattle.lisp_operators.specs.Properties.{list, get, set, remove, symbol_plist, increment, push}
 use Rattle.lisp_operators.specs.Packages.{make, enter, intern, export, import, use_package}
 use Rattle.lisp_operators.specs.Readtables.{a_keyword_of, readtable_case, set_case, copy_readtable, enter_readtable, set_syntax, set_macro, get_macro, make_dispatch, set_dispatch, get_dispatch}
@@ -43,7 +43,7 @@ place_numbered place = either_numbered (is_case_place place) (case_place_refusal
 
 -- What is asked of a form before it is evaluated, what is said of its value and of the values of forms, and what is said of a
 -- function of values.
-module _ (names : List Name) (Asks : State → Object → Type 0) (One : State → Outcome Object → Type 0) (All : State → Outcome (List Object) → Type 0) (Function : (List Object → State → Outcome Object) → Type 0) where
+module _ (names : List Name) (Asks : State → Object → Type 0) (One : State → Evaluation Object → Type 0) (All : State → Evaluation (List Object) → Type 0) (Function : (List Object → State → Evaluation Object) → Type 0) where
   pub record Operators : Type 0 where
     pub lists : Function list
     pub gets : Function get
@@ -85,14 +85,14 @@ module _ (names : List Name) (Asks : State → Object → Type 0) (One : State �
     pub none : (s : State) (asked : Object) → Asks s asked → All s (gives [] s)
     pub parts : (s : State) (a b : Object) → Asks s (pair a b) → Asks s a × Asks s b
     -- a value, and then others; values, and then others
-    pub one_more : (s : State) (o : Outcome Object) (others : State → Outcome (List Object)) → One s o → ((t : State) → Later s t → All t (others t))
+    pub one_more : (s : State) (o : Evaluation Object) (others : State → Evaluation (List Object)) → One s o → ((t : State) → Later s t → All t (others t))
         → All s (and_then o (λ y later. and_then (others later) (λ ys end'. gives (y ∷ ys) end')))
-    pub more : (s : State) (o : Outcome (List Object)) (others : State → Outcome (List Object)) → All s o → ((t : State) → Later s t → All t (others t))
+    pub more : (s : State) (o : Evaluation (List Object)) (others : State → Evaluation (List Object)) → All s o → ((t : State) → Later s t → All t (others t))
         → All s (and_then o (λ xs later. and_then (others later) (λ ys end'. gives (xs ++ ys) end')))
     -- a value, and then the one that it chooses
-    pub then_one : (s : State) (o : Outcome Object) (next : Object → State → Outcome Object) → One s o → ((y : Object) (t : State) → Later s t → One t (next y t)) → One s (and_then o next)
+    pub then_one : (s : State) (o : Evaluation Object) (next : Object → State → Evaluation Object) → One s o → ((y : Object) (t : State) → Later s t → One t (next y t)) → One s (and_then o next)
     -- a function of values
-    pub of_values : (s : State) (o : Outcome (List Object)) (function : List Object → State → Outcome Object) → All s o → Function function → One s (and_then o function)
+    pub of_values : (s : State) (o : Evaluation (List Object)) (function : List Object → State → Evaluation Object) → All s o → Function function → One s (and_then o function)
 
   module _ (steps : Steps) where
     -- ---- the operators
@@ -153,11 +153,11 @@ module _ (names : List Name) (Asks : State → Object → Type 0) (One : State �
       at_place : All s parts.at_place
       before_place : All s parts.before_place
 
-    if_one : (s : State) (b : Bool) (x y : Outcome Object) → One s x → One s y → One s (cond b x y)
+    if_one : (s : State) (b : Bool) (x y : Evaluation Object) → One s x → One s y → One s (cond b x y)
     if_one s true x y first second = first
     if_one s false x y first second = second
 
-    unless_one : (s : State) (o : Option ℕ) (on : Outcome Object) → IsNumbered o → One s on → One s (unless o on)
+    unless_one : (s : State) (o : Option ℕ) (on : Evaluation Object) → IsNumbered o → One s on → One s (unless o on)
     unless_one s (Some code) on number is = steps.refused s code number
     unless_one s None on number is = is
 

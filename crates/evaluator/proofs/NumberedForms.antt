@@ -4,7 +4,7 @@ use Rattle.std.proofs.Common.{List}
 use Rattle.lisp_object.specs.Object.{Object}
 use Rattle.package_table.specs.Table.{Name}
 use Rattle.plist_state.specs.State.{State}
-use Rattle.lisp_operators.specs.Outcomes.{Outcome}
+use Rattle.lisp_operators.specs.Evaluation.{Evaluation}
 use Rattle.lisp_operators.proofs.Numbered.{Numbered, numbered_then}
 use Rattle.lisp_operators.proofs.NumberedOperators.{IsNumberedFunction, list_numbered, get_numbered, set_numbered, remove_numbered, symbol_plist_numbered, increment_numbered, push_numbered, make_numbered, enter_numbered, intern_numbered, export_numbered, import_numbered, use_numbered, case_numbered, set_case_numbered, copy_numbered, enter_readtable_numbered, set_syntax_numbered, set_macro_numbered, get_macro_numbered, make_dispatch_numbered, set_dispatch_numbered, get_dispatch_numbered}
 use Rattle.evaluator.specs.Value.{value}
@@ -14,7 +14,7 @@ module _ (names : List Name) where
   abbrev Asks : State → Object → Type 0
   Asks s x = Unit {0}
 
-  abbrev Of : {A : Type 0} → State → Outcome A → Type 0
+  abbrev Of : {A : Type 0} → State → Evaluation A → Type 0
   Of s o = Numbered o
 
   operators : Operators names Asks Of Of IsNumberedFunction

@@ -17,7 +17,7 @@ use Rattle.plist_state.specs.State.{State, standard_name}
 use Rattle.plist_state.specs.Changes.{plist, property, with_property, without_property, with_packages}
 use Rattle.plist_state.proofs.Lists.{list-with_list}
 use Rattle.plist_state.proofs.Orders.{symbol_tied}
-use Rattle.lisp_operators.specs.Outcomes.{gives, writes}
+use Rattle.lisp_operators.specs.Evaluation.{gives, writes}
 use Rattle.lisp_operators.specs.Properties.{t}
 use Rattle.lisp_operators.specs.Readtables.{name_or_nil}
 use Rattle.evaluator.specs.Value.{value}

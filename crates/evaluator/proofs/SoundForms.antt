@@ -8,7 +8,7 @@ use Rattle.package_table.specs.Table.{Name, Table, keyword}
 use Rattle.package_table.specs.Growth.{Grows}
 use Rattle.plist_state.specs.State.{State}
 use Rattle.plist_state.specs.Sound.{IsValue, IsSound}
-use Rattle.lisp_operators.specs.Outcomes.{Outcome, gives, and_then}
+use Rattle.lisp_operators.specs.Evaluation.{Evaluation, gives, and_then}
 use Rattle.lisp_operators.specs.Readtables.{AreFunctionNames, a_keyword_of}
 use Rattle.lisp_operators.proofs.Good.{Goods, goods_here, goods_then}
 use Rattle.lisp_operators.proofs.Storable.{AreValues, symbol_is_value, nil_value, text_value, value_grown, values_grown, value_parts}
@@ -31,11 +31,11 @@ last_value u sound (x ∷ []) are = All-head (IsValue u) x [] are
 last_value u sound (x ∷ y ∷ ys) are = last_value u sound (y ∷ ys) (All-tail (IsValue u) x (y ∷ ys) are)
 
 -- one value, and then more
-cons_safe : (s : State) (y : Object) (o : Outcome (List Object)) → IsValue s.packages y → Goods AreValues s o → Goods AreValues s (and_then o (λ ys end'. gives (y ∷ ys) end'))
+cons_safe : (s : State) (y : Object) (o : Evaluation (List Object)) → IsValue s.packages y → Goods AreValues s o → Goods AreValues s (and_then o (λ ys end'. gives (y ∷ ys) end'))
 cons_safe s y o is safe =
     goods_then AreValues AreValues s o _ safe (λ ys end' sound grows are. goods_here AreValues end' (y ∷ ys) false sound (All-cons (IsValue end'.packages) y ys (value_grown s.packages end'.packages grows y is) are))
 
-append_safe : (s : State) (xs : List Object) (o : Outcome (List Object)) → AreValues s.packages xs → Goods AreValues s o → Goods AreValues s (and_then o (λ ys end'. gives (xs ++ ys) end'))
+append_safe : (s : State) (xs : List Object) (o : Evaluation (List Object)) → AreValues s.packages xs → Goods AreValues s o → Goods AreValues s (and_then o (λ ys end'. gives (xs ++ ys) end'))
 append_safe s xs o before safe =
     goods_then AreValues AreValues s o _ safe (λ ys end' sound grows are. goods_here AreValues end' (xs ++ ys) false sound (All-append (IsValue end'.packages) xs ys (values_grown s.packages end'.packages grows xs before) are))
 

@@ -21,7 +21,7 @@ use Rattle.plist_state.specs.State.{State}
 use Rattle.plist_state.specs.Sound.{IsSound, IsValue}
 use Rattle.lisp_operators.specs.declared.error.EvaluationError.{EvaluationError}
 use Rattle.lisp_operators.specs.declared.error.EvaluationError.TheVariants.{Refused, OutOfMemory}
-use Rattle.lisp_operators.specs.Outcomes.{Done, Outcome, gives, also, and_then}
+use Rattle.lisp_operators.specs.Evaluation.{Done, Evaluation, gives, also, and_then}
 use Rattle.evaluator.specs.Value.{value, values, symbol_value}
 use Rattle.lisp_operators.specs.Readtables.{AreFunctionNames}
 use Rattle.lisp_operators.specs.Evaluated.{IsArgument, Answers, done}
@@ -97,11 +97,11 @@ pub good_value : (names : List Name) (s : State) (x : Object) (d : Done Object) 
 good_value names s x d all sound is e = (subst (Goods IsValue s) e (value_safe names all s x sound is)).good
 
 -- ---- forms one after the other
-also_nothing : {A : Type 0} (o : Outcome A) → also false o ≡ o
+also_nothing : {A : Type 0} (o : Evaluation A) → also false o ≡ o
 also_nothing (Ok d) = refl
 also_nothing (Err code) = refl
 
-same_values : (o : Outcome (List Object)) → and_then o (λ ys end'. gives ([] ++ ys) end') ≡ o
+same_values : (o : Evaluation (List Object)) → and_then o (λ ys end'. gives ([] ++ ys) end') ≡ o
 same_values (Ok d) = ap (λ b. Ok (record { value = d.value; state = d.state; wrote = b })) (or_false d.wrote)
   where
     or_false : (b : Bool) → (b || false) ≡ b
@@ -113,7 +113,7 @@ pub followed_start : (names : List Name) (s : State) (forms : Object) → follow
 followed_start names s forms = also_nothing (and_then (values names s forms) (λ ys end'. gives ([] ++ ys) end')) ∙ same_values (values names s forms)
 
 -- with the value of the first
-next : (xs : List Object) (w : Bool) (y : Object) (v : Bool) (o : Outcome (List Object))
+next : (xs : List Object) (w : Bool) (y : Object) (v : Bool) (o : Evaluation (List Object))
     → also w (and_then (also v (and_then o (λ ys end'. gives (y ∷ ys) end'))) (λ ys end'. gives (xs ++ ys) end')) ≡ also (w || v) (and_then o (λ ys end'. gives ((xs ++ y ∷ []) ++ ys) end'))
 next xs w y v (Err code) = refl
 next xs w y v (Ok d) = ap (λ l. Ok (record { value = l; state = d.state; wrote = w || ((v || (d.wrote || false)) || false) })) (joined xs)
@@ -180,13 +180,10 @@ pub are_proper : (u : Table) (xs : List Datum) → All (IsArgument u) xs → lis
 are_proper u [] all = refl
 are_proper u (x ∷ xs) all = and_from (is_proper x) (list_all is_proper xs) ((All-head (IsArgument u) x xs all).proper) (are_proper u xs (All-tail (IsArgument u) x xs all))
 
-pub all_grown : (u v : Table) → Grows u v → (xs : List Datum) → All (IsArgument u) xs → All (IsArgument v) xs
-all_grown u v grows xs all = All-weaker (IsArgument u) (IsArgument v) (argument_grown u v grows) xs all
-
 pub all_more : (v : Table) (xs ys : List Datum) (x : Datum) → ys ≡ xs ++ x ∷ [] → All (IsArgument v) xs → IsArgument v x → All (IsArgument v) ys
 all_more v xs ys x is all one = subst (All (IsArgument v)) (sym is) (All-append (IsArgument v) xs (x ∷ []) all (All-cons (IsArgument v) x [] one (All-nil (IsArgument v))))
 
-pub followed_stops : (names : List Name) (xs : List Object) (w : Bool) (s t u : State) (forms : List Datum) (i : ℕ) (f : Datum) (e : EvaluationError) (o : Outcome (List Object)) → o ≡ followed names xs w s (list_of (map object_of (drop i forms)))
+pub followed_stops : (names : List Name) (xs : List Object) (w : Bool) (s t u : State) (forms : List Datum) (i : ℕ) (f : Datum) (e : EvaluationError) (o : Evaluation (List Object)) → o ≡ followed names xs w s (list_of (map object_of (drop i forms)))
     → i < length forms → f ≡ get_or forms i f → Answers done (Err e) t (value names s (object_of f)) → Answers all_done (Err e) u o
 followed_stops names xs w s t u forms i f (Refused code) o same within is h = same ∙ followed_refused names xs w s forms i f code within is h
 followed_stops names xs w s t u forms i f OutOfMemory o same within is h = tt

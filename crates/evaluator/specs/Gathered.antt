@@ -7,11 +7,14 @@ use Rattle.lisp_operators.specs.declared.error.EvaluationError.{EvaluationError}
 use Rattle.lisp_operators.specs.declared.error.EvaluationError.TheVariants.{Refused, OutOfMemory}
 use Rattle.lisp_object.specs.declared.refusal.TheConstants.{ARGUMENT_KIND}
 use Rattle.lisp_object.specs.Datum.{object_of}
-use Rattle.lisp_operators.specs.Outcomes.{Done}
+use Rattle.lisp_object.specs.declared.datum.Datum.{Datum}
+use Rattle.lisp_operators.specs.declared.evaluated.Evaluated.{Evaluated}
+use Rattle.lisp_operators.specs.Evaluated.{Answers, CarriesOut, done, objects}
+use Rattle.lisp_operators.specs.Evaluation.{Done}
 use Rattle.evaluator.specs.declared.values.Values.{Values}
 use Rattle.evaluator.specs.declared.operation.Operation.{Operation}
 use Rattle.evaluator.specs.declared.operation.Operation.TheVariants.{Progn, MakeList, Setf, Incf, Push, Export, Import, UsePackage}
-use Rattle.lisp_operators.specs.Outcomes.{Outcome, gives, also, and_then}
+use Rattle.lisp_operators.specs.Evaluation.{Evaluation, gives, also, and_then}
 use Rattle.evaluator.specs.Operators.{count, first}
 use Rattle.evaluator.specs.Operations.{action_of, function_of}
 use Rattle.evaluator.specs.Value.{Parts, value, values, choice, values_at_place, values_before_place, action_value, place_refusal, get_place_refusal, is_case_place, rest}
@@ -25,6 +28,10 @@ abbrev pub arguments_of : List Object → Object
 arguments_of [] = nil
 arguments_of (x ∷ xs) = list_of xs
 
+-- the same, of data; the first of them is the operator itself
+abbrev pub arguments_in : List Datum → Object
+arguments_in items = arguments_of (objects items)
+
 -- what the arguments of a form give
 abbrev pub parts : List Name → State → Object → Parts
 parts names s arguments = record {
@@ -34,17 +41,35 @@ parts names s arguments = record {
   before_place = values_before_place names s arguments;
 }
 
+-- what a form with this operator gives
+abbrev pub operation_value : List Name → Operation → Object → State → Evaluation Object
+operation_value names operation arguments s = action_value s (action_of names operation) arguments (parts names s arguments)
+
+-- The value of a form is told, that of a form with this operator, and what an operator makes of values, each from the first of
+-- two states to the second; and a value that leaves every state as it is.
+abbrev pub Evaluates : List Name → Object → State → State → Result Evaluated EvaluationError → Type 0
+Evaluates names x old new result = Answers done result new (value names old x)
+
+abbrev pub Operates : List Name → Operation → List Datum → State → State → Result Evaluated EvaluationError → Type 0
+Operates names operation items old new result = Answers done result new (operation_value names operation (arguments_in items) old)
+
+abbrev pub Performs : List Name → Operation → Bool → List Datum → State → State → Result Evaluated EvaluationError → Type 0
+Performs names operation is_case values old new result = CarriesOut (function_of names operation is_case) values old new result
+
+abbrev pub HasValue : Object → Result Evaluated EvaluationError → Type 0
+HasValue x result = (s : State) → Answers done result s (gives x s)
+
 -- the values of forms after these values, where whether those wrote is known
-abbrev pub followed : List Name → List Object → Bool → State → Object → Outcome (List Object)
+abbrev pub followed : List Name → List Object → Bool → State → Object → Evaluation (List Object)
 followed names xs wrote s forms = also wrote (and_then (values names s forms) (λ ys end'. gives (xs ++ ys) end'))
 
 -- the same of the subforms of a place
-abbrev pub subforms : List Name → List Object → Bool → State → Object → Outcome (List Object)
+abbrev pub subforms : List Name → List Object → Bool → State → Object → Evaluation (List Object)
 subforms names xs wrote s (pair operator forms) = followed names xs wrote s forms
 subforms names xs wrote s _ = Err ARGUMENT_KIND
 
 -- what an operator takes of these
-abbrev pub gathered : List Name → State → Operation → Object → Outcome (List Object)
+abbrev pub gathered : List Name → State → Operation → Object → Evaluation (List Object)
 gathered names s Setf arguments = values_at_place names s arguments
 gathered names s Incf arguments = values_at_place names s arguments
 gathered names s Push arguments = values_before_place names s arguments

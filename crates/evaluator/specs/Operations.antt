@@ -6,7 +6,7 @@ use Rattle.plist_state.specs.State.{State}
 use Rattle.package_table.specs.Table.{Name}
 use Rattle.evaluator.specs.declared.operation.Operation.{Operation}
 use Rattle.evaluator.specs.declared.operation.Operation.TheVariants.{Quote, Progn, If, MakeList, Get, Setf, Remprop, SymbolPlist, Incf, Push, MakePackage, InPackage, Export, Import, UsePackage, Intern, CopyReadtable, InReadtable, SetSyntaxFromChar, SetMacroCharacter, GetMacroCharacter, MakeDispatchMacroCharacter, SetDispatchMacroCharacter, GetDispatchMacroCharacter, ReadtableCase}
-use Rattle.lisp_operators.specs.Outcomes.{Outcome, gives}
+use Rattle.lisp_operators.specs.Evaluation.{Evaluation, gives}
 use Rattle.lisp_operators.specs.Properties.{list, get, set, remove, symbol_plist, increment, push}
 use Rattle.lisp_operators.specs.Packages.{make, intern, export, import, use_package}
 use Rattle.evaluator.specs.Value.{last}
@@ -110,34 +110,19 @@ is_ordinary InPackage = false
 is_ordinary _ = true
 
 -- that function; SETF has two, as its place is a readtable's case or a property
-abbrev pub of_values : Action → List Object → State → Outcome Object
+abbrev pub of_values : Action → List Object → State → Evaluation Object
 of_values (calls function) xs s = function xs s
 of_values _ xs s = Err ARGUMENT_KIND
 
-abbrev pub function_of : List Name → Operation → Bool → List Object → State → Outcome Object
+abbrev pub set_either : Bool → List Object → State → Evaluation Object
+set_either is_case xs s = if is_case then set_case xs s else set xs s
+
+abbrev pub function_of : List Name → Operation → Bool → List Object → State → Evaluation Object
 function_of names Progn is_case xs s = gives (last xs) s
-function_of names Setf is_case xs s = if is_case then set_case xs s else set xs s
+function_of names Setf is_case xs s = set_either is_case xs s
 function_of names Incf is_case xs s = increment xs s
 function_of names Push is_case xs s = push xs s
 function_of names operation is_case xs s = of_values (action_of names operation) xs s
-
--- the family of operators to which it belongs
-abbrev pub is_on_properties : Operation → Bool
-is_on_properties Get = true
-is_on_properties Setf = true
-is_on_properties Remprop = true
-is_on_properties SymbolPlist = true
-is_on_properties Incf = true
-is_on_properties Push = true
-is_on_properties _ = false
-
-abbrev pub is_on_packages : Operation → Bool
-is_on_packages MakePackage = true
-is_on_packages Export = true
-is_on_packages Import = true
-is_on_packages UsePackage = true
-is_on_packages Intern = true
-is_on_packages _ = false
 
 -- the operators of control and on data, by their names
 abbrev pub operators_on_data : List (Name × Operation)

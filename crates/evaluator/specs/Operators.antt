@@ -6,7 +6,7 @@ use Rattle.std.specs.Option.{option_map_or}
 use Rattle.lisp_object.specs.Object.{Object, symbol, pair, nil}
 use Rattle.package_table.specs.Table.{Name, common_lisp}
 use Rattle.plist_state.specs.State.{State}
-use Rattle.lisp_operators.specs.Outcomes.{Outcome}
+use Rattle.lisp_operators.specs.Evaluation.{Evaluation}
 use Rattle.lisp_operators.specs.Properties.{list, get, remove, symbol_plist}
 use Rattle.lisp_operators.specs.Packages.{make, intern, export, import, use_package}
 use Rattle.lisp_operators.specs.Readtables.{readtable_case, copy_readtable, enter_readtable, set_syntax, set_macro, get_macro, make_dispatch, set_dispatch, get_dispatch}
@@ -20,7 +20,7 @@ pub data Action : Type 0 where
   increments : Action
   pushes : Action
   enters_package : Action
-  calls : (List Object → State → Outcome Object) → Action
+  calls : (List Object → State → Evaluation Object) → Action
 
 pub record Operator : Type 0 where
   -- how many arguments at least, and how many at most

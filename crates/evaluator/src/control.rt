@@ -1,16 +1,16 @@
 //! The operators of control (standard 5.3), and the values of atoms.
-ghost use Rattle.std.specs.Prelude.{◌≡◌, ◌≤◌, ◌||◌, ◌&&◌, ℕ, List, Some, true, bytes_eq, map, length, All, IfOk};
+ghost use Rattle.std.specs.Prelude.{ℕ, ◌≡◌, ◌≤◌, ◌||◌, ◌&&◌, List, Some, true, bytes_eq, length, IfOk};
 ghost use Rattle.std.specs.List.{list_all};
 ghost use Rattle.lisp_object.specs.Object.{Object};
 ghost use Rattle.lisp_object.specs.Datum.{object_of, is_proper};
 ghost use Rattle.package_table.specs.Table.{common_lisp};
 ghost use Rattle.plist_state.specs.State.{State};
 ghost use Rattle.lisp_operators.specs.Kinds.{a_symbol};
-ghost use Rattle.lisp_operators.specs.Outcomes.{Outcome, gives, also};
+ghost use Rattle.lisp_operators.specs.Evaluation.{Evaluation, gives, also};
 ghost use Rattle.evaluator.specs.Operators.{first};
 ghost use Rattle.evaluator.specs.Value.{last, symbol_value};
-ghost use Rattle.evaluator.specs.Gathered.{arguments_of};
-ghost use Rattle.lisp_operators.specs.Evaluated.{Answers, done};
+ghost use Rattle.evaluator.specs.Gathered.{arguments_in, HasValue};
+ghost use Rattle.lisp_operators.specs.Evaluated.{Answers, done, IsProper, AreProper, IsProperValue, objects};
 
 use lisp_object::Datum;
 use lisp_object::refusal::NOT_A_FORM;
@@ -25,8 +25,9 @@ pub(crate) fn after(
     wrote: bool,
     evaluated: Result<Evaluated, EvaluationError>,
 ) -> Result<Evaluated, EvaluationError>
-    ensures gives { (s : State) (o : Outcome Object) → Answers done evaluated s o → Answers done result s (also wrote o) }
-    ensures proper { IfOk evaluated (λ e. is_proper e.value ≡ true) → IfOk result (λ e. is_proper e.value ≡ true) }
+    ensures gives { (s : State) (o : Evaluation Object)
+        → Answers done evaluated s o → Answers done result s (also wrote o) }
+    ensures proper { IfOk evaluated IsProperValue → IfOk result IsProperValue }
 {
     match evaluated {
         Ok(evaluated) => Ok(Evaluated {
@@ -39,9 +40,9 @@ pub(crate) fn after(
 
 /// An object that is its own value.
 pub(crate) fn itself(alloc: Global, form: &Datum) -> Result<Evaluated, EvaluationError>
-    requires { is_proper form.now ≡ true }
-    ensures gives { (s : State) → Answers done result s (gives (object_of form.now) s) }
-    ensures proper { IfOk result (λ e. is_proper e.value ≡ true) }
+    requires { IsProper form.now }
+    ensures gives { HasValue (object_of form.now) result }
+    ensures proper { IfOk result IsProperValue }
 {
     Ok(Evaluated {
         value: form.copy(alloc)?,
@@ -52,9 +53,9 @@ pub(crate) fn itself(alloc: Global, form: &Datum) -> Result<Evaluated, Evaluatio
 /// QUOTE: the argument as it is written.
 pub(crate) fn quoted(alloc: Global, items: &[Datum]) -> Result<Evaluated, EvaluationError>
     requires counted { 2 ≤ length items.now }
-    requires proper { All (λ d. is_proper d ≡ true) items.now }
-    ensures gives { (s : State) → Answers done result s (gives (first (arguments_of (map object_of items.now))) s) }
-    ensures proper { IfOk result (λ e. is_proper e.value ≡ true) }
+    requires proper { AreProper items.now }
+    ensures gives { HasValue (first (arguments_in items.now)) result }
+    ensures proper { IfOk result IsProperValue }
 {
     itself(alloc, &items[1])
 }
@@ -62,8 +63,8 @@ pub(crate) fn quoted(alloc: Global, items: &[Datum]) -> Result<Evaluated, Evalua
 /// PROGN: the last of these values; NIL where there is none.
 pub(crate) fn last(alloc: Global, mut values: Vec<Datum>) -> Result<Evaluated, EvaluationError>
     requires { list_all is_proper values.items ≡ true }
-    ensures gives { (s : State) → Answers done result s (gives (last (map object_of values.items)) s) }
-    ensures proper { IfOk result (λ e. is_proper e.value ≡ true) }
+    ensures gives { HasValue (last (objects values.items)) result }
+    ensures proper { IfOk result IsProperValue }
 {
     match values.pop() {
         Some(value) => Ok(Evaluated {
@@ -77,8 +78,8 @@ pub(crate) fn last(alloc: Global, mut values: Vec<Datum>) -> Result<Evaluated, E
     }
 }
 
-/// Whether it is the symbol of COMMON-LISP with this name.
-pub(crate) fn is_standard(home: &[u8], own: &[u8], name: &[u8]) -> bool
+// Whether it is the symbol of COMMON-LISP with this name.
+fn is_standard_name(home: &[u8], own: &[u8], name: &[u8]) -> bool
     ensures { result ≡ (bytes_eq home.now common_lisp && bytes_eq own.now name.now) }
 {
     home == COMMON_LISP && own == name
@@ -90,24 +91,25 @@ pub(crate) fn symbol_value(
     world: &World,
     form: &Datum,
 ) -> Result<Evaluated, EvaluationError>
-    requires { is_proper form.now ≡ true }
-    ensures gives { (home name : List ℕ) → a_symbol (object_of form.now) ≡ Some (home, name) → Answers done result world.now.0 (symbol_value home name world.now.0) }
-    ensures proper { IfOk result (λ e. is_proper e.value ≡ true) }
+    requires { IsProper form.now }
+    ensures gives { (home name : List ℕ) → a_symbol (object_of form.now) ≡ Some (home, name)
+        → Answers done result world.now.0 (symbol_value home name world.now.0) }
+    ensures proper { IfOk result IsProperValue }
 {
     let Ok((home, name)) = kinds::symbol(form) else {
         return Err(Refused(NOT_A_FORM));
     };
-    if home == KEYWORD || is_standard(home, name, b"T") || is_standard(home, name, b"NIL") {
+    if home == KEYWORD || is_standard_name(home, name, b"T") || is_standard_name(home, name, b"NIL") {
         return itself(alloc, form);
     }
     world.soundness();
-    if is_standard(home, name, b"*PACKAGE*") {
+    if is_standard_name(home, name, b"*PACKAGE*") {
         return Ok(Evaluated {
             value: values::text(alloc, world.current_package())?,
             wrote: false,
         });
     }
-    if is_standard(home, name, b"*READTABLE*") {
+    if is_standard_name(home, name, b"*READTABLE*") {
         return Ok(Evaluated {
             value: values::keyword(alloc, world.current_readtable())?,
             wrote: false,

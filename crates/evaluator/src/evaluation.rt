@@ -1,13 +1,13 @@
 //! Evaluation (standard 3.1.2.1): the value of a form.
-ghost use Rattle.std.specs.Prelude.{◌≡◌, ◌<◌, ◌≤◌, true, length, drop, map, All, IfOk};
+ghost use Rattle.std.specs.Prelude.{◌≡◌, ◌<◌, ◌≤◌, true, length, drop, IfOk};
 ghost use Rattle.lisp_object.specs.Object.{list_of};
-ghost use Rattle.lisp_object.specs.Datum.{object_of, is_proper};
-ghost use Rattle.evaluator.specs.Value.{value, values_at_place, values_before_place, choice, action_value};
+ghost use Rattle.lisp_object.specs.Datum.{object_of};
+ghost use Rattle.evaluator.specs.Value.{value, values_at_place, values_before_place, choice};
 ghost use Rattle.lisp_operators.specs.Readtables.{AreFunctionNames};
-ghost use Rattle.lisp_operators.specs.Evaluated.{IsArgument, Keeps, Answers, done};
-ghost use Rattle.evaluator.specs.Gathered.{all_done};
-ghost use Rattle.evaluator.specs.Operations.{IsCounted, is_ordinary, action_of};
-ghost use Rattle.evaluator.specs.Gathered.{arguments_of, parts, followed, subforms, gathered};
+ghost use Rattle.lisp_operators.specs.Evaluated.{IsArgument, Keeps, Answers, done, IsProperValue, AreArgumentsOf, objects};
+ghost use Rattle.evaluator.specs.Gathered.{all_done, arguments_in, Evaluates, Operates};
+ghost use Rattle.evaluator.specs.Operations.{IsCounted, is_ordinary};
+ghost use Rattle.evaluator.specs.Gathered.{followed, subforms, gathered};
 
 use crate::control::{after, itself, quoted, symbol_value};
 use crate::operation::{Operation, operation_of};
@@ -32,7 +32,7 @@ pub fn evaluate(
 ) -> Result<Evaluated, EvaluationError>
     requires names { AreFunctionNames names.now }
     requires form { IsArgument world.old.0.packages form.now }
-    ensures gives { Answers done result world.new.0 (value names.now world.old.0 (object_of form.now)) }
+    ensures gives { Evaluates names.now (object_of form.now) world.old.0 world.new.0 result }
     ensures value { IfOk result (λ e. IsArgument world.new.0.packages e.value) }
     ensures kept { IfOk result (λ _. Keeps world.old.0.packages world.new.0.packages) }
     ensures marked { world.new.1 ≡ world.old.1 }
@@ -54,8 +54,8 @@ fn any_form(
 ) -> Result<Evaluated, EvaluationError>
     requires names { AreFunctionNames names.now }
     requires form { IsArgument world.old.0.packages form.now }
-    ensures gives { Answers done result world.new.0 (value names.now world.old.0 (object_of form.now)) }
-    ensures proper { IfOk result (λ e. is_proper e.value ≡ true) }
+    ensures gives { Evaluates names.now (object_of form.now) world.old.0 world.new.0 result }
+    ensures proper { IfOk result IsProperValue }
     ensures marked { world.new.1 ≡ world.old.1 }
 {
     match form {
@@ -85,9 +85,9 @@ fn list_form(
 ) -> Result<Evaluated, EvaluationError>
     requires some { 0 < length items.now }
     requires names { AreFunctionNames names.now }
-    requires items { All (IsArgument world.old.0.packages) items.now }
-    ensures gives { Answers done result world.new.0 (value names.now world.old.0 (list_of (map object_of items.now))) }
-    ensures proper { IfOk result (λ e. is_proper e.value ≡ true) }
+    requires items { AreArgumentsOf world.old items.now }
+    ensures gives { Evaluates names.now (list_of (objects items.now)) world.old.0 world.new.0 result }
+    ensures proper { IfOk result IsProperValue }
     ensures marked { world.new.1 ≡ world.old.1 }
 {
     let items = items.as_slice();
@@ -108,9 +108,9 @@ fn act(
 ) -> Result<Evaluated, EvaluationError>
     requires counted { IsCounted operation (length items.now) }
     requires names { AreFunctionNames names.now }
-    requires items { All (IsArgument world.old.0.packages) items.now }
-    ensures gives { Answers done result world.new.0 (action_value world.old.0 (action_of names.now operation) (arguments_of (map object_of items.now)) (parts names.now world.old.0 (arguments_of (map object_of items.now)))) }
-    ensures proper { IfOk result (λ e. is_proper e.value ≡ true) }
+    requires items { AreArgumentsOf world.old items.now }
+    ensures gives { Operates names.now operation items.now world.old.0 world.new.0 result }
+    ensures proper { IfOk result IsProperValue }
     ensures marked { world.new.1 ≡ world.old.1 }
 {
     if operation.is_ordinary() {
@@ -135,9 +135,9 @@ fn ordinary(
     requires ordinary { is_ordinary operation ≡ true }
     requires counted { IsCounted operation (length items.now) }
     requires names { AreFunctionNames names.now }
-    requires items { All (IsArgument world.old.0.packages) items.now }
-    ensures gives { Answers done result world.new.0 (action_value world.old.0 (action_of names.now operation) (arguments_of (map object_of items.now)) (parts names.now world.old.0 (arguments_of (map object_of items.now)))) }
-    ensures proper { IfOk result (λ e. is_proper e.value ≡ true) }
+    requires items { AreArgumentsOf world.old items.now }
+    ensures gives { Operates names.now operation items.now world.old.0 world.new.0 result }
+    ensures proper { IfOk result IsProperValue }
     ensures marked { world.new.1 ≡ world.old.1 }
 {
     let is_case = match check_place(operation, items) {
@@ -161,9 +161,10 @@ fn gathered(
 ) -> Result<Values, EvaluationError>
     requires counted { IsCounted operation (length items.now) }
     requires names { AreFunctionNames names.now }
-    requires items { All (IsArgument world.old.0.packages) items.now }
-    ensures gives { Answers all_done result world.new.0 (gathered names.now world.old.0 operation (arguments_of (map object_of items.now))) }
-    ensures values { IfOk result (λ v. All (IsArgument world.new.0.packages) v.values.items) }
+    requires items { AreArgumentsOf world.old items.now }
+    ensures gives { Answers all_done result world.new.0
+        (gathered names.now world.old.0 operation (arguments_in items.now)) }
+    ensures values { IfOk result (λ v. AreArgumentsOf world.new v.values.items) }
     ensures marked { world.new.1 ≡ world.old.1 }
 {
     match operation {
@@ -184,9 +185,10 @@ fn at_place(
 ) -> Result<Values, EvaluationError>
     requires counted { 2 ≤ length items.now }
     requires names { AreFunctionNames names.now }
-    requires items { All (IsArgument world.old.0.packages) items.now }
-    ensures gives { Answers all_done result world.new.0 (values_at_place names.now world.old.0 (arguments_of (map object_of items.now))) }
-    ensures values { IfOk result (λ v. All (IsArgument world.new.0.packages) v.values.items) }
+    requires items { AreArgumentsOf world.old items.now }
+    ensures gives { Answers all_done result world.new.0
+        (values_at_place names.now world.old.0 (arguments_in items.now)) }
+    ensures values { IfOk result (λ v. AreArgumentsOf world.new v.values.items) }
     ensures marked { world.new.1 ≡ world.old.1 }
 {
     let values = Values::none(alloc);
@@ -206,9 +208,10 @@ fn before_place(
 ) -> Result<Values, EvaluationError>
     requires counted { 3 ≤ length items.now }
     requires names { AreFunctionNames names.now }
-    requires items { All (IsArgument world.old.0.packages) items.now }
-    ensures gives { Answers all_done result world.new.0 (values_before_place names.now world.old.0 (arguments_of (map object_of items.now))) }
-    ensures values { IfOk result (λ v. All (IsArgument world.new.0.packages) v.values.items) }
+    requires items { AreArgumentsOf world.old items.now }
+    ensures gives { Answers all_done result world.new.0
+        (values_before_place names.now world.old.0 (arguments_in items.now)) }
+    ensures values { IfOk result (λ v. AreArgumentsOf world.new v.values.items) }
     ensures marked { world.new.1 ≡ world.old.1 }
 {
     if !kinds::is_pair(&items[2]) {
@@ -231,10 +234,11 @@ fn subforms(
     place: &Datum,
 ) -> Result<Values, EvaluationError>
     requires names { AreFunctionNames names.now }
-    requires values { All (IsArgument world.old.0.packages) values.values.items }
+    requires values { AreArgumentsOf world.old values.values.items }
     requires place { IsArgument world.old.0.packages place.now }
-    ensures gives { Answers all_done result world.new.0 (subforms names.now (map object_of values.values.items) values.wrote world.old.0 (object_of place.now)) }
-    ensures values { IfOk result (λ v. All (IsArgument world.new.0.packages) v.values.items) }
+    ensures gives { Answers all_done result world.new.0
+        (subforms names.now (objects values.values.items) values.wrote world.old.0 (object_of place.now)) }
+    ensures values { IfOk result (λ v. AreArgumentsOf world.new v.values.items) }
     ensures kept { IfOk result (λ _. Keeps world.old.0.packages world.new.0.packages) }
     ensures marked { world.new.1 ≡ world.old.1 }
 {
@@ -250,7 +254,7 @@ fn subforms(
     }
 }
 
-// These values, and after them those of the forms from a place in a list on.
+// These values, and after them those of the forms from an index in a list on.
 #[cycle(evaluation)]
 fn extended(
     alloc: Global,
@@ -262,10 +266,11 @@ fn extended(
 ) -> Result<Values, EvaluationError>
     requires from { from ≤ length forms.now }
     requires names { AreFunctionNames names.now }
-    requires values { All (IsArgument world.old.0.packages) values.values.items }
-    requires forms { All (IsArgument world.old.0.packages) forms.now }
-    ensures gives { Answers all_done result world.new.0 (followed names.now (map object_of values.values.items) values.wrote world.old.0 (list_of (map object_of (drop from forms.now)))) }
-    ensures values { IfOk result (λ v. All (IsArgument world.new.0.packages) v.values.items) }
+    requires values { AreArgumentsOf world.old values.values.items }
+    requires forms { AreArgumentsOf world.old forms.now }
+    ensures gives { Answers all_done result world.new.0
+        (followed names.now (objects values.values.items) values.wrote world.old.0 (list_of (objects (drop from forms.now)))) }
+    ensures values { IfOk result (λ v. AreArgumentsOf world.new v.values.items) }
     ensures kept { IfOk result (λ _. Keeps world.old.0.packages world.new.0.packages) }
     ensures marked { world.new.1 ≡ world.old.1 }
 {
@@ -290,9 +295,10 @@ fn chosen(
 ) -> Result<Evaluated, EvaluationError>
     requires counted { 3 ≤ length items.now }
     requires names { AreFunctionNames names.now }
-    requires items { All (IsArgument world.old.0.packages) items.now }
-    ensures gives { Answers done result world.new.0 (choice names.now world.old.0 (arguments_of (map object_of items.now))) }
-    ensures proper { IfOk result (λ e. is_proper e.value ≡ true) }
+    requires items { AreArgumentsOf world.old items.now }
+    ensures gives { Answers done result world.new.0
+        (choice names.now world.old.0 (arguments_in items.now)) }
+    ensures proper { IfOk result IsProperValue }
     ensures marked { world.new.1 ≡ world.old.1 }
 {
     let test = match evaluate(alloc, world, names, &items[1]) {

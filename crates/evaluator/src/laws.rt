@@ -1,17 +1,18 @@
 //! What holds of the value of every form, for proofs.
-ghost use Rattle.std.specs.Prelude.{◌≡◌, ◌≤◌, ℕ, false, List, Ok, Err};
+ghost use Rattle.std.specs.Prelude.{ℕ, ◌≡◌, ◌≤◌, false, List, Ok, Err};
 ghost use Rattle.lisp_object.specs.Object.{Object};
 ghost use Rattle.package_table.specs.Growth.{Grows};
 ghost use Rattle.package_table.specs.Table.{Name};
 ghost use Rattle.plist_state.specs.State.{State};
 ghost use Rattle.plist_state.specs.Sound.{IsSound, IsValue};
-ghost use Rattle.lisp_operators.specs.Outcomes.{Done};
+ghost use Rattle.lisp_operators.specs.Evaluation.{Done};
 ghost use Rattle.lisp_operators.specs.Readtables.{AreCovered, AreFunctionNames};
 ghost use Rattle.evaluator.specs.Value.{value};
 
 /// The value of a form that writes nothing leaves the state as it was. For proofs: it does nothing.
 pub fn silent_values_change_nothing()
-    ensures { (names : List Name) (s : State) (x : Object) (d : Done Object) → value names s x ≡ Ok d → d.wrote ≡ false → d.state ≡ s }
+    ensures { (names : List Name) (s : State) (x : Object) (d : Done Object)
+        → value names s x ≡ Ok d → d.wrote ≡ false → d.state ≡ s }
 {}
 
 /// In a sound state, the value of a form that may be stored leaves a sound state, in which no package, no symbol, no external
@@ -25,11 +26,13 @@ pub fn values_leave_sound_states()
 /// Where the readtables of a state name no function but those of the standard readtable and these names of macro functions, the
 /// value of a form leaves such readtables. For proofs: it does nothing.
 pub fn values_leave_covered_readtables()
-    ensures { (names : List Name) (s : State) (x : Object) (d : Done Object) → value names s x ≡ Ok d
+    ensures { (names : List Name) (s : State) (x : Object) (d : Done Object)
+        → value names s x ≡ Ok d
         → AreCovered names s.readtables → AreCovered names d.state.readtables }
 {}
 
 /// A form has no value under a number of evaluation alone, 30 to 46. For proofs: it does nothing.
 pub fn values_are_refused_by_evaluation()
-    ensures { (names : List Name) (s : State) (x : Object) (code : ℕ) → value names s x ≡ Err code → (30 ≤ code) × (code ≤ 46) }
+    ensures { (names : List Name) (s : State) (x : Object) (code : ℕ)
+        → value names s x ≡ Err code → (30 ≤ code) × (code ≤ 46) }
 {}

@@ -1,10 +1,11 @@
 //! The operators, by their names.
 ghost use Rattle.std.specs.Prelude.{◌≡◌, ◌+◌, true, bytes_eq, List, option_map, IfOk};
-ghost use Rattle.lisp_object.specs.Datum.{object_of, is_proper};
+ghost use Rattle.lisp_object.specs.Datum.{object_of};
 ghost use Rattle.package_table.specs.Table.{Name};
 ghost use Rattle.evaluator.specs.Operators.{operator_named, counts};
-ghost use Rattle.evaluator.specs.Operations.{least, most, operator, IsCounted, is_ordinary, is_on_properties, is_on_packages, among, operators_on_data, operators_on_packages, operators_on_readtables};
+ghost use Rattle.evaluator.specs.Operations.{least, most, operator, IsCounted, is_ordinary, among, operators_on_data, operators_on_packages, operators_on_readtables};
 ghost use Rattle.evaluator.specs.Gathered.{IsHead};
+ghost use Rattle.lisp_operators.specs.Evaluated.{IsProper};
 
 use lisp_object::Datum;
 use lisp_object::refusal::{ARGUMENT_COUNT, NOT_A_FORM, UNKNOWN_OPERATOR};
@@ -46,7 +47,8 @@ impl Operation {
     /// The operator of this name.
     #[tactic(auto, using(crate::proofs::Heads::operator_named_among))]
     pub(crate) fn named(name: &[u8]) -> Option<Operation>
-        ensures { (names : List Name) → option_map (operator names) result ≡ operator_named names name.now }
+        ensures { (names : List Name)
+            → option_map (operator names) result ≡ operator_named names name.now }
     {
         match on_data(name) {
             Some(operation) => Some(operation),
@@ -131,35 +133,6 @@ impl Operation {
         )
     }
 
-    /// Whether it is on property lists.
-    pub(crate) fn is_on_properties(self) -> bool
-        ensures { result ≡ is_on_properties self }
-    {
-        matches!(
-            self,
-            Operation::Get
-                | Operation::Setf
-                | Operation::Remprop
-                | Operation::SymbolPlist
-                | Operation::Incf
-                | Operation::Push
-        )
-    }
-
-    /// Whether it is on packages.
-    pub(crate) fn is_on_packages(self) -> bool
-        ensures { result ≡ is_on_packages self }
-    {
-        matches!(
-            self,
-            Operation::MakePackage
-                | Operation::Export
-                | Operation::Import
-                | Operation::UsePackage
-                | Operation::Intern
-        )
-    }
-
     /// Whether it takes so many arguments.
     pub(crate) fn counts(self, number: usize) -> bool
         ensures value { (names : List Name) → result ≡ counts (operator names self) number }
@@ -177,7 +150,7 @@ impl Operation {
 
 /// What is at the head of a form of so many arguments.
 pub(crate) fn operation_of(head: &Datum, number: usize) -> Result<Operation, EvaluationError>
-    requires { is_proper head.now ≡ true }
+    requires { IsProper head.now }
     ensures head { (names : List Name) → IsHead names (object_of head.now) number result }
     ensures counted { IfOk result (λ operation. IsCounted operation (number + 1)) }
 {

@@ -1,12 +1,12 @@
 //! What an operator makes of the values of its arguments.
-ghost use Rattle.std.specs.Prelude.{◌≡◌, true, if◌then◌else◌, map, All, IfOk};
-ghost use Rattle.lisp_object.specs.Datum.{object_of, is_proper};
+ghost use Rattle.std.specs.Prelude.{◌≡◌, if◌then◌else◌, IfOk};
 ghost use Rattle.lisp_operators.specs.Readtables.{AreFunctionNames};
-ghost use Rattle.lisp_operators.specs.Outcomes.{also};
+ghost use Rattle.lisp_operators.specs.Evaluation.{also};
 ghost use Rattle.lisp_operators.specs.Properties.{set};
 ghost use Rattle.lisp_operators.specs.Readtables.{set_case};
-ghost use Rattle.evaluator.specs.Operations.{function_of};
-ghost use Rattle.lisp_operators.specs.Evaluated.{IsArgument, Answers, done};
+ghost use Rattle.evaluator.specs.Operations.{function_of, set_either};
+ghost use Rattle.lisp_operators.specs.Evaluated.{Answers, done, IsProperValue, AreArgumentsOf, CarriesOut, objects};
+ghost use Rattle.evaluator.specs.Gathered.{Performs};
 
 use crate::control::{after, last};
 use crate::operation::Operation;
@@ -31,9 +31,10 @@ pub(crate) fn perform(
     values: Values,
 ) -> Result<Evaluated, EvaluationError>
     requires names { AreFunctionNames names.now }
-    requires values { All (IsArgument world.old.0.packages) values.values.items }
-    ensures gives { Answers done result world.new.0 (also values.wrote (function_of names.now operation is_case (map object_of values.values.items) world.old.0)) }
-    ensures proper { IfOk result (λ e. is_proper e.value ≡ true) }
+    requires values { AreArgumentsOf world.old values.values.items }
+    ensures gives { Answers done result world.new.0
+        (also values.wrote (function_of names.now operation is_case (objects values.values.items) world.old.0)) }
+    ensures proper { IfOk result IsProperValue }
     ensures marked { world.new.1 ≡ world.old.1 }
 {
     let Values { values, wrote } = values;
@@ -52,9 +53,9 @@ fn carry_out(
     values: Vec<Datum>,
 ) -> Result<Evaluated, EvaluationError>
     requires names { AreFunctionNames names.now }
-    requires values { All (IsArgument world.old.0.packages) values.items }
-    ensures gives { Answers done result world.new.0 (function_of names.now operation is_case (map object_of values.items) world.old.0) }
-    ensures proper { IfOk result (λ e. is_proper e.value ≡ true) }
+    requires values { AreArgumentsOf world.old values.items }
+    ensures gives { Performs names.now operation is_case values.items world.old.0 world.new.0 result }
+    ensures proper { IfOk result IsProperValue }
     ensures marked { world.new.1 ≡ world.old.1 }
 {
     match operation {
@@ -111,9 +112,9 @@ fn put(
     is_case: bool,
     values: Vec<Datum>,
 ) -> Result<Evaluated, EvaluationError>
-    requires { All (IsArgument world.old.0.packages) values.items }
-    ensures gives { Answers done result world.new.0 (if is_case then set_case (map object_of values.items) world.old.0 else set (map object_of values.items) world.old.0) }
-    ensures proper { IfOk result (λ e. is_proper e.value ≡ true) }
+    requires { AreArgumentsOf world.old values.items }
+    ensures gives { CarriesOut (set_either is_case) values.items world.old.0 world.new.0 result }
+    ensures proper { IfOk result IsProperValue }
     ensures marked { world.new.1 ≡ world.old.1 }
 {
     if is_case {

@@ -1,12 +1,13 @@
 //! The places that SETF, INCF and PUSH take (standard 5.1).
-ghost use Rattle.std.specs.Prelude.{◌≡◌, true, false, Some, None, map, length, All, IfOk, MatchOption};
+ghost use Rattle.std.specs.Prelude.{◌≡◌, true, false, Some, None, length, IfOk, MatchOption};
 ghost use Rattle.lisp_object.specs.Object.{Object, pair, is_proper_list};
 ghost use Rattle.lisp_object.specs.Datum.{object_of, is_proper};
 ghost use Rattle.lisp_object.specs.declared.refusal.TheConstants.{ARGUMENT_KIND as WRONG_KIND};
 ghost use Rattle.evaluator.specs.Operators.{is_standard, count};
 ghost use Rattle.evaluator.specs.Value.{get_place_refusal, place_refusal, is_case_place};
 ghost use Rattle.evaluator.specs.Operations.{IsCounted};
-ghost use Rattle.evaluator.specs.Gathered.{arguments_of, refusal_of_place, is_case, IsRefusal};
+ghost use Rattle.evaluator.specs.Gathered.{refusal_of_place, is_case, IsRefusal, arguments_in};
+ghost use Rattle.lisp_operators.specs.Evaluated.{IsProper, AreProper};
 
 use crate::operation::Operation;
 use lisp_object::Datum;
@@ -17,7 +18,7 @@ use package_table::standardized::COMMON_LISP;
 
 // The operator of a list as a place, and the number of its subforms.
 fn accessor(place: &Datum) -> Option<(&Datum, usize)>
-    requires { is_proper place.now ≡ true }
+    requires { IsProper place.now }
     ensures value { MatchOption result
         ((get_place_refusal (object_of place.now) ≡ Some WRONG_KIND) × (place_refusal (object_of place.now) ≡ Some WRONG_KIND))
         (λ p. (subforms : Object) × (object_of place.now ≡ pair (object_of p.0.now) subforms) × (is_proper_list subforms ≡ true) × (count subforms ≡ p.1)) }
@@ -44,7 +45,7 @@ fn accessor(place: &Datum) -> Option<(&Datum, usize)>
 // Whether it is the symbol of COMMON-LISP with this name.
 #[tactic(auto, using(crate::proofs::Places::standard_by_parts))]
 fn is_standard(datum: &Datum, name: &[u8]) -> bool
-    requires { is_proper datum.now ≡ true }
+    requires { IsProper datum.now }
     ensures { result ≡ is_standard name.now (object_of datum.now) }
 {
     match kinds::symbol(datum) {
@@ -55,7 +56,7 @@ fn is_standard(datum: &Datum, name: &[u8]) -> bool
 
 // That it is a place that GET names.
 fn check_property(place: &Datum) -> Result<bool, EvaluationError>
-    requires { is_proper place.now ≡ true }
+    requires { IsProper place.now }
     ensures refusal { IsRefusal (get_place_refusal (object_of place.now)) result }
     ensures value { IfOk result (λ b. b ≡ false) }
 {
@@ -73,7 +74,7 @@ fn check_property(place: &Datum) -> Result<bool, EvaluationError>
 
 // That it is a place for SETF, and whether it is the case of a readtable.
 fn check_either(place: &Datum) -> Result<bool, EvaluationError>
-    requires { is_proper place.now ≡ true }
+    requires { IsProper place.now }
     ensures refusal { IsRefusal (place_refusal (object_of place.now)) result }
     ensures value { IfOk result (λ b. b ≡ is_case_place (object_of place.now)) }
 {
@@ -93,9 +94,9 @@ fn check_either(place: &Datum) -> Result<bool, EvaluationError>
 /// items is the operator itself.
 pub(crate) fn check_place(operation: Operation, items: &[Datum]) -> Result<bool, EvaluationError>
     requires counted { IsCounted operation (length items.now) }
-    requires proper { All (λ d. is_proper d ≡ true) items.now }
-    ensures refusal { IsRefusal (refusal_of_place operation (arguments_of (map object_of items.now))) result }
-    ensures value { IfOk result (λ b. b ≡ is_case operation (arguments_of (map object_of items.now))) }
+    requires proper { AreProper items.now }
+    ensures refusal { IsRefusal (refusal_of_place operation (arguments_in items.now)) result }
+    ensures value { IfOk result (λ b. b ≡ is_case operation (arguments_in items.now)) }
 {
     match operation {
         Operation::Setf => check_either(&items[1]),

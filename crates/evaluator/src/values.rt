@@ -26,7 +26,8 @@ impl Values {
 
     /// The one value.
     pub(crate) fn one(alloc: Global, evaluated: Evaluated) -> Result<Values, AllocError>
-        ensures { IfOk result (λ v. (v.values.items ≡ evaluated.value ∷ []) × (v.wrote ≡ evaluated.wrote)) }
+        ensures { IfOk result (λ v.
+            (v.values.items ≡ evaluated.value ∷ []) × (v.wrote ≡ evaluated.wrote)) }
     {
         let mut values = Vec::new(alloc);
         values.push(evaluated.value)?;
@@ -38,7 +39,8 @@ impl Values {
 
     /// These, and one more.
     pub(crate) fn with(self, evaluated: Evaluated) -> Result<Values, AllocError>
-        ensures { IfOk result (λ v. (v.values.items ≡ self.values.items ++ evaluated.value ∷ []) × (v.wrote ≡ (self.wrote || evaluated.wrote))) }
+        ensures { IfOk result (λ v.
+            (v.values.items ≡ self.values.items ++ evaluated.value ∷ []) × (v.wrote ≡ (self.wrote || evaluated.wrote))) }
     {
         let Values { mut values, wrote } = self;
         values.push(evaluated.value)?;

@@ -2,7 +2,7 @@
 --     accepted_silent      one that does not write leaves the state as it was
 --     accepted_covers      it leaves no readtables which name other functions than those that may be named
 --     accepted_numbered      it is refused under a number of evaluation
-use Rattle.std.proofs.Common.{◌≡◌, ◌≤◌, ℕ, Bool, true, false, List, Ok, Err, Result, ap, subst, sym, ◌∙◌}
+use Rattle.std.proofs.Common.{◌≡◌, ◌≤◌, ℕ, Bool, false, List, Ok, Err, Result, ap, refl, subst, sym, ◌∙◌}
 use Rattle.lisp_object.specs.Object.{Object}
 use Rattle.package_table.specs.declared.error.PackageError.{PackageError}
 use Rattle.package_table.specs.Table.{Name, Table}
@@ -10,7 +10,7 @@ use Rattle.package_table.specs.Changes.{after_intern, intern_changes}
 use Rattle.plist_state.specs.Properties.{Symbol}
 use Rattle.plist_state.specs.State.{State}
 use Rattle.plist_state.specs.Changes.{with_packages}
-use Rattle.lisp_operators.specs.Outcomes.{Outcome, Done}
+use Rattle.lisp_operators.specs.Evaluation.{Evaluation, Done}
 use Rattle.lisp_operators.specs.Readtables.{AreCovered}
 use Rattle.lisp_operators.proofs.Silence.{Keeps, keeps_also}
 use Rattle.lisp_operators.proofs.Unmoved.{IsUnmoved, one_unmoved, intern_still, same_ok}
@@ -44,7 +44,7 @@ accepted_keeps names s x =
 pub accepted_silent : (names : List Name) (s : State) (x : Object) (d : Done Object) → accept names s x ≡ Ok d → d.wrote ≡ false → d.state ≡ s
 accepted_silent names s x d is none = shown (accept names s x) (accepted_keeps names s x) is
   where
-    shown : (o : Outcome Object) → Keeps s o → o ≡ Ok d → d.state ≡ s
+    shown : (o : Evaluation Object) → Keeps s o → o ≡ Ok d → d.state ≡ s
     shown o keeps same = (subst (Keeps s) same keeps).same none
 
 -- ---- readtables
@@ -56,7 +56,7 @@ module _ (names : List Name) where
   pub accepted_covers : (s : State) (x : Object) (d : Done Object) → accept names s x ≡ Ok d → AreCovered names s.readtables → AreCovered names d.state.readtables
   accepted_covers s x d is = shown (accept names s x) (covered_after_symbols s (with_symbols s.packages (symbols x)) x) is
     where
-      shown : (o : Outcome Object) → covering.Keeps names s o → o ≡ Ok d → AreCovered names s.readtables → AreCovered names d.state.readtables
+      shown : (o : Evaluation Object) → covering.Keeps names s o → o ≡ Ok d → AreCovered names s.readtables → AreCovered names d.state.readtables
       shown o keeps same = (subst (covering.Keeps names s) same keeps).covered
 
 -- ---- numbers

@@ -1,4 +1,4 @@
--- Forms as transactions, and what each gives: a symbol that there is no room for comes before the operator.
+-- Forms as transactions, and what each gives. A symbol that there is no room for comes before the operator.
 use Rattle.std.proofs.Common.{◌≡◌, ◌∷◌, true, false, nat_le, List, [], codes, Some, None, Err, refl}
 use Rattle.std.specs.FinMap as finite
 use Rattle.lisp_object.specs.Object.{Object, symbol, list_of}
@@ -6,7 +6,7 @@ use Rattle.package_table.specs.Table.{Name, keyword, symbol_count, with_entry}
 use Rattle.package_table.specs.Lookup.{found}
 use Rattle.plist_state.specs.State.{State}
 use Rattle.plist_state.specs.Changes.{with_packages}
-use Rattle.lisp_operators.specs.Outcomes.{gives, writes}
+use Rattle.lisp_operators.specs.Evaluation.{gives, writes}
 use Rattle.evaluator.specs.Value.{value}
 use Rattle.form_eval.specs.Acceptance.{accept}
 

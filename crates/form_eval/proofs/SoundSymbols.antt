@@ -25,7 +25,7 @@ use Rattle.plist_state.specs.State.{State}
 use Rattle.plist_state.specs.Changes.{with_packages}
 use Rattle.plist_state.specs.Sound.{IsSymbol, IsKnown, IsValue, IsSound}
 use Rattle.plist_state.proofs.Soundness.{sound_packages}
-use Rattle.lisp_operators.specs.Outcomes.{Done}
+use Rattle.lisp_operators.specs.Evaluation.{Done}
 use Rattle.lisp_operators.specs.Packages.{one_by_one, then_others}
 use Rattle.evaluator.specs.Value.{value}
 use Rattle.form_eval.specs.Acceptance.{symbols, table_of, after_symbol, with_symbols, accepted, accept}

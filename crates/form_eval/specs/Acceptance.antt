@@ -1,5 +1,6 @@
 -- A form as one transaction: its symbols are interned, and then it is evaluated.
-use Rattle.std.specs.Prelude.{Bool, false, List, [], ◌∷◌, ◌++◌, Result, Ok, Err}
+use Rattle.std.specs.Prelude.{Bool, false, List, [], ◌∷◌, ◌++◌, map, Result, Ok, Err}
+use Rattle.std.specs.Borrow.{Bor}
 use Rattle.lisp_object.specs.Object.{Object, symbol, pair, vector}
 use Rattle.package_table.specs.declared.error.PackageError.{PackageError}
 use Rattle.package_table.specs.Table.{Name, Table}
@@ -8,7 +9,10 @@ use Rattle.package_table.specs.Changes.{after_intern, intern_changes}
 use Rattle.plist_state.specs.Properties.{Symbol}
 use Rattle.plist_state.specs.State.{State}
 use Rattle.plist_state.specs.Changes.{with_packages}
-use Rattle.lisp_operators.specs.Outcomes.{Outcome, also}
+use Rattle.lisp_operators.specs.Evaluation.{Evaluation, also}
+use Rattle.lisp_operators.specs.declared.error.EvaluationError.{EvaluationError}
+use Rattle.lisp_operators.specs.declared.evaluated.Evaluated.{Evaluated}
+use Rattle.lisp_operators.specs.Evaluated.{Answers, done}
 use Rattle.lisp_operators.specs.Packages.{one_by_one}
 use Rattle.evaluator.specs.Value.{value}
 
@@ -27,14 +31,29 @@ table_of (Err e) = Err e
 abbrev pub after_symbol : Table → Symbol → Result Table PackageError
 after_symbol packages x = table_of (after_intern packages x.0 x.1)
 
+-- whether it is new there
+abbrev pub is_new : Table → Symbol → Bool
+is_new packages x = intern_changes packages x.0 x.1
+
 -- with these symbols, and whether one of them is new
 abbrev pub with_symbols : Table → List Symbol → Result (Table × Bool) PackageError
-with_symbols packages xs = one_by_one after_symbol (λ u x. intern_changes u x.0 x.1) packages false xs
+with_symbols packages xs = one_by_one after_symbol is_new packages false xs
 
 -- the value of a form, the state after it and whether it wrote; or the number of the refusal, and then nothing has changed
-abbrev pub accepted : List Name → State → Result (Table × Bool) PackageError → Object → Outcome Object
+abbrev pub accepted : List Name → State → Result (Table × Bool) PackageError → Object → Evaluation Object
 accepted names s (Ok p) x = also p.1 (value names (with_packages s p.0) x)
 accepted names s (Err e) x = Err (number_of e)
 
-abbrev pub accept : List Name → State → Object → Outcome Object
+abbrev pub accept : List Name → State → Object → Evaluation Object
 accept names s x = accepted names s (with_symbols s.packages (symbols x)) x
+
+-- a form as a transaction is answered what the definition says, from the first of two states to the second
+abbrev pub Transacts : List Name → Object → State → State → Result Evaluated EvaluationError → Type 0
+Transacts names x old new result = Answers done result new (accept names old x)
+
+-- a symbol by its home and its name, and such symbols
+abbrev pub seen : Bor Name × Bor Name → Symbol
+seen p = (p.0.now, p.1.now)
+
+abbrev pub all_seen : List (Bor Name × Bor Name) → List Symbol
+all_seen ps = map seen ps

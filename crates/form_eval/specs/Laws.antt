@@ -7,7 +7,7 @@ use Rattle.package_table.specs.Lookup.{found}
 use Rattle.package_table.specs.Growth.{Grows}
 use Rattle.plist_state.specs.State.{State}
 use Rattle.plist_state.specs.Sound.{IsSound, IsValue}
-use Rattle.lisp_operators.specs.Outcomes.{Done}
+use Rattle.lisp_operators.specs.Evaluation.{Done}
 
 -- The home of an interned symbol finds no other symbol by its name, and the name of an uninterned one has at most 4,096
 -- characters.

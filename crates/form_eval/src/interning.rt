@@ -1,9 +1,9 @@
 //! Symbols are interned in their homes.
-ghost use Rattle.std.specs.Prelude.{◌≡◌, ◌<◌, map, All, IfErr, IfOk};
-ghost use Rattle.package_table.specs.Changes.{intern_changes, Gives};
+ghost use Rattle.std.specs.Prelude.{◌≡◌, ◌<◌, All, IfErr, IfOk};
+ghost use Rattle.package_table.specs.Changes.{Gives};
 ghost use Rattle.plist_state.specs.Changes.{with_packages};
 ghost use Rattle.lisp_operators.specs.Evaluated.{Makes};
-ghost use Rattle.form_eval.specs.Acceptance.{after_symbol, with_symbols};
+ghost use Rattle.form_eval.specs.Acceptance.{after_symbol, with_symbols, seen, all_seen, is_new};
 
 use lisp_operators::either;
 use package_table::PackageError;
@@ -12,8 +12,9 @@ use plist_state::World;
 // A symbol is interned in its home, and whether it is new. One that is there is copied nowhere.
 fn intern_one(world: &mut World, symbol: &(&[u8], &[u8])) -> Result<bool, PackageError>
     requires { All (λ b. b < 128) symbol.now.1.now }
-    ensures gives { Gives (λ _. world.new.0.packages) result (after_symbol world.old.0.packages (symbol.now.0.now, symbol.now.1.now)) }
-    ensures is_new { IfOk result (λ is_new. is_new ≡ intern_changes world.old.0.packages symbol.now.0.now symbol.now.1.now) }
+    ensures gives { Gives (λ _. world.new.0.packages) result
+        (after_symbol world.old.0.packages (seen symbol.now)) }
+    ensures is_new { IfOk result (λ b. b ≡ is_new world.old.0.packages (seen symbol.now)) }
     ensures rest { world.new ≡ (with_packages world.old.0 world.new.0.packages, world.old.1) }
     ensures unchanged { IfErr result (λ _. world.new ≡ world.old) }
 {
@@ -32,7 +33,8 @@ pub(crate) fn intern_all(
     symbols: &[(&[u8], &[u8])],
 ) -> Result<bool, PackageError>
     requires { All (λ p. All (λ b. b < 128) p.1.now) symbols.now }
-    ensures gives { Makes result world.new.0.packages (with_symbols world.old.0.packages (map (λ p. (p.0.now, p.1.now)) symbols.now)) }
+    ensures gives { Makes result world.new.0.packages
+        (with_symbols world.old.0.packages (all_seen symbols.now)) }
     ensures rest { world.new ≡ (with_packages world.old.0 world.new.0.packages, world.old.1) }
 {
     let mut wrote = false;

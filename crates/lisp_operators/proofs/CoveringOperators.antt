@@ -28,7 +28,7 @@ use Rattle.plist_state.specs.Properties.{Symbol}
 use Rattle.plist_state.specs.State.{Readtables, State, standard_name}
 use Rattle.plist_state.specs.Changes.{plist, property, after_in_readtable, put_changed, with_changed, changed as changed_readtables, with_case, with_macro, with_dispatching, dispatched, refused_as, with_dispatch, with_syntax, with_copy, in_state}
 use Rattle.lisp_operators.specs.Kinds.{a_symbol, a_name, a_text, an_integer, a_character, a_keyword, a_source, a_case, one_or_each, given_or, given_or_nil, is_true}
-use Rattle.lisp_operators.specs.Outcomes.{Outcome, gives}
+use Rattle.lisp_operators.specs.Evaluation.{Evaluation, gives}
 use Rattle.lisp_operators.specs.Readtables.{AreCovered}
 use Rattle.lisp_operators.specs.Properties.{t, built, list, get, set, removed, remove, in_turn, symbol_plist, amount, is_in_range, increment, push}
 use Rattle.lisp_operators.specs.Packages.{in_package, made, make, enter, interned, intern, changed, unlocked, export, import, use_all, packages_named, use_package}
@@ -37,14 +37,14 @@ use Rattle.lisp_operators.proofs.Covering as covering
 use Rattle.lisp_operators.proofs.Covering.{keeps_if, keeps_kind, keeps_option}
 
 module _ (names : List Name) where
-  abbrev Keeps : {A : Type 0} → State → Outcome A → Type 0
+  abbrev Keeps : {A : Type 0} → State → Evaluation A → Type 0
   Keeps = covering.Keeps names
 
-  abbrev pub IsCovering : (List Object → State → Outcome Object) → Type 0
+  abbrev pub IsCovering : (List Object → State → Evaluation Object) → Type 0
   IsCovering function = (xs : List Object) (s : State) → Keeps s (function xs s)
 
   -- ---- property lists
-  built_covers : (s : State) (x : Object) (on : Outcome Object) → Keeps s on → Keeps s (built x on)
+  built_covers : (s : State) (x : Object) (on : Evaluation Object) → Keeps s on → Keeps s (built x on)
   built_covers s x on covers = keeps_if names s (nat_lt 100 (object_depth x)) _ _ (record { covered = tt }) (keeps_if names s (nat_lt 1000000 (object_size x)) _ on (record { covered = tt }) covers)
 
   pub list_covers : IsCovering list
@@ -83,7 +83,7 @@ module _ (names : List Name) where
   push_covers _ s = record { covered = tt }
 
   -- ---- packages
-  in_package_covers : {A : Type 0} (s : State) (n : Name) (on : Name → Outcome A) → ((p : Name) → Keeps s (on p)) → Keeps s (in_package s n on)
+  in_package_covers : {A : Type 0} (s : State) (n : Name) (on : Name → Evaluation A) → ((p : Name) → Keeps s (on p)) → Keeps s (in_package s n on)
   in_package_covers s n on each = keeps_option names s (package_named s.packages n) on (Err NO_SUCH_PACKAGE) each (record { covered = tt })
 
   made_covers : (s : State) (n : Name) (r : Result Table PackageError) → Keeps s (made s n r)
@@ -111,7 +111,7 @@ module _ (names : List Name) where
   changed_covers s (Ok p) = record { covered = λ all. all }
   changed_covers s (Err e) = record { covered = tt }
 
-  unlocked_covers : {A : Type 0} (s : State) (p : Name) (on : Outcome A) → Keeps s on → Keeps s (unlocked p on)
+  unlocked_covers : {A : Type 0} (s : State) (p : Name) (on : Evaluation A) → Keeps s on → Keeps s (unlocked p on)
   unlocked_covers s p on covers = keeps_if names s (is_locked p) (Err PACKAGE_IS_LOCKED) on (record { covered = tt }) covers
 
   pub export_covers : IsCovering export
@@ -238,13 +238,13 @@ module _ (names : List Name) where
         | false ↦ record { covered = tt }
       ]
 
-  in_readtable_covers : (s : State) (n : Name) (on : readtable.Table → Outcome Object) → ((table : readtable.Table) → Keeps s (on table)) → Keeps s (in_readtable s n on)
+  in_readtable_covers : (s : State) (n : Name) (on : readtable.Table → Evaluation Object) → ((table : readtable.Table) → Keeps s (on table)) → Keeps s (in_readtable s n on)
   in_readtable_covers s n on each = keeps_option names s (finite.get s.readtables n) on (Err NO_READTABLE) each (record { covered = tt })
 
-  changeable_covers : (s : State) (n : Name) (on : Outcome Object) → Keeps s on → Keeps s (changeable s n on)
+  changeable_covers : (s : State) (n : Name) (on : Evaluation Object) → Keeps s on → Keeps s (changeable s n on)
   changeable_covers s n on covers = in_readtable_covers s n _ (λ table. keeps_if names s (bytes_eq n standard_name) _ on (record { covered = tt }) covers)
 
-  function_covers : (s : State) (f : Name) (on : Outcome Object) → (is_function names f ≡ true → Keeps s on) → Keeps s (a_function names f on)
+  function_covers : (s : State) (f : Name) (on : Evaluation Object) → (is_function names f ≡ true → Keeps s on) → Keeps s (a_function names f on)
   function_covers s f on covers =
       elim (is_function names f) as (λ b. is_function names f ≡ b → Keeps s (cond b on (Err NO_MACRO))) [ true ↦ λ is. covers is | false ↦ λ _. record { covered = tt } ] refl
 

@@ -8,18 +8,18 @@ use Rattle.package_table.specs.Growth.{Grows}
 use Rattle.package_table.proofs.Growing.{grows_same, grows_both}
 use Rattle.plist_state.specs.State.{State}
 use Rattle.plist_state.specs.Sound.{IsSound}
-use Rattle.lisp_operators.specs.Outcomes.{Outcome, Done, also, and_then, of_kind}
+use Rattle.lisp_operators.specs.Evaluation.{Evaluation, Done, also, and_then, of_kind}
 
 pub record IsGood {A : Type 0} (P : packages.Table → A → Type 0) (s : State) (d : Done A) : Type 0 where
   pub sound : IsSound d.state
   pub grows : Grows s.packages d.state.packages
   pub value : P d.state.packages d.value
 
-abbrev pub GoodWhere : {A : Type 0} → (packages.Table → A → Type 0) → State → Outcome A → Type 0
+abbrev pub GoodWhere : {A : Type 0} → (packages.Table → A → Type 0) → State → Evaluation A → Type 0
 GoodWhere P s (Ok d) = IsGood P s d
 GoodWhere P s (Err code) = Unit {0}
 
-pub record Goods {A : Type 0} (P : packages.Table → A → Type 0) (s : State) (o : Outcome A) : Type 0 where
+pub record Goods {A : Type 0} (P : packages.Table → A → Type 0) (s : State) (o : Evaluation A) : Type 0 where
   pub good : GoodWhere P s o
 
 module _ {A : Type 0} (P : packages.Table → A → Type 0) (s : State) where
@@ -29,23 +29,23 @@ module _ {A : Type 0} (P : packages.Table → A → Type 0) (s : State) where
   pub goods_state : (x : A) (t : State) (wrote : Bool) → IsSound t → Grows s.packages t.packages → P t.packages x → Goods P s (Ok (record { value = x; state = t; wrote = wrote }))
   goods_state x t wrote sound grows fits = record { good = record { sound = sound; grows = grows; value = fits } }
 
-  pub goods_also : (wrote : Bool) (t : State) (o : Outcome A) → Grows s.packages t.packages → Goods P t o → Goods P s (also wrote o)
+  pub goods_also : (wrote : Bool) (t : State) (o : Evaluation A) → Grows s.packages t.packages → Goods P t o → Goods P s (also wrote o)
   goods_also wrote t (Ok d) grows after = record { good = record { sound = after.good.sound; grows = grows_both s.packages t.packages d.state.packages grows after.good.grows; value = after.good.value } }
   goods_also wrote t (Err code) grows after = record { good = tt }
 
-  pub goods_if : (b : Bool) (x y : Outcome A) → (b ≡ true → Goods P s x) → (b ≡ false → Goods P s y) → Goods P s (cond b x y)
+  pub goods_if : (b : Bool) (x y : Evaluation A) → (b ≡ true → Goods P s x) → (b ≡ false → Goods P s y) → Goods P s (cond b x y)
   goods_if true x y first second = first refl
   goods_if false x y first second = second refl
 
-  pub goods_kind : {X : Type 0} (o : Option X) (on : X → Outcome A) → ((x : X) → o ≡ Some x → Goods P s (on x)) → Goods P s (of_kind o on)
+  pub goods_kind : {X : Type 0} (o : Option X) (on : X → Evaluation A) → ((x : X) → o ≡ Some x → Goods P s (on x)) → Goods P s (of_kind o on)
   goods_kind (Some x) on each = each x refl
   goods_kind None on each = record { good = tt }
 
-  pub goods_option : {X : Type 0} (o : Option X) (on : X → Outcome A) (other : Outcome A) → ((x : X) → o ≡ Some x → Goods P s (on x)) → Goods P s other → Goods P s (option_map_or on o other)
+  pub goods_option : {X : Type 0} (o : Option X) (on : X → Evaluation A) (other : Evaluation A) → ((x : X) → o ≡ Some x → Goods P s (on x)) → Goods P s other → Goods P s (option_map_or on o other)
   goods_option (Some x) on other each none = each x refl
   goods_option None on other each none = none
 
-pub goods_then : {A B : Type 0} (P : packages.Table → A → Type 0) (Q : packages.Table → B → Type 0) (s : State) (o : Outcome A) (next : A → State → Outcome B)
+pub goods_then : {A B : Type 0} (P : packages.Table → A → Type 0) (Q : packages.Table → B → Type 0) (s : State) (o : Evaluation A) (next : A → State → Evaluation B)
     → Goods P s o → ((x : A) (t : State) → IsSound t → Grows s.packages t.packages → P t.packages x → Goods Q t (next x t)) → Goods Q s (and_then o next)
 goods_then P Q s (Ok d) next before after =
     goods_also Q s d.wrote d.state (next d.value d.state) before.good.grows (after d.value d.state before.good.sound before.good.grows before.good.value)

@@ -20,13 +20,13 @@ use Rattle.lisp_operators.specs.declared.error.EvaluationError.{EvaluationError}
 use Rattle.lisp_operators.specs.declared.error.EvaluationError.TheVariants.{Refused, OutOfMemory as NoMemory}
 use Rattle.lisp_operators.specs.declared.evaluated.Evaluated.{Evaluated}
 use Rattle.lisp_operators.specs.Kinds.{a_symbol, a_name, one_or_each, given_or}
-use Rattle.lisp_operators.specs.Outcomes.{Outcome, of_kind}
+use Rattle.lisp_operators.specs.Evaluation.{Evaluation, of_kind}
 use Rattle.lisp_operators.specs.Properties.{t}
 use Rattle.lisp_operators.specs.Packages.{export, import, use_package, use_all, in_package, unlocked, changed, after_exports, after_imports, after_uses, packages_named}
 use Rattle.lisp_operators.specs.Evaluated.{Answers, Makes, TellsChange, done}
 
 -- the first argument is of its kind, and the package is there
-opened : {A : Type 0} (on : A → Name → Outcome Object) (s : State) (rest : List Object) (o : Option A) (ys : A) (q p : Name) → o ≡ Some ys → given_or a_name s.current_package rest ≡ Some q → package_named s.packages q ≡ Some p
+opened : {A : Type 0} (on : A → Name → Evaluation Object) (s : State) (rest : List Object) (o : Option A) (ys : A) (q p : Name) → o ≡ Some ys → given_or a_name s.current_package rest ≡ Some q → package_named s.packages q ≡ Some p
     → of_kind o (λ xs. of_kind (given_or a_name s.current_package rest) (λ k. in_package s k (λ m. on xs m))) ≡ on ys p
 opened on s rest o ys q p kind given named =
     ap (λ r. of_kind r (λ xs. of_kind (given_or a_name s.current_package rest) (λ k. in_package s k (λ m. on xs m)))) kind
@@ -74,7 +74,7 @@ tells_value s u v wrote e value is left =
     ap (λ k. Ok (record { value = k; state = with_packages s v; wrote = wrote })) (sym value) ∙ ap (λ k. Ok (record { value = object_of e.value; state = k; wrote = wrote })) (sym left)
     ∙ ap (λ b. Ok (record { value = object_of e.value; state = u; wrote = b })) (sym is)
 
-module _ (o : Outcome Object) (s u : State) (said : Result (Table × Bool) PackageError) (whole : o ≡ changed s said) (left : u ≡ with_packages s u.packages) where
+module _ (o : Evaluation Object) (s u : State) (said : Result (Table × Bool) PackageError) (whole : o ≡ changed s said) (left : u ≡ with_packages s u.packages) where
   refused_by : (e : PackageError) (error : EvaluationError) → said ≡ Err e → error ≡ Refused (number_of e) → Answers done (Err error) u o
   refused_by e error h is = subst (λ (k : EvaluationError). Answers done (Err k) u o) (sym is) (whole ∙ ap (changed s) h)
 

@@ -21,37 +21,37 @@ use Rattle.plist_state.specs.declared.error.ReadtableError.{ReadtableError}
 use Rattle.plist_state.specs.Refused as readtable_errors
 use Rattle.plist_state.specs.State.{Readtables, State, standard_name}
 use Rattle.plist_state.specs.Changes.{writable, put_changed, with_changed, changed, with_case, with_macro, with_dispatching, refused_as, dispatched, with_dispatch, with_syntax, with_copy}
-use Rattle.lisp_operators.specs.Outcomes.{Outcome, also, and_then, of_kind}
+use Rattle.lisp_operators.specs.Evaluation.{Evaluation, also, and_then, of_kind}
 
 -- a number of evaluation
 abbrev pub IsNumber : ℕ → Type 0
 IsNumber code = (30 ≤ code) × (code ≤ 46)
 
-abbrev pub NumberedWhere : {A : Type 0} → Outcome A → Type 0
+abbrev pub NumberedWhere : {A : Type 0} → Evaluation A → Type 0
 NumberedWhere (Ok d) = Unit {0}
 NumberedWhere (Err code) = IsNumber code
 
-pub record Numbered {A : Type 0} (o : Outcome A) : Type 0 where
+pub record Numbered {A : Type 0} (o : Evaluation A) : Type 0 where
   pub number : NumberedWhere o
 
 module _ {A : Type 0} where
-  pub numbered_also : (wrote : Bool) (o : Outcome A) → Numbered o → Numbered (also wrote o)
+  pub numbered_also : (wrote : Bool) (o : Evaluation A) → Numbered o → Numbered (also wrote o)
   numbered_also wrote (Ok d) is = record { number = tt }
   numbered_also wrote (Err code) is = record { number = is.number }
 
-  pub numbered_if : (b : Bool) (x y : Outcome A) → Numbered x → Numbered y → Numbered (cond b x y)
+  pub numbered_if : (b : Bool) (x y : Evaluation A) → Numbered x → Numbered y → Numbered (cond b x y)
   numbered_if true x y first second = first
   numbered_if false x y first second = second
 
-  pub numbered_kind : {X : Type 0} (o : Option X) (on : X → Outcome A) → ((x : X) → Numbered (on x)) → Numbered (of_kind o on)
+  pub numbered_kind : {X : Type 0} (o : Option X) (on : X → Evaluation A) → ((x : X) → Numbered (on x)) → Numbered (of_kind o on)
   numbered_kind (Some x) on each = each x
   numbered_kind None on each = record { number = (omega arith, omega arith) }
 
-  pub numbered_option : {X : Type 0} (o : Option X) (on : X → Outcome A) (other : Outcome A) → ((x : X) → Numbered (on x)) → Numbered other → Numbered (option_map_or on o other)
+  pub numbered_option : {X : Type 0} (o : Option X) (on : X → Evaluation A) (other : Evaluation A) → ((x : X) → Numbered (on x)) → Numbered other → Numbered (option_map_or on o other)
   numbered_option (Some x) on other each none = each x
   numbered_option None on other each none = none
 
-pub numbered_then : {A B : Type 0} (o : Outcome A) (next : A → State → Outcome B) → Numbered o → ((x : A) (t : State) → Numbered (next x t)) → Numbered (and_then o next)
+pub numbered_then : {A B : Type 0} (o : Evaluation A) (next : A → State → Evaluation B) → Numbered o → ((x : A) (t : State) → Numbered (next x t)) → Numbered (and_then o next)
 numbered_then (Ok d) next before after = numbered_also d.wrote (next d.value d.state) (after d.value d.state)
 numbered_then (Err code) next before after = record { number = before.number }
 

@@ -17,17 +17,17 @@ use Rattle.plist_state.specs.declared.error.ReadtableError.TheVariants.{NoReadta
 use Rattle.plist_state.specs.State.{Readtables, State, standard_name}
 use Rattle.plist_state.specs.Changes.{plist, property, after_in_readtable, with_case, with_macro, with_dispatching, with_dispatch, with_syntax, with_copy, in_state}
 use Rattle.lisp_operators.specs.Kinds.{a_symbol, a_name, a_text, an_integer, a_character, a_keyword, a_source, a_case, one_or_each, given_or, given_or_nil, is_true}
-use Rattle.lisp_operators.specs.Outcomes.{Outcome, gives}
+use Rattle.lisp_operators.specs.Evaluation.{Evaluation, gives}
 use Rattle.lisp_operators.specs.Properties.{t, built, list, get, set, removed, remove, in_turn, symbol_plist, amount, is_in_range, increment, push}
 use Rattle.lisp_operators.specs.Packages.{then_others, one_by_one, in_package, made, make, enter, interned, intern, changed, unlocked, export, import, use_all, packages_named, use_package}
 use Rattle.lisp_operators.specs.Readtables.{after, in_readtable, changeable, is_function, a_function, readtable_case, set_case, copy_readtable, enter_readtable, after_first, set_syntax, set_macro, get_macro, make_dispatch, set_dispatch, get_dispatch}
 use Rattle.lisp_operators.proofs.Numbered.{Numbered, IsPackagesNumbered, IsReadtablesNumbered, numbered_if, numbered_kind, numbered_option, numbered_make, numbered_intern, numbered_export, numbered_import, numbered_use, numbered_case, numbered_macro, numbered_dispatching, numbered_dispatch, numbered_syntax, numbered_copy}
 
-abbrev pub IsNumberedFunction : (List Object → State → Outcome Object) → Type 0
+abbrev pub IsNumberedFunction : (List Object → State → Evaluation Object) → Type 0
 IsNumberedFunction function = (xs : List Object) (s : State) → Numbered (function xs s)
 
 -- ---- property lists
-built_numbered : (s : State) (x : Object) (on : Outcome Object) → Numbered on → Numbered (built x on)
+built_numbered : (s : State) (x : Object) (on : Evaluation Object) → Numbered on → Numbered (built x on)
 built_numbered s x on silent = numbered_if (nat_lt 100 (object_depth x)) _ _ (record { number = (omega arith, omega arith) }) (numbered_if (nat_lt 1000000 (object_size x)) _ on (record { number = (omega arith, omega arith) }) silent)
 
 pub list_numbered : IsNumberedFunction list
@@ -66,7 +66,7 @@ push_numbered (v ∷ x ∷ i ∷ []) s = numbered_kind (a_symbol x) _ (λ x'. nu
 push_numbered _ s = record { number = (omega arith, omega arith) }
 
 -- ---- packages
-in_package_numbered : {A : Type 0} (s : State) (n : Name) (on : Name → Outcome A) → ((p : Name) → Numbered (on p)) → Numbered (in_package s n on)
+in_package_numbered : {A : Type 0} (s : State) (n : Name) (on : Name → Evaluation A) → ((p : Name) → Numbered (on p)) → Numbered (in_package s n on)
 in_package_numbered s n on each = numbered_option (package_named s.packages n) on (Err NO_SUCH_PACKAGE) each (record { number = (omega arith, omega arith) })
 
 made_numbered : (s : State) (n : Name) (r : Result Table PackageError) → IsPackagesNumbered r → Numbered (made s n r)
@@ -103,7 +103,7 @@ changed_numbered : (s : State) (r : Result (Table × Bool) PackageError) → IsP
 changed_numbered s (Ok p) is = record { number = tt }
 changed_numbered s (Err e) is = record { number = is }
 
-unlocked_numbered : {A : Type 0} (s : State) (p : Name) (on : Outcome A) → Numbered on → Numbered (unlocked p on)
+unlocked_numbered : {A : Type 0} (s : State) (p : Name) (on : Evaluation A) → Numbered on → Numbered (unlocked p on)
 unlocked_numbered s p on silent = numbered_if (is_locked p) (Err PACKAGE_IS_LOCKED) on (record { number = (omega arith, omega arith) }) silent
 
 pub export_numbered : IsNumberedFunction export
@@ -142,13 +142,13 @@ entered_numbered s n x =
       | false ↦ record { number = (omega arith, omega arith) }
     ]
 
-in_readtable_numbered : (s : State) (n : Name) (on : readtable.Table → Outcome Object) → ((table : readtable.Table) → Numbered (on table)) → Numbered (in_readtable s n on)
+in_readtable_numbered : (s : State) (n : Name) (on : readtable.Table → Evaluation Object) → ((table : readtable.Table) → Numbered (on table)) → Numbered (in_readtable s n on)
 in_readtable_numbered s n on each = numbered_option (finite.get s.readtables n) on (Err NO_READTABLE) each (record { number = (omega arith, omega arith) })
 
-changeable_numbered : (s : State) (n : Name) (on : Outcome Object) → Numbered on → Numbered (changeable s n on)
+changeable_numbered : (s : State) (n : Name) (on : Evaluation Object) → Numbered on → Numbered (changeable s n on)
 changeable_numbered s n on silent = in_readtable_numbered s n _ (λ table. numbered_if (bytes_eq n standard_name) _ on (record { number = (omega arith, omega arith) }) silent)
 
-function_numbered : (s : State) (names : List Name) (f : Name) (on : Outcome Object) → Numbered on → Numbered (a_function names f on)
+function_numbered : (s : State) (names : List Name) (f : Name) (on : Evaluation Object) → Numbered on → Numbered (a_function names f on)
 function_numbered s names f on silent = numbered_if (is_function names f) on _ silent (record { number = (omega arith, omega arith) })
 
 pub case_numbered : IsNumberedFunction readtable_case

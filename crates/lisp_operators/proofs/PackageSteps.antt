@@ -10,9 +10,9 @@ use Rattle.package_table.specs.Changes.{Gives}
 use Rattle.lisp_operators.specs.Packages.{one_by_one, then_others}
 use Rattle.lisp_operators.specs.Evaluated.{Makes}
 
--- what is from a place on
-from_place : {X Y : Type 0} (f : X → Y) (xs : List X) (i : ℕ) (x : X) → i < length xs → x ≡ get_or xs i x → map f (drop i xs) ≡ f x ∷ map f (drop (i + 1) xs)
-from_place f xs i x within is =
+-- what is from an index on
+from_index : {X Y : Type 0} (f : X → Y) (xs : List X) (i : ℕ) (x : X) → i < length xs → x ≡ get_or xs i x → map f (drop i xs) ≡ f x ∷ map f (drop (i + 1) xs)
+from_index f xs i x within is =
     ap (map f) (drop-cons xs i x within) ∙ ap (λ z. f z ∷ map f (drop (suc i) xs)) (sym is) ∙ ap (λ n. f x ∷ map f (drop n xs)) (sym (add-one i))
 
 module _ {A : Type 0} (change : Table → A → Result Table PackageError) (changes : Table → A → Bool) where
@@ -38,9 +38,9 @@ module _ {A : Type 0} (change : Table → A → Result Table PackageError) (chan
     front_more : (xs : List X) (i : ℕ) (x : X) → i < length xs → x ≡ get_or xs i x → map f (take (i + 1) xs) ≡ map f (take i xs) ++ f x ∷ []
     front_more xs i x within is = map_more f xs i x within ∙ ap (λ z. map f (take i xs) ++ f z ∷ []) (sym is)
 
-    at_place : (xs : List X) (i : ℕ) (x : X) → i < length xs → x ≡ get_or xs i x → map f xs ≡ map f (take i xs) ++ f x ∷ map f (drop (i + 1) xs)
-    at_place xs i x within is =
-        ap (map f) (sym (take-append-drop i xs)) ∙ map-append f (take i xs) (drop i xs) ∙ ap (λ l. map f (take i xs) ++ l) (from_place f xs i x within is)
+    at_index : (xs : List X) (i : ℕ) (x : X) → i < length xs → x ≡ get_or xs i x → map f xs ≡ map f (take i xs) ++ f x ∷ map f (drop (i + 1) xs)
+    at_index xs i x within is =
+        ap (map f) (sym (take-append-drop i xs)) ∙ map-append f (take i xs) (drop i xs) ∙ ap (λ l. map f (take i xs) ++ l) (from_index f xs i x within is)
 
     -- one more of them
     pub goes_on : (u v z : Table) (w b : Bool) (xs : List X) (i : ℕ) (x : X) → i < length xs → x ≡ get_or xs i x → one_by_one change changes u false (map f (take i xs)) ≡ Ok (v, w)
@@ -56,7 +56,7 @@ module _ {A : Type 0} (change : Table → A → Result Table PackageError) (chan
     refused_at : (u v : Table) (w : Bool) (xs : List X) (i : ℕ) (x : X) (e : PackageError) → i < length xs → x ≡ get_or xs i x → one_by_one change changes u false (map f (take i xs)) ≡ Ok (v, w)
         → change v (f x) ≡ Err e → one_by_one change changes u false (map f xs) ≡ Err e
     refused_at u v w xs i x e within is before made =
-        ap (one_by_one change changes u false) (at_place xs i x within is) ∙ then_next u v w (map f (take i xs)) (map f (drop (i + 1) xs)) (f x) before
+        ap (one_by_one change changes u false) (at_index xs i x within is) ∙ then_next u v w (map f (take i xs)) (map f (drop (i + 1) xs)) (f x) before
         ∙ ap (λ r. then_others r (λ later. one_by_one change changes later (w || changes v (f x)) (map f (drop (i + 1) xs)))) made
 
     -- one of them is refused, or memory runs out

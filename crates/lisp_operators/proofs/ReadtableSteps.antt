@@ -16,7 +16,7 @@ use Rattle.plist_state.specs.Changes.{writable, with_macro, with_dispatching, wi
 use Rattle.lisp_operators.specs.declared.error.EvaluationError.{EvaluationError}
 use Rattle.lisp_operators.specs.declared.evaluated.Evaluated.{Evaluated}
 use Rattle.lisp_operators.specs.Errors.{of_readtable}
-use Rattle.lisp_operators.specs.Outcomes.{Outcome}
+use Rattle.lisp_operators.specs.Evaluation.{Evaluation}
 use Rattle.lisp_operators.specs.Kinds.{a_character, a_keyword, given_or, given_or_nil, is_true}
 use Rattle.lisp_operators.specs.Properties.{t}
 use Rattle.lisp_operators.specs.Readtables.{after, with_readtables, changeable, is_function, a_function, after_first, set_macro, make_dispatch, set_dispatch}
@@ -38,8 +38,8 @@ told_refused s new said cause error is refused = subst (λ e. Answers done (Err 
     by Limit said h = ap (after s t) h
     by OutOfMemory said h = tt
 
-module _ (P : Outcome Object → Type 0) (s : State) where
-  may_change : (n : Name) (table : Table) (on : Outcome Object) → writable s.readtables n ≡ Ok table → P on → P (changeable s n on)
+module _ (P : Evaluation Object → Type 0) (s : State) where
+  may_change : (n : Name) (table : Table) (on : Evaluation Object) → writable s.readtables n ≡ Ok table → P on → P (changeable s n on)
   may_change n table on may h = at (finite.get s.readtables n) (bytes_eq n standard_name) may
     where
       at : (o : Option Table) (b : Bool) → option_map_or {U = Result Table ReadtableError} (λ z. cond b (Err StandardReadtable) (Ok z)) o (Err NoReadtable) ≡ Ok table
@@ -48,7 +48,7 @@ module _ (P : Outcome Object → Type 0) (s : State) where
       at (Some z) true e = absurd (let other : ◌≡◌ {A = Result Table ReadtableError} (Err StandardReadtable) (Ok table) = e in cc)
       at (Some z) false e = h
 
-  named : (names : List Name) (function : Name) (on : Outcome Object) → is_function names function ≡ true → P on → P (a_function names function on)
+  named : (names : List Name) (function : Name) (on : Evaluation Object) → is_function names function ≡ true → P on → P (a_function names function on)
   named names function on is h = subst (λ b. P (cond b on (Err NO_MACRO))) (sym is) h
 
   pub macro_opens : (names : List Name) (x f : Object) (rest : List Object) (at : ℕ) (function n : Name) (table : Table) → Some at ≡ a_character x → Some function ≡ a_keyword f

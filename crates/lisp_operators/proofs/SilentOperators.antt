@@ -16,18 +16,18 @@ use Rattle.plist_state.specs.Properties.{Symbol}
 use Rattle.plist_state.specs.State.{State, standard_name}
 use Rattle.plist_state.specs.Changes.{plist, property, with_packages, after_in_readtable, with_case, with_macro, with_dispatching, with_dispatch, with_syntax, with_copy, in_state}
 use Rattle.lisp_operators.specs.Kinds.{a_symbol, a_name, a_text, an_integer, a_character, a_keyword, a_source, a_case, one_or_each, given_or, given_or_nil, is_true}
-use Rattle.lisp_operators.specs.Outcomes.{Outcome, gives}
+use Rattle.lisp_operators.specs.Evaluation.{Evaluation, gives}
 use Rattle.lisp_operators.specs.Properties.{t, built, list, get, set, removed, remove, in_turn, symbol_plist, amount, is_in_range, increment, push}
 use Rattle.lisp_operators.specs.Packages.{in_package, made, make, enter, interned, intern, changed, unlocked, export, import, use_all, packages_named, use_package}
 use Rattle.lisp_operators.specs.Readtables.{after, in_readtable, changeable, is_function, a_function, readtable_case, set_case, copy_readtable, enter_readtable, after_first, set_syntax, set_macro, get_macro, make_dispatch, set_dispatch, get_dispatch}
 use Rattle.lisp_operators.proofs.Silence.{Keeps, written, keeps_if, keeps_kind, keeps_option}
 use Rattle.lisp_operators.proofs.Unmoved.{IsUnmoved, intern_still, export_still, import_still, use_still, one_unmoved}
 
-abbrev pub IsSilent : (List Object → State → Outcome Object) → Type 0
+abbrev pub IsSilent : (List Object → State → Evaluation Object) → Type 0
 IsSilent function = (xs : List Object) (s : State) → Keeps s (function xs s)
 
 -- ---- property lists
-built_silent : (s : State) (x : Object) (on : Outcome Object) → Keeps s on → Keeps s (built x on)
+built_silent : (s : State) (x : Object) (on : Evaluation Object) → Keeps s on → Keeps s (built x on)
 built_silent s x on silent = keeps_if s (nat_lt 100 (object_depth x)) _ _ (record { same = tt }) (keeps_if s (nat_lt 1000000 (object_size x)) _ on (record { same = tt }) silent)
 
 pub list_silent : IsSilent list
@@ -66,7 +66,7 @@ push_silent (v ∷ x ∷ i ∷ []) s = keeps_kind s (a_symbol x) _ (λ x'. keeps
 push_silent _ s = record { same = tt }
 
 -- ---- packages
-in_package_silent : {A : Type 0} (s : State) (n : Name) (on : Name → Outcome A) → ((p : Name) → Keeps s (on p)) → Keeps s (in_package s n on)
+in_package_silent : {A : Type 0} (s : State) (n : Name) (on : Name → Evaluation A) → ((p : Name) → Keeps s (on p)) → Keeps s (in_package s n on)
 in_package_silent s n on each = keeps_option s (package_named s.packages n) on (Err NO_SUCH_PACKAGE) each (record { same = tt })
 
 made_silent : (s : State) (n : Name) (r : Result Table PackageError) → Keeps s (made s n r)
@@ -94,7 +94,7 @@ changed_silent : (s : State) (r : Result (Table × Bool) PackageError) → IsUnm
 changed_silent s (Ok p) still = record { same = λ none. ap (with_packages s) (still none).1 }
 changed_silent s (Err e) still = record { same = tt }
 
-unlocked_silent : {A : Type 0} (s : State) (p : Name) (on : Outcome A) → Keeps s on → Keeps s (unlocked p on)
+unlocked_silent : {A : Type 0} (s : State) (p : Name) (on : Evaluation A) → Keeps s on → Keeps s (unlocked p on)
 unlocked_silent s p on silent = keeps_if s (is_locked p) (Err PACKAGE_IS_LOCKED) on (record { same = tt }) silent
 
 pub export_silent : IsSilent export
@@ -126,13 +126,13 @@ after_silent : (s : State) (x : Object) (r : Result State ReadtableError) → Ke
 after_silent s x (Ok later) = record { same = written }
 after_silent s x (Err e) = record { same = tt }
 
-in_readtable_silent : (s : State) (n : Name) (on : readtable.Table → Outcome Object) → ((table : readtable.Table) → Keeps s (on table)) → Keeps s (in_readtable s n on)
+in_readtable_silent : (s : State) (n : Name) (on : readtable.Table → Evaluation Object) → ((table : readtable.Table) → Keeps s (on table)) → Keeps s (in_readtable s n on)
 in_readtable_silent s n on each = keeps_option s (finite.get s.readtables n) on (Err NO_READTABLE) each (record { same = tt })
 
-changeable_silent : (s : State) (n : Name) (on : Outcome Object) → Keeps s on → Keeps s (changeable s n on)
+changeable_silent : (s : State) (n : Name) (on : Evaluation Object) → Keeps s on → Keeps s (changeable s n on)
 changeable_silent s n on silent = in_readtable_silent s n _ (λ table. keeps_if s (bytes_eq n standard_name) _ on (record { same = tt }) silent)
 
-function_silent : (s : State) (names : List Name) (f : Name) (on : Outcome Object) → Keeps s on → Keeps s (a_function names f on)
+function_silent : (s : State) (names : List Name) (f : Name) (on : Evaluation Object) → Keeps s on → Keeps s (a_function names f on)
 function_silent s names f on silent = keeps_if s (is_function names f) on _ silent (record { same = tt })
 
 pub case_silent : IsSilent readtable_case

@@ -21,7 +21,7 @@ use Rattle.plist_state.specs.Changes.{with_packages}
 use Rattle.plist_state.specs.Sound.{IsSymbol, IsValue, IsSound}
 use Rattle.plist_state.proofs.Soundness.{sound_packages, sound_in_package}
 use Rattle.lisp_operators.specs.Kinds.{a_symbol, a_name, a_text, one_or_each, given_or}
-use Rattle.lisp_operators.specs.Outcomes.{Outcome}
+use Rattle.lisp_operators.specs.Evaluation.{Evaluation}
 use Rattle.lisp_operators.specs.Properties.{t}
 use Rattle.lisp_operators.specs.Packages.{in_package, made, make, enter, interned, intern, then_others, one_by_one, changed, unlocked, export, import, use_all, packages_named, use_package}
 use Rattle.lisp_operators.proofs.Good.{Goods, goods_state, goods_if, goods_kind, goods_option}
@@ -36,7 +36,7 @@ named_there u n p e =
       | false ↦ λ _ no. absurd (none_some p no)
     ] refl e
 
-in_package_safe : (s : State) (n : Name) (on : Name → Outcome Object) → ((p : Name) → IsPackage s.packages p → Goods IsValue s (on p)) → Goods IsValue s (in_package s n on)
+in_package_safe : (s : State) (n : Name) (on : Name → Evaluation Object) → ((p : Name) → IsPackage s.packages p → Goods IsValue s (on p)) → Goods IsValue s (in_package s n on)
 in_package_safe s n on each = goods_option IsValue s (package_named s.packages n) on (Err NO_SUCH_PACKAGE) (λ p e. each p (named_there s.packages n p e)) (refused s _)
 
 -- ---- MAKE-PACKAGE and IN-PACKAGE
@@ -101,7 +101,7 @@ changed_safe : (s : State) (r : Result (Table × Bool) PackageError) → IsSound
 changed_safe s (Ok p) sound grown = goods_state IsValue s t (with_packages s p.0) p.1 (sound_packages s p.0 sound grown.sound grown.grows) grown.grows (t_value p.0 grown.sound)
 changed_safe s (Err e) sound grown = refused s _
 
-unlocked_safe : (s : State) (p : Name) (on : Outcome Object) → Goods IsValue s on → Goods IsValue s (unlocked p on)
+unlocked_safe : (s : State) (p : Name) (on : Evaluation Object) → Goods IsValue s on → Goods IsValue s (unlocked p on)
 unlocked_safe s p on safe = goods_if IsValue s (is_locked p) (Err PACKAGE_IS_LOCKED) on (λ _. refused s _) (λ _. safe)
 
 symbol_still : (u v : Table) (y : Symbol) → Grows u v → IsSymbol u y → IsSymbol v y

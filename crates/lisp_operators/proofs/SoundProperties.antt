@@ -15,13 +15,13 @@ use Rattle.plist_state.specs.Changes.{plist, property, with_property, without_pr
 use Rattle.plist_state.specs.Sound.{IsSymbol, IsValue, IsSound}
 use Rattle.plist_state.proofs.Soundness.{sound_put, sound_removed}
 use Rattle.lisp_operators.specs.Kinds.{a_symbol, an_integer, given_or_nil}
-use Rattle.lisp_operators.specs.Outcomes.{Outcome, gives}
+use Rattle.lisp_operators.specs.Evaluation.{Evaluation, gives}
 use Rattle.lisp_operators.specs.Properties.{t, built, list, get, set, removed, remove, in_turn, symbol_plist, amount, is_in_range, increment, push}
 use Rattle.lisp_operators.proofs.Good.{Goods, goods_here, goods_state, goods_if, goods_kind}
 use Rattle.lisp_operators.proofs.Storable.{AreValues, symbol_is_value, t_value, nil_value, list_value, pair_value, symbol_kind}
 
 -- of values that may be stored, in a sound state
-abbrev pub IsSafe : (List Object → State → Outcome Object) → Type 0
+abbrev pub IsSafe : (List Object → State → Evaluation Object) → Type 0
 IsSafe function = (xs : List Object) (s : State) → IsSound s → AreValues s.packages xs → Goods IsValue s (function xs s)
 
 pub refused : (s : State) (code : ℕ) → Goods {A = Object} IsValue s (Err code)
@@ -58,7 +58,7 @@ turn_values u sound (p ∷ ps) indicators values =
     (turn_values u sound ps (All-tail (λ p. IsSymbol u p.0) p ps indicators) (All-tail (λ p. IsValue u p.1) p ps values)))
 
 -- ---- the operators
-built_safe : (s : State) (x : Object) (on : Outcome Object) → (object_depth x ≤ 100 → Goods IsValue s on) → Goods IsValue s (built x on)
+built_safe : (s : State) (x : Object) (on : Evaluation Object) → (object_depth x ≤ 100 → Goods IsValue s on) → Goods IsValue s (built x on)
 built_safe s x on safe =
     goods_if IsValue s (nat_lt 100 (object_depth x)) _ _ (λ _. refused s _)
     (λ shallow. goods_if IsValue s (nat_lt 1000000 (object_size x)) _ on (λ _. refused s _) (λ _. safe (ltb-false 100 (object_depth x) shallow)))

@@ -31,7 +31,7 @@ use Rattle.plist_state.specs.Sound.{IsSymbol, IsValue, IsSound}
 use Rattle.plist_state.proofs.Soundness.{sound_in_readtable}
 use Rattle.plist_state.proofs.KeptWorld.{sound_changed, named_case, named_macro, named_dispatching, named_dispatched, sound_syntax, sound_copied, dispatch_there}
 use Rattle.lisp_operators.specs.Kinds.{a_character, a_keyword, a_source, a_case, given_or, given_or_nil, is_true}
-use Rattle.lisp_operators.specs.Outcomes.{Outcome}
+use Rattle.lisp_operators.specs.Evaluation.{Evaluation}
 use Rattle.lisp_operators.specs.Properties.{t}
 use Rattle.lisp_operators.specs.Readtables.{name_or_nil, after, in_readtable, changeable, is_function, a_function, readtable_case, set_case, copy_readtable, enter_readtable, after_first, set_syntax, set_macro, get_macro, make_dispatch, set_dispatch, get_dispatch}
 use Rattle.lisp_operators.specs.Readtables.{AreFunctionNames}
@@ -99,13 +99,13 @@ after_safe : (s : State) (x : Object) (r : Result Readtables ReadtableError) →
 after_safe s x (Ok v) sound is = goods_state IsValue s x (record s { readtables = v }) true (sound v refl) (grows_same s.packages) is
 after_safe s x (Err e) sound is = refused s _
 
-in_readtable_safe : (s : State) (n : Name) (on : readtable.Table → Outcome Object) → ((table : readtable.Table) → finite.get s.readtables n ≡ Some table → Goods IsValue s (on table)) → Goods IsValue s (in_readtable s n on)
+in_readtable_safe : (s : State) (n : Name) (on : readtable.Table → Evaluation Object) → ((table : readtable.Table) → finite.get s.readtables n ≡ Some table → Goods IsValue s (on table)) → Goods IsValue s (in_readtable s n on)
 in_readtable_safe s n on each = goods_option IsValue s (finite.get s.readtables n) on (Err NO_READTABLE) each (refused s _)
 
-changeable_safe : (s : State) (n : Name) (on : Outcome Object) → Goods IsValue s on → Goods IsValue s (changeable s n on)
+changeable_safe : (s : State) (n : Name) (on : Evaluation Object) → Goods IsValue s on → Goods IsValue s (changeable s n on)
 changeable_safe s n on safe = in_readtable_safe s n _ (λ table _. goods_if IsValue s (bytes_eq n standard_name) _ on (λ _. refused s _) (λ _. safe))
 
-function_safe : (s : State) (names : List Name) (f : Name) (on : Outcome Object) → AreFunctionNames names → (IsFalse (is_dispatch_name f) → IsTrue (is_function_name f) → Goods IsValue s on) → Goods IsValue s (a_function names f on)
+function_safe : (s : State) (names : List Name) (f : Name) (on : Evaluation Object) → AreFunctionNames names → (IsFalse (is_dispatch_name f) → IsTrue (is_function_name f) → Goods IsValue s on) → Goods IsValue s (a_function names f on)
 function_safe s names f on all safe = goods_if IsValue s (is_function names f) on _ (λ is. let named = function_named names f all is in safe named.0 named.1) (λ _. refused s _)
 
 pub case_safe : IsSafe readtable_case

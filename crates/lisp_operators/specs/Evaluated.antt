@@ -1,14 +1,16 @@
 -- What the calls of the evaluator answer.
-use Rattle.std.specs.Prelude.{◌≡◌, ◌≢◌, ◌<◌, ◌⊎◌, ℕ, ◌+◌, Bool, true, false, List, [], ◌∷◌, map, take, length, All, Option, Some, None, IsSome, unwrap_or, Result, Ok, Err, IsOk}
+use Rattle.std.specs.Prelude.{◌≡◌, ◌≢◌, ◌<◌, ◌⊎◌, ℕ, Bool, true, false, List, map, length, All, Option, Some, None, unwrap_or, Result, Ok, Err, IfOk}
 use Rattle.lisp_object.specs.Object.{Object, symbol, nil, list_of}
 use Rattle.lisp_object.specs.declared.refusal.TheConstants.{ARGUMENT_KIND, NO_SUCH_PACKAGE, PACKAGE_IS_LOCKED, NAME_CONFLICT, NO_READTABLE, NO_MACRO}
 use Rattle.lisp_object.specs.declared.datum.Datum.{Datum}
 use Rattle.lisp_object.specs.Datum.{object_of, is_proper}
+use Rattle.lisp_object.specs.Ascii.{is_ascii}
+use Rattle.std.specs.List.{list_all}
 use Rattle.package_table.specs.declared.error.PackageError.{PackageError}
 use Rattle.package_table.specs.declared.error.PackageError.TheVariants.{OutOfMemory as NoRoom}
 use Rattle.package_table.specs.Table.{Name, Table, is_locked}
 use Rattle.plist_state.specs.Properties.{Symbol}
-use Rattle.plist_state.specs.State.{State}
+use Rattle.plist_state.specs.State.{State, Worlds}
 use Rattle.plist_state.specs.Sound.{IsValue}
 use Rattle.plist_state.specs.Shown.{symbol_of}
 use Rattle.plist_state.specs.declared.symbol.Symbol.{Symbol as Stored}
@@ -18,14 +20,38 @@ use Rattle.lisp_operators.specs.declared.error.EvaluationError.{EvaluationError}
 use Rattle.lisp_operators.specs.declared.error.EvaluationError.TheVariants.{Refused, OutOfMemory}
 use Rattle.lisp_operators.specs.declared.evaluated.Evaluated.{Evaluated}
 use Rattle.lisp_operators.specs.Errors.{of_package}
-use Rattle.lisp_operators.specs.Members.{AreMembers}
-use Rattle.lisp_operators.specs.Outcomes.{Done, Outcome}
+use Rattle.lisp_operators.specs.Members.{each_in}
+use Rattle.plist_state.specs.Changes.{with_property}
+use Rattle.lisp_operators.specs.Evaluation.{Done, Evaluation, writes}
 use Rattle.lisp_operators.specs.Properties.{t}
 
 -- a proper datum whose value may be stored in these packages
 pub record IsArgument (u : Table) (d : Datum) : Type 0 where
   pub proper : is_proper d ≡ true
   pub value : IsValue u (object_of d)
+
+-- a datum of whose lists each is proper, and such data
+abbrev pub IsProper : Datum → Type 0
+IsProper d = is_proper d ≡ true
+
+abbrev pub AreProper : List Datum → Type 0
+AreProper = All IsProper
+
+-- the objects of these data
+abbrev pub objects : List Datum → List Object
+objects ds = map object_of ds
+
+-- a proper value
+abbrev pub IsProperValue : Evaluated → Type 0
+IsProperValue e = is_proper e.value ≡ true
+
+-- characters below 128
+abbrev pub IsAscii : List ℕ → Type 0
+IsAscii characters = list_all is_ascii characters ≡ true
+
+-- data that are arguments, as values of a world that was given
+abbrev pub AreArgumentsOf : Worlds → List Datum → Type 0
+AreArgumentsOf w ds = All (IsArgument w.0.packages) ds
 
 -- what could be stored in the first can be stored in the second
 abbrev pub Keeps : Table → Table → Type 0
@@ -44,10 +70,18 @@ done e s = record { value = object_of e.value; state = s; wrote = e.wrote }
 
 -- A call answers what the definition says: what was evaluated, in the state that it leaves, or the number of the refusal.
 -- Where memory ran out it says nothing.
-abbrev pub Answers : {A B : Type 0} → (A → State → Done B) → Result A EvaluationError → State → Outcome B → Type 0
+abbrev pub Answers : {A B : Type 0} → (A → State → Done B) → Result A EvaluationError → State → Evaluation B → Type 0
 Answers view (Ok x) s said = said ≡ Ok (view x s)
 Answers view (Err (Refused code)) s said = said ≡ Err code
 Answers view (Err OutOfMemory) s said = Unit {0}
+
+-- An operator answers what its definition says of these values, from the first of two states to the second.
+abbrev pub CarriesOut : (List Object → State → Evaluation Object) → List Datum → State → State → Result Evaluated EvaluationError → Type 0
+CarriesOut function values old new result = Answers done result new (function (objects values) old)
+
+-- the value of a property is told, which the second state has in place of the first
+abbrev pub Stores : State → Symbol → Symbol → Object → State → Result Evaluated EvaluationError → Type 0
+Stores old x i v new result = Answers done result new (writes v (with_property old x i v))
 
 -- Changes of the packages answer what the definition says: the packages that they leave, and whether these are others; or the
 -- refusal. Where memory ran out it says nothing.
@@ -97,13 +131,26 @@ abbrev pub IsFunctionOr : Result Name EvaluationError → Name → Bool → Type
 IsFunctionOr (Ok f) name b = (f ≡ name) × (b ≡ true)
 IsFunctionOr (Err error) name b = (error ≡ Refused NO_MACRO) × (b ≡ false)
 
--- arguments of the number that is asked for; or they are refused, and then this is so
-abbrev pub AreArguments : {A : Type 0} → (A → List Datum) → Result A EvaluationError → List Datum → Type 0 → Type 0
-AreArguments view (Ok x) values other = values ≡ view x
-AreArguments view (Err error) values other = (error ≡ Refused ARGUMENT_KIND) × other
+-- arguments of just this number; or they are refused, and are of another
+abbrev pub AreExactly : {A : Type 0} → ℕ → (A → List Datum) → List Datum → Result A EvaluationError → Type 0
+AreExactly n view values (Ok x) = values ≡ view x
+AreExactly n view values (Err error) = (error ≡ Refused ARGUMENT_KIND) × (length values ≢ n)
+
+-- arguments of this number or more; or they are refused, and are fewer
+abbrev pub AreAtLeast : {A : Type 0} → ℕ → (A → List Datum) → List Datum → Result A EvaluationError → Type 0
+AreAtLeast n view values (Ok x) = values ≡ view x
+AreAtLeast n view values (Err error) = (error ≡ Refused ARGUMENT_KIND) × (length values < n)
+
+-- where these are arguments, this holds of what they are
+abbrev pub WhereArguments : {A : Type 0} → List Datum → Result A EvaluationError → (Table → A → Type 0) → Type 0
+WhereArguments values result holds = (u : Table) → All (IsArgument u) values → IfOk result (holds u)
+
+-- one of these is not of the kind
+abbrev pub IsRefusedAs : {A : Type 0} → (Object → Option A) → List Datum → EvaluationError → Type 0
+IsRefusedAs kind members error = (error ≡ Refused ARGUMENT_KIND) × (None ≡ each_in kind (objects members))
 
 -- The symbol and the indicator of a property, where both arguments are symbols. It takes no memory.
-abbrev pub IsPlace : Result (Stored × Stored) EvaluationError → Option Symbol → Option Symbol → Type 0
-IsPlace (Ok p) o i = (Some (symbol_of p.0) ≡ o) × (Some (symbol_of p.1) ≡ i)
-IsPlace (Err (Refused code)) o i = (code ≡ ARGUMENT_KIND) × ((None ≡ o) ⊎ (None ≡ i))
-IsPlace (Err OutOfMemory) o i = ⊥
+abbrev pub IsPropertyKey : Result (Stored × Stored) EvaluationError → Option Symbol → Option Symbol → Type 0
+IsPropertyKey (Ok p) o i = (Some (symbol_of p.0) ≡ o) × (Some (symbol_of p.1) ≡ i)
+IsPropertyKey (Err (Refused code)) o i = (code ≡ ARGUMENT_KIND) × ((None ≡ o) ⊎ (None ≡ i))
+IsPropertyKey (Err OutOfMemory) o i = ⊥

@@ -67,7 +67,7 @@ module _ {A : Type 0} (kind : Object → Option A) where
   one_or_each (symbol home name) = if is_nil home name then Some [] else option_map (λ y. y ∷ []) (kind (symbol home name))
   one_or_each x = option_map (λ y. y ∷ []) (kind x)
 
-  -- the last argument where it was given, and else what is taken in its place
+  -- the last argument where it was given, and else what stands for it
   abbrev pub given_or : A → List Object → Option A
   given_or default [] = Some default
   given_or default (x ∷ xs) = kind x

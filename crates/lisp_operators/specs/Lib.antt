@@ -1,6 +1,6 @@
 pub mod Errors
 pub mod Evaluated
-pub mod Outcomes
+pub mod Evaluation
 pub mod Kinds
 pub mod Members
 pub mod Properties

@@ -1,10 +1,10 @@
 -- One argument of a kind, or a list of such.
-use Rattle.std.specs.Prelude.{◌≡◌, true, false, List, [], ◌∷◌, Option, Some, None, option_map, unwrap_or}
+use Rattle.std.specs.Prelude.{◌≡◌, true, false, List, [], ◌∷◌, Option, Some, None, option_map, map, unwrap_or}
 use Rattle.std.specs.Option.{option_and_then}
 use Rattle.lisp_object.specs.Object.{Object, list_of, object_is_list, is_proper_list}
 use Rattle.lisp_object.specs.declared.datum.Datum.{Datum}
 use Rattle.lisp_object.specs.Datum.{object_of}
-use Rattle.package_table.specs.Table.{Name}
+use Rattle.package_table.specs.Table.{Name, full_name}
 use Rattle.plist_state.specs.Properties.{Symbol}
 use Rattle.lisp_operators.specs.Kinds.{a_symbol, a_name}
 
@@ -22,6 +22,17 @@ AreMembers x None = (object_is_list x ≡ true) × (is_proper_list x ≡ false)
 abbrev pub symbol_in : Datum → Symbol
 symbol_in d = unwrap_or (a_symbol (object_of d)) ([], [])
 
+-- the symbols that these are
+abbrev pub symbols_in : List Datum → List Symbol
+symbols_in ds = map symbol_in ds
+
 -- the name of which a member is a designator, where it is one
 abbrev pub name_in : Datum → Name
 name_in d = unwrap_or (a_name (object_of d)) []
+
+-- the names of which these are designators, and those of the packages of these names
+abbrev pub names_in : List Datum → List Name
+names_in ds = map name_in ds
+
+abbrev pub packages_in : List Datum → List Name
+packages_in ds = map (λ d. full_name (name_in d)) ds

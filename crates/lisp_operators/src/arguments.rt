@@ -1,10 +1,9 @@
 //! The arguments of an operator: so many of them, and what those after the first ones stand for where they are given.
-ghost use Rattle.std.specs.Prelude.{◌≡◌, ◌≢◌, ◌<◌, true, [], ◌∷◌, map, length, All, IfOk};
-ghost use Rattle.lisp_object.specs.Datum.{object_of, is_proper};
-ghost use Rattle.package_table.specs.Table.{Table};
+ghost use Rattle.std.specs.Prelude.{◌≡◌, ◌<◌, true, [], ◌∷◌, All, IfOk};
+ghost use Rattle.lisp_object.specs.Datum.{object_of};
 ghost use Rattle.lisp_operators.specs.Kinds.{a_name, a_keyword, a_source, given_or, given_or_nil, is_true};
 ghost use Rattle.lisp_operators.specs.Readtables.{after_first};
-ghost use Rattle.lisp_operators.specs.Evaluated.{IsArgument, IsOfKind, AreArguments};
+ghost use Rattle.lisp_operators.specs.Evaluated.{IsArgument, IsOfKind, IsProper, AreProper, AreExactly, AreAtLeast, WhereArguments, objects};
 
 use crate::EvaluationError::Refused;
 use crate::{EvaluationError, kinds};
@@ -14,8 +13,8 @@ use std::alloc::{AllocError, Global};
 
 /// The one argument.
 pub(crate) fn one(values: &[Datum]) -> Result<&Datum, EvaluationError>
-    ensures value { AreArguments (λ x. x.now ∷ []) result values.now (length values.now ≢ 1) }
-    ensures arguments { (u : Table) → All (IsArgument u) values.now → IfOk result (λ x. IsArgument u x.now) }
+    ensures value { AreExactly 1 (λ x. x.now ∷ []) values.now result }
+    ensures arguments { WhereArguments values.now result (λ u x. IsArgument u x.now) }
 {
     match values {
         [first] => Ok(first),
@@ -25,8 +24,9 @@ pub(crate) fn one(values: &[Datum]) -> Result<&Datum, EvaluationError>
 
 /// The two arguments.
 pub(crate) fn two(values: &[Datum]) -> Result<(&Datum, &Datum), EvaluationError>
-    ensures value { AreArguments (λ p. p.0.now ∷ p.1.now ∷ []) result values.now (length values.now ≢ 2) }
-    ensures arguments { (u : Table) → All (IsArgument u) values.now → IfOk result (λ p. IsArgument u p.0.now × IsArgument u p.1.now) }
+    ensures value { AreExactly 2 (λ p. p.0.now ∷ p.1.now ∷ []) values.now result }
+    ensures arguments { WhereArguments values.now result
+        (λ u p. IsArgument u p.0.now × IsArgument u p.1.now) }
 {
     match values {
         [first, second] => Ok((first, second)),
@@ -36,8 +36,9 @@ pub(crate) fn two(values: &[Datum]) -> Result<(&Datum, &Datum), EvaluationError>
 
 /// The first argument, and those after it.
 pub(crate) fn one_and_rest(values: &[Datum]) -> Result<(&Datum, &[Datum]), EvaluationError>
-    ensures value { AreArguments (λ p. p.0.now ∷ p.1.now) result values.now (length values.now < 1) }
-    ensures arguments { (u : Table) → All (IsArgument u) values.now → IfOk result (λ p. IsArgument u p.0.now × All (IsArgument u) p.1.now) }
+    ensures value { AreAtLeast 1 (λ p. p.0.now ∷ p.1.now) values.now result }
+    ensures arguments { WhereArguments values.now result
+        (λ u p. IsArgument u p.0.now × All (IsArgument u) p.1.now) }
 {
     match values {
         [first, rest @ ..] => Ok((first, rest)),
@@ -47,8 +48,9 @@ pub(crate) fn one_and_rest(values: &[Datum]) -> Result<(&Datum, &[Datum]), Evalu
 
 /// The first two arguments, and those after them.
 pub(crate) fn two_and_rest(values: &[Datum]) -> Result<(&Datum, &Datum, &[Datum]), EvaluationError>
-    ensures value { AreArguments (λ p. p.0.now ∷ p.1.now ∷ p.2.now) result values.now (length values.now < 2) }
-    ensures arguments { (u : Table) → All (IsArgument u) values.now → IfOk result (λ p. IsArgument u p.0.now × IsArgument u p.1.now × All (IsArgument u) p.2.now) }
+    ensures value { AreAtLeast 2 (λ p. p.0.now ∷ p.1.now ∷ p.2.now) values.now result }
+    ensures arguments { WhereArguments values.now result
+        (λ u p. IsArgument u p.0.now × IsArgument u p.1.now × All (IsArgument u) p.2.now) }
 {
     match values {
         [first, second, rest @ ..] => Ok((first, second, rest)),
@@ -60,8 +62,9 @@ pub(crate) fn two_and_rest(values: &[Datum]) -> Result<(&Datum, &Datum, &[Datum]
 pub(crate) fn three_and_rest(
     values: &[Datum],
 ) -> Result<(&Datum, &Datum, &Datum, &[Datum]), EvaluationError>
-    ensures value { AreArguments (λ p. p.0.now ∷ p.1.now ∷ p.2.now ∷ p.3.now) result values.now (length values.now < 3) }
-    ensures arguments { (u : Table) → All (IsArgument u) values.now → IfOk result (λ p. IsArgument u p.0.now × IsArgument u p.1.now × IsArgument u p.2.now × All (IsArgument u) p.3.now) }
+    ensures value { AreAtLeast 3 (λ p. p.0.now ∷ p.1.now ∷ p.2.now ∷ p.3.now) values.now result }
+    ensures arguments { WhereArguments values.now result
+        (λ u p. IsArgument u p.0.now × IsArgument u p.1.now × IsArgument u p.2.now × All (IsArgument u) p.3.now) }
 {
     match values {
         [first, second, third, rest @ ..] => Ok((first, second, third, rest)),
@@ -71,8 +74,8 @@ pub(crate) fn three_and_rest(
 
 /// What is given after the first of these.
 pub(crate) fn after_first(rest: &[Datum]) -> &[Datum]
-    ensures value { map object_of result.now ≡ after_first (map object_of rest.now) }
-    ensures proper { All (λ d. is_proper d ≡ true) rest.now → All (λ d. is_proper d ≡ true) result.now }
+    ensures value { objects result.now ≡ after_first (objects rest.now) }
+    ensures proper { AreProper rest.now → AreProper result.now }
 {
     match rest {
         [_, more @ ..] => more,
@@ -82,8 +85,8 @@ pub(crate) fn after_first(rest: &[Datum]) -> &[Datum]
 
 /// The name that the first of these designates, or the other one where there is none.
 pub(crate) fn name_or<'a>(rest: &'a [Datum], other: &'a [u8]) -> Result<&'a [u8], EvaluationError>
-    requires { All (λ d. is_proper d ≡ true) rest.now }
-    ensures { IsOfKind (λ n. n.now) result (given_or a_name other.now (map object_of rest.now)) }
+    requires { AreProper rest.now }
+    ensures { IsOfKind (λ n. n.now) result (given_or a_name other.now (objects rest.now)) }
 {
     match rest {
         [given, ..] => kinds::name(given),
@@ -96,8 +99,8 @@ pub(crate) fn keyword_or<'a>(
     rest: &'a [Datum],
     other: &'a [u8],
 ) -> Result<&'a [u8], EvaluationError>
-    requires { All (λ d. is_proper d ≡ true) rest.now }
-    ensures { IsOfKind (λ n. n.now) result (given_or a_keyword other.now (map object_of rest.now)) }
+    requires { AreProper rest.now }
+    ensures { IsOfKind (λ n. n.now) result (given_or a_keyword other.now (objects rest.now)) }
 {
     match rest {
         [given, ..] => kinds::keyword(given),
@@ -107,8 +110,8 @@ pub(crate) fn keyword_or<'a>(
 
 /// The same of a readtable to take from.
 pub(crate) fn source_or<'a>(rest: &'a [Datum], other: &'a [u8]) -> Result<&'a [u8], EvaluationError>
-    requires { All (λ d. is_proper d ≡ true) rest.now }
-    ensures { IsOfKind (λ n. n.now) result (given_or a_source other.now (map object_of rest.now)) }
+    requires { AreProper rest.now }
+    ensures { IsOfKind (λ n. n.now) result (given_or a_source other.now (objects rest.now)) }
 {
     match rest {
         [given, ..] => kinds::source(given),
@@ -118,9 +121,9 @@ pub(crate) fn source_or<'a>(rest: &'a [Datum], other: &'a [u8]) -> Result<&'a [u
 
 /// The first of these, and NIL where there is none.
 pub(crate) fn given_or_nil(alloc: Global, rest: &[Datum]) -> Result<Datum, AllocError>
-    requires { All (λ d. is_proper d ≡ true) rest.now }
-    ensures value { IfOk result (λ d. object_of d ≡ given_or_nil (map object_of rest.now)) }
-    ensures proper { IfOk result (λ d. is_proper d ≡ true) }
+    requires { AreProper rest.now }
+    ensures value { IfOk result (λ d. object_of d ≡ given_or_nil (objects rest.now)) }
+    ensures proper { IfOk result IsProper }
 {
     match rest {
         [given, ..] => given.copy(alloc),
@@ -130,8 +133,8 @@ pub(crate) fn given_or_nil(alloc: Global, rest: &[Datum]) -> Result<Datum, Alloc
 
 /// Whether the first of these is given, and true.
 pub(crate) fn is_given(rest: &[Datum]) -> bool
-    requires { All (λ d. is_proper d ≡ true) rest.now }
-    ensures { result ≡ is_true (given_or_nil (map object_of rest.now)) }
+    requires { AreProper rest.now }
+    ensures { result ≡ is_true (given_or_nil (objects rest.now)) }
 {
     match rest {
         [given, ..] => kinds::is_true(given),

@@ -1,14 +1,12 @@
 //! Changes of the packages, one after the other.
-ghost use Rattle.std.specs.Prelude.{◌≡◌, true, map, All};
-ghost use Rattle.package_table.specs.Changes.{finds_this};
+ghost use Rattle.std.specs.Prelude.{◌≡◌, true, All};
 ghost use Rattle.package_table.specs.Table.{IsPackage, full_name};
 ghost use Rattle.std.specs.List.{list_all};
-ghost use Rattle.lisp_object.specs.Datum.{object_of, is_proper};
 ghost use Rattle.plist_state.specs.Changes.{with_packages};
 ghost use Rattle.plist_state.specs.Sound.{IsSymbol};
-ghost use Rattle.lisp_operators.specs.Members.{symbol_in, name_in};
-ghost use Rattle.lisp_operators.specs.Packages.{after_exports, after_imports, after_uses};
-ghost use Rattle.lisp_operators.specs.Evaluated.{Makes};
+ghost use Rattle.lisp_operators.specs.Members.{symbol_in, name_in, symbols_in, packages_in};
+ghost use Rattle.lisp_operators.specs.Packages.{after_exports, after_imports, after_uses, finds_symbol};
+ghost use Rattle.lisp_operators.specs.Evaluated.{Makes, IsProper, AreProper};
 
 use crate::either;
 use crate::lists::{name_in, symbol_in};
@@ -20,8 +18,8 @@ use plist_state::World;
 // Whether a package finds this symbol by its name.
 fn finds(packages: &Packages, owner: &[u8], symbol: &Datum) -> bool
     requires owner { IsPackage packages.now.0 owner.now }
-    requires symbol { is_proper symbol.now ≡ true }
-    ensures { result ≡ finds_this packages.now.0 owner.now (symbol_in symbol.now).0 (symbol_in symbol.now).1 }
+    requires symbol { IsProper symbol.now }
+    ensures { result ≡ finds_symbol packages.now.0 owner.now (symbol_in symbol.now) }
 {
     let (symbol_home, name) = symbol_in(symbol);
     match packages.resolve(owner, name) {
@@ -36,8 +34,8 @@ fn finds(packages: &Packages, owner: &[u8], symbol: &Datum) -> bool
 /// Whether a package finds each of these symbols by its name.
 pub(crate) fn finds_all(packages: &Packages, owner: &[u8], symbols: &[Datum]) -> bool
     requires owner { IsPackage packages.now.0 owner.now }
-    requires symbols { All (λ d. is_proper d ≡ true) symbols.now }
-    ensures { result ≡ list_all (λ y. finds_this packages.now.0 owner.now y.0 y.1) (map symbol_in symbols.now) }
+    requires symbols { AreProper symbols.now }
+    ensures { result ≡ list_all (finds_symbol packages.now.0 owner.now) (symbols_in symbols.now) }
 {
     for symbol in symbols {
         if !finds(packages, owner, symbol) {
@@ -53,8 +51,8 @@ pub(crate) fn export_all(
     owner: &[u8],
     symbols: &[Datum],
 ) -> Result<bool, PackageError>
-    requires { All (λ d. is_proper d ≡ true) symbols.now }
-    ensures gives { Makes result world.new.0.packages (after_exports world.old.0.packages owner.now (map symbol_in symbols.now)) }
+    requires { AreProper symbols.now }
+    ensures gives { Makes result world.new.0.packages (after_exports world.old.0.packages owner.now (symbols_in symbols.now)) }
     ensures rest { world.new ≡ (with_packages world.old.0 world.new.0.packages, world.old.1) }
 {
     let mut wrote = false;
@@ -74,9 +72,9 @@ pub(crate) fn import_all(
     owner: &[u8],
     symbols: &[Datum],
 ) -> Result<bool, PackageError>
-    requires proper { All (λ d. is_proper d ≡ true) symbols.now }
+    requires proper { AreProper symbols.now }
     requires there { All (λ d. IsSymbol world.old.0.packages (symbol_in d)) symbols.now }
-    ensures gives { Makes result world.new.0.packages (after_imports world.old.0.packages owner.now (map symbol_in symbols.now)) }
+    ensures gives { Makes result world.new.0.packages (after_imports world.old.0.packages owner.now (symbols_in symbols.now)) }
     ensures rest { world.new ≡ (with_packages world.old.0 world.new.0.packages, world.old.1) }
 {
     let mut wrote = false;
@@ -96,8 +94,8 @@ pub(crate) fn use_each(
     owner: &[u8],
     used: &[Datum],
 ) -> Result<bool, PackageError>
-    requires { All (λ d. is_proper d ≡ true) used.now }
-    ensures gives { Makes result world.new.0.packages (after_uses world.old.0.packages owner.now (map (λ d. full_name (name_in d)) used.now)) }
+    requires { AreProper used.now }
+    ensures gives { Makes result world.new.0.packages (after_uses world.old.0.packages owner.now (packages_in used.now)) }
     ensures rest { world.new ≡ (with_packages world.old.0 world.new.0.packages, world.old.1) }
 {
     let mut wrote = false;

@@ -1,8 +1,8 @@
 //! The kinds of arguments, and what an argument of each stands for.
 ghost use Rattle.std.specs.Prelude.{◌≡◌, true};
-ghost use Rattle.lisp_object.specs.Datum.{object_of, is_proper};
+ghost use Rattle.lisp_object.specs.Datum.{object_of};
 ghost use Rattle.lisp_operators.specs.Kinds.{a_symbol, a_name, a_text, an_integer, a_character, a_keyword, a_source, a_case, case_named, is_true, is_pair};
-ghost use Rattle.lisp_operators.specs.Evaluated.{IsOfKind};
+ghost use Rattle.lisp_operators.specs.Evaluated.{IsOfKind, IsProper};
 
 use crate::EvaluationError;
 use crate::EvaluationError::Refused;
@@ -14,7 +14,7 @@ use readtable_core::Case;
 
 /// The home and the name of an interned symbol.
 pub fn symbol(datum: &Datum) -> Result<(&[u8], &[u8]), EvaluationError>
-    requires { is_proper datum.now ≡ true }
+    requires { IsProper datum.now }
     ensures { IsOfKind (λ p. (p.0.now, p.1.now)) result (a_symbol (object_of datum.now)) }
 {
     match datum {
@@ -31,7 +31,7 @@ pub fn symbol(datum: &Datum) -> Result<(&[u8], &[u8]), EvaluationError>
 
 /// The characters of a text.
 pub(crate) fn text(datum: &Datum) -> Result<&[u8], EvaluationError>
-    requires { is_proper datum.now ≡ true }
+    requires { IsProper datum.now }
     ensures { IsOfKind (λ n. n.now) result (a_text (object_of datum.now)) }
 {
     match datum {
@@ -48,7 +48,7 @@ pub(crate) fn text(datum: &Datum) -> Result<&[u8], EvaluationError>
 
 /// An integer.
 pub(crate) fn integer(datum: &Datum) -> Result<i128, EvaluationError>
-    requires { is_proper datum.now ≡ true }
+    requires { IsProper datum.now }
     ensures { IsOfKind (λ x. x) result (an_integer (object_of datum.now)) }
 {
     match datum {
@@ -65,7 +65,7 @@ pub(crate) fn integer(datum: &Datum) -> Result<i128, EvaluationError>
 
 /// A character.
 pub(crate) fn character(datum: &Datum) -> Result<u8, EvaluationError>
-    requires { is_proper datum.now ≡ true }
+    requires { IsProper datum.now }
     ensures { IsOfKind (λ x. x) result (a_character (object_of datum.now)) }
 {
     match datum {
@@ -83,7 +83,7 @@ pub(crate) fn character(datum: &Datum) -> Result<u8, EvaluationError>
 /// The name for which a text or a symbol is the designator (standard 11.1).
 #[tactic(auto, using(crate::proofs::Shapes::name_by_parts))]
 pub(crate) fn name(datum: &Datum) -> Result<&[u8], EvaluationError>
-    requires { is_proper datum.now ≡ true }
+    requires { IsProper datum.now }
     ensures { IsOfKind (λ n. n.now) result (a_name (object_of datum.now)) }
 {
     match symbol(datum) {
@@ -95,7 +95,7 @@ pub(crate) fn name(datum: &Datum) -> Result<&[u8], EvaluationError>
 /// The name of a keyword.
 #[tactic(auto, using(crate::proofs::Shapes::keyword_by_parts))]
 pub(crate) fn keyword(datum: &Datum) -> Result<&[u8], EvaluationError>
-    requires { is_proper datum.now ≡ true }
+    requires { IsProper datum.now }
     ensures { IsOfKind (λ n. n.now) result (a_keyword (object_of datum.now)) }
 {
     let (home, name) = symbol(datum)?;
@@ -109,7 +109,7 @@ pub(crate) fn keyword(datum: &Datum) -> Result<&[u8], EvaluationError>
 /// The name of a readtable to take from: a keyword, or NIL for the standard one.
 #[tactic(auto, using(crate::proofs::Shapes::source_by_parts))]
 pub(crate) fn source(datum: &Datum) -> Result<&[u8], EvaluationError>
-    requires { is_proper datum.now ≡ true }
+    requires { IsProper datum.now }
     ensures { IsOfKind (λ n. n.now) result (a_source (object_of datum.now)) }
 {
     let (home, name) = symbol(datum)?;
@@ -141,7 +141,7 @@ fn case_named(name: &[u8]) -> Option<Case>
 
 /// The case that a keyword names.
 pub(crate) fn case(datum: &Datum) -> Result<Case, EvaluationError>
-    requires { is_proper datum.now ≡ true }
+    requires { IsProper datum.now }
     ensures { IsOfKind (λ x. x) result (a_case (object_of datum.now)) }
 {
     case_named(keyword(datum)?).ok_or(Refused(ARGUMENT_KIND))
@@ -150,7 +150,7 @@ pub(crate) fn case(datum: &Datum) -> Result<Case, EvaluationError>
 /// Whether it is true: NIL is false.
 #[tactic(auto, using(crate::proofs::Shapes::truth_by_parts))]
 pub fn is_true(datum: &Datum) -> bool
-    requires { is_proper datum.now ≡ true }
+    requires { IsProper datum.now }
     ensures { result ≡ is_true (object_of datum.now) }
 {
     match symbol(datum) {
@@ -161,7 +161,7 @@ pub fn is_true(datum: &Datum) -> bool
 
 /// Whether it is a pair.
 pub fn is_pair(datum: &Datum) -> bool
-    requires { is_proper datum.now ≡ true }
+    requires { IsProper datum.now }
     ensures { result ≡ is_pair (object_of datum.now) }
 {
     match datum {

@@ -1,11 +1,10 @@
 //! Arguments that are one of a kind or a list of such.
-ghost use Rattle.std.specs.Prelude.{◌≡◌, true, None, IsSome, map, All, IfErr, IfOk, IfSome, option_map};
-ghost use Rattle.lisp_object.specs.Datum.{object_of, is_proper};
+ghost use Rattle.std.specs.Prelude.{◌≡◌, None, IsSome, All, IfErr, IfOk, IfSome, option_map};
+ghost use Rattle.lisp_object.specs.Datum.{object_of};
 ghost use Rattle.lisp_operators.specs.Kinds.{a_symbol, a_name, one_or_each};
-ghost use Rattle.lisp_object.specs.declared.refusal.TheConstants.{ARGUMENT_KIND as KIND};
 ghost use Rattle.lisp_operators.specs.declared.error.EvaluationError.TheVariants.{Refused};
-ghost use Rattle.lisp_operators.specs.Members.{each_in, AreMembers, symbol_in, name_in};
-ghost use Rattle.lisp_operators.specs.Evaluated.{IsOfKind};
+ghost use Rattle.lisp_operators.specs.Members.{AreMembers, symbol_in, name_in, symbols_in, names_in};
+ghost use Rattle.lisp_operators.specs.Evaluated.{IsOfKind, IsProper, AreProper, IsRefusedAs, objects};
 
 use crate::EvaluationError::Refused;
 use crate::{EvaluationError, kinds};
@@ -15,9 +14,9 @@ use std::slice;
 
 // The members of a list, or the one argument; nothing where a list ends in another object.
 fn members(datum: &Datum) -> Option<&[Datum]>
-    requires { is_proper datum.now ≡ true }
-    ensures value { AreMembers (object_of datum.now) (option_map (λ m. map object_of m.now) result) }
-    ensures proper { IfSome result (λ m. All (λ d. is_proper d ≡ true) m.now) }
+    requires { IsProper datum.now }
+    ensures value { AreMembers (object_of datum.now) (option_map (λ m. objects m.now) result) }
+    ensures proper { IfSome result (λ m. AreProper m.now) }
 {
     match datum {
         Datum::List { items, tail } => {
@@ -43,9 +42,9 @@ fn members(datum: &Datum) -> Option<&[Datum]>
 
 // That each of these is an interned symbol.
 fn check_symbols(members: &[Datum]) -> Result<(), EvaluationError>
-    requires { All (λ d. is_proper d ≡ true) members.now }
+    requires { AreProper members.now }
     ensures each { IfOk result (λ _. All (λ d. IsSome (a_symbol (object_of d))) members.now) }
-    ensures none { IfErr result (λ e. (e ≡ Refused KIND) × (None ≡ each_in a_symbol (map object_of members.now))) }
+    ensures none { IfErr result (IsRefusedAs a_symbol members.now) }
 {
     for member in members {
         match kinds::symbol(member) {
@@ -58,9 +57,9 @@ fn check_symbols(members: &[Datum]) -> Result<(), EvaluationError>
 
 // That each of these is a designator of a name.
 fn check_names(members: &[Datum]) -> Result<(), EvaluationError>
-    requires { All (λ d. is_proper d ≡ true) members.now }
+    requires { AreProper members.now }
     ensures each { IfOk result (λ _. All (λ d. IsSome (a_name (object_of d))) members.now) }
-    ensures none { IfErr result (λ e. (e ≡ Refused KIND) × (None ≡ each_in a_name (map object_of members.now))) }
+    ensures none { IfErr result (IsRefusedAs a_name members.now) }
 {
     for member in members {
         match kinds::name(member) {
@@ -73,9 +72,9 @@ fn check_names(members: &[Datum]) -> Result<(), EvaluationError>
 
 /// The members of a list, or the one argument, where each is an interned symbol.
 pub(crate) fn symbols(datum: &Datum) -> Result<&[Datum], EvaluationError>
-    requires { is_proper datum.now ≡ true }
-    ensures value { IsOfKind (λ m. map symbol_in m.now) result (one_or_each a_symbol (object_of datum.now)) }
-    ensures proper { IfOk result (λ m. All (λ d. is_proper d ≡ true) m.now) }
+    requires { IsProper datum.now }
+    ensures value { IsOfKind (λ m. symbols_in m.now) result (one_or_each a_symbol (object_of datum.now)) }
+    ensures proper { IfOk result (λ m. AreProper m.now) }
 {
     match members(datum) {
         Some(members) => match check_symbols(members) {
@@ -88,9 +87,9 @@ pub(crate) fn symbols(datum: &Datum) -> Result<&[Datum], EvaluationError>
 
 /// The members of a list, or the one argument, where each is a designator of a name.
 pub(crate) fn names(datum: &Datum) -> Result<&[Datum], EvaluationError>
-    requires { is_proper datum.now ≡ true }
-    ensures value { IsOfKind (λ m. map name_in m.now) result (one_or_each a_name (object_of datum.now)) }
-    ensures proper { IfOk result (λ m. All (λ d. is_proper d ≡ true) m.now) }
+    requires { IsProper datum.now }
+    ensures value { IsOfKind (λ m. names_in m.now) result (one_or_each a_name (object_of datum.now)) }
+    ensures proper { IfOk result (λ m. AreProper m.now) }
 {
     match members(datum) {
         Some(members) => match check_names(members) {
@@ -103,7 +102,7 @@ pub(crate) fn names(datum: &Datum) -> Result<&[Datum], EvaluationError>
 
 /// The home and the name of a member that is a symbol.
 pub(crate) fn symbol_in(member: &Datum) -> (&[u8], &[u8])
-    requires { is_proper member.now ≡ true }
+    requires { IsProper member.now }
     ensures { (result.0.now, result.1.now) ≡ symbol_in member.now }
 {
     match kinds::symbol(member) {
@@ -114,7 +113,7 @@ pub(crate) fn symbol_in(member: &Datum) -> (&[u8], &[u8])
 
 /// The name of which a member is a designator.
 pub(crate) fn name_in(member: &Datum) -> &[u8]
-    requires { is_proper member.now ≡ true }
+    requires { IsProper member.now }
     ensures { result.now ≡ name_in member.now }
 {
     kinds::name(member).unwrap_or(&[])

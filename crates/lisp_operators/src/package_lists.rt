@@ -1,13 +1,12 @@
 //! The operators that take packages or symbols in lists (standard 11.2): EXPORT, IMPORT, USE-PACKAGE. None takes memory before
 //! its first change.
-ghost use Rattle.std.specs.Prelude.{◌≡◌, true, Some, map, All, IfOk, bytes_eq};
+ghost use Rattle.std.specs.Prelude.{◌≡◌, true, IfOk, bytes_eq};
 ghost use Rattle.std.specs.List.{list_any};
-ghost use Rattle.lisp_object.specs.Datum.{object_of, is_proper};
 ghost use Rattle.lisp_object.specs.declared.refusal.TheConstants.{NO_SUCH_PACKAGE as NO_PACKAGE};
 ghost use Rattle.package_table.specs.Table.{IsPackage, package_named, full_name, keyword};
 ghost use Rattle.lisp_operators.specs.Packages.{export, import, use_package, packages_named};
-ghost use Rattle.lisp_operators.specs.Members.{name_in};
-ghost use Rattle.lisp_operators.specs.Evaluated.{IsArgument, IsUnlocked, FoundOr, Answers, TellsChange, done};
+ghost use Rattle.lisp_operators.specs.Members.{name_in, names_in, packages_in};
+ghost use Rattle.lisp_operators.specs.Evaluated.{IsUnlocked, FoundOr, TellsChange, AreProper, IsProperValue, AreArgumentsOf, CarriesOut};
 
 use crate::EvaluationError::Refused;
 use crate::arguments::{name_or, one_and_rest};
@@ -24,7 +23,7 @@ use std::alloc::Global;
 // What changes of the packages give: T.
 fn changed(alloc: Global, made: Result<bool, PackageError>) -> Result<Evaluated, EvaluationError>
     ensures gives { TellsChange made result }
-    ensures proper { IfOk result (λ e. is_proper e.value ≡ true) }
+    ensures proper { IfOk result IsProperValue }
 {
     match made {
         Ok(wrote) => Ok(Evaluated {
@@ -53,9 +52,9 @@ pub fn export(
     world: &mut World,
     values: &[Datum],
 ) -> Result<Evaluated, EvaluationError>
-    requires { All (IsArgument world.old.0.packages) values.now }
-    ensures gives { Answers done result world.new.0 (export (map object_of values.now) world.old.0) }
-    ensures proper { IfOk result (λ e. is_proper e.value ≡ true) }
+    requires { AreArgumentsOf world.old values.now }
+    ensures gives { CarriesOut export values.now world.old.0 world.new.0 result }
+    ensures proper { IfOk result IsProperValue }
     ensures marked { world.new.1 ≡ world.old.1 }
 {
     let (symbols, rest) = one_and_rest(values)?;
@@ -76,9 +75,9 @@ pub fn import(
     world: &mut World,
     values: &[Datum],
 ) -> Result<Evaluated, EvaluationError>
-    requires { All (IsArgument world.old.0.packages) values.now }
-    ensures gives { Answers done result world.new.0 (import (map object_of values.now) world.old.0) }
-    ensures proper { IfOk result (λ e. is_proper e.value ≡ true) }
+    requires { AreArgumentsOf world.old values.now }
+    ensures gives { CarriesOut import values.now world.old.0 world.new.0 result }
+    ensures proper { IfOk result IsProperValue }
     ensures marked { world.new.1 ≡ world.old.1 }
 {
     let (imported, rest) = one_and_rest(values)?;
@@ -91,8 +90,8 @@ pub fn import(
 
 // That each of these names or nicknames is that of a package.
 fn check_packages(world: &World, names: &[Datum]) -> Result<(), EvaluationError>
-    requires { All (λ d. is_proper d ≡ true) names.now }
-    ensures { FoundOr NO_PACKAGE (λ _. map (λ d. full_name (name_in d)) names.now) result (packages_named world.now.0.packages (map name_in names.now)) }
+    requires { AreProper names.now }
+    ensures { FoundOr NO_PACKAGE (λ _. packages_in names.now) result (packages_named world.now.0.packages (names_in names.now)) }
 {
     for name in names {
         match package_named(world, lists::name_in(name)) {
@@ -105,8 +104,8 @@ fn check_packages(world: &World, names: &[Datum]) -> Result<(), EvaluationError>
 
 // Whether KEYWORD is one of the packages of these names.
 fn has_keyword(names: &[Datum]) -> bool
-    requires { All (λ d. is_proper d ≡ true) names.now }
-    ensures { result ≡ list_any (bytes_eq keyword) (map (λ d. full_name (name_in d)) names.now) }
+    requires { AreProper names.now }
+    ensures { result ≡ list_any (bytes_eq keyword) (packages_in names.now) }
 {
     for name in names {
         if KEYWORD == full_name(lists::name_in(name)) {
@@ -122,9 +121,9 @@ pub fn use_package(
     world: &mut World,
     values: &[Datum],
 ) -> Result<Evaluated, EvaluationError>
-    requires { All (IsArgument world.old.0.packages) values.now }
-    ensures gives { Answers done result world.new.0 (use_package (map object_of values.now) world.old.0) }
-    ensures proper { IfOk result (λ e. is_proper e.value ≡ true) }
+    requires { AreArgumentsOf world.old values.now }
+    ensures gives { CarriesOut use_package values.now world.old.0 world.new.0 result }
+    ensures proper { IfOk result IsProperValue }
     ensures marked { world.new.1 ≡ world.old.1 }
 {
     let (used, rest) = one_and_rest(values)?;

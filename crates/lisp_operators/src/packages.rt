@@ -1,9 +1,9 @@
 //! The operators on packages (standard 11.2).
-ghost use Rattle.std.specs.Prelude.{◌≡◌, true, map, All, IfErr, IfOk};
-ghost use Rattle.lisp_object.specs.Datum.{object_of, is_proper};
+ghost use Rattle.std.specs.Prelude.{◌≡◌, true, IfErr, IfOk};
+ghost use Rattle.lisp_object.specs.Datum.{object_of};
 ghost use Rattle.package_table.specs.Table.{IsPackage, package_named, full_name};
 ghost use Rattle.lisp_operators.specs.Packages.{make, enter, intern};
-ghost use Rattle.lisp_operators.specs.Evaluated.{IsArgument, IsPackageOr, Answers, done};
+ghost use Rattle.lisp_operators.specs.Evaluated.{IsArgument, IsPackageOr, Answers, done, IsProperValue, AreArgumentsOf, CarriesOut};
 
 use crate::EvaluationError::Refused;
 use crate::arguments::{name_or, one, one_and_rest};
@@ -41,9 +41,9 @@ pub fn make(
     world: &mut World,
     values: &[Datum],
 ) -> Result<Evaluated, EvaluationError>
-    requires { All (IsArgument world.old.0.packages) values.now }
-    ensures gives { Answers done result world.new.0 (make (map object_of values.now) world.old.0) }
-    ensures proper { IfOk result (λ e. is_proper e.value ≡ true) }
+    requires { AreArgumentsOf world.old values.now }
+    ensures gives { CarriesOut make values.now world.old.0 world.new.0 result }
+    ensures proper { IfOk result IsProperValue }
     ensures marked { world.new.1 ≡ world.old.1 }
 {
     let name = kinds::name(one(values)?)?;
@@ -58,7 +58,7 @@ pub fn make(
 pub fn enter(alloc: Global, world: &mut World, name: &Datum) -> Result<Evaluated, EvaluationError>
     requires { IsArgument world.old.0.packages name.now }
     ensures gives { Answers done result world.new.0 (enter (object_of name.now) world.old.0) }
-    ensures proper { IfOk result (λ e. is_proper e.value ≡ true) }
+    ensures proper { IfOk result IsProperValue }
     ensures unchanged { IfErr result (λ _. world.new ≡ world.old) }
     ensures marked { world.new.1 ≡ world.old.1 }
 {
@@ -75,9 +75,9 @@ pub fn intern(
     world: &mut World,
     values: &[Datum],
 ) -> Result<Evaluated, EvaluationError>
-    requires { All (IsArgument world.old.0.packages) values.now }
-    ensures gives { Answers done result world.new.0 (intern (map object_of values.now) world.old.0) }
-    ensures proper { IfOk result (λ e. is_proper e.value ≡ true) }
+    requires { AreArgumentsOf world.old values.now }
+    ensures gives { CarriesOut intern values.now world.old.0 world.new.0 result }
+    ensures proper { IfOk result IsProperValue }
     ensures marked { world.new.1 ≡ world.old.1 }
 {
     let (name, rest) = one_and_rest(values)?;

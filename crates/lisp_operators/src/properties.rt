@@ -1,12 +1,13 @@
 //! The operators on property lists (standard 10.2, 14.2), of the values of their arguments.
-ghost use Rattle.std.specs.Prelude.{◌≡◌, true, [], ◌∷◌, map, option_map, All, IfErr, IfOk, IfSome};
+ghost use Rattle.std.specs.Prelude.{◌≡◌, true, [], map, option_map, All, IfErr, IfOk, IfSome};
 ghost use Rattle.std.specs.List.{list_all};
 ghost use Rattle.lisp_object.specs.Object.{IsSound, pair};
 ghost use Rattle.lisp_object.specs.Datum.{object_of, is_proper};
 ghost use Rattle.plist_state.specs.Shown.{symbol_of, property_of};
+ghost use Rattle.plist_state.specs.Sound.{IsSymbol};
 ghost use Rattle.lisp_operators.specs.Kinds.{a_symbol};
 ghost use Rattle.lisp_operators.specs.Properties.{get, set, remove, in_turn, symbol_plist, amount, increment, push};
-ghost use Rattle.lisp_operators.specs.Evaluated.{IsArgument, IsOfKind, IsPlace, Answers, done, object_of_symbol, or_nil};
+ghost use Rattle.lisp_operators.specs.Evaluated.{IsOfKind, IsPropertyKey, object_of_symbol, or_nil, IsProper, AreProper, IsProperValue, AreArgumentsOf, CarriesOut, IsArgument, Stores, objects};
 
 use crate::EvaluationError::Refused;
 use crate::arguments::given_or_nil;
@@ -19,7 +20,7 @@ use std::alloc::{AllocError, Global};
 
 // The symbol that an argument is.
 fn symbol(datum: Datum) -> Result<Symbol, EvaluationError>
-    requires { is_proper datum ≡ true }
+    requires { IsProper datum }
     ensures { IsOfKind symbol_of result (a_symbol (object_of datum)) }
 {
     match datum {
@@ -38,22 +39,22 @@ fn symbol(datum: Datum) -> Result<Symbol, EvaluationError>
 }
 
 // The symbol and the indicator of a property.
-fn place(key: Datum, indicator: Datum) -> Result<(Symbol, Symbol), EvaluationError>
-    requires symbol { is_proper key ≡ true }
-    requires indicator { is_proper indicator ≡ true }
-    ensures { IsPlace result (a_symbol (object_of key)) (a_symbol (object_of indicator)) }
+fn property_key(key: Datum, indicator: Datum) -> Result<(Symbol, Symbol), EvaluationError>
+    requires symbol { IsProper key }
+    requires indicator { IsProper indicator }
+    ensures { IsPropertyKey result (a_symbol (object_of key)) (a_symbol (object_of indicator)) }
 {
     Ok((symbol(key)?, symbol(indicator)?))
 }
 
 /// GET: the value of a property, or what is given where there is no such property.
 pub fn get(alloc: Global, world: &World, values: Vec<Datum>) -> Result<Evaluated, EvaluationError>
-    requires { All (IsArgument world.now.0.packages) values.items }
-    ensures gives { Answers done result world.now.0 (get (map object_of values.items) world.now.0) }
-    ensures proper { IfOk result (λ e. is_proper e.value ≡ true) }
+    requires { AreArgumentsOf world.now values.items }
+    ensures gives { CarriesOut get values.items world.now.0 world.now.0 result }
+    ensures proper { IfOk result IsProperValue }
 {
     let (symbol, indicator, rest) = two_and_rest(values)?;
-    let (symbol, indicator) = place(symbol, indicator)?;
+    let (symbol, indicator) = property_key(symbol, indicator)?;
     let value = match world.get(&symbol, &indicator) {
         Some(value) => value.copy(alloc)?,
         None => given_or_nil(alloc, rest.as_slice())?,
@@ -64,23 +65,42 @@ pub fn get(alloc: Global, world: &World, values: Vec<Datum>) -> Result<Evaluated
     })
 }
 
+// A value becomes that of a property.
+fn store(
+    alloc: Global,
+    world: &mut World,
+    symbol: &Symbol,
+    indicator: Symbol,
+    value: Datum,
+) -> Result<Evaluated, EvaluationError>
+    requires symbol { IsSymbol world.old.0.packages (symbol_of symbol.now) }
+    requires indicator { IsSymbol world.old.0.packages (symbol_of indicator) }
+    requires value { IsArgument world.old.0.packages value }
+    ensures gives { Stores world.old.0 (symbol_of symbol.now) (symbol_of indicator) (object_of value) world.new.0 result }
+    ensures proper { IfOk result IsProperValue }
+    ensures unchanged { IfErr result (λ _. world.new ≡ world.old) }
+    ensures marked { world.new.1 ≡ world.old.1 }
+{
+    let stored = value.copy(alloc)?;
+    world.put(symbol, indicator, stored)?;
+    Ok(Evaluated { value, wrote: true })
+}
+
 /// SETF of a property: the new value.
 pub fn set(
     alloc: Global,
     world: &mut World,
     values: Vec<Datum>,
 ) -> Result<Evaluated, EvaluationError>
-    requires { All (IsArgument world.old.0.packages) values.items }
-    ensures gives { Answers done result world.new.0 (set (map object_of values.items) world.old.0) }
-    ensures proper { IfOk result (λ e. is_proper e.value ≡ true) }
+    requires { AreArgumentsOf world.old values.items }
+    ensures gives { CarriesOut set values.items world.old.0 world.new.0 result }
+    ensures proper { IfOk result IsProperValue }
     ensures unchanged { IfErr result (λ _. world.new ≡ world.old) }
     ensures marked { world.new.1 ≡ world.old.1 }
 {
     let (symbol, indicator, value) = three(values)?;
-    let (symbol, indicator) = place(symbol, indicator)?;
-    let stored = value.copy(alloc)?;
-    world.put(&symbol, indicator, stored)?;
-    Ok(Evaluated { value, wrote: true })
+    let (symbol, indicator) = property_key(symbol, indicator)?;
+    store(alloc, world, &symbol, indicator, value)
 }
 
 /// REMPROP: whether the symbol had the property.
@@ -89,13 +109,13 @@ pub fn remove(
     world: &mut World,
     values: Vec<Datum>,
 ) -> Result<Evaluated, EvaluationError>
-    requires { All (IsArgument world.old.0.packages) values.items }
-    ensures gives { Answers done result world.new.0 (remove (map object_of values.items) world.old.0) }
-    ensures proper { IfOk result (λ e. is_proper e.value ≡ true) }
+    requires { AreArgumentsOf world.old values.items }
+    ensures gives { CarriesOut remove values.items world.old.0 world.new.0 result }
+    ensures proper { IfOk result IsProperValue }
     ensures marked { world.new.1 ≡ world.old.1 }
 {
     let (symbol, indicator) = two(values)?;
-    let (symbol, indicator) = place(symbol, indicator)?;
+    let (symbol, indicator) = property_key(symbol, indicator)?;
     if world.get(&symbol, &indicator).is_none() {
         return Ok(Evaluated {
             value: values::empty_list(alloc)?,
@@ -113,7 +133,7 @@ pub fn remove(
 fn in_turn(alloc: Global, row: &[Property]) -> Result<Vec<Datum>, AllocError>
     requires indicators { All (λ p. IsSound (object_of_symbol (property_of p).0)) row.now }
     requires values { All (λ p. is_proper p.value ≡ true) row.now }
-    ensures value { IfOk result (λ v. map object_of v.items ≡ in_turn (map property_of row.now)) }
+    ensures value { IfOk result (λ v. objects v.items ≡ in_turn (map property_of row.now)) }
     ensures proper { IfOk result (λ v. list_all is_proper v.items ≡ true) }
 {
     let mut values = Vec::new(alloc);
@@ -131,9 +151,9 @@ pub fn symbol_plist(
     world: &World,
     values: Vec<Datum>,
 ) -> Result<Evaluated, EvaluationError>
-    requires { All (IsArgument world.now.0.packages) values.items }
-    ensures gives { Answers done result world.now.0 (symbol_plist (map object_of values.items) world.now.0) }
-    ensures proper { IfOk result (λ e. is_proper e.value ≡ true) }
+    requires { AreArgumentsOf world.now values.items }
+    ensures gives { CarriesOut symbol_plist values.items world.now.0 world.now.0 result }
+    ensures proper { IfOk result IsProperValue }
 {
     let symbol = symbol(one(values)?)?;
     world.soundness();
@@ -143,8 +163,8 @@ pub fn symbol_plist(
 
 // By how much INCF adds: 1 where it is not given.
 fn amount(rest: &[Datum]) -> Result<i128, EvaluationError>
-    requires { All (λ d. is_proper d ≡ true) rest.now }
-    ensures { IsOfKind (λ n. n) result (amount (map object_of rest.now)) }
+    requires { AreProper rest.now }
+    ensures { IsOfKind (λ n. n) result (amount (objects rest.now)) }
 {
     match rest {
         [given, ..] => kinds::integer(given),
@@ -158,15 +178,15 @@ pub fn increment(
     world: &mut World,
     values: Vec<Datum>,
 ) -> Result<Evaluated, EvaluationError>
-    requires { All (IsArgument world.old.0.packages) values.items }
-    ensures gives { Answers done result world.new.0 (increment (map object_of values.items) world.old.0) }
-    ensures proper { IfOk result (λ e. is_proper e.value ≡ true) }
+    requires { AreArgumentsOf world.old values.items }
+    ensures gives { CarriesOut increment values.items world.old.0 world.new.0 result }
+    ensures proper { IfOk result IsProperValue }
     ensures unchanged { IfErr result (λ _. world.new ≡ world.old) }
     ensures marked { world.new.1 ≡ world.old.1 }
 {
     let (symbol, indicator, rest) = two_and_rest(values)?;
     let amount = amount(rest.as_slice())?;
-    let (symbol, indicator) = place(symbol, indicator)?;
+    let (symbol, indicator) = property_key(symbol, indicator)?;
     let Some(value) = world.get(&symbol, &indicator) else {
         return Err(Refused(ARGUMENT_KIND));
     };
@@ -182,10 +202,10 @@ pub fn increment(
 
 // The pair of a value and a property, or NIL where there is none.
 fn pushed(alloc: Global, value: &Datum, old: Option<&Datum>) -> Result<Datum, AllocError>
-    requires value { is_proper value.now ≡ true }
+    requires value { IsProper value.now }
     requires old { IfSome old (λ d. is_proper d.now ≡ true) }
     ensures value { IfOk result (λ d. object_of d ≡ pair (object_of value.now) (or_nil (option_map (λ d. object_of d.now) old.entry))) }
-    ensures proper { IfOk result (λ d. is_proper d ≡ true) }
+    ensures proper { IfOk result IsProper }
 {
     let old = match old {
         Some(old) => old.copy(alloc)?,
@@ -202,14 +222,14 @@ pub fn push(
     world: &mut World,
     values: Vec<Datum>,
 ) -> Result<Evaluated, EvaluationError>
-    requires { All (IsArgument world.old.0.packages) values.items }
-    ensures gives { Answers done result world.new.0 (push (map object_of values.items) world.old.0) }
-    ensures proper { IfOk result (λ e. is_proper e.value ≡ true) }
+    requires { AreArgumentsOf world.old values.items }
+    ensures gives { CarriesOut push values.items world.old.0 world.new.0 result }
+    ensures proper { IfOk result IsProperValue }
     ensures unchanged { IfErr result (λ _. world.new ≡ world.old) }
     ensures marked { world.new.1 ≡ world.old.1 }
 {
     let (value, symbol, indicator) = three(values)?;
-    let (symbol, indicator) = place(symbol, indicator)?;
+    let (symbol, indicator) = property_key(symbol, indicator)?;
     let old = world.get(&symbol, &indicator);
     let value = pushed(alloc, &value, old)?;
     if values::is_too_deep(&value) {
@@ -219,7 +239,5 @@ pub fn push(
         return Err(Refused(LIMIT));
     }
     world.soundness();
-    let stored = value.copy(alloc)?;
-    world.put(&symbol, indicator, stored)?;
-    Ok(Evaluated { value, wrote: true })
+    store(alloc, world, &symbol, indicator, value)
 }

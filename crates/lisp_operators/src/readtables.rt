@@ -1,7 +1,7 @@
 //! The operators on readtables (standard 23.2), of the values of their arguments.
-ghost use Rattle.std.specs.Prelude.{◌≡◌, true, false, map, All, IfOk, Result};
+ghost use Rattle.std.specs.Prelude.{◌≡◌, true, false, IfOk, Result};
 ghost use Rattle.std.specs.FinMap as finite;
-ghost use Rattle.lisp_object.specs.Datum.{object_of, is_proper};
+ghost use Rattle.lisp_object.specs.Datum.{object_of};
 ghost use Rattle.readtable_core.specs.Names.{is_among};
 ghost use Rattle.plist_state.specs.State.{State};
 ghost use Rattle.plist_state.specs.declared.error.ReadtableError.{ReadtableError};
@@ -9,7 +9,7 @@ ghost use Rattle.plist_state.specs.Changes.{writable, Gives as Tells};
 ghost use Rattle.lisp_operators.specs.Properties.{t};
 ghost use Rattle.lisp_operators.specs.Readtables.{after, name_or_nil, is_function, readtable_case, set_case, copy_readtable, enter_readtable, set_syntax, set_macro, get_macro, make_dispatch, set_dispatch, get_dispatch};
 ghost use Rattle.lisp_operators.specs.Readtables.{AreFunctionNames};
-ghost use Rattle.lisp_operators.specs.Evaluated.{IsArgument, IsReadtableOr, IsFunctionOr, IsWritableOr, Answers, done};
+ghost use Rattle.lisp_operators.specs.Evaluated.{IsReadtableOr, IsFunctionOr, IsWritableOr, Answers, done, IsProper, IsProperValue, AreArgumentsOf, CarriesOut};
 
 use crate::EvaluationError::Refused;
 use crate::arguments::{
@@ -77,7 +77,7 @@ fn is_among(names: &[FnName], function: FnName) -> bool
 // What a change of the readtables gives: T.
 fn changed(alloc: Global, made: Result<(), ReadtableError>) -> Result<Evaluated, EvaluationError>
     ensures gives { (s later : State) (said : Result State ReadtableError) → Tells (λ _. later) made said → Answers done result later (after s t said) }
-    ensures proper { IfOk result (λ e. is_proper e.value ≡ true) }
+    ensures proper { IfOk result IsProperValue }
 {
     match made {
         Ok(()) => Ok(Evaluated {
@@ -94,9 +94,9 @@ pub fn readtable_case(
     world: &World,
     values: &[Datum],
 ) -> Result<Evaluated, EvaluationError>
-    requires { All (IsArgument world.now.0.packages) values.now }
-    ensures gives { Answers done result world.now.0 (readtable_case (map object_of values.now) world.now.0) }
-    ensures proper { IfOk result (λ e. is_proper e.value ≡ true) }
+    requires { AreArgumentsOf world.now values.now }
+    ensures gives { CarriesOut readtable_case values.now world.now.0 world.now.0 result }
+    ensures proper { IfOk result IsProperValue }
 {
     let table = readtable(world, kinds::keyword(one(values)?)?)?;
     Ok(Evaluated {
@@ -111,9 +111,9 @@ pub fn set_case(
     world: &mut World,
     values: &[Datum],
 ) -> Result<Evaluated, EvaluationError>
-    requires { All (IsArgument world.old.0.packages) values.now }
-    ensures gives { Answers done result world.new.0 (set_case (map object_of values.now) world.old.0) }
-    ensures proper { IfOk result (λ e. is_proper e.value ≡ true) }
+    requires { AreArgumentsOf world.old values.now }
+    ensures gives { CarriesOut set_case values.now world.old.0 world.new.0 result }
+    ensures proper { IfOk result IsProperValue }
     ensures marked { world.new.1 ≡ world.old.1 }
 {
     let (name, letters) = two(values)?;
@@ -130,9 +130,9 @@ pub fn copy_readtable(
     world: &mut World,
     values: &[Datum],
 ) -> Result<Evaluated, EvaluationError>
-    requires { All (IsArgument world.old.0.packages) values.now }
-    ensures gives { Answers done result world.new.0 (copy_readtable (map object_of values.now) world.old.0) }
-    ensures proper { IfOk result (λ e. is_proper e.value ≡ true) }
+    requires { AreArgumentsOf world.old values.now }
+    ensures gives { CarriesOut copy_readtable values.now world.old.0 world.new.0 result }
+    ensures proper { IfOk result IsProperValue }
     ensures marked { world.new.1 ≡ world.old.1 }
 {
     let (source, copy) = two(values)?;
@@ -149,9 +149,9 @@ pub fn enter_readtable(
     world: &mut World,
     values: &[Datum],
 ) -> Result<Evaluated, EvaluationError>
-    requires { All (IsArgument world.old.0.packages) values.now }
-    ensures gives { Answers done result world.new.0 (enter_readtable (map object_of values.now) world.old.0) }
-    ensures proper { IfOk result (λ e. is_proper e.value ≡ true) }
+    requires { AreArgumentsOf world.old values.now }
+    ensures gives { CarriesOut enter_readtable values.now world.old.0 world.new.0 result }
+    ensures proper { IfOk result IsProperValue }
     ensures marked { world.new.1 ≡ world.old.1 }
 {
     let name = one(values)?;
@@ -168,9 +168,9 @@ pub fn set_syntax(
     world: &mut World,
     values: &[Datum],
 ) -> Result<Evaluated, EvaluationError>
-    requires { All (IsArgument world.old.0.packages) values.now }
-    ensures gives { Answers done result world.new.0 (set_syntax (map object_of values.now) world.old.0) }
-    ensures proper { IfOk result (λ e. is_proper e.value ≡ true) }
+    requires { AreArgumentsOf world.old values.now }
+    ensures gives { CarriesOut set_syntax values.now world.old.0 world.new.0 result }
+    ensures proper { IfOk result IsProperValue }
     ensures marked { world.new.1 ≡ world.old.1 }
 {
     let (to, from, rest) = two_and_rest(values)?;
@@ -193,9 +193,9 @@ pub fn set_macro(
     values: &[Datum],
 ) -> Result<Evaluated, EvaluationError>
     requires names { AreFunctionNames names.now }
-    requires values { All (IsArgument world.old.0.packages) values.now }
-    ensures gives { Answers done result world.new.0 (set_macro names.now (map object_of values.now) world.old.0) }
-    ensures proper { IfOk result (λ e. is_proper e.value ≡ true) }
+    requires values { AreArgumentsOf world.old values.now }
+    ensures gives { CarriesOut (set_macro names.now) values.now world.old.0 world.new.0 result }
+    ensures proper { IfOk result IsProperValue }
     ensures marked { world.new.1 ≡ world.old.1 }
 {
     let (character, function, rest) = two_and_rest(values)?;
@@ -212,7 +212,7 @@ pub fn set_macro(
 // The name of a function as a keyword, or NIL where there is none.
 fn name_or_nil(alloc: Global, name: Option<FnName>) -> Result<Datum, AllocError>
     ensures value { IfOk result (λ d. object_of d ≡ name_or_nil name) }
-    ensures proper { IfOk result (λ d. is_proper d ≡ true) }
+    ensures proper { IfOk result IsProper }
 {
     match name {
         Some(name) => values::keyword(alloc, name.as_bytes()),
@@ -226,9 +226,9 @@ pub fn get_macro(
     world: &World,
     values: &[Datum],
 ) -> Result<Evaluated, EvaluationError>
-    requires { All (IsArgument world.now.0.packages) values.now }
-    ensures gives { Answers done result world.now.0 (get_macro (map object_of values.now) world.now.0) }
-    ensures proper { IfOk result (λ e. is_proper e.value ≡ true) }
+    requires { AreArgumentsOf world.now values.now }
+    ensures gives { CarriesOut get_macro values.now world.now.0 world.now.0 result }
+    ensures proper { IfOk result IsProperValue }
 {
     let (character, rest) = one_and_rest(values)?;
     let c = kinds::character(character)?;
@@ -245,9 +245,9 @@ pub fn make_dispatch(
     world: &mut World,
     values: &[Datum],
 ) -> Result<Evaluated, EvaluationError>
-    requires { All (IsArgument world.old.0.packages) values.now }
-    ensures gives { Answers done result world.new.0 (make_dispatch (map object_of values.now) world.old.0) }
-    ensures proper { IfOk result (λ e. is_proper e.value ≡ true) }
+    requires { AreArgumentsOf world.old values.now }
+    ensures gives { CarriesOut make_dispatch values.now world.old.0 world.new.0 result }
+    ensures proper { IfOk result IsProperValue }
     ensures marked { world.new.1 ≡ world.old.1 }
 {
     let (character, rest) = one_and_rest(values)?;
@@ -267,9 +267,9 @@ pub fn set_dispatch(
     values: &[Datum],
 ) -> Result<Evaluated, EvaluationError>
     requires names { AreFunctionNames names.now }
-    requires values { All (IsArgument world.old.0.packages) values.now }
-    ensures gives { Answers done result world.new.0 (set_dispatch names.now (map object_of values.now) world.old.0) }
-    ensures proper { IfOk result (λ e. is_proper e.value ≡ true) }
+    requires values { AreArgumentsOf world.old values.now }
+    ensures gives { CarriesOut (set_dispatch names.now) values.now world.old.0 world.new.0 result }
+    ensures proper { IfOk result IsProperValue }
     ensures marked { world.new.1 ≡ world.old.1 }
 {
     let (character, sub, function, rest) = three_and_rest(values)?;
@@ -296,9 +296,9 @@ pub fn get_dispatch(
     world: &World,
     values: &[Datum],
 ) -> Result<Evaluated, EvaluationError>
-    requires { All (IsArgument world.now.0.packages) values.now }
-    ensures gives { Answers done result world.now.0 (get_dispatch (map object_of values.now) world.now.0) }
-    ensures proper { IfOk result (λ e. is_proper e.value ≡ true) }
+    requires { AreArgumentsOf world.now values.now }
+    ensures gives { CarriesOut get_dispatch values.now world.now.0 world.now.0 result }
+    ensures proper { IfOk result IsProperValue }
 {
     let (character, sub, rest) = two_and_rest(values)?;
     let c = kinds::character(character)?;

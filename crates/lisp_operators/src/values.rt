@@ -1,13 +1,12 @@
 //! Values that the operators build.
-ghost use Rattle.std.specs.Prelude.{◌≡◌, true, nat_lt, map, IfOk};
+ghost use Rattle.std.specs.Prelude.{◌≡◌, true, nat_lt, IfOk};
 ghost use Rattle.std.specs.List.{list_all};
-ghost use Rattle.lisp_object.specs.Ascii.{is_ascii};
 ghost use Rattle.lisp_object.specs.Object.{Object, nil, object_depth, object_size};
 ghost use Rattle.lisp_object.specs.Datum.{object_of, is_proper};
 ghost use Rattle.package_table.specs.Table.{keyword};
 ghost use Rattle.plist_state.specs.State.{State};
 ghost use Rattle.lisp_operators.specs.Properties.{t, list};
-ghost use Rattle.lisp_operators.specs.Evaluated.{Answers, done};
+ghost use Rattle.lisp_operators.specs.Evaluated.{Answers, done, IsProper, IsProperValue, IsAscii, objects};
 
 use crate::EvaluationError::Refused;
 use crate::{Evaluated, EvaluationError};
@@ -25,7 +24,7 @@ const LARGEST_SIZE: u64 = 1_000_000;
 /// The symbol of this home and name, of bytes below 128.
 pub(crate) fn symbol(alloc: Global, home: &[u8], name: &[u8]) -> Result<Datum, AllocError>
     ensures value { IfOk result (λ d. object_of d ≡ Object.symbol home.now name.now) }
-    ensures proper { list_all is_ascii home.now ≡ true → list_all is_ascii name.now ≡ true → IfOk result (λ d. is_proper d ≡ true) }
+    ensures proper { IsAscii home.now → IsAscii name.now → IfOk result IsProper }
 {
     Ok(Datum::Symbol {
         package: Bytes::from_slice(alloc, home)?,
@@ -36,7 +35,7 @@ pub(crate) fn symbol(alloc: Global, home: &[u8], name: &[u8]) -> Result<Datum, A
 /// T, the symbol for true (standard 5.3, `t`).
 pub(crate) fn truth(alloc: Global) -> Result<Datum, AllocError>
     ensures value { IfOk result (λ d. object_of d ≡ t) }
-    ensures proper { IfOk result (λ d. is_proper d ≡ true) }
+    ensures proper { IfOk result IsProper }
 {
     symbol(alloc, COMMON_LISP, b"T")
 }
@@ -44,7 +43,7 @@ pub(crate) fn truth(alloc: Global) -> Result<Datum, AllocError>
 /// NIL, the empty list.
 pub fn empty_list(alloc: Global) -> Result<Datum, AllocError>
     ensures value { IfOk result (λ d. object_of d ≡ nil) }
-    ensures proper { IfOk result (λ d. is_proper d ≡ true) }
+    ensures proper { IfOk result IsProper }
 {
     Datum::nil(alloc)
 }
@@ -52,7 +51,7 @@ pub fn empty_list(alloc: Global) -> Result<Datum, AllocError>
 /// The keyword of this name, of bytes below 128.
 pub fn keyword(alloc: Global, name: &[u8]) -> Result<Datum, AllocError>
     ensures value { IfOk result (λ d. object_of d ≡ Object.symbol keyword name.now) }
-    ensures proper { list_all is_ascii name.now ≡ true → IfOk result (λ d. is_proper d ≡ true) }
+    ensures proper { IsAscii name.now → IfOk result IsProper }
 {
     symbol(alloc, KEYWORD, name)
 }
@@ -60,7 +59,7 @@ pub fn keyword(alloc: Global, name: &[u8]) -> Result<Datum, AllocError>
 /// The text of these characters, below 128.
 pub fn text(alloc: Global, characters: &[u8]) -> Result<Datum, AllocError>
     ensures value { IfOk result (λ d. object_of d ≡ Object.text characters.now) }
-    ensures proper { list_all is_ascii characters.now ≡ true → IfOk result (λ d. is_proper d ≡ true) }
+    ensures proper { IsAscii characters.now → IfOk result IsProper }
 {
     Ok(Datum::Text(Bytes::from_slice(alloc, characters)?))
 }
@@ -68,7 +67,7 @@ pub fn text(alloc: Global, characters: &[u8]) -> Result<Datum, AllocError>
 /// Whether a value has more levels than one that is built may have.
 #[tactic(auto, using(crate::proofs::Shapes::depth_test))]
 pub(crate) fn is_too_deep(value: &Datum) -> bool
-    requires { is_proper value.now ≡ true }
+    requires { IsProper value.now }
     ensures { result ≡ nat_lt 100 (object_depth (object_of value.now)) }
 {
     value.depth() > MOST_LEVELS
@@ -77,7 +76,7 @@ pub(crate) fn is_too_deep(value: &Datum) -> bool
 /// Whether a value is larger than one that is built may be.
 #[tactic(auto, using(crate::proofs::Shapes::size_test))]
 pub(crate) fn is_too_large(value: &Datum) -> bool
-    requires { is_proper value.now ≡ true }
+    requires { IsProper value.now }
     ensures { result ≡ nat_lt 1000000 (object_size (object_of value.now)) }
 {
     value.size() > LARGEST_SIZE
@@ -86,8 +85,8 @@ pub(crate) fn is_too_large(value: &Datum) -> bool
 /// LIST: the list of these values.
 pub fn list(alloc: Global, values: Vec<Datum>) -> Result<Evaluated, EvaluationError>
     requires { list_all is_proper values.items ≡ true }
-    ensures gives { (s : State) → Answers done result s (list (map object_of values.items) s) }
-    ensures proper { IfOk result (λ e. is_proper e.value ≡ true) }
+    ensures gives { (s : State) → Answers done result s (list (objects values.items) s) }
+    ensures proper { IfOk result IsProperValue }
 {
     let items = Items::from_vec(values);
     if items.is_empty() {

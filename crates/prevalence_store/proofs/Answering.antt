@@ -4,7 +4,7 @@ use Rattle.std.proofs.lemmas.List.{take-append-drop, take-append-le, drop-append
 use Rattle.std.proofs.Math.Seq.{drop-append-add}
 use Rattle.disk_trait.specs.Disk.{State, IsHonest, IsSound}
 use Rattle.form_eval.specs.Acceptance.{accept}
-use Rattle.form_eval.specs.Outcomes.{Outcome as Evaluation}
+use Rattle.lisp_operators.specs.Evaluation.{Evaluation}
 use Rattle.lisp_object.specs.Object.{Object}
 use Rattle.lisp_object.specs.declared.refusal.TheConstants.{INPUT}
 use Rattle.plist_state.specs.State.{State as World}

@@ -21,9 +21,9 @@ use Rattle.plist_state.proofs.Orders.{name_total, one_name}
 use Rattle.user_macros.specs.Registry.{is_covered}
 use Rattle.user_macros.proofs.Covered.{standard_covered}
 use Rattle.form_eval.specs.Acceptance.{accept}
-use Rattle.form_eval.specs.Laws.{AreCovered}
-use Rattle.form_eval.specs.Outcomes.{Outcome as Evaluation}
-use Rattle.form_eval.proofs.CoveringForms.{accepted_covers}
+use Rattle.lisp_operators.specs.Readtables.{AreCovered}
+use Rattle.lisp_operators.specs.Evaluation.{Evaluation}
+use Rattle.form_eval.proofs.Accepted.{accepted_covers}
 use Rattle.form_reader.specs.Reading.{Outcome as Reading, form, empty, refused}
 use Rattle.snapshot_text.specs.Covered.{are_covered}
 use Rattle.world_text.specs.Snapshot.{table_named}

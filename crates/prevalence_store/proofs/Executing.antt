@@ -13,8 +13,8 @@ use Rattle.form_reader.specs.declared.ending.ReadOutcome.TheVariants.{Form as Re
 use Rattle.form_reader.specs.Reader.{IsOutcome}
 use Rattle.lisp_object.specs.declared.refusal.TheConstants.{NO_MEMORY, TEXT_LEFT_OVER}
 use Rattle.form_eval.specs.Acceptance.{accept}
-use Rattle.form_eval.specs.Evaluated.{done}
-use Rattle.form_eval.specs.declared.evaluated.Evaluated.{Evaluated}
+use Rattle.lisp_operators.specs.Evaluated.{done}
+use Rattle.lisp_operators.specs.declared.evaluated.Evaluated.{Evaluated}
 use Rattle.form_reader.specs.Reading.{Outcome as Reading, form}
 use Rattle.form_reader.proofs.Forms.{form_framed}
 use Rattle.plist_state.specs.State.{State as World}

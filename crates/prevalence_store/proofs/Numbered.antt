@@ -3,8 +3,8 @@ use Rattle.std.proofs.Common.{◌≡◌, ℕ, ◌==◌, Bool, true, false, List,
 use Rattle.std.specs.Prelude.{if◌then◌else◌}
 use Rattle.lisp_object.specs.declared.refusal.TheConstants.{END_OF_FILE, TEXT_LEFT_OVER}
 use Rattle.form_eval.specs.Acceptance.{accept}
-use Rattle.form_eval.specs.Outcomes.{Outcome as Evaluation}
-use Rattle.form_eval.proofs.NumberedForms.{accepted_numbered}
+use Rattle.lisp_operators.specs.Evaluation.{Evaluation}
+use Rattle.form_eval.proofs.Accepted.{accepted_numbered}
 use Rattle.form_reader.specs.Reading.{Outcome as Reading, form, empty, refused}
 use Rattle.form_reader.proofs.Numbers.{refusal_numbered}
 use Rattle.lisp_object.specs.Object.{Object}

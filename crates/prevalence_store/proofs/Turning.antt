@@ -8,9 +8,9 @@ use Rattle.lisp_object.specs.Object.{Object}
 use Rattle.lisp_object.specs.Datum.{object_of, is_proper}
 use Rattle.lisp_object.specs.declared.refusal.TheConstants.{INPUT, LOG_FULL, OUTPUT, NO_MEMORY}
 use Rattle.form_eval.specs.Acceptance.{accept}
-use Rattle.form_eval.specs.Outcomes.{Done, Outcome as Evaluation}
-use Rattle.form_eval.specs.Evaluated.{IsArgument, done as done_of}
-use Rattle.form_eval.specs.declared.evaluated.Evaluated.{Evaluated}
+use Rattle.lisp_operators.specs.Evaluation.{Done, Evaluation}
+use Rattle.lisp_operators.specs.Evaluated.{IsArgument, done as done_of}
+use Rattle.lisp_operators.specs.declared.evaluated.Evaluated.{Evaluated}
 use Rattle.canon_printer.specs.Printed.{printed}
 use Rattle.form_reader.specs.Reader.{MayGoOn}
 use Rattle.form_reader.specs.Reading.{form, empty, refused}

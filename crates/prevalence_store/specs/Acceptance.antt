@@ -10,7 +10,7 @@ use Rattle.plist_state.specs.State.{State as World}
 use Rattle.form_reader.specs.declared.limits.Limits.{Limits}
 use Rattle.form_reader.specs.Setting.{Setting, setting_of}
 use Rattle.form_reader.specs.Reading.{Outcome as Reading, form, empty, refused, reads}
-use Rattle.form_eval.specs.Outcomes.{Outcome as Evaluation}
+use Rattle.lisp_operators.specs.Evaluation.{Evaluation}
 use Rattle.form_eval.specs.Acceptance.{accept}
 use Rattle.prevalence_store.specs.declared.mode.Mode.{Mode}
 use Rattle.prevalence_store.specs.declared.mode.Mode.TheVariants.{Current, Rescue}

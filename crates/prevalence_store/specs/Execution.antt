@@ -7,8 +7,8 @@ use Rattle.gate_log.specs.Layout.{Contents, LogRecord, with_record}
 use Rattle.gate_log.specs.Log as gated
 use Rattle.lisp_object.specs.Object.{Object}
 use Rattle.lisp_object.specs.Datum.{object_of, is_proper}
-use Rattle.form_eval.specs.Evaluated.{IsArgument}
-use Rattle.form_eval.specs.declared.evaluated.Evaluated.{Evaluated}
+use Rattle.lisp_operators.specs.Evaluated.{IsArgument}
+use Rattle.lisp_operators.specs.declared.evaluated.Evaluated.{Evaluated}
 use Rattle.lisp_object.specs.declared.refusal.TheConstants.{DEVICE, LOG_FULL, NO_MEMORY}
 use Rattle.prevalence_store.specs.declared.failure.Failure.{Failure}
 use Rattle.prevalence_store.specs.declared.failure.Failure.TheVariants as failure

@@ -5,7 +5,7 @@ use Rattle.gate_log.specs.Layout.{LogRecord}
 use Rattle.lisp_object.specs.Object.{Object, IsSound}
 use Rattle.lisp_object.specs.Datum.{object_of, is_proper}
 use Rattle.lisp_object.specs.declared.datum.Datum.{Datum}
-use Rattle.form_eval.specs.declared.evaluated.Evaluated.{Evaluated}
+use Rattle.lisp_operators.specs.declared.evaluated.Evaluated.{Evaluated}
 use Rattle.lisp_object.specs.declared.refusal.TheConstants.{DEVICE, LOG_FULL, OUTPUT, NO_MEMORY}
 use Rattle.form_reader.specs.Reading.{form}
 use Rattle.prevalence_store.specs.declared.failure.Failure.{Failure}

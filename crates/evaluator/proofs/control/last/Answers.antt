@@ -1,5 +1,5 @@
 use Rattle.std.proofs.Common.{ap}
-use Rattle.lisp_operators.specs.Outcomes.{gives}
+use Rattle.lisp_operators.specs.Evaluation.{gives}
 use Rattle.evaluator.proofs.Places.{last_of}
 use Rattle.evaluator.proofs.control.last.Goals as goal
 

@@ -1,16 +1,13 @@
-use Rattle.std.proofs.Common.{ℕ, Ok, List, Bor, sym, ap, ◌∙◌, arith}
+use Rattle.std.proofs.Common.{ℕ, Ok, List, sym, ap, ◌∙◌, arith}
 use Rattle.std.proofs.lemmas.List.{get_or_default}
 use Rattle.package_table.specs.Table.{Table}
 use Rattle.package_table.specs.Changes.{intern_changes}
 use Rattle.plist_state.specs.Properties.{Symbol}
 use Rattle.plist_state.specs.State.{Worlds}
 use Rattle.plist_state.specs.Changes.{with_packages}
-use Rattle.form_eval.specs.Acceptance.{after_symbol}
+use Rattle.form_eval.specs.Acceptance.{after_symbol, seen}
 use Rattle.lisp_operators.proofs.PackageSteps.{goes_on, stops, is_over}
 use Rattle.form_eval.proofs.interning.intern_all.Goals as goal
-
-abbrev seen : Bor (List ℕ) × Bor (List ℕ) → Symbol
-seen p = (p.0.now, p.1.now)
 
 pub loop-symbol-preserved : goal.loop-symbol-preserved
 loop-symbol-preserved c =

@@ -1,13 +1,10 @@
-use Rattle.std.proofs.Common.{ℕ, List, ◌++◌, ◌∷◌, [], map, Bor, ap, sym, ◌∙◌}
+use Rattle.std.proofs.Common.{ℕ, List, ◌++◌, ◌∷◌, [], map, ap, sym, ◌∙◌}
 use Rattle.std.proofs.lemmas.List.{map-append}
 use Rattle.lisp_object.specs.Datum.{object_of}
 use Rattle.lisp_object.proofs.Objects.{object_of-Symbol}
 use Rattle.plist_state.specs.Properties.{Symbol}
-use Rattle.form_eval.specs.Acceptance.{symbols}
+use Rattle.form_eval.specs.Acceptance.{symbols, seen}
 use Rattle.form_eval.proofs.symbols.+adding.Goals as goal
-
-abbrev seen : Bor (List ℕ) × Bor (List ℕ) → Symbol
-seen p = (p.0.now, p.1.now)
 
 pub add-returns-in_ok-push-in-Symbol : goal.add-returns-in_ok-push-in-Symbol
 add-returns-in_ok-push-in-Symbol t c =

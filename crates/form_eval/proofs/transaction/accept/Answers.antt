@@ -5,9 +5,9 @@ use Rattle.form_eval.specs.Laws.{IsForm}
 use Rattle.form_eval.proofs.Accepted.{accepted_silent}
 use Rattle.form_eval.proofs.transaction.accept.Goals as goal
 
-pub returns-in-Ok-run-clause-silent : goal.returns-in-Ok-run-clause-silent
-returns-in-Ok-run-clause-silent g c = λ silent.
-    accepted_silent _ c.mark.new.self.0 (object_of c.args.form.now) _ c.in-Ok-run.ensures.gives silent
+pub returns-in-Ok-clause-silent : goal.returns-in-Ok-clause-silent
+returns-in-Ok-clause-silent g c = λ silent.
+    accepted_silent _ c.mark.new.self.0 (object_of c.args.form.now) _ c.in-Ok.ensures.gives silent
     ∙ ap (λ (w : Worlds). w.0) c.in_ok-mark.ensures.ok.1
 
 pub run-requires-clause-form : goal.run-requires-clause-form

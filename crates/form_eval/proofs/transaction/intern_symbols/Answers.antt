@@ -1,13 +1,10 @@
-use Rattle.std.proofs.Common.{◌≡◌, ◌<◌, ℕ, List, All, map, Bor, sym, subst, ap, ◌∙◌}
+use Rattle.std.proofs.Common.{◌≡◌, ◌<◌, ℕ, List, All, map, sym, subst, ap, ◌∙◌}
 use Rattle.lisp_object.specs.Datum.{object_of}
 use Rattle.plist_state.specs.Properties.{Symbol}
-use Rattle.form_eval.specs.Acceptance.{symbols, with_symbols}
+use Rattle.form_eval.specs.Acceptance.{symbols, with_symbols, seen}
 use Rattle.lisp_operators.specs.Evaluated.{Makes}
 use Rattle.form_eval.proofs.SoundSymbols.{symbols_can, ascii_of, all_of_mapped}
 use Rattle.form_eval.proofs.transaction.intern_symbols.Goals as goal
-
-abbrev seen : Bor (List ℕ) × Bor (List ℕ) → Symbol
-seen p = (p.0.now, p.1.now)
 
 pub intern_all-requires : goal.intern_all-requires
 intern_all-requires c =

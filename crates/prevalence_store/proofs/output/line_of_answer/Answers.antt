@@ -1,5 +1,5 @@
 use Rattle.std.proofs.Common.{Result, sym, subst}
-use Rattle.form_eval.specs.declared.evaluated.Evaluated.{Evaluated}
+use Rattle.lisp_operators.specs.declared.evaluated.Evaluated.{Evaluated}
 use Rattle.prevalence_store.specs.declared.failure.Failure.{Failure}
 use Rattle.prevalence_store.specs.Turns.{IsLineOf}
 use Rattle.prevalence_store.proofs.output.line_of_answer.Goals as goal

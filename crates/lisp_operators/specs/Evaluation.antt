@@ -9,28 +9,28 @@ pub record Done (A : Type 0) : Type 0 where
   pub state : State
   pub wrote : Bool
 
-abbrev pub Outcome : Type 0 → Type 0
-Outcome A = Result (Done A) ℕ
+abbrev pub Evaluation : Type 0 → Type 0
+Evaluation A = Result (Done A) ℕ
 
 -- the value, in a state that stays as it is
-abbrev pub gives : {A : Type 0} → A → State → Outcome A
+abbrev pub gives : {A : Type 0} → A → State → Evaluation A
 gives x s = Ok (record { value = x; state = s; wrote = false })
 
 -- the value, in the state that was written
-abbrev pub writes : {A : Type 0} → A → State → Outcome A
+abbrev pub writes : {A : Type 0} → A → State → Evaluation A
 writes x s = Ok (record { value = x; state = s; wrote = true })
 
 -- what was written before counts too
-abbrev pub also : {A : Type 0} → Bool → Outcome A → Outcome A
+abbrev pub also : {A : Type 0} → Bool → Evaluation A → Evaluation A
 also wrote (Ok d) = Ok (record d { wrote = wrote || d.wrote })
 also wrote (Err code) = Err code
 
 -- one evaluation, and then another in the state that the first one leaves
-abbrev pub and_then : {A B : Type 0} → Outcome A → (A → State → Outcome B) → Outcome B
+abbrev pub and_then : {A B : Type 0} → Evaluation A → (A → State → Evaluation B) → Evaluation B
 and_then (Ok d) next = also d.wrote (next d.value d.state)
 and_then (Err code) next = Err code
 
 -- what goes on with an argument of the kind that is asked for; any other is refused
-abbrev pub of_kind : {A B : Type 0} → Option A → (A → Outcome B) → Outcome B
+abbrev pub of_kind : {A B : Type 0} → Option A → (A → Evaluation B) → Evaluation B
 of_kind (Some x) on = on x
 of_kind None on = Err ARGUMENT_KIND
