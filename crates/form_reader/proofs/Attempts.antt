@@ -9,17 +9,17 @@ use Rattle.readtable_core.specs.declared.characters.Syntax.{Syntax}
 use Rattle.readtable_core.specs.declared.characters.Syntax.TheVariants.{Whitespace, TerminatingMacro, NonTerminatingMacro, Invalid}
 use Rattle.readtable_core.specs.Tables.{Table, Entry, entry_at, no_entry}
 use Rattle.token_scan.specs.Scans.{begun}
-use Rattle.form_reader.specs.declared.limits.Limits.{Limits}
-use Rattle.form_reader.specs.declared.found.Found.{Found}
+use Rattle.lisp_reading.specs.declared.limits.Limits.{Limits}
+use Rattle.lisp_reading.specs.declared.found.Found.{Found}
 use Rattle.form_reader.specs.declared.frame.Frame.{Frame}
 use Rattle.form_reader.specs.declared.stage.Event.{Event}
-use Rattle.form_reader.specs.Plans.{Plan, refuses, takes, scans, then_plan, Read, fault, within, run}
-use Rattle.form_reader.specs.Setting.{Setting}
-use Rattle.form_reader.specs.Reading.{Piece, closed, at_place, or_closed, place_turn, stands_alone, alone, token_found, attempt_by, attempt}
+use Rattle.lisp_reading.specs.Plans.{Plan, refuses, takes, scans, then_plan, Read, fault, within, run}
+use Rattle.lisp_reading.specs.Setting.{Setting}
+use Rattle.lisp_reading.specs.Reading.{Piece, closed, at_place, or_closed, place_turn, stands_alone, alone, token_found, attempt_by, attempt}
 use Rattle.form_reader.specs.Feeding.{token_read}
 use Rattle.form_reader.specs.Frames.{close_of, close_of_frames, attempt_in, place_in, call_in, given, between, token_goes_on}
 use Rattle.form_reader.specs.Resuming.{attempt_at, inner_at, Brings}
-use Rattle.form_reader.proofs.Turns.{loop_is, place_guarded}
+use Rattle.lisp_reading.proofs.Turns.{loop_is, place_guarded}
 use Rattle.form_reader.proofs.Opened.{then_moves, given_moves, given_fault, ends_in}
 use Rattle.form_reader.proofs.Beginnings.{token_begins, given_refused}
 
