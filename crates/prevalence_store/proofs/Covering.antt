@@ -24,7 +24,7 @@ use Rattle.form_eval.specs.Acceptance.{accept}
 use Rattle.form_eval.specs.Laws.{AreCovered}
 use Rattle.form_eval.specs.Outcomes.{Outcome as Evaluation}
 use Rattle.form_eval.proofs.CoveringForms.{accepted_covers}
-use Rattle.form_reader.specs.Reading.{Outcome as Reading, form, empty, refused}
+use Rattle.lisp_reading.specs.Reading.{Outcome as Reading, form, empty, refused}
 use Rattle.snapshot_text.specs.Covered.{are_covered}
 use Rattle.snapshot_text.specs.Snapshot.{table_named}
 use Rattle.snapshot_text.proofs.Ascii.{keys_pass}

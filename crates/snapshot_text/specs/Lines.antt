@@ -5,9 +5,9 @@ use Rattle.lisp_object.specs.Datum.{object_of, is_proper}
 use Rattle.lisp_object.specs.Object.{Object}
 use Rattle.package_table.specs.Table.{Table, common_lisp_user}
 use Rattle.canon_printer.specs.Printed.{printed}
-use Rattle.form_reader.specs.declared.limits.Limits.{Limits}
-use Rattle.form_reader.specs.Setting.{Setting}
-use Rattle.form_reader.specs.Reading.{form, reads}
+use Rattle.lisp_reading.specs.declared.limits.Limits.{Limits}
+use Rattle.lisp_reading.specs.Setting.{Setting}
+use Rattle.lisp_reading.specs.Reading.{form, reads}
 use Rattle.snapshot_text.specs.declared.error.BuildError.{BuildError}
 use Rattle.snapshot_text.specs.declared.error.BuildError.TheVariants.{OutOfMemory}
 use Rattle.snapshot_text.specs.Snapshot.{line}
