@@ -7,19 +7,19 @@ use Rattle.std.specs.declared.alloc.AllocError.{AllocError}
 use Rattle.std.proofs.Math.ListN.{get_or-eq_default}
 use Rattle.readtable_core.specs.declared.characters.Syntax.{Syntax}
 use Rattle.readtable_core.specs.declared.characters.Syntax.TheVariants.{Whitespace, TerminatingMacro, NonTerminatingMacro, Invalid}
-use Rattle.readtable_core.specs.Tables.{Table, CharacterEntry, entry_at, no_entry}
+use Rattle.readtable_core.specs.Tables.{Table, Entry, entry_at, no_entry}
 use Rattle.token_scan.specs.Scans.{begun}
-use Rattle.form_reader.specs.declared.limits.Limits.{Limits}
-use Rattle.form_reader.specs.declared.found.Found.{Found}
+use Rattle.lisp_reading.specs.declared.limits.Limits.{Limits}
+use Rattle.lisp_reading.specs.declared.found.Found.{Found}
 use Rattle.form_reader.specs.declared.frame.Frame.{Frame}
 use Rattle.form_reader.specs.declared.stage.Event.{Event}
-use Rattle.form_reader.specs.Plans.{Plan, refuses, takes, scans, then_plan, Read, fault, within, run}
-use Rattle.form_reader.specs.Setting.{Setting}
-use Rattle.form_reader.specs.Reading.{Piece, closed, at_place, or_closed, place_turn, stands_alone, alone, token_found, attempt_by, attempt}
+use Rattle.lisp_reading.specs.Plans.{Plan, refuses, takes, scans, then_plan, Read, fault, within, run}
+use Rattle.lisp_reading.specs.Setting.{Setting}
+use Rattle.lisp_reading.specs.Reading.{Piece, closed, at_place, or_closed, place_turn, stands_alone, alone, token_found, attempt_by, attempt}
 use Rattle.form_reader.specs.Feeding.{token_read}
 use Rattle.form_reader.specs.Frames.{close_of, close_of_frames, attempt_in, place_in, call_in, given, between, token_goes_on}
 use Rattle.form_reader.specs.Resuming.{attempt_at, inner_at, Brings}
-use Rattle.form_reader.proofs.Turns.{loop_is, place_guarded}
+use Rattle.lisp_reading.proofs.Turns.{loop_is, place_guarded}
 use Rattle.form_reader.proofs.Opened.{then_moves, given_moves, given_fault, ends_in}
 use Rattle.form_reader.proofs.Beginnings.{token_begins, given_refused}
 
@@ -173,4 +173,4 @@ module _ (setting : Setting) (at c : ℕ) (cs : List ℕ) where
 pub invalid_beyond : (table : Table) (c : ℕ) → length table.entries ≡ 128 → 128 ≤ c → (entry_at table c).syntax ≡ Invalid
 invalid_beyond table c count beyond =
     let most : length table.entries ≤ c = omega (arith, count) in
-    ap (λ (e : CharacterEntry). e.syntax) (get_or-eq_default table.entries no_entry most)
+    ap (λ (e : Entry). e.syntax) (get_or-eq_default table.entries no_entry most)

@@ -9,16 +9,16 @@ use Rattle.token_scan.specs.Scans.{Scan, begun, begun_escaped}
 use Rattle.std_macros.specs.Values.{marked, nothing as no_material}
 use Rattle.form_reader.specs.declared.complete.Completed.{Completed}
 use Rattle.form_reader.specs.declared.complete.Completed.TheVariants.{Refused}
-use Rattle.form_reader.specs.declared.found.Found.{Found}
+use Rattle.lisp_reading.specs.declared.found.Found.{Found}
 use Rattle.form_reader.specs.declared.frame.Frame.{Frame}
 use Rattle.form_reader.specs.declared.frame.Part.TheVariants.{Next as InNext, List as InList, Until as InUntil}
 use Rattle.form_reader.specs.declared.stage.Event.{Event}
-use Rattle.form_reader.specs.declared.way.Way.{Way}
-use Rattle.form_reader.specs.declared.way.Way.TheVariants.{Nothing, Next, List as AList, Until, Token, EscapedToken}
-use Rattle.form_reader.specs.Plans.{Plan, refuses, scans, Read, fault, limited, scanned, run}
-use Rattle.form_reader.specs.Calls.{InvokedCall}
-use Rattle.form_reader.specs.Setting.{Setting, way_in}
-use Rattle.form_reader.specs.Reading.{place, completed, gathered, gathered_by, called, attempt, inner}
+use Rattle.lisp_reading.specs.declared.way.Way.{Way}
+use Rattle.lisp_reading.specs.declared.way.Way.TheVariants.{Nothing, Next, List as AList, Until, Token, EscapedToken}
+use Rattle.lisp_reading.specs.Plans.{Plan, refuses, scans, Read, fault, limited, scanned, run}
+use Rattle.lisp_reading.specs.Calls.{InvokedCall}
+use Rattle.lisp_reading.specs.Setting.{Setting, way_in}
+use Rattle.lisp_reading.specs.Reading.{place, completed, gathered, gathered_by, called, attempt, inner}
 use Rattle.form_reader.specs.Completing.{plan_of}
 use Rattle.form_reader.specs.Feeding.{token_read}
 use Rattle.form_reader.specs.Frames.{given, between, plan_gives, token_goes_on}

@@ -7,22 +7,22 @@ use Rattle.form_reader.specs.declared.reader.Step.TheVariants.{More as StepMore,
 use Rattle.form_reader.specs.declared.reader.State.{State}
 use Rattle.form_reader.specs.declared.reader.State.TheVariants.{Open}
 use Rattle.form_reader.specs.declared.stage.Stage.TheVariants.{Object as AtObject}
-use Rattle.form_reader.specs.declared.found.Found.{Found}
+use Rattle.lisp_reading.specs.declared.found.Found.{Found}
 use Rattle.form_reader.specs.declared.stage.Event.{Event}
 use Rattle.form_reader.specs.declared.stage.Event.TheVariants.{Stage as IsAt, Gives as IsGiven, Refused as IsRefused}
 use Rattle.form_reader.specs.declared.turn.Settled.{Settled}
 use Rattle.form_reader.specs.declared.turn.Settled.TheVariants.{Done as SettledDone}
 use Rattle.form_reader.specs.declared.turn.Turn.{Turn}
 use Rattle.form_reader.specs.declared.turn.Turn.TheVariants.{Goes, Form as TurnForm, Refused as TurnRefused}
-use Rattle.form_reader.specs.Setting.{Setting}
-use Rattle.form_reader.specs.Reading.{Outcome, empty, reads, reads_at}
-use Rattle.form_reader.specs.Plans.{Read, fault, gives}
+use Rattle.lisp_reading.specs.Setting.{Setting}
+use Rattle.lisp_reading.specs.Reading.{Outcome, empty, reads, reads_at}
+use Rattle.lisp_reading.specs.Plans.{Read, fault, gives}
 use Rattle.form_reader.specs.Frames.{plan_gives}
 use Rattle.form_reader.specs.Resuming.{Brings, stage_gives}
 use Rattle.form_reader.specs.Turning.{outcome_of, rest_of, Settles, TurnsTo, BeginsAnew}
 use Rattle.form_reader.specs.Reader.{fed, begun, IsBetween, LeavesBetween, Takes, IsAfter, IsAfterIn}
 use Rattle.form_reader.proofs.Endings.{none_waits}
-use Rattle.form_reader.proofs.Forms.{reads_is}
+use Rattle.lisp_reading.proofs.Forms.{reads_is}
 
 -- after a form nothing is open
 pub leaves_between : (setting : Setting) (mid new : FormReader) (after : List Frame) (turn : Turn) (step : Step) (o : Outcome) → TurnsTo setting after [] turn o → Takes turn mid new step

@@ -7,14 +7,14 @@ use Rattle.token_scan.specs.declared.mark.Mark.{Mark}
 use Rattle.token_scan.specs.Scans.{Scan}
 use Rattle.form_reader.specs.declared.bytes.LineByte.{LineByte}
 use Rattle.form_reader.specs.declared.bytes.LineByte.TheVariants.{Ended as LineEnded}
-use Rattle.form_reader.specs.declared.found.Found.{Found}
+use Rattle.lisp_reading.specs.declared.found.Found.{Found}
 use Rattle.form_reader.specs.declared.frame.Frame.{Frame}
 use Rattle.form_reader.specs.declared.stage.Event.{Event}
-use Rattle.form_reader.specs.declared.way.Function.{Function}
-use Rattle.form_reader.specs.Plans.{Plan, Read, fault, run}
-use Rattle.form_reader.specs.Calls.{InvokedCall}
-use Rattle.form_reader.specs.Setting.{Setting, function_of}
-use Rattle.form_reader.specs.Reading.{called, dispatched, macro_called}
+use Rattle.lisp_reading.specs.declared.way.Function.{Function}
+use Rattle.lisp_reading.specs.Plans.{Plan, Read, fault, run}
+use Rattle.lisp_reading.specs.Calls.{InvokedCall}
+use Rattle.lisp_reading.specs.Setting.{Setting, function_of}
+use Rattle.lisp_reading.specs.Reading.{called, dispatched, macro_called}
 use Rattle.form_reader.specs.Feeding.{TokenFeeds, token_read}
 use Rattle.form_reader.specs.Frames.{given, plan_gives, token_goes_on}
 use Rattle.form_reader.specs.Resuming.{inner_at, Brings, Begins}

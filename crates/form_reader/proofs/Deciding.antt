@@ -1,11 +1,10 @@
--- A refusal before the end of a text is that of each longer text. Where a reader waits for more, the bytes before decide nothing:
--- a byte that is no character would be refused where it is.
-use Rattle.std.proofs.Common.{◌≡◌, ℕ, zero, suc, ◌+◌, ◌-◌, ◌<◌, ◌≤◌, Bool, true, false, List, [], ◌∷◌, ◌++◌, length, Option, Some, None, unwrap_or, Ok, Err, refl, sym, ap, subst, ◌∙◌, append-nil, length-append, arith}
+-- Where a reader waits for more, the bytes before decide nothing: a byte that is no character would be refused where it is.
+use Rattle.std.proofs.Common.{◌≡◌, ℕ, ◌+◌, ◌-◌, ◌<◌, ◌≤◌, Bool, true, false, List, [], ◌∷◌, ◌++◌, length, Option, Some, None, unwrap_or, Ok, refl, sym, ap, subst, ◌∙◌, append-nil, length-append, arith}
 use Rattle.std.specs.Prelude.{nat_le, nat_lt, ◌==◌, ◌&&◌, if◌then◌else◌, IsTrue}
 use Rattle.std.proofs.lemmas.Bool.{false≢true, le-ltb, lt-leb, ne_eqb, ltb-true, ltb-false}
 use Rattle.std.proofs.lemmas.List.{get_or_past}
 use Rattle.lisp_object.specs.declared.refusal.TheConstants.{INVALID_CHARACTER, FORM_TOO_LONG}
-use Rattle.readtable_core.specs.Tables.{Table, CharacterEntry, no_entry, entry_at}
+use Rattle.readtable_core.specs.Tables.{Table, Entry, no_entry, entry_at}
 use Rattle.readtable_core.specs.Characters.{is_digit}
 use Rattle.token_scan.specs.declared.mark.Mark.{Mark}
 use Rattle.token_scan.specs.declared.refusal.ScanRefusal.TheVariants.{InvalidCharacter}
@@ -15,100 +14,33 @@ use Rattle.token_scan.specs.Tokens.{Scanned, fault as scan_fault, with_front, on
 use Rattle.token_scan.specs.Scans.{Scan, from_stage}
 use Rattle.readtable_core.specs.declared.characters.Syntax.TheVariants.{Invalid}
 use Rattle.token_scan.proofs.Steps.{outside_invalid, inside_invalid}
-use Rattle.form_reader.specs.declared.found.Found.{Found}
-use Rattle.form_reader.specs.declared.found.Found.TheVariants.{Nothing as nothing, One as one, LoneDot as lone_dot, TheEnd as the_end}
+use Rattle.lisp_reading.specs.declared.found.Found.{Found}
+use Rattle.lisp_reading.specs.declared.found.Found.TheVariants.{Nothing as nothing, One as one}
 use Rattle.form_reader.specs.declared.frame.Frame.{Frame}
-use Rattle.form_reader.specs.declared.limits.Limits.{Limits}
+use Rattle.lisp_reading.specs.declared.limits.Limits.{Limits}
 use Rattle.form_reader.specs.declared.stage.Stage.{Stage}
 use Rattle.form_reader.specs.declared.stage.Stage.TheVariants.{Object as AtObject, Token as AtToken, CallToken as AtCallToken, Text as AtText, Escaped as AtEscaped, Line as AtLine, Block as AtBlock, Number as AtNumber}
-use Rattle.form_reader.specs.declared.way.Keep.{Keep}
-use Rattle.form_reader.specs.Plans.{Plan, gives, refuses, takes, then_plan, character, next_byte, loop, Read, fault, within, run}
-use Rattle.form_reader.specs.Calls.{keep_of}
-use Rattle.form_reader.specs.Setting.{Setting}
+use Rattle.lisp_reading.specs.declared.way.Keep.{Keep}
+use Rattle.lisp_reading.specs.Plans.{Plan, gives, refuses, takes, then_plan, character, next_byte, loop, Read, fault, within, run}
+use Rattle.lisp_reading.specs.Calls.{keep_of}
+use Rattle.lisp_reading.specs.Setting.{Setting}
 use Rattle.form_reader.specs.Feeding.{is_going, token_read, refused_number}
 use Rattle.form_reader.specs.Frames.{close_of, close_of_frames, place_in, call_in, given, between, token_goes_on}
-use Rattle.form_reader.specs.Gathering.{text_turn, kept, line_turn, block_turn}
-use Rattle.form_reader.specs.Reading.{Piece, Outcome, form, empty, refused, at_place, closed, or_closed, place_turn, place, stands_alone, alone, inner, attempt, outcome, reads_in, reads_at, reads, number_after, sub_there, dispatched}
+use Rattle.lisp_reading.specs.Gathering.{text_turn, kept, line_turn, block_turn}
+use Rattle.lisp_reading.specs.Reading.{Piece, Outcome, form, empty, refused, at_place, closed, or_closed, place_turn, place, stands_alone, alone, inner, attempt, reads, number_after, sub_there, dispatched}
 use Rattle.form_reader.specs.Resuming.{IsStageAt, inner_at, stage_gives}
 use Rattle.form_reader.specs.Reader.{MayGoOn, DecideNothing}
 use Rattle.form_reader.specs.Turning.{outcome_of, rest_of}
 use Rattle.form_reader.proofs.FedTokens.{cut, refused_cut}
-use Rattle.form_reader.proofs.Faults.{Decided, decided}
-use Rattle.form_reader.proofs.Fed.{number_ends}
-use Rattle.form_reader.proofs.Following.{Follows, follows, form_follows}
-use Rattle.form_reader.proofs.Forms.{first, form_framed, reads_is, the_end_there}
-use Rattle.form_reader.proofs.Language.{AreKept, FoundAt, outermost_keeps}
+use Rattle.lisp_reading.proofs.Faults.{decided}
+use Rattle.lisp_reading.proofs.Fed.{number_ends}
+use Rattle.lisp_reading.proofs.Following.{form_follows}
+use Rattle.lisp_reading.proofs.Forms.{form_framed}
 use Rattle.form_reader.proofs.Opened.{given_fault, gathering_ends, gathering_fails}
-use Rattle.form_reader.proofs.Places.{Parts, parts}
-use Rattle.form_reader.proofs.Steps.{and_then, run_then}
+use Rattle.lisp_reading.proofs.Refusals.{refusal_stays}
+use Rattle.lisp_reading.proofs.Steps.{and_then, run_then}
 use Rattle.form_reader.proofs.TextEnds.{blames_byte, stage_last, last_blames, last_refused}
-use Rattle.form_reader.proofs.Turns.{attempt_ends, loop_is, text_guarded, line_guarded, block_guarded, place_guarded}
-
--- ---- refusals before the end
-
--- nothing is asked of objects
-pub any : (setting : Setting) → AreKept setting (λ depth x. Unit {0})
-any setting = record { tokens = λ depth marks x e. tt; values = λ depth kind number material x h e. tt; answers = λ depth x le known deep. tt }
-
-first_decided : (setting : Setting) (text : List ℕ) → Decided 0 0 (0 + length text) (λ more. first setting (text ++ more)) (first setting text)
-first_decided setting text =
-    decided (FoundAt (λ depth x. Unit {0}) setting.limits.nesting) setting.table setting.limits (attempt setting setting.limits.nesting) false 0 text (omega arith)
-    (outermost_keeps setting (λ depth x. Unit {0}) (any setting))
-
-no_refusal : (setting : Setting) (n start code place : ℕ) → reads_in setting n start [] ≡ refused code place → ⊥
-unfolding reads_in
-no_refusal setting zero start code place e = cc
-no_refusal setting (suc n) start code place e =
-    let none : empty ≡ refused code place = sym (ap (outcome setting.table start (λ next cs. reads_in setting n next cs)) (the_end_there setting)) ∙ e in
-    cc
-
-module _ (setting : Setting) (code place : ℕ) where
-  -- it is at the end at most, and before it the same whatever follows
-  abbrev Stays : ℕ → List ℕ → Type 0
-  Stays start whole = (place ≤ start + length whole) × (place < start + length whole → (more : List ℕ) → reads_at setting start (whole ++ more) ≡ refused code place)
-
-  abbrev goes : ℕ → Read Found → Outcome
-  goes start r = outcome setting.table start (λ next cs. reads_at setting next cs) r
-
-  turn_stays : (again : ℕ → List ℕ → Outcome) (start : ℕ) (whole : List ℕ) (r : Read Found) → ((at : ℕ) → again at [] ≡ refused code place → ⊥)
-      → ((at : ℕ) (cs : List ℕ) → again at cs ≡ refused code place → Stays at cs) → Parts 0 whole r
-      → ((more : List ℕ) → Follows more (first setting (whole ++ more)) r) → Decided 0 0 (0 + length whole) (λ more. first setting (whole ++ more)) r
-      → outcome setting.table start again r ≡ refused code place → Stays start whole
-  turn_stays again start whole (Ok (nothing token, at, [])) never all p f d e = absurd (never (start + at) e)
-  turn_stays again start whole (Ok (nothing token, at, c ∷ cs)) never all p f d e =
-      let rest = all (start + at) (c ∷ cs) e in
-      let total : length whole ≡ length p.taken + suc (length cs) = ap length p.split ∙ length-append p.taken (c ∷ cs) in (
-        omega (arith, rest.0, total, p.place),
-        λ lt more. reads_is setting start (whole ++ more) ∙ ap (goes start) (f more) ∙ rest.1 (omega (arith, lt, total, p.place)) more,
-      )
-  turn_stays again start whole (Ok (one token x, at, cs)) never all p f d e = cc
-  turn_stays again start whole (Ok (lone_dot, at, [])) never all p f d e =
-      let here : start + at ≡ place = cc in
-      let total : length whole ≡ length p.taken + 0 = ap length p.split ∙ length-append p.taken [] in
-      (omega (arith, here, total, p.place), λ lt. absurd (omega (arith, lt, here, total, p.place)))
-  turn_stays again start whole (Ok (lone_dot, at, c ∷ cs)) never all p f d e =
-      let here : start + at ≡ place = cc in
-      let total : length whole ≡ length p.taken + suc (length cs) = ap length p.split ∙ length-append p.taken (c ∷ cs) in
-      (omega (arith, here, total, p.place), λ lt more. reads_is setting start (whole ++ more) ∙ ap (goes start) (f more) ∙ e)
-  turn_stays again start whole (Ok (the_end, at, cs)) never all p f d e = cc
-  turn_stays again start whole (Err f) never all p g d e =
-      let here : start + f.at ≡ place = cc in
-      (omega (arith, here, d.1), λ lt more. reads_is setting start (whole ++ more) ∙ ap (goes start) (d.2 (omega (arith, lt, here)) more) ∙ e)
-
-  stays : (n start : ℕ) (whole : List ℕ) → reads_in setting n start whole ≡ refused code place → Stays start whole
-  unfolding reads_in
-  stays zero start whole e = cc
-  stays (suc n) start whole e =
-      turn_stays (λ next cs. reads_in setting n next cs) start whole (first setting whole) (λ at. no_refusal setting n at code place) (λ at cs f. stays n at cs f)
-      (parts setting.table setting.limits (attempt setting setting.limits.nesting) 0 whole) (λ more. follows setting.table setting.limits (attempt setting setting.limits.nesting) 0 whole more)
-      (first_decided setting whole) e
-
-pub refusal_stays : (setting : Setting) (text : List ℕ) (code place : ℕ) → reads setting text ≡ refused code place
-    → (place ≤ length text) × (place < length text → (more : List ℕ) → reads setting (text ++ more) ≡ refused code place)
-unfolding reads
-refusal_stays setting text code place e =
-    let h = stays setting code place (length text + 1) 0 text e in
-    (omega (arith, h.0), λ lt more. h.1 (omega (arith, lt)) more)
+use Rattle.lisp_reading.proofs.Turns.{attempt_ends, loop_is, text_guarded, line_guarded, block_guarded, place_guarded}
 
 -- ---- a byte that is no character
 
@@ -206,7 +138,7 @@ module _ (setting : Setting) (frames : List Frame) (at c : ℕ) where
       attempt_fails depth =
           taken_fails setting.table setting.limits _ (λ d. stands_alone (entry_at setting.table d).syntax)
           (λ d. alone setting (setting.limits.nesting - depth) (inner setting depth) d (entry_at setting.table d).syntax) at c INVALID_CHARACTER refl
-          (ap (λ (e : CharacterEntry). stands_alone e.syntax) alien) (ap (λ (e : CharacterEntry). alone setting (setting.limits.nesting - depth) (inner setting depth) c e.syntax) alien)
+          (ap (λ (e : Entry). stands_alone e.syntax) alien) (ap (λ (e : Entry). alone setting (setting.limits.nesting - depth) (inner setting depth) c e.syntax) alien)
 
       then_fails : {A B : Type 0} (plan : Plan A) (on : A → Plan B) → Fails at (reading plan) → Fails at (reading (then_plan plan on))
       then_fails plan on h = (h.0, run_then setting.table setting.limits plan on at (c ∷ []) ∙ ap (and_then setting.table setting.limits on) h.1, h.2)

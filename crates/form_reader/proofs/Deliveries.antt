@@ -9,20 +9,20 @@ use Rattle.form_reader.specs.declared.deliver.Delivered.{Delivered}
 use Rattle.form_reader.specs.declared.deliver.Delivered.TheVariants.{Done}
 use Rattle.form_reader.specs.declared.deliver.Taken.{Taken}
 use Rattle.form_reader.specs.declared.deliver.Taken.TheVariants.{Stays, Gives as TakenGives, Refused as TakenRefused}
-use Rattle.form_reader.specs.declared.found.Found.{Found}
-use Rattle.form_reader.specs.declared.found.Found.TheVariants.{Nothing as nothing, One as one, LoneDot as lone_dot, TheEnd as the_end}
+use Rattle.lisp_reading.specs.declared.found.Found.{Found}
+use Rattle.lisp_reading.specs.declared.found.Found.TheVariants.{Nothing as nothing, One as one, LoneDot as lone_dot, TheEnd as the_end}
 use Rattle.form_reader.specs.declared.frame.Frame.{Frame}
 use Rattle.form_reader.specs.declared.frame.Part.{Part}
 use Rattle.form_reader.specs.declared.frame.Part.TheVariants.{Next as InNext, List as InList, Until as InUntil, Dotted as InDotted, Tailed as InTailed}
-use Rattle.form_reader.specs.Plans.{Plan, gives, refuses, then_plan, Read, fault, run}
-use Rattle.form_reader.specs.Calls.{InvokedCall}
-use Rattle.form_reader.specs.Setting.{Setting}
-use Rattle.form_reader.specs.Reading.{place, without_space, items_after, undotted, after_tail, list_end, completed}
+use Rattle.lisp_reading.specs.Plans.{Plan, gives, refuses, then_plan, Read, fault, run}
+use Rattle.lisp_reading.specs.Calls.{InvokedCall}
+use Rattle.lisp_reading.specs.Setting.{Setting}
+use Rattle.lisp_reading.specs.Reading.{place, without_space, items_after, undotted, after_tail, list_end, completed}
 use Rattle.form_reader.specs.Completing.{plan_of}
 use Rattle.form_reader.specs.Delivering.{Takes, Shortens, Delivers}
 use Rattle.form_reader.specs.Frames.{attempt_in, place_in, call_in, given, between, place_gives, with_object, with_dot, with_found, calls_with, is_next, is_waiting}
 use Rattle.form_reader.proofs.Opened.{space_given, list_is, until_is}
-use Rattle.form_reader.proofs.Turns.{space_same}
+use Rattle.lisp_reading.proofs.Turns.{space_same}
 use Rattle.form_reader.proofs.Beginnings.{given_refused}
 
 abbrev pub framed_by : InvokedCall → Part → Frame

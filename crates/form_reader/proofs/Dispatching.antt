@@ -4,19 +4,19 @@ use Rattle.std.specs.declared.alloc.AllocError.{AllocError}
 use Rattle.lisp_object.specs.declared.refusal.TheConstants.{FORM_TOO_LONG, INVALID_CHARACTER, NO_DISPATCH}
 use Rattle.readtable_core.specs.Characters.{upper_case}
 use Rattle.readtable_core.specs.Tables.{dispatch_at}
-use Rattle.form_reader.specs.declared.found.Found.{Found}
+use Rattle.lisp_reading.specs.declared.found.Found.{Found}
 use Rattle.form_reader.specs.declared.frame.Frame.{Frame}
 use Rattle.form_reader.specs.declared.stage.Event.{Event}
-use Rattle.form_reader.specs.declared.way.Function.{Function}
-use Rattle.form_reader.specs.Plans.{Plan, Read, fault, run}
-use Rattle.form_reader.specs.Calls.{InvokedCall}
-use Rattle.form_reader.specs.Setting.{Setting, function_of}
-use Rattle.form_reader.specs.Reading.{called, sub_called, sub_there, dispatched, number_after}
+use Rattle.lisp_reading.specs.declared.way.Function.{Function}
+use Rattle.lisp_reading.specs.Plans.{Plan, Read, fault, run}
+use Rattle.lisp_reading.specs.Calls.{InvokedCall}
+use Rattle.lisp_reading.specs.Setting.{Setting, function_of}
+use Rattle.lisp_reading.specs.Reading.{called, sub_called, sub_there, dispatched, number_after}
 use Rattle.form_reader.specs.Frames.{given}
 use Rattle.form_reader.specs.Resuming.{inner_at, Brings, Begins}
 use Rattle.form_reader.proofs.Opened.{given_moves, given_fault, gathering_ends}
 use Rattle.form_reader.proofs.Beginnings.{given_refused}
-use Rattle.form_reader.proofs.Fed.{byte_taken, byte_over, byte_invalid}
+use Rattle.lisp_reading.proofs.Fed.{byte_taken, byte_over, byte_invalid}
 
 module _ (setting : Setting) (frames : List Frame) (character at c : ℕ) (number : Option ℕ) (cs : List ℕ) where
   abbrev sub_on : ℕ → Plan Found

@@ -5,12 +5,12 @@ use Rattle.lisp_object.specs.declared.refusal.TheConstants.{END_OF_FILE}
 use Rattle.readtable_core.specs.Tables.{Table}
 use Rattle.token_scan.specs.declared.mark.Mark.{Mark}
 use Rattle.token_scan.specs.Scans.{Scan}
-use Rattle.form_reader.specs.declared.found.Found.{Found}
-use Rattle.form_reader.specs.declared.found.Found.TheVariants.{Nothing as nothing, TheEnd as the_end}
+use Rattle.lisp_reading.specs.declared.found.Found.{Found}
+use Rattle.lisp_reading.specs.declared.found.Found.TheVariants.{Nothing as nothing, TheEnd as the_end}
 use Rattle.form_reader.specs.declared.frame.Frame.{Frame}
-use Rattle.form_reader.specs.declared.limits.Limits.{Limits}
+use Rattle.lisp_reading.specs.declared.limits.Limits.{Limits}
 use Rattle.form_reader.specs.declared.stage.Event.{Event}
-use Rattle.form_reader.specs.declared.way.Keep.{Keep}
+use Rattle.lisp_reading.specs.declared.way.Keep.{Keep}
 use Rattle.form_reader.specs.declared.deliver.Delivered.{Delivered}
 use Rattle.form_reader.specs.declared.deliver.Delivered.TheVariants.{Waits}
 use Rattle.form_reader.specs.declared.ending.ReadOutcome.{ReadOutcome}
@@ -20,19 +20,19 @@ use Rattle.form_reader.specs.declared.turn.Settled.{Settled}
 use Rattle.form_reader.specs.declared.turn.Settled.TheVariants.{Done as SettledDone}
 use Rattle.form_reader.specs.Delivering.{Delivers}
 use Rattle.form_reader.specs.Reader.{IsOutcome}
-use Rattle.form_reader.specs.Plans.{Plan, gives, then_plan, next_byte, loop, Read, fault, run}
-use Rattle.form_reader.specs.Setting.{Setting}
-use Rattle.form_reader.specs.Gathering.{text_turn, line_turn, block_turn, number_turn}
-use Rattle.form_reader.specs.Reading.{Piece, without_space, empty, sub_there, dispatched}
+use Rattle.lisp_reading.specs.Plans.{Plan, gives, then_plan, next_byte, loop, Read, fault, run}
+use Rattle.lisp_reading.specs.Setting.{Setting}
+use Rattle.lisp_reading.specs.Gathering.{text_turn, line_turn, block_turn, number_turn}
+use Rattle.lisp_reading.specs.Reading.{Piece, without_space, empty, sub_there, dispatched}
 use Rattle.form_reader.specs.Feeding.{token_read}
 use Rattle.form_reader.specs.Frames.{attempt_in, place_in, call_in, close_of, given, between, token_goes_on}
 use Rattle.form_reader.specs.Resuming.{inner_at, stage_gives, Brings}
 use Rattle.form_reader.specs.Ending.{TokenStops}
 use Rattle.form_reader.specs.Turning.{outcome_of, Settles}
 use Rattle.form_reader.proofs.Deliveries.{delivered}
-use Rattle.form_reader.proofs.Forms.{reads_is, the_end_there}
-use Rattle.form_reader.proofs.Steps.{and_then, run_then}
-use Rattle.form_reader.proofs.Turns.{loop_is, text_guarded, line_guarded, block_guarded, number_guarded, attempt_ends, place_at_end}
+use Rattle.lisp_reading.proofs.Forms.{reads_is, the_end_there}
+use Rattle.lisp_reading.proofs.Steps.{and_then, run_then}
+use Rattle.lisp_reading.proofs.Turns.{loop_is, text_guarded, line_guarded, block_guarded, number_guarded, attempt_ends, place_at_end}
 use Rattle.form_reader.proofs.Opened.{given_fault, gathering_ends, gathering_fails}
 
 there : (at : ℕ) → at - 0 ≡ at

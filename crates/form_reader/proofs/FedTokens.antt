@@ -15,8 +15,8 @@ use Rattle.token_scan.specs.Scans.{Scan, token_from, fed_gives}
 use Rattle.token_scan.proofs.Standing.{bytes_typed}
 use Rattle.token_scan.proofs.Forwards.{forwards}
 use Rattle.token_meaning.specs.Results.{scan_refusal_number}
-use Rattle.form_reader.specs.Plans.{Read, fault, stands_below, limited}
-use Rattle.form_reader.specs.declared.limits.Limits.{Limits}
+use Rattle.lisp_reading.specs.Plans.{Read, fault, stands_below, limited}
+use Rattle.lisp_reading.specs.declared.limits.Limits.{Limits}
 use Rattle.form_reader.specs.Feeding.{token_read, refused_number}
 
 abbrev pub cut : ℕ → Scanned → Read (List Mark)

@@ -1,11 +1,11 @@
 -- What a byte brings in any open calls, from what it is to what a call gathers.
 use Rattle.std.proofs.Common.{◌≡◌, ℕ, ◌+◌, List, ◌∷◌, Result, Ok, IfOk, sym, ap, subst, ◌∙◌}
 use Rattle.std.specs.declared.alloc.AllocError.{AllocError}
-use Rattle.form_reader.specs.declared.found.Found.{Found}
+use Rattle.lisp_reading.specs.declared.found.Found.{Found}
 use Rattle.form_reader.specs.declared.frame.Frame.{Frame}
 use Rattle.form_reader.specs.declared.stage.Event.{Event}
-use Rattle.form_reader.specs.Plans.{Plan, then_plan, Read, fault, run}
-use Rattle.form_reader.specs.Setting.{Setting}
+use Rattle.lisp_reading.specs.Plans.{Plan, then_plan, Read, fault, run}
+use Rattle.lisp_reading.specs.Setting.{Setting}
 use Rattle.form_reader.specs.Frames.{plan_gives}
 use Rattle.form_reader.specs.Resuming.{Brings}
 use Rattle.form_reader.proofs.Opened.{gathering_moves, gathering_ends, gathering_fails}

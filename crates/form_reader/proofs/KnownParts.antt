@@ -7,7 +7,7 @@ use Rattle.lisp_object.specs.declared.datum.Datum.{Datum}
 use Rattle.lisp_object.specs.Object.{Object, pairs, nil}
 use Rattle.lisp_object.specs.Datum.{object_of}
 use Rattle.package_table.specs.Table.{Table as Packages}
-use Rattle.form_reader.specs.Answering.{are_known}
+use Rattle.lisp_reading.specs.Answering.{are_known}
 
 pub known_pairs : (packages : Packages) (items : List Datum) (end : Object)
     → are_known packages (pairs (map object_of items) end) ≡ (list_all (λ d. are_known packages (object_of d)) items && are_known packages end)

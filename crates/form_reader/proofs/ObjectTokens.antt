@@ -13,24 +13,24 @@ use Rattle.token_scan.specs.Tokens.{kind, typed}
 use Rattle.token_scan.specs.Spelling.{ends_tokens}
 use Rattle.token_scan.specs.Scans.{Scan, begun}
 use Rattle.form_reader.specs.InPlace.{Begins, Stays}
-use Rattle.form_reader.specs.declared.found.Found.{Found}
+use Rattle.lisp_reading.specs.declared.found.Found.{Found}
 use Rattle.form_reader.specs.declared.frame.Frame.{Frame}
 use Rattle.form_reader.specs.declared.macros.Moved.{Moved}
 use Rattle.form_reader.specs.declared.stage.Event.{Event}
 use Rattle.form_reader.specs.declared.stage.Stage.{Stage}
-use Rattle.form_reader.specs.declared.limits.Limits.{Limits}
+use Rattle.lisp_reading.specs.declared.limits.Limits.{Limits}
 use Rattle.form_reader.specs.declared.stage.FirstByte.{FirstByte}
-use Rattle.form_reader.specs.declared.told.Told.{Told}
+use Rattle.lisp_reading.specs.declared.told.Told.{Told}
 use Rattle.form_reader.specs.Begun.{FirstFeeds}
-use Rattle.form_reader.specs.Plans.{Plan, Read, fault, run}
-use Rattle.form_reader.specs.Setting.{Setting}
-use Rattle.form_reader.specs.declared.told.TellError.{TellError}
-use Rattle.form_reader.specs.declared.told.TellError.TheVariants.{Refused as TellRefused}
-use Rattle.form_reader.specs.Naming.{told, told_of, Tells}
+use Rattle.lisp_reading.specs.Plans.{Plan, Read, fault, run}
+use Rattle.lisp_reading.specs.Setting.{Setting}
+use Rattle.lisp_reading.specs.declared.told.TellError.{TellError}
+use Rattle.lisp_reading.specs.declared.told.TellError.TheVariants.{Refused as TellRefused}
+use Rattle.lisp_reading.specs.Naming.{told, told_of, Tells}
 use Rattle.token_meaning.specs.Meanings.{meaning_of}
 use Rattle.token_meaning.specs.Folding.{folded}
 use Rattle.readtable_core.specs.declared.table.Case.{Case}
-use Rattle.form_reader.specs.Reading.{closed, is_whitespace, without_space, stands_alone, told_found, token_found}
+use Rattle.lisp_reading.specs.Reading.{closed, is_whitespace, without_space, stands_alone, told_found, token_found}
 use Rattle.form_reader.specs.Feeding.{token_read}
 use Rattle.form_reader.specs.Frames.{close_of, close_of_frames, call_in, given, between, token_goes_on}
 use Rattle.form_reader.specs.Resuming.{attempt_at, stage_gives, Brings, Moves}

@@ -4,17 +4,17 @@ use Rattle.std.specs.Prelude.{nat_le}
 use Rattle.lisp_object.specs.Object.{Object}
 use Rattle.lisp_object.specs.declared.refusal.TheConstants.{FORM_TOO_LONG}
 use Rattle.readtable_core.specs.Tables.{Table}
-use Rattle.form_reader.specs.declared.limits.Limits.{Limits}
-use Rattle.form_reader.specs.declared.found.Found.{Found}
+use Rattle.lisp_reading.specs.declared.limits.Limits.{Limits}
+use Rattle.lisp_reading.specs.declared.found.Found.{Found}
 use Rattle.form_reader.specs.declared.frame.Frame.{Frame}
 use Rattle.form_reader.specs.declared.frame.Part.TheVariants.{List as InList, Until as InUntil}
-use Rattle.form_reader.specs.Plans.{Plan, takes, then_plan, Fault, Read, within, run}
-use Rattle.form_reader.specs.Calls.{InvokedCall}
-use Rattle.form_reader.specs.Setting.{Setting}
-use Rattle.form_reader.specs.Reading.{Piece, is_whitespace, without_space, at_place, place, Items, items_step, items_turn, items_after, undotted, list_end, completed}
+use Rattle.lisp_reading.specs.Plans.{Plan, takes, then_plan, Fault, Read, within, run}
+use Rattle.lisp_reading.specs.Calls.{InvokedCall}
+use Rattle.lisp_reading.specs.Setting.{Setting}
+use Rattle.lisp_reading.specs.Reading.{Piece, is_whitespace, without_space, at_place, place, Items, items_step, items_turn, items_after, undotted, list_end, completed}
 use Rattle.form_reader.specs.Frames.{attempt_in, place_in, call_in, given, between}
-use Rattle.form_reader.proofs.Steps.{and_then, run_then}
-use Rattle.form_reader.proofs.Turns.{Ends, attempt_ends, loop_is, items_guarded}
+use Rattle.lisp_reading.proofs.Steps.{and_then, run_then}
+use Rattle.lisp_reading.proofs.Turns.{Ends, attempt_ends, loop_is, items_guarded}
 
 -- where two plans give the same, each at its place, so do these with the next plan after them
 pub then_moves : {A B : Type 0} (table : Table) (limits : Limits) (p q : Plan A) (next : A → Plan B) (at to : ℕ) (cs ds : List ℕ)

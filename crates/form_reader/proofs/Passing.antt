@@ -1,7 +1,7 @@
 -- What a byte is that ended a token, or was taken, carried on to the whole.
 use Rattle.std.proofs.Common.{◌≡◌, ℕ, ◌+◌, List, ◌∷◌, Result, IfOk, sym, ap, subst, ◌∙◌}
 use Rattle.std.specs.declared.alloc.AllocError.{AllocError}
-use Rattle.form_reader.specs.declared.found.Found.{Found}
+use Rattle.lisp_reading.specs.declared.found.Found.{Found}
 use Rattle.form_reader.specs.declared.frame.Frame.{Frame}
 use Rattle.form_reader.specs.declared.macros.Moved.{Moved}
 use Rattle.form_reader.specs.declared.macros.Moved.TheVariants.{Before as IsBefore}
@@ -9,8 +9,8 @@ use Rattle.form_reader.specs.declared.objects.Passed.{Passed}
 use Rattle.form_reader.specs.declared.objects.Passed.TheVariants.{Taken as PassedTaken}
 use Rattle.form_reader.specs.declared.stage.Event.{Event}
 use Rattle.form_reader.specs.declared.stage.Event.TheVariants.{Gives as IsGiven}
-use Rattle.form_reader.specs.Plans.{gives, Read}
-use Rattle.form_reader.specs.Setting.{Setting}
+use Rattle.lisp_reading.specs.Plans.{gives, Read}
+use Rattle.lisp_reading.specs.Setting.{Setting}
 use Rattle.form_reader.specs.Delivering.{Passes}
 use Rattle.form_reader.specs.Frames.{plan_gives}
 use Rattle.form_reader.specs.Resuming.{Brings, Moves}

@@ -5,7 +5,7 @@ use Rattle.lisp_object.specs.declared.datum.Datum.{Datum}
 use Rattle.lisp_object.specs.Object.{Object, IsSound}
 use Rattle.lisp_object.specs.Datum.{object_of, is_proper}
 use Rattle.form_reader.specs.declared.frame.Frame.{Frame}
-use Rattle.form_reader.specs.declared.limits.Limits.{Limits}
+use Rattle.lisp_reading.specs.declared.limits.Limits.{Limits}
 use Rattle.form_reader.specs.declared.reader.FormReader.{FormReader}
 use Rattle.form_reader.specs.declared.reader.State.{State}
 use Rattle.form_reader.specs.declared.reader.State.TheVariants.{Open, Refused, OutOfMemory}
@@ -15,23 +15,23 @@ use Rattle.form_reader.specs.declared.stage.Stage.{Stage}
 use Rattle.form_reader.specs.declared.stage.Stage.TheVariants.{Object as AtObject}
 use Rattle.form_reader.specs.declared.turn.Turn.{Turn}
 use Rattle.form_reader.specs.declared.turn.Turn.TheVariants.{Goes, Form as TurnForm, Refused as TurnRefused}
-use Rattle.form_reader.specs.declared.found.Found.{Found}
-use Rattle.form_reader.specs.declared.found.Found.TheVariants.{Nothing as nothing, One as one, LoneDot as lone_dot, TheEnd as the_end}
-use Rattle.form_reader.specs.Plans.{Read}
+use Rattle.lisp_reading.specs.declared.found.Found.{Found}
+use Rattle.lisp_reading.specs.declared.found.Found.TheVariants.{Nothing as nothing, One as one, LoneDot as lone_dot, TheEnd as the_end}
+use Rattle.lisp_reading.specs.Plans.{Read}
 use Rattle.std.specs.declared.alloc.AllocError.{AllocError}
 use Rattle.form_reader.specs.declared.objects.Passed.{Passed}
 use Rattle.form_reader.specs.declared.objects.Passed.TheVariants.{Done as PassedDone}
 use Rattle.form_reader.specs.Delivering.{Passes}
 use Rattle.form_reader.specs.Resuming.{stage_gives}
-use Rattle.form_reader.specs.Setting.{Setting}
-use Rattle.form_reader.specs.Reading.{form, refused, reads}
+use Rattle.lisp_reading.specs.Setting.{Setting}
+use Rattle.lisp_reading.specs.Reading.{form, refused, reads}
 use Rattle.form_reader.specs.declared.in_place.InPlace.{InPlace}
 use Rattle.form_reader.specs.declared.in_place.InPlace.TheVariants.{Taken as InPlaceTaken, Passed as InPlacePassed, Left as InPlaceLeft, Refused as InPlaceRefused}
 use Rattle.form_reader.specs.InPlace.{FeedsInPlace, IsReadyInPlace}
 use Rattle.form_reader.specs.Turning.{outcome_of, rest_of, TurnsTo, IsStanding, IsReadyTurn, BeginsFrom}
 use Rattle.form_reader.specs.Reader.{fed, begun, MayGoOn, DecideNothing, IsNew, IsAfter, IsAfterIn, Steps, BeginsLater, IsSoundStep, Takes}
 use Rattle.form_reader.proofs.Deciding.{may_go_on, decide_nothing}
-use Rattle.form_reader.proofs.Forms.{reads_is, stood}
+use Rattle.lisp_reading.proofs.Forms.{reads_is, stood}
 
 -- a reader that was fed nothing is after no bytes
 pub new_rest : (setting : Setting) (frames : List Frame) → frames ≡ [] → (cs : List ℕ) → reads setting cs ≡ rest_of setting frames AtObject 0 0 cs

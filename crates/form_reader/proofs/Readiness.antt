@@ -2,12 +2,12 @@
 use Rattle.std.proofs.Common.{◌≡◌, ℕ, ◌≤◌, Bool, true, false, Result, Ok, Err, IfOk, refl, subst, arith}
 use Rattle.std.specs.Prelude.{◌||◌}
 use Rattle.std.specs.declared.alloc.AllocError.{AllocError}
-use Rattle.form_reader.specs.declared.limits.Limits.{Limits}
+use Rattle.lisp_reading.specs.declared.limits.Limits.{Limits}
 use Rattle.form_reader.specs.declared.stage.Event.{Event}
 use Rattle.form_reader.specs.declared.stage.Event.TheVariants.{Stage as IsAt, Gives as IsGiven, Refused as IsRefused}
 use Rattle.form_reader.specs.declared.deliver.Taken.{Taken}
 use Rattle.form_reader.specs.declared.deliver.Taken.TheVariants.{Stays, Gives, Refused}
-use Rattle.form_reader.specs.declared.found.Found.{Found}
+use Rattle.lisp_reading.specs.declared.found.Found.{Found}
 use Rattle.form_reader.specs.Ready.{space, lookahead, IsReady, IsEnd, IsTakenAt}
 
 -- a call that ends with a byte, and no token in it

@@ -5,15 +5,15 @@ use Rattle.std.specs.Prelude.{nat_lt, ◌&&◌, not}
 use Rattle.readtable_core.specs.declared.characters.Syntax.{Syntax}
 use Rattle.readtable_core.specs.declared.characters.Syntax.TheVariants.{Whitespace, Constituent, TerminatingMacro, NonTerminatingMacro, SingleEscape, MultipleEscape, Invalid}
 use Rattle.readtable_core.specs.Tables.{entry_at}
-use Rattle.form_reader.specs.declared.found.Found.TheVariants.{Nothing as nothing}
+use Rattle.lisp_reading.specs.declared.found.Found.TheVariants.{Nothing as nothing}
 use Rattle.form_reader.specs.declared.frame.Frame.{Frame}
 use Rattle.form_reader.specs.declared.stage.Stage.{Stage}
 use Rattle.form_reader.specs.declared.stage.Stage.TheVariants.{Object as AtObject}
 use Rattle.form_reader.specs.declared.in_place.InPlace.{InPlace}
 use Rattle.form_reader.specs.InPlace.{FeedsInPlace}
-use Rattle.form_reader.specs.Plans.{run}
-use Rattle.form_reader.specs.Setting.{Setting}
-use Rattle.form_reader.specs.Reading.{is_blank, is_whitespace, stands_alone}
+use Rattle.lisp_reading.specs.Plans.{run}
+use Rattle.lisp_reading.specs.Setting.{Setting}
+use Rattle.lisp_reading.specs.Reading.{is_blank, is_whitespace, stands_alone}
 use Rattle.form_reader.specs.Frames.{close_of_frames, is_closed_by, given}
 use Rattle.form_reader.specs.InPlace.{is_space}
 use Rattle.form_reader.specs.Turning.{outcome_of, rest_of}

@@ -4,7 +4,7 @@ use Rattle.std.specs.Prelude.{option_map}
 use mathlib.Core.List.{reverse_aux}
 use Rattle.std.specs.declared.alloc.AllocError.{AllocError}
 use Rattle.package_table.proofs.Undoing.{IsLast, at_last}
-use Rattle.form_reader.specs.declared.found.Found.{Found}
+use Rattle.lisp_reading.specs.declared.found.Found.{Found}
 use Rattle.form_reader.specs.declared.frame.Frame.{Frame}
 use Rattle.form_reader.specs.declared.frame.Part.{Part}
 use Rattle.form_reader.specs.Frames.{with_found, calls_with}

@@ -32,31 +32,31 @@ use Rattle.std_macros.specs.declared.refusal.StdRefusal.{StdRefusal}
 use Rattle.std_macros.specs.declared.refusal.StdRefusal.TheVariants.{StrayClose, Rational, NumericArgument, CharacterName, RadixToken, VectorLength, UninternedToken, OutOfProfile}
 use Rattle.std_macros.specs.Results.{std_refusal_number}
 use Rattle.std_macros.specs.Values.{Value, value_of, Material, one as one_object, many, dotted, letters, marked}
-use Rattle.form_reader.specs.declared.found.Found.{Found}
-use Rattle.form_reader.specs.declared.found.Found.TheVariants.{Nothing as nothing, One as one, LoneDot as lone_dot, TheEnd as the_end}
+use Rattle.lisp_reading.specs.declared.found.Found.{Found}
+use Rattle.lisp_reading.specs.declared.found.Found.TheVariants.{Nothing as nothing, One as one, LoneDot as lone_dot, TheEnd as the_end}
 use Rattle.form_reader.specs.declared.frame.Frame.{Frame}
 use Rattle.form_reader.specs.declared.frame.Part.{Part}
 use Rattle.form_reader.specs.declared.frame.Part.TheVariants.{Next as InNext, List as InList, Until as InUntil, Dotted as InDotted, Tailed as InTailed}
-use Rattle.form_reader.specs.declared.limits.Limits.{Limits}
+use Rattle.lisp_reading.specs.declared.limits.Limits.{Limits}
 use Rattle.form_reader.specs.declared.stage.Stage.{Stage}
 use Rattle.form_reader.specs.declared.stage.Stage.TheVariants.{Object as AtObject, Token as AtToken, CallToken as AtCallToken, Text as AtText, Escaped as AtEscaped, Line as AtLine, Block as AtBlock, Number as AtNumber}
-use Rattle.form_reader.specs.declared.told.Told.{Told}
-use Rattle.form_reader.specs.declared.told.Told.TheVariants.{Object as told_object, Dot as dot_alone}
-use Rattle.form_reader.specs.declared.way.Function.{Function}
-use Rattle.form_reader.specs.declared.way.Function.TheVariants.{Standard as AStandard, User}
-use Rattle.form_reader.specs.Plans.{Plan, gives, refuses, takes, scans, then_plan, next_byte, character, loop_in, loop, Read, scanned, limited, run}
-use Rattle.form_reader.specs.Calls.{InvokedCall, keep_of}
-use Rattle.form_reader.specs.Setting.{Setting, macro_call}
-use Rattle.form_reader.specs.Gathering.{text_turn, line_turn, block_turn, number_turn}
-use Rattle.form_reader.specs.Naming.{symbol_in, symbol_at, named, told_of, told}
-use Rattle.form_reader.specs.Answering.{may_be_answered}
+use Rattle.lisp_reading.specs.declared.told.Told.{Told}
+use Rattle.lisp_reading.specs.declared.told.Told.TheVariants.{Object as told_object, Dot as dot_alone}
+use Rattle.lisp_reading.specs.declared.way.Function.{Function}
+use Rattle.lisp_reading.specs.declared.way.Function.TheVariants.{Standard as AStandard, User}
+use Rattle.lisp_reading.specs.Plans.{Plan, gives, refuses, takes, scans, then_plan, next_byte, character, loop_in, loop, Read, scanned, limited, run}
+use Rattle.lisp_reading.specs.Calls.{InvokedCall, keep_of}
+use Rattle.lisp_reading.specs.Setting.{Setting, macro_call}
+use Rattle.lisp_reading.specs.Gathering.{text_turn, line_turn, block_turn, number_turn}
+use Rattle.lisp_reading.specs.Naming.{symbol_in, symbol_at, named, told_of, told}
+use Rattle.lisp_reading.specs.Answering.{may_be_answered}
 use Rattle.form_reader.specs.Feeding.{is_going}
 use Rattle.form_reader.specs.Frames.{place_in, part_gives, call_in, given, between, token_goes_on}
-use Rattle.form_reader.specs.Reading.{Piece, item, dot, closed, is_whitespace, without_space, at_place, or_closed, place_turn, place, Items, items_step, items_turn, items_after, undotted, after_tail, after_dot, list_end, bytes_back, finished, answered, completed_by, completed, text_to, line_after, block_after, number_after, sub_there, dispatched, told_found, token_found, attempt, Outcome, form, empty, refused}
+use Rattle.lisp_reading.specs.Reading.{Piece, item, dot, closed, is_whitespace, without_space, at_place, or_closed, place_turn, place, Items, items_step, items_turn, items_after, undotted, after_tail, after_dot, list_end, bytes_back, finished, answered, completed_by, completed, text_to, line_after, block_after, number_after, sub_there, dispatched, told_found, token_found, attempt, Outcome, form, empty, refused}
 use Rattle.form_reader.specs.Resuming.{IsStageAt, inner_at, stage_gives}
 use Rattle.form_reader.specs.Turning.{outcome_of}
 use Rattle.form_reader.proofs.FedTokens.{cut, refused_cut}
-use Rattle.form_reader.proofs.Forms.{reads_is, the_end_there}
+use Rattle.lisp_reading.proofs.Forms.{reads_is, the_end_there}
 
 -- the numbers of a byte that is no character, and of one too many
 abbrev pub blames_byte : ℕ → Bool

@@ -1,23 +1,23 @@
 -- What a turn is to the outcome, from what a byte brings.
 use Rattle.std.proofs.Common.{◌≡◌, ℕ, ◌+◌, ◌≤◌, Bool, List, [], ◌∷◌, length, Result, Ok, IfOk, sym, ap, subst, ◌∙◌}
-use Rattle.form_reader.specs.declared.found.Found.{Found}
-use Rattle.form_reader.specs.declared.found.Found.TheVariants.{Nothing as nothing}
+use Rattle.lisp_reading.specs.declared.found.Found.{Found}
+use Rattle.lisp_reading.specs.declared.found.Found.TheVariants.{Nothing as nothing}
 use Rattle.form_reader.specs.declared.frame.Frame.{Frame}
-use Rattle.form_reader.specs.declared.limits.Limits.{Limits}
+use Rattle.lisp_reading.specs.declared.limits.Limits.{Limits}
 use Rattle.form_reader.specs.declared.stage.Stage.TheVariants.{Object as AtObject}
 use Rattle.form_reader.specs.declared.turn.Settled.{Settled}
 use Rattle.form_reader.specs.declared.turn.Settled.TheVariants.{Done as SettledDone}
 use Rattle.form_reader.specs.declared.turn.Turn.{Turn}
-use Rattle.form_reader.specs.Plans.{Read, run}
-use Rattle.form_reader.specs.Setting.{Setting}
+use Rattle.lisp_reading.specs.Plans.{Read, run}
+use Rattle.lisp_reading.specs.Setting.{Setting}
 use Rattle.std.specs.declared.alloc.AllocError.{AllocError}
 use Rattle.form_reader.specs.declared.objects.Passed.{Passed}
 use Rattle.form_reader.specs.declared.objects.Passed.TheVariants.{Done as PassedDone}
 use Rattle.form_reader.specs.Delivering.{Passes}
 use Rattle.form_reader.specs.Frames.{between}
-use Rattle.form_reader.specs.Reading.{Outcome}
+use Rattle.lisp_reading.specs.Reading.{Outcome}
 use Rattle.form_reader.specs.Turning.{outcome_of, rest_of, Settles, TurnsTo, IsReadySettled}
-use Rattle.form_reader.proofs.Forms.{reads_is}
+use Rattle.lisp_reading.proofs.Forms.{reads_is}
 
 -- ---- what the outermost attempt comes to
 

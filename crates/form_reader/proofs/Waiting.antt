@@ -1,7 +1,7 @@
 -- Where a reader waits for more, no outcome is that of every text that begins with the bytes.
 use Rattle.std.proofs.Common.{◌≡◌, ℕ, List, [], ◌∷◌, ◌++◌, sym, ap, ◌∙◌, append-nil}
-use Rattle.form_reader.specs.Setting.{Setting}
-use Rattle.form_reader.specs.Reading.{Outcome, reads}
+use Rattle.lisp_reading.specs.Setting.{Setting}
+use Rattle.lisp_reading.specs.Reading.{Outcome, reads}
 use Rattle.form_reader.specs.Reader.{DecideNothing}
 
 pub undecided : (setting : Setting) (bytes : List ℕ) (o : Outcome) → DecideNothing setting bytes → ((cs : List ℕ) → reads setting (bytes ++ cs) ≡ o) → ⊥

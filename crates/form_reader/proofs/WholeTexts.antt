@@ -4,10 +4,10 @@ use Rattle.std.proofs.lemmas.List.{length-take-le}
 use Rattle.std.specs.Prelude.{◌&&◌}
 use Rattle.std.specs.List.{list_all}
 use Rattle.form_reader.specs.declared.reader.FormReader.{FormReader}
-use Rattle.form_reader.specs.declared.limits.Limits.{Limits}
+use Rattle.lisp_reading.specs.declared.limits.Limits.{Limits}
 use Rattle.form_reader.specs.declared.reader.Step.{Step}
 use Rattle.form_reader.specs.declared.reader.Step.TheVariants.{More as StepMore}
-use Rattle.form_reader.specs.Setting.{Setting}
+use Rattle.lisp_reading.specs.Setting.{Setting}
 use Rattle.form_reader.specs.Reader.{fed, IsAfter, Steps}
 
 -- What a step says of a text, where the reader holds the limits that it was handed.

@@ -3,12 +3,12 @@ use Rattle.std.specs.Prelude.{ℕ, ◌≡◌, ◌+◌, ◌<◌, List, ◌∷◌,
 use Rattle.readtable_core.specs.Tables.{Table}
 use Rattle.token_scan.specs.declared.mark.Mark.{Mark}
 use Rattle.token_scan.specs.Marks.{are_ascii}
-use Rattle.form_reader.specs.declared.limits.Limits.{Limits}
+use Rattle.lisp_reading.specs.declared.limits.Limits.{Limits}
 use Rattle.form_reader.specs.declared.stage.BegunByte.{BegunByte}
 use Rattle.form_reader.specs.declared.stage.BegunByte.TheVariants.{More, Ended, Refused}
 use Rattle.form_reader.specs.declared.stage.FirstByte.{FirstByte}
 use Rattle.form_reader.specs.declared.stage.FirstByte.TheVariants.{More as FirstMore, Refused as FirstRefused}
-use Rattle.form_reader.specs.Plans.{Read, fault}
+use Rattle.lisp_reading.specs.Plans.{Read, fault}
 use Rattle.form_reader.specs.Feeding.{token_read}
 
 abbrev pub BegunFeeds : Table → Limits → ℕ → ℕ → List ℕ → BegunByte → Read (List Mark) → Type 0

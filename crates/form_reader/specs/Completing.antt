@@ -1,8 +1,8 @@
 -- What the calls of functions answer.
 use Rattle.form_reader.specs.declared.complete.Completed.{Completed}
 use Rattle.form_reader.specs.declared.complete.Completed.TheVariants.{Gives, Refused}
-use Rattle.form_reader.specs.declared.found.Found.{Found}
-use Rattle.form_reader.specs.Plans.{Plan, gives, refuses}
+use Rattle.lisp_reading.specs.declared.found.Found.{Found}
+use Rattle.lisp_reading.specs.Plans.{Plan, gives, refuses}
 
 -- the plan that was found
 abbrev pub plan_of : Completed → Plan Found

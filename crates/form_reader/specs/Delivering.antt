@@ -6,11 +6,11 @@ use Rattle.form_reader.specs.declared.deliver.Taken.{Taken}
 use Rattle.form_reader.specs.declared.deliver.Taken.TheVariants.{Stays, Gives, Refused as TakenRefused}
 use Rattle.form_reader.specs.declared.objects.Passed.{Passed}
 use Rattle.form_reader.specs.declared.objects.Passed.TheVariants.{Taken as PassedTaken, Done as PassedDone}
-use Rattle.form_reader.specs.declared.found.Found.{Found}
-use Rattle.form_reader.specs.declared.found.Found.TheVariants.{Nothing as nothing, One as one, LoneDot as lone_dot, TheEnd as the_end}
+use Rattle.lisp_reading.specs.declared.found.Found.{Found}
+use Rattle.lisp_reading.specs.declared.found.Found.TheVariants.{Nothing as nothing, One as one, LoneDot as lone_dot, TheEnd as the_end}
 use Rattle.form_reader.specs.declared.frame.Frame.{Frame}
-use Rattle.form_reader.specs.Plans.{Read, fault, gives}
-use Rattle.form_reader.specs.Setting.{Setting}
+use Rattle.lisp_reading.specs.Plans.{Read, fault, gives}
+use Rattle.lisp_reading.specs.Setting.{Setting}
 use Rattle.form_reader.specs.Frames.{plan_gives, place_gives}
 use Rattle.form_reader.specs.Resuming.{Brings}
 

@@ -3,13 +3,13 @@ use Rattle.std.specs.Prelude.{ℕ, ◌≡◌, ◌≤◌, [], Ok, Option, Some, N
 use Rattle.readtable_core.specs.Tables.{Table}
 use Rattle.token_scan.specs.Scans.{Scan}
 use Rattle.token_scan.specs.declared.stage.Stage.TheVariants.{Outside}
-use Rattle.form_reader.specs.declared.limits.Limits.{Limits}
+use Rattle.lisp_reading.specs.declared.limits.Limits.{Limits}
 use Rattle.form_reader.specs.declared.stage.Event.{Event}
 use Rattle.form_reader.specs.declared.stage.Event.TheVariants.{Stage as IsAt, Gives as IsGiven, Refused as IsRefused}
 use Rattle.form_reader.specs.declared.stage.Stage.TheVariants.{Object as AtObject}
 use Rattle.form_reader.specs.declared.turn.Settled.{Settled}
 use Rattle.form_reader.specs.declared.turn.Settled.TheVariants.{Open as SettledOpen, Done as SettledDone, Refused as SettledRefused}
-use Rattle.form_reader.specs.Plans.{fault}
+use Rattle.lisp_reading.specs.Plans.{fault}
 use Rattle.form_reader.specs.Feeding.{token_read}
 
 -- it ends the token; or the token is refused

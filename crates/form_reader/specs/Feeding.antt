@@ -13,10 +13,10 @@ use Rattle.form_reader.specs.declared.bytes.TextByte.{TextByte}
 use Rattle.form_reader.specs.declared.bytes.TextByte.TheVariants.{More as TextMore, Escape as TextEscape, Ended as TextEnded, Refused as TextRefused}
 use Rattle.form_reader.specs.declared.bytes.LineByte.{LineByte}
 use Rattle.form_reader.specs.declared.bytes.LineByte.TheVariants.{More as LineMore, Ended as LineEnded, Refused as LineRefused}
-use Rattle.form_reader.specs.declared.limits.Limits.{Limits}
-use Rattle.form_reader.specs.declared.way.Keep.{Keep}
-use Rattle.form_reader.specs.Plans.{Read, fault, limited, loop, next_byte, run}
-use Rattle.form_reader.specs.Gathering.{text_turn, line_turn, block_turn, number_turn}
+use Rattle.lisp_reading.specs.declared.limits.Limits.{Limits}
+use Rattle.lisp_reading.specs.declared.way.Keep.{Keep}
+use Rattle.lisp_reading.specs.Plans.{Read, fault, limited, loop, next_byte, run}
+use Rattle.lisp_reading.specs.Gathering.{text_turn, line_turn, block_turn, number_turn}
 
 -- in a text, which has these characters then
 abbrev pub TextFeeds : Table → Limits → ℕ → List ℕ → ℕ → List ℕ → TextByte → Read (List ℕ) → Type 0

@@ -4,13 +4,13 @@ use Rattle.form_reader.specs.Turning.{rest_of}
 use Rattle.form_reader.specs.declared.frame.Frame.{Frame}
 use Rattle.form_reader.specs.declared.in_place.InPlace.{InPlace}
 use Rattle.form_reader.specs.declared.in_place.InPlace.TheVariants.{Taken, Passed, Left, Refused}
-use Rattle.form_reader.specs.declared.limits.Limits.{Limits}
+use Rattle.lisp_reading.specs.declared.limits.Limits.{Limits}
 use Rattle.form_reader.specs.declared.stage.Stage.{Stage}
 use Rattle.form_reader.specs.declared.stage.Stage.TheVariants.{Object as AtObject, Token as AtToken}
 use Rattle.token_scan.specs.Scans.{Scan}
-use Rattle.form_reader.specs.Plans.{fault}
-use Rattle.form_reader.specs.Setting.{Setting}
-use Rattle.form_reader.specs.Reading.{is_whitespace}
+use Rattle.lisp_reading.specs.Plans.{fault}
+use Rattle.lisp_reading.specs.Setting.{Setting}
+use Rattle.lisp_reading.specs.Reading.{is_whitespace}
 use Rattle.form_reader.specs.Frames.{close_of_frames, is_closed_by}
 use Rattle.form_reader.specs.Resuming.{IsStageAt, stage_gives}
 

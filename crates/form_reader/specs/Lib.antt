@@ -1,14 +1,4 @@
-pub mod Plans
-pub mod Gathering
-pub mod Calls
-pub mod Setting
 pub mod Surrounding
-pub mod Naming
-pub mod Answering
-pub mod Reading
-pub mod Fitting
-pub mod Discarding
-pub mod Depending
 pub mod Frames
 pub mod Completing
 pub mod Feeding

@@ -1,7 +1,7 @@
 -- Which ways of gathering read objects.
 use Rattle.std.specs.Prelude.{Bool, true, false}
-use Rattle.form_reader.specs.declared.way.Way.{Way}
-use Rattle.form_reader.specs.declared.way.Way.TheVariants.{Next, List, Until}
+use Rattle.lisp_reading.specs.declared.way.Way.{Way}
+use Rattle.lisp_reading.specs.declared.way.Way.TheVariants.{Next, List, Until}
 
 abbrev pub reads_objects : Way → Bool
 reads_objects Next = true

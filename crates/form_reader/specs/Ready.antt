@@ -6,9 +6,9 @@ use Rattle.form_reader.specs.declared.deliver.Delivered.{Delivered}
 use Rattle.form_reader.specs.declared.deliver.Delivered.TheVariants.{Waits, Done, Refused as DeliveredRefused}
 use Rattle.form_reader.specs.declared.deliver.Taken.{Taken}
 use Rattle.form_reader.specs.declared.deliver.Taken.TheVariants.{Stays, Gives as TakenGives, Refused as TakenRefused}
-use Rattle.form_reader.specs.declared.found.Found.{Found}
-use Rattle.form_reader.specs.declared.found.Found.TheVariants.{Nothing as nothing, One as one, LoneDot as lone_dot, TheEnd as the_end}
-use Rattle.form_reader.specs.declared.limits.Limits.{Limits}
+use Rattle.lisp_reading.specs.declared.found.Found.{Found}
+use Rattle.lisp_reading.specs.declared.found.Found.TheVariants.{Nothing as nothing, One as one, LoneDot as lone_dot, TheEnd as the_end}
+use Rattle.lisp_reading.specs.declared.limits.Limits.{Limits}
 use Rattle.form_reader.specs.declared.macros.Moved.{Moved}
 use Rattle.form_reader.specs.declared.macros.Moved.TheVariants.{Taken as IsTaken, Before as IsBefore}
 use Rattle.form_reader.specs.declared.objects.Passed.{Passed}

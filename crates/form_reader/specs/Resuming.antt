@@ -1,21 +1,21 @@
 -- Where a reader is in its innermost call, and what is given there on a text.
 use Rattle.std.specs.Prelude.{ℕ, ◌≡◌, ◌+◌, ◌-◌, ◌≤◌, false, true, List, [], ◌∷◌, ◌++◌, length, Option, IsTrue}
 use Rattle.std_macros.specs.Values.{letters, marked, nothing as no_material}
-use Rattle.form_reader.specs.declared.found.Found.{Found}
+use Rattle.lisp_reading.specs.declared.found.Found.{Found}
 use Rattle.form_reader.specs.declared.frame.Frame.{Frame}
 use Rattle.form_reader.specs.declared.stage.Stage.{Stage}
 use Rattle.form_reader.specs.declared.stage.Stage.TheVariants.{Object as AtObject, Token as AtToken, CallToken as AtCallToken, Text as AtText, Escaped as AtEscaped, Line as AtLine, Block as AtBlock, Number as AtNumber}
 use Rattle.form_reader.specs.declared.stage.Event.{Event}
 use Rattle.form_reader.specs.declared.stage.Event.TheVariants.{Stage as IsAt, Gives as IsGiven, Refused as IsRefused}
 use Rattle.form_reader.specs.declared.complete.Completed.{Completed}
-use Rattle.form_reader.specs.declared.way.Way.{Way}
-use Rattle.form_reader.specs.Calls.{InvokedCall, keep_of}
+use Rattle.lisp_reading.specs.declared.way.Way.{Way}
+use Rattle.lisp_reading.specs.Calls.{InvokedCall, keep_of}
 use Rattle.form_reader.specs.Completing.{plan_of}
 use Rattle.form_reader.specs.declared.macros.Moved.{Moved}
 use Rattle.form_reader.specs.declared.macros.Moved.TheVariants.{Taken as IsTaken, Before as IsBefore}
-use Rattle.form_reader.specs.Plans.{Plan, gives, then_plan, next_byte, Read, fault, run}
-use Rattle.form_reader.specs.Setting.{Setting}
-use Rattle.form_reader.specs.Reading.{text_to, line_after, block_after, dispatched, completed, gathered, called, token_found, attempt, inner}
+use Rattle.lisp_reading.specs.Plans.{Plan, gives, then_plan, next_byte, Read, fault, run}
+use Rattle.lisp_reading.specs.Setting.{Setting}
+use Rattle.lisp_reading.specs.Reading.{text_to, line_after, block_after, dispatched, completed, gathered, called, token_found, attempt, inner}
 use Rattle.form_reader.specs.Feeding.{is_going, token_read}
 use Rattle.form_reader.specs.Frames.{between, plan_gives, token_goes_on}
 

@@ -1,7 +1,7 @@
 -- The setting of what reading is handed.
 use Rattle.user_macros.specs.Functions.{Functions}
 use Rattle.form_reader.specs.declared.surroundings.Surroundings.{Surroundings}
-use Rattle.form_reader.specs.Setting.{Setting, setting_of}
+use Rattle.lisp_reading.specs.Setting.{Setting, setting_of}
 
 -- reading with this, where these are the functions that are registered
 abbrev pub setting : {R : Type 0} → (R → Functions) → Surroundings R → Setting

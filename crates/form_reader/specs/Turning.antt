@@ -1,17 +1,17 @@
 -- What one byte, and the end of the text, are to a reader that takes one byte at a time: by the outcome of the whole text.
 use Rattle.std.specs.Prelude.{ℕ, ◌≡◌, ◌+◌, ◌≤◌, List, [], length, Ok}
-use Rattle.form_reader.specs.declared.found.Found.{Found}
+use Rattle.lisp_reading.specs.declared.found.Found.{Found}
 use Rattle.form_reader.specs.declared.frame.Frame.{Frame}
-use Rattle.form_reader.specs.declared.limits.Limits.{Limits}
+use Rattle.lisp_reading.specs.declared.limits.Limits.{Limits}
 use Rattle.form_reader.specs.declared.stage.Stage.{Stage}
 use Rattle.form_reader.specs.declared.stage.Stage.TheVariants.{Object as AtObject}
 use Rattle.form_reader.specs.declared.turn.Settled.{Settled}
 use Rattle.form_reader.specs.declared.turn.Settled.TheVariants.{Open as SettledOpen, Done as SettledDone, Refused as SettledRefused}
 use Rattle.form_reader.specs.declared.turn.Turn.{Turn}
 use Rattle.form_reader.specs.declared.turn.Turn.TheVariants.{Goes, Form, Refused}
-use Rattle.form_reader.specs.Plans.{Read, fault}
-use Rattle.form_reader.specs.Setting.{Setting}
-use Rattle.form_reader.specs.Reading.{Outcome, form, refused, outcome, reads_at}
+use Rattle.lisp_reading.specs.Plans.{Read, fault}
+use Rattle.lisp_reading.specs.Setting.{Setting}
+use Rattle.lisp_reading.specs.Reading.{Outcome, form, refused, outcome, reads_at}
 use Rattle.form_reader.specs.Resuming.{IsStageAt, stage_gives}
 use Rattle.form_reader.specs.Ready.{lookahead}
 

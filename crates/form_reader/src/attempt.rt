@@ -3,17 +3,17 @@ ghost use Rattle.std.specs.Prelude.{◌≡◌, ◌≤◌, ◌<◌, ◌+◌, ◌^
 ghost use Rattle.form_reader.specs.declared.frame.Frame.{Frame as OpenCall};
 ghost use Rattle.readtable_core.specs.Tables.{entry_at};
 ghost use Rattle.form_reader.specs.Surrounding.{setting};
-ghost use Rattle.form_reader.specs.Reading.{stands_alone, alone};
+ghost use Rattle.lisp_reading.specs.Reading.{stands_alone, alone};
 ghost use Rattle.form_reader.specs.Frames.{plan_gives};
 ghost use Rattle.form_reader.specs.Resuming.{attempt_at, Brings};
 ghost use Rattle.form_reader.specs.Ready.{IsReady};
 
-use crate::found::Found;
 use crate::frame::Frames;
 use crate::macros::begin_macro;
 use crate::stage::{Event, FirstByte, Stage, first_byte};
 use crate::surroundings::Surroundings;
 use lisp_object::refusal::{FORM_TOO_LONG, INVALID_CHARACTER};
+use lisp_reading::Found;
 use readtable_core::Syntax;
 use std::alloc::AllocError;
 use user_macros::MacroFunctions;

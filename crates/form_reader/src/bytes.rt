@@ -1,17 +1,15 @@
 //! One byte of what a call gathers.
 ghost use Rattle.std.specs.Prelude.{◌≡◌, ◌≤◌, ◌<◌, ◌+◌, ◌^◌, ◌==◌, ℕ, List, ◌∷◌, ◌++◌, [], IfOk, IfSome, Ok, None};
-ghost use Rattle.form_reader.specs.Plans.{loop, next_byte, run};
-ghost use Rattle.form_reader.specs.Gathering.{text_turn, line_turn, block_turn, number_turn};
-ghost use Rattle.form_reader.specs.Gathering.{block_next};
+ghost use Rattle.lisp_reading.specs.Plans.{loop, next_byte, run};
+ghost use Rattle.lisp_reading.specs.Gathering.{text_turn, line_turn, block_turn, number_turn};
+ghost use Rattle.lisp_reading.specs.Gathering.{block_next};
 ghost use Rattle.form_reader.specs.Feeding.{TextFeeds, EscapeFeeds, LineFeeds, BlockFeeds, NumberFeeds};
 ghost use Rattle.form_reader.specs.declared.bytes.TextByte.TheVariants.{More as TextMore, Escape as TextEscape, Ended as TextEnded};
 ghost use Rattle.form_reader.specs.declared.bytes.LineByte.TheVariants.{More as LineMore, Ended as LineEnded};
-ghost use Rattle.form_reader.specs.declared.way.Keep.TheVariants.{Kept};
+ghost use Rattle.lisp_reading.specs.declared.way.Keep.TheVariants.{Kept};
 
-use crate::held::{HeldNumber, HeldText};
-use crate::limits::Limits;
-use crate::way::Keep;
 use lisp_object::refusal::{FORM_TOO_LONG, INVALID_CHARACTER, NUMERIC_ARGUMENT};
+use lisp_reading::{HeldNumber, HeldText, Keep, Limits};
 use readtable_core::{Readtable, Syntax};
 use std::alloc::AllocError;
 
@@ -40,7 +38,7 @@ pub enum LineByte {
 }
 
 /// The byte `c` at `at`, after the characters of `text`.
-#[tactic(auto, using(crate::proofs::Fed::text_over, crate::proofs::Fed::text_invalid, crate::proofs::Fed::text_ends, crate::proofs::Fed::text_escapes, crate::proofs::Fed::text_takes))]
+#[tactic(auto, using(lisp_reading::proofs::Fed::text_over, lisp_reading::proofs::Fed::text_invalid, lisp_reading::proofs::Fed::text_ends, lisp_reading::proofs::Fed::text_escapes, lisp_reading::proofs::Fed::text_takes))]
 pub(crate) fn text_byte(
     readtable: &Readtable,
     limits: &Limits,
@@ -74,7 +72,7 @@ pub(crate) fn text_byte(
 }
 
 /// The byte `c` at `at`, after an escape.
-#[tactic(auto, using(crate::proofs::Fed::byte_over, crate::proofs::Fed::byte_invalid, crate::proofs::Fed::byte_taken))]
+#[tactic(auto, using(lisp_reading::proofs::Fed::byte_over, lisp_reading::proofs::Fed::byte_invalid, lisp_reading::proofs::Fed::byte_taken))]
 pub(crate) fn escaped_byte(
     readtable: &Readtable,
     limits: &Limits,
@@ -99,7 +97,7 @@ pub(crate) fn escaped_byte(
 }
 
 /// The byte `c` at `at`, after the characters of a line.
-#[tactic(auto, using(crate::proofs::Fed::line_over, crate::proofs::Fed::line_invalid, crate::proofs::Fed::line_ends, crate::proofs::Fed::line_keeps, crate::proofs::Fed::line_drops))]
+#[tactic(auto, using(lisp_reading::proofs::Fed::line_over, lisp_reading::proofs::Fed::line_invalid, lisp_reading::proofs::Fed::line_ends, lisp_reading::proofs::Fed::line_keeps, lisp_reading::proofs::Fed::line_drops))]
 pub(crate) fn line_byte(
     readtable: &Readtable,
     limits: &Limits,
@@ -132,7 +130,7 @@ pub(crate) fn line_byte(
 }
 
 /// The byte `c` at `at`, inside a block: how many blocks are open inside it, and the byte before, if it may begin a pair.
-#[tactic(auto, using(crate::proofs::Fed::block_over, crate::proofs::Fed::block_invalid, crate::proofs::Fed::block_ends, crate::proofs::Fed::block_more))]
+#[tactic(auto, using(lisp_reading::proofs::Fed::block_over, lisp_reading::proofs::Fed::block_invalid, lisp_reading::proofs::Fed::block_ends, lisp_reading::proofs::Fed::block_more))]
 pub(crate) fn block_byte(
     readtable: &Readtable,
     limits: &Limits,
@@ -182,7 +180,7 @@ fn block_next(levels: (usize, u8), c: u8) -> Option<(usize, u8)>
 }
 
 /// The byte `c` at `at`, in the number of a dispatch call.
-#[tactic(auto, using(crate::proofs::Fed::number_over, crate::proofs::Fed::number_ends, crate::proofs::Fed::number_more, crate::proofs::Fed::number_passes))]
+#[tactic(auto, using(lisp_reading::proofs::Fed::number_over, lisp_reading::proofs::Fed::number_ends, lisp_reading::proofs::Fed::number_more, lisp_reading::proofs::Fed::number_passes))]
 pub(crate) fn number_byte(
     readtable: &Readtable,
     limits: &Limits,

@@ -2,7 +2,7 @@
 ghost use Rattle.std.specs.Prelude.{◌≡◌, ◌≤◌, ℕ, List, length, false, IfOk, ◌<◌};
 ghost use Rattle.form_reader.specs.declared.frame.Frame.{Frame as OpenCall};
 ghost use Rattle.form_reader.specs.Surrounding.{setting};
-ghost use Rattle.form_reader.specs.Reading.{closed};
+ghost use Rattle.lisp_reading.specs.Reading.{closed};
 ghost use Rattle.form_reader.specs.Frames.{call_in, plan_gives};
 ghost use Rattle.form_reader.specs.Resuming.{Brings};
 ghost use Rattle.form_reader.specs.Ready.{IsReady};

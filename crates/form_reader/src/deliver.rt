@@ -1,21 +1,20 @@
 //! What the open calls make of what is found in the innermost.
 ghost use Rattle.std.specs.Prelude.{◌≡◌, ◌≤◌, ◌<◌, ℕ, List, length, IfOk};
-ghost use Rattle.form_reader.specs.Plans.{gives};
-ghost use Rattle.form_reader.specs.declared.found.Found.TheVariants.{One as one, LoneDot as lone_dot};
+ghost use Rattle.lisp_reading.specs.Plans.{gives};
+ghost use Rattle.lisp_reading.specs.declared.found.Found.TheVariants.{One as one, LoneDot as lone_dot};
 ghost use Rattle.form_reader.specs.declared.frame.Frame.{Frame as OpenCall};
 ghost use Rattle.form_reader.specs.Completing.{plan_of};
-ghost use Rattle.form_reader.specs.Setting.{Setting};
+ghost use Rattle.lisp_reading.specs.Setting.{Setting};
 ghost use Rattle.form_reader.specs.Surrounding.{setting};
 ghost use Rattle.form_reader.specs.Frames.{plan_gives};
 ghost use Rattle.form_reader.specs.Delivering.{Takes, Shortens, Delivers};
 ghost use Rattle.form_reader.specs.Ready.{space, lookahead, completed_lookahead, IsTakenAt, IsDeliveredAt};
 
 use crate::complete::{Completed, complete};
-use crate::found::Found;
 use crate::frame::Frames;
-use crate::held::HeldObject;
 use crate::surroundings::Surroundings;
 use lisp_object::refusal::{DOT_CONTEXT, END_OF_FILE};
+use lisp_reading::{Found, HeldObject};
 use std::alloc::AllocError;
 use std_macros::StdGathered;
 use user_macros::MacroFunctions;

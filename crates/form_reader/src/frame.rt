@@ -1,11 +1,10 @@
 //! Open calls.
 ghost use Rattle.std.specs.Prelude.{◌≡◌, ◌==◌, ℕ, Bool, Some, None, true, false, [], ◌∷◌, length, MatchOption, OnOk, IfOk};
 ghost use Rattle.form_reader.specs.declared.frame.Part.TheVariants.{Next as InNext};
-ghost use Rattle.form_reader.specs.declared.found.Found.TheVariants.{One as one, LoneDot as lone_dot};
+ghost use Rattle.lisp_reading.specs.declared.found.Found.TheVariants.{One as one, LoneDot as lone_dot};
 ghost use Rattle.form_reader.specs.Frames.{close_of, close_of_frames, is_closed_by, with_object, with_dot, calls_with, is_next, is_waiting};
 
-use crate::call::Invoked;
-use crate::held::{HeldObject, HeldObjects};
+use lisp_reading::{HeldObject, HeldObjects, Invoked};
 use std::alloc::{AllocError, Global};
 use std::marker::Model;
 use std::mem;

@@ -7,11 +7,10 @@ ghost use Rattle.form_reader.specs.Resuming.{Brings, stage_gives};
 ghost use Rattle.form_reader.specs.Ready.{IsReady};
 
 use crate::bytes::{LineByte, TextByte, block_byte, escaped_byte, line_byte, text_byte};
-use crate::call::Invoked;
-use crate::held::HeldText;
 use crate::opening::ended;
 use crate::stage::{Event, Stage};
 use crate::surroundings::Surroundings;
+use lisp_reading::{HeldText, Invoked};
 use std::alloc::AllocError;
 use std_macros::StdGathered;
 use user_macros::MacroFunctions;

@@ -5,7 +5,7 @@ ghost use Rattle.std.specs.FinMap as finite;
 ghost use Rattle.std.specs.Option.{option_map_or};
 ghost use Rattle.lisp_object.specs.Object.{is_nil};
 ghost use Rattle.lisp_object.specs.Datum.{object_of, is_proper};
-ghost use Rattle.form_reader.specs.Answering.{is_known, is_home, are_known, may_be_answered};
+ghost use Rattle.lisp_reading.specs.Answering.{is_known, is_home, are_known, may_be_answered};
 ghost use Rattle.package_table.specs.Table.{IsPackage};
 ghost use Rattle.package_table.specs.Resolving.{resolution};
 
@@ -95,7 +95,7 @@ fn has_home(packages: &Packages, home: &[u8], name: &[u8]) -> bool
 }
 
 /// Whether a package has this name, which is no nickname.
-#[tactic(auto, using(crate::proofs::Homes::named_so, crate::proofs::Homes::none_named))]
+#[tactic(auto, using(lisp_reading::proofs::Homes::named_so, lisp_reading::proofs::Homes::none_named))]
 fn is_package(packages: &Packages, name: &[u8]) -> bool
     ensures { result ≡ finite.contains_key packages.now.0 name.now }
 {

@@ -1,29 +1,25 @@
 //! The functions at macro characters and sub-characters.
 ghost use Rattle.std.specs.Prelude.{◌≡◌, ◌≤◌, ◌<◌, ◌+◌, ℕ, List, ◌∷◌, length, IfOk};
 ghost use Rattle.readtable_core.specs.Tables.{entry_at};
-ghost use Rattle.form_reader.specs.Setting.{function_of};
+ghost use Rattle.lisp_reading.specs.Setting.{function_of};
 ghost use Rattle.form_reader.specs.Surrounding.{setting};
-ghost use Rattle.form_reader.specs.Reading.{macro_called, sub_there};
+ghost use Rattle.lisp_reading.specs.Reading.{macro_called, sub_there};
 ghost use Rattle.form_reader.specs.Frames.{plan_gives};
 ghost use Rattle.form_reader.specs.Resuming.{inner_at, Brings, Moves, stage_gives};
 ghost use Rattle.form_reader.specs.declared.frame.Frame.{Frame as OpenCall};
 ghost use Rattle.form_reader.specs.declared.stage.Stage.TheVariants.{CallToken as AtCallToken, Number as AtNumber};
 ghost use Rattle.form_reader.specs.Ready.{IsReady, IsReadyMove};
-ghost use Rattle.user_macros.specs.Functions.{Functions};
 
 use crate::bytes::{LineByte, number_byte};
-use crate::call::Invoked;
 use crate::frame::Frames;
-use crate::held::{HeldCharacter, HeldNumber};
 use crate::opening::{begin_call, ended};
 use crate::stage::{Event, Stage};
 use crate::surroundings::Surroundings;
 use crate::tokens::token_byte;
-use crate::way::Function;
 use lisp_object::refusal::{FORM_TOO_LONG, INVALID_CHARACTER, NO_DISPATCH, OUT_OF_PROFILE};
-use readtable_core::FnName;
+use lisp_reading::{HeldCharacter, HeldNumber, Invoked, function_of};
 use std::alloc::AllocError;
-use std_macros::{StdGathered, standard_of};
+use std_macros::StdGathered;
 use token_scan::TokenScan;
 use user_macros::MacroFunctions;
 
@@ -32,18 +28,6 @@ use user_macros::MacroFunctions;
 pub enum Moved {
     Taken(Event),
     Before(Event),
-}
-
-/// The function of a name.
-#[tactic(auto, using(crate::proofs::Functions::known_so, crate::proofs::Functions::known_none))]
-#[inline(always)]
-fn function_of(name: FnName) -> Function
-    ensures { result ≡ function_of name }
-{
-    match standard_of(name) {
-        Some(kind) => Function::Standard(kind),
-        None => Function::User(name),
-    }
 }
 
 /// Begins the call of the macro character `c`, which is the byte before `at`.

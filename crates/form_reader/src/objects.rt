@@ -2,9 +2,9 @@
 ghost use Rattle.std.specs.Prelude.{◌≡◌, ◌≤◌, ◌<◌, ◌+◌, ◌^◌, ℕ, List, ◌∷◌, length, true, IfOk, IsTrue};
 ghost use Rattle.token_scan.specs.Marks.{are_ascii};
 ghost use Rattle.form_reader.specs.Delivering.{Passes};
-ghost use Rattle.form_reader.specs.Plans.{gives};
+ghost use Rattle.lisp_reading.specs.Plans.{gives};
 ghost use Rattle.form_reader.specs.Surrounding.{setting};
-ghost use Rattle.form_reader.specs.Reading.{is_blank, token_found};
+ghost use Rattle.lisp_reading.specs.Reading.{is_blank, token_found};
 ghost use Rattle.form_reader.specs.Frames.{plan_gives, place_gives};
 ghost use Rattle.form_reader.specs.Resuming.{Brings, Moves, stage_gives};
 ghost use Rattle.form_reader.specs.declared.frame.Frame.{Frame as OpenCall};
@@ -14,13 +14,12 @@ ghost use Rattle.form_reader.specs.Ready.{lookahead, IsReady, IsReadyMove, IsRea
 use crate::attempt::{alone, begin_token, stands_alone};
 use crate::close::close;
 use crate::deliver::{Delivered, deliver};
-use crate::found::Found;
 use crate::frame::Frames;
 use crate::macros::Moved;
 use crate::stage::{BegunByte, BegunScan, Event, Stage};
 use crate::surroundings::Surroundings;
-use crate::told::{TellError, Told, tell};
 use lisp_object::refusal::FORM_TOO_LONG;
+use lisp_reading::{Found, TellError, Told, tell};
 use readtable_core::Syntax;
 use std::alloc::AllocError;
 use token_scan::Marks;

@@ -1,27 +1,25 @@
 //! How a call begins.
 ghost use Rattle.std.specs.Prelude.{◌≡◌, ◌≤◌, ℕ, true, false, List, IfOk, length, Ok, Some};
-ghost use Rattle.form_reader.specs.Setting.{Setting, is_baseless, standard_way, user_way, way_in};
+ghost use Rattle.lisp_reading.specs.Setting.{Setting, is_baseless, standard_way, user_way, way_in};
 ghost use Rattle.form_reader.specs.Surrounding.{setting};
 ghost use Rattle.form_reader.specs.declared.frame.Frame.{Frame as OpenCall};
 ghost use Rattle.form_reader.specs.Frames.{plan_gives};
-ghost use Rattle.form_reader.specs.Reading.{completed, gathered};
+ghost use Rattle.lisp_reading.specs.Reading.{completed, gathered};
 ghost use Rattle.form_reader.specs.Resuming.{Begins, Brings, Gathers, ComesTo};
 ghost use Rattle.form_reader.specs.Opening.{reads_objects};
 ghost use Rattle.form_reader.specs.Ready.{IsReady, IsEnd, completed_lookahead, space};
 ghost use Rattle.std_macros.specs.Results.{view_gathered, IsProperGathered};
 
-use crate::call::Invoked;
 use crate::complete::{Completed, complete};
 use crate::frame::{Frame, Frames, Part};
-use crate::held::{HeldObjects, HeldText};
 use crate::stage::{Event, Stage};
 use crate::surroundings::Surroundings;
-use crate::way::{Function, Keep, Way};
 use lisp_object::refusal::{OUT_OF_PROFILE, TOO_DEEP};
+use lisp_reading::{Function, HeldObjects, HeldText, Invoked, Way, is_baseless, standard_way, user_way};
 use std::alloc::AllocError;
-use std_macros::{Standard, StdGather, StdGathered, radix_of, way};
+use std_macros::{StdGathered, way};
 use token_scan::TokenScan;
-use user_macros::{Gather, MacroFunctions};
+use user_macros::MacroFunctions;
 
 /// Begins a call whose last byte is the one before `at`.
 #[tactic(auto, using(crate::proofs::Beginnings::refused_is))]
@@ -191,46 +189,5 @@ fn way_of<R: MacroFunctions>(with: &Surroundings<'_, R>, call: &Invoked) -> Opti
             None => None,
             Some(gather) => Some(user_way(call.caller(), gather)),
         },
-    }
-}
-
-#[inline(always)]
-fn is_baseless(kind: Standard, number: Option<u32>) -> bool
-    ensures { result ≡ is_baseless kind number }
-{
-    match kind {
-        Standard::Radix => radix_of(number).is_none(),
-        _ => false,
-    }
-}
-
-#[inline(always)]
-fn standard_way(same: u8, gather: StdGather) -> Way
-    ensures { result ≡ standard_way same gather }
-{
-    match gather {
-        StdGather::Nothing => Way::Nothing,
-        StdGather::One => Way::Next,
-        StdGather::List => Way::List,
-        StdGather::Many => Way::Until(b')'),
-        StdGather::Text => Way::Text(same),
-        StdGather::Line => Way::Line(Keep::Dropped),
-        StdGather::Block => Way::Block,
-        StdGather::Token => Way::Token,
-        StdGather::EscapedToken => Way::EscapedToken,
-    }
-}
-
-fn user_way(same: u8, gather: Gather) -> Way
-    ensures { result ≡ user_way same gather }
-{
-    match gather {
-        Gather::Nothing => Way::Nothing,
-        Gather::Next => Way::Next,
-        Gather::Until(close) => Way::Until(close),
-        Gather::Text(close) => Way::Text(close),
-        Gather::TextSame => Way::Text(same),
-        Gather::Line => Way::Line(Keep::Kept),
-        Gather::Token => Way::Token,
     }
 }

@@ -3,7 +3,6 @@ ghost use Rattle.std.specs.Prelude.{◌≡◌, IsTrue};
 ghost use Rattle.form_reader.specs.Standing.{is_standing};
 ghost use Rattle.form_reader.specs.declared.reader.State.TheVariants.{Refused, OutOfMemory};
 
-use crate::Limits;
 use crate::ending::{ReadOutcome, last_outcome};
 use crate::frame::Frames;
 use crate::in_place::{InPlace, in_place};
@@ -11,6 +10,7 @@ use crate::stage::Stage;
 use crate::surroundings::Surroundings;
 use crate::turn::{Turn, take_byte};
 use lisp_object::Datum;
+use lisp_reading::Limits;
 use package_table::Packages;
 use readtable_core::Readtable;
 use std::alloc::{AllocError, Global};
@@ -62,10 +62,10 @@ pub enum Step {
 impl FormReader {
     ghost use Rattle.std.specs.Prelude.{◌≡◌, ◌<◌, ◌≤◌, ◌+◌, ◌^◌, ℕ, true, List, [], ◌∷◌, ◌++◌, Ok, IfOk, IsErr, OnErr};
     ghost use Rattle.package_table.specs.Table.{IsPackage};
-    ghost use Rattle.form_reader.specs.Setting.{Setting, setting_of};
+    ghost use Rattle.lisp_reading.specs.Setting.{Setting, setting_of};
     ghost use Rattle.form_reader.specs.Surrounding.{setting};
     ghost use Rattle.lisp_object.specs.Object.{Object};
-    ghost use Rattle.form_reader.specs.Reading.{form, is_whitespace, reads};
+    ghost use Rattle.lisp_reading.specs.Reading.{form, is_whitespace, reads};
     ghost use Rattle.form_reader.specs.declared.reader.Step.TheVariants.{More as StepMore, Refused as StepRefused};
     ghost use Rattle.form_reader.specs.declared.ending.ReadOutcome.TheVariants.{Empty as ReadEmpty, Refused as ReadRefused};
     ghost use Rattle.form_reader.specs.Turning.{IsReadyTurn};

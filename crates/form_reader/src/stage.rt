@@ -10,11 +10,8 @@ ghost use Rattle.form_reader.specs.declared.stage.BegunByte.TheVariants.{More as
 ghost use Rattle.form_reader.specs.declared.stage.FirstByte.TheVariants.{More as FirstMore};
 
 use crate::bytes::LineByte;
-use crate::call::Invoked;
-use crate::found::Found;
-use crate::held::{HeldCharacter, HeldNumber, HeldText};
-use crate::limits::Limits;
 use crate::tokens::token_byte;
+use lisp_reading::{Found, HeldCharacter, HeldNumber, HeldText, Invoked, Limits};
 use readtable_core::Readtable;
 use std::alloc::{AllocError, Global};
 use std::marker::Model;

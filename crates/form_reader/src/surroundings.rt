@@ -1,7 +1,7 @@
 //! What reading is handed.
 ghost use Rattle.package_table.specs.Table.{IsPackage};
 
-use crate::Limits;
+use lisp_reading::Limits;
 use package_table::Packages;
 use readtable_core::Readtable;
 use std::alloc::Global;

@@ -9,10 +9,10 @@ ghost use Rattle.form_reader.specs.declared.bytes.LineByte.TheVariants.{Ended as
 ghost use Rattle.form_reader.specs.Feeding.{TokenFeeds, is_going, token_read, refused_number};
 
 use crate::bytes::LineByte;
-use crate::limits::Limits;
 use lisp_object::refusal::{
     END_OF_FILE, FORM_TOO_LONG, INVALID_CHARACTER, INVALID_TRAIT, TOKEN_TOO_LONG,
 };
+use lisp_reading::Limits;
 use readtable_core::Readtable;
 use std::alloc::AllocError;
 use token_scan::{Fed, ScanRefusal, TokenScan};

@@ -1,10 +1,10 @@
 //! One byte of a text, wherever a reader is in a form, and after what it ends.
 ghost use Rattle.std.specs.Prelude.{◌≡◌, ◌≤◌, ◌<◌, ◌+◌, ◌^◌, ℕ, List, [], ◌∷◌, length, Ok, IfOk};
-ghost use Rattle.form_reader.specs.Plans.{Read};
-ghost use Rattle.form_reader.specs.declared.found.Found.{Found as FoundThere};
+ghost use Rattle.lisp_reading.specs.Plans.{Read};
+ghost use Rattle.lisp_reading.specs.declared.found.Found.{Found as FoundThere};
 ghost use Rattle.form_reader.specs.declared.frame.Frame.{Frame as OpenCall};
-ghost use Rattle.form_reader.specs.declared.limits.Limits.{Limits as Bounds};
-ghost use Rattle.form_reader.specs.Setting.{Setting};
+ghost use Rattle.lisp_reading.specs.declared.limits.Limits.{Limits as Bounds};
+ghost use Rattle.lisp_reading.specs.Setting.{Setting};
 ghost use Rattle.form_reader.specs.Surrounding.{setting};
 ghost use Rattle.form_reader.specs.Delivering.{Passes};
 ghost use Rattle.form_reader.specs.Resuming.{Brings, stage_gives};
@@ -13,14 +13,13 @@ ghost use Rattle.form_reader.specs.Turning.{outcome_of, rest_of, Settles, TurnsT
 
 use crate::advance::advance;
 use crate::deliver::{Delivered, deliver};
-use crate::found::Found;
 use crate::frame::Frames;
-use crate::held::HeldObject;
 use crate::macros::Moved;
 use crate::objects::{Passed, after_found, at_object, is_blank};
 use crate::stage::{Event, Stage};
 use crate::surroundings::Surroundings;
 use lisp_object::refusal::DOT_CONTEXT;
+use lisp_reading::{Found, HeldObject};
 use std::alloc::AllocError;
 use user_macros::MacroFunctions;
 

@@ -2,14 +2,14 @@
 ghost use Rattle.std.specs.Prelude.{◌≡◌, ◌<◌, true, Ok, IfOk};
 ghost use Rattle.std.specs.List.{list_all};
 ghost use Rattle.package_table.specs.Table.{IsPackage};
-ghost use Rattle.form_reader.specs.Setting.{setting_of};
+ghost use Rattle.lisp_reading.specs.Setting.{setting_of};
 ghost use Rattle.form_reader.specs.declared.ending.ReadOutcome.TheVariants.{Empty as ReadEmpty};
-ghost use Rattle.form_reader.specs.Reading.{is_whitespace, reads};
+ghost use Rattle.lisp_reading.specs.Reading.{is_whitespace, reads};
 ghost use Rattle.form_reader.specs.Reader.{IsOutcome};
 
-use crate::Limits;
 use crate::ending::ReadOutcome;
 use crate::reader::{FormReader, Step};
+use lisp_reading::Limits;
 use package_table::Packages;
 use readtable_core::Readtable;
 use std::alloc::{AllocError, Global};

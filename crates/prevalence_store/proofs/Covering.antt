@@ -24,7 +24,7 @@ use Rattle.form_eval.specs.Acceptance.{accept}
 use Rattle.lisp_operators.specs.Readtables.{AreCovered}
 use Rattle.lisp_operators.specs.Evaluation.{Evaluation}
 use Rattle.form_eval.proofs.Accepted.{accepted_covers}
-use Rattle.form_reader.specs.Reading.{Outcome as Reading, form, empty, refused}
+use Rattle.lisp_reading.specs.Reading.{Outcome as Reading, form, empty, refused}
 use Rattle.snapshot_text.specs.Covered.{are_covered}
 use Rattle.world_text.specs.Snapshot.{table_named}
 use Rattle.world_text.proofs.Ascii.{keys_pass}

@@ -15,8 +15,8 @@ use Rattle.lisp_object.specs.declared.refusal.TheConstants.{NO_MEMORY, TEXT_LEFT
 use Rattle.form_eval.specs.Acceptance.{accept}
 use Rattle.lisp_operators.specs.Evaluated.{done}
 use Rattle.lisp_operators.specs.declared.evaluated.Evaluated.{Evaluated}
-use Rattle.form_reader.specs.Reading.{Outcome as Reading, form}
-use Rattle.form_reader.proofs.Forms.{form_framed}
+use Rattle.lisp_reading.specs.Reading.{Outcome as Reading, form}
+use Rattle.lisp_reading.proofs.Forms.{form_framed}
 use Rattle.plist_state.specs.State.{State as World}
 use Rattle.prevalence_store.specs.declared.failure.Failure.{Failure}
 use Rattle.prevalence_store.specs.declared.failure.Failure.TheVariants.{Refused, Full, DeviceFault, OutOfMemory}

@@ -7,11 +7,11 @@ use Rattle.lisp_object.specs.Object.{Object, symbol, uninterned, IsSound}
 use Rattle.lisp_object.proofs.Atoms.{atoms_weaker}
 use Rattle.readtable_core.specs.Names.{is_among, same_name}
 use Rattle.package_table.specs.Table.{Table as Packages}
-use Rattle.form_reader.specs.Fitting.{IsFitting}
-use Rattle.form_reader.specs.Fitting as reader
-use Rattle.form_reader.specs.Reading.{form}
-use Rattle.form_reader.proofs.Fittings.{form_fits}
-use Rattle.form_reader.proofs.Registered.{one_answer}
+use Rattle.lisp_reading.specs.Fitting.{IsFitting}
+use Rattle.lisp_reading.specs.Fitting as reader
+use Rattle.lisp_reading.specs.Reading.{form}
+use Rattle.lisp_reading.proofs.Fittings.{form_fits}
+use Rattle.lisp_reading.proofs.Registered.{one_answer}
 use Rattle.form_eval.specs.Laws.{IsForm}
 use Rattle.form_eval.specs.Laws as evaluator
 use Rattle.plist_state.specs.State.{State as World}

@@ -5,8 +5,8 @@ use Rattle.lisp_object.specs.declared.refusal.TheConstants.{END_OF_FILE, TEXT_LE
 use Rattle.form_eval.specs.Acceptance.{accept}
 use Rattle.lisp_operators.specs.Evaluation.{Evaluation}
 use Rattle.form_eval.proofs.Accepted.{accepted_numbered}
-use Rattle.form_reader.specs.Reading.{Outcome as Reading, form, empty, refused}
-use Rattle.form_reader.proofs.Numbers.{refusal_numbered}
+use Rattle.lisp_reading.specs.Reading.{Outcome as Reading, form, empty, refused}
+use Rattle.lisp_reading.proofs.Numbers.{refusal_numbered}
 use Rattle.lisp_object.specs.Object.{Object}
 use Rattle.plist_state.specs.State.{State as World}
 use Rattle.prevalence_store.specs.declared.mode.Mode.{Mode}

@@ -11,22 +11,22 @@ use Rattle.readtable_core.specs.Tables.{Table}
 use Rattle.package_table.specs.Table.{Name, Table as Packages}
 use Rattle.user_macros.specs.declared.call.Gather.{Gather}
 use Rattle.user_macros.specs.Calls.{MacroCall, MacroAnswer}
-use Rattle.form_reader.specs.declared.found.Found.{Found}
-use Rattle.form_reader.specs.declared.found.Found.TheVariants.{Nothing as nothing, One as one, LoneDot as lone_dot, TheEnd as the_end}
-use Rattle.form_reader.specs.declared.limits.Limits.{Limits}
+use Rattle.lisp_reading.specs.declared.found.Found.{Found}
+use Rattle.lisp_reading.specs.declared.found.Found.TheVariants.{Nothing as nothing, One as one, LoneDot as lone_dot, TheEnd as the_end}
+use Rattle.lisp_reading.specs.declared.limits.Limits.{Limits}
 use Rattle.form_reader.specs.declared.reader.FormReader.{FormReader}
 use Rattle.form_reader.specs.declared.reader.State.{State as ReaderState}
 use Rattle.form_reader.specs.declared.reader.State.TheVariants.{Open, Refused, OutOfMemory}
 use Rattle.form_reader.specs.declared.reader.Step.{Step}
 use Rattle.form_reader.specs.declared.reader.Step.TheVariants.{Form as StepForm}
-use Rattle.form_reader.specs.Plans.{Read}
+use Rattle.lisp_reading.specs.Plans.{Read}
 use Rattle.form_reader.specs.Reader.{begun, fed, limits_of, BeginsLater, IsAfter, IsAfterIn, MayGoOn, Steps}
-use Rattle.form_reader.specs.Reading.{form, empty, outcome, reads, reads_at}
-use Rattle.form_reader.specs.Setting.{Setting, setting_of}
-use Rattle.form_reader.specs.Fitting.{IsFitting}
-use Rattle.form_reader.proofs.Bounded.{form_below}
-use Rattle.form_reader.proofs.Forms.{reads_is, stood, the_end_there}
-use Rattle.form_reader.proofs.Registered.{setting_same}
+use Rattle.lisp_reading.specs.Reading.{form, empty, outcome, reads, reads_at}
+use Rattle.lisp_reading.specs.Setting.{Setting, setting_of}
+use Rattle.lisp_reading.specs.Fitting.{IsFitting}
+use Rattle.lisp_reading.proofs.Bounded.{form_below}
+use Rattle.lisp_reading.proofs.Forms.{reads_is, stood, the_end_there}
+use Rattle.lisp_reading.proofs.Registered.{setting_same}
 use Rattle.plist_state.specs.Sound.{IsSound}
 use Rattle.plist_state.specs.State.{State as World}
 use Rattle.prevalence_store.specs.declared.input.Pending.{Pending}

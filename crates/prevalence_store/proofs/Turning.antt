@@ -13,7 +13,7 @@ use Rattle.lisp_operators.specs.Evaluated.{IsArgument, done as done_of}
 use Rattle.lisp_operators.specs.declared.evaluated.Evaluated.{Evaluated}
 use Rattle.canon_printer.specs.Printed.{printed}
 use Rattle.form_reader.specs.Reader.{MayGoOn}
-use Rattle.form_reader.specs.Reading.{form, empty, refused}
+use Rattle.lisp_reading.specs.Reading.{form, empty, refused}
 use Rattle.plist_state.specs.State.{State as World}
 use Rattle.prevalence_store.specs.declared.failure.Failure.{Failure}
 use Rattle.prevalence_store.specs.declared.failure.Failure.TheVariants.{Refused, Full, DeviceFault, OutOfMemory}

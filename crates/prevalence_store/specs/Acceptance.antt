@@ -7,9 +7,9 @@ use Rattle.lisp_object.specs.declared.refusal.TheConstants.{END_OF_FILE, TEXT_LE
 use Rattle.readtable_core.specs.Tables.{Table, standard}
 use Rattle.package_table.specs.Table.{Name, common_lisp_user}
 use Rattle.plist_state.specs.State.{State as World}
-use Rattle.form_reader.specs.declared.limits.Limits.{Limits}
-use Rattle.form_reader.specs.Setting.{Setting, setting_of}
-use Rattle.form_reader.specs.Reading.{Outcome as Reading, form, empty, refused, reads}
+use Rattle.lisp_reading.specs.declared.limits.Limits.{Limits}
+use Rattle.lisp_reading.specs.Setting.{Setting, setting_of}
+use Rattle.lisp_reading.specs.Reading.{Outcome as Reading, form, empty, refused, reads}
 use Rattle.lisp_operators.specs.Evaluation.{Evaluation}
 use Rattle.form_eval.specs.Acceptance.{accept}
 use Rattle.prevalence_store.specs.declared.mode.Mode.{Mode}

@@ -8,7 +8,7 @@ use Rattle.lisp_object.specs.Refusal.{name_of}
 use Rattle.prevalence_store.specs.declared.mode.Mode.{Mode}
 use Rattle.plist_state.specs.State.{State as World}
 use Rattle.prevalence_store.specs.Acceptance.{between, read_in, records_of}
-use Rattle.form_reader.specs.Reading.{Outcome as Reading, form, empty, refused}
+use Rattle.lisp_reading.specs.Reading.{Outcome as Reading, form, empty, refused}
 use Rattle.lisp_operators.specs.Evaluation.{Evaluation}
 use Rattle.form_eval.specs.Acceptance.{accept}
 use Rattle.canon_printer.specs.Printed.{printed}

@@ -4,7 +4,7 @@ use Rattle.lisp_object.specs.Object.{Object, IsSound}
 use Rattle.lisp_object.specs.Datum.{object_of, is_proper}
 use Rattle.plist_state.specs.State.{State as World}
 use Rattle.form_reader.specs.Reader.{begun, fed, limits_of, IsAfter, MayGoOn}
-use Rattle.form_reader.specs.Reading.{form, empty, refused}
+use Rattle.lisp_reading.specs.Reading.{form, empty, refused}
 use Rattle.prevalence_store.specs.declared.input.Pending.{Pending}
 use Rattle.prevalence_store.specs.declared.input.Fed.{Fed}
 use Rattle.prevalence_store.specs.declared.input.FedPiece.{FedPiece}

@@ -15,7 +15,7 @@ use Rattle.prevalence_store.specs.LeftAlone.{LeavesAlone}
 use Rattle.prevalence_store.specs.Output.{Progress, after_forms, last_line, refusal_line}
 use Rattle.prevalence_store.specs.Pacing.{EndsInPace, IsOverIn, Pace, fill_of, first_pace}
 use Rattle.form_reader.specs.Reader.{MayGoOn}
-use Rattle.form_reader.specs.Reading.{empty, refused}
+use Rattle.lisp_reading.specs.Reading.{empty, refused}
 use Rattle.prevalence_store.specs.Session.{Session, Describes}
 use Rattle.prevalence_store.specs.Snapshots.{IsTooLarge}
 use Rattle.prevalence_store.specs.Streams.{Writes}

@@ -7,7 +7,7 @@ use Rattle.lisp_object.specs.Datum.{object_of, is_proper}
 use Rattle.lisp_object.specs.declared.datum.Datum.{Datum}
 use Rattle.lisp_operators.specs.declared.evaluated.Evaluated.{Evaluated}
 use Rattle.lisp_object.specs.declared.refusal.TheConstants.{DEVICE, LOG_FULL, OUTPUT, NO_MEMORY}
-use Rattle.form_reader.specs.Reading.{form}
+use Rattle.lisp_reading.specs.Reading.{form}
 use Rattle.prevalence_store.specs.declared.failure.Failure.{Failure}
 use Rattle.prevalence_store.specs.declared.failure.Failure.TheVariants.{Refused, Full, DeviceFault, OutOfMemory}
 use Rattle.prevalence_store.specs.declared.input.Pending.{Pending}

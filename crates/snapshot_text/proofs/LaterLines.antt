@@ -5,7 +5,7 @@ use Rattle.user_macros.specs.declared.call.Gather.{Gather}
 use Rattle.user_macros.specs.Calls.{MacroCall, MacroAnswer}
 use Rattle.package_table.specs.Table.{common_lisp_user}
 use Rattle.canon_printer.specs.Printed.{printed}
-use Rattle.form_reader.specs.Setting.{setting_of}
+use Rattle.lisp_reading.specs.Setting.{setting_of}
 use Rattle.plist_state.specs.State.{State}
 use Rattle.plist_state.specs.Sound.{IsSound}
 use Rattle.snapshot_text.specs.Built.{with_packages_of, with_properties_of}

@@ -12,8 +12,8 @@ use Rattle.user_macros.specs.Calls.{MacroCall, MacroAnswer}
 use Rattle.package_table.specs.Table.{Name, common_lisp_user}
 use Rattle.canon_printer.specs.Written.{written_rest}
 use Rattle.canon_printer.specs.Printed.{printed, printed_prefix}
-use Rattle.form_reader.specs.Setting.{setting_of}
-use Rattle.form_reader.specs.Reading.{form, space_at, reads}
+use Rattle.lisp_reading.specs.Setting.{setting_of}
+use Rattle.lisp_reading.specs.Reading.{form, space_at, reads}
 use Rattle.plist_state.specs.Properties.{Symbol}
 use Rattle.plist_state.specs.State.{State}
 use Rattle.plist_state.specs.Readers.{symbols_with_properties}

@@ -3,8 +3,8 @@ ghost use Rattle.std.specs.Prelude.{◌≡◌, ◌≤◌, ◌<◌, ℕ, List, �
 ghost use Rattle.lisp_object.specs.Object.{Object};
 ghost use Rattle.readtable_core.specs.Tables.{standard};
 ghost use Rattle.package_table.specs.Table.{Table, common_lisp_user};
-ghost use Rattle.form_reader.specs.Setting.{setting_of};
-ghost use Rattle.form_reader.specs.Reading.{form, reads};
+ghost use Rattle.lisp_reading.specs.Setting.{setting_of};
+ghost use Rattle.lisp_reading.specs.Reading.{form, reads};
 ghost use Rattle.world_text.specs.Lines.{snapshot_limits, IsLineRead};
 ghost use Rattle.snapshot_text.specs.Lines.{IsFirst, IsNext};
 ghost use Rattle.world_text.specs.Snapshot.{line};

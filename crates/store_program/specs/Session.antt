@@ -1,7 +1,7 @@
 -- What a session over a disk does, and what it has written. Of what the files of a folder hold no clause can say a thing.
 use Rattle.std.specs.Prelude.{◌≡◌, ◌⊎◌, ℕ, List, [], ◌++◌, Option, Some}
 use Rattle.disk_trait.specs.Disk.{State}
-use Rattle.form_reader.specs.Reading.{empty, refused}
+use Rattle.lisp_reading.specs.Reading.{empty, refused}
 use Rattle.plist_state.specs.State.{State as World}
 use Rattle.prevalence_store.specs.declared.mode.Mode.{Mode}
 use Rattle.prevalence_store.specs.declared.outcome.Ending.{Ending}

@@ -24,9 +24,9 @@ use Rattle.canon_printer.specs.Names.{printed_name}
 use Rattle.canon_printer.specs.Written.{printed_ratio}
 use Rattle.canon_printer.specs.Printed.{is_accessible, printed}
 use Rattle.canon_printer.proofs.Resolved.{accessible_resolved, home_there, external_resolved, internal_resolved}
-use Rattle.form_reader.specs.declared.told.Told.{Told}
-use Rattle.form_reader.specs.declared.told.Told.TheVariants.{Object as told_object}
-use Rattle.form_reader.specs.Naming.{symbol_at, symbol_in, told_of}
+use Rattle.lisp_reading.specs.declared.told.Told.{Told}
+use Rattle.lisp_reading.specs.declared.told.Told.TheVariants.{Object as told_object}
+use Rattle.lisp_reading.specs.Naming.{symbol_at, symbol_in, told_of}
 use Rattle.world_text.proofs.Marked.{plain_marks, name_marks, printed_marks}
 use Rattle.world_text.proofs.Characters.{in_number, is_kept, digit_kept, in_number_below}
 use Rattle.world_text.proofs.Spelling.{IsAscii, begins_token, Spelled, spelled_both, plain_spelled, name_spelled, kept_starts, starts_both, name_starts}

@@ -20,19 +20,19 @@ use Rattle.user_macros.specs.Calls.{MacroCall, MacroAnswer}
 use Rattle.package_table.specs.Table.{Name, Table as Packages}
 use Rattle.std_macros.specs.declared.kind.Standard.{Standard}
 use Rattle.std_macros.specs.declared.kind.Standard.TheVariants.{List as AList, String, Char, Vector, Uninterned}
-use Rattle.form_reader.specs.declared.limits.Limits.{Limits}
-use Rattle.form_reader.specs.declared.found.Found.{Found}
-use Rattle.form_reader.specs.declared.found.Found.TheVariants.{Nothing as nothing, One as one, LoneDot as lone_dot}
-use Rattle.form_reader.specs.declared.told.Told.TheVariants.{Object as told_object}
-use Rattle.form_reader.specs.declared.way.Function.TheVariants.{Standard as AStandard}
-use Rattle.form_reader.specs.Plans.{Plan, scans, Read, limited, scanned, run}
-use Rattle.form_reader.specs.Calls.{InvokedCall}
-use Rattle.form_reader.specs.Naming.{told}
-use Rattle.form_reader.specs.Setting.{Setting, setting_of}
-use Rattle.form_reader.specs.Reading.{stands_alone, alone, called, inner, attempt, token_found, sub_there, sub_called, number_after}
+use Rattle.lisp_reading.specs.declared.limits.Limits.{Limits}
+use Rattle.lisp_reading.specs.declared.found.Found.{Found}
+use Rattle.lisp_reading.specs.declared.found.Found.TheVariants.{Nothing as nothing, One as one, LoneDot as lone_dot}
+use Rattle.lisp_reading.specs.declared.told.Told.TheVariants.{Object as told_object}
+use Rattle.lisp_reading.specs.declared.way.Function.TheVariants.{Standard as AStandard}
+use Rattle.lisp_reading.specs.Plans.{Plan, scans, Read, limited, scanned, run}
+use Rattle.lisp_reading.specs.Calls.{InvokedCall}
+use Rattle.lisp_reading.specs.Naming.{told}
+use Rattle.lisp_reading.specs.Setting.{Setting, setting_of}
+use Rattle.lisp_reading.specs.Reading.{stands_alone, alone, called, inner, attempt, token_found, sub_there, sub_called, number_after}
 use Rattle.form_reader.proofs.Attempts.{takes_is, passes_is}
-use Rattle.form_reader.proofs.Fed.{byte_taken, number_ends}
-use Rattle.form_reader.proofs.Steps.{and_then, run_then}
+use Rattle.lisp_reading.proofs.Fed.{byte_taken, number_ends}
+use Rattle.lisp_reading.proofs.Steps.{and_then, run_then}
 use Rattle.world_text.proofs.Spelling.{starts_token, Spelled, bare_spelled, token_of}
 use Rattle.user_macros.specs.Functions.{Functions}
 

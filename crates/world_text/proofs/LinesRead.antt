@@ -7,8 +7,8 @@ use Rattle.user_macros.specs.Calls.{MacroCall, MacroAnswer}
 use Rattle.package_table.specs.Table as packages
 use Rattle.package_table.specs.Table.{Table, common_lisp_user}
 use Rattle.canon_printer.specs.Printed.{printed}
-use Rattle.form_reader.specs.Setting.{Setting, setting_of}
-use Rattle.form_reader.specs.Reading.{form, space_at, reads}
+use Rattle.lisp_reading.specs.Setting.{Setting, setting_of}
+use Rattle.lisp_reading.specs.Reading.{form, space_at, reads}
 use Rattle.plist_state.specs.State.{State}
 use Rattle.plist_state.specs.Sound.{IsSound}
 use Rattle.world_text.specs.Lines.{snapshot_limits, IsLineRead}

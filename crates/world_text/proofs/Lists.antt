@@ -9,16 +9,16 @@ use Rattle.user_macros.specs.declared.call.Gather.{Gather}
 use Rattle.user_macros.specs.Calls.{MacroCall, MacroAnswer}
 use Rattle.package_table.specs.Table.{Name, Table as Packages}
 use Rattle.std_macros.specs.Values.{Material, list_value, vector_value}
-use Rattle.form_reader.specs.declared.limits.Limits.{Limits}
-use Rattle.form_reader.specs.declared.found.Found.{Found}
-use Rattle.form_reader.specs.declared.found.Found.TheVariants.{Nothing as nothing, One as one, LoneDot as lone_dot}
-use Rattle.form_reader.specs.Plans.{Plan, gives, then_plan, Read, run}
-use Rattle.form_reader.specs.Setting.{Setting}
-use Rattle.form_reader.specs.Reading.{Piece, item, dot, closed, without_space, is_whitespace, at_place, or_closed, place_turn, place, Items, items_step, items_turn, items_after, undotted, after_tail, after_dot, list_end, finished, attempt}
+use Rattle.lisp_reading.specs.declared.limits.Limits.{Limits}
+use Rattle.lisp_reading.specs.declared.found.Found.{Found}
+use Rattle.lisp_reading.specs.declared.found.Found.TheVariants.{Nothing as nothing, One as one, LoneDot as lone_dot}
+use Rattle.lisp_reading.specs.Plans.{Plan, gives, then_plan, Read, run}
+use Rattle.lisp_reading.specs.Setting.{Setting}
+use Rattle.lisp_reading.specs.Reading.{Piece, item, dot, closed, without_space, is_whitespace, at_place, or_closed, place_turn, place, Items, items_step, items_turn, items_after, undotted, after_tail, after_dot, list_end, finished, attempt}
 use Rattle.form_reader.proofs.Attempts.{takes_is, passes_is}
 use Rattle.form_reader.proofs.Opened.{then_moves}
-use Rattle.form_reader.proofs.Steps.{and_then, run_then}
-use Rattle.form_reader.proofs.Turns.{attempt_ends, loop_is, place_guarded, items_guarded}
+use Rattle.lisp_reading.proofs.Steps.{and_then, run_then}
+use Rattle.lisp_reading.proofs.Turns.{attempt_ends, loop_is, place_guarded, items_guarded}
 use Rattle.world_text.proofs.Begun.{under, begun, space_begun}
 use Rattle.user_macros.specs.Functions.{Functions}
 

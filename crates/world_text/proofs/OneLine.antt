@@ -19,9 +19,9 @@ use Rattle.package_table.specs.Table.{Name, Table, common_lisp_user}
 use Rattle.canon_printer.specs.Printed.{printed}
 use Rattle.canon_printer.specs.Symbols.{HasAllSymbols}
 use Rattle.canon_printer.proofs.Resolved.{home_there}
-use Rattle.form_reader.specs.declared.limits.Limits.{Limits}
-use Rattle.form_reader.specs.Setting.{setting_of}
-use Rattle.form_reader.specs.Reading.{form, space_at, reads}
+use Rattle.lisp_reading.specs.declared.limits.Limits.{Limits}
+use Rattle.lisp_reading.specs.Setting.{setting_of}
+use Rattle.lisp_reading.specs.Reading.{form, space_at, reads}
 use Rattle.plist_state.specs.Properties.{Symbol, Plist}
 use Rattle.plist_state.specs.State.{State}
 use Rattle.plist_state.specs.Changes.{plist}

@@ -18,10 +18,10 @@ use Rattle.token_meaning.specs.Meanings.{is_package_marker}
 use Rattle.std_macros.specs.Values.{code_named}
 use Rattle.canon_printer.specs.Names.{escaped, printed_name}
 use Rattle.canon_printer.specs.Written.{is_escaped_in_text, character_name}
-use Rattle.form_reader.specs.declared.limits.Limits.{Limits}
-use Rattle.form_reader.specs.Plans.{loop, run}
-use Rattle.form_reader.specs.Gathering.{text_turn, is_escape}
-use Rattle.form_reader.proofs.Fed.{byte_taken, text_ends, text_takes, text_escapes}
+use Rattle.lisp_reading.specs.declared.limits.Limits.{Limits}
+use Rattle.lisp_reading.specs.Plans.{loop, run}
+use Rattle.lisp_reading.specs.Gathering.{text_turn, is_escape}
+use Rattle.lisp_reading.proofs.Fed.{byte_taken, text_ends, text_takes, text_escapes}
 use Rattle.world_text.proofs.Marked.{name_marks, plain_marks}
 use Rattle.world_text.proofs.Characters.{is_bare}
 use Rattle.world_text.proofs.Spelling.{Spelled, bare_spelled, met_text, bytes_of, IsAscii, first, others, token_of, name_spelled}

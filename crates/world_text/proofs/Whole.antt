@@ -27,15 +27,15 @@ use Rattle.canon_printer.specs.Names.{escaped, printed_name}
 use Rattle.canon_printer.specs.Written.{is_escaped_in_text, character_name, printed_character, printed_text, printed_uninterned, written, written_atom, written_rest, written_elements}
 use Rattle.canon_printer.specs.Printed.{printed, printed_prefix}
 use Rattle.canon_printer.specs.Symbols.{HasAllSymbols}
-use Rattle.form_reader.specs.declared.limits.Limits.{Limits}
-use Rattle.form_reader.specs.declared.found.Found.{Found}
-use Rattle.form_reader.specs.declared.found.Found.TheVariants.{One as one}
-use Rattle.form_reader.specs.Plans.{Plan, Read, run}
-use Rattle.form_reader.specs.Setting.{Setting}
-use Rattle.form_reader.specs.Reading.{finished, inner, completed, text_to, items_after, list_end, undotted, attempt, without_space, form, space_at, outcome, reads, reads_at}
-use Rattle.form_reader.proofs.Forms.{reads_is}
+use Rattle.lisp_reading.specs.declared.limits.Limits.{Limits}
+use Rattle.lisp_reading.specs.declared.found.Found.{Found}
+use Rattle.lisp_reading.specs.declared.found.Found.TheVariants.{One as one}
+use Rattle.lisp_reading.specs.Plans.{Plan, Read, run}
+use Rattle.lisp_reading.specs.Setting.{Setting}
+use Rattle.lisp_reading.specs.Reading.{finished, inner, completed, text_to, items_after, list_end, undotted, attempt, without_space, form, space_at, outcome, reads, reads_at}
+use Rattle.lisp_reading.proofs.Forms.{reads_is}
 use Rattle.form_reader.proofs.Opened.{then_moves}
-use Rattle.form_reader.proofs.Steps.{and_then, run_then}
+use Rattle.lisp_reading.proofs.Steps.{and_then, run_then}
 use Rattle.world_text.specs.Tokens.{AreTokensWithin, ends_with_token}
 use Rattle.world_text.proofs.Marked.{name_marks}
 use Rattle.world_text.proofs.Spelling.{met_text, starts_token, begins_token, token_of, IsAscii}

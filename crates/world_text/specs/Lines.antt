@@ -3,9 +3,9 @@ use Rattle.std.specs.Prelude.{◌≡◌, ℕ, List, ◌++◌, length}
 use Rattle.lisp_object.specs.Object.{Object}
 use Rattle.package_table.specs.Table.{Table, common_lisp_user}
 use Rattle.canon_printer.specs.Printed.{printed}
-use Rattle.form_reader.specs.declared.limits.Limits.{Limits}
-use Rattle.form_reader.specs.Setting.{Setting}
-use Rattle.form_reader.specs.Reading.{form, reads}
+use Rattle.lisp_reading.specs.declared.limits.Limits.{Limits}
+use Rattle.lisp_reading.specs.Setting.{Setting}
+use Rattle.lisp_reading.specs.Reading.{form, reads}
 use Rattle.world_text.specs.Snapshot.{line}
 
 -- the limits under which a snapshot is read

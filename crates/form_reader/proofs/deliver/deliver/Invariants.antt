@@ -1,5 +1,5 @@
 use Rattle.std.proofs.Common.{◌≡◌, ◌≤◌, ℕ, List, length}
-use Rattle.form_reader.specs.Plans.{gives, run}
+use Rattle.lisp_reading.specs.Plans.{gives, run}
 use Rattle.form_reader.specs.Surrounding.{setting}
 use Rattle.form_reader.specs.Frames.{given}
 use Rattle.form_reader.specs.Ready.{lookahead}

@@ -1,6 +1,6 @@
 use Rattle.std.proofs.Common.{◌≡◌, List, length, ap, ◌∙◌, sym, arith}
 use Rattle.form_reader.specs.declared.frame.Frame.{Frame as OpenCall}
-use Rattle.form_reader.specs.declared.found.Found.TheVariants.{One as one}
+use Rattle.lisp_reading.specs.declared.found.Found.TheVariants.{One as one}
 use Rattle.form_reader.specs.Frames.{calls_with}
 use Rattle.form_reader.specs.Surrounding.{setting}
 use Rattle.form_reader.proofs.Deliveries.{next_comes, object_goes_on, object_stops, stays_open}

@@ -1,7 +1,7 @@
-use Rattle.form_reader.specs.Calls.{keep_of}
+use Rattle.lisp_reading.specs.Calls.{keep_of}
 use Rattle.std.proofs.Common.{[]}
 use Rattle.form_reader.specs.Surrounding.{setting}
-use Rattle.form_reader.specs.Reading.{line_after}
+use Rattle.lisp_reading.specs.Reading.{line_after}
 use Rattle.form_reader.proofs.Endings.{line_end}
 use Rattle.form_reader.proofs.Goings.{ends}
 use Rattle.form_reader.proofs.ending.last_line.Goals as goal

@@ -1,6 +1,6 @@
 use Rattle.std.proofs.Common.{sym, ap, ◌∙◌}
 use Rattle.form_reader.specs.Surrounding.{setting}
-use Rattle.form_reader.specs.Reading.{stands_alone}
+use Rattle.lisp_reading.specs.Reading.{stands_alone}
 use Rattle.form_reader.proofs.ObjectTokens.{object_begins, first_told}
 use Rattle.form_reader.proofs.in_place.begun_at.Goals as goal
 

@@ -1,5 +1,5 @@
 use Rattle.std.proofs.Common.{sym, ap, ◌∙◌, arith}
-use Rattle.form_reader.specs.Reading.{is_blank}
+use Rattle.lisp_reading.specs.Reading.{is_blank}
 use Rattle.form_reader.specs.Surrounding.{setting}
 use Rattle.form_reader.proofs.ObjectTokens.{blank_stays}
 use Rattle.form_reader.proofs.Spaces.{blank_is, blank_passes, space_is}

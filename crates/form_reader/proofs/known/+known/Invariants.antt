@@ -1,7 +1,7 @@
 use Rattle.std.proofs.Common.{◌≡◌, true, take}
 use Rattle.std.specs.List.{list_all}
 use Rattle.lisp_object.specs.Datum.{object_of}
-use Rattle.form_reader.specs.Answering.{are_known}
+use Rattle.lisp_reading.specs.Answering.{are_known}
 use Rattle.form_reader.proofs.known.+known.Given as goal
 
 abbrev pub invariant-each_known-loop-item : goal.invariant-each_known-loop-item

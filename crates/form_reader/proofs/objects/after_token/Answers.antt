@@ -1,6 +1,6 @@
 use Rattle.form_reader.specs.Surrounding.{setting}
 use Rattle.std.proofs.Common.{arith, sym, ◌∙◌, ap}
-use Rattle.form_reader.specs.Reading.{is_blank}
+use Rattle.lisp_reading.specs.Reading.{is_blank}
 use Rattle.form_reader.proofs.ObjectTokens.{space_taken, space_over, space_passed}
 use Rattle.form_reader.proofs.objects.after_token.Goals as goal
 

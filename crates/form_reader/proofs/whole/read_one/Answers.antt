@@ -1,8 +1,8 @@
 use Rattle.std.proofs.Common.{◌<◌, sym, subst, ◌∙◌, take}
 use Rattle.std.proofs.lemmas.List.{take_more, drop_more}
-use Rattle.form_reader.specs.declared.limits.Limits.{Limits}
-use Rattle.form_reader.specs.Setting.{Setting, setting_of}
-use Rattle.form_reader.specs.Reading.{is_whitespace}
+use Rattle.lisp_reading.specs.declared.limits.Limits.{Limits}
+use Rattle.lisp_reading.specs.Setting.{Setting, setting_of}
+use Rattle.lisp_reading.specs.Reading.{is_whitespace}
 use Rattle.form_reader.proofs.ReaderSteps.{decided_form, decided_refusal}
 use Rattle.form_reader.proofs.WholeTexts.{byte_counted, byte_after, each_holds}
 use Rattle.form_reader.proofs.whole.read_one.Goals as goal

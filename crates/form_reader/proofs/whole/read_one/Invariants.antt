@@ -1,7 +1,7 @@
 use Rattle.std.proofs.Common.{◌≡◌, ◌<◌, true, take}
 use Rattle.std.specs.List.{list_all}
-use Rattle.form_reader.specs.Reading.{is_whitespace}
-use Rattle.form_reader.specs.Setting.{setting_of}
+use Rattle.lisp_reading.specs.Reading.{is_whitespace}
+use Rattle.lisp_reading.specs.Setting.{setting_of}
 use Rattle.form_reader.specs.Reader.{fed, IsAfter, IsBetween}
 use Rattle.form_reader.proofs.whole.read_one.Given as goal
 

@@ -1,7 +1,7 @@
 use Rattle.std.proofs.Common.{subst, IfOk}
 use Rattle.form_reader.specs.Reader.{IsAfter, IsOutcome}
-use Rattle.form_reader.specs.Reading.{reads}
-use Rattle.form_reader.specs.Setting.{Setting}
+use Rattle.lisp_reading.specs.Reading.{reads}
+use Rattle.lisp_reading.specs.Setting.{Setting}
 use Rattle.prevalence_store.proofs.Pendings.{called_setting}
 use Rattle.prevalence_store.proofs.input.finish_in.Goals as goal
 

@@ -1,6 +1,6 @@
 use Rattle.std.proofs.Common.{◌∷◌, [], ◌++◌, subst, IfOk}
 use Rattle.form_reader.specs.Reader.{IsAfter, Steps}
-use Rattle.form_reader.specs.Setting.{Setting}
+use Rattle.lisp_reading.specs.Setting.{Setting}
 use Rattle.prevalence_store.proofs.Pendings.{called_setting}
 use Rattle.prevalence_store.proofs.input.step_in.Goals as goal
 

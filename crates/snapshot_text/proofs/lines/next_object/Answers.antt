@@ -1,7 +1,7 @@
 use Rattle.std.proofs.Common.{◌∷◌, [], append_assoc, sym, ap, ◌∙◌, arith}
 use Rattle.package_table.specs.Table.{common_lisp_user}
 use Rattle.canon_printer.specs.Printed.{printed}
-use Rattle.form_reader.specs.Reading.{reads}
+use Rattle.lisp_reading.specs.Reading.{reads}
 use Rattle.snapshot_text.proofs.NextLine.{after_byte, next_refused}
 use Rattle.snapshot_text.proofs.lines.next_object.Goals as goal
 

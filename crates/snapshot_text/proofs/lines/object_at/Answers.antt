@@ -1,5 +1,5 @@
 use Rattle.std.proofs.Common.{◌≡◌, ◌<◌, ◌++◌, length, rules, arith, ap, ◌∙◌}
-use Rattle.form_reader.specs.Reading.{reads}
+use Rattle.lisp_reading.specs.Reading.{reads}
 use Rattle.snapshot_text.proofs.NextLine.{rest_is, text_within, after_text, next_refused}
 use Rattle.snapshot_text.proofs.lines.object_at.Goals as goal
 

@@ -1,5 +1,5 @@
 use Rattle.std.proofs.Common.{sym, rules}
-use Rattle.form_reader.specs.declared.found.Found.TheVariants.{LoneDot as lone_dot}
+use Rattle.lisp_reading.specs.declared.found.Found.TheVariants.{LoneDot as lone_dot}
 use Rattle.form_reader.proofs.Taking.{last_takes}
 use Rattle.form_reader.proofs.frame.Frames.take_dot.Goals as goal
 

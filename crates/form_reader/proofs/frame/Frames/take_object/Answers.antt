@@ -1,5 +1,5 @@
 use Rattle.std.proofs.Common.{sym, rules}
-use Rattle.form_reader.specs.declared.found.Found.TheVariants.{One as one}
+use Rattle.lisp_reading.specs.declared.found.Found.TheVariants.{One as one}
 use Rattle.form_reader.proofs.Taking.{last_takes, taken_so}
 use Rattle.form_reader.proofs.frame.Frames.take_object.Goals as goal
 

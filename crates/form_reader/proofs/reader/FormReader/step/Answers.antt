@@ -3,7 +3,7 @@ use Rattle.std.specs.Prelude.{IsTrue}
 use Rattle.form_reader.specs.Standing.{is_standing}
 use Rattle.form_reader.specs.declared.reader.State.{State}
 use Rattle.form_reader.specs.declared.reader.State.TheVariants.{Open}
-use Rattle.form_reader.specs.Setting.{setting_of}
+use Rattle.lisp_reading.specs.Setting.{setting_of}
 use Rattle.form_reader.specs.Reader.{IsAfterIn}
 use Rattle.form_reader.proofs.ReaderSteps.{went_on, went_past, gave_up, taken_there, passed_there, left_there, refused_there, ready_there, ready_past}
 use Rattle.form_reader.proofs.Standings.{standing_of}

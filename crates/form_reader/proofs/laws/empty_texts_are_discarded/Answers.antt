@@ -1,5 +1,0 @@
-use Rattle.form_reader.proofs.Discardings.{empty_is_discarded, discarded_is_empty}
-use Rattle.form_reader.proofs.laws.empty_texts_are_discarded.Goals as goal
-
-pub returns : goal.returns
-returns c = record { discarded = empty_is_discarded; empty = discarded_is_empty }

@@ -1,5 +1,0 @@
-use Rattle.form_reader.proofs.Bounded.{form_below}
-use Rattle.form_reader.proofs.laws.forms_are_within_the_limit.Goals as goal
-
-pub returns : goal.returns
-returns c = form_below

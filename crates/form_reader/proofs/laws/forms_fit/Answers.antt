@@ -1,8 +1,0 @@
-use Rattle.form_reader.proofs.Fittings.{form_fits, form_depth}
-use Rattle.form_reader.proofs.laws.forms_fit.Goals as goal
-
-pub returns-clause-fit : goal.returns-clause-fit
-returns-clause-fit c = form_fits
-
-pub returns-clause-depth : goal.returns-clause-depth
-returns-clause-depth c = form_depth

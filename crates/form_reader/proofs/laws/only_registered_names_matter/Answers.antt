@@ -1,6 +1,0 @@
-use Rattle.form_reader.proofs.Registered.{setting_same, one_answer}
-use Rattle.form_reader.proofs.laws.only_registered_names_matter.Goals as goal
-
-pub returns : goal.returns
-returns c = λ limits table packages current functions names to from.
-    setting_same limits table packages current functions names (λ name. one_answer _ _ (from name) (to name))

@@ -1,5 +1,0 @@
-use Rattle.form_reader.proofs.Dependings.{reading_same}
-use Rattle.form_reader.proofs.laws.only_what_is_found_matters.Goals as goal
-
-pub returns : goal.returns
-returns c = reading_same

@@ -1,8 +1,0 @@
-use Rattle.form_reader.proofs.Deciding.{refusal_stays}
-use Rattle.form_reader.proofs.laws.refusals_are_decided.Goals as goal
-
-pub returns : goal.returns
-returns c = record {
-  inside = λ setting text code place e. (refusal_stays setting text code place e).0;
-  decided = λ setting text more code place e lt. (refusal_stays setting text code place e).1 lt more;
-}

@@ -1,8 +1,0 @@
-use Rattle.form_reader.proofs.Following.{form_again, form_spaced}
-use Rattle.form_reader.proofs.laws.spaced_forms_are_framed.Goals as goal
-
-pub returns-clause-again : goal.returns-clause-again
-returns-clause-again c = form_again
-
-pub returns-clause-space : goal.returns-clause-space
-returns-clause-space c = form_spaced

@@ -1,0 +1,496 @@
+-- A form is no deeper than the nesting, and each predicate that allows what may be read holds of its atoms.
+use Rattle.std.proofs.Common.{◌≡◌, ℕ, zero, suc, ◌+◌, ◌-◌, ◌≤◌, ◌^◌, ◌/◌, ℤ, pos, Bool, true, false, List, [], ◌∷◌, ◌++◌, length, map, replicate, All, codes, bytes_eq, Option, Some, None, Result, Ok, Err, inl, refl, ap, subst, ◌∙◌, arith}
+use Rattle.std.specs.Prelude.{nat_lt, nat_le, not, ◌&&◌, ◌||◌, ◌==◌, if◌then◌else◌, option_map, unsigned_abs, int_div}
+use Rattle.std.specs.Option.{option_map_or, option_or, ok_or}
+use Rattle.std.specs.List.{list_all, slice_split}
+use Rattle.std.specs.FinMap as finite
+use Rattle.std.specs.FinMap.{get-from_entries}
+use Rattle.std.proofs.lemmas.Bool.{and_parts, leb-true}
+use Rattle.std.proofs.lemmas.List.Elements.{All-nil, All-cons, All-head, All-tail, All-append, All-replicate}
+use Rattle.lisp_object.specs.Object as o
+use Rattle.lisp_object.specs.Object.{Object, nil, pairs, list_of, AllAtoms, object_depth, depth_along, object_size}
+use Rattle.lisp_object.specs.Quotient.{divided, gcd, quotient}
+use Rattle.readtable_core.specs.Characters.{upper_case}
+use Rattle.readtable_core.specs.declared.table.Case.{Case}
+use Rattle.readtable_core.specs.declared.table.Case.TheVariants.{Upcase, Downcase, Preserve, Invert}
+use Rattle.package_table.specs.declared.error.PackageError.TheVariants.{LockedPackage, NoPackage, NotExternal}
+use Rattle.package_table.specs.Table.{Name, Entry, Table as Packages, name_cmp, common_lisp, common_lisp_names, common_lisp_package, keyword, package_named, Finds}
+use Rattle.package_table.specs.Lookup.{found, external_home}
+use Rattle.package_table.specs.Resolving.{found_at, new_in, resolution}
+use Rattle.package_table.proofs.Found.{found_finds}
+use Rattle.package_table.proofs.Names.{name_total}
+use Rattle.token_scan.specs.declared.mark.Mark.{Mark}
+use Rattle.token_scan.specs.declared.mark.Mark.TheVariants.{Plain, Quoted, Bar}
+use Rattle.token_scan.specs.Marks.{characters, character_count}
+use Rattle.token_scan.proofs.Spelled.{plain_counts, quoted_counts, bar_counts}
+use Rattle.token_meaning.specs.declared.refusal.MeaningRefusal.{MeaningRefusal}
+use Rattle.token_meaning.specs.declared.refusal.MeaningRefusal.TheVariants.{NumberRange, ZeroDenominator, FloatToken, DotsOnly}
+use Rattle.token_meaning.specs.declared.token.TokenName.{TokenName}
+use Rattle.token_meaning.specs.declared.token.TokenName.TheVariants.{Unqualified, Keyword, External, Internal}
+use Rattle.token_meaning.specs.Folding.{on_plain, lower_case, has_upper_case, has_lower_case, in_upper_case, in_lower_case, folded}
+use Rattle.token_meaning.specs.Meanings.{Meaning, dot, is_plain, number_or_name, name_of, dots_of, pattern, meaning_of, rational_of, is_package_marker}
+use Rattle.token_meaning.specs.Numbers.{integer_of, ratio_of, integer_form, decimal_form, ratio_form, float_form, is_float, rational_form, decimal_or_float_form, number_of, rational_number, is_slash, is_point}
+use Rattle.token_meaning.specs.Numerals.{is_empty, is_numeral, value, without_sign, is_negative, signed, is_in_range, cut}
+use Rattle.std_macros.specs.declared.kind.Standard.{Standard}
+use Rattle.std_macros.specs.declared.kind.Standard.TheVariants.{List as AList, Close, Quote, Comment, String, Out, Char, Function as FunctionName, Vector, Uninterned, Block as ABlock, Binary, Octal, Hex, Radix}
+use Rattle.std_macros.specs.declared.refusal.StdRefusal.TheVariants.{VectorLength, UninternedToken}
+use Rattle.std_macros.specs.Kinds.{radix_of}
+use Rattle.std_macros.specs.Values.{Material, nothing, one, many, dotted, letters, marked, Value, given, headed_value, list_value, text_value, code_named, character_or_refused, character_of, character_value, last_of, bounded, vector_with, vector_of, vector_value, is_own_name, uninterned_value, rational_or_refused, rational_value, radix_value, value_of}
+use Rattle.lisp_reading.specs.declared.told.Told.{Told}
+use Rattle.lisp_reading.specs.declared.told.Told.TheVariants.{Object as told_object, Dot as dot_alone}
+use Rattle.lisp_reading.specs.Answering.{is_known, are_known}
+use Rattle.lisp_reading.specs.Naming.{symbol_at, symbol_in, named, told_of}
+use Rattle.lisp_reading.specs.Setting.{Setting}
+use Rattle.lisp_reading.specs.Reading.{form, attempt, reads}
+use Rattle.lisp_reading.proofs.Forms.{first, stood}
+use Rattle.lisp_reading.proofs.Homes.{external_there}
+use Rattle.lisp_reading.proofs.Keeping.{Given, given_keeps}
+use Rattle.lisp_reading.proofs.Language.{FoundAt, MaterialAt, AreKept, found_more, outermost_keeps}
+
+-- ---- depths of lists
+
+along_within : (x : Object) → depth_along x ≤ object_depth x
+along_within (o.pair a b) = omega arith
+along_within (o.vector xs) = omega arith
+along_within (o.integer n) = omega arith
+along_within (o.rational n d) = omega arith
+along_within (o.character c) = omega arith
+along_within (o.text bytes) = omega arith
+along_within (o.symbol home own) = omega arith
+along_within (o.uninterned own) = omega arith
+
+module _ (P : Object → Type 0) where
+  -- P holds of its atoms, and it is at most so deep
+  abbrev pub Within : ℕ → Object → Type 0
+  Within depth x = (object_depth x ≤ depth) × AllAtoms P x
+
+  -- the same as the end of a list
+  abbrev Along : ℕ → Object → Type 0
+  Along depth x = (depth_along x ≤ depth) × AllAtoms P x
+
+  pairs_along : (depth : ℕ) (xs : List Object) (tail : Object) → All (Within depth) xs → Along depth tail → Along depth (pairs xs tail)
+  pairs_along depth [] tail all end = end
+  pairs_along depth (x ∷ xs) tail all end =
+      let rest = pairs_along depth xs tail (All-tail (Within depth) x xs all) end in
+      let first = All-head (Within depth) x xs all in
+      (omega (arith, rest.0, first.0), (first.1, rest.1))
+
+  pairs_within : (depth : ℕ) (xs : List Object) (tail : Object) → All (Within depth) xs → Within depth tail → Within (suc depth) (pairs xs tail)
+  pairs_within depth [] tail all end = (omega (arith, end.0), end.1)
+  pairs_within depth (x ∷ xs) tail all end =
+      let whole = pairs_along depth (x ∷ xs) tail all (omega (arith, end.0, along_within tail), end.1) in
+      (omega (arith, whole.0), whole.1)
+
+  vector_within : (depth : ℕ) (xs : List Object) → P nil → All (Within depth) xs → Within (suc depth) (o.vector (list_of xs))
+  vector_within depth xs end all =
+      let whole = pairs_along depth xs nil all (omega arith, end) in
+      (omega (arith, whole.0), whole.1)
+
+  last_within : (depth : ℕ) (xs : List Object) (x : Object) → last_of xs ≡ Some x → All (Within depth) xs → Within depth x
+  unfolding last_of
+  last_within depth [] x e all = absurd cc
+  last_within depth (y ∷ []) x e all = let same : y ≡ x = cc in subst (Within depth) same (All-head (Within depth) y [] all)
+  last_within depth (y ∷ z ∷ zs) x e all = last_within depth (z ∷ zs) x e (All-tail (Within depth) y (z ∷ zs) all)
+
+-- ---- characters of names
+
+changed_characters : (change : ℕ → ℕ) (marks : List Mark) → length (characters (map (on_plain change) marks)) ≡ character_count marks
+changed_characters change [] = refl
+changed_characters change (Plain c ∷ marks) = omega (arith, changed_characters change marks, plain_counts c marks)
+changed_characters change (Quoted c ∷ marks) = omega (arith, changed_characters change marks, quoted_counts c marks)
+changed_characters change (Bar ∷ marks) = omega (arith, changed_characters change marks, bar_counts marks)
+
+same_characters : (marks : List Mark) → length (characters marks) ≡ character_count marks
+same_characters [] = refl
+same_characters (Plain c ∷ marks) = omega (arith, same_characters marks, plain_counts c marks)
+same_characters (Quoted c ∷ marks) = omega (arith, same_characters marks, quoted_counts c marks)
+same_characters (Bar ∷ marks) = omega (arith, same_characters marks, bar_counts marks)
+
+folded_characters : (case : Case) (marks : List Mark) → length (characters (folded case marks)) ≡ character_count marks
+folded_characters Upcase marks = changed_characters upper_case marks
+folded_characters Downcase marks = changed_characters lower_case marks
+folded_characters Preserve marks = same_characters marks
+folded_characters Invert marks =
+    elim (has_upper_case marks) as (λ b. length (characters (if not b then in_upper_case marks else (if not (has_lower_case marks) then in_lower_case marks else marks))) ≡ character_count marks) [
+      | false ↦ changed_characters upper_case marks
+      | true ↦ elim (has_lower_case marks) as (λ b. length (characters (if not b then in_lower_case marks else marks)) ≡ character_count marks) [
+        | false ↦ changed_characters lower_case marks
+        | true ↦ same_characters marks
+      ]
+    ]
+
+-- ---- numbers
+
+-- of the objects that a number may be, P holds
+abbrev OfNumber : (Object → Type 0) → Option (Result Object MeaningRefusal) → Type 0
+OfNumber P None = Unit {0}
+OfNumber P (Some (Ok x)) = P x
+OfNumber P (Some (Err refusal)) = Unit {0}
+
+-- an integer or a ratio
+abbrev IsNumber : Object → Type 0
+IsNumber (o.integer n) = Unit {0}
+IsNumber (o.rational n d) = Unit {0}
+IsNumber _ = ⊥
+
+-- a number, or nothing, or a refusal
+abbrev Numeric : Option (Result Object MeaningRefusal) → Type 0
+Numeric = OfNumber IsNumber
+
+chosen_numeric : (b : Bool) (v w : Option (Result Object MeaningRefusal)) → Numeric v → Numeric w → Numeric (if b then v else w)
+chosen_numeric true v w p q = p
+chosen_numeric false v w p q = q
+
+first_numeric : (v w : Option (Result Object MeaningRefusal)) → Numeric v → Numeric w → Numeric (option_or v w)
+first_numeric (Some r) w p q = p
+first_numeric None w p q = q
+
+integer_numeric : (negative : Bool) (size : ℕ) → Numeric (Some (integer_of negative size))
+integer_numeric negative size =
+    elim (is_in_range negative size) as (λ b. Numeric (Some (if b then Ok (o.integer (signed negative size)) else Err NumberRange))) [ true ↦ tt | false ↦ tt ]
+
+quotient_numeric : (n : ℤ) (d : ℕ) → Numeric (Some (ok_or (quotient n d) ZeroDenominator))
+quotient_numeric n d =
+    let g = gcd (unsigned_abs n) d in
+    elim (d == 0) as (λ b. Numeric (Some (ok_or (if b then None else Some (divided n d g)) ZeroDenominator))) [
+      | true ↦ tt
+      | false ↦ elim (d / g == 1) as (λ b. IsNumber (if b then o.integer (int_div n (pos g)) else o.rational (int_div n (pos g)) (d / g))) [ true ↦ tt | false ↦ tt ]
+    ]
+
+ratio_numeric : (negative : Bool) (n d : ℕ) → Numeric (Some (ratio_of negative n d))
+ratio_numeric negative n d =
+    elim (d == 0 || (is_in_range negative n && nat_lt d (2 ^ 128))) as (λ b. Numeric (Some (if b then ok_or (quotient (signed negative n) d) ZeroDenominator else Err NumberRange))) [
+      | true ↦ quotient_numeric (signed negative n) d
+      | false ↦ tt
+    ]
+
+decimal_numeric : (negative : Bool) (parts : Option (List ℕ × List ℕ)) → Numeric (decimal_form negative parts)
+decimal_numeric negative None = tt
+decimal_numeric negative (Some (whole, fraction)) =
+    chosen_numeric (is_numeral 10 whole && is_empty fraction) (Some (integer_of negative (value 10 whole))) None (integer_numeric negative (value 10 whole)) tt
+
+ratio_form_numeric : (base : ℕ) (negative : Bool) (parts : Option (List ℕ × List ℕ)) → Numeric (ratio_form base negative parts)
+ratio_form_numeric base negative None = tt
+ratio_form_numeric base negative (Some (n, d)) =
+    chosen_numeric (is_numeral base n && is_numeral base d) (Some (ratio_of negative (value base n) (value base d))) None (ratio_numeric negative (value base n) (value base d)) tt
+
+rational_numeric : (base : ℕ) (negative : Bool) (text : List ℕ) → Numeric (rational_form base negative text)
+rational_numeric base negative text =
+    first_numeric (integer_form base negative text) (ratio_form base negative (cut is_slash text))
+    (chosen_numeric (is_numeral base text) (Some (integer_of negative (value base text))) None (integer_numeric negative (value base text)) tt)
+    (ratio_form_numeric base negative (cut is_slash text))
+
+number_numeric : (base : ℕ) (text : List ℕ) → Numeric (number_of base text)
+number_numeric base text =
+    let body = without_sign text in
+    first_numeric (rational_form base (is_negative text) body) (decimal_or_float_form (is_negative text) body) (rational_numeric base (is_negative text) body)
+    (first_numeric (decimal_form (is_negative text) (cut is_point body)) (float_form body) (decimal_numeric (is_negative text) (cut is_point body))
+    (chosen_numeric (is_float body) (Some (Err FloatToken)) None tt tt))
+
+-- ---- symbols
+
+-- a symbol that COMMON-LISP has first
+abbrev pub IsFirst : Name → Type 0
+IsFirst own = option_map (λ (e : Entry). e.home) (finite.get common_lisp_package.symbols own) ≡ Some common_lisp
+
+-- its name is listed
+listed_first : (own : Name)
+    → option_map (λ (e : Entry). e.home) (finite.find name_cmp own (map (λ n. (n, record { home = common_lisp; external = true })) common_lisp_names)) ≡ Some common_lisp → IsFirst own
+unfolding common_lisp_package
+listed_first own listed =
+    ap (option_map (λ (e : Entry). e.home)) (get-from_entries name_total (map (λ n. (n, record { home = common_lisp; external = true })) common_lisp_names) own) ∙ listed
+
+pub nil_first : IsFirst (codes "NIL")
+unfolding common_lisp_names
+nil_first = listed_first (codes "NIL") refl
+
+quote_first : IsFirst (codes "QUOTE")
+unfolding common_lisp_names
+quote_first = listed_first (codes "QUOTE") refl
+
+function_first : IsFirst (codes "FUNCTION")
+unfolding common_lisp_names
+function_first = listed_first (codes "FUNCTION") refl
+
+-- In these packages, with tokens of at most so many characters, P holds of each atom that a form may have: of a symbol
+-- that is found, or is new; of one that COMMON-LISP has first; of a keyword; of a symbol that may be answered; of an
+-- uninterned one, answered or read; and of an atom that is no symbol.
+pub record Allows (packages : Packages) (limit : ℕ) (P : Object → Type 0) : Type 0 where
+  pub present : (p own home : Name) → Finds packages p own home → P (o.symbol home own)
+  pub new : (p own : Name) → found packages p own ≡ None → P (o.symbol p own)
+  pub first : (own : Name) → IsFirst own → P (o.symbol common_lisp own)
+  pub keywords : (own : Name) → P (o.symbol keyword own)
+  pub known : (home own : Name) → is_known packages home own ≡ true → P (o.symbol home own)
+  pub answered : (own : Name) → length own ≤ 4096 → P (o.uninterned own)
+  pub uninterned : (own : Name) → length own ≤ limit → P (o.uninterned own)
+  pub integer : (n : ℤ) → P (o.integer n)
+  pub rational : (n : ℤ) (d : ℕ) → P (o.rational n d)
+  pub character : (c : ℕ) → P (o.character c)
+  pub text : (bytes : List ℕ) → P (o.text bytes)
+
+module _ (t : Packages) (limit : ℕ) (P : Object → Type 0) (allows : Allows t limit P) where
+  nil_allowed : P nil
+  nil_allowed = allows.first (codes "NIL") nil_first
+
+  quote_allowed : P (o.symbol (codes "COMMON-LISP") (codes "QUOTE"))
+  quote_allowed = allows.first (codes "QUOTE") quote_first
+
+  function_allowed : P (o.symbol (codes "COMMON-LISP") (codes "FUNCTION"))
+  function_allowed = allows.first (codes "FUNCTION") function_first
+
+  -- what a token names
+
+  abbrev ToldAllowed : Result Told ℕ → Type 0
+  ToldAllowed (Ok (told_object x)) = (object_depth x ≤ 0) × AllAtoms P x
+  ToldAllowed (Ok dot_alone) = Unit {0}
+  ToldAllowed (Err code) = Unit {0}
+
+  found_allowed : (p own : Name) (f : Option Name) → found t p own ≡ f
+      → ToldAllowed (symbol_in own (option_map_or (λ h. Ok (found_at h)) f (if bytes_eq p common_lisp then Err LockedPackage else Ok (new_in p))))
+  found_allowed p own (Some h) e = (omega arith, allows.present p own h (found_finds t own p h e))
+  found_allowed p own None e =
+      elim (bytes_eq p common_lisp) as (λ b. ToldAllowed (symbol_in own (if b then Err LockedPackage else Ok (new_in p)))) [
+        | true ↦ tt
+        | false ↦ (omega arith, allows.new p own e)
+      ]
+
+  inside_allowed : (p own : Name) → ToldAllowed (symbol_in own (resolution t p own))
+  inside_allowed p own = found_allowed p own (found t p own) refl
+
+  prefixed_allowed : (own : Name) (p : Option Name) → ToldAllowed (symbol_in own (option_map_or (λ p. resolution t p own) p (Err NoPackage)))
+  prefixed_allowed own None = tt
+  prefixed_allowed own (Some p) = inside_allowed p own
+
+  external_allowed : (p own : Name) (f : Option Name) → external_home t p own ≡ f → ToldAllowed (symbol_at own (option_map_or (λ h. Ok h) f (Err NotExternal)))
+  external_allowed p own None e = tt
+  external_allowed p own (Some h) e = (omega arith, allows.present p own h (inl (external_there t p own h e)))
+
+  shown_allowed : (own : Name) (p : Option Name) → ToldAllowed (symbol_at own (option_map_or (λ p. option_map_or (λ h. Ok h) (external_home t p own) (Err NotExternal)) p (Err NoPackage)))
+  shown_allowed own None = tt
+  shown_allowed own (Some p) = external_allowed p own (external_home t p own) refl
+
+  named_allowed : (current : Name) (own : TokenName) → ToldAllowed (named t current own)
+  named_allowed current (Unqualified own) = inside_allowed current own
+  named_allowed current (Keyword own) = (omega arith, allows.keywords own)
+  named_allowed current (External prefix own) = shown_allowed own (package_named t prefix)
+  named_allowed current (Internal prefix own) = prefixed_allowed own (package_named t prefix)
+
+  -- what a token means
+
+  abbrev MeantAllowed : Name → Result Meaning MeaningRefusal → Type 0
+  MeantAllowed current r = ToldAllowed (told_of t current r)
+
+  pattern_allowed : (current : Name) (parts : List (List Mark)) → MeantAllowed current (pattern parts)
+  pattern_allowed current [] = tt
+  pattern_allowed current (whole ∷ []) = named_allowed current (Unqualified (characters whole))
+  pattern_allowed current ([] ∷ [] ∷ rest) = tt
+  pattern_allowed current ([] ∷ (m ∷ ms) ∷ []) = named_allowed current (Keyword (characters (m ∷ ms)))
+  pattern_allowed current ([] ∷ (m ∷ ms) ∷ part ∷ rest) = tt
+  pattern_allowed current ((p ∷ ps) ∷ (m ∷ ms) ∷ []) = named_allowed current (External (characters (p ∷ ps)) (characters (m ∷ ms)))
+  pattern_allowed current ((p ∷ ps) ∷ (m ∷ ms) ∷ part ∷ rest) = tt
+  pattern_allowed current ((p ∷ ps) ∷ [] ∷ []) = tt
+  pattern_allowed current ((p ∷ ps) ∷ [] ∷ [] ∷ rest) = tt
+  pattern_allowed current ((p ∷ ps) ∷ [] ∷ (m ∷ ms) ∷ []) = named_allowed current (Internal (characters (p ∷ ps)) (characters (m ∷ ms)))
+  pattern_allowed current ((p ∷ ps) ∷ [] ∷ (m ∷ ms) ∷ part ∷ rest) = tt
+
+  number_allowed : (x : Object) → IsNumber x → (object_depth x ≤ 0) × AllAtoms P x
+  number_allowed (o.integer n) h = (omega arith, allows.integer n)
+  number_allowed (o.rational n d) h = (omega arith, allows.rational n d)
+  number_allowed (o.character c) h = absurd h
+  number_allowed (o.text bytes) h = absurd h
+  number_allowed (o.symbol home own) h = absurd h
+  number_allowed (o.uninterned own) h = absurd h
+  number_allowed (o.pair a b) h = absurd h
+  number_allowed (o.vector xs) h = absurd h
+
+  number_or_name_allowed : (current : Name) (given : Option (Result Object MeaningRefusal)) (marks : List Mark) → Numeric given → MeantAllowed current (number_or_name given marks)
+  number_or_name_allowed current None marks h = pattern_allowed current (slice_split is_package_marker marks)
+  number_or_name_allowed current (Some (Ok x)) marks h = number_allowed x h
+  number_or_name_allowed current (Some (Err refusal)) marks h = tt
+
+  meant_allowed : (current : Name) (base : ℕ) (marks : List Mark) → MeantAllowed current (meaning_of base marks)
+  meant_allowed current base marks =
+      elim (list_all is_plain marks) as (λ b. MeantAllowed current (if b
+      then (if list_all is_point (characters marks) then dots_of (characters marks) else number_or_name (number_of base (characters marks)) marks)
+      else name_of marks)) [
+        | true ↦ elim (list_all is_point (characters marks)) as (λ b. MeantAllowed current (if b then dots_of (characters marks) else number_or_name (number_of base (characters marks)) marks)) [
+          | true ↦ elim (length (characters marks) == 1) as (λ b. MeantAllowed current (if b then Ok dot else Err DotsOnly)) [ true ↦ tt | false ↦ tt ]
+          | false ↦ number_or_name_allowed current (number_of base (characters marks)) marks (number_numeric base (characters marks))
+        ]
+        | false ↦ pattern_allowed current (slice_split is_package_marker marks)
+      ]
+
+  -- ---- what may be answered
+
+  answer_allowed : (x : Object) → are_known t x ≡ true → AllAtoms P x
+  answer_allowed (o.symbol home own) h = allows.known home own h
+  answer_allowed (o.uninterned own) h = allows.answered own (leb-true (length own) 4096 h)
+  answer_allowed (o.pair a b) h = let parts = and_parts (are_known t a) (are_known t b) h in (answer_allowed a parts.0, answer_allowed b parts.1)
+  answer_allowed (o.vector xs) h = answer_allowed xs h
+  answer_allowed (o.integer n) h = allows.integer n
+  answer_allowed (o.rational n d) h = allows.rational n d
+  answer_allowed (o.character c) h = allows.character c
+  answer_allowed (o.text bytes) h = allows.text bytes
+
+  -- ---- what standard functions make
+
+  abbrev Good : ℕ → Object → Type 0
+  Good = Within P
+
+  abbrev ValueAllowed : ℕ → Value → Type 0
+  ValueAllowed depth (Ok (Some x)) = Good depth x
+  ValueAllowed depth (Ok None) = Unit {0}
+  ValueAllowed depth (Err refusal) = Unit {0}
+
+  value_chosen : (depth : ℕ) (b : Bool) (v w : Value) → ValueAllowed depth v → ValueAllowed depth w → ValueAllowed depth (if b then v else w)
+  value_chosen depth true v w p q = p
+  value_chosen depth false v w p q = q
+
+  good_nil : (depth : ℕ) → Good depth nil
+  good_nil depth = (omega arith, nil_allowed)
+
+  list_good : (depth : ℕ) (m : Material) → MaterialAt Good limit depth m → ValueAllowed depth (list_value m)
+  list_good zero (many xs) h = absurd h
+  list_good zero (dotted xs tail) h = absurd h
+  list_good (suc depth) (many xs) h = pairs_within P depth xs nil h (good_nil depth)
+  list_good (suc depth) (dotted xs tail) h = pairs_within P depth xs tail h.0 h.1
+  list_good depth nothing h = tt
+  list_good depth (one x) h = tt
+  list_good depth (letters cs) h = tt
+  list_good depth (marked marks) h = tt
+
+  headed_good : (own : Name) → P (o.symbol (codes "COMMON-LISP") own) → (depth : ℕ) (m : Material) → MaterialAt Good limit depth m → ValueAllowed depth (headed_value own m)
+  headed_good own head zero (one x) h = absurd h
+  headed_good own head (suc depth) (one x) h =
+      pairs_within P depth (o.symbol (codes "COMMON-LISP") own ∷ x ∷ []) nil
+      (All-cons (Good depth) (o.symbol (codes "COMMON-LISP") own) (x ∷ []) (omega arith, head) (All-cons (Good depth) x [] h (All-nil (Good depth)))) (good_nil depth)
+  headed_good own head depth (many xs) h = tt
+  headed_good own head depth (dotted xs tail) h = tt
+  headed_good own head depth nothing h = tt
+  headed_good own head depth (letters cs) h = tt
+  headed_good own head depth (marked marks) h = tt
+
+  text_good : (depth : ℕ) (m : Material) → ValueAllowed depth (text_value m)
+  text_good depth (letters cs) = (omega arith, allows.text cs)
+  text_good depth (many xs) = tt
+  text_good depth (dotted xs tail) = tt
+  text_good depth nothing = tt
+  text_good depth (one x) = tt
+  text_good depth (marked marks) = tt
+
+  named_good : (depth : ℕ) (c : Option ℕ) → ValueAllowed depth (character_or_refused c)
+  named_good depth (Some c) = (omega arith, allows.character c)
+  named_good depth None = tt
+
+  code_good : (depth : ℕ) (cs : List ℕ) → ValueAllowed depth (character_of cs)
+  code_good depth [] = named_good depth (code_named [])
+  code_good depth (c ∷ []) = (omega arith, allows.character c)
+  code_good depth (c ∷ d ∷ ds) = named_good depth (code_named (c ∷ d ∷ ds))
+
+  character_good : (depth : ℕ) (m : Material) → ValueAllowed depth (character_value m)
+  character_good depth (marked marks) = code_good depth (characters marks)
+  character_good depth (many xs) = tt
+  character_good depth (dotted xs tail) = tt
+  character_good depth nothing = tt
+  character_good depth (one x) = tt
+  character_good depth (letters cs) = tt
+
+  repeated_good : (depth n : ℕ) (xs : List Object) (last : Option Object) → last_of xs ≡ last → All (Good depth) xs → ValueAllowed (suc depth) (vector_with n xs last)
+  repeated_good depth n xs None e all =
+      value_chosen (suc depth) (n == 0) (given (o.vector (list_of []))) (Err VectorLength) (vector_within P depth [] nil_allowed (All-nil (Good depth))) tt
+  repeated_good depth n xs (Some last) e all =
+      let more = replicate (n - length xs) last in
+      let whole = o.vector (list_of (xs ++ more)) in
+      let each : All (Good depth) (xs ++ more) = All-append (Good depth) xs more all (All-replicate (Good depth) (n - length xs) last (last_within P depth xs last e all)) in
+      value_chosen (suc depth) (nat_lt n (length xs)) (Err VectorLength) (bounded (nat_lt (length xs) n) whole) tt
+      (value_chosen (suc depth) (nat_lt (length xs) n && nat_lt 1000000 (object_size whole)) (Err VectorLength) (given whole) tt (vector_within P depth (xs ++ more) nil_allowed each))
+
+  counted_good : (depth : ℕ) (n : Option ℕ) (xs : List Object) → All (Good depth) xs → ValueAllowed (suc depth) (vector_of n xs)
+  counted_good depth None xs all = vector_within P depth xs nil_allowed all
+  counted_good depth (Some n) xs all = repeated_good depth n xs (last_of xs) refl all
+
+  vector_good : (n : Option ℕ) (depth : ℕ) (m : Material) → MaterialAt Good limit depth m → ValueAllowed depth (vector_value n m)
+  vector_good n zero (many xs) h = absurd h
+  vector_good n (suc depth) (many xs) h = counted_good depth n xs h
+  vector_good n depth (dotted xs tail) h = tt
+  vector_good n depth nothing h = tt
+  vector_good n depth (one x) h = tt
+  vector_good n depth (letters cs) h = tt
+  vector_good n depth (marked marks) h = tt
+
+  uninterned_good : (case : Case) (depth : ℕ) (m : Material) → MaterialAt Good limit depth m → ValueAllowed depth (uninterned_value case m)
+  uninterned_good case depth (marked marks) h =
+      value_chosen depth (is_own_name marks) (given (o.uninterned (characters (folded case marks)))) (Err UninternedToken)
+      (omega arith, allows.uninterned (characters (folded case marks)) (omega (arith, h, folded_characters case marks))) tt
+  uninterned_good case depth (many xs) h = tt
+  uninterned_good case depth (dotted xs tail) h = tt
+  uninterned_good case depth nothing h = tt
+  uninterned_good case depth (one x) h = tt
+  uninterned_good case depth (letters cs) h = tt
+
+  good_number : (depth : ℕ) (x : Object) → IsNumber x → Good depth x
+  good_number depth x h = let none = number_allowed x h in (omega (arith, none.0), none.1)
+
+  digits_good : (depth : ℕ) (r : Option (Result Object MeaningRefusal)) → Numeric r → ValueAllowed depth (rational_or_refused r)
+  digits_good depth None h = tt
+  digits_good depth (Some (Ok x)) h = good_number depth x h
+  digits_good depth (Some (Err refusal)) h = tt
+
+  digits_numeric : (base : ℕ) (marks : List Mark) → Numeric (rational_of base marks)
+  digits_numeric base marks =
+      chosen_numeric (list_all is_plain marks) (rational_number base (characters marks)) None
+      (rational_numeric base (is_negative (characters marks)) (without_sign (characters marks))) tt
+
+  rational_good : (base depth : ℕ) (m : Material) → ValueAllowed depth (rational_value base m)
+  rational_good base depth (marked marks) = digits_good depth (rational_of base marks) (digits_numeric base marks)
+  rational_good base depth (many xs) = tt
+  rational_good base depth (dotted xs tail) = tt
+  rational_good base depth nothing = tt
+  rational_good base depth (one x) = tt
+  rational_good base depth (letters cs) = tt
+
+  radix_good : (base : Option ℕ) (depth : ℕ) (m : Material) → ValueAllowed depth (radix_value base m)
+  radix_good None depth m = tt
+  radix_good (Some base) depth m = rational_good base depth m
+
+  value_good : (case : Case) (n : Option ℕ) (depth : ℕ) (kind : Standard) (m : Material) → MaterialAt Good limit depth m → ValueAllowed depth (value_of kind case n m)
+  value_good case n depth AList m h = list_good depth m h
+  value_good case n depth Close m h = tt
+  value_good case n depth Quote m h = headed_good (codes "QUOTE") quote_allowed depth m h
+  value_good case n depth Comment m h = tt
+  value_good case n depth String m h = text_good depth m
+  value_good case n depth Out m h = tt
+  value_good case n depth Char m h = character_good depth m
+  value_good case n depth FunctionName m h = headed_good (codes "FUNCTION") function_allowed depth m h
+  value_good case n depth Vector m h = vector_good n depth m h
+  value_good case n depth Uninterned m h = uninterned_good case depth m h
+  value_good case n depth ABlock m h = tt
+  value_good case n depth Binary m h = rational_good 2 depth m
+  value_good case n depth Octal m h = rational_good 8 depth m
+  value_good case n depth Hex m h = rational_good 16 depth m
+  value_good case n depth Radix m h = radix_good (radix_of n) depth m
+
+-- ---- forms
+
+kept_within : (setting : Setting) (P : Object → Type 0) → Allows setting.packages setting.limits.token P → AreKept setting (Within P)
+kept_within setting P allows = record {
+  tokens = λ depth marks x e.
+      let h : (object_depth x ≤ 0) × AllAtoms P x =
+      subst (ToldAllowed setting.packages setting.limits.token P allows) e (meant_allowed setting.packages setting.limits.token P allows setting.current setting.base (folded setting.table.letters marks)) in
+      (omega (arith, h.0), h.1);
+  values = λ depth kind number material x h e.
+      subst (ValueAllowed setting.packages setting.limits.token P allows depth) e (value_good setting.packages setting.limits.token P allows setting.table.letters number depth kind material h);
+  answers = λ depth x le known deep.
+      (omega (arith, le, deep), answer_allowed setting.packages setting.limits.token P allows x (and_parts (nat_le (object_size x) 1000000) (are_known setting.packages x) known).1);
+}
+
+pub good_form : (setting : Setting) (P : Object → Type 0) → Allows setting.packages setting.limits.token P → (text : List ℕ) (x : Object) (start «end» next : ℕ)
+    → reads setting text ≡ form x start «end» next → Within P setting.limits.nesting x
+unfolding reads
+good_form setting P allows text x start «end» next e =
+    let V = Within P in
+    let s = stood setting (length text + 1) 0 text x start «end» next e in
+    let keeps = outermost_keeps setting V (kept_within setting P allows) in
+    let all : Given (FoundAt V setting.limits.nesting) (first setting s.here) =
+    given_keeps (FoundAt V setting.limits.nesting) (found_more V setting.limits.nesting) setting.table setting.limits (attempt setting setting.limits.nesting) false 0 s.here keeps in
+    subst (Given (FoundAt V setting.limits.nesting)) s.found all

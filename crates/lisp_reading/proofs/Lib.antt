@@ -1,0 +1,23 @@
+pub mod Homes
+pub mod Framing
+pub mod Places
+pub mod Steps
+pub mod Forms
+pub mod Turns
+mod Rows
+pub mod Fed
+pub mod Functions
+pub mod Following
+pub mod Bounded
+pub mod Keeping
+pub mod Backs
+pub mod Language
+pub mod Allowing
+pub mod Fittings
+pub mod Numbers
+pub mod TokenFaults
+pub mod Faults
+pub mod Registered
+pub mod Dependings
+pub mod Refusals
+pub mod Discardings

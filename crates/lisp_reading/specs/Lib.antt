@@ -1,0 +1,10 @@
+pub mod Plans
+pub mod Gathering
+pub mod Calls
+pub mod Setting
+pub mod Naming
+pub mod Answering
+pub mod Reading
+pub mod Fitting
+pub mod Discarding
+pub mod Depending
