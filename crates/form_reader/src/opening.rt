@@ -15,7 +15,9 @@ use crate::frame::{Frame, Frames, Part};
 use crate::stage::{Event, Stage};
 use crate::surroundings::Surroundings;
 use lisp_object::refusal::{OUT_OF_PROFILE, TOO_DEEP};
-use lisp_reading::{Function, HeldObjects, HeldText, Invoked, Way, is_baseless, standard_way, user_way};
+use lisp_reading::{
+    Function, HeldObjects, HeldText, Invoked, Way, is_baseless, standard_way, user_way,
+};
 use std::alloc::AllocError;
 use std_macros::{StdGathered, way};
 use token_scan::TokenScan;
