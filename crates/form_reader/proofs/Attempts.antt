@@ -7,7 +7,7 @@ use Rattle.std.specs.declared.alloc.AllocError.{AllocError}
 use Rattle.std.proofs.Math.ListN.{get_or-eq_default}
 use Rattle.readtable_core.specs.declared.characters.Syntax.{Syntax}
 use Rattle.readtable_core.specs.declared.characters.Syntax.TheVariants.{Whitespace, TerminatingMacro, NonTerminatingMacro, Invalid}
-use Rattle.readtable_core.specs.Tables.{Table, Entry, entry_at, no_entry}
+use Rattle.readtable_core.specs.Tables.{Table, CharacterEntry, entry_at, no_entry}
 use Rattle.token_scan.specs.Scans.{begun}
 use Rattle.lisp_reading.specs.declared.limits.Limits.{Limits}
 use Rattle.lisp_reading.specs.declared.found.Found.{Found}
@@ -173,4 +173,4 @@ module _ (setting : Setting) (at c : ℕ) (cs : List ℕ) where
 pub invalid_beyond : (table : Table) (c : ℕ) → length table.entries ≡ 128 → 128 ≤ c → (entry_at table c).syntax ≡ Invalid
 invalid_beyond table c count beyond =
     let most : length table.entries ≤ c = omega (arith, count) in
-    ap (λ (e : Entry). e.syntax) (get_or-eq_default table.entries no_entry most)
+    ap (λ (e : CharacterEntry). e.syntax) (get_or-eq_default table.entries no_entry most)

@@ -4,8 +4,8 @@ use Rattle.form_reader.specs.declared.frame.Frame.{Frame}
 use Rattle.form_reader.specs.declared.reader.FormReader.{FormReader}
 use Rattle.form_reader.specs.declared.reader.Step.{Step}
 use Rattle.form_reader.specs.declared.reader.Step.TheVariants.{More as StepMore, Form as StepForm, Refused as StepRefused}
-use Rattle.form_reader.specs.declared.reader.State.{State}
-use Rattle.form_reader.specs.declared.reader.State.TheVariants.{Open}
+use Rattle.form_reader.specs.declared.reader.ReaderState.{State}
+use Rattle.form_reader.specs.declared.reader.ReaderState.TheVariants.{Open}
 use Rattle.form_reader.specs.declared.stage.Stage.TheVariants.{Object as AtObject}
 use Rattle.lisp_reading.specs.declared.found.Found.{Found}
 use Rattle.form_reader.specs.declared.stage.Event.{Event}

@@ -4,7 +4,7 @@ use Rattle.std.specs.Prelude.{nat_le, nat_lt, ◌==◌, ◌&&◌, if◌then◌el
 use Rattle.std.proofs.lemmas.Bool.{false≢true, le-ltb, lt-leb, ne_eqb, ltb-true, ltb-false}
 use Rattle.std.proofs.lemmas.List.{get_or_past}
 use Rattle.lisp_object.specs.declared.refusal.TheConstants.{INVALID_CHARACTER, FORM_TOO_LONG}
-use Rattle.readtable_core.specs.Tables.{Table, Entry, no_entry, entry_at}
+use Rattle.readtable_core.specs.Tables.{Table, CharacterEntry, no_entry, entry_at}
 use Rattle.readtable_core.specs.Characters.{is_digit}
 use Rattle.token_scan.specs.declared.mark.Mark.{Mark}
 use Rattle.token_scan.specs.declared.refusal.ScanRefusal.TheVariants.{InvalidCharacter}
@@ -138,7 +138,7 @@ module _ (setting : Setting) (frames : List Frame) (at c : ℕ) where
       attempt_fails depth =
           taken_fails setting.table setting.limits _ (λ d. stands_alone (entry_at setting.table d).syntax)
           (λ d. alone setting (setting.limits.nesting - depth) (inner setting depth) d (entry_at setting.table d).syntax) at c INVALID_CHARACTER refl
-          (ap (λ (e : Entry). stands_alone e.syntax) alien) (ap (λ (e : Entry). alone setting (setting.limits.nesting - depth) (inner setting depth) c e.syntax) alien)
+          (ap (λ (e : CharacterEntry). stands_alone e.syntax) alien) (ap (λ (e : CharacterEntry). alone setting (setting.limits.nesting - depth) (inner setting depth) c e.syntax) alien)
 
       then_fails : {A B : Type 0} (plan : Plan A) (on : A → Plan B) → Fails at (reading plan) → Fails at (reading (then_plan plan on))
       then_fails plan on h = (h.0, run_then setting.table setting.limits plan on at (c ∷ []) ∙ ap (and_then setting.table setting.limits on) h.1, h.2)

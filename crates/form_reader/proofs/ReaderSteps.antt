@@ -7,8 +7,8 @@ use Rattle.lisp_object.specs.Datum.{object_of, is_proper}
 use Rattle.form_reader.specs.declared.frame.Frame.{Frame}
 use Rattle.lisp_reading.specs.declared.limits.Limits.{Limits}
 use Rattle.form_reader.specs.declared.reader.FormReader.{FormReader}
-use Rattle.form_reader.specs.declared.reader.State.{State}
-use Rattle.form_reader.specs.declared.reader.State.TheVariants.{Open, Refused, OutOfMemory}
+use Rattle.form_reader.specs.declared.reader.ReaderState.{State}
+use Rattle.form_reader.specs.declared.reader.ReaderState.TheVariants.{Open, Refused, OutOfMemory}
 use Rattle.form_reader.specs.declared.reader.Step.{Step}
 use Rattle.form_reader.specs.declared.reader.Step.TheVariants.{More as StepMore, Form as StepForm, Refused as StepRefused}
 use Rattle.form_reader.specs.declared.stage.Stage.{Stage}

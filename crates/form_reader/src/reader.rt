@@ -1,7 +1,7 @@
 //! A reader that takes a text one byte at a time.
 ghost use Rattle.std.specs.Prelude.{◌≡◌, IsTrue};
 ghost use Rattle.form_reader.specs.Standing.{is_standing};
-ghost use Rattle.form_reader.specs.declared.reader.State.TheVariants.{Refused, OutOfMemory};
+ghost use Rattle.form_reader.specs.declared.reader.ReaderState.TheVariants.{Refused, OutOfMemory};
 
 use crate::ending::{ReadOutcome, last_outcome};
 use crate::frame::Frames;

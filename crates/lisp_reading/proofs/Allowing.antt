@@ -14,7 +14,7 @@ use Rattle.readtable_core.specs.Characters.{upper_case}
 use Rattle.readtable_core.specs.declared.table.Case.{Case}
 use Rattle.readtable_core.specs.declared.table.Case.TheVariants.{Upcase, Downcase, Preserve, Invert}
 use Rattle.package_table.specs.declared.error.PackageError.TheVariants.{LockedPackage, NoPackage, NotExternal}
-use Rattle.package_table.specs.Table.{Name, Entry, Table as Packages, name_cmp, common_lisp, common_lisp_names, common_lisp_package, keyword, package_named, Finds}
+use Rattle.package_table.specs.Table.{Name, Present, Table as Packages, name_cmp, common_lisp, common_lisp_names, common_lisp_package, keyword, package_named, Finds}
 use Rattle.package_table.specs.Lookup.{found, external_home}
 use Rattle.package_table.specs.Resolving.{found_at, new_in, resolution}
 use Rattle.package_table.proofs.Found.{found_finds}
@@ -191,14 +191,14 @@ number_numeric base text =
 
 -- a symbol that COMMON-LISP has first
 abbrev pub IsFirst : Name → Type 0
-IsFirst own = option_map (λ (e : Entry). e.home) (finite.get common_lisp_package.symbols own) ≡ Some common_lisp
+IsFirst own = option_map (λ (e : Present). e.home) (finite.get common_lisp_package.symbols own) ≡ Some common_lisp
 
 -- its name is listed
 listed_first : (own : Name)
-    → option_map (λ (e : Entry). e.home) (finite.find name_cmp own (map (λ n. (n, record { home = common_lisp; external = true })) common_lisp_names)) ≡ Some common_lisp → IsFirst own
+    → option_map (λ (e : Present). e.home) (finite.find name_cmp own (map (λ n. (n, record { home = common_lisp; external = true })) common_lisp_names)) ≡ Some common_lisp → IsFirst own
 unfolding common_lisp_package
 listed_first own listed =
-    ap (option_map (λ (e : Entry). e.home)) (get-from_entries name_total (map (λ n. (n, record { home = common_lisp; external = true })) common_lisp_names) own) ∙ listed
+    ap (option_map (λ (e : Present). e.home)) (get-from_entries name_total (map (λ n. (n, record { home = common_lisp; external = true })) common_lisp_names) own) ∙ listed
 
 pub nil_first : IsFirst (codes "NIL")
 unfolding common_lisp_names

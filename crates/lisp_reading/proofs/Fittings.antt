@@ -9,7 +9,7 @@ use Rattle.lisp_object.specs.Object as o
 use Rattle.lisp_object.specs.Object.{Object, is_nil, object_depth}
 use Rattle.lisp_object.proofs.ProperLists.{nil_symbol}
 use Rattle.package_table.specs.declared.error.PackageError.TheVariants.{LockedPackage}
-use Rattle.package_table.specs.Table.{Name, Entry, Package, Table as Packages, common_lisp, keyword, IsSound, Finds}
+use Rattle.package_table.specs.Table.{Name, Present, Package, Table as Packages, common_lisp, keyword, IsSound, Finds}
 use Rattle.package_table.specs.Lookup.{found}
 use Rattle.package_table.specs.Resolving.{found_at, new_in, resolution}
 use Rattle.package_table.proofs.Found.{found_finds, present_found}
@@ -32,7 +32,7 @@ module _ (t : Packages) (sound : IsSound t) where
   first_fits : (own : Name) → IsFirst own → Fits t (o.symbol common_lisp own)
   first_fits own there =
       finds_fit common_lisp own common_lisp (inl (
-      ap (λ (k : Option Package). option_map (λ (e : Entry). e.home) (option_and_then (λ (k : Package). finite.get k.symbols own) k)) sound.first.fixed ∙ there
+      ap (λ (k : Option Package). option_map (λ (e : Present). e.home) (option_and_then (λ (k : Package). finite.get k.symbols own) k)) sound.first.fixed ∙ there
       ))
 
   keyword_fits : (own : Name) → Fits t (o.symbol keyword own)

@@ -10,7 +10,7 @@ use Rattle.lisp_object.proofs.Sound.{all_ascii}
 use Rattle.package_table.specs.declared.error.PackageError.{PackageError}
 use Rattle.package_table.specs.declared.error.PackageError.TheVariants.{LockedPackage, NoPackage, NotExternal}
 use Rattle.package_table.specs.declared.resolve.Resolved.{Resolved}
-use Rattle.package_table.specs.Table.{Name, Entry, Package, Table, common_lisp, full_name, package_named, entry_at, IsPackage, IsPresent, IsSound}
+use Rattle.package_table.specs.Table.{Name, Present, Package, Table, common_lisp, full_name, package_named, entry_at, IsPackage, IsPresent, IsSound}
 use Rattle.package_table.specs.Lookup.{found, external_home}
 use Rattle.package_table.specs.Resolving.{Resolution, found_at, new_in, home_of, resolution_of, resolution, external_resolution, internal_resolution}
 use Rattle.package_table.proofs.Found.{found_finds}
@@ -24,7 +24,7 @@ Fits r = list_all is_ascii (home_of r) ≡ true
 -- an external symbol is present
 pub external_there : (t : Table) (p n h : Name) → external_home t p n ≡ Some h → IsPresent t p n h
 external_there t p n h e =
-    elim (entry_at t p n) as (λ o. option_map_or (λ (e : Entry). cond e.external (Some e.home) None) o None ≡ Some h → option_map (λ (e : Entry). e.home) o ≡ Some h) [
+    elim (entry_at t p n) as (λ o. option_map_or (λ (e : Present). cond e.external (Some e.home) None) o None ≡ Some h → option_map (λ (e : Present). e.home) o ≡ Some h) [
       | None ↦ λ e. absurd cc
       | Some x ↦ elim x.external as (λ b. cond b (Some x.home) None ≡ Some h → Some x.home ≡ Some h) [ true ↦ λ e. e | false ↦ λ e. absurd cc ]
     ] e
@@ -35,7 +35,7 @@ module _ (t : Table) (sound : IsSound t) where
 
   present_package : (h n g : Name) → IsPresent t h n g → IsPackage t h
   present_package h n g here =
-      elim (finite.get t h) as (λ o. option_map (λ (e : Entry). e.home) (option_and_then (λ (k : Package). finite.get k.symbols n) o) ≡ Some g → IsTrue (is_some o)) [
+      elim (finite.get t h) as (λ o. option_map (λ (e : Present). e.home) (option_and_then (λ (k : Package). finite.get k.symbols n) o) ≡ Some g → IsTrue (is_some o)) [
         | None ↦ λ e. absurd cc
         | Some k ↦ λ e. refl
       ] here

@@ -3,7 +3,7 @@ use Rattle.std.proofs.Common.{◌≡◌, ℕ, ◌++◌, List, [], ◌∷◌, rep
 use Rattle.std.specs.Prelude.{if◌then◌else◌}
 use Rattle.std.specs.Str.{bytes_eq}
 use Rattle.lisp_object.specs.Object.{Object, integer, symbol, uninterned, character, vector, nil, list_of, text as text_object}
-use Rattle.readtable_core.specs.Tables.{Table, Entry, standard, entry_at}
+use Rattle.readtable_core.specs.Tables.{Table, CharacterEntry, standard, entry_at}
 use Rattle.readtable_core.specs.declared.characters.Syntax.TheVariants.{Whitespace, TerminatingMacro}
 use Rattle.package_table.specs.Table.{initial}
 use Rattle.token_scan.specs.Tokens.{outside}
@@ -60,10 +60,10 @@ answer_of f call =
     else (if bytes_eq f (codes "CALL") then value (list_of (integer (pos call.character) ∷ number_or call.sub ∷ number_or call.number ∷ []))
     else value (of_material call.gathered)))))
 
-abbrev at_char : Table → ℕ → Entry → Table
+abbrev at_char : Table → ℕ → CharacterEntry → Table
 at_char table c e = record table { entries = set table.entries c e }
 
-abbrev macro_entry : List ℕ → Entry
+abbrev macro_entry : List ℕ → CharacterEntry
 macro_entry f = record { syntax = TerminatingMacro; function = Some f; dispatch = [] }
 
 -- [ LIST-OF, ! NEXT, { TEXT, $ SAME, & LINE, ~ TOKEN, ^ SKIP, ] REFUSE, #M (also #m) CALL
@@ -134,7 +134,7 @@ first_rows_read = refl
 
 -- ---- a readtable whose closing brackets are whitespace
 
-abbrev blank_entry : Entry
+abbrev blank_entry : CharacterEntry
 blank_entry = record { syntax = Whitespace; function = None; dispatch = [] }
 
 unfoldable read_blank : List ℕ → Outcome

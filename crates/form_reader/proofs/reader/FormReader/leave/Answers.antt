@@ -1,5 +1,5 @@
 use Rattle.std.proofs.Common.{◌≡◌, [], sym, subst, ◌∙◌, refl}
-use Rattle.form_reader.specs.declared.reader.State.{State}
+use Rattle.form_reader.specs.declared.reader.ReaderState.{State}
 use Rattle.form_reader.specs.declared.reader.Step.TheVariants.{More as StepMore}
 use Rattle.form_reader.specs.Surrounding.{setting}
 use Rattle.form_reader.specs.Reader.{IsAfterIn}

@@ -1,8 +1,8 @@
 use Rattle.std.proofs.Common.{◌+◌, [], refl, sym, ap, subst, ◌∙◌}
 use Rattle.std.specs.Prelude.{IsTrue}
 use Rattle.form_reader.specs.Standing.{is_standing}
-use Rattle.form_reader.specs.declared.reader.State.{State}
-use Rattle.form_reader.specs.declared.reader.State.TheVariants.{Open}
+use Rattle.form_reader.specs.declared.reader.ReaderState.{State}
+use Rattle.form_reader.specs.declared.reader.ReaderState.TheVariants.{Open}
 use Rattle.lisp_reading.specs.Setting.{setting_of}
 use Rattle.form_reader.specs.Reader.{IsAfterIn}
 use Rattle.form_reader.proofs.ReaderSteps.{went_on, went_past, gave_up, taken_there, passed_there, left_there, refused_there, ready_there, ready_past}
