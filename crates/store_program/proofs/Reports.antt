@@ -10,7 +10,7 @@ use Rattle.world_text.specs.Snapshot.{snapshot}
 use Rattle.user_macros.specs.Functions.{Functions}
 use Rattle.prevalence_store.specs.declared.mode.Mode.{Mode}
 use Rattle.prevalence_store.specs.declared.outcome.Ending.{Ending}
-use Rattle.prevalence_store.specs.Streams.{Writes}
+use Rattle.prevalence_store.specs.calls.Streams.{Writes}
 use Rattle.store_program.specs.declared.fault.Unwritten.{Unwritten}
 use Rattle.store_program.specs.declared.status.Status.{Status}
 use Rattle.store_program.specs.declared.status.Status.TheVariants.{Done, Helped, ReaderRefused, WordsRefused, Fault}

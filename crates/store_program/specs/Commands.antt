@@ -8,10 +8,10 @@ use Rattle.clap.specs.Words.{Text}
 use Rattle.plist_state.specs.State.{State as World}
 use Rattle.world_text.specs.Snapshot.{snapshot}
 use Rattle.user_macros.specs.Functions.{Functions}
-use Rattle.prevalence_store.specs.Opening.{IsOpened, IsUnopened}
+use Rattle.prevalence_store.specs.calls.Open.{IsOpened, IsUnopened}
 use Rattle.prevalence_store.specs.declared.outcome.Ending.{Ending}
-use Rattle.prevalence_store.specs.Session.{Session}
-use Rattle.prevalence_store.specs.Streams.{Writes}
+use Rattle.prevalence_store.specs.calls.Store.{Session}
+use Rattle.prevalence_store.specs.calls.Streams.{Writes}
 use Rattle.store_program.specs.Session.{AnswersInput, IsBrokenOff, IsSession, ReadsToEnd}
 use Rattle.store_program.specs.Status.{IsCarriedOut, status_of_ending}
 use Rattle.store_program.specs.declared.status.Status.{Status}

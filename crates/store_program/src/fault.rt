@@ -1,7 +1,7 @@
 // The line of a fault, and how a text is written.
 ghost use Rattle.std.specs.Prelude.{OnOk, OnErr};
-ghost use Rattle.prevalence_store.specs.Output.{refusal_line};
-ghost use Rattle.prevalence_store.specs.Streams.{Writes, WritesPart};
+ghost use Rattle.prevalence_store.specs.meaning.Answers.{refusal_line};
+ghost use Rattle.prevalence_store.specs.calls.Streams.{Writes, WritesPart};
 ghost use Rattle.store_program.specs.Commands.{WritesFront};
 
 use arrayvec::ArrayString;

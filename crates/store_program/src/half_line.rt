@@ -1,6 +1,6 @@
 // The line on the half in use.
 ghost use Rattle.std.specs.Prelude.{◌≡◌, OnOk, OnErr};
-ghost use Rattle.prevalence_store.specs.Streams.{Writes};
+ghost use Rattle.prevalence_store.specs.calls.Streams.{Writes};
 ghost use Rattle.store_program.specs.Commands.{WritesFront, half_line, letter_of};
 
 use crate::fault::{Unwritten, write_out};

@@ -3,7 +3,7 @@ ghost use Rattle.std.specs.Prelude.{◌≡◌, ◌⊎◌, ◌<◌, ◌-◌, ◌^
 ghost use Rattle.std.specs.List.{list_all};
 ghost use Rattle.readtable_core.specs.Names.{is_among};
 ghost use Rattle.plist_state.specs.State.{State as LispWorld};
-ghost use Rattle.prevalence_store.specs.Opening.{IsUnopened};
+ghost use Rattle.prevalence_store.specs.calls.Open.{IsUnopened};
 ghost use Rattle.world_text.specs.Snapshot.{snapshot};
 ghost use Rattle.clap.specs.Words.{kind_of};
 ghost use Rattle.store_program.specs.declared.words.Task.{Task};

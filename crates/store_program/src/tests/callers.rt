@@ -2,9 +2,9 @@
 ghost use Rattle.std.specs.Prelude.{◌≡◌, ◌<◌, ◌+◌, ◌-◌, ◌^◌, ◌++◌, ℕ, List, Some, Ok, IfSome, IfOk, length};
 ghost use Rattle.disk_trait.specs.Disk.{IsHonest};
 ghost use Rattle.plist_state.specs.State.{State as LispWorld};
-ghost use Rattle.prevalence_store.specs.Acceptance.{Acceptance, accepts, records_of};
-ghost use Rattle.prevalence_store.specs.Output.{Progress, after_forms};
-ghost use Rattle.prevalence_store.specs.Streams.{Writes};
+ghost use Rattle.prevalence_store.specs.meaning.Acceptance.{Acceptance, accepts, records_of};
+ghost use Rattle.prevalence_store.specs.meaning.Answers.{Progress, after_forms};
+ghost use Rattle.prevalence_store.specs.calls.Streams.{Writes};
 ghost use Rattle.prevalence_store.specs.Theorem.{IsAfterSome, Keeps};
 
 use super::asked::{asked, session};

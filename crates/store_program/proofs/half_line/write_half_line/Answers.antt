@@ -1,7 +1,7 @@
 use Rattle.std.proofs.Common.{◌≡◌, ◌∙◌, ◌++◌, ◌∷◌, [], List, ℕ, OnOk, OnErr, ap, subst, codes}
 use Rattle.std.proofs.lemmas.Fmt.{contents_after_writes}
 use Rattle.std.specs.Prelude.{decimal}
-use Rattle.prevalence_store.specs.Streams.{Writes}
+use Rattle.prevalence_store.specs.calls.Streams.{Writes}
 use Rattle.store_program.specs.Commands.{WritesFront, half_line}
 use Rattle.store_program.proofs.half_line.write_half_line.Given as given
 use Rattle.store_program.proofs.half_line.write_half_line.Goals as goal

@@ -4,10 +4,10 @@ use Rattle.disk_trait.specs.Disk.{State}
 use Rattle.plist_state.specs.State.{State as World}
 use Rattle.prevalence_store.specs.declared.mode.Mode.{Mode}
 use Rattle.prevalence_store.specs.declared.mode.Mode.TheVariants.{Current}
-use Rattle.prevalence_store.specs.Acceptance.{records_of}
-use Rattle.prevalence_store.specs.Execution.{Stores}
+use Rattle.prevalence_store.specs.meaning.Acceptance.{records_of}
+use Rattle.prevalence_store.specs.calls.Execute.{Stores}
 use Rattle.user_macros.specs.Functions.{Functions}
-use Rattle.prevalence_store.specs.Session.{Session}
+use Rattle.prevalence_store.specs.calls.Store.{Session}
 use Rattle.prevalence_store.specs.Theorem.{Call, IsAfterSome, Run, Survives}
 use Rattle.store_program.proofs.tests.callers.two_forms.Goals as goal
 

@@ -1,0 +1,4 @@
+-- What forms and files mean, in the order in which it builds up.
+pub mod Acceptance
+pub mod Files
+pub mod Answers
