@@ -1,36 +1,19 @@
-//! The program: over a store whose files are in a folder it serves the forms of standard input to standard output, writes the
-//! text of the world, or tells the half in use.
-//!
-//! - `program` (module `program`) does what the words of the command line ask for, and answers a `Status`.
-//! - `words` has the command line: `run DIR [--rescue] [--snapshot-every N]`, `dump DIR` and `verify DIR`.
-//! - `fault` writes the line of a fault, `half_line` that on the half in use.
-//! - `meaning` says what the program's macro functions mean, and `macro_functions` has those that compute an object.
-//! - `main` registers the macro functions, hands them to `program` with the words, the standard streams and the files of
-//!   the system, and ends with its status.
+//! The program: it registers the macro functions, hands them to `store_commands::program` with the words, the standard streams and
+//! the files of the system, and ends with its status.
 #![tactic(auto)]
 
 ghost use Rattle.std.specs.Prelude.{◌≡◌, true, IfErr, is_ok};
 ghost use Rattle.std.specs.List.{list_all};
 ghost use Rattle.readtable_core.specs.Names.{is_among};
 ghost use Rattle.user_macros.specs.Sound.{IsSoundCall};
-ghost use Rattle.user_macros.specs.Functions.{are_registered};
-
-mod fault;
-mod half_line;
-mod macro_functions;
-mod meaning;
-mod program;
-mod status;
-mod words;
 
 use lisp_object::refusal::NO_MEMORY;
-use meaning::SixFunctions;
 use readtable_core::FnName;
-use status::Status;
 use std::alloc::AllocError;
 use std::env;
 use std::io::{ErrorKind, Write};
 use std::process::ExitCode;
+use store_commands::{SixFunctions, Status, end_with, macro_functions, program};
 use user_macros::{Answer, Call, Cause, MacroFn, MacroFunctions, Macros, Refusal};
 
 // The words that the program was started with, or the status where they are not had: they are no text, or there is no memory.
@@ -47,10 +30,10 @@ fn words_given(rt: &HostRuntime) -> Result<Vec<String>, Status> {
 // Does what the words ask for, with macro functions that are all registered.
 fn serve<M: MacroFunctions + Drop, F: Write>(rt: &HostRuntime, macros: M, faults: &mut F) -> Status
     requires answers { M.answers macros }
-    requires whole { are_registered M.Meaning.functions (M.functions macros) ≡ true }
+    requires whole { list_all (is_among (M.registered macros)) M.Meaning.names ≡ true }
 {
     match words_given(rt) {
-        Ok(words) => program::program(
+        Ok(words) => program(
             rt,
             macros,
             words.as_slice(),
@@ -62,7 +45,7 @@ fn serve<M: MacroFunctions + Drop, F: Write>(rt: &HostRuntime, macros: M, faults
             let _ = writeln!(faults, "error: a word of the command line is no text");
             Status::WordsRefused
         }
-        Err(status) => program::end_with(faults, status),
+        Err(status) => end_with(faults, status),
     }
 }
 
@@ -115,10 +98,7 @@ fn main(rt: HostRuntime) -> ExitCode {
     let mut faults = rt.stderr();
     let status = match start(&rt, &mut faults) {
         Ok(status) => status,
-        Err(AllocError) => program::end_with(&mut faults, Status::Fault(NO_MEMORY)),
+        Err(AllocError) => end_with(&mut faults, Status::Fault(NO_MEMORY)),
     };
     ExitCode::from(status.code())
 }
-
-#[cfg(test)]
-mod tests;

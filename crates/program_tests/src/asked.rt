@@ -1,0 +1,250 @@
+//! Calls of a store over a disk, one after the other, and the text of what they gave. No function here has a clause: so what
+//! the calls ensure is in no test.
+
+use crate::by_name::ByName;
+use crate::files::{AMPLE, Trouble};
+use disk_trait::{Disk, MemoryDisk};
+use lisp_object::Datum;
+use prevalence_store::{Ending, Mode, Outcome, Step, Store};
+use std::alloc::Global;
+use std::io::{Read, Result as IoResult, Write};
+use store_commands::{SixFunctions, write_half_line};
+
+/// A call of an open store, and the lines of it in the text.
+#[derive(Clone, Copy)]
+pub enum Ask<'a> {
+    /// A session: its answers, and `end`, `reader N` or `store N`.
+    Serve(Serving<'a>),
+    /// A form in this mode: `accepted 7` for an integer, `accepted` for another value, or `refused N`.
+    Form(Mode, &'a [u8]),
+    /// A snapshot: `snapshotted`, or `refused N`.
+    Snapshot,
+    /// Steps, each with a line as above.
+    Run(&'a [Step<'a>]),
+    /// What the store tells of the half in use: `half A generation 1 records 0`.
+    Half,
+    /// The text of the world, or `no world`.
+    World,
+}
+
+/// A session: its mode, after how many forms it takes a snapshot, and its input, which comes in pieces of at most so many bytes.
+#[derive(Clone, Copy)]
+pub struct Serving<'a> {
+    pub mode: Mode,
+    pub every: u64,
+    pub most: usize,
+    pub input: &'a [u8],
+}
+
+/// A session in a mode, of an input that comes at once.
+pub fn session_in(mode: Mode, input: &[u8]) -> Ask<'_> {
+    Ask::Serve(Serving {
+        mode,
+        every: 0,
+        most: usize::MAX,
+        input,
+    })
+}
+
+/// A session in the mode Current.
+pub fn session(input: &[u8]) -> Ask<'_> {
+    session_in(Mode::Current, input)
+}
+
+/// A form in the mode Current.
+pub fn form(text: &[u8]) -> Ask<'_> {
+    Ask::Form(Mode::Current, text)
+}
+
+/// Gives its text in pieces of at most so many bytes.
+#[derive(Drop)]
+pub struct Pieces<'a> {
+    pub rest: &'a [u8],
+    pub most: usize,
+}
+
+impl Read for Pieces<'_> {
+    fn read(&mut self, buf: &mut [u8]) -> IoResult<usize> {
+        let count = buf.len().min(self.most).min(self.rest.len());
+        buf[..count].copy_from_slice(&self.rest[..count]);
+        self.rest = &self.rest[count..];
+        Ok(count)
+    }
+}
+
+/// A line of a word and a number.
+fn number_line(text: &mut Vec<u8>, word: &str, number: i128) -> Result<(), Trouble> {
+    match writeln!(text, "{word} {number}") {
+        Ok(()) => Ok(()),
+        Err(_) => Err(Trouble::Memory),
+    }
+}
+
+/// The line of how a session ended.
+fn ending_line(text: &mut Vec<u8>, ending: Ending) -> Result<(), Trouble> {
+    match ending {
+        Ending::End => Ok(text.extend_from_slice(b"end\n")?),
+        Ending::Reader(number) => number_line(text, "reader", i128::from(number)),
+        Ending::Store(number) => number_line(text, "store", i128::from(number)),
+    }
+}
+
+/// The line of what a form or a snapshot gave.
+fn outcome_line(text: &mut Vec<u8>, outcome: &Outcome) -> Result<(), Trouble> {
+    match outcome {
+        Outcome::Accepted(Datum::Integer(number)) => number_line(text, "accepted", *number),
+        Outcome::Accepted(_) => Ok(text.extend_from_slice(b"accepted\n")?),
+        Outcome::Snapshotted => Ok(text.extend_from_slice(b"snapshotted\n")?),
+        Outcome::Refused(number) => number_line(text, "refused", i128::from(*number)),
+    }
+}
+
+/// How a session ends that writes into the text.
+fn serve<D: Disk>(
+    store: &mut Store<D, ByName>,
+    session: Serving<'_>,
+    text: &mut Vec<u8>,
+) -> Ending {
+    let mut reader = Pieces {
+        rest: session.input,
+        most: session.most,
+    };
+    store.serve(&mut reader, text, session.mode, session.every)
+}
+
+fn execute<D: Disk>(store: &mut Store<D, ByName>, mode: Mode, form: &[u8]) -> Outcome {
+    store.execute(mode, form)
+}
+
+fn snapshot<D: Disk>(store: &mut Store<D, ByName>) -> Outcome {
+    store.snapshot()
+}
+
+/// The lines of steps.
+fn run<D: Disk>(
+    store: &mut Store<D, ByName>,
+    steps: &[Step<'_>],
+    text: &mut Vec<u8>,
+) -> Result<(), Trouble> {
+    for outcome in &store.run(steps)? {
+        outcome_line(text, outcome)?;
+    }
+    Ok(())
+}
+
+/// The line on the half in use.
+fn half_line<D: Disk>(store: &Store<D, ByName>, text: &mut Vec<u8>) -> Result<(), Trouble> {
+    match write_half_line(text, store.half(), store.generation(), store.record_count()) {
+        Ok(()) => Ok(()),
+        Err(_) => Err(Trouble::Memory),
+    }
+}
+
+/// The text of the world.
+fn world_text<D: Disk>(
+    alloc: Global,
+    store: &Store<D, ByName>,
+    text: &mut Vec<u8>,
+) -> Result<(), Trouble> {
+    match store.world() {
+        Some(world) => {
+            let written = snapshot_text::write(alloc, world)?;
+            Ok(text.extend_from_slice(written.as_slice())?)
+        }
+        None => Ok(text.extend_from_slice(b"no world\n")?),
+    }
+}
+
+/// One call.
+fn ask_one<D: Disk>(
+    alloc: Global,
+    store: &mut Store<D, ByName>,
+    call: Ask<'_>,
+    text: &mut Vec<u8>,
+) -> Result<(), Trouble> {
+    match call {
+        Ask::Serve(session) => {
+            let ending = serve(store, session, text);
+            ending_line(text, ending)
+        }
+        Ask::Form(mode, form) => outcome_line(text, &execute(store, mode, form)),
+        Ask::Snapshot => outcome_line(text, &snapshot(store)),
+        Ask::Run(steps) => run(store, steps, text),
+        Ask::Half => half_line(store, text),
+        Ask::World => world_text(alloc, store, text),
+    }
+}
+
+/// One call after the other.
+fn ask_all<D: Disk>(
+    alloc: Global,
+    store: &mut Store<D, ByName>,
+    calls: &[Ask<'_>],
+    text: &mut Vec<u8>,
+) -> Result<(), Trouble> {
+    for call in calls {
+        ask_one(alloc, store, *call, text)?;
+    }
+    Ok(())
+}
+
+/// An opened store, or the number of the refusal and the disk that was given back.
+pub enum Opening<D: Disk> {
+    Opened(Store<D, ByName>),
+    Refused(u16, D),
+}
+
+/// Opens a store over a disk.
+pub fn open<D: Disk + Drop>(alloc: Global, disk: D, limit: u64) -> Result<Opening<D>, Trouble> {
+    if disk.failures() > 0 {
+        return Err(Trouble::Device);
+    }
+    match Store::open(alloc, disk, ByName::new(alloc, SixFunctions::new()), limit) {
+        Ok(store) => Ok(Opening::Opened(store)),
+        Err(unopened) => Ok(Opening::Refused(unopened.number, unopened.disk)),
+    }
+}
+
+/// The disk of a store that is closed.
+pub fn closed<D: Disk>(store: Store<D, ByName>) -> D {
+    let (disk, _macros) = store.close();
+    disk
+}
+
+/// These calls of an open store, which is closed after them.
+fn asked_of<D: Disk + Drop>(
+    alloc: Global,
+    store: Store<D, ByName>,
+    calls: &[Ask<'_>],
+) -> Result<(Vec<u8>, D), Trouble> {
+    let mut store = store;
+    let mut text = Vec::new(alloc);
+    let asked = ask_all(alloc, &mut store, calls, &mut text);
+    let disk = closed(store);
+    asked?;
+    Ok((text, disk))
+}
+
+/// Opens a disk, makes these calls, and closes the store: the text of what they gave, and the disk. Where the disk is not
+/// opened the text is `unopened N`.
+pub fn asked<D: Disk + Drop>(
+    alloc: Global,
+    disk: D,
+    limit: u64,
+    calls: &[Ask<'_>],
+) -> Result<(Vec<u8>, D), Trouble> {
+    match open(alloc, disk, limit)? {
+        Opening::Opened(store) => asked_of(alloc, store, calls),
+        Opening::Refused(number, disk) => {
+            let mut text = Vec::new(alloc);
+            number_line(&mut text, "unopened", i128::from(number))?;
+            Ok((text, disk))
+        }
+    }
+}
+
+/// The text of these calls over a disk in memory.
+pub fn told(alloc: Global, disk: MemoryDisk, calls: &[Ask<'_>]) -> Result<Vec<u8>, Trouble> {
+    let (text, _disk) = asked(alloc, disk, AMPLE, calls)?;
+    Ok(text)
+}

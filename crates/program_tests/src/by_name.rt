@@ -1,0 +1,104 @@
+//! The six macro functions without a registry: each is called by its name. So a helper may make them, where it could not
+//! make the boxes of a registry.
+ghost use Rattle.std.specs.Prelude.{◌≡◌, true};
+ghost use Rattle.std.specs.List.{list_all};
+ghost use Rattle.std.specs.Option.{option_map_or};
+ghost use Rattle.readtable_core.specs.Named.{functions_at};
+ghost use Rattle.user_macros.specs.Registry.{is_covered};
+ghost use Rattle.store_commands.specs.MacroFunctions.{function_names};
+
+use readtable_core::{CharacterEntry, FnName, Readtable};
+use std::alloc::{AllocError, Global};
+use store_commands::{SixFunctions, macro_functions};
+use user_macros::{Answer, Call, Gather, MacroFunctions, Meaning};
+
+/// All six functions.
+#[derive(Drop)]
+pub struct ByName {
+    alloc: Global,
+    meaning: SixFunctions,
+}
+
+impl ByName {
+    /// The functions of this meaning, which allocate their answers so.
+    pub fn new(alloc: Global, meaning: SixFunctions) -> ByName {
+        ByName { alloc, meaning }
+    }
+
+    fn covers_function(&self, function: Option<FnName>) -> bool
+        ensures { result ≡ option_map_or (is_covered function_names) function true }
+    {
+        match function {
+            Some(name) => {
+                name.is_standard() || name.is_dispatch() || self.meaning.names().contains(&name)
+            }
+            None => true,
+        }
+    }
+
+    fn covers_each(&self, functions: &[Option<FnName>]) -> bool
+        ensures { result
+            ≡ list_all (λ f. option_map_or (is_covered function_names) f true) functions.now }
+    {
+        for function in functions {
+            if !self.covers_function(*function) {
+                return false;
+            }
+        }
+        true
+    }
+
+    fn covers_entry(&self, entry: &CharacterEntry) -> bool
+        ensures { result ≡ list_all (is_covered function_names) (functions_at entry.now) }
+    {
+        self.covers_function(entry.function()) && self.covers_each(entry.dispatch())
+    }
+}
+
+impl MacroFunctions for ByName {
+    type Meaning = SixFunctions;
+
+    ghost registered = { λ _. function_names };
+
+    ghost meant = { λ functions. functions.meaning };
+
+    ghost answers = { λ _. Unit {0} };
+
+    ghost known = { λ functions answers name is. is };
+
+    fn meaning(&self) -> &SixFunctions {
+        &self.meaning
+    }
+
+    fn gather_of(&self, name: FnName) -> Option<Gather> {
+        self.meaning.gather(name)
+    }
+
+    fn call(&self, name: FnName, call: &Call) -> Result<Answer, AllocError> {
+        let name = name.as_bytes();
+        if b"SQUARE".as_slice() == name {
+            macro_functions::square(self.alloc, call)
+        } else if b"CLOSE".as_slice() == name {
+            Ok(Answer::Refused(1))
+        } else if b"UNIT".as_slice() == name {
+            macro_functions::unit(self.alloc, call)
+        } else if b"SCALE".as_slice() == name {
+            Ok(macro_functions::scale(call))
+        } else {
+            Ok(Answer::Nothing)
+        }
+    }
+
+    fn is_whole(&self) -> bool {
+        true
+    }
+
+    fn covers(&self, readtable: &Readtable) -> bool {
+        for entry in readtable.entries() {
+            if !self.covers_entry(entry) {
+                return false;
+            }
+        }
+        true
+    }
+}

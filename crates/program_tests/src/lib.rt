@@ -1,0 +1,56 @@
+//! Tests of the store and of the program, through the public calls of prevalence_store and store_commands: sessions and calls over
+//! disks in memory, and the program over real files.
+//!
+//! They are a crate of their own, so that the libraries are not proved again for the sake of their tests.
+//!
+//! What a call ensures stays in the context of all that comes after it. So each call of a store is made in `asked` alone, and a test
+//! compares the text of what its calls gave with the one that is wanted.
+//!
+//! - `asked` calls a store, `by_name` has the macro functions, `files` the bytes of disks, `broken` streams that fail
+//! - `rows`, `evaluation`, `sessions`, `refusals`: what forms are answered
+//! - `calls`, `silent`, `turns`, `snapshots`, `callers`: the calls of a store
+//! - `stopped`, `snapshot_crashes`, `altered`: devices that stop, crashes, files that were altered
+//! - `macros`: the macro functions of the program
+//! - `commands`, by scripts of `runs`: the words of the program, its statuses, and real files
+#![tactic(auto)]
+
+#[cfg(test)]
+mod altered;
+#[cfg(test)]
+mod asked;
+#[cfg(test)]
+mod broken;
+#[cfg(test)]
+mod by_name;
+#[cfg(test)]
+mod callers;
+#[cfg(test)]
+mod calls;
+#[cfg(test)]
+mod commands;
+#[cfg(test)]
+mod evaluation;
+#[cfg(test)]
+mod files;
+#[cfg(test)]
+mod long;
+#[cfg(test)]
+mod macros;
+#[cfg(test)]
+mod refusals;
+#[cfg(test)]
+mod rows;
+#[cfg(test)]
+mod runs;
+#[cfg(test)]
+mod sessions;
+#[cfg(test)]
+mod silent;
+#[cfg(test)]
+mod snapshot_crashes;
+#[cfg(test)]
+mod snapshots;
+#[cfg(test)]
+mod stopped;
+#[cfg(test)]
+mod turns;

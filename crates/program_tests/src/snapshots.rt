@@ -1,0 +1,168 @@
+//! Snapshots: when a session takes them, what they leave, and steps one after the other.
+
+use crate::asked::{Ask, Serving, asked, session_in};
+use crate::files::{AMPLE, Files, Left, Trouble, disk_with, left_after};
+use disk_trait::MemoryDisk;
+use prevalence_store::{Mode, Step};
+use std::alloc::Global;
+use std::test::Fail;
+
+/// A session over fresh files of this limit, and the text of what it answers, how it ends, and the half in use then.
+struct Case {
+    limit: u64,
+    snapshot_every: u64,
+    input: &'static [u8],
+    text: &'static [u8],
+}
+
+const CASES: &[Case] = &[
+    // after each two forms
+    Case {
+        limit: AMPLE,
+        snapshot_every: 2,
+        input: b"(SETF (GET 'A 'B) 1)(SETF (GET 'A 'B) 2)(SETF (GET 'A 'B) 3)",
+        text: b"1\n2\n3\nend\nhalf B generation 2 records 1\n",
+    },
+    // forms that leave no record do not count
+    Case {
+        limit: AMPLE,
+        snapshot_every: 2,
+        input: b"(SETF (GET 'A 'B) 1)(GET 'A 'B)(FROB)(SETF (GET 'A 'B) 2)",
+        text: b"1\n1\n! 31 UNKNOWN-OPERATOR\n2\nend\nhalf B generation 2 records 0\n",
+    },
+    Case {
+        limit: AMPLE,
+        snapshot_every: 1,
+        input: b"(SETF (GET 'A 'B) 1)(SETF (GET 'A 'B) 2)(SETF (GET 'A 'B) 3)",
+        text: b"1\n2\n3\nend\nhalf B generation 4 records 0\n",
+    },
+    // one for which there is no half is passed over
+    Case {
+        limit: 300,
+        snapshot_every: 1,
+        input: b"(PROGN (SETF (GET 'A 'B) '#200(1)) 1)(SETF (GET 'A 'C) 2)",
+        text: b"1\n2\nend\nhalf A generation 1 records 2\n",
+    },
+    // a half that is full makes room by one
+    Case {
+        limit: 202,
+        snapshot_every: 0,
+        input: b"(SETF (GET 'A 'B) 7)(SETF (GET 'A 'B) 8)",
+        text: b"7\n8\nend\nhalf B generation 2 records 1\n",
+    },
+    // which is none of those that are taken in turn, and changes nothing in their count
+    Case {
+        limit: 202,
+        snapshot_every: 2,
+        input: b"(SETF (GET 'A 'B) 7)(SETF (GET 'A 'B) 8)",
+        text: b"7\n8\nend\nhalf A generation 3 records 0\n",
+    },
+    // and where that is not enough the session ends
+    Case {
+        limit: 202,
+        snapshot_every: 0,
+        input: b"(SETF (GET 'A 'B) 7)(SETF (GET 'A 'B) \"0123456789012345678901234\")(LIST 1)",
+        text: b"7\nstore 64\nhalf B generation 2 records 0\n",
+    },
+    Case {
+        limit: 220,
+        snapshot_every: 0,
+        input: b"(PROGN (SETF (GET 'A 'B) '#200(1)) 1)(SETF (GET 'A 'C) 2)(SETF (GET 'A 'D) 3)",
+        text: b"1\n2\nstore 65\nhalf A generation 1 records 2\n",
+    },
+];
+
+/// Whether the session of a case does what the case wants.
+fn is_as_wanted(alloc: Global, case: &Case) -> Result<bool, Trouble> {
+    let session = Serving {
+        mode: Mode::Current,
+        every: case.snapshot_every,
+        most: usize::MAX,
+        input: case.input,
+    };
+    let calls = [Ask::Serve(session), Ask::Half];
+    let (text, _disk) = asked(alloc, MemoryDisk::new(alloc), case.limit, &calls)?;
+    Ok(text.as_slice() == case.text)
+}
+
+const SEVEN: Step<'static> = Step::Form(Mode::Current, b"(SETF (GET 'A 'B) 7)");
+
+const EIGHT: Step<'static> = Step::Form(Mode::Current, b"(SETF (GET 'A 'B) 8)");
+
+const GET: Step<'static> = Step::Form(Mode::Current, b"(GET 'A 'B)");
+
+/// Whether the first of five steps, so many, have this text, and leave halves of these sizes.
+fn run_so(alloc: Global, count: usize, wanted: &[u8], sizes: [usize; 2]) -> Result<bool, Trouble> {
+    let steps = [SEVEN, EIGHT, GET, Step::Snapshot, EIGHT];
+    let Some(steps) = steps.get(..count) else {
+        return Ok(false);
+    };
+    let found = left_after(alloc, MemoryDisk::new(alloc), 202, &[Ask::Run(steps)])?;
+    Ok(found.text.as_slice() == wanted && [found.files.a.len(), found.files.b.len()] == sizes)
+}
+
+#[test]
+fn snapshots_are_taken_in_turn_and_for_room(rt: HostRuntime) -> Result<(), Fail> {
+    let alloc = rt.alloc();
+    for (place, case) in CASES.iter().enumerate() {
+        assert!(rt; is_as_wanted(alloc, case)?, "{place}");
+    }
+    let cases: [(usize, &[u8], [usize; 2]); 5] = [
+        (0, b"", [151, 0]),
+        (1, b"accepted 7\n", [177, 0]),
+        (3, b"accepted 7\nrefused 64\naccepted 7\n", [177, 0]),
+        (
+            4,
+            b"accepted 7\nrefused 64\naccepted 7\nsnapshotted\n",
+            [177, 163],
+        ),
+        (
+            5,
+            b"accepted 7\nrefused 64\naccepted 7\nsnapshotted\naccepted 8\n",
+            [177, 189],
+        ),
+    ];
+    for (count, wanted, sizes) in cases {
+        assert!(rt; run_so(alloc, count, wanted, sizes)?, "{count}");
+    }
+    Ok(())
+}
+
+/// What a form that makes `(` whitespace, and a snapshot leave.
+fn snapshotted(alloc: Global) -> Result<Left, Trouble> {
+    let form = Step::Form(Mode::Current, b"(SET-SYNTAX-FROM-CHAR #\\( #\\Space)");
+    left_after(
+        alloc,
+        MemoryDisk::new(alloc),
+        AMPLE,
+        &[Ask::Run(&[form, Step::Snapshot])],
+    )
+}
+
+/// What a session over these files leaves, in a mode.
+fn left_in(alloc: Global, files: &Files, mode: Mode, input: &[u8]) -> Result<Left, Trouble> {
+    left_after(
+        alloc,
+        disk_with(alloc, files)?,
+        AMPLE,
+        &[session_in(mode, input)],
+    )
+}
+
+#[test]
+fn a_snapshot_is_read_as_it_was_written(rt: HostRuntime) -> Result<(), Fail> {
+    let alloc = rt.alloc();
+    let first = snapshotted(alloc)?;
+    assert!(rt; first.text.as_slice() == b"accepted\nsnapshotted\n".as_slice());
+    let current = left_in(alloc, &first.files, Mode::Current, b"(GET 'A 'B)\n")?;
+    let wanted: &[u8] = b"! 30 NOT-A-FORM\nA\nB\n! 4 STRAY-CLOSE\nreader 4\n";
+    assert!(rt; current.text.as_slice() == wanted);
+    let rescue = left_in(
+        alloc,
+        &current.files,
+        Mode::Rescue,
+        b"(COPY-READTABLE NIL :USER)\n",
+    )?;
+    assert!(rt; rescue.text.as_slice() == b":USER\nend\n".as_slice());
+    Ok(())
+}

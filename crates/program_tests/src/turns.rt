@@ -1,0 +1,147 @@
+//! How a session takes its input.
+
+use crate::asked::{Ask, Serving};
+use crate::by_name::ByName;
+use crate::files::{AMPLE, Trouble, left_after};
+use disk_trait::MemoryDisk;
+use prevalence_store::Mode;
+use std::alloc::Global;
+use std::cell::Cell;
+use std::io::{Read, Result as IoResult, Write};
+use std::test::Fail;
+use store_commands::{Report, SixFunctions, report_on, serve_on};
+
+/// What a reader and a writer know of one another.
+#[derive(Drop)]
+struct Seen {
+    reads: Cell<u64>,
+    // what was written is not flushed yet
+    waits: Cell<bool>,
+    // a read came before what was written was flushed
+    is_late: Cell<bool>,
+}
+
+fn nothing_seen() -> Seen {
+    Seen {
+        reads: Cell::new(0),
+        waits: Cell::new(false),
+        is_late: Cell::new(false),
+    }
+}
+
+/// Gives one byte a read, and counts the reads.
+#[derive(Drop)]
+struct Counted<'a> {
+    rest: &'a [u8],
+    seen: &'a Seen,
+}
+
+impl Read for Counted<'_> {
+    fn read(&mut self, buf: &mut [u8]) -> IoResult<usize> {
+        self.seen.reads.set(self.seen.reads.get().saturating_add(1));
+        if self.seen.waits.get() {
+            self.seen.is_late.set(true);
+        }
+        let count = buf.len().min(1).min(self.rest.len());
+        buf[..count].copy_from_slice(&self.rest[..count]);
+        self.rest = &self.rest[count..];
+        Ok(count)
+    }
+}
+
+/// Notes how many reads there were before the first write.
+#[derive(Drop)]
+struct Noted<'a> {
+    seen: &'a Seen,
+    first: Option<u64>,
+}
+
+impl Write for Noted<'_> {
+    fn write(&mut self, buf: &[u8]) -> IoResult<usize> {
+        if self.first.is_none() {
+            self.first = Some(self.seen.reads.get());
+        }
+        self.seen.waits.set(true);
+        Ok(buf.len())
+    }
+
+    fn flush(&mut self) -> IoResult<()> {
+        self.seen.waits.set(false);
+        Ok(())
+    }
+}
+
+/// How many reads there were before the first answer of a session that gets one byte a read; whether a read came before an answer
+/// was flushed, and whether the last one was not.
+fn watched(alloc: Global, input: &[u8]) -> (Option<u64>, bool, bool) {
+    let seen = nothing_seen();
+    let mut reader = Counted {
+        rest: input,
+        seen: &seen,
+    };
+    let mut writer = Noted {
+        seen: &seen,
+        first: None,
+    };
+    let macros = ByName::new(alloc, SixFunctions::new());
+    let disk = MemoryDisk::new(alloc);
+    let _served = serve_on(
+        alloc,
+        disk,
+        macros,
+        Mode::Current,
+        0,
+        &mut reader,
+        &mut writer,
+    );
+    (writer.first, seen.is_late.get(), seen.waits.get())
+}
+
+/// Whether the text of the world, or the line on the half, is written to the output and not flushed.
+fn unflushed(alloc: Global, report: Report) -> (bool, bool) {
+    let seen = nothing_seen();
+    let mut writer = Noted {
+        seen: &seen,
+        first: None,
+    };
+    let macros = ByName::new(alloc, SixFunctions::new());
+    let disk = MemoryDisk::new(alloc);
+    let _report = report_on(alloc, disk, macros, report, &mut writer);
+    (writer.first.is_some(), seen.waits.get())
+}
+
+#[test]
+fn a_form_is_answered_before_the_next_read(rt: HostRuntime) -> Result<(), Fail> {
+    let input = b"(SETF (GET 'A 'B) 7)\n(FROB)\n(GET 'A 'B)\n";
+    let (reads, is_late, waits) = watched(rt.alloc(), input);
+    assert!(rt; reads.is_some_and(|reads| reads < 21), "{reads:?}");
+    assert_eq!(rt; (is_late, waits), (false, false));
+    for report in [Report::Dump, Report::Verify] {
+        assert_eq!(rt; unflushed(rt.alloc(), report), (true, false));
+    }
+    Ok(())
+}
+
+const BRACKETS: &[u8] =
+    b"(SET-MACRO-CHARACTER #\\[ :SQUARE)\n(SET-MACRO-CHARACTER #\\] :CLOSE)\n(SETF (GET 'A 'V) [1 2])\n";
+
+/// Whether the text is answered in pieces of at most so many bytes.
+fn is_answered(alloc: Global, most: usize) -> Result<bool, Trouble> {
+    let session = Serving {
+        mode: Mode::Current,
+        every: 0,
+        most,
+        input: BRACKETS,
+    };
+    let left = left_after(alloc, MemoryDisk::new(alloc), AMPLE, &[Ask::Serve(session)])?;
+    // 151 bytes, and 6 with the text of each form
+    Ok(left.text.as_slice() == b"T\nT\n#(1 2)\nend\n".as_slice() && left.files.a.len() == 258)
+}
+
+#[test]
+fn pieces_make_no_difference(rt: HostRuntime) -> Result<(), Fail> {
+    for most in [1, 7, 4_096] {
+        assert!(rt; is_answered(rt.alloc(), most)?, "{most}");
+    }
+    Ok(())
+}

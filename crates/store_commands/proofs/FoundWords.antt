@@ -1,0 +1,91 @@
+-- From what clap's getters answer to what the words ask for.
+use Rattle.std.proofs.Common.{◌≡◌, ◌∙◌, ℕ, ◌^◌, ◌-◌, Bool, true, false, List, Option, None, Some, refl, sym, ap, arith, option_map, option_and_then, codes}
+use Rattle.std.specs.Prelude.{Result, Ok, Err, unwrap_or}
+use Rattle.std.specs.Str.Parse.{ParsesUnsigned}
+use Rattle.clap.specs.ValueTests.{is_unsigned_in}
+use Rattle.clap.specs.Values.{Accepts}
+use Rattle.clap.specs.declared.builder.value_parser.ValueParser.TheVariants.{Unsigned}
+use Rattle.clap.specs.Matches.{ReadsOne}
+use Rattle.prevalence_store.specs.declared.mode.Mode.{Mode}
+use Rattle.clap.specs.Words.{Row, Text, first_value, found_of, one_of, one_text, rows_of, subcommand_name_of, subcommand_rows_of}
+use Rattle.clap.specs.declared.parser.matches.Found.{Found}
+use Rattle.clap.proofs.ValueTestLemmas.{Accepts-accepts, accepts-Accepts}
+use Rattle.clap.proofs.WalkLemmas.{first_value-rows, one_text-rows}
+use Rattle.clap.specs.declared.parser.matches.ArgMatches.{ArgMatches}
+use Rattle.clap.specs.declared.parser.matches.ArgMatches.TheViews.{out-ArgMatches, out-SubCommand}
+use Rattle.std.specs.Box.{box_value}
+use Rattle.store_commands.specs.declared.words.Task.{Task}
+use Rattle.store_commands.specs.declared.words.Task.TheVariants.{Run}
+use Rattle.store_commands.specs.CommandLine.{asked_of, every_of_number, mode_of_flag, task_of}
+
+-- a number that was read is the one that the text writes
+number_read : (E : Type 0) (text : Text) (n : ℕ) → ParsesUnsigned {E = E} 64 10 text (Ok n) → n ≡ every_of_number (Some text)
+number_read E text n read =
+    let within : Accepts false (Unsigned 0 (2 ^ 64 - 1)) text = (read.0.0, read.0.1, omega arith, omega (arith, read.0.1)) in
+    rw (Accepts-accepts false (Unsigned 0 (2 ^ 64 - 1)) text within) read.1
+
+-- and a text that is no number counts as none
+no_number : {E : Type 0} (text : Text) (e : E) → ParsesUnsigned {E = E} 64 10 text (Err e) → 0 ≡ every_of_number (Some text)
+no_number {E} text e read = go (is_unsigned_in 0 (2 ^ 64 - 1) text) refl
+  where
+    go : (b : Bool) → is_unsigned_in 0 (2 ^ 64 - 1) text ≡ b → 0 ≡ every_of_number (Some text)
+    go false is = rw is refl
+    go true is = let within = accepts-Accepts false (Unsigned 0 (2 ^ 64 - 1)) text is in absurd (read (within.0, within.1))
+
+module _ {E : Type 0} (gives : List ℕ → Result ℕ E → Type 0) (reads : (text : Text) (r : Result ℕ E) → gives text r → ParsesUnsigned 64 10 text r) where
+  read_one : (text : Text) (r : Option ℕ) → ReadsOne gives text r → unwrap_or r 0 ≡ every_of_number (Some text)
+  read_one text (Some n) read = number_read E text n (reads text (Ok n) read)
+  read_one text None read = no_number text read.0 (reads text (Err read.0) read.1)
+
+  pub every_read : (f : Found) (id : Text) (r : Option ℕ) → (one_text f id ≡ None → r ≡ None) → ((t : Text) → one_text f id ≡ Some t → ReadsOne gives t r)
+      → unwrap_or r 0 ≡ every_of_number (one_of id (rows_of f))
+  every_read f id r none value = go (one_text f id) refl ∙ ap every_of_number (one_text-rows f id)
+    where
+      go : (o : Option Text) → one_text f id ≡ o → unwrap_or r 0 ≡ every_of_number (one_text f id)
+      go None is = rw (is, none is) refl
+      go (Some t) is = rw is (read_one t r (value t is))
+
+-- the command `run` that was found
+pub run_found : (name : Text) (f : Found) (flag : Option Text) (mode : Mode) (every : ℕ) → name ≡ codes "run" → mode ≡ mode_of_flag flag → flag ≡ first_value f (codes "rescue")
+    → every ≡ every_of_number (one_of (codes "snapshot-every") (rows_of f)) → Some (Run mode every) ≡ task_of (name, rows_of f)
+run_found name f flag mode every is mode_is flag_is every_is =
+    rw (is, mode_is, flag_is ∙ first_value-rows f (codes "rescue"), every_is) refl
+
+-- the name and the rows of what was found, in one
+module _ {A B : Type 0} (label : A → B) (listing : A → List Row) where
+  abbrev pair_of : A → B × List Row
+  pair_of a = (label a, listing a)
+
+  named_found : (o : Option A) (name : B) (rows : List Row) → Some name ≡ option_map label o → Some rows ≡ option_map (λ (p : B × List Row). p.1) (option_map pair_of o)
+      → ◌≡◌ {A = Option (B × List Row)} (Some (name, rows)) (option_map pair_of o)
+  named_found None name rows named listed = absurd (cc)
+  named_found (Some a) name rows named listed =
+      let name_is : name ≡ label a = cc in
+      let rows_are : rows ≡ listing a = cc in
+      rw (name_is, rows_are) refl
+
+-- what was found asks for this
+pub asked_found : (m : ArgMatches) (name : Text) (f : Found) (folder : Option Text) (task : Option Task) → Some name ≡ subcommand_name_of m
+    → Some (rows_of f) ≡ option_map (λ (p : Text × List Row). p.1) (subcommand_rows_of m) → folder ≡ first_value f (codes "DIR") → task ≡ task_of (name, rows_of f)
+    → option_and_then (λ at. option_map (λ (t : Task). (at, t)) task) folder ≡ option_and_then asked_of (subcommand_rows_of m)
+asked_found m name f folder task named listed folder_is task_is =
+    rw (
+      ← named_found (λ b. (out-SubCommand (box_value b)).name.now) (λ b. rows_of (found_of (out-SubCommand (box_value b)).matches)) (out-ArgMatches m).subcommand name (rows_of f) named listed,
+      folder_is ∙ first_value-rows f (codes "DIR"),
+      task_is,
+    ) refl
+
+-- the words ask for one thing, of one folder
+pub same_folder : (asked : Option (Text × Task)) (a b : Text) (t u : Task) → asked ≡ Some (a, t) → asked ≡ Some (b, u) → a ≡ b
+same_folder None a b t u one other = absurd (cc)
+same_folder (Some at) a b t u one other =
+    let first : at.0 ≡ a = ap (λ (o : Option (Text × Task)). elim o [ None ↦ at.0 | Some p ↦ p.0 ]) one in
+    let second : at.0 ≡ b = ap (λ (o : Option (Text × Task)). elim o [ None ↦ at.0 | Some p ↦ p.0 ]) other in
+    sym first ∙ second
+
+pub same_task : (asked : Option (Text × Task)) (a b : Text) (t u : Task) → asked ≡ Some (a, t) → asked ≡ Some (b, u) → t ≡ u
+same_task None a b t u one other = absurd (cc)
+same_task (Some at) a b t u one other =
+    let first : at.1 ≡ t = ap (λ (o : Option (Text × Task)). elim o [ None ↦ at.1 | Some p ↦ p.1 ]) one in
+    let second : at.1 ≡ u = ap (λ (o : Option (Text × Task)). elim o [ None ↦ at.1 | Some p ↦ p.1 ]) other in
+    sym first ∙ second

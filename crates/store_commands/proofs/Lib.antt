@@ -1,0 +1,8 @@
+mod Answered
+pub mod CommandLineLaws
+pub mod FoundWords
+pub mod Fronts
+pub mod Reports
+pub mod Sessions
+pub mod Statuses
+pub mod Tasks

@@ -1,0 +1,103 @@
+-- Where the words are taken, the status is of a session or of a fault.
+use Rattle.std.proofs.Common.{◌≡◌, ◌⊎◌, ℕ, [], ◌∷◌, true, false, true≢false, ap, refl, inl, inr, ◌∙◌, sym, subst, arith}
+use Rattle.clap.specs.Words.{IsAmong, Kinds}
+use Rattle.clap.specs.declared.error.kind.ErrorKind.{ErrorKind}
+use Rattle.clap.specs.declared.error.kind.ErrorKind.TheVariants.{OutOfMemory}
+use Rattle.prevalence_store.specs.declared.outcome.Ending.{Ending}
+use Rattle.prevalence_store.specs.declared.outcome.Ending.TheVariants.{End, Reader, Store}
+use Rattle.store_commands.specs.declared.status.Status.{Status}
+use Rattle.store_commands.specs.declared.status.Status.TheVariants.{Done, Helped, ReaderRefused, WordsRefused, Fault}
+use Rattle.store_commands.specs.Commands.{is_of_opening}
+use Rattle.store_commands.specs.Status.{EndsAfter, HasFaultNumber, IsAfterOneOf, IsAfterWords, IsCarriedOut, IsFaultNumber, IsOfWords, TakesWords, status_of_ending}
+use Rattle.lisp_object.specs.declared.refusal.TheConstants.{NO_MEMORY, OUTPUT}
+
+-- of a session
+of_session : (ending : Ending) → TakesWords (status_of_ending ending)
+of_session End = tt
+of_session (Reader number) = tt
+of_session (Store number) = tt
+
+pub taken_at_ending : (status given : Status) (ending : Ending) → status ≡ given → given ≡ status_of_ending ending → TakesWords status
+taken_at_ending status given ending same is = subst TakesWords (sym (same ∙ is)) (of_session ending)
+
+-- of out of memory, or of the output
+of_memory : (status : Status) → IsAfterWords OutOfMemory status → TakesWords status
+of_memory status (inl is) = subst TakesWords (sym is) tt
+of_memory status (inr both) = subst TakesWords (sym both.1) tt
+
+pub taken_at_memory : (status given : Status) (kind : ErrorKind) → status ≡ given → kind ≡ OutOfMemory → IsAfterWords kind given → TakesWords status
+taken_at_memory status given kind same memory after =
+    subst TakesWords (sym same) (of_memory given (subst (λ k. IsAfterWords k given) memory after))
+
+-- a fault after a session is the number that the session ended with
+ending_is : (ending : Ending) (number : ℕ) → status_of_ending ending ≡ Fault number → ending ≡ Store number
+ending_is End number is = absurd (cc)
+ending_is (Reader code) number is = absurd (cc)
+ending_is (Store code) number is = let same : code ≡ number = cc in ap (λ n. Store n) same
+
+pub ending_at : (status given : Status) (ending : Ending) (number : ℕ) → status ≡ given → given ≡ status_of_ending ending → status ≡ Fault number → ending ≡ Store number
+ending_at status given ending number same is fault = ending_is ending number (sym is ∙ sym same ∙ fault)
+
+-- ---- after words that have mistakes
+
+after_memory : (status : Status) → IsAfterWords OutOfMemory status → status ≡ Fault NO_MEMORY
+after_memory status (inl is) = is
+after_memory status (inr both) = absurd (cc)
+
+after_one : (kinds : Kinds) (kind : ErrorKind) (status : Status) → IsAmong kind kinds → IsAfterWords kind status → IsAfterOneOf kinds status
+after_one [] kind status none after = absurd none
+after_one (k ∷ ks) kind status (inl is) after = inl (subst (λ x. IsAfterWords x status) is after)
+after_one (k ∷ ks) kind status (inr among) after = inr (after_one ks kind status among after)
+
+pub ends_after : (kinds : Kinds) (kind : ErrorKind) (status : Status) → (kind ≡ OutOfMemory) ⊎ IsAmong kind kinds → IsAfterWords kind status → EndsAfter kinds status
+ends_after [] kind status (inl memory) after = of_memory status (subst (λ k. IsAfterWords k status) memory after)
+ends_after [] kind status (inr none) after = absurd none
+ends_after (k ∷ ks) kind status (inl memory) after = inl (after_memory status (subst (λ x. IsAfterWords x status) memory after))
+ends_after (k ∷ ks) kind status (inr among) after = inr (after_one (k ∷ ks) kind status among after)
+
+-- where there is no mistake only memory can be refused
+pub only_memory : (kinds : Kinds) (kind : ErrorKind) → kinds ≡ [] → (kind ≡ OutOfMemory) ⊎ IsAmong kind kinds → kind ≡ OutOfMemory
+only_memory kinds kind none (inl memory) = memory
+only_memory kinds kind none (inr among) = absurd (subst (IsAmong kind) none among)
+
+pub memory_at : (status given : Status) (kind : ErrorKind) → status ≡ given → kind ≡ OutOfMemory → IsAfterWords kind given → status ≡ Fault NO_MEMORY
+memory_at status given kind same memory after = same ∙ after_memory given (subst (λ k. IsAfterWords k given) memory after)
+
+-- ---- the numbers of an opening are those of nothing else
+
+pub other_number : (number given : ℕ) → number ≡ given → is_of_opening given ≡ false → is_of_opening number ≡ true → ⊥
+other_number number given is other of = true≢false (sym of ∙ ap is_of_opening is ∙ other)
+
+-- ---- after words that gave no command
+
+pub words_carry_out : (status : Status) → IsOfWords status → IsCarriedOut status → ⊥
+words_carry_out Done none carried = none
+words_carry_out ReaderRefused none carried = none
+words_carry_out Helped of (inl is) = absurd (cc)
+words_carry_out Helped of (inr is) = absurd (cc)
+words_carry_out WordsRefused of (inl is) = absurd (cc)
+words_carry_out WordsRefused of (inr is) = absurd (cc)
+words_carry_out (Fault number) of (inl is) = absurd (cc)
+words_carry_out (Fault number) of (inr is) = absurd (cc)
+
+number_of_words : (number : ℕ) → (number ≡ NO_MEMORY) ⊎ (number ≡ OUTPUT) → IsFaultNumber number
+number_of_words number (inl memory) = inr (inr memory)
+number_of_words number (inr output) = subst IsFaultNumber (sym output) (inr (inl (omega arith, omega arith)))
+
+pub fault_of_words : (status : Status) → IsOfWords status → HasFaultNumber status
+fault_of_words Done of = absurd of
+fault_of_words ReaderRefused of = absurd of
+fault_of_words Helped of = λ number is. absurd (cc)
+fault_of_words WordsRefused of = λ number is. absurd (cc)
+fault_of_words (Fault given) of = λ number is. let same : given ≡ number = cc in subst IsFaultNumber same (number_of_words given of)
+
+opening_of_words : (given : ℕ) → (given ≡ NO_MEMORY) ⊎ (given ≡ OUTPUT) → is_of_opening given ≡ true → ⊥
+opening_of_words given (inl memory) = other_number given NO_MEMORY memory refl
+opening_of_words given (inr output) = other_number given OUTPUT output refl
+
+pub words_open : (status : Status) → IsOfWords status → (number : ℕ) → status ≡ Fault number → is_of_opening number ≡ true → ⊥
+words_open Done none number is of = none
+words_open ReaderRefused none number is of = none
+words_open Helped told number is of = absurd (cc)
+words_open WordsRefused told number is of = absurd (cc)
+words_open (Fault given) told number is of = let same : given ≡ number = cc in opening_of_words given told (ap is_of_opening same ∙ of)

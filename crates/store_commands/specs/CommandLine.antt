@@ -1,0 +1,122 @@
+-- The command line of the program, as clap reads it: `run DIR [--rescue] [--snapshot-every N]`, `dump DIR` and `verify DIR`.
+use Rattle.std.specs.Prelude.{◌≡◌, ◌≢◌, ◌≤◌, ◌^◌, ◌-◌, ◌⊎◌, ℕ, true, false, if◌then◌else◌, List, [], ◌∷◌, ◌++◌, Option, Some, None, codes, option_map, option_and_then}
+use Rattle.std.specs.Option.{option_map_or}
+use Rattle.std.specs.Str.{bytes_eq}
+use Rattle.std.specs.Str.Parse.{IsNumeral, digits_value, without_leading_plus}
+use Rattle.clap.specs.ValueTests.{is_unsigned_in}
+use Rattle.clap.specs.Kinds.{Kinds, or_else}
+use Rattle.clap.specs.Words.{App, Row, Rule, Text, fault_of, first_of, new_app, new_rule, one_of, subcommand_of, with_rule, with_subcommand}
+use Rattle.clap.specs.Simple.{on_top}
+use Rattle.clap.specs.declared.builder.action.ArgAction.TheVariants.{Set, SetTrue}
+use Rattle.clap.specs.declared.builder.value_parser.ValueParser.TheVariants.{Unsigned}
+use Rattle.clap.specs.declared.error.kind.ErrorKind.TheVariants.{MissingRequiredArgument}
+use Rattle.prevalence_store.specs.declared.mode.Mode.{Mode}
+use Rattle.prevalence_store.specs.declared.mode.Mode.TheVariants.{Current, Rescue}
+use Rattle.store_commands.specs.declared.words.Task.{Task}
+use Rattle.store_commands.specs.declared.words.Report.TheVariants.{Dump, Verify}
+use Rattle.store_commands.specs.declared.words.Task.TheVariants.{Run, Tell}
+
+-- DIR: one value, required
+abbrev pub directory_rule : Rule
+directory_rule = record (new_rule (codes "DIR")) {
+  required = true;
+  action = Some Set;
+}
+
+-- --rescue: a flag
+abbrev pub rescue_rule : Rule
+rescue_rule = record (new_rule (codes "rescue")) {
+  long = Some (codes "rescue");
+  action = Some SetTrue;
+}
+
+-- --snapshot-every N: one value, a number from 1 to 1,000,000
+abbrev pub every_rule : Rule
+every_rule = record (new_rule (codes "snapshot-every")) {
+  long = Some (codes "snapshot-every");
+  action = Some Set;
+  value_names = 1;
+  parser = Some (Unsigned 1 1000000);
+}
+
+-- a command of this name, with its folder
+abbrev pub folder_line : Text → App
+folder_line name = with_rule (new_app name) directory_rule
+
+abbrev pub run_line : App
+run_line = with_rule (with_rule (folder_line (codes "run")) rescue_rule) every_rule
+
+-- the program, with its three commands
+abbrev pub command_line : App
+command_line =
+    with_subcommand (with_subcommand (with_subcommand (on_top (λ s. record s { subcommand_required = true }) (new_app (codes "store_program")))
+    run_line.top) (folder_line (codes "dump")).top) (folder_line (codes "verify")).top
+
+-- the mode of a flag: a flag that is there has the value true
+abbrev pub mode_of_flag : Option Text → Mode
+mode_of_flag flag = if option_map_or (bytes_eq (codes "true")) flag false then Rescue else Current
+
+-- after how many forms a snapshot is taken: 0, which is never, where no number is given
+abbrev pub every_of_number : Option Text → ℕ
+every_of_number None = 0
+every_of_number (Some text) = if is_unsigned_in 0 (2 ^ 64 - 1) text then digits_value 10 (without_leading_plus text) else 0
+
+-- the same of the rows that were found
+abbrev pub every_in : List Row → ℕ
+every_in rows = every_of_number (one_of (codes "snapshot-every") rows)
+
+-- what a command is to do
+abbrev pub task_of : Text × List Row → Option Task
+task_of found =
+    if bytes_eq found.0 (codes "run") then Some (Run (mode_of_flag (first_of (codes "rescue") found.1)) (every_in found.1))
+    else (if bytes_eq found.0 (codes "dump") then Some (Tell Dump)
+    else (if bytes_eq found.0 (codes "verify") then Some (Tell Verify)
+    else None))
+
+-- what was found asks for: a folder, and what is to be done with it
+abbrev pub asked_of : Text × List Row → Option (Text × Task)
+asked_of found = option_and_then (λ folder. option_map (λ task. (folder, task)) (task_of found)) (first_of (codes "DIR") found.1)
+
+-- what the words ask for
+abbrev pub asked_in : List Text → Option (Text × Task)
+asked_in words = option_and_then asked_of (subcommand_of command_line words)
+
+-- no command with its folder was found
+abbrev pub missing_command : Option (Text × Task) → Kinds
+missing_command None = MissingRequiredArgument ∷ []
+missing_command (Some asked) = []
+
+-- The mistakes that the words are refused for, or the help that they ask for: by the statement of clap, and then that no command
+-- with its folder is there. None where the command line has the words.
+abbrev pub faults_of : List Text → Kinds
+faults_of words = or_else (fault_of command_line words) (missing_command (asked_in words))
+
+-- the command line has the words, and they ask for this
+abbrev pub IsTaken : List Text → Text → Task → Type 0
+IsTaken words folder task = (faults_of words ≡ []) × (asked_in words ≡ Some (folder, task))
+
+-- the word does not begin with a hyphen, and has a character
+abbrev pub IsNoOption : Text → Type 0
+IsNoOption [] = ⊥
+IsNoOption (x ∷ xs) = x ≢ 45
+
+-- the flag of a mode
+abbrev pub flag_for : Mode → List Text
+flag_for Current = []
+flag_for Rescue = codes "--rescue" ∷ []
+
+-- the words of the option on snapshots: none for 0, and a decimal number from 1 to 1,000,000 else
+abbrev pub IsEvery : ℕ → List Text → Type 0
+IsEvery every words =
+    ((every ≡ 0) × (words ≡ []))
+    ⊎ ((number : Text) × (words ≡ codes "--snapshot-every" ∷ number ∷ []) × IsNumeral 10 number × (digits_value 10 number ≡ every) × (1 ≤ every) × (every ≤ 1000000))
+
+-- the words of a command on this folder that asks for this
+abbrev pub IsLine : List Text → Text → Task → Type 0
+IsLine words folder (Run mode every) = (option : List Text) × (words ≡ codes "run" ∷ folder ∷ (flag_for mode ++ option)) × IsEvery every option
+IsLine words folder (Tell Dump) = words ≡ codes "dump" ∷ folder ∷ []
+IsLine words folder (Tell Verify) = words ≡ codes "verify" ∷ folder ∷ []
+
+-- the words are the program's name, and a command on this folder that asks for this
+abbrev pub AsksFor : List Text → Text → Task → Type 0
+AsksFor words folder task = (program : Text) × (line : List Text) × (words ≡ program ∷ line) × IsLine line folder task × IsNoOption folder

@@ -1,0 +1,118 @@
+-- What the program does for the words that it was started with.
+use Rattle.std.specs.Prelude.{◌≡◌, ◌==◌, ◌||◌, ◌⊎◌, ℕ, Bool, true, false, List, [], Option, Some}
+use Rattle.std.specs.List.{list_all}
+use Rattle.disk_trait.specs.Disk.{State}
+use Rattle.disk_trait.specs.declared.half.Half.{Half}
+use Rattle.lisp_object.specs.declared.refusal.TheConstants.{DEVICE, DAMAGED, MISSING_MACRO, VERSION, NO_MEMORY}
+use Rattle.clap.specs.Words.{Text}
+use Rattle.plist_state.specs.State.{State as World}
+use Rattle.readtable_core.specs.Names.{is_among}
+use Rattle.snapshot_text.specs.Snapshot.{snapshot}
+use Rattle.prevalence_store.specs.Functions.{Functions}
+use Rattle.prevalence_store.specs.Opening.{IsUnopened}
+use Rattle.prevalence_store.specs.declared.outcome.Ending.{Ending}
+use Rattle.store_commands.specs.Report.{DumpsWorld, IsReport, TellsHalf, half_line}
+use Rattle.store_commands.specs.Session.{AnswersInput, IsBrokenOff, IsSession, ReadsToEnd}
+use Rattle.store_commands.specs.Status.{HasFaultNumber, IsCarriedOut, TakesWords, status_of_ending}
+use Rattle.store_commands.specs.Texts.{IsFront}
+use Rattle.store_commands.specs.declared.session.TheConstants.{HALF_LIMIT}
+use Rattle.store_commands.specs.declared.status.Status.{Status}
+use Rattle.store_commands.specs.declared.status.Status.TheVariants.{Fault, Helped, WordsRefused}
+use Rattle.store_commands.specs.declared.words.Report.TheVariants.{Dump, Verify}
+use Rattle.store_commands.specs.declared.words.Task.{Task}
+use Rattle.store_commands.specs.declared.words.Task.TheVariants.{Run, Tell}
+
+-- each of these names is registered
+abbrev pub is_whole : List (List ℕ) → List (List ℕ) → Bool
+is_whole registered names = list_all (is_among registered) names
+
+-- nothing was read, and nothing written
+abbrev pub IsUntouched : {I O : Type 0} → I → I → O → O → Type 0
+IsUntouched input left held written = (left ≡ input) × (written ≡ held)
+
+-- numbers that nothing but the opening of a store answers
+abbrev pub is_of_opening : ℕ → Bool
+is_of_opening number = number == DAMAGED || (number == MISSING_MACRO || number == VERSION)
+
+-- `dump` and `verify` read nothing
+abbrev pub reads_input : Task → Bool
+reads_input (Run mode every) = true
+reads_input (Tell report) = false
+
+-- `run` that ends well reads to the end; the other commands read nothing
+abbrev pub TaskReads : Task → Status → List ℕ → Option (List ℕ) → Type 0
+TaskReads (Run mode every) status input left = ReadsToEnd status left
+TaskReads (Tell report) status input left = left ≡ Some input
+
+-- ---- over the files of a folder, of which no clause can say what they hold
+
+module _ (functions : Functions) where
+  -- what a command writes where it ends well
+  abbrev pub TaskWrites : Task → Status → List ℕ → List ℕ → Option (List ℕ) → Type 0
+  TaskWrites (Run mode every) status input held written = AnswersInput functions mode status input held written
+  TaskWrites (Tell Dump) status input held written = DumpsWorld status held written
+  TaskWrites (Tell Verify) status input held written = TellsHalf status held written
+
+  -- what a command wrote that met a fault is the first part of what it would have written, over the store of some world
+  abbrev pub TaskBreaksOff : Task → List ℕ → List ℕ → Option (List ℕ) → Type 0
+  TaskBreaksOff (Run mode every) input held written = IsBrokenOff functions mode input held written
+  TaskBreaksOff (Tell Dump) input held written = (world : World) × IsFront held written (snapshot world)
+  TaskBreaksOff (Tell Verify) input held written = (half : Half) × (generation : ℕ) × (records : ℕ) × IsFront held written (half_line half generation records)
+
+-- The store that a disk holds was not opened, all macro functions registered or not, and the status tells why; the disk is left as
+-- the opening left it.
+abbrev pub TellsUnopened : Functions → {D : Type 0} → (D → State) → (disk back : D) → Bool → Status → Type 0
+TellsUnopened functions state disk back whole status =
+    (number : ℕ) × (status ≡ Fault number) × IsUnopened functions state disk whole HALF_LIMIT number back
+
+-- What a task does with these macro functions, the input and the output. What a reader has left, and what a writer holds, is told
+-- by two functions.
+module _ (functions : Functions) {D R : Type 0} (state : D → State) (macros : R) (whole : Bool)
+    {I O : Type 0} (remaining : I → Option (List ℕ)) (contents : O → Option (List ℕ)) (input left : I) (held written : O) where
+  -- It was carried out over the store that a disk holds: a session went so, and the status is that of its ending; or something was
+  -- told of the store. The disk is left as the store that was closed left it.
+  abbrev pub CarriesOut : D → D → Task → Status → Type 0
+  CarriesOut disk back (Run mode every) status =
+      (ending : Ending) × (status ≡ status_of_ending ending)
+      × IsSession functions mode every state disk macros (remaining input) (remaining left) (contents held) (contents written) ending back
+  CarriesOut disk back (Tell report) status =
+      IsReport functions state report disk macros (contents held) (contents written) status back × (left ≡ input)
+
+  -- It is carried out over the store that a disk holds; or the store is not opened, and nothing is read or written. The first disk
+  -- becomes the second.
+  abbrev pub DoesOn : D → D → Task → Status → Type 0
+  DoesOn disk back task status =
+      CarriesOut disk back task status ⊎ (TellsUnopened functions state disk back whole status × IsUntouched input left held written)
+
+  -- There is no memory, or the folder is not opened, and nothing is read or written; or it is done over some disk of this type. That
+  -- the files of this disk are those of the folder is not said here.
+  abbrev pub Does : Task → Status → Type 0
+  Does task status =
+      (((status ≡ Fault NO_MEMORY) ⊎ (status ≡ Fault DEVICE)) × IsUntouched input left held written)
+      ⊎ ((disk : D) × (back : D) × DoesOn disk back task status)
+
+  -- A task, for the store in a folder, was done, and this is the status.
+  pub record Performs (folder : Text) (task : Task) (status : Status) : Type 0 where
+    pub does : Does task status
+    -- neither is help written nor are the words refused
+    pub taken : TakesWords status
+    -- no folder has an empty name
+    pub nameless : folder ≡ [] → ((status ≡ Fault DEVICE) ⊎ (status ≡ Fault NO_MEMORY)) × IsUntouched input left held written
+    pub unread : reads_input task ≡ false → left ≡ input
+    pub unopened : (number : ℕ) → status ≡ Fault number → is_of_opening number ≡ true → IsUntouched input left held written
+    pub fault : HasFaultNumber status
+    pub reads : (text : List ℕ) → remaining input ≡ Some text → TaskReads task status text (remaining left)
+    pub writes : (text had : List ℕ) → remaining input ≡ Some text → contents held ≡ Some had
+        → TaskWrites functions task status text had (contents written)
+    -- after a fault
+    pub breaks_off : (text had : List ℕ) (number : ℕ) → remaining input ≡ Some text → contents held ≡ Some had → status ≡ Fault number
+        → TaskBreaksOff functions task text had (contents written)
+
+-- The words have a mistake, or ask for help: no task is done, and nothing is read. Where they are refused, or memory ran out, nothing
+-- goes to the output.
+pub record PerformsNone {I O : Type 0} (input left : I) (held written : O) (status : Status) : Type 0 where
+  pub unread : left ≡ input
+  pub not_carried_out : IsCarriedOut status → ⊥
+  pub no_opening : (number : ℕ) → status ≡ Fault number → is_of_opening number ≡ true → ⊥
+  pub refused : status ≡ WordsRefused → written ≡ held
+  pub memory : status ≡ Fault NO_MEMORY → written ≡ held

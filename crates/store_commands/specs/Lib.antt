@@ -1,0 +1,7 @@
+pub mod CommandLine
+pub mod Commands
+pub mod MacroFunctions
+pub mod Report
+pub mod Session
+pub mod Status
+pub mod Texts

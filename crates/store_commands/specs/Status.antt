@@ -1,0 +1,84 @@
+-- Exit statuses, and when each comes.
+use Rattle.std.specs.Prelude.{◌≡◌, ◌≤◌, ◌⊎◌, ℕ, [], ◌∷◌, Result, Ok, Err}
+use Rattle.clap.specs.Words.{Kinds}
+use Rattle.clap.specs.declared.error.kind.ErrorKind.{ErrorKind}
+use Rattle.clap.specs.declared.error.kind.ErrorKind.TheVariants.{DisplayHelp, DisplayVersion, OutOfMemory}
+use Rattle.lisp_object.specs.declared.refusal.TheConstants.{DEVICE, DAMAGED, OUTPUT, NO_MEMORY}
+use Rattle.prevalence_store.specs.declared.outcome.Ending.{Ending}
+use Rattle.prevalence_store.specs.declared.outcome.Ending.TheVariants.{End, Reader, Store}
+use Rattle.store_commands.specs.declared.fault.Unwritten.{Unwritten}
+use Rattle.store_commands.specs.declared.status.Status.{Status}
+use Rattle.store_commands.specs.declared.status.Status.TheVariants.{Done, Helped, ReaderRefused, WordsRefused, Fault}
+
+-- the exit status
+abbrev pub code_of : Status → ℕ
+code_of Done = 0
+code_of Helped = 0
+code_of ReaderRefused = 1
+code_of WordsRefused = 2
+code_of (Fault number) = 3
+
+-- after a session
+abbrev pub status_of_ending : Ending → Status
+status_of_ending End = Done
+status_of_ending (Reader number) = ReaderRefused
+status_of_ending (Store number) = Fault number
+
+-- after a text that was written, or not whole
+abbrev pub status_of_output : Result Unit Unwritten → Status
+status_of_output (Ok written) = Done
+status_of_output (Err unwritten) = Fault OUTPUT
+
+-- after words that gave no command: help that was asked for, out of memory, or words that are refused
+abbrev pub status_of_kind : ErrorKind → Status
+status_of_kind DisplayHelp = Helped
+status_of_kind DisplayVersion = Helped
+status_of_kind OutOfMemory = Fault NO_MEMORY
+status_of_kind _ = WordsRefused
+
+-- the command was carried out: to its end, or to what the reader refused
+abbrev pub IsCarriedOut : Status → Type 0
+IsCarriedOut status = (status ≡ Done) ⊎ (status ≡ ReaderRefused)
+
+-- nothing is told on standard error
+abbrev pub IsQuiet : Status → Type 0
+IsQuiet status = IsCarriedOut status ⊎ (status ≡ Helped)
+
+-- the number is of the device, of the files, their limit, the input or the output, or of memory: 60, 62 to 68, or 90
+abbrev pub IsFaultNumber : ℕ → Type 0
+IsFaultNumber number = (number ≡ DEVICE) ⊎ (((DAMAGED ≤ number) × (number ≤ OUTPUT)) ⊎ (number ≡ NO_MEMORY))
+
+-- where the status is that of a fault, it has the number of one
+abbrev pub HasFaultNumber : Status → Type 0
+HasFaultNumber status = (number : ℕ) → status ≡ Fault number → IsFaultNumber number
+
+-- the words were taken: neither were they refused, nor did they ask for help
+abbrev pub TakesWords : Status → Type 0
+TakesWords Helped = ⊥
+TakesWords WordsRefused = ⊥
+TakesWords Done = Unit {0}
+TakesWords ReaderRefused = Unit {0}
+TakesWords (Fault number) = Unit {0}
+
+-- after words that gave no command: that of their kind of error, or a fault of the output where help was not written
+abbrev pub IsAfterWords : ErrorKind → Status → Type 0
+IsAfterWords kind status = (status ≡ status_of_kind kind) ⊎ ((status_of_kind kind ≡ Helped) × (status ≡ Fault OUTPUT))
+
+-- no command was carried out: help was written or not, the words were refused, or memory ran out
+abbrev pub IsOfWords : Status → Type 0
+IsOfWords Done = ⊥
+IsOfWords ReaderRefused = ⊥
+IsOfWords Helped = Unit {0}
+IsOfWords WordsRefused = Unit {0}
+IsOfWords (Fault number) = (number ≡ NO_MEMORY) ⊎ (number ≡ OUTPUT)
+
+-- after words that have these mistakes, one of which is told
+abbrev pub IsAfterOneOf : Kinds → Status → Type 0
+IsAfterOneOf [] status = ⊥
+IsAfterOneOf (kind ∷ kinds) status = IsAfterWords kind status ⊎ IsAfterOneOf kinds status
+
+-- How the program ends after words that have these mistakes. Where there is none the words are taken. Else one of them is told, or
+-- memory ran out.
+abbrev pub EndsAfter : Kinds → Status → Type 0
+EndsAfter [] status = TakesWords status
+EndsAfter (kind ∷ kinds) status = (status ≡ Fault NO_MEMORY) ⊎ IsAfterOneOf (kind ∷ kinds) status

@@ -1,0 +1,177 @@
+// What the words of the command line ask for.
+ghost use Rattle.std.specs.Prelude.{◌≡◌, ◌⊎◌, ◌<◌, ◌-◌, ◌^◌, [], map};
+ghost use Rattle.clap.specs.Words.{Text, kind_of};
+ghost use Rattle.prevalence_store.specs.Functions.{functions_of};
+ghost use Rattle.store_commands.specs.declared.words.Task.{Task};
+ghost use Rattle.store_commands.specs.CommandLine.{AsksFor, IsTaken, faults_of};
+ghost use Rattle.store_commands.specs.Commands.{DoesOn, Performs, PerformsNone, is_whole};
+ghost use Rattle.store_commands.specs.Session.{TellsFault};
+ghost use Rattle.store_commands.specs.Status.{EndsAfter, HasFaultNumber, IsAfterWords, IsOfWords, IsQuiet};
+
+use crate::fault::write_fault;
+use crate::report::report_on;
+use crate::session::serve_on;
+use crate::status::Status;
+use crate::words::{Asked, Task, asked_in};
+use clap::Error;
+use disk_trait::{Disk, HostDisk};
+use lisp_object::refusal::{DEVICE, NO_MEMORY, OUTPUT};
+use std::alloc::Global;
+use std::convert::AsStr;
+use std::fs::File;
+use std::io::{Read, Write};
+use std::rt::Files;
+use user_macros::MacroFunctions;
+
+/// Does what the words ask for, with these macro functions; the first word is the program's name.
+///
+/// Each command is over the store in the folder DIR. `run DIR` serves `input` to `output` in the mode Current; with `--rescue`
+/// in the mode Rescue, and with `--snapshot-every N` it takes a snapshot after each N forms that were logged. `dump DIR` writes
+/// the text of the world to `output`, and `verify DIR` the line on the half in use; they read nothing.
+///
+/// Faults are found in this order: the words, DIR, the opening of the store, the command. A text on words that are refused, or
+/// the line of a fault, goes to `faults`; help that was asked for goes to `output`. What is written to `output` is flushed.
+pub fn program<R, M, S, I, O, F>(
+    rt: &R,
+    macros: M,
+    words: &[S],
+    input: &mut I,
+    output: &mut O,
+    faults: &mut F,
+) -> Status
+where
+    R: Files<File = File> + AllocGlobal,
+    M: MacroFunctions + Drop,
+    S: AsStr,
+    I: Read,
+    O: Write,
+    F: Write,
+    requires answers { M.answers macros }
+    ensures words { (folder : Text) (task : Task) → AsksFor (map S.text words.now) folder task
+        → IsTaken (map S.text words.now) folder task }
+    ensures ends { EndsAfter (faults_of (map S.text words.now)) result }
+    ensures taken { (folder : Text) (task : Task) → IsTaken (map S.text words.now) folder task
+        → Performs (functions_of M.Meaning.names M.Meaning.way M.Meaning.answer) ⟦<HostDisk as Disk>⟧.state macros
+        (is_whole (M.registered macros) M.Meaning.names) I.remaining O.contents
+        input.old input.new output.old output.new folder task result }
+    ensures untaken { (faults_of (map S.text words.now) ≡ [] → ⊥)
+        → PerformsNone input.old input.new output.old output.new result }
+    ensures fault { HasFaultNumber result }
+    ensures told { TellsFault result (F.contents faults.old) (F.contents faults.new) }
+    ensures quiet { IsQuiet result → faults.new ≡ faults.old }
+{
+    // The words come first: if they are refused, no folder is opened and nothing is read.
+    let status = match asked_in(rt.alloc(), words) {
+        Ok(asked) => carry_out(rt, macros, asked, input, output),
+        Err(error) => answer_words(&error, output, faults),
+    };
+    end_with(faults, status)
+}
+
+/// Ends so: after a fault its line is written.
+pub fn end_with<F: Write>(faults: &mut F, status: Status) -> Status
+    ensures status { result ≡ status }
+    ensures told { TellsFault status (F.contents faults.old) (F.contents faults.new) }
+    ensures quiet { IsQuiet status ⊎ (status ≡ Status.WordsRefused) → faults.new ≡ faults.old }
+{
+    if let Status::Fault(number) = status {
+        let _ = write_fault(faults, number);
+    }
+    status
+}
+
+// Words that gave no command: the text on them is written.
+fn answer_words<O: Write, F: Write>(error: &Error, output: &mut O, faults: &mut F) -> Status
+    ensures status { IsAfterWords (kind_of error.now) result }
+    ensures of_words { IsOfWords result }
+    ensures refused { result ≡ Status.WordsRefused → output.new ≡ output.old }
+    ensures memory { result ≡ Status.Fault NO_MEMORY → output.new ≡ output.old }
+    ensures told { (result ≡ Status.WordsRefused → ⊥) → faults.new ≡ faults.old }
+{
+    match Status::of_kind(error.kind()) {
+        Status::Helped => write_help(error, output),
+        Status::WordsRefused => {
+            let _ = write!(faults, "{error}");
+            Status::WordsRefused
+        }
+        status => status,
+    }
+}
+
+// Writes help that was asked for, and flushes it.
+fn write_help<O: Write>(help: &Error, output: &mut O) -> Status
+    ensures { (result ≡ Status.Helped) ⊎ (result ≡ Status.Fault OUTPUT) }
+{
+    // a status of 0 says that the help has come out, so it is flushed first
+    if write!(output, "{help}").is_err() {
+        return Status::Fault(OUTPUT);
+    }
+    match output.flush() {
+        Ok(()) => Status::Helped,
+        Err(_) => Status::Fault(OUTPUT),
+    }
+}
+
+// Carries a task out over the store in a folder. The store is closed after it, and its files are let go.
+fn carry_out<R, M, I, O>(
+    rt: &R,
+    macros: M,
+    asked: Asked<'_>,
+    input: &mut I,
+    output: &mut O,
+) -> Status
+where
+    R: Files<File = File> + AllocGlobal,
+    M: MacroFunctions + Drop,
+    I: Read,
+    O: Write,
+    requires answers { M.answers macros }
+    ensures { Performs (functions_of M.Meaning.names M.Meaning.way M.Meaning.answer) ⟦<HostDisk as Disk>⟧.state macros
+        (is_whole (M.registered macros) M.Meaning.names) I.remaining O.contents
+        input.old input.new output.old output.new asked.entry.folder.now asked.entry.task result }
+{
+    // no folder has an empty name, and files under it would be those of the present folder
+    if asked.folder.is_empty() {
+        return Status::Fault(DEVICE);
+    }
+    let Ok(disk) = HostDisk::open(rt, asked.folder) else {
+        return Status::Fault(DEVICE);
+    };
+    let (status, _disk) = carry_out_on(rt.alloc(), disk, macros, asked.task, input, output);
+    status
+}
+
+// Carries a task out over the store that a disk holds, and gives the disk back as the store left it.
+fn carry_out_on<D, M, I, O>(
+    alloc: Global,
+    disk: D,
+    macros: M,
+    task: Task,
+    input: &mut I,
+    output: &mut O,
+) -> (Status, D)
+where
+    D: Disk + Drop,
+    M: MacroFunctions + Drop,
+    I: Read,
+    O: Write,
+    requires room { (D.state disk).failures < 2 ^ 64 - 1 }
+    requires answers { M.answers macros }
+    ensures { DoesOn (functions_of M.Meaning.names M.Meaning.way M.Meaning.answer) D.state macros
+        (is_whole (M.registered macros) M.Meaning.names) I.remaining O.contents
+        input.old input.new output.old output.new disk result.1 task result.0 }
+{
+    match task {
+        Task::Run {
+            mode,
+            snapshot_every,
+        } => match serve_on(alloc, disk, macros, mode, snapshot_every, input, output) {
+            Ok((ending, disk, _macros)) => (Status::of_ending(ending), disk),
+            Err(unopened) => (Status::Fault(unopened.number), unopened.disk),
+        },
+        Task::Tell(report) => match report_on(alloc, disk, macros, report, output) {
+            Ok((status, disk, _macros)) => (status, disk),
+            Err(unopened) => (Status::Fault(unopened.number), unopened.disk),
+        },
+    }
+}

@@ -1,0 +1,111 @@
+// What is told of the store that a disk holds.
+ghost use Rattle.std.specs.Prelude.{◌≡◌, ◌<◌, ◌-◌, ◌^◌, IsSome, IfSome, IfOk, IfErr};
+ghost use Rattle.prevalence_store.specs.Functions.{functions_of};
+ghost use Rattle.prevalence_store.specs.Opening.{IsUnopened};
+ghost use Rattle.snapshot_text.specs.Snapshot.{snapshot};
+ghost use Rattle.store_commands.specs.Commands.{is_whole};
+ghost use Rattle.store_commands.specs.Report.{IsReport, half_line_of, text_of};
+ghost use Rattle.store_commands.specs.Status.{status_of_output};
+ghost use Rattle.store_commands.specs.Texts.{TellsText};
+
+use crate::fault::{Unwritten, write_out};
+use crate::half_line::write_half_line;
+use crate::session::HALF_LIMIT;
+use crate::status::Status;
+use crate::words::Report;
+use disk_trait::Disk;
+use lisp_object::refusal::{NO_MEMORY, OUTPUT, REOPEN};
+use prevalence_store::{Store, Unopened};
+use std::alloc::Global;
+use std::io::Write;
+use user_macros::MacroFunctions;
+
+/// Tells this of the store that a disk holds, and answers how that ended. The disk is given back as the opening left it, and the
+/// macro functions.
+///
+/// # Errors
+///
+/// Those of opening the store. Nothing is written then, and the disk and the macro functions are given back.
+pub fn report_on<D, M, O>(
+    alloc: Global,
+    disk: D,
+    macros: M,
+    report: Report,
+    output: &mut O,
+) -> Result<(Status, D, M), Unopened<D, M>>
+where
+    D: Disk,
+    M: MacroFunctions,
+    O: Write,
+    requires room { (D.state disk).failures < 2 ^ 64 - 1 }
+    requires answers { M.answers macros }
+    ensures reports { IfOk result (λ p. IsReport (functions_of M.Meaning.names M.Meaning.way M.Meaning.answer) D.state report
+        disk macros (O.contents output.old) (O.contents output.new) p.0 p.1) }
+    ensures kept { IfOk result (λ p. p.2 ≡ macros) }
+    ensures refused { IfErr result (λ e. IsUnopened (functions_of M.Meaning.names M.Meaning.way M.Meaning.answer) D.state disk
+        (is_whole (M.registered macros) M.Meaning.names) HALF_LIMIT e.number e.disk
+        × (output.new ≡ output.old)) }
+    ensures given_back { IfErr result (λ e. e.macros ≡ macros) }
+{
+    let store = Store::open(alloc, disk, macros, HALF_LIMIT)?;
+    let status = write_report(alloc, &store, report, output);
+    let (disk, macros) = store.close();
+    Ok((status, disk, macros))
+}
+
+// Writes what is told of an open store.
+fn write_report<D: Disk, M, O: Write>(
+    alloc: Global,
+    store: &Store<D, M>,
+    report: Report,
+    output: &mut O,
+) -> Status
+    requires known { IsSome store.now.world }
+    ensures { IfSome store.now.world (λ world.
+        TellsText result (O.contents output.old) (O.contents output.new) (text_of report store.now world)) }
+{
+    match report {
+        Report::Dump => write_world(alloc, store, output),
+        Report::Verify => write_half(store, output),
+    }
+}
+
+// Writes the text of the world of an open store.
+fn write_world<D: Disk, M, O: Write>(alloc: Global, store: &Store<D, M>, output: &mut O) -> Status
+    requires known { IsSome store.now.world }
+    ensures { IfSome store.now.world (λ world.
+        TellsText result (O.contents output.old) (O.contents output.new) (snapshot world)) }
+{
+    // a store that was just opened has a world
+    let Some(world) = store.world() else {
+        return Status::Fault(REOPEN);
+    };
+    let Ok(text) = snapshot_text::write(alloc, world) else {
+        return Status::Fault(NO_MEMORY);
+    };
+    status_of_output(write_out(output, text.as_slice()))
+}
+
+// Writes the line on the half in use of an open store.
+fn write_half<D: Disk, M, O: Write>(store: &Store<D, M>, output: &mut O) -> Status
+    ensures { TellsText result (O.contents output.old) (O.contents output.new)
+        (half_line_of store.now) }
+{
+    let written = write_half_line(
+        output,
+        store.half(),
+        store.generation(),
+        store.record_count(),
+    );
+    status_of_output(written)
+}
+
+// How the program ends after a text that was written.
+fn status_of_output(written: Result<(), Unwritten>) -> Status
+    ensures { result ≡ status_of_output written }
+{
+    match written {
+        Ok(()) => Status::Done,
+        Err(_) => Status::Fault(OUTPUT),
+    }
+}

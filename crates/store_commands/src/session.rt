@@ -1,0 +1,53 @@
+// A session over the store that a disk holds.
+ghost use Rattle.std.specs.Prelude.{◌≡◌, ◌<◌, ◌-◌, ◌^◌, IfOk, IfErr};
+ghost use Rattle.prevalence_store.specs.Functions.{functions_of};
+ghost use Rattle.prevalence_store.specs.Opening.{IsUnopened};
+ghost use Rattle.store_commands.specs.Commands.{IsUntouched, is_whole};
+ghost use Rattle.store_commands.specs.Session.{IsSession};
+
+use disk_trait::Disk;
+use prevalence_store::{Ending, Mode, Store, Unopened};
+use std::alloc::Global;
+use std::io::{Read, Write};
+use user_macros::MacroFunctions;
+
+/// How many bytes each of the two files of a store may have.
+pub const HALF_LIMIT: u64 = 1_073_741_824;
+
+/// A session over the store that a disk holds, with these macro functions and in this mode. After each `snapshot_every` forms
+/// that were logged it takes a snapshot, and never where that is 0. The disk is given back as the store left it, and the macro
+/// functions.
+///
+/// # Errors
+///
+/// Those of opening the store. Nothing is read or written then, and the disk and the macro functions are given back.
+pub fn serve_on<D, M, I, O>(
+    alloc: Global,
+    disk: D,
+    macros: M,
+    mode: Mode,
+    snapshot_every: u64,
+    input: &mut I,
+    output: &mut O,
+) -> Result<(Ending, D, M), Unopened<D, M>>
+where
+    D: Disk,
+    M: MacroFunctions,
+    I: Read,
+    O: Write,
+    requires room { (D.state disk).failures < 2 ^ 64 - 1 }
+    requires answers { M.answers macros }
+    ensures served { IfOk result (λ p. IsSession (functions_of M.Meaning.names M.Meaning.way M.Meaning.answer) mode snapshot_every
+        D.state disk macros (I.remaining input.old) (I.remaining input.new)
+        (O.contents output.old) (O.contents output.new) p.0 p.1) }
+    ensures kept { IfOk result (λ p. p.2 ≡ macros) }
+    ensures refused { IfErr result (λ e. IsUnopened (functions_of M.Meaning.names M.Meaning.way M.Meaning.answer) D.state disk
+        (is_whole (M.registered macros) M.Meaning.names) HALF_LIMIT e.number e.disk
+        × IsUntouched input.old input.new output.old output.new) }
+    ensures given_back { IfErr result (λ e. e.macros ≡ macros) }
+{
+    let mut store = Store::open(alloc, disk, macros, HALF_LIMIT)?;
+    let ending = store.serve(input, output, mode, snapshot_every);
+    let (disk, macros) = store.close();
+    Ok((ending, disk, macros))
+}

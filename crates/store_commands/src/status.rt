@@ -1,0 +1,59 @@
+// How the program ends.
+ghost use Rattle.std.specs.Prelude.{◌≡◌, ◌≤◌};
+ghost use Rattle.store_commands.specs.Status.{code_of, status_of_ending, status_of_kind};
+
+use clap::error::ErrorKind;
+use lisp_object::refusal::NO_MEMORY;
+use prevalence_store::Ending;
+
+/// How the program ended.
+#[derive(Clone, Copy, Debug, PartialEq, Eq)]
+pub enum Status {
+    /// The command was carried out: the input was served to its end, or the text that was asked for was written.
+    Done,
+    /// The help that was asked for was written.
+    Helped,
+    /// The reader refused a form, which ended the session.
+    ReaderRefused,
+    /// The words of the command line were refused.
+    WordsRefused,
+    /// A fault, with its number: 60 to 68, or 90.
+    Fault(u16),
+}
+
+impl Status {
+    /// The exit status: 0 where the command was carried out and after help, 1 after a refusal of the reader, 2 for words that
+    /// are refused, 3 after a fault.
+    pub fn code(self) -> u8
+        ensures { result ≡ code_of self }
+    {
+        match self {
+            Status::Done | Status::Helped => 0,
+            Status::ReaderRefused => 1,
+            Status::WordsRefused => 2,
+            Status::Fault(_) => 3,
+        }
+    }
+
+    /// The status after a session that ended so.
+    pub fn of_ending(ending: Ending) -> Status
+        ensures { result ≡ status_of_ending ending }
+    {
+        match ending {
+            Ending::End => Status::Done,
+            Ending::Reader(_) => Status::ReaderRefused,
+            Ending::Store(number) => Status::Fault(number),
+        }
+    }
+
+    /// The status after words that gave no command, for this reason.
+    pub fn of_kind(kind: ErrorKind) -> Status
+        ensures { result ≡ status_of_kind kind }
+    {
+        match kind {
+            ErrorKind::DisplayHelp | ErrorKind::DisplayVersion => Status::Helped,
+            ErrorKind::OutOfMemory => Status::Fault(NO_MEMORY),
+            _ => Status::WordsRefused,
+        }
+    }
+}

@@ -1,7 +1,0 @@
-mod Answered
-pub mod CommandLineLaws
-pub mod FoundWords
-pub mod Fronts
-pub mod Reports
-pub mod Sessions
-pub mod Statuses

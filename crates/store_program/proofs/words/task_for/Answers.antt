@@ -1,7 +1,0 @@
-use Rattle.clap.specs.Words.{found_of}
-use Rattle.store_program.proofs.FoundWords.{run_found}
-use Rattle.store_program.proofs.words.task_for.Goals as goal
-
-pub returns-in-run : goal.returns-in-run
-returns-in-run c =
-    run_found c.args.name.now (found_of c.args.found.now) _ c.mode_for.result c.every_in.result c.in-run.is c.mode_for.ensures c.get_str.ensures c.every_in.ensures

@@ -1,5 +1,0 @@
-pub mod CommandLine
-pub mod Commands
-pub mod MacroFunctions
-pub mod Session
-pub mod Status
