@@ -1,13 +1,13 @@
 //! The six macro functions without a registry: each is called by its name. So a helper may make them, where it could not
 //! make the boxes of a registry.
-ghost use Rattle.std.specs.Prelude.{◌≡◌, true};
+ghost use Rattle.std.specs.Prelude.{◌≡◌, refl, true};
 ghost use Rattle.std.specs.List.{list_all};
 ghost use Rattle.std.specs.Option.{option_map_or};
 ghost use Rattle.readtable_core.specs.Named.{functions_at};
 ghost use Rattle.user_macros.specs.Registry.{is_covered};
-ghost use Rattle.store_commands.specs.MacroFunctions.{function_names};
+ghost use Rattle.store_commands.specs.MacroFunctions.{function_names, six_functions};
 
-use readtable_core::{CharacterEntry, FnName, Readtable};
+use readtable_core::{CharacterSlot, FnName, Readtable};
 use std::alloc::{AllocError, Global};
 use store_commands::{SixFunctions, macro_functions};
 use user_macros::{Answer, Call, Gather, MacroFunctions, Meaning};
@@ -48,7 +48,7 @@ impl ByName {
         true
     }
 
-    fn covers_entry(&self, entry: &CharacterEntry) -> bool
+    fn covers_entry(&self, entry: &CharacterSlot) -> bool
         ensures { result ≡ list_all (is_covered function_names) (functions_at entry.now) }
     {
         self.covers_function(entry.function()) && self.covers_each(entry.dispatch())
@@ -58,11 +58,13 @@ impl ByName {
 impl MacroFunctions for ByName {
     type Meaning = SixFunctions;
 
-    ghost registered = { λ _. function_names };
+    ghost functions = { λ _. six_functions };
 
     ghost meant = { λ functions. functions.meaning };
 
     ghost answers = { λ _. Unit {0} };
+
+    ghost as_meant = { λ functions. refl };
 
     ghost known = { λ functions answers name is. is };
 

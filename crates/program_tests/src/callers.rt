@@ -2,10 +2,9 @@
 ghost use Rattle.std.specs.Prelude.{◌≡◌, ◌<◌, ◌+◌, ◌-◌, ◌^◌, ◌++◌, ℕ, List, Some, Ok, IfSome, IfOk, length};
 ghost use Rattle.disk_trait.specs.Disk.{IsHonest};
 ghost use Rattle.plist_state.specs.State.{State as LispWorld};
-ghost use Rattle.prevalence_store.specs.Acceptance.{Acceptance, accepts, records_of};
-ghost use Rattle.prevalence_store.specs.Functions.{functions_of};
-ghost use Rattle.prevalence_store.specs.Output.{Progress, after_forms};
-ghost use Rattle.prevalence_store.specs.Streams.{Writes};
+ghost use Rattle.prevalence_store.specs.meaning.Acceptance.{Acceptance, accepts, records_of};
+ghost use Rattle.prevalence_store.specs.meaning.Answers.{Progress, after_forms};
+ghost use Rattle.prevalence_store.specs.calls.Streams.{Writes};
 ghost use Rattle.prevalence_store.specs.Theorem.{IsAfterSome, Keeps};
 
 use crate::asked::{asked, session};
@@ -39,16 +38,16 @@ fn two_forms<D: Disk + Drop, M: MacroFunctions + Drop>(
     requires room_again { (D.state crashed).failures < 2 ^ 64 - 1 }
     requires answers { M.answers macros }
     ensures found { IfSome result (λ two. (w : LispWorld)
-        → IsHonest (D.state disk) → Keeps (functions_of M.Meaning.names M.Meaning.way M.Meaning.answer) (D.state disk) w → IsHonest (D.state crashed)
+        → IsHonest (D.state disk) → Keeps M.Meaning.functions (D.state disk) w → IsHonest (D.state crashed)
         → (one : Acceptance) × (both : Acceptance)
-        × (accepts (functions_of M.Meaning.names M.Meaning.way M.Meaning.answer) w Mode.Current first.now ≡ Ok one)
-        × (accepts (functions_of M.Meaning.names M.Meaning.way M.Meaning.answer) one.world Mode.Current second.now ≡ Ok both)
+        × (accepts M.Meaning.functions w Mode.Current first.now ≡ Ok one)
+        × (accepts M.Meaning.functions one.world Mode.Current second.now ≡ Ok both)
         × ((D.state two.0).left_since (D.state disk).moment (D.state crashed).reads
         → IfOk two.1 (λ store. (now : LispWorld) × (store.world ≡ Some now)
-        × IsAfterSome (functions_of M.Meaning.names M.Meaning.way M.Meaning.answer) w (records_of one.wrote Mode.Current one.text ++ records_of both.wrote Mode.Current both.text) 0 now))
+        × IsAfterSome M.Meaning.functions w (records_of one.wrote Mode.Current one.text ++ records_of both.wrote Mode.Current both.text) 0 now))
         × ((D.state two.0).left_since (D.state two.0).moment (D.state crashed).reads
         → IfOk two.1 (λ store. (now : LispWorld) × (store.world ≡ Some now)
-        × IsAfterSome (functions_of M.Meaning.names M.Meaning.way M.Meaning.answer) w (records_of one.wrote Mode.Current one.text ++ records_of both.wrote Mode.Current both.text)
+        × IsAfterSome M.Meaning.functions w (records_of one.wrote Mode.Current one.text ++ records_of both.wrote Mode.Current both.text)
         (length (records_of one.wrote Mode.Current one.text) + length (records_of both.wrote Mode.Current both.text)) now))) }
 {
     let Ok(mut store) = Store::open(alloc, disk, macros, AMPLE) else {
@@ -91,16 +90,16 @@ fn one_session<D: Disk + Drop, M: MacroFunctions + Drop, R: Read, W: Write>(
     requires room_again { (D.state crashed).failures < 2 ^ 64 - 1 }
     requires answers { M.answers macros }
     ensures acknowledged { IfSome result (λ served. (w : LispWorld) (input : List ℕ)
-        → IsHonest (D.state disk) → Keeps (functions_of M.Meaning.names M.Meaning.way M.Meaning.answer) (D.state disk) w → IsHonest (D.state crashed)
+        → IsHonest (D.state disk) → Keeps M.Meaning.functions (D.state disk) w → IsHonest (D.state crashed)
         → R.remaining reader.old ≡ Some input
         → (D.state served.1).may_leave (D.state crashed).reads
         → IfOk served.2 (λ store. (text : List ℕ) × (rest : List ℕ) × (input ≡ text ++ rest)
-        × ((forms : ℕ) × (far : Progress) × (after_forms (functions_of M.Meaning.names M.Meaning.way M.Meaning.answer) forms w Mode.Current text ≡ Some far)
+        × ((forms : ℕ) × (far : Progress) × (after_forms M.Meaning.functions forms w Mode.Current text ≡ Some far)
         × ((lines : ℕ) × (answered : Progress) × (part : List ℕ)
-        × (after_forms (functions_of M.Meaning.names M.Meaning.way M.Meaning.answer) lines w Mode.Current text ≡ Some answered)
+        × (after_forms M.Meaning.functions lines w Mode.Current text ≡ Some answered)
         × (Writes (W.contents writer.old) (W.contents writer.new) (answered.lines ++ part)
         × ((now : LispWorld) × (store.world ≡ Some now)
-        × IsAfterSome (functions_of M.Meaning.names M.Meaning.way M.Meaning.answer) w far.taken (length answered.taken) now)))))) }
+        × IsAfterSome M.Meaning.functions w far.taken (length answered.taken) now)))))) }
 {
     let Ok(mut store) = Store::open(alloc, disk, macros, AMPLE) else {
         return None;

@@ -2,7 +2,7 @@
 use Rattle.std.proofs.Common.{◌≡◌, ℕ, List, [], ◌++◌, Option, None, Some, Result, Ok, Err, OnOk, OnErr, true, false, true≢false, sym, ap, ◌∙◌, append-nil}
 use Rattle.std.specs.Result.{is_err}
 use Rattle.std.specs.Io.KnownBytes.{Keeps}
-use Rattle.prevalence_store.specs.Streams.{Writes, WritesPart}
+use Rattle.prevalence_store.specs.calls.Streams.{Writes, WritesPart}
 use Rattle.store_commands.specs.Texts.{WritesFront}
 
 pub of_part : (old new : Option (List ℕ)) (text : List ℕ) → WritesPart old new text → WritesFront old new text

@@ -4,8 +4,8 @@ use Rattle.std.specs.Option.{IfSome}
 use Rattle.disk_trait.specs.Disk.{State}
 use Rattle.lisp_object.specs.declared.refusal.TheConstants.{OUTPUT, NO_MEMORY}
 use Rattle.plist_state.specs.State.{State as World}
-use Rattle.snapshot_text.specs.Snapshot.{snapshot}
-use Rattle.prevalence_store.specs.Functions.{Functions}
+use Rattle.world_text.specs.Snapshot.{snapshot}
+use Rattle.user_macros.specs.Functions.{Functions}
 use Rattle.store_commands.specs.Commands.{TaskBreaksOff, TaskWrites, is_of_opening}
 use Rattle.store_commands.specs.Report.{DumpsWorld, IsReport, TellsHalf}
 use Rattle.store_commands.specs.Status.{HasFaultNumber, IsFaultNumber, TakesWords, status_of_output}

@@ -8,12 +8,12 @@ use Rattle.prevalence_store.specs.declared.open_fault.OpenFault.{OpenFault}
 use Rattle.prevalence_store.specs.declared.open_fault.OpenFault.TheVariants as opening
 use Rattle.prevalence_store.specs.declared.outcome.Ending.{Ending}
 use Rattle.prevalence_store.specs.declared.outcome.Ending.TheVariants.{End, Reader, Store}
-use Rattle.prevalence_store.specs.Functions.{Functions}
-use Rattle.prevalence_store.specs.Opening.{fault_number}
-use Rattle.prevalence_store.specs.Output.{Progress, after_forms, begun, last_line}
-use Rattle.prevalence_store.specs.Serving.{ServesInput}
-use Rattle.prevalence_store.specs.Session.{Session}
-use Rattle.prevalence_store.specs.Acceptance.{read_in}
+use Rattle.user_macros.specs.Functions.{Functions}
+use Rattle.prevalence_store.specs.calls.Open.{fault_number}
+use Rattle.prevalence_store.specs.meaning.Answers.{Progress, after_forms, begun, last_line}
+use Rattle.prevalence_store.specs.calls.Serve.{ServesInput}
+use Rattle.prevalence_store.specs.calls.Store.{Session}
+use Rattle.prevalence_store.specs.meaning.Acceptance.{read_in}
 use Rattle.store_commands.specs.Commands.{is_of_opening}
 use Rattle.store_commands.specs.Session.{AnswersInput, IsBrokenOff, ReadsToEnd}
 use Rattle.store_commands.specs.Status.{HasFaultNumber, IsFaultNumber, status_of_ending}

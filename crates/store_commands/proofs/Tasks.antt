@@ -5,8 +5,8 @@ use Rattle.disk_trait.specs.declared.half.Half.TheVariants.{A}
 use Rattle.lisp_object.specs.declared.refusal.TheConstants.{DEVICE, NO_MEMORY}
 use Rattle.clap.specs.Words.{Text}
 use Rattle.plist_state.specs.State.{initial}
-use Rattle.snapshot_text.specs.Snapshot.{snapshot}
-use Rattle.prevalence_store.specs.Functions.{Functions}
+use Rattle.world_text.specs.Snapshot.{snapshot}
+use Rattle.user_macros.specs.Functions.{Functions}
 use Rattle.prevalence_store.specs.declared.mode.Mode.{Mode}
 use Rattle.prevalence_store.specs.declared.outcome.Ending.{Ending}
 use Rattle.store_commands.specs.Commands.{CarriesOut, Does, DoesOn, IsUntouched, Performs, TaskBreaksOff, TaskReads, TaskWrites, TellsUnopened}

@@ -7,9 +7,9 @@ use Rattle.lisp_object.specs.declared.refusal.TheConstants.{DEVICE, DAMAGED, MIS
 use Rattle.clap.specs.Words.{Text}
 use Rattle.plist_state.specs.State.{State as World}
 use Rattle.readtable_core.specs.Names.{is_among}
-use Rattle.snapshot_text.specs.Snapshot.{snapshot}
-use Rattle.prevalence_store.specs.Functions.{Functions}
-use Rattle.prevalence_store.specs.Opening.{IsUnopened}
+use Rattle.world_text.specs.Snapshot.{snapshot}
+use Rattle.user_macros.specs.Functions.{Functions}
+use Rattle.prevalence_store.specs.calls.Open.{IsUnopened}
 use Rattle.prevalence_store.specs.declared.outcome.Ending.{Ending}
 use Rattle.store_commands.specs.Report.{DumpsWorld, IsReport, TellsHalf, half_line}
 use Rattle.store_commands.specs.Session.{AnswersInput, IsBrokenOff, IsSession, ReadsToEnd}

@@ -4,10 +4,10 @@ use Rattle.disk_trait.specs.Disk.{State}
 use Rattle.disk_trait.specs.declared.half.Half.{Half}
 use Rattle.disk_trait.specs.declared.half.Half.TheVariants.{A, B}
 use Rattle.plist_state.specs.State.{State as World}
-use Rattle.snapshot_text.specs.Snapshot.{snapshot}
-use Rattle.prevalence_store.specs.Functions.{Functions}
-use Rattle.prevalence_store.specs.Opening.{IsOpened}
-use Rattle.prevalence_store.specs.Session.{Session}
+use Rattle.world_text.specs.Snapshot.{snapshot}
+use Rattle.user_macros.specs.Functions.{Functions}
+use Rattle.prevalence_store.specs.calls.Open.{IsOpened}
+use Rattle.prevalence_store.specs.calls.Store.{Session}
 use Rattle.store_commands.specs.Texts.{TellsText}
 use Rattle.store_commands.specs.declared.session.TheConstants.{HALF_LIMIT}
 use Rattle.store_commands.specs.declared.status.Status.{Status}

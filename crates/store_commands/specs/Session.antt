@@ -1,17 +1,17 @@
 -- What a session over a disk does, and what it has written. Of what the files of a folder hold no clause can say a thing.
 use Rattle.std.specs.Prelude.{◌≡◌, ◌⊎◌, ℕ, List, [], ◌++◌, Option, Some}
 use Rattle.disk_trait.specs.Disk.{State}
-use Rattle.form_reader.specs.Reading.{empty, refused}
+use Rattle.lisp_reading.specs.Reading.{empty, refused}
 use Rattle.plist_state.specs.State.{State as World}
 use Rattle.prevalence_store.specs.declared.mode.Mode.{Mode}
 use Rattle.prevalence_store.specs.declared.outcome.Ending.{Ending}
-use Rattle.prevalence_store.specs.Acceptance.{read_in}
-use Rattle.prevalence_store.specs.Functions.{Functions}
-use Rattle.prevalence_store.specs.Opening.{IsOpened}
-use Rattle.prevalence_store.specs.Output.{Progress, after_forms, last_line, refusal_line}
-use Rattle.prevalence_store.specs.Serving.{ServesInput}
-use Rattle.prevalence_store.specs.Session.{Session}
-use Rattle.prevalence_store.specs.Streams.{Writes, WritesPart}
+use Rattle.prevalence_store.specs.meaning.Acceptance.{read_in}
+use Rattle.user_macros.specs.Functions.{Functions}
+use Rattle.prevalence_store.specs.calls.Open.{IsOpened}
+use Rattle.prevalence_store.specs.meaning.Answers.{Progress, after_forms, last_line, refusal_line}
+use Rattle.prevalence_store.specs.calls.Serve.{ServesInput}
+use Rattle.prevalence_store.specs.calls.Store.{Session}
+use Rattle.prevalence_store.specs.calls.Streams.{Writes, WritesPart}
 use Rattle.store_commands.specs.declared.session.TheConstants.{HALF_LIMIT}
 use Rattle.store_commands.specs.declared.status.Status.{Status}
 use Rattle.store_commands.specs.declared.status.Status.TheVariants.{Done, Helped, ReaderRefused, WordsRefused, Fault}

@@ -1,7 +1,6 @@
 // What the words of the command line ask for.
 ghost use Rattle.std.specs.Prelude.{◌≡◌, ◌⊎◌, ◌<◌, ◌-◌, ◌^◌, [], map};
 ghost use Rattle.clap.specs.Words.{Text, kind_of};
-ghost use Rattle.prevalence_store.specs.Functions.{functions_of};
 ghost use Rattle.store_commands.specs.declared.words.Task.{Task};
 ghost use Rattle.store_commands.specs.CommandLine.{AsksFor, IsTaken, faults_of};
 ghost use Rattle.store_commands.specs.Commands.{DoesOn, Performs, PerformsNone, is_whole};
@@ -51,8 +50,8 @@ where
         → IsTaken (map S.text words.now) folder task }
     ensures ends { EndsAfter (faults_of (map S.text words.now)) result }
     ensures taken { (folder : Text) (task : Task) → IsTaken (map S.text words.now) folder task
-        → Performs (functions_of M.Meaning.names M.Meaning.way M.Meaning.answer) ⟦<HostDisk as Disk>⟧.state macros
-        (is_whole (M.registered macros) M.Meaning.names) I.remaining O.contents
+        → Performs M.Meaning.functions ⟦<HostDisk as Disk>⟧.state macros
+        (is_whole (M.functions macros).names M.Meaning.functions.names) I.remaining O.contents
         input.old input.new output.old output.new folder task result }
     ensures untaken { (faults_of (map S.text words.now) ≡ [] → ⊥)
         → PerformsNone input.old input.new output.old output.new result }
@@ -126,8 +125,8 @@ where
     I: Read,
     O: Write,
     requires answers { M.answers macros }
-    ensures { Performs (functions_of M.Meaning.names M.Meaning.way M.Meaning.answer) ⟦<HostDisk as Disk>⟧.state macros
-        (is_whole (M.registered macros) M.Meaning.names) I.remaining O.contents
+    ensures { Performs M.Meaning.functions ⟦<HostDisk as Disk>⟧.state macros
+        (is_whole (M.functions macros).names M.Meaning.functions.names) I.remaining O.contents
         input.old input.new output.old output.new asked.entry.folder.now asked.entry.task result }
 {
     // no folder has an empty name, and files under it would be those of the present folder
@@ -157,8 +156,8 @@ where
     O: Write,
     requires room { (D.state disk).failures < 2 ^ 64 - 1 }
     requires answers { M.answers macros }
-    ensures { DoesOn (functions_of M.Meaning.names M.Meaning.way M.Meaning.answer) D.state macros
-        (is_whole (M.registered macros) M.Meaning.names) I.remaining O.contents
+    ensures { DoesOn M.Meaning.functions D.state macros
+        (is_whole (M.functions macros).names M.Meaning.functions.names) I.remaining O.contents
         input.old input.new output.old output.new disk result.1 task result.0 }
 {
     match task {

@@ -1,5 +1,5 @@
 // The line of a fault, and how a text is written.
-ghost use Rattle.prevalence_store.specs.Output.{refusal_line};
+ghost use Rattle.prevalence_store.specs.meaning.Answers.{refusal_line};
 ghost use Rattle.store_commands.specs.Texts.{WritesOut, WritesText};
 
 use arrayvec::ArrayString;

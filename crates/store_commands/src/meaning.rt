@@ -1,6 +1,6 @@
 //! What the program's macro functions mean.
 ghost use Rattle.std.specs.Prelude.{◌≡◌};
-ghost use Rattle.store_commands.specs.MacroFunctions.{answer_to, function_names, way_of};
+ghost use Rattle.store_commands.specs.MacroFunctions.{function_names, six_functions};
 
 use readtable_core::FnName;
 use user_macros::{Gather, Meaning};
@@ -31,11 +31,7 @@ impl SixFunctions {
 impl Meaning for SixFunctions {
     ghost use Rattle.std.proofs.Common.{rules};
 
-    ghost names = { function_names };
-
-    ghost way = { way_of };
-
-    ghost answer = { answer_to };
+    ghost functions = { six_functions };
 
     ghost gathers = { λ name. Prim.search rules };
 

@@ -1,8 +1,7 @@
 // What is told of the store that a disk holds.
 ghost use Rattle.std.specs.Prelude.{◌≡◌, ◌<◌, ◌-◌, ◌^◌, IsSome, IfSome, IfOk, IfErr};
-ghost use Rattle.prevalence_store.specs.Functions.{functions_of};
-ghost use Rattle.prevalence_store.specs.Opening.{IsUnopened};
-ghost use Rattle.snapshot_text.specs.Snapshot.{snapshot};
+ghost use Rattle.prevalence_store.specs.calls.Open.{IsUnopened};
+ghost use Rattle.world_text.specs.Snapshot.{snapshot};
 ghost use Rattle.store_commands.specs.Commands.{is_whole};
 ghost use Rattle.store_commands.specs.Report.{IsReport, half_line_of, text_of};
 ghost use Rattle.store_commands.specs.Status.{status_of_output};
@@ -39,11 +38,11 @@ where
     O: Write,
     requires room { (D.state disk).failures < 2 ^ 64 - 1 }
     requires answers { M.answers macros }
-    ensures reports { IfOk result (λ p. IsReport (functions_of M.Meaning.names M.Meaning.way M.Meaning.answer) D.state report
+    ensures reports { IfOk result (λ p. IsReport M.Meaning.functions D.state report
         disk macros (O.contents output.old) (O.contents output.new) p.0 p.1) }
     ensures kept { IfOk result (λ p. p.2 ≡ macros) }
-    ensures refused { IfErr result (λ e. IsUnopened (functions_of M.Meaning.names M.Meaning.way M.Meaning.answer) D.state disk
-        (is_whole (M.registered macros) M.Meaning.names) HALF_LIMIT e.number e.disk
+    ensures refused { IfErr result (λ e. IsUnopened M.Meaning.functions D.state disk
+        (is_whole (M.functions macros).names M.Meaning.functions.names) HALF_LIMIT e.number e.disk
         × (output.new ≡ output.old)) }
     ensures given_back { IfErr result (λ e. e.macros ≡ macros) }
 {

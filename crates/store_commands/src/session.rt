@@ -1,7 +1,6 @@
 // A session over the store that a disk holds.
 ghost use Rattle.std.specs.Prelude.{◌≡◌, ◌<◌, ◌-◌, ◌^◌, IfOk, IfErr};
-ghost use Rattle.prevalence_store.specs.Functions.{functions_of};
-ghost use Rattle.prevalence_store.specs.Opening.{IsUnopened};
+ghost use Rattle.prevalence_store.specs.calls.Open.{IsUnopened};
 ghost use Rattle.store_commands.specs.Commands.{IsUntouched, is_whole};
 ghost use Rattle.store_commands.specs.Session.{IsSession};
 
@@ -37,12 +36,12 @@ where
     O: Write,
     requires room { (D.state disk).failures < 2 ^ 64 - 1 }
     requires answers { M.answers macros }
-    ensures served { IfOk result (λ p. IsSession (functions_of M.Meaning.names M.Meaning.way M.Meaning.answer) mode snapshot_every
+    ensures served { IfOk result (λ p. IsSession M.Meaning.functions mode snapshot_every
         D.state disk macros (I.remaining input.old) (I.remaining input.new)
         (O.contents output.old) (O.contents output.new) p.0 p.1) }
     ensures kept { IfOk result (λ p. p.2 ≡ macros) }
-    ensures refused { IfErr result (λ e. IsUnopened (functions_of M.Meaning.names M.Meaning.way M.Meaning.answer) D.state disk
-        (is_whole (M.registered macros) M.Meaning.names) HALF_LIMIT e.number e.disk
+    ensures refused { IfErr result (λ e. IsUnopened M.Meaning.functions D.state disk
+        (is_whole (M.functions macros).names M.Meaning.functions.names) HALF_LIMIT e.number e.disk
         × IsUntouched input.old input.new output.old output.new) }
     ensures given_back { IfErr result (λ e. e.macros ≡ macros) }
 {

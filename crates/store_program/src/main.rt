@@ -6,6 +6,7 @@ ghost use Rattle.std.specs.Prelude.{◌≡◌, true, IfErr, is_ok};
 ghost use Rattle.std.specs.List.{list_all};
 ghost use Rattle.readtable_core.specs.Names.{is_among};
 ghost use Rattle.user_macros.specs.Sound.{IsSoundCall};
+ghost use Rattle.user_macros.specs.Functions.{are_registered};
 
 use lisp_object::refusal::NO_MEMORY;
 use readtable_core::FnName;
@@ -30,7 +31,7 @@ fn words_given(rt: &HostRuntime) -> Result<Vec<String>, Status> {
 // Does what the words ask for, with macro functions that are all registered.
 fn serve<M: MacroFunctions + Drop, F: Write>(rt: &HostRuntime, macros: M, faults: &mut F) -> Status
     requires answers { M.answers macros }
-    requires whole { list_all (is_among (M.registered macros)) M.Meaning.names ≡ true }
+    requires whole { are_registered M.Meaning.functions (M.functions macros) ≡ true }
 {
     match words_given(rt) {
         Ok(words) => program(

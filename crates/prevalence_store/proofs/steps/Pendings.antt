@@ -32,7 +32,7 @@ use Rattle.plist_state.specs.State.{State as World}
 use Rattle.prevalence_store.specs.declared.session.input.Pending.{Pending}
 use Rattle.prevalence_store.specs.declared.mode.Mode.{Mode}
 use Rattle.prevalence_store.specs.meaning.Acceptance.{between, form_limits, package_in, read_in, setting_in, table_in}
-use Rattle.user_macros.specs.Functions.{Functions}
+use Rattle.user_macros.specs.Functions.{Functions, are_registered, named_among}
 use Rattle.prevalence_store.specs.steps.Input.{HasForm, IsLastForm, IsPending}
 use Rattle.prevalence_store.specs.steps.Answer.{BeginsWith}
 use Rattle.prevalence_store.proofs.calls.Executing.{form_places, length-between, own_whole}
@@ -47,7 +47,7 @@ pub called_setting : (w : World) (mode : Mode) (functions registered : Functions
 called_setting w mode functions registered limits table packages current meant whole known limits_is table_is packages_is current_is =
     (λ i. setting_of (limits_is i) (table_is i) (packages_is i) (current_is i) (meant i))
     ∙ setting_same form_limits (table_in w mode) w.packages (package_in w mode) functions registered.names
-        (among_same functions.names registered.names whole known)
+    (among_same functions.names registered.names whole known)
 
 -- ---- no bytes
 

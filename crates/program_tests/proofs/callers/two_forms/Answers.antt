@@ -4,10 +4,10 @@ use Rattle.disk_trait.specs.Disk.{State}
 use Rattle.plist_state.specs.State.{State as World}
 use Rattle.prevalence_store.specs.declared.mode.Mode.{Mode}
 use Rattle.prevalence_store.specs.declared.mode.Mode.TheVariants.{Current}
-use Rattle.prevalence_store.specs.Acceptance.{records_of}
-use Rattle.prevalence_store.specs.Execution.{Stores}
-use Rattle.prevalence_store.specs.Functions.{Functions, functions_of}
-use Rattle.prevalence_store.specs.Session.{Session}
+use Rattle.prevalence_store.specs.meaning.Acceptance.{records_of}
+use Rattle.prevalence_store.specs.calls.Execute.{Stores}
+use Rattle.user_macros.specs.Functions.{Functions}
+use Rattle.prevalence_store.specs.calls.Store.{Session}
 use Rattle.prevalence_store.specs.Theorem.{Call, IsAfterSome, Run, Survives}
 use Rattle.program_tests.proofs.callers.two_forms.Goals as goal
 
@@ -29,7 +29,7 @@ pub returns : goal.returns
 returns g c = record {
   found = λ w honest keeps fresh.
       let state = g.D.Disk.state in
-      let functions = functions_of g.M.Meaning.Meaning.names g.M.Meaning.Meaning.way g.M.Meaning.Meaning.answer in
+      let functions = g.M.Meaning.Meaning.functions in
       let store = c.in-Ok.store in
       let first = c.execute.new.self in
       let second = c.execute-2.new.self in

@@ -1,6 +1,5 @@
 use Rattle.std.proofs.Common.{◌∙◌, [], ap, inl, inr, map, refl, subst, sym}
 use Rattle.clap.specs.Words.{Kinds, kind_of}
-use Rattle.prevalence_store.specs.Functions.{functions_of}
 use Rattle.store_commands.specs.CommandLine.{asked_in, faults_of}
 use Rattle.store_commands.specs.Status.{EndsAfter, HasFaultNumber, IsAfterWords, IsCarriedOut, TakesWords}
 use Rattle.store_commands.specs.declared.status.Status.{Status}
