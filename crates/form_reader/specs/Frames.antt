@@ -1,6 +1,6 @@
 -- What a reader that takes one byte at a time stands for: its open calls, innermost first, and where it is in the innermost.
 -- By recursion on the open calls alone, over the definition of reading.
-use Rattle.std.specs.Prelude.{ℕ, ◌+◌, ◌-◌, ◌==◌, Bool, true, false, List, [], ◌∷◌, ◌++◌, length, Option, Some, None, option_map, Ok, Err}
+use Rattle.std.specs.Prelude.{ℕ, ◌≡◌, ◌+◌, ◌-◌, ◌==◌, Bool, true, false, List, [], ◌∷◌, ◌++◌, length, Option, Some, None, option_map, Ok, Err}
 use Rattle.lisp_object.specs.Object.{Object}
 use Rattle.token_scan.specs.declared.mark.Mark.{Mark}
 use Rattle.std_macros.specs.Values.{one as one_object}
@@ -30,6 +30,10 @@ close_of_frames (f ∷ fs) = close_of f.part
 abbrev pub is_closed_by : Option ℕ → ℕ → Bool
 is_closed_by None c = false
 is_closed_by (Some close) c = c == close
+
+-- this character is not the closing one of the innermost call, if that looks for one
+abbrev pub IsNoClose : ℕ → List Frame → Type 0
+IsNoClose c frames = (close : ℕ) → close_of_frames frames ≡ Some close → (c == close) ≡ false
 
 -- ---- what the innermost call takes, where it goes on as the same call
 

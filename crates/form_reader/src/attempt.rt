@@ -53,6 +53,7 @@ pub(crate) fn alone<R: MacroFunctions>(
     ensures nesting { IfOk result (λ _. length frames.new ≤ with.now.limits.nesting) }
 {
     with.readtable.soundness();
+    // One byte too many is refused as that (23), also where it is no character (2).
     if at >= with.limits.text {
         return Ok(Event::Refused(FORM_TOO_LONG, at));
     }

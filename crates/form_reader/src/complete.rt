@@ -56,6 +56,7 @@ pub(crate) fn complete<R: MacroFunctions>(
             finished(with.alloc, kind, case, call.number(), token, gathered)
         }
         Function::User(name) => {
+            // A function that is not registered refuses each call, and is not called.
             if with.macros.gather_of(name).is_none() {
                 return Ok(Completed::Refused(MACRO_REFUSED, 0));
             }
@@ -83,7 +84,8 @@ fn finished(
     gathered: StdGathered,
 ) -> Result<Completed, AllocError>
     requires { IsProperGathered gathered }
-    ensures gives { IfOk result (λ r. finished token (value_of kind case number (view_gathered gathered)) ≡ plan_of r) }
+    ensures gives { IfOk result (λ r.
+        finished token (value_of kind case number (view_gathered gathered)) ≡ plan_of r) }
     ensures ends { IfOk result (λ r. completed_lookahead r ≤ space token) }
 {
     match finish(alloc, kind, case, number, gathered) {
@@ -118,7 +120,8 @@ fn answered(
     spaced: bool,
     answer: Answer,
 ) -> Completed
-    ensures gives { answered packages.now.0 nesting round token spaced (answer_of answer) ≡ plan_of result }
+    ensures gives { answered packages.now.0 nesting round token spaced (answer_of answer)
+        ≡ plan_of result }
     ensures ends { completed_lookahead result ≤ space (token || spaced) }
 {
     match answer {

@@ -101,7 +101,8 @@ fn take_one<R: MacroFunctions>(
 /// What the innermost open call makes of a dot.
 fn take_dot(frames: &mut Frames, at: usize) -> Taken
     requires open { 0 < length frames.old }
-    ensures takes { (setting : Setting) (cs : List ℕ) → at ≤ setting.limits.text → Takes setting frames.new at cs result
+    ensures takes { (setting : Setting) (cs : List ℕ) → at ≤ setting.limits.text
+        → Takes setting frames.new at cs result
         (plan_gives setting frames.old (gives lone_dot) at cs) }
     ensures leaves { IsTakenAt 1 at result }
     ensures shorter { Shortens frames.old frames.new result }
@@ -115,7 +116,8 @@ fn take_dot(frames: &mut Frames, at: usize) -> Taken
 
 /// What an open call that ends at `at` comes to.
 fn taken_of(completed: Completed, at: usize) -> Taken
-    ensures takes { (setting : Setting) (frames : List OpenCall) (cs : List ℕ) → Takes setting frames at cs result
+    ensures takes { (setting : Setting) (frames : List OpenCall) (cs : List ℕ)
+        → Takes setting frames at cs result
         (plan_gives setting frames (plan_of completed) at cs) }
     ensures leaves { IsTakenAt (completed_lookahead completed) at result }
 {

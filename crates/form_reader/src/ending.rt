@@ -154,7 +154,8 @@ fn last<R: MacroFunctions>(
 
 /// The end of the text at `at`, where an object may begin.
 fn waited(calls: usize, at: usize) -> Settled
-    ensures settles { (setting : Setting) (frames : List OpenCall) → calls ≡ length frames → at ≤ setting.limits.text
+    ensures settles { (setting : Setting) (frames : List OpenCall) → calls ≡ length frames
+        → at ≤ setting.limits.text
         → Settles setting frames at [] result (stage_gives setting frames AtObject at []) }
     ensures last { IsLastSettled at result }
     ensures none { calls ≡ 0 → result ≡ IsDone the_end }
@@ -194,7 +195,8 @@ fn settle_last<R: MacroFunctions>(
 /// What the attempt that began at `start` came to at the end of the text, at the place `at` in it.
 fn done_last(found: Found, start: usize, at: usize) -> ReadOutcome
     requires count { start + at ≤ 2 ^ 63 }
-    ensures outcome { (setting : Setting) → IsOutcome result (outcome_of setting start (Ok (found, at, []))) }
+    ensures outcome { (setting : Setting)
+        → IsOutcome result (outcome_of setting start (Ok (found, at, []))) }
     ensures the_end { found ≡ the_end → result ≡ IsEmpty }
 {
     match found {

@@ -42,6 +42,7 @@ pub(crate) fn at_object<R: MacroFunctions>(
     ensures ready { IfOk result (IsReady with.now.limits (at + 1)) }
     ensures nesting { IfOk result (λ _. length frames.new ≤ with.now.limits.nesting) }
 {
+    // The closing character is looked for before its own syntax, which may be any.
     if let Some(frame) = frames.pop_closed_by(c) {
         if at >= with.limits.text {
             return Ok(Event::Refused(FORM_TOO_LONG, at));
@@ -72,6 +73,7 @@ pub(crate) fn after_token<R: MacroFunctions>(
     ensures ready { IfOk result (IsReady with.now.limits (at + 1)) }
     ensures nesting { IfOk result (λ _. length frames.new ≤ with.now.limits.nesting) }
 {
+    // Whitespace that ended a token is discarded with it, also where it is the closing character.
     if is_blank(with.readtable.syntax(c)) {
         if at >= with.limits.text {
             return Ok(Event::Refused(FORM_TOO_LONG, at));

@@ -15,7 +15,9 @@ use crate::frame::{Frame, Frames, Part};
 use crate::stage::{Event, Stage};
 use crate::surroundings::Surroundings;
 use lisp_object::refusal::{OUT_OF_PROFILE, TOO_DEEP};
-use lisp_reading::{Function, HeldObjects, HeldText, Invoked, Way, is_baseless, standard_way, user_way};
+use lisp_reading::{
+    Function, HeldObjects, HeldText, Invoked, Way, is_baseless, standard_way, user_way,
+};
 use std::alloc::AllocError;
 use std_macros::{StdGathered, way};
 use token_scan::TokenScan;
@@ -142,7 +144,8 @@ fn gather_objects<R: MacroFunctions>(
 #[tactic(auto, using(crate::proofs::Beginnings::refused_is))]
 #[inline(always)]
 pub(crate) fn event_of(completed: Completed, at: usize) -> Event
-    ensures comes { (setting : Setting) (frames : List OpenCall) (cs : List ℕ) → ComesTo setting frames completed at cs result }
+    ensures comes { (setting : Setting) (frames : List OpenCall) (cs : List ℕ)
+        → ComesTo setting frames completed at cs result }
     ensures ends { IsEnd (completed_lookahead completed) at result }
 {
     match completed {

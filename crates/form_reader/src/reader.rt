@@ -94,8 +94,8 @@ impl FormReader {
     pub fn begun(&self) -> usize
         ensures place { result ≡ begun self.now }
         ensures within { result ≤ fed self.now }
-        ensures form { (setting : Setting) (bytes more : List ℕ) (x : Object) (start end next : ℕ) → IsAfter setting self.now bytes
-            → reads setting (bytes ++ more) ≡ form x start end next → result ≤ start }
+        ensures form { (setting : Setting) (bytes more : List ℕ) (x : Object) (start end next : ℕ)
+            → IsAfter setting self.now bytes → reads setting (bytes ++ more) ≡ form x start end next → result ≤ start }
     {
         let FormReader { start, .. } = self;
         *start
@@ -131,12 +131,14 @@ impl FormReader {
             → (result ≡ Ok (StepRefused code place)) × HasRefused self.new code place }
         ensures memory { OnErr result (HasNoMemory self.new) }
         ensures spent { HasNoMemory self.old → IsErr result }
-        ensures stays { (code place : ℕ) → (HasRefused self.old code place → fed self.new ≡ fed self.old)
+        ensures stays { (code place : ℕ)
+            → (HasRefused self.old code place → fed self.new ≡ fed self.old)
             × (HasNoMemory self.old → fed self.new ≡ fed self.old) }
-        ensures between { IsBetween self.old → is_whitespace readtable.now byte ≡ true → 0 < (limits_of self.old).text
-            → (result ≡ Ok StepMore) × IsBetween self.new }
+        ensures between { IsBetween self.old → is_whitespace readtable.now byte ≡ true
+            → 0 < (limits_of self.old).text → (result ≡ Ok StepMore) × IsBetween self.new }
         ensures between_forms { IfOk result (LeavesBetween self.new) }
-        ensures nothing_open { result ≡ Ok StepMore → begun self.new ≡ fed self.new → IsBetween self.new }
+        ensures nothing_open { result ≡ Ok StepMore
+            → begun self.new ≡ fed self.new → IsBetween self.new }
     {
         let with = Surroundings {
             alloc: self.alloc,
@@ -196,8 +198,10 @@ impl FormReader {
         ensures sound { IfOk result IsSoundStep }
         ensures memory { OnErr result (HasNoMemory self.new) }
         ensures between_forms { IfOk result (LeavesBetween self.new) }
-        ensures nothing_open { result ≡ Ok StepMore → begun self.new ≡ fed self.new → IsBetween self.new }
+        ensures nothing_open { result ≡ Ok StepMore
+            → begun self.new ≡ fed self.new → IsBetween self.new }
     {
+        // Until the byte has come to something: where that fails, the reader answers the same again.
         match mem::replace(&mut self.state, State::OutOfMemory) {
             State::Open(stage) => {
                 let next = take_byte(with, &mut self.frames, stage, self.start, self.at, byte)?;
@@ -253,7 +257,8 @@ impl FormReader {
         requires answers { R.answers macros.now }
         requires current { IsPackage packages.now.0 current.now }
         requires count { fed self ≤ 2 ^ 63 }
-        ensures refused { (code place : ℕ) → HasRefused self code place → result ≡ Ok (ReadRefused code place) }
+        ensures refused { (code place : ℕ) → HasRefused self code place
+            → result ≡ Ok (ReadRefused code place) }
         ensures spent { HasNoMemory self → IsErr result }
         ensures outcome { (bytes : List ℕ) → IsAfter
             (setting_of (limits_of self) readtable.now packages.now.0 current.now

@@ -105,8 +105,10 @@ fn settle<R: MacroFunctions>(
 fn done_after(found: Found, start: usize, at: usize) -> Turn
     requires found { lookahead found ≡ 0 }
     requires count { start + at ≤ 2 ^ 63 }
-    ensures turns { (setting : Setting) (cs : List ℕ) → TurnsTo setting [] cs result (outcome_of setting start (Ok (found, at, cs))) }
-    ensures ready { (limits : Bounds) (frames : List OpenCall) → length frames ≤ limits.nesting → IsReadyTurn limits frames (start + at) result }
+    ensures turns { (setting : Setting) (cs : List ℕ)
+        → TurnsTo setting [] cs result (outcome_of setting start (Ok (found, at, cs))) }
+    ensures ready { (limits : Bounds) (frames : List OpenCall) → length frames ≤ limits.nesting
+        → IsReadyTurn limits frames (start + at) result }
     ensures begins { BeginsFrom start result }
     ensures anew { BeginsAnew [] result }
 {

@@ -31,7 +31,8 @@ pub fn read_one<R: MacroFunctions>(
         (setting_of limits readtable.now packages.now.0 current.now
         (R.registered macros.now) R.Meaning.way R.Meaning.answer)
         bytes.now)) }
-    ensures blank { 0 < limits.text → list_all (is_whitespace readtable.now) bytes.now ≡ true → result ≡ Ok ReadEmpty }
+    ensures blank { 0 < limits.text → list_all (is_whitespace readtable.now) bytes.now ≡ true
+        → result ≡ Ok ReadEmpty }
 {
     let mut reader = FormReader::new(alloc, limits);
     for byte in bytes {
