@@ -1,6 +1,6 @@
 //! What an open call gives where its closing character comes.
 ghost use Rattle.std.specs.Prelude.{◌≡◌, ◌≤◌, ℕ, List, length, false, IfOk, ◌<◌};
-ghost use Rattle.form_reader.specs.declared.frame.Frame.{Frame as OpenCall};
+ghost use Rattle.form_reader.specs.declared.frame.Frame.{Frame};
 ghost use Rattle.form_reader.specs.Surrounding.{setting_with};
 ghost use Rattle.lisp_reading.specs.Reading.{closed};
 ghost use Rattle.form_reader.specs.Frames.{call_in, plan_gives};
@@ -29,7 +29,7 @@ pub(crate) fn close<R: MacroFunctions>(
     requires place { at ≤ with.now.limits.text }
     requires taken { 0 < at }
     ensures brings { let setting = setting_with (R.registered with.now.macros.now) R.Meaning.way R.Meaning.answer with.now in
-        (frames : List OpenCall) (cs : List ℕ) → round ≡ length frames
+        (frames : List Frame) (cs : List ℕ) → round ≡ length frames
         → IfOk result (λ event. Brings setting frames at cs event
         (plan_gives setting frames (call_in setting frame frames closed) at cs)) }
     ensures ready { IfOk result (IsReady with.now.limits at) }

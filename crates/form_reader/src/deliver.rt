@@ -2,7 +2,7 @@
 ghost use Rattle.std.specs.Prelude.{◌≡◌, ◌≤◌, ◌<◌, ℕ, List, length, IfOk};
 ghost use Rattle.lisp_reading.specs.Plans.{gives};
 ghost use Rattle.lisp_reading.specs.declared.found.Found.TheVariants.{One as one, LoneDot as lone_dot};
-ghost use Rattle.form_reader.specs.declared.frame.Frame.{Frame as OpenCall};
+ghost use Rattle.form_reader.specs.declared.frame.Frame.{Frame};
 ghost use Rattle.form_reader.specs.Completing.{plan_of};
 ghost use Rattle.lisp_reading.specs.Setting.{Setting};
 ghost use Rattle.form_reader.specs.Surrounding.{setting_with};
@@ -116,7 +116,7 @@ fn take_dot(frames: &mut Frames, at: usize) -> Taken
 
 /// What an open call that ends at `at` comes to.
 fn taken_of(completed: Completed, at: usize) -> Taken
-    ensures takes { (setting : Setting) (frames : List OpenCall) (cs : List ℕ)
+    ensures takes { (setting : Setting) (frames : List Frame) (cs : List ℕ)
         → Takes setting frames at cs result
         (plan_gives setting frames (plan_of completed) at cs) }
     ensures leaves { IsTakenAt (completed_lookahead completed) at result }

@@ -1,7 +1,7 @@
 //! The end of a text, wherever a reader is in a form.
 ghost use Rattle.std.specs.Prelude.{◌≡◌, ◌≤◌, ◌<◌, ◌+◌, ◌^◌, List, [], length, true, None, Ok, IfOk};
 ghost use Rattle.readtable_core.specs.Tables.{Table};
-ghost use Rattle.form_reader.specs.declared.frame.Frame.{Frame as OpenCall};
+ghost use Rattle.form_reader.specs.declared.frame.Frame.{Frame};
 ghost use Rattle.lisp_reading.specs.Setting.{Setting};
 ghost use Rattle.form_reader.specs.Surrounding.{setting_with};
 ghost use Rattle.form_reader.specs.declared.stage.Stage.TheVariants.{Object as AtObject, Token as AtToken, CallToken as AtCallToken, Line as AtLine};
@@ -70,7 +70,7 @@ fn last_token<R: MacroFunctions>(
 ) -> Result<Event, AllocError>
     requires place { at ≤ with.now.limits.text }
     ensures brings { let setting = setting_with (R.registered with.now.macros.now) R.Meaning.way R.Meaning.answer with.now in
-        (frames : List OpenCall) → IfOk result (λ event. Brings setting frames at [] event
+        (frames : List Frame) → IfOk result (λ event. Brings setting frames at [] event
         (stage_gives setting frames (AtToken scan) at [])) }
     ensures last { IfOk result (IsLastEvent at) }
 {
@@ -92,7 +92,7 @@ fn last_call_token<R: MacroFunctions>(
     requires answers { R.answers with.now.macros.now }
     requires place { at ≤ with.now.limits.text }
     ensures brings { let setting = setting_with (R.registered with.now.macros.now) R.Meaning.way R.Meaning.answer with.now in
-        (frames : List OpenCall) → round ≡ length frames → IfOk result (λ event. Brings setting frames at [] event
+        (frames : List Frame) → round ≡ length frames → IfOk result (λ event. Brings setting frames at [] event
         (stage_gives setting frames (AtCallToken call scan) at [])) }
     ensures last { IfOk result (IsLastEvent at) }
 {
@@ -116,7 +116,7 @@ fn last_line<R: MacroFunctions>(
     requires answers { R.answers with.now.macros.now }
     requires place { at ≤ with.now.limits.text }
     ensures brings { let setting = setting_with (R.registered with.now.macros.now) R.Meaning.way R.Meaning.answer with.now in
-        (frames : List OpenCall) → round ≡ length frames
+        (frames : List Frame) → round ≡ length frames
         → IfOk result (λ event. Brings setting frames at [] event
         (stage_gives setting frames (AtLine call text) at [])) }
     ensures last { IfOk result (IsLastEvent at) }
@@ -135,7 +135,7 @@ fn last<R: MacroFunctions>(
     requires answers { R.answers with.now.macros.now }
     requires place { at ≤ with.now.limits.text }
     ensures brings { let setting = setting_with (R.registered with.now.macros.now) R.Meaning.way R.Meaning.answer with.now in
-        (frames : List OpenCall) → round ≡ length frames → IfOk result (λ event. Brings setting frames at [] event
+        (frames : List Frame) → round ≡ length frames → IfOk result (λ event. Brings setting frames at [] event
         (stage_gives setting frames stage at [])) }
     ensures last { IfOk result (IsLastEvent at) }
     ensures object { stage ≡ AtObject → result ≡ Ok (IsAt AtObject) }
@@ -154,7 +154,7 @@ fn last<R: MacroFunctions>(
 
 /// The end of the text at `at`, where an object may begin.
 fn waited(calls: usize, at: usize) -> Settled
-    ensures settles { (setting : Setting) (frames : List OpenCall) → calls ≡ length frames
+    ensures settles { (setting : Setting) (frames : List Frame) → calls ≡ length frames
         → at ≤ setting.limits.text
         → Settles setting frames at [] result (stage_gives setting frames AtObject at []) }
     ensures last { IsLastSettled at result }

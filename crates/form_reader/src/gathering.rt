@@ -1,6 +1,6 @@
 //! One byte of what a call gathers, and what the call comes to.
 ghost use Rattle.std.specs.Prelude.{◌≡◌, ◌≤◌, ◌<◌, ◌+◌, ◌^◌, ℕ, List, ◌∷◌, length, IfOk};
-ghost use Rattle.form_reader.specs.declared.frame.Frame.{Frame as OpenCall};
+ghost use Rattle.form_reader.specs.declared.frame.Frame.{Frame};
 ghost use Rattle.form_reader.specs.Surrounding.{setting_with};
 ghost use Rattle.form_reader.specs.declared.stage.Stage.TheVariants.{Text as AtText, Escaped as AtEscaped, Line as AtLine, Block as AtBlock};
 ghost use Rattle.form_reader.specs.Resuming.{Brings, stage_gives};
@@ -30,7 +30,7 @@ pub(crate) fn in_text<R: MacroFunctions>(
     requires place { at ≤ with.now.limits.text }
     requires count { at < 2 ^ 63 }
     ensures brings { let setting = setting_with (R.registered with.now.macros.now) R.Meaning.way R.Meaning.answer with.now in
-        (frames : List OpenCall) (cs : List ℕ) → round ≡ length frames
+        (frames : List Frame) (cs : List ℕ) → round ≡ length frames
         → IfOk result (λ event. Brings setting frames (at + 1) cs event
         (stage_gives setting frames (AtText call terminator text) at (c ∷ cs))) }
     ensures ready { IfOk result (IsReady with.now.limits (at + 1)) }
@@ -57,7 +57,7 @@ pub(crate) fn in_escaped<R: MacroFunctions>(
     c: u8,
 ) -> Result<Event, AllocError>
     ensures brings { let setting = setting_with (R.registered with.now.macros.now) R.Meaning.way R.Meaning.answer with.now in
-        (frames : List OpenCall) (cs : List ℕ) → round ≡ length frames
+        (frames : List Frame) (cs : List ℕ) → round ≡ length frames
         → IfOk result (λ event. Brings setting frames (at + 1) cs event
         (stage_gives setting frames (AtEscaped call terminator text) at (c ∷ cs))) }
     ensures ready { IfOk result (IsReady with.now.limits (at + 1)) }
@@ -82,7 +82,7 @@ pub(crate) fn in_line<R: MacroFunctions>(
     requires place { at ≤ with.now.limits.text }
     requires count { at < 2 ^ 63 }
     ensures brings { let setting = setting_with (R.registered with.now.macros.now) R.Meaning.way R.Meaning.answer with.now in
-        (frames : List OpenCall) (cs : List ℕ) → round ≡ length frames
+        (frames : List Frame) (cs : List ℕ) → round ≡ length frames
         → IfOk result (λ event. Brings setting frames (at + 1) cs event
         (stage_gives setting frames (AtLine call text) at (c ∷ cs))) }
     ensures ready { IfOk result (IsReady with.now.limits (at + 1)) }
@@ -113,7 +113,7 @@ pub(crate) fn in_block<R: MacroFunctions>(
     requires count { at < 2 ^ 63 }
     requires level { levels.0 ≤ at }
     ensures brings { let setting = setting_with (R.registered with.now.macros.now) R.Meaning.way R.Meaning.answer with.now in
-        (frames : List OpenCall) (cs : List ℕ) → round ≡ length frames
+        (frames : List Frame) (cs : List ℕ) → round ≡ length frames
         → IfOk result (λ event. Brings setting frames (at + 1) cs event
         (stage_gives setting frames (AtBlock call levels) at (c ∷ cs))) }
     ensures ready { IfOk result (IsReady with.now.limits (at + 1)) }

@@ -7,7 +7,7 @@ ghost use Rattle.form_reader.specs.Surrounding.{setting_with};
 ghost use Rattle.lisp_reading.specs.Reading.{is_blank, token_found};
 ghost use Rattle.form_reader.specs.Frames.{plan_gives, place_gives};
 ghost use Rattle.form_reader.specs.Resuming.{Brings, Moves, stage_gives};
-ghost use Rattle.form_reader.specs.declared.frame.Frame.{Frame as OpenCall};
+ghost use Rattle.form_reader.specs.declared.frame.Frame.{Frame};
 ghost use Rattle.form_reader.specs.declared.stage.Stage.TheVariants.{Object as AtObject, Token as AtToken};
 ghost use Rattle.form_reader.specs.Ready.{lookahead, IsReady, IsReadyMove, IsReadyPass, IsEnd};
 
@@ -150,7 +150,7 @@ pub(crate) fn in_token<R: MacroFunctions>(
 ) -> Result<Moved, AllocError>
     requires place { at ≤ with.now.limits.text }
     ensures moves { let setting = setting_with (R.registered with.now.macros.now) R.Meaning.way R.Meaning.answer with.now in
-        (frames : List OpenCall) (cs : List ℕ) → IfOk result (λ moved. Moves setting frames at c cs moved
+        (frames : List Frame) (cs : List ℕ) → IfOk result (λ moved. Moves setting frames at c cs moved
         (stage_gives setting frames (AtToken scan) at (c ∷ cs))) }
     ensures ready { IfOk result (IsReadyMove with.now.limits at) }
 {
@@ -171,7 +171,7 @@ pub(crate) fn token_end<R: MacroFunctions>(
     requires some { 0 < length marks.items }
     requires ascii { IsTrue (are_ascii marks.items) }
     ensures brings { let setting = setting_with (R.registered with.now.macros.now) R.Meaning.way R.Meaning.answer with.now in
-        (frames : List OpenCall) (cs : List ℕ) → IfOk result (λ event. Brings setting frames at cs event
+        (frames : List Frame) (cs : List ℕ) → IfOk result (λ event. Brings setting frames at cs event
         (plan_gives setting frames (token_found setting marks.items) at cs)) }
     ensures ends { IfOk result (IsEnd 1 at) }
 {

@@ -2,7 +2,7 @@
 ghost use Rattle.std.specs.Prelude.{◌≡◌, ◌≤◌, ◌<◌, ◌+◌, ◌^◌, ℕ, List, [], ◌∷◌, length, Ok, IfOk};
 ghost use Rattle.lisp_reading.specs.Plans.{Read};
 ghost use Rattle.lisp_reading.specs.declared.found.Found.{Found as FoundThere};
-ghost use Rattle.form_reader.specs.declared.frame.Frame.{Frame as OpenCall};
+ghost use Rattle.form_reader.specs.declared.frame.Frame.{Frame};
 ghost use Rattle.lisp_reading.specs.declared.limits.Limits.{Limits as Bounds};
 ghost use Rattle.lisp_reading.specs.Setting.{Setting};
 ghost use Rattle.form_reader.specs.Surrounding.{setting_with};
@@ -107,7 +107,7 @@ fn done_after(found: Found, start: usize, at: usize) -> Turn
     requires count { start + at ≤ 2 ^ 63 }
     ensures turns { (setting : Setting) (cs : List ℕ)
         → TurnsTo setting [] cs result (outcome_of setting start (Ok (found, at, cs))) }
-    ensures ready { (limits : Bounds) (frames : List OpenCall) → length frames ≤ limits.nesting
+    ensures ready { (limits : Bounds) (frames : List Frame) → length frames ≤ limits.nesting
         → IsReadyTurn limits frames (start + at) result }
     ensures begins { BeginsFrom start result }
     ensures anew { BeginsAnew [] result }

@@ -1,5 +1,5 @@
 use Rattle.std.proofs.Common.{◌≡◌, List, length, ap, ◌∙◌, sym, arith}
-use Rattle.form_reader.specs.declared.frame.Frame.{Frame as OpenCall}
+use Rattle.form_reader.specs.declared.frame.Frame.{Frame}
 use Rattle.lisp_reading.specs.declared.found.Found.TheVariants.{One as one}
 use Rattle.form_reader.specs.Frames.{calls_with}
 use Rattle.form_reader.specs.Surrounding.{setting_with}
@@ -16,18 +16,18 @@ pub returns-then-branch-clause-takes : goal.returns-then-branch-clause-takes
 returns-then-branch-clause-takes g c = λ cs.
     let setting = setting_with (g.R.MacroFunctions.registered c.args.with.now.macros.now) g.R.Meaning.Meaning.way g.R.Meaning.Meaning.answer c.args.with.now in
     object_goes_on setting c.args.at cs c.args.frames.now c.take_object.new.self c.args.token c.args.x c.requires.place
-    (ap (λ (fs : List OpenCall). calls_with fs (one c.args.token c.args.x)) (sym c.in-None.ensures.0) ∙ c.in_ok-take_object-in-None.ensures.takes c.args.token c.if-branch.true)
+    (ap (λ (fs : List Frame). calls_with fs (one c.args.token c.args.x)) (sym c.in-None.ensures.0) ∙ c.in_ok-take_object-in-None.ensures.takes c.args.token c.if-branch.true)
 
 pub returns-else-branch-clause-takes : goal.returns-else-branch-clause-takes
 returns-else-branch-clause-takes g c = λ cs.
     let setting = setting_with (g.R.MacroFunctions.registered c.args.with.now.macros.now) g.R.Meaning.Meaning.way g.R.Meaning.Meaning.answer c.args.with.now in
     object_stops setting c.args.at cs c.args.frames.now c.args.token c.args.x c.requires.open
-    (ap (λ (fs : List OpenCall). calls_with fs (one c.args.token c.args.x)) (sym c.in-None.ensures.0) ∙ (c.in_ok-take_object-in-None.ensures.refuses c.args.token c.if-branch.false).0) c.in-None.ensures.1
+    (ap (λ (fs : List Frame). calls_with fs (one c.args.token c.args.x)) (sym c.in-None.ensures.0) ∙ (c.in_ok-take_object-in-None.ensures.refuses c.args.token c.if-branch.false).0) c.in-None.ensures.1
 
 pub returns-then-branch-clause-shorter : goal.returns-then-branch-clause-shorter
 returns-then-branch-clause-shorter g c =
     stays_open c.args.frames.now c.take_object.new.self (one c.args.token c.args.x) c.args.token
-    (ap (λ (fs : List OpenCall). calls_with fs (one c.args.token c.args.x)) (sym c.in-None.ensures.0) ∙ c.in_ok-take_object-in-None.ensures.takes c.args.token c.if-branch.true)
+    (ap (λ (fs : List Frame). calls_with fs (one c.args.token c.args.x)) (sym c.in-None.ensures.0) ∙ c.in_ok-take_object-in-None.ensures.takes c.args.token c.if-branch.true)
 
 pub returns-else-branch-clause-shorter : goal.returns-else-branch-clause-shorter
 returns-else-branch-clause-shorter g c =
