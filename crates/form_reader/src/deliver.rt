@@ -84,9 +84,9 @@ fn take_one<R: MacroFunctions>(
 {
     match frames.pop_waiting() {
         Some(call) => {
-            let round = frames.len();
+            let depth = frames.len();
             let gathered = StdGathered::One(x.into_datum());
-            Ok(taken_of(complete(with, round, &call, token, token, gathered)?, at))
+            Ok(taken_of(complete(with, depth, &call, token, token, gathered)?, at))
         }
         None => {
             if frames.take_object(x)? {

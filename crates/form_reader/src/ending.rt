@@ -81,10 +81,10 @@ fn last_token<R: MacroFunctions>(
     }
 }
 
-/// The end of the text at `at`, in the token of a call with so many open calls round it.
+/// The end of the text at `at`, in the token of a call at this depth.
 fn last_call_token<R: MacroFunctions>(
     with: &Surroundings<'_, R>,
-    round: usize,
+    depth: usize,
     call: Invoked,
     mut scan: TokenScan,
     at: usize,
@@ -92,23 +92,23 @@ fn last_call_token<R: MacroFunctions>(
     requires answers { R.answers with.now.macros.now }
     requires place { at ≤ with.now.limits.text }
     ensures brings { let setting = setting_with (R.registered with.now.macros.now) R.Meaning.way R.Meaning.answer with.now in
-        (frames : List Frame) → round ≡ length frames → IfOk result (λ event. Brings setting frames at [] event
+        (frames : List Frame) → depth ≡ length frames → IfOk result (λ event. Brings setting frames at [] event
         (stage_gives setting frames (AtCallToken call scan) at [])) }
     ensures last { IfOk result (IsLastEvent at) }
 {
     match token_stop(&with.limits, &mut scan, at) {
         None => {
             let gathered = StdGathered::Marks(scan.into_marks());
-            ended(with, round, &call, true, gathered, at)
+            ended(with, depth, &call, true, gathered, at)
         }
         Some(code) => Ok(Event::Refused(code, at)),
     }
 }
 
-/// The end of the text at `at`, which ends the line of a call with so many open calls round it.
+/// The end of the text at `at`, which ends the line of a call at this depth.
 fn last_line<R: MacroFunctions>(
     with: &Surroundings<'_, R>,
-    round: usize,
+    depth: usize,
     call: Invoked,
     text: HeldText,
     at: usize,
@@ -116,26 +116,26 @@ fn last_line<R: MacroFunctions>(
     requires answers { R.answers with.now.macros.now }
     requires place { at ≤ with.now.limits.text }
     ensures brings { let setting = setting_with (R.registered with.now.macros.now) R.Meaning.way R.Meaning.answer with.now in
-        (frames : List Frame) → round ≡ length frames
+        (frames : List Frame) → depth ≡ length frames
         → IfOk result (λ event. Brings setting frames at [] event
         (stage_gives setting frames (AtLine call text) at [])) }
     ensures last { IfOk result (IsLastEvent at) }
 {
     let gathered = StdGathered::Text(text.into_bytes());
-    ended(with, round, &call, false, gathered, at)
+    ended(with, depth, &call, false, gathered, at)
 }
 
 /// What the end of the text at `at` brings; the stage is left where an object may begin.
 fn last<R: MacroFunctions>(
     with: &Surroundings<'_, R>,
-    round: usize,
+    depth: usize,
     stage: Stage,
     at: usize,
 ) -> Result<Event, AllocError>
     requires answers { R.answers with.now.macros.now }
     requires place { at ≤ with.now.limits.text }
     ensures brings { let setting = setting_with (R.registered with.now.macros.now) R.Meaning.way R.Meaning.answer with.now in
-        (frames : List Frame) → round ≡ length frames → IfOk result (λ event. Brings setting frames at [] event
+        (frames : List Frame) → depth ≡ length frames → IfOk result (λ event. Brings setting frames at [] event
         (stage_gives setting frames stage at [])) }
     ensures last { IfOk result (IsLastEvent at) }
     ensures object { stage ≡ AtObject → result ≡ Ok (IsAt AtObject) }
@@ -143,8 +143,8 @@ fn last<R: MacroFunctions>(
     match stage {
         Stage::Object => Ok(Event::Stage(Stage::Object)),
         Stage::Token(scan) => last_token(with, scan, at),
-        Stage::CallToken(call, scan) => last_call_token(with, round, call, scan, at),
-        Stage::Line(call, text) => last_line(with, round, call, text, at),
+        Stage::CallToken(call, scan) => last_call_token(with, depth, call, scan, at),
+        Stage::Line(call, text) => last_line(with, depth, call, text, at),
         Stage::Text(..) => Ok(Event::Refused(END_OF_FILE, at)),
         Stage::Escaped(..) => Ok(Event::Refused(END_OF_FILE, at)),
         Stage::Block(..) => Ok(Event::Refused(END_OF_FILE, at)),

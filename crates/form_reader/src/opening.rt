@@ -154,11 +154,11 @@ pub(crate) fn event_of(completed: Completed, at: usize) -> Event
     }
 }
 
-/// What a call brings that ends at `at`, with so many open calls round it, and whether a token ends it.
+/// What a call brings that ends at `at` at this depth, and whether a token ends it.
 #[inline(always)]
 pub(crate) fn ended<R: MacroFunctions>(
     with: &Surroundings<'_, R>,
-    round: usize,
+    depth: usize,
     call: &Invoked,
     token: bool,
     gathered: StdGathered,
@@ -167,12 +167,12 @@ pub(crate) fn ended<R: MacroFunctions>(
     requires answers { R.answers with.now.macros.now }
     requires proper { IsProperGathered gathered }
     ensures brings { let setting = setting_with (R.registered with.now.macros.now) R.Meaning.way R.Meaning.answer with.now in
-        (frames : List Frame) (cs : List ℕ) → round ≡ length frames
+        (frames : List Frame) (cs : List ℕ) → depth ≡ length frames
         → IfOk result (λ event. Brings setting frames at cs event
         (plan_gives setting frames (completed setting (length frames) call.now token false (view_gathered gathered)) at cs)) }
     ensures ends { IfOk result (IsEnd (space token) at) }
 {
-    Ok(event_of(complete(with, round, call, token, false, gathered)?, at))
+    Ok(event_of(complete(with, depth, call, token, false, gathered)?, at))
 }
 
 /// The way in which the function of a call gathers.

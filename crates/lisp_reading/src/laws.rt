@@ -90,12 +90,12 @@ pub fn reading_goes_on()
     ensures form { (setting : Setting) (start : ℕ) (text : List ℕ) → reads_at setting start text
         ≡ outcome setting.table start (λ next cs. reads_at setting next cs)
         (run setting.table setting.limits (attempt setting setting.limits.nesting) 0 text) }
-    ensures place { (setting : Setting) (depth : ℕ) (close : Option ℕ) → GiveSame setting.table setting.limits
-        (place setting close (attempt setting depth))
-        (place_turn setting.table close (attempt setting depth) (λ u. place setting close (attempt setting depth)) tt) }
-    ensures items { (setting : Setting) (depth close : ℕ) (xs : List Object) → GiveSame setting.table setting.limits
-        (items_after setting close (attempt setting depth) xs)
-        (items_turn setting close (attempt setting depth) (items_after setting close (attempt setting depth)) xs) }
+    ensures place { (setting : Setting) (room : ℕ) (close : Option ℕ) → GiveSame setting.table setting.limits
+        (place setting close (attempt setting room))
+        (place_turn setting.table close (attempt setting room) (λ u. place setting close (attempt setting room)) tt) }
+    ensures items { (setting : Setting) (room close : ℕ) (xs : List Object) → GiveSame setting.table setting.limits
+        (items_after setting close (attempt setting room) xs)
+        (items_turn setting close (attempt setting room) (items_after setting close (attempt setting room)) xs) }
     ensures text { (setting : Setting) (terminator : ℕ) (text : List ℕ) → GiveSame setting.table setting.limits
         (loop setting.limits (text_turn setting.table terminator) text)
         (text_turn setting.table terminator (loop setting.limits (text_turn setting.table terminator)) text) }
