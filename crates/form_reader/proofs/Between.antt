@@ -20,12 +20,12 @@ use Rattle.lisp_reading.specs.Plans.{Read, fault, gives}
 use Rattle.form_reader.specs.Frames.{plan_gives}
 use Rattle.form_reader.specs.Resuming.{Brings, stage_gives}
 use Rattle.form_reader.specs.Turning.{outcome_of, rest_of, Settles, TurnsTo, BeginsAnew}
-use Rattle.form_reader.specs.Reader.{fed, begun, IsBetween, LeavesBetween, Takes, IsAfter, IsAfterIn}
+use Rattle.form_reader.specs.Reader.{fed, begun, IsBetween, LeavesBetween, Becomes, IsAfter, IsAfterIn}
 use Rattle.form_reader.proofs.Endings.{none_waits}
 use Rattle.lisp_reading.proofs.Forms.{reads_is}
 
 -- after a form nothing is open
-pub leaves_between : (setting : Setting) (mid new : FormReader) (after : List Frame) (turn : Turn) (step : Step) (o : Outcome) → TurnsTo setting after [] turn o → Takes turn mid new step
+pub leaves_between : (setting : Setting) (mid new : FormReader) (after : List Frame) (turn : Turn) (step : Step) (o : Outcome) → TurnsTo setting after [] turn o → Becomes turn mid new step
     → mid.frames ≡ after → LeavesBetween new step
 leaves_between setting mid new after (Goes start at stage) step o turns takes same = subst (λ (s : Step). LeavesBetween new s) (sym takes.0) tt
 leaves_between setting mid new after (TurnForm x start «end» next) (StepForm datum s e n) o turns takes same =
@@ -48,7 +48,7 @@ done_anew setting frames at settled found read turn e settles anew =
     subst (λ (fs : List Frame). BeginsAnew fs turn) (sym told.1) anew
 
 -- where the attempt that is open after a turn has no byte, the reader is between forms
-pub anew_between : (mid new : FormReader) (after : List Frame) (turn : Turn) (step : Step) → BeginsAnew after turn → Takes turn mid new step → mid.frames ≡ after
+pub anew_between : (mid new : FormReader) (after : List Frame) (turn : Turn) (step : Step) → BeginsAnew after turn → Becomes turn mid new step → mid.frames ≡ after
     → step ≡ StepMore → begun new ≡ fed new → IsBetween new
 anew_between mid new after (Goes start at stage) step anew takes same e here =
     let none = anew (omega (arith, takes.2, here)) in

@@ -29,7 +29,7 @@ use Rattle.form_reader.specs.declared.in_place.InPlace.{InPlace}
 use Rattle.form_reader.specs.declared.in_place.InPlace.TheVariants.{Taken as InPlaceTaken, Passed as InPlacePassed, Left as InPlaceLeft, Refused as InPlaceRefused}
 use Rattle.form_reader.specs.InPlace.{FeedsInPlace, IsReadyInPlace}
 use Rattle.form_reader.specs.Turning.{outcome_of, rest_of, TurnsTo, IsStanding, IsReadyTurn, BeginsFrom}
-use Rattle.form_reader.specs.Reader.{fed, begun, MayGoOn, DecideNothing, IsNew, IsAfter, IsAfterIn, Steps, BeginsLater, IsSoundStep, Takes}
+use Rattle.form_reader.specs.Reader.{fed, begun, MayGoOn, DecideNothing, IsNew, IsAfter, IsAfterIn, Steps, BeginsLater, IsSoundStep, Becomes}
 use Rattle.form_reader.proofs.Deciding.{may_go_on, decide_nothing}
 use Rattle.lisp_reading.proofs.Forms.{reads_is, stood}
 
@@ -90,7 +90,7 @@ module _ (setting : Setting) (old mid new : FormReader) (stage : Stage) (bytes :
 
   pub stepped : (turn : Turn) (step : Step) → IsAfterIn setting old (Open stage) bytes
       → ((cs : List ℕ) → TurnsTo setting after cs turn (rest_of setting old.frames stage old.start old.at (byte ∷ cs)))
-      → IsReadyTurn setting.limits after (old.start + old.at + 1) turn → Takes turn mid new step → mid.frames ≡ after → Steps setting new fed_now step
+      → IsReadyTurn setting.limits after (old.start + old.at + 1) turn → Becomes turn mid new step → mid.frames ≡ after → Steps setting new fed_now step
   stepped (Goes start at st) step a turns ready takes same =
       let many : length fed_now ≡ length bytes + 1 = length-append bytes (byte ∷ []) in
       let rest : (cs : List ℕ) → reads setting (fed_now ++ cs) ≡ rest_of setting new.frames st new.start new.at cs =
@@ -143,7 +143,7 @@ module _ (setting : Setting) (frames : List Frame) (start at c : ℕ) (old new :
       record { place = omega arith; nesting = standing.nesting; levels = subst (λ (f : InPlace). IsReadyInPlace limits at new f) is ready }
 
 -- at most one byte more was fed
-pub fed_taking : (mid new : FormReader) (after : List Frame) (limits : Limits) (count : ℕ) (turn : Turn) (step : Step) → Takes turn mid new step → IsReadyTurn limits after count turn
+pub fed_taking : (mid new : FormReader) (after : List Frame) (limits : Limits) (count : ℕ) (turn : Turn) (step : Step) → Becomes turn mid new step → IsReadyTurn limits after count turn
     → mid.start + mid.at + 1 ≡ count → fed new ≤ count
 fed_taking mid new after limits count (Goes start at st) step takes ready many = omega (arith, takes.1, takes.2, ready.1)
 fed_taking mid new after limits count (TurnForm x start «end» next) (StepForm datum s e n) takes ready many = omega (arith, takes.5, takes.6, many)
@@ -152,7 +152,7 @@ fed_taking mid new after limits count (TurnForm x start «end» next) (StepRefus
 fed_taking mid new after limits count (TurnRefused code place) step takes ready many = omega (arith, takes.2, takes.3, many)
 
 -- what is open after a turn began no earlier
-pub begins_taking : (mid new : FormReader) (turn : Turn) (step : Step) → Takes turn mid new step → BeginsFrom mid.start turn → BeginsLater mid new step
+pub begins_taking : (mid new : FormReader) (turn : Turn) (step : Step) → Becomes turn mid new step → BeginsFrom mid.start turn → BeginsLater mid new step
 begins_taking mid new (Goes start at st) step takes from =
     subst (λ (s : Step). BeginsLater mid new s) (sym takes.0) (omega (arith, takes.1, from), omega (arith, takes.1))
 begins_taking mid new (TurnForm x start «end» next) (StepForm datum s e n) takes from = (omega (arith, takes.2, from), takes.5)

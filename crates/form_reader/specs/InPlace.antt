@@ -32,8 +32,8 @@ is_space setting frames AtObject at c =
 is_space setting frames _ at c = false
 
 -- a token begins at the byte at this place, where an object may begin
-abbrev pub Begins : Setting → List Frame → ℕ → ℕ → List ℕ → Scan → Type 0
-Begins setting frames at c cs scan = stage_gives setting frames AtObject at (c ∷ cs) ≡ stage_gives setting frames (AtToken scan) (at + 1) cs
+abbrev pub BeginsToken : Setting → List Frame → ℕ → ℕ → List ℕ → Scan → Type 0
+BeginsToken setting frames at c cs scan = stage_gives setting frames AtObject at (c ∷ cs) ≡ stage_gives setting frames (AtToken scan) (at + 1) cs
 
 -- such a token goes on after the byte at this place, which is below the limit of the text
 abbrev pub IsBegunAt : Limits → ℕ → Scan → Type 0

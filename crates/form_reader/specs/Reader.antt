@@ -121,12 +121,12 @@ IsSoundStep (StepForm datum start «end» next) = IsSound (object_of datum)
 IsSoundStep _ = Unit {0}
 
 -- what a turn makes of a reader, and what is answered
-abbrev pub Takes : Turn → FormReader → FormReader → Step → Type 0
-Takes (Goes start at stage) old new step =
+abbrev pub Becomes : Turn → FormReader → FormReader → Step → Type 0
+Becomes (Goes start at stage) old new step =
     (step ≡ StepMore) × (new.start ≡ start) × (new.at ≡ at) × (new.frames ≡ old.frames) × (new.state ≡ Open stage)
-Takes (TurnForm x start «end» next) old new (StepForm datum s e n) =
+Becomes (TurnForm x start «end» next) old new (StepForm datum s e n) =
     (object_of datum ≡ x) × (is_proper datum ≡ true) × (s ≡ start) × (e ≡ «end») × (n ≡ next)
     × (new.start ≡ 0) × (new.at ≡ 0) × (new.frames ≡ old.frames) × (new.state ≡ Open AtObject)
-Takes (TurnForm x start «end» next) old new _ = ⊥
-Takes (TurnRefused code place) old new step =
+Becomes (TurnForm x start «end» next) old new _ = ⊥
+Becomes (TurnRefused code place) old new step =
     (step ≡ StepRefused code place) × (new.state ≡ Refused code place) × (new.start ≡ old.start) × (new.at ≡ old.at)

@@ -4,7 +4,7 @@ ghost use Rattle.form_reader.specs.Feeding.{is_going};
 ghost use Rattle.form_reader.specs.Surrounding.{setting_with};
 ghost use Rattle.form_reader.specs.declared.stage.Stage.TheVariants.{Object as AtObject};
 ghost use Rattle.form_reader.specs.InPlace.{is_space};
-ghost use Rattle.form_reader.specs.InPlace.{Begins, FeedsInPlace, IsBegunAt, IsReadyInPlace, Stays};
+ghost use Rattle.form_reader.specs.InPlace.{BeginsToken, FeedsInPlace, IsBegunAt, IsReadyInPlace, Stays};
 ghost use Rattle.form_reader.specs.declared.in_place.InPlace.TheVariants.{Passed as IsPassed};
 ghost use Rattle.form_reader.specs.Turning.{rest_of};
 
@@ -99,7 +99,7 @@ fn begun_at<R: MacroFunctions>(
     requires place { at ≤ with.now.limits.text }
     requires nesting { length frames.now ≤ with.now.limits.nesting }
     ensures begins { let setting = setting_with (R.registered with.now.macros.now) R.Meaning.way R.Meaning.answer with.now in
-        (cs : List ℕ) → IfOk result (λ begun. IfSome begun (λ scan. Begins setting frames.now at c cs scan)) }
+        (cs : List ℕ) → IfOk result (λ begun. IfSome begun (λ scan. BeginsToken setting frames.now at c cs scan)) }
     ensures ready { IfOk result (λ begun. IfSome begun (IsBegunAt with.now.limits at)) }
     ensures none { let setting = setting_with (R.registered with.now.macros.now) R.Meaning.way R.Meaning.answer with.now in
         is_space setting frames.now AtObject at c ≡ true → result ≡ Ok None }

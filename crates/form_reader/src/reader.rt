@@ -69,7 +69,7 @@ impl FormReader {
     ghost use Rattle.form_reader.specs.declared.reader.Step.TheVariants.{More as StepMore, Refused as StepRefused};
     ghost use Rattle.form_reader.specs.declared.ending.ReadOutcome.TheVariants.{Empty as ReadEmpty, Refused as ReadRefused};
     ghost use Rattle.form_reader.specs.Turning.{IsReadyTurn};
-    ghost use Rattle.form_reader.specs.Reader.{limits_of, fed, begun, HasRefused, HasNoMemory, IsNew, IsBetween, LeavesBetween, IsAfter, IsOpen, Steps, Counts, BeginsLater, IsSoundStep, Takes, IsOutcome};
+    ghost use Rattle.form_reader.specs.Reader.{limits_of, fed, begun, HasRefused, HasNoMemory, IsNew, IsBetween, LeavesBetween, IsAfter, IsOpen, Steps, Counts, BeginsLater, IsSoundStep, Becomes, IsOutcome};
 
     /// A reader that was fed nothing, between forms. It keeps `alloc` for what it gathers.
     pub fn new(alloc: Global, limits: Limits) -> FormReader
@@ -212,12 +212,12 @@ impl FormReader {
         }
     }
 
-    /// Takes what a byte is to the text.
+    /// Becomes what a byte is to the text.
     #[inline(always)]
     fn take(&mut self, turn: Turn) -> Step
         requires ready { IsReadyTurn (limits_of self.old) self.old.frames (fed self.old + 1) turn }
         ensures limits { limits_of self.new ≡ limits_of self.old }
-        ensures takes { Takes turn self.old self.new result }
+        ensures takes { Becomes turn self.old self.new result }
         ensures sound { IsSoundStep result }
     {
         match turn {
