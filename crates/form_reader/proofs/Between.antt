@@ -2,8 +2,8 @@
 use Rattle.std.proofs.Common.{◌≡◌, ℕ, List, [], refl, sym, ap, subst, ◌∙◌, ◌++◌, length, append-nil, arith}
 use Rattle.form_reader.specs.declared.frame.Frame.{Frame}
 use Rattle.form_reader.specs.declared.reader.FormReader.{FormReader}
-use Rattle.form_reader.specs.declared.reader.Step.{Step}
-use Rattle.form_reader.specs.declared.reader.Step.TheVariants.{More as StepMore, Form as StepForm, Refused as StepRefused}
+use Rattle.form_reader.specs.declared.reader.Advance.{Advance}
+use Rattle.form_reader.specs.declared.reader.Advance.TheVariants.{More as AdvanceMore, Form as AdvanceForm, Refused as AdvanceRefused}
 use Rattle.form_reader.specs.declared.reader.State.{State}
 use Rattle.form_reader.specs.declared.reader.State.TheVariants.{Open}
 use Rattle.form_reader.specs.declared.stage.Stage.TheVariants.{Object as AtObject}
@@ -25,14 +25,14 @@ use Rattle.form_reader.proofs.Endings.{none_waits}
 use Rattle.lisp_reading.proofs.Forms.{reads_is}
 
 -- after a form nothing is open
-pub leaves_between : (setting : Setting) (mid new : FormReader) (after : List Frame) (turn : Turn) (step : Step) (o : Outcome) → TurnsTo setting after [] turn o → Becomes turn mid new step
+pub leaves_between : (setting : Setting) (mid new : FormReader) (after : List Frame) (turn : Turn) (step : Advance) (o : Outcome) → TurnsTo setting after [] turn o → Becomes turn mid new step
     → mid.frames ≡ after → LeavesBetween new step
-leaves_between setting mid new after (Goes start at stage) step o turns takes same = subst (λ (s : Step). LeavesBetween new s) (sym takes.0) tt
-leaves_between setting mid new after (TurnForm x start «end» next) (StepForm datum s e n) o turns takes same =
+leaves_between setting mid new after (Goes start at stage) step o turns takes same = subst (λ (s : Advance). LeavesBetween new s) (sym takes.0) tt
+leaves_between setting mid new after (TurnForm x start «end» next) (AdvanceForm datum s e n) o turns takes same =
     record { at = takes.6; frames = takes.7 ∙ same ∙ turns.1; state = takes.8 }
-leaves_between setting mid new after (TurnForm x start «end» next) StepMore o turns takes same = absurd takes
-leaves_between setting mid new after (TurnForm x start «end» next) (StepRefused code place) o turns takes same = absurd takes
-leaves_between setting mid new after (TurnRefused code place) step o turns takes same = subst (λ (s : Step). LeavesBetween new s) (sym takes.0) tt
+leaves_between setting mid new after (TurnForm x start «end» next) AdvanceMore o turns takes same = absurd takes
+leaves_between setting mid new after (TurnForm x start «end» next) (AdvanceRefused code place) o turns takes same = absurd takes
+leaves_between setting mid new after (TurnRefused code place) step o turns takes same = subst (λ (s : Advance). LeavesBetween new s) (sym takes.0) tt
 
 -- what an event brings is what this reads
 pub brought : (setting : Setting) (frames : List Frame) (at : ℕ) (event : Event) → (read : Read Found) × Brings setting frames at [] event read
@@ -48,16 +48,16 @@ done_anew setting frames at settled found read turn e settles anew =
     subst (λ (fs : List Frame). BeginsAnew fs turn) (sym told.1) anew
 
 -- where the attempt that is open after a turn has no byte, the reader is between forms
-pub anew_between : (mid new : FormReader) (after : List Frame) (turn : Turn) (step : Step) → BeginsAnew after turn → Becomes turn mid new step → mid.frames ≡ after
-    → step ≡ StepMore → begun new ≡ fed new → IsBetween new
+pub anew_between : (mid new : FormReader) (after : List Frame) (turn : Turn) (step : Advance) → BeginsAnew after turn → Becomes turn mid new step → mid.frames ≡ after
+    → step ≡ AdvanceMore → begun new ≡ fed new → IsBetween new
 anew_between mid new after (Goes start at stage) step anew takes same e here =
     let none = anew (omega (arith, takes.2, here)) in
     record { at = omega (arith, here); frames = takes.3 ∙ same ∙ none.0; state = takes.4 ∙ ap Open none.1 }
-anew_between mid new after (TurnForm x start «end» next) (StepForm datum s e n) anew takes same is here = cc
-anew_between mid new after (TurnForm x start «end» next) StepMore anew takes same is here = absurd takes
-anew_between mid new after (TurnForm x start «end» next) (StepRefused code place) anew takes same is here = absurd takes
+anew_between mid new after (TurnForm x start «end» next) (AdvanceForm datum s e n) anew takes same is here = cc
+anew_between mid new after (TurnForm x start «end» next) AdvanceMore anew takes same is here = absurd takes
+anew_between mid new after (TurnForm x start «end» next) (AdvanceRefused code place) anew takes same is here = absurd takes
 anew_between mid new after (TurnRefused code place) step anew takes same is here =
-    let other : StepRefused code place ≡ StepMore = sym takes.0 ∙ is in cc
+    let other : AdvanceRefused code place ≡ AdvanceMore = sym takes.0 ∙ is in cc
 
 -- ---- what is read where a reader is between forms
 

@@ -1,7 +1,7 @@
 //! Laws of readers, as contracts of functions that do nothing.
 ghost use Rattle.std.specs.Prelude.{◌≡◌, ◌≤◌, ◌<◌, ◌∷◌, ◌++◌, ◌-◌, ℕ, List, length};
 ghost use Rattle.form_reader.specs.declared.reader.FormReader.{FormReader};
-ghost use Rattle.form_reader.specs.declared.reader.Step.TheVariants.{More};
+ghost use Rattle.form_reader.specs.declared.reader.Advance.TheVariants.{More};
 ghost use Rattle.form_reader.specs.Reader.{IsAfter, IsBetween, Steps};
 ghost use Rattle.lisp_reading.specs.Setting.{Setting};
 ghost use Rattle.lisp_reading.specs.Reading.{Outcome, form, empty, outcome, reads_at, reads};

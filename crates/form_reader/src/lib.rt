@@ -10,7 +10,7 @@
 //! - specs/Ready.antt, specs/Standing.antt: what keeps such a reader going; specs/Turning.antt, specs/Ending.antt: what one byte,
 //!   and the end of the text, are to the outcome; specs/Reader.antt: what a reader is after, and what it answers
 //!
-//! - `reader`: `FormReader`, `Step`; `whole`: `read_one`
+//! - `reader`: `FormReader`, `Advance`; `whole`: `read_one`
 //! - `turn`: one byte, wherever a reader is in a form; `ending`: the end of the text, `ReadOutcome`
 //! - `frame`, `stage`: open calls, and where a reader is in the innermost
 //! - `known`: which data may be answered; `complete`: what a call gives
@@ -53,5 +53,5 @@ pub use lisp_reading::{
     only_what_is_found_matters, reading_goes_on, refusals_are_decided, refusals_are_of_reading,
     spaced_forms_are_framed,
 };
-pub use reader::{FormReader, Step};
+pub use reader::{FormReader, Advance};
 pub use whole::read_one;

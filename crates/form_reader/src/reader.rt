@@ -42,7 +42,7 @@ pub enum State {
 
 /// What one more byte is to the text.
 #[derive(Drop)]
-pub enum Step {
+pub enum Advance {
     /// More bytes decide.
     More,
     /// The text begins with a form: its object, its start, its end, and where the next form begins.
@@ -66,7 +66,7 @@ impl FormReader {
     ghost use Rattle.form_reader.specs.Surrounding.{setting_with};
     ghost use Rattle.lisp_object.specs.Object.{Object};
     ghost use Rattle.lisp_reading.specs.Reading.{form, is_whitespace, reads};
-    ghost use Rattle.form_reader.specs.declared.reader.Step.TheVariants.{More as StepMore, Refused as StepRefused};
+    ghost use Rattle.form_reader.specs.declared.reader.Advance.TheVariants.{More as AdvanceMore, Refused as AdvanceRefused};
     ghost use Rattle.form_reader.specs.declared.ending.ReadOutcome.TheVariants.{Empty as ReadEmpty, Refused as ReadRefused};
     ghost use Rattle.form_reader.specs.Turning.{IsReadyTurn};
     ghost use Rattle.form_reader.specs.Reader.{limits_of, fed, begun, HasRefused, HasNoMemory, IsNew, IsBetween, LeavesBetween, IsAfter, IsOpen, Steps, Counts, BeginsLater, IsSoundStep, Becomes, IsOutcome};
@@ -111,7 +111,7 @@ impl FormReader {
         packages: &Packages,
         current: &[u8],
         macros: &R,
-    ) -> Result<Step, AllocError>
+    ) -> Result<Advance, AllocError>
         requires answers { R.answers macros.now }
         requires current { IsPackage packages.now.0 current.now }
         requires count { fed self.old < 2 ^ 63 }
@@ -128,16 +128,16 @@ impl FormReader {
         ensures begun { IfOk result (BeginsLater self.old self.new) }
         ensures sound { IfOk result IsSoundStep }
         ensures refused { (code place : ℕ) → HasRefused self.old code place
-            → (result ≡ Ok (StepRefused code place)) × HasRefused self.new code place }
+            → (result ≡ Ok (AdvanceRefused code place)) × HasRefused self.new code place }
         ensures memory { OnErr result (HasNoMemory self.new) }
         ensures spent { HasNoMemory self.old → IsErr result }
         ensures stays { (code place : ℕ)
             → (HasRefused self.old code place → fed self.new ≡ fed self.old)
             × (HasNoMemory self.old → fed self.new ≡ fed self.old) }
         ensures between { IsBetween self.old → is_whitespace readtable.now byte ≡ true
-            → 0 < (limits_of self.old).text → (result ≡ Ok StepMore) × IsBetween self.new }
+            → 0 < (limits_of self.old).text → (result ≡ Ok AdvanceMore) × IsBetween self.new }
         ensures between_forms { IfOk result (LeavesBetween self.new) }
-        ensures nothing_open { result ≡ Ok StepMore
+        ensures nothing_open { result ≡ Ok AdvanceMore
             → begun self.new ≡ fed self.new → IsBetween self.new }
     {
         let with = Surroundings {
@@ -152,18 +152,18 @@ impl FormReader {
             State::Open(stage) => match in_place(&with, &self.frames, stage, self.at, byte) {
                 Ok(InPlace::Taken) => {
                     self.at += 1;
-                    Ok(Step::More)
+                    Ok(Advance::More)
                 }
                 Ok(InPlace::Passed) => {
                     self.start += self.at + 1;
                     self.at = 0;
-                    Ok(Step::More)
+                    Ok(Advance::More)
                 }
                 Ok(InPlace::Left) => self.leave(&with, byte),
                 Ok(InPlace::Refused(code)) => {
                     let place = self.start + self.at;
                     refuse(&mut self.state, code, place);
-                    Ok(Step::Refused { code, at: place })
+                    Ok(Advance::Refused { code, at: place })
                 }
                 Err(error) => {
                     run_out(&mut self.state);
@@ -172,7 +172,7 @@ impl FormReader {
             },
             State::Refused(code, at) => {
                 let (code, at) = (*code, *at);
-                Ok(Step::Refused { code, at })
+                Ok(Advance::Refused { code, at })
             }
             State::OutOfMemory => Err(AllocError),
         }
@@ -184,7 +184,7 @@ impl FormReader {
         &mut self,
         with: &Surroundings<'_, R>,
         byte: u8,
-    ) -> Result<Step, AllocError>
+    ) -> Result<Advance, AllocError>
         requires answers { R.answers with.now.macros.now }
         requires limits { with.now.limits ≡ limits_of self.old }
         requires count { fed self.old < 2 ^ 63 }
@@ -198,7 +198,7 @@ impl FormReader {
         ensures sound { IfOk result IsSoundStep }
         ensures memory { OnErr result (HasNoMemory self.new) }
         ensures between_forms { IfOk result (LeavesBetween self.new) }
-        ensures nothing_open { result ≡ Ok StepMore
+        ensures nothing_open { result ≡ Ok AdvanceMore
             → begun self.new ≡ fed self.new → IsBetween self.new }
     {
         // Until the byte has come to something: where that fails, the reader answers the same again.
@@ -214,7 +214,7 @@ impl FormReader {
 
     /// Becomes what a byte is to the text.
     #[inline(always)]
-    fn take(&mut self, turn: Turn) -> Step
+    fn take(&mut self, turn: Turn) -> Advance
         requires ready { IsReadyTurn (limits_of self.old) self.old.frames (fed self.old + 1) turn }
         ensures limits { limits_of self.new ≡ limits_of self.old }
         ensures takes { Becomes turn self.old self.new result }
@@ -225,13 +225,13 @@ impl FormReader {
                 self.start = start;
                 self.at = at;
                 self.state = State::Open(stage);
-                Step::More
+                Advance::More
             }
             Turn::Form(x, start, end, next) => {
                 self.start = 0;
                 self.at = 0;
                 self.state = State::Open(Stage::Object);
-                Step::Form {
+                Advance::Form {
                     datum: x.into_sound_datum(),
                     start,
                     end,
@@ -240,7 +240,7 @@ impl FormReader {
             }
             Turn::Refused(code, at) => {
                 self.state = State::Refused(code, at);
-                Step::Refused { code, at }
+                Advance::Refused { code, at }
             }
         }
     }

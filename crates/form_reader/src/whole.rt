@@ -8,7 +8,7 @@ ghost use Rattle.lisp_reading.specs.Reading.{is_whitespace, reads};
 ghost use Rattle.form_reader.specs.Reader.{IsOutcome};
 
 use crate::ending::ReadOutcome;
-use crate::reader::{FormReader, Step};
+use crate::reader::{FormReader, Advance};
 use lisp_reading::Limits;
 use package_table::Packages;
 use readtable_core::Readtable;
@@ -37,8 +37,8 @@ pub fn read_one<R: MacroFunctions>(
     let mut reader = FormReader::new(alloc, limits);
     for byte in bytes {
         match reader.step(*byte, readtable, packages, current, macros)? {
-            Step::More => {}
-            Step::Form {
+            Advance::More => {}
+            Advance::Form {
                 datum,
                 start,
                 end,
@@ -51,7 +51,7 @@ pub fn read_one<R: MacroFunctions>(
                     next,
                 });
             }
-            Step::Refused { code, at } => return Ok(ReadOutcome::Refused { code, at }),
+            Advance::Refused { code, at } => return Ok(ReadOutcome::Refused { code, at }),
         }
     }
     reader.finish(readtable, packages, current, macros)

@@ -1,6 +1,6 @@
 use Rattle.std.proofs.Common.{◌≡◌, [], sym, subst, ◌∙◌, refl}
 use Rattle.form_reader.specs.declared.reader.State.{State}
-use Rattle.form_reader.specs.declared.reader.Step.TheVariants.{More as StepMore}
+use Rattle.form_reader.specs.declared.reader.Advance.TheVariants.{More as AdvanceMore}
 use Rattle.form_reader.specs.Surrounding.{setting_with}
 use Rattle.form_reader.specs.Reader.{IsAfterIn}
 use Rattle.form_reader.proofs.Between.{leaves_between, anew_between}
@@ -21,5 +21,5 @@ returns-clause-between_forms g c =
 
 pub returns-clause-nothing_open : goal.returns-clause-nothing_open
 returns-clause-nothing_open g c = λ e here.
-    let more : c.take.result ≡ StepMore = cc in
+    let more : c.take.result ≡ AdvanceMore = cc in
     anew_between _ c.take.new.self c.take_byte.new.frames c.in_ok-next-in-Open.next c.take.result c.in_ok-next-in-Open.ensures.anew c.take.ensures.takes refl more here
