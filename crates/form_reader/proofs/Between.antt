@@ -4,8 +4,8 @@ use Rattle.form_reader.specs.declared.frame.Frame.{Frame}
 use Rattle.form_reader.specs.declared.reader.FormReader.{FormReader}
 use Rattle.form_reader.specs.declared.reader.Advance.{Advance}
 use Rattle.form_reader.specs.declared.reader.Advance.TheVariants.{More as AdvanceMore, Form as AdvanceForm, Refused as AdvanceRefused}
-use Rattle.form_reader.specs.declared.reader.State.{State}
-use Rattle.form_reader.specs.declared.reader.State.TheVariants.{Open}
+use Rattle.form_reader.specs.declared.reader.ReaderState.{ReaderState}
+use Rattle.form_reader.specs.declared.reader.ReaderState.TheVariants.{Open}
 use Rattle.form_reader.specs.declared.stage.Stage.TheVariants.{Object as AtObject}
 use Rattle.lisp_reading.specs.declared.found.Found.{Found}
 use Rattle.form_reader.specs.declared.stage.Event.{Event}
@@ -64,7 +64,7 @@ anew_between mid new after (TurnRefused code place) step anew takes same is here
 between_rest : (setting : Setting) (reader : FormReader) (bytes more : List ℕ) → IsAfter setting reader bytes → IsBetween reader
     → reads setting (bytes ++ more) ≡ rest_of setting [] AtObject (length bytes) 0 more
 between_rest setting reader bytes more after between =
-    let here : IsAfterIn setting reader (Open AtObject) bytes = subst (λ (s : State). IsAfterIn setting reader s bytes) between.state after in
+    let here : IsAfterIn setting reader (Open AtObject) bytes = subst (λ (s : ReaderState). IsAfterIn setting reader s bytes) between.state after in
     let start : reader.start ≡ length bytes = omega (arith, here.0, between.at) in
     here.1 more ∙ (λ i. rest_of setting (between.frames i) AtObject (start i) (between.at i) more)
 

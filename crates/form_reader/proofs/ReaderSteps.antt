@@ -7,8 +7,8 @@ use Rattle.lisp_object.specs.Datum.{object_of, is_proper}
 use Rattle.form_reader.specs.declared.frame.Frame.{Frame}
 use Rattle.lisp_reading.specs.declared.limits.Limits.{Limits}
 use Rattle.form_reader.specs.declared.reader.FormReader.{FormReader}
-use Rattle.form_reader.specs.declared.reader.State.{State}
-use Rattle.form_reader.specs.declared.reader.State.TheVariants.{Open, Refused, OutOfMemory}
+use Rattle.form_reader.specs.declared.reader.ReaderState.{ReaderState}
+use Rattle.form_reader.specs.declared.reader.ReaderState.TheVariants.{Open, Refused, OutOfMemory}
 use Rattle.form_reader.specs.declared.reader.Advance.{Advance}
 use Rattle.form_reader.specs.declared.reader.Advance.TheVariants.{More as AdvanceMore, Form as AdvanceForm, Refused as AdvanceRefused}
 use Rattle.form_reader.specs.declared.stage.Stage.{Stage}
@@ -40,7 +40,7 @@ new_rest setting frames none cs = reads_is setting 0 cs ∙ ap (λ (fs : List Fr
 
 pub new_after : (setting : Setting) (reader : FormReader) → IsNew reader → IsAfter setting reader []
 new_after setting reader n =
-    subst (λ (s : State). IsAfterIn setting reader s []) (sym n.state)
+    subst (λ (s : ReaderState). IsAfterIn setting reader s []) (sym n.state)
     (omega (arith, n.start, n.at), λ cs. new_rest setting reader.frames n.frames cs ∙ (λ i. rest_of setting reader.frames AtObject (sym n.start i) (sym n.at i) cs))
 
 module _ (setting : Setting) (old mid new : FormReader) (stage : Stage) (bytes : List ℕ) (byte : ℕ) (after : List Frame) where
@@ -96,7 +96,7 @@ module _ (setting : Setting) (old mid new : FormReader) (stage : Stage) (bytes :
       let rest : (cs : List ℕ) → reads setting (fed_now ++ cs) ≡ rest_of setting new.frames st new.start new.at cs =
       λ cs. one_more a cs ∙ turns cs ∙ (λ i. rest_of setting ((sym same ∙ sym takes.3) i) st (sym takes.1 i) (sym takes.2 i) cs) in
       subst (λ (s : Advance). Steps setting new fed_now s) (sym takes.0) (
-        subst (λ (s : State). IsAfterIn setting new s fed_now) (sym takes.4) (omega (arith, many, takes.1, takes.2, ready.1, a.0), rest),
+        subst (λ (s : ReaderState). IsAfterIn setting new s fed_now) (sym takes.4) (omega (arith, many, takes.1, takes.2, ready.1, a.0), rest),
         omega (arith, many, takes.1, takes.2, ready.1, a.0),
         may_go_on setting after st start at fed_now ready.0.levels ready.0.place (omega (arith, many, ready.1, a.0)) (λ cs. one_more a cs ∙ turns cs),
         decide_nothing setting after st start at fed_now ready.0.levels ready.0.place (omega (arith, many, ready.1, a.0)) (λ cs. one_more a cs ∙ turns cs),
@@ -174,7 +174,7 @@ pub begun_first : (setting : Setting) (reader : FormReader) (bytes more : List �
     → reads setting (bytes ++ more) ≡ form x start «end» next → begun reader ≤ start
 begun_first setting reader bytes more x start «end» next after e = by reader.state after
   where
-    by : (state : State) → IsAfterIn setting reader state bytes → begun reader ≤ start
+    by : (state : ReaderState) → IsAfterIn setting reader state bytes → begun reader ≤ start
     by (Open stage) a =
         begins_from setting reader.start (stage_gives setting reader.frames stage reader.at more) x start «end» next (sym (a.1 more) ∙ e)
     by (Refused code place) a = let same : refused code place ≡ form x start «end» next = sym (a more) ∙ e in cc
@@ -185,7 +185,7 @@ begun_first setting reader bytes more x start «end» next after e = by reader.s
 pub refused_finishes : (setting : Setting) (reader : FormReader) (bytes : List ℕ) (code place : ℕ) → reader.state ≡ Refused code place → IsAfter setting reader bytes
     → reads setting bytes ≡ refused code place
 refused_finishes setting reader bytes code place e a =
-    let here : IsAfterIn setting reader (Refused code place) bytes = subst (λ (s : State). IsAfterIn setting reader s bytes) e a in
+    let here : IsAfterIn setting reader (Refused code place) bytes = subst (λ (s : ReaderState). IsAfterIn setting reader s bytes) e a in
     sym (ap (reads setting) (append-nil bytes)) ∙ here []
 
 -- ---- a whole text, where a step decides it

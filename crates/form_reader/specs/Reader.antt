@@ -6,8 +6,8 @@ use Rattle.lisp_reading.specs.declared.limits.Limits.{Limits}
 use Rattle.form_reader.specs.declared.stage.Stage.{Stage}
 use Rattle.form_reader.specs.declared.stage.Stage.TheVariants.{Object as AtObject}
 use Rattle.form_reader.specs.declared.reader.FormReader.{FormReader}
-use Rattle.form_reader.specs.declared.reader.State.{State}
-use Rattle.form_reader.specs.declared.reader.State.TheVariants.{Open, Refused, OutOfMemory}
+use Rattle.form_reader.specs.declared.reader.ReaderState.{ReaderState}
+use Rattle.form_reader.specs.declared.reader.ReaderState.TheVariants.{Open, Refused, OutOfMemory}
 use Rattle.form_reader.specs.declared.reader.Advance.{Advance}
 use Rattle.form_reader.specs.declared.reader.Advance.TheVariants.{More as AdvanceMore, Form as AdvanceForm, Refused as AdvanceRefused}
 use Rattle.form_reader.specs.declared.ending.ReadOutcome.{ReadOutcome}
@@ -74,7 +74,7 @@ LeavesBetween new _ = Unit {0}
 
 -- The reader is after these bytes, in this setting: what is read of them, with any text after them, is what it stands for with
 -- this text. A reader that ran out of memory is after no bytes.
-abbrev pub IsAfterIn : Setting → FormReader → State → List ℕ → Type 0
+abbrev pub IsAfterIn : Setting → FormReader → ReaderState → List ℕ → Type 0
 IsAfterIn setting reader (Open stage) bytes =
     (fed reader ≡ length bytes)
     × ((cs : List ℕ) → reads setting (bytes ++ cs) ≡ rest_of setting reader.frames stage reader.start reader.at cs)

@@ -1,7 +1,7 @@
 //! A reader that takes a text one byte at a time.
 ghost use Rattle.std.specs.Prelude.{◌≡◌, IsTrue};
 ghost use Rattle.form_reader.specs.Standing.{is_standing};
-ghost use Rattle.form_reader.specs.declared.reader.State.TheVariants.{Refused, OutOfMemory};
+ghost use Rattle.form_reader.specs.declared.reader.ReaderState.TheVariants.{Refused, OutOfMemory};
 
 use crate::ending::{ReadOutcome, last_outcome};
 use crate::frame::Frames;
@@ -25,13 +25,13 @@ pub struct FormReader {
     start: usize,
     at: usize,
     frames: Frames,
-    state: State,
+    state: ReaderState,
     ghost standing: { IsTrue (is_standing limits frames at state) },
 }
 
 /// Where a reader is.
 #[derive(Drop)]
-pub enum State {
+pub enum ReaderState {
     /// In a form: where it is in the innermost call.
     Open(Stage),
     /// It refused the text, with this number, at this place.
@@ -85,7 +85,7 @@ impl FormReader {
             start: 0,
             at: 0,
             frames: Frames::new(alloc),
-            state: State::Open(Stage::Object),
+            state: ReaderState::Open(Stage::Object),
         }
     }
 
@@ -149,7 +149,7 @@ impl FormReader {
             macros,
         };
         match &mut self.state {
-            State::Open(stage) => match in_place(&with, &self.frames, stage, self.at, byte) {
+            ReaderState::Open(stage) => match in_place(&with, &self.frames, stage, self.at, byte) {
                 Ok(InPlace::Taken) => {
                     self.at += 1;
                     Ok(Advance::More)
@@ -170,11 +170,11 @@ impl FormReader {
                     Err(error)
                 }
             },
-            State::Refused(code, at) => {
+            ReaderState::Refused(code, at) => {
                 let (code, at) = (*code, *at);
                 Ok(Advance::Refused { code, at })
             }
-            State::OutOfMemory => Err(AllocError),
+            ReaderState::OutOfMemory => Err(AllocError),
         }
     }
 
@@ -202,13 +202,13 @@ impl FormReader {
             → begun self.new ≡ fed self.new → IsBetween self.new }
     {
         // Until the byte has come to something: where that fails, the reader answers the same again.
-        match mem::replace(&mut self.state, State::OutOfMemory) {
-            State::Open(stage) => {
+        match mem::replace(&mut self.state, ReaderState::OutOfMemory) {
+            ReaderState::Open(stage) => {
                 let next = take_byte(with, &mut self.frames, stage, self.start, self.at, byte)?;
                 Ok(self.take(next))
             }
-            State::Refused(..) => unreachable!(),
-            State::OutOfMemory => unreachable!(),
+            ReaderState::Refused(..) => unreachable!(),
+            ReaderState::OutOfMemory => unreachable!(),
         }
     }
 
@@ -224,13 +224,13 @@ impl FormReader {
             Turn::Goes(start, at, stage) => {
                 self.start = start;
                 self.at = at;
-                self.state = State::Open(stage);
+                self.state = ReaderState::Open(stage);
                 Advance::More
             }
             Turn::Form(x, start, end, next) => {
                 self.start = 0;
                 self.at = 0;
-                self.state = State::Open(Stage::Object);
+                self.state = ReaderState::Open(Stage::Object);
                 Advance::Form {
                     datum: x.into_sound_datum(),
                     start,
@@ -239,7 +239,7 @@ impl FormReader {
                 }
             }
             Turn::Refused(code, at) => {
-                self.state = State::Refused(code, at);
+                self.state = ReaderState::Refused(code, at);
                 Advance::Refused { code, at }
             }
         }
@@ -278,7 +278,7 @@ impl FormReader {
             state,
         } = self;
         match state {
-            State::Open(stage) => {
+            ReaderState::Open(stage) => {
                 let with = Surroundings {
                     alloc,
                     limits,
@@ -289,24 +289,24 @@ impl FormReader {
                 };
                 last_outcome(&with, &mut frames, stage, start, at)
             }
-            State::Refused(code, at) => Ok(ReadOutcome::Refused { code, at }),
-            State::OutOfMemory => Err(AllocError),
+            ReaderState::Refused(code, at) => Ok(ReadOutcome::Refused { code, at }),
+            ReaderState::OutOfMemory => Err(AllocError),
         }
     }
 }
 
 /// The reader refused the text here.
 #[inline(never)]
-fn refuse(state: &mut State, code: u16, place: usize)
+fn refuse(state: &mut ReaderState, code: u16, place: usize)
     ensures { state.new ≡ Refused code place }
 {
-    *state = State::Refused(code, place);
+    *state = ReaderState::Refused(code, place);
 }
 
 /// The reader ran out of memory.
 #[inline(never)]
-fn run_out(state: &mut State)
+fn run_out(state: &mut ReaderState)
     ensures { state.new ≡ OutOfMemory }
 {
-    *state = State::OutOfMemory;
+    *state = ReaderState::OutOfMemory;
 }

@@ -1,5 +1,5 @@
 use Rattle.std.proofs.Common.{◌≡◌, [], sym, subst, ◌∙◌, refl}
-use Rattle.form_reader.specs.declared.reader.State.{State}
+use Rattle.form_reader.specs.declared.reader.ReaderState.{ReaderState}
 use Rattle.form_reader.specs.declared.reader.Advance.TheVariants.{More as AdvanceMore}
 use Rattle.form_reader.specs.Surrounding.{setting_with}
 use Rattle.form_reader.specs.Reader.{IsAfterIn}
@@ -11,7 +11,7 @@ pub returns-clause-steps : goal.returns-clause-steps
 returns-clause-steps g c = λ bytes after.
     let setting = setting_with (g.R.MacroFunctions.registered c.args.with.now.macros.now) g.R.Meaning.Meaning.way g.R.Meaning.Meaning.answer c.args.with.now in
     stepped setting c.args.self.now _ c.take.new.self c.in-Open.stage bytes c.args.byte c.take_byte.new.frames c.in_ok-next-in-Open.next c.take.result
-    (subst (λ (s : State). IsAfterIn setting c.args.self.now s bytes) (sym c.replace.ensures.value ∙ c.in-Open.is) after)
+    (subst (λ (s : ReaderState). IsAfterIn setting c.args.self.now s bytes) (sym c.replace.ensures.value ∙ c.in-Open.is) after)
     c.in_ok-next-in-Open.ensures.turns c.in_ok-next-in-Open.ensures.ready c.take.ensures.takes refl
 
 pub returns-clause-between_forms : goal.returns-clause-between_forms
