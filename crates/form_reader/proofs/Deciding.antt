@@ -30,7 +30,7 @@ use Rattle.lisp_reading.specs.Gathering.{text_turn, kept, line_turn, block_turn}
 use Rattle.lisp_reading.specs.Reading.{Piece, Outcome, form, empty, refused, at_place, closed, or_closed, place_turn, place, stands_alone, alone, inner, attempt, reads, number_after, sub_there, dispatched}
 use Rattle.form_reader.specs.Resuming.{IsStageAt, inner_at, stage_gives}
 use Rattle.form_reader.specs.Reader.{MayGoOn, DecideNothing}
-use Rattle.form_reader.specs.Turning.{outcome_of, rest_of}
+use Rattle.form_reader.specs.Changing.{outcome_of, rest_of}
 use Rattle.form_reader.proofs.FedTokens.{cut, refused_cut}
 use Rattle.lisp_reading.proofs.Faults.{decided}
 use Rattle.lisp_reading.proofs.Fed.{number_ends}

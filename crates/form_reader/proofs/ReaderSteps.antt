@@ -1,4 +1,4 @@
--- What a step and the end of the text are to a reader, from what a turn is to the outcome.
+-- What a step and the end of the text are to a reader, from what a change is to the outcome.
 use Rattle.std.proofs.Common.{◌≡◌, ℕ, ◌+◌, ◌≤◌, true, List, [], ◌∷◌, ◌++◌, length, Result, Ok, Err, IfOk, take, drop, sym, ap, subst, ◌∙◌, append_assoc, append-nil, length-append, arith}
 use Rattle.std.proofs.lemmas.List.{take-append-drop}
 use Rattle.lisp_object.specs.declared.datum.Datum.{Datum}
@@ -13,8 +13,8 @@ use Rattle.form_reader.specs.declared.reader.Advance.{Advance}
 use Rattle.form_reader.specs.declared.reader.Advance.TheVariants.{More as AdvanceMore, Form as AdvanceForm, Refused as AdvanceRefused}
 use Rattle.form_reader.specs.declared.stage.Stage.{Stage}
 use Rattle.form_reader.specs.declared.stage.Stage.TheVariants.{Object as AtObject}
-use Rattle.form_reader.specs.declared.turn.Turn.{Turn}
-use Rattle.form_reader.specs.declared.turn.Turn.TheVariants.{Goes, Form as TurnForm, Refused as TurnRefused}
+use Rattle.form_reader.specs.declared.change.Change.{Change}
+use Rattle.form_reader.specs.declared.change.Change.TheVariants.{Goes, Form as ChangeForm, Refused as ChangeRefused}
 use Rattle.lisp_reading.specs.declared.found.Found.{Found}
 use Rattle.lisp_reading.specs.declared.found.Found.TheVariants.{Nothing as nothing, One as one, LoneDot as lone_dot, TheEnd as the_end}
 use Rattle.lisp_reading.specs.Plans.{Read}
@@ -28,7 +28,7 @@ use Rattle.lisp_reading.specs.Reading.{form, refused, reads}
 use Rattle.form_reader.specs.declared.in_place.InPlace.{InPlace}
 use Rattle.form_reader.specs.declared.in_place.InPlace.TheVariants.{Taken as InPlaceTaken, Passed as InPlacePassed, Left as InPlaceLeft, Refused as InPlaceRefused}
 use Rattle.form_reader.specs.InPlace.{FeedsInPlace, IsReadyInPlace}
-use Rattle.form_reader.specs.Turning.{outcome_of, rest_of, TurnsTo, IsStanding, IsReadyTurn, BeginsFrom}
+use Rattle.form_reader.specs.Changing.{outcome_of, rest_of, ChangesTo, IsStanding, IsReadyChange, BeginsFrom}
 use Rattle.form_reader.specs.Reader.{fed, begun, MayGoOn, DecideNothing, IsNew, IsAfter, IsAfterIn, Steps, BeginsLater, IsSoundStep, Becomes}
 use Rattle.form_reader.proofs.Deciding.{may_go_on, decide_nothing}
 use Rattle.lisp_reading.proofs.Forms.{reads_is, stood}
@@ -88,9 +88,9 @@ module _ (setting : Setting) (old mid new : FormReader) (stage : Stage) (bytes :
       → (cs : List ℕ) → reads setting (fed_now ++ cs) ≡ refused code place
   gave_up code place a same cs = one_more a cs ∙ same cs
 
-  pub stepped : (turn : Turn) (step : Advance) → IsAfterIn setting old (Open stage) bytes
-      → ((cs : List ℕ) → TurnsTo setting after cs turn (rest_of setting old.frames stage old.start old.at (byte ∷ cs)))
-      → IsReadyTurn setting.limits after (old.start + old.at + 1) turn → Becomes turn mid new step → mid.frames ≡ after → Steps setting new fed_now step
+  pub stepped : (change : Change) (step : Advance) → IsAfterIn setting old (Open stage) bytes
+      → ((cs : List ℕ) → ChangesTo setting after cs change (rest_of setting old.frames stage old.start old.at (byte ∷ cs)))
+      → IsReadyChange setting.limits after (old.start + old.at + 1) change → Becomes change mid new step → mid.frames ≡ after → Steps setting new fed_now step
   stepped (Goes start at st) step a turns ready takes same =
       let many : length fed_now ≡ length bytes + 1 = length-append bytes (byte ∷ []) in
       let rest : (cs : List ℕ) → reads setting (fed_now ++ cs) ≡ rest_of setting new.frames st new.start new.at cs =
@@ -101,7 +101,7 @@ module _ (setting : Setting) (old mid new : FormReader) (stage : Stage) (bytes :
         may_go_on setting after st start at fed_now ready.0.levels ready.0.place (omega (arith, many, ready.1, a.0)) (λ cs. one_more a cs ∙ turns cs),
         decide_nothing setting after st start at fed_now ready.0.levels ready.0.place (omega (arith, many, ready.1, a.0)) (λ cs. one_more a cs ∙ turns cs),
       )
-  stepped (TurnForm x start «end» next) (AdvanceForm datum s e n) a turns ready takes same =
+  stepped (ChangeForm x start «end» next) (AdvanceForm datum s e n) a turns ready takes same =
       let many : length fed_now ≡ length bytes + 1 = length-append bytes (byte ∷ []) in
       let new_form : IsNew new = record { start = takes.5; at = takes.6; frames = takes.7 ∙ same ∙ (turns []).1; state = takes.8 } in (
         λ cs. one_more a cs ∙ (turns cs).0 ∙ (λ i. form (sym takes.0 i) (sym takes.2 i) (sym takes.3 i) (sym takes.4 i)),
@@ -111,9 +111,9 @@ module _ (setting : Setting) (old mid new : FormReader) (stage : Stage) (bytes :
         new_form,
         λ later. new_after later new new_form,
       )
-  stepped (TurnForm x start «end» next) AdvanceMore a turns ready takes same = absurd takes
-  stepped (TurnForm x start «end» next) (AdvanceRefused code place) a turns ready takes same = absurd takes
-  stepped (TurnRefused code place) step a turns ready takes same =
+  stepped (ChangeForm x start «end» next) AdvanceMore a turns ready takes same = absurd takes
+  stepped (ChangeForm x start «end» next) (AdvanceRefused code place) a turns ready takes same = absurd takes
+  stepped (ChangeRefused code place) step a turns ready takes same =
       subst (λ (s : Advance). Steps setting new fed_now s) (sym takes.0) (λ cs. one_more a cs ∙ turns cs, takes.1)
 
 -- a byte that is taken in its place, one that is left, and one that is refused there
@@ -143,22 +143,22 @@ module _ (setting : Setting) (frames : List Frame) (start at c : ℕ) (old new :
       record { place = omega arith; nesting = standing.nesting; levels = subst (λ (f : InPlace). IsReadyInPlace limits at new f) is ready }
 
 -- at most one byte more was fed
-pub fed_taking : (mid new : FormReader) (after : List Frame) (limits : Limits) (count : ℕ) (turn : Turn) (step : Advance) → Becomes turn mid new step → IsReadyTurn limits after count turn
+pub fed_taking : (mid new : FormReader) (after : List Frame) (limits : Limits) (count : ℕ) (change : Change) (step : Advance) → Becomes change mid new step → IsReadyChange limits after count change
     → mid.start + mid.at + 1 ≡ count → fed new ≤ count
 fed_taking mid new after limits count (Goes start at st) step takes ready many = omega (arith, takes.1, takes.2, ready.1)
-fed_taking mid new after limits count (TurnForm x start «end» next) (AdvanceForm datum s e n) takes ready many = omega (arith, takes.5, takes.6, many)
-fed_taking mid new after limits count (TurnForm x start «end» next) AdvanceMore takes ready many = absurd takes
-fed_taking mid new after limits count (TurnForm x start «end» next) (AdvanceRefused code place) takes ready many = absurd takes
-fed_taking mid new after limits count (TurnRefused code place) step takes ready many = omega (arith, takes.2, takes.3, many)
+fed_taking mid new after limits count (ChangeForm x start «end» next) (AdvanceForm datum s e n) takes ready many = omega (arith, takes.5, takes.6, many)
+fed_taking mid new after limits count (ChangeForm x start «end» next) AdvanceMore takes ready many = absurd takes
+fed_taking mid new after limits count (ChangeForm x start «end» next) (AdvanceRefused code place) takes ready many = absurd takes
+fed_taking mid new after limits count (ChangeRefused code place) step takes ready many = omega (arith, takes.2, takes.3, many)
 
--- what is open after a turn began no earlier
-pub begins_taking : (mid new : FormReader) (turn : Turn) (step : Advance) → Becomes turn mid new step → BeginsFrom mid.start turn → BeginsLater mid new step
+-- what is open after a change began no earlier
+pub begins_taking : (mid new : FormReader) (change : Change) (step : Advance) → Becomes change mid new step → BeginsFrom mid.start change → BeginsLater mid new step
 begins_taking mid new (Goes start at st) step takes from =
     subst (λ (s : Advance). BeginsLater mid new s) (sym takes.0) (omega (arith, takes.1, from), omega (arith, takes.1))
-begins_taking mid new (TurnForm x start «end» next) (AdvanceForm datum s e n) takes from = (omega (arith, takes.2, from), takes.5)
-begins_taking mid new (TurnForm x start «end» next) AdvanceMore takes from = absurd takes
-begins_taking mid new (TurnForm x start «end» next) (AdvanceRefused code place) takes from = absurd takes
-begins_taking mid new (TurnRefused code place) step takes from = subst (λ (s : Advance). BeginsLater mid new s) (sym takes.0) takes.2
+begins_taking mid new (ChangeForm x start «end» next) (AdvanceForm datum s e n) takes from = (omega (arith, takes.2, from), takes.5)
+begins_taking mid new (ChangeForm x start «end» next) AdvanceMore takes from = absurd takes
+begins_taking mid new (ChangeForm x start «end» next) (AdvanceRefused code place) takes from = absurd takes
+begins_taking mid new (ChangeRefused code place) step takes from = subst (λ (s : Advance). BeginsLater mid new s) (sym takes.0) takes.2
 
 -- a form begins where the attempt that is open began, or later
 begins_from : (setting : Setting) (start : ℕ) (r : Read Found) (x : Object) (from «end» next : ℕ) → outcome_of setting start r ≡ form x from «end» next → start ≤ from
@@ -219,13 +219,13 @@ module _ (under : Limits → Setting) (held handed : Limits) (old reader : FormR
       subst (λ (s : Advance). Steps (under handed) reader (front ++ byte ∷ []) s) e (under_limits limits after steps) in
       ap (reads (under handed)) (whole_text same) ∙ told.0 (drop (k + 1) bytes)
 
--- ---- a turn
+-- ---- a change
 
 -- what the attempt came to before the byte is what it gives
-pub done_outcome : (setting : Setting) (frames after : List Frame) (start at c : ℕ) (cs : List ℕ) (passed : Passed) (found : Found) (read : Read Found) (result : Result Turn AllocError)
+pub done_outcome : (setting : Setting) (frames after : List Frame) (start at c : ℕ) (cs : List ℕ) (passed : Passed) (found : Found) (read : Read Found) (result : Result Change AllocError)
     → passed ≡ PassedDone found → Passes setting frames at c cs passed read
-    → IfOk result (λ turn. TurnsTo setting after cs turn (outcome_of setting start (Ok (found, at, c ∷ cs))))
-    → IfOk result (λ turn. TurnsTo setting after cs turn (outcome_of setting start read))
+    → IfOk result (λ change. ChangesTo setting after cs change (outcome_of setting start (Ok (found, at, c ∷ cs))))
+    → IfOk result (λ change. ChangesTo setting after cs change (outcome_of setting start read))
 done_outcome setting frames after start at c cs passed found read result e passes turns =
     let told : Passes setting frames at c cs (PassedDone found) read = subst (λ (p : Passed). Passes setting frames at c cs p read) e passes in
-    subst (λ (r : Read Found). IfOk result (λ turn. TurnsTo setting after cs turn (outcome_of setting start r))) (sym told.0) turns
+    subst (λ (r : Read Found). IfOk result (λ change. ChangesTo setting after cs change (outcome_of setting start r))) (sym told.0) turns

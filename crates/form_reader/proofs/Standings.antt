@@ -10,7 +10,7 @@ use Rattle.form_reader.specs.declared.stage.Stage.{Stage}
 use Rattle.form_reader.specs.declared.stage.Stage.TheVariants.{Object as AtObject, Token as AtToken, CallToken as AtCallToken, Text as AtText, Escaped as AtEscaped, Line as AtLine, Block as AtBlock, Number as AtNumber}
 use Rattle.form_reader.specs.Resuming.{IsStageAt}
 use Rattle.form_reader.specs.Standing.{is_stage_at, is_standing}
-use Rattle.form_reader.specs.Turning.{IsStanding}
+use Rattle.form_reader.specs.Changing.{IsStanding}
 
 both : (a b : Bool) → IsTrue (a && b) → IsTrue a × IsTrue b
 both true b h = (refl, h)

@@ -54,7 +54,7 @@ use Rattle.form_reader.specs.Feeding.{is_going}
 use Rattle.form_reader.specs.Frames.{place_in, part_gives, call_in, given, between, token_goes_on}
 use Rattle.lisp_reading.specs.Reading.{Piece, item, dot, closed, is_whitespace, without_space, at_place, or_closed, place_turn, place, Items, items_step, items_turn, items_after, undotted, after_tail, after_dot, list_end, bytes_back, finished, answered, completed_by, completed, text_to, line_after, block_after, number_after, sub_there, dispatched, told_found, token_found, attempt, Outcome, form, empty, refused}
 use Rattle.form_reader.specs.Resuming.{IsStageAt, inner_at, stage_gives}
-use Rattle.form_reader.specs.Turning.{outcome_of}
+use Rattle.form_reader.specs.Changing.{outcome_of}
 use Rattle.form_reader.proofs.FedTokens.{cut, refused_cut}
 use Rattle.lisp_reading.proofs.Forms.{reads_is, the_end_there}
 

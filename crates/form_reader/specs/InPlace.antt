@@ -1,6 +1,6 @@
 -- What a byte is to where a reader is, where it may be taken in its place: what is open stays open.
 use Rattle.std.specs.Prelude.{ℕ, ◌≡◌, ◌+◌, ◌<◌, ◌&&◌, nat_lt, not, Bool, false, List, ◌∷◌, IsTrue}
-use Rattle.form_reader.specs.Turning.{rest_of}
+use Rattle.form_reader.specs.Changing.{rest_of}
 use Rattle.form_reader.specs.declared.frame.Frame.{Frame}
 use Rattle.form_reader.specs.declared.in_place.InPlace.{InPlace}
 use Rattle.form_reader.specs.declared.in_place.InPlace.TheVariants.{Taken, Passed, Left, Refused}

@@ -12,11 +12,11 @@ use Rattle.form_reader.specs.declared.reader.Advance.{Advance}
 use Rattle.form_reader.specs.declared.reader.Advance.TheVariants.{More as AdvanceMore, Form as AdvanceForm, Refused as AdvanceRefused}
 use Rattle.form_reader.specs.declared.ending.ReadOutcome.{ReadOutcome}
 use Rattle.form_reader.specs.declared.ending.ReadOutcome.TheVariants.{Form as ReadForm, Empty as ReadEmpty, Refused as ReadRefused}
-use Rattle.form_reader.specs.declared.turn.Turn.{Turn}
-use Rattle.form_reader.specs.declared.turn.Turn.TheVariants.{Goes, Form as TurnForm, Refused as TurnRefused}
+use Rattle.form_reader.specs.declared.change.Change.{Change}
+use Rattle.form_reader.specs.declared.change.Change.TheVariants.{Goes, Form as ChangeForm, Refused as ChangeRefused}
 use Rattle.lisp_reading.specs.Setting.{Setting}
 use Rattle.lisp_reading.specs.Reading.{Outcome, form, empty, refused, reads}
-use Rattle.form_reader.specs.Turning.{rest_of}
+use Rattle.form_reader.specs.Changing.{rest_of}
 
 -- the limits under which it reads
 abbrev pub limits_of : FormReader → Limits
@@ -120,13 +120,13 @@ abbrev pub IsSoundStep : Advance → Type 0
 IsSoundStep (AdvanceForm datum start «end» next) = IsSound (object_of datum)
 IsSoundStep _ = Unit {0}
 
--- what a turn makes of a reader, and what is answered
-abbrev pub Becomes : Turn → FormReader → FormReader → Advance → Type 0
+-- what a change makes of a reader, and what is answered
+abbrev pub Becomes : Change → FormReader → FormReader → Advance → Type 0
 Becomes (Goes start at stage) old new step =
     (step ≡ AdvanceMore) × (new.start ≡ start) × (new.at ≡ at) × (new.frames ≡ old.frames) × (new.state ≡ Open stage)
-Becomes (TurnForm x start «end» next) old new (AdvanceForm datum s e n) =
+Becomes (ChangeForm x start «end» next) old new (AdvanceForm datum s e n) =
     (object_of datum ≡ x) × (is_proper datum ≡ true) × (s ≡ start) × (e ≡ «end») × (n ≡ next)
     × (new.start ≡ 0) × (new.at ≡ 0) × (new.frames ≡ old.frames) × (new.state ≡ Open AtObject)
-Becomes (TurnForm x start «end» next) old new _ = ⊥
-Becomes (TurnRefused code place) old new step =
+Becomes (ChangeForm x start «end» next) old new _ = ⊥
+Becomes (ChangeRefused code place) old new step =
     (step ≡ AdvanceRefused code place) × (new.state ≡ Refused code place) × (new.start ≡ old.start) × (new.at ≡ old.at)

@@ -3,7 +3,7 @@ ghost use Rattle.std.specs.Prelude.{◌≡◌, ◌≤◌, ◌<◌, ◌+◌, ◌^
 ghost use Rattle.form_reader.specs.Surrounding.{setting_with};
 ghost use Rattle.form_reader.specs.Resuming.{Moves, stage_gives};
 ghost use Rattle.form_reader.specs.Ready.{IsReadyMove};
-ghost use Rattle.form_reader.specs.Turning.{IsStanding};
+ghost use Rattle.form_reader.specs.Changing.{IsStanding};
 
 use crate::frame::Frames;
 use crate::gathering::{in_block, in_escaped, in_line, in_text};

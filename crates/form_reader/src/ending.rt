@@ -8,12 +8,13 @@ ghost use Rattle.form_reader.specs.declared.stage.Stage.TheVariants.{Object as A
 ghost use Rattle.form_reader.specs.declared.ending.ReadOutcome.TheVariants.{Empty as IsEmpty};
 ghost use Rattle.lisp_reading.specs.declared.found.Found.TheVariants.{TheEnd as the_end};
 ghost use Rattle.form_reader.specs.declared.stage.Event.TheVariants.{Stage as IsAt};
-ghost use Rattle.form_reader.specs.declared.turn.Settled.TheVariants.{Done as IsDone};
+ghost use Rattle.form_reader.specs.declared.change.Settled.TheVariants.{Done as IsDone};
 ghost use Rattle.form_reader.specs.Resuming.{Brings, stage_gives};
-ghost use Rattle.form_reader.specs.Turning.{outcome_of, rest_of, Settles};
+ghost use Rattle.form_reader.specs.Changing.{outcome_of, rest_of, Settles};
 ghost use Rattle.form_reader.specs.Ending.{TokenStops, IsLastEvent, IsLastSettled};
 ghost use Rattle.form_reader.specs.Reader.{IsOutcome};
 
+use crate::change::Settled;
 use crate::deliver::{Delivered, deliver};
 use crate::frame::Frames;
 use crate::objects::token_end;
@@ -21,7 +22,6 @@ use crate::opening::ended;
 use crate::stage::{BegunScan, Event, Stage};
 use crate::surroundings::Surroundings;
 use crate::tokens::refused;
-use crate::turn::Settled;
 use lisp_object::Datum;
 use lisp_object::refusal::{DOT_CONTEXT, END_OF_FILE};
 use lisp_reading::{Found, HeldText, Invoked, Limits};

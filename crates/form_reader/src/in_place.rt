@@ -6,7 +6,7 @@ ghost use Rattle.form_reader.specs.declared.stage.Stage.TheVariants.{Object as A
 ghost use Rattle.form_reader.specs.InPlace.{is_space};
 ghost use Rattle.form_reader.specs.InPlace.{BeginsToken, FeedsInPlace, IsBegunAt, IsReadyInPlace, Stays};
 ghost use Rattle.form_reader.specs.declared.in_place.InPlace.TheVariants.{Passed as IsPassed};
-ghost use Rattle.form_reader.specs.Turning.{rest_of};
+ghost use Rattle.form_reader.specs.Changing.{rest_of};
 
 use crate::attempt::stands_alone;
 use crate::bytes::LineByte;

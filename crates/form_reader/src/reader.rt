@@ -3,12 +3,12 @@ ghost use Rattle.std.specs.Prelude.{◌≡◌, IsTrue};
 ghost use Rattle.form_reader.specs.Standing.{is_standing};
 ghost use Rattle.form_reader.specs.declared.reader.ReaderState.TheVariants.{Refused, OutOfMemory};
 
+use crate::change::{Change, take_byte};
 use crate::ending::{ReadOutcome, last_outcome};
 use crate::frame::Frames;
 use crate::in_place::{InPlace, in_place};
 use crate::stage::Stage;
 use crate::surroundings::Surroundings;
-use crate::turn::{Turn, take_byte};
 use lisp_object::Datum;
 use lisp_reading::Limits;
 use package_table::Packages;
@@ -68,7 +68,7 @@ impl FormReader {
     ghost use Rattle.lisp_reading.specs.Reading.{form, is_whitespace, reads};
     ghost use Rattle.form_reader.specs.declared.reader.Advance.TheVariants.{More as AdvanceMore, Refused as AdvanceRefused};
     ghost use Rattle.form_reader.specs.declared.ending.ReadOutcome.TheVariants.{Empty as ReadEmpty, Refused as ReadRefused};
-    ghost use Rattle.form_reader.specs.Turning.{IsReadyTurn};
+    ghost use Rattle.form_reader.specs.Changing.{IsReadyChange};
     ghost use Rattle.form_reader.specs.Reader.{limits_of, fed, begun, HasRefused, HasNoMemory, IsNew, IsBetween, LeavesBetween, IsAfter, IsOpen, Steps, Counts, BeginsLater, IsSoundStep, Becomes, IsOutcome};
 
     /// A reader that was fed nothing, between forms. It keeps `alloc` for what it gathers.
@@ -214,20 +214,20 @@ impl FormReader {
 
     /// Becomes what a byte is to the text.
     #[inline(always)]
-    fn take(&mut self, turn: Turn) -> Advance
-        requires ready { IsReadyTurn (limits_of self.old) self.old.frames (fed self.old + 1) turn }
+    fn take(&mut self, change: Change) -> Advance
+        requires ready { IsReadyChange (limits_of self.old) self.old.frames (fed self.old + 1) change }
         ensures limits { limits_of self.new ≡ limits_of self.old }
-        ensures takes { Becomes turn self.old self.new result }
+        ensures takes { Becomes change self.old self.new result }
         ensures sound { IsSoundStep result }
     {
-        match turn {
-            Turn::Goes(start, at, stage) => {
+        match change {
+            Change::Goes(start, at, stage) => {
                 self.start = start;
                 self.at = at;
                 self.state = ReaderState::Open(stage);
                 Advance::More
             }
-            Turn::Form(x, start, end, next) => {
+            Change::Form(x, start, end, next) => {
                 self.start = 0;
                 self.at = 0;
                 self.state = ReaderState::Open(Stage::Object);
@@ -238,7 +238,7 @@ impl FormReader {
                     next,
                 }
             }
-            Turn::Refused(code, at) => {
+            Change::Refused(code, at) => {
                 self.state = ReaderState::Refused(code, at);
                 Advance::Refused { code, at }
             }

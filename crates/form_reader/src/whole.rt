@@ -8,7 +8,7 @@ ghost use Rattle.lisp_reading.specs.Reading.{is_whitespace, reads};
 ghost use Rattle.form_reader.specs.Reader.{IsOutcome};
 
 use crate::ending::ReadOutcome;
-use crate::reader::{FormReader, Advance};
+use crate::reader::{Advance, FormReader};
 use lisp_reading::Limits;
 use package_table::Packages;
 use readtable_core::Readtable;
