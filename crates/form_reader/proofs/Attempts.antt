@@ -96,7 +96,7 @@ module _ (setting : Setting) (at c : ℕ) (cs : List ℕ) where
       ∙ given_moves setting fs _ _ at at (c ∷ cs) (c ∷ cs) (passed f fs (close_of f.part) other)
       ∙ ap (λ (n : ℕ). run setting.table setting.limits (given setting (f ∷ fs) (attempt setting n)) at (c ∷ cs)) e
 
-  -- the open calls round an attempt
+  -- the open calls that an attempt is in
   round_is : (frames : List Frame) → length frames ≤ setting.limits.nesting
       → run setting.table setting.limits (given setting frames (attempt_at setting (length frames))) at (c ∷ cs)
       ≡ run setting.table setting.limits (given setting frames (attempt_by setting (length frames) (inner_at setting (length frames)))) at (c ∷ cs)

@@ -56,10 +56,10 @@ module _ (setting : Setting) (frames : List Frame) (call : InvokedCall) (at : �
       subst (λ (r : Read Found). IfOk result (λ event. Brings setting frames at cs event r)) ((λ i. completing (dotted (same i) (ends i))) ∙ sym (ap closing e)) brings
 
 -- what the call gives, whether a token ends it or not
-pub call_ends : (setting : Setting) (frames : List Frame) (call : InvokedCall) (at : ℕ) (cs : List ℕ) (token : Bool) (material : Material) (round : ℕ) (done : Completed) (event : Event)
-    → round ≡ length frames → completed setting round call token false material ≡ plan_of done
+pub call_ends : (setting : Setting) (frames : List Frame) (call : InvokedCall) (at : ℕ) (cs : List ℕ) (token : Bool) (material : Material) (depth : ℕ) (done : Completed) (event : Event)
+    → depth ≡ length frames → completed setting depth call token false material ≡ plan_of done
     → ComesTo setting frames done at cs event → Brings setting frames at cs event (plan_gives setting frames (completed setting (length frames) call token false material) at cs)
-call_ends setting frames call at cs token material round done event open_calls comes brings =
+call_ends setting frames call at cs token material depth done event open_calls comes brings =
     let same : completed setting (length frames) call token false material ≡ plan_of done =
     ap (λ (n : ℕ). completed setting n call token false material) (sym open_calls) ∙ comes in
     subst (λ (plan : Plan Found). Brings setting frames at cs event (plan_gives setting frames plan at cs)) (sym same) brings

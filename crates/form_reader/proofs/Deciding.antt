@@ -30,7 +30,7 @@ use Rattle.lisp_reading.specs.Gathering.{text_turn, kept, line_turn, block_turn}
 use Rattle.lisp_reading.specs.Reading.{Piece, Outcome, form, empty, refused, at_place, closed, or_closed, place_turn, place, stands_alone, alone, inner, attempt, reads, number_after, sub_there, dispatched}
 use Rattle.form_reader.specs.Resuming.{IsStageAt, inner_at, stage_gives}
 use Rattle.form_reader.specs.Reader.{MayGoOn, DecideNothing}
-use Rattle.form_reader.specs.Turning.{outcome_of, rest_of}
+use Rattle.form_reader.specs.Changing.{outcome_of, rest_of}
 use Rattle.form_reader.proofs.FedTokens.{cut, refused_cut}
 use Rattle.lisp_reading.proofs.Faults.{decided}
 use Rattle.lisp_reading.proofs.Fed.{number_ends}
@@ -134,11 +134,11 @@ module _ (setting : Setting) (frames : List Frame) (at c : ℕ) where
     -- ---- where an object may begin
 
     module _ (alien : entry_at setting.table c ≡ no_entry) where
-      attempt_fails : (depth : ℕ) → Fails at (reading (attempt setting depth))
-      attempt_fails depth =
+      attempt_fails : (room : ℕ) → Fails at (reading (attempt setting room))
+      attempt_fails room =
           taken_fails setting.table setting.limits _ (λ d. stands_alone (entry_at setting.table d).syntax)
-          (λ d. alone setting (setting.limits.nesting - depth) (inner setting depth) d (entry_at setting.table d).syntax) at c INVALID_CHARACTER refl
-          (ap (λ (e : CharacterEntry). stands_alone e.syntax) alien) (ap (λ (e : CharacterEntry). alone setting (setting.limits.nesting - depth) (inner setting depth) c e.syntax) alien)
+          (λ d. alone setting (setting.limits.nesting - room) (inner setting room) d (entry_at setting.table d).syntax) at c INVALID_CHARACTER refl
+          (ap (λ (e : CharacterEntry). stands_alone e.syntax) alien) (ap (λ (e : CharacterEntry). alone setting (setting.limits.nesting - room) (inner setting room) c e.syntax) alien)
 
       then_fails : {A B : Type 0} (plan : Plan A) (on : A → Plan B) → Fails at (reading plan) → Fails at (reading (then_plan plan on))
       then_fails plan on h = (h.0, run_then setting.table setting.limits plan on at (c ∷ []) ∙ ap (and_then setting.table setting.limits on) h.1, h.2)
@@ -147,13 +147,13 @@ module _ (setting : Setting) (frames : List Frame) (at c : ℕ) where
       closed_fails None plan other h = h
       closed_fails (Some k) plan other h = (h.0, passed setting.table setting.limits plan (λ d. d == k) (λ d. gives closed) at c (ne_eqb c k (λ e. omega (arith, e, other))) ∙ h.1, h.2)
 
-      place_fails : (depth : ℕ) (close : Option ℕ) → unwrap_or close 0 < c → Fails at (reading (place setting close (attempt setting depth)))
-      place_fails depth close other =
-          let may = attempt setting depth in
+      place_fails : (room : ℕ) (close : Option ℕ) → unwrap_or close 0 < c → Fails at (reading (place setting close (attempt setting room)))
+      place_fails room close other =
+          let may = attempt setting room in
           let again : Unit {0} → Plan Piece = λ u. place setting close may in
           let turn = then_plan may (λ found. at_place setting.table (again tt) found) in
           subst (Fails at) (sym (loop_is setting.table setting.limits (place_turn setting.table close may) (place_guarded setting.table setting.limits close may (attempt_ends setting _ _)) tt at (c ∷ []) le))
-          (closed_fails close turn other (then_fails may (λ found. at_place setting.table (again tt) found) (attempt_fails depth)))
+          (closed_fails close turn other (then_fails may (λ found. at_place setting.table (again tt) found) (attempt_fails room)))
 
 -- where the innermost call looks for this character
 between_fails : (setting : Setting) (frames : List Frame) (at c : ℕ) → at ≤ setting.limits.text → IsAlien setting (close_of_frames frames) c

@@ -227,11 +227,11 @@ module _ (setting : Setting) (at : ℕ) (cs : List ℕ) where
       by (Some new) n = let never : Some (calls new) ≡ None = sym (ap (option_map calls) n) ∙ e in cc
 
   -- it waited for its one object
-  pub next_comes : (old frames : List Frame) (call : InvokedCall) (token : Bool) (x y : Object) (round : ℕ) (done : Completed) (taken : Taken) → old ≡ record { call = call; part = InNext } ∷ frames
-      → round ≡ length frames → y ≡ x → completed setting round call token token (one_object y) ≡ plan_of done
+  pub next_comes : (old frames : List Frame) (call : InvokedCall) (token : Bool) (x y : Object) (depth : ℕ) (done : Completed) (taken : Taken) → old ≡ record { call = call; part = InNext } ∷ frames
+      → depth ≡ length frames → y ≡ x → completed setting depth call token token (one_object y) ≡ plan_of done
       → Takes setting frames at cs taken (run setting.table setting.limits (given setting frames (plan_of done)) at cs)
       → Takes setting frames at cs taken (found_in old (one token x))
-  next_comes old frames call token x y round done taken is open_calls same comes takes =
+  next_comes old frames call token x y depth done taken is open_calls same comes takes =
       let whole : found_in old (one token x) ≡ run setting.table setting.limits (given setting frames (plan_of done)) at cs =
       ap (λ (fs : List Frame). found_in fs (one token x)) is ∙ one_in_next setting frames call at cs token x
       ∙ ap (λ (plan : Plan Found). run setting.table setting.limits (given setting frames plan) at cs)

@@ -16,8 +16,8 @@ use Rattle.form_reader.specs.declared.deliver.Delivered.TheVariants.{Waits}
 use Rattle.form_reader.specs.declared.ending.ReadOutcome.{ReadOutcome}
 use Rattle.form_reader.specs.declared.stage.Event.TheVariants.{Gives as IsGiven}
 use Rattle.form_reader.specs.declared.stage.Stage.{Stage}
-use Rattle.form_reader.specs.declared.turn.Settled.{Settled}
-use Rattle.form_reader.specs.declared.turn.Settled.TheVariants.{Done as SettledDone}
+use Rattle.form_reader.specs.declared.change.Settled.{Settled}
+use Rattle.form_reader.specs.declared.change.Settled.TheVariants.{Done as SettledDone}
 use Rattle.form_reader.specs.Delivering.{Delivers}
 use Rattle.form_reader.specs.Reader.{IsOutcome}
 use Rattle.lisp_reading.specs.Plans.{Plan, gives, then_plan, next_byte, loop, Read, fault, run}
@@ -28,7 +28,7 @@ use Rattle.form_reader.specs.Feeding.{token_read}
 use Rattle.form_reader.specs.Frames.{attempt_in, place_in, call_in, close_of, given, between, token_goes_on}
 use Rattle.form_reader.specs.Resuming.{inner_at, stage_gives, Brings}
 use Rattle.form_reader.specs.Ending.{TokenStops}
-use Rattle.form_reader.specs.Turning.{outcome_of, Settles}
+use Rattle.form_reader.specs.Changing.{outcome_of, Settles}
 use Rattle.form_reader.proofs.Deliveries.{delivered}
 use Rattle.lisp_reading.proofs.Forms.{reads_is, the_end_there}
 use Rattle.lisp_reading.proofs.Steps.{and_then, run_then}

@@ -12,7 +12,7 @@ use Rattle.token_scan.specs.declared.mark.Mark.{Mark}
 use Rattle.token_scan.specs.Tokens.{kind, typed}
 use Rattle.token_scan.specs.Spelling.{ends_tokens}
 use Rattle.token_scan.specs.Scans.{Scan, begun}
-use Rattle.form_reader.specs.InPlace.{Begins, Stays}
+use Rattle.form_reader.specs.InPlace.{BeginsToken, Stays}
 use Rattle.lisp_reading.specs.declared.found.Found.{Found}
 use Rattle.form_reader.specs.declared.frame.Frame.{Frame}
 use Rattle.form_reader.specs.declared.macros.Moved.{Moved}
@@ -141,17 +141,17 @@ module _ (setting : Setting) (at c : ℕ) (cs : List ℕ) where
 pub object_begins : (setting : Setting) (at c : ℕ) (cs : List ℕ) (frames : List Frame) (scan : Scan) → at ≤ setting.limits.text → length frames ≤ setting.limits.nesting
     → ((close : ℕ) → close_of_frames frames ≡ Some close → (c == close) ≡ false) → stands_alone (entry_at setting.table c).syntax ≡ false
     → token_read setting.table setting.limits (begun setting.limits.token) at (c ∷ cs) ≡ token_read setting.table setting.limits scan (at + 1) cs
-    → Begins setting frames at c cs scan
+    → BeginsToken setting frames at c cs scan
 object_begins setting at c cs frames scan h le other alone same =
     attempts setting at c cs frames h other ∙ token_goes setting at c cs frames (token_read setting.table setting.limits scan (at + 1) cs) le alone same
 
 -- the same where it is known where the reader is, and that a token begins
 pub begun_there : (setting : Setting) (frames : List Frame) (at c : ℕ) (cs : List ℕ) (stage : Stage) (scan : Scan) (found : Option Scan) → stage ≡ AtObject
-    → found ≡ Some scan → IfSome found (λ s. Begins setting frames at c cs s)
+    → found ≡ Some scan → IfSome found (λ s. BeginsToken setting frames at c cs s)
     → stage_gives setting frames stage at (c ∷ cs) ≡ stage_gives setting frames (AtToken scan) (at + 1) cs
 begun_there setting frames at c cs stage scan found is some begins =
     ap (λ (s : Stage). stage_gives setting frames s at (c ∷ cs)) is
-    ∙ subst (λ (o : Option Scan). IfSome o (λ s. Begins setting frames at c cs s)) some begins
+    ∙ subst (λ (o : Option Scan). IfSome o (λ s. BeginsToken setting frames at c cs s)) some begins
 
 -- whitespace is discarded in an open call
 pub blank_stays : (setting : Setting) (at c : ℕ) (cs : List ℕ) (frames : List Frame) → at < setting.limits.text → length frames ≤ setting.limits.nesting → 0 < length frames

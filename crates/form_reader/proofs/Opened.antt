@@ -34,7 +34,7 @@ then_twice table limits p next last at cs =
     ∙ and_then_twice table limits next last (run table limits p at cs)
     ∙ sym (run_then table limits p (λ x. then_plan (next x) last) at cs)
 
--- What one call gives, all the open calls round it go on with. So each law of a plan is a law of a reader in any open calls.
+-- What one call gives, all the calls that it is open in go on with. So each law of a plan is a law of a reader in any open calls.
 pub given_moves : (setting : Setting) (frames : List Frame) (p q : Plan Found) (at to : ℕ) (cs ds : List ℕ)
     → run setting.table setting.limits p at cs ≡ run setting.table setting.limits q to ds
     → run setting.table setting.limits (given setting frames p) at cs ≡ run setting.table setting.limits (given setting frames q) to ds

@@ -1,4 +1,4 @@
--- What a step and the end of the text are to a reader, from what a turn is to the outcome.
+-- What a step and the end of the text are to a reader, from what a change is to the outcome.
 use Rattle.std.proofs.Common.{◌≡◌, ℕ, ◌+◌, ◌≤◌, true, List, [], ◌∷◌, ◌++◌, length, Result, Ok, Err, IfOk, take, drop, sym, ap, subst, ◌∙◌, append_assoc, append-nil, length-append, arith}
 use Rattle.std.proofs.lemmas.List.{take-append-drop}
 use Rattle.lisp_object.specs.declared.datum.Datum.{Datum}
@@ -7,14 +7,14 @@ use Rattle.lisp_object.specs.Datum.{object_of, is_proper}
 use Rattle.form_reader.specs.declared.frame.Frame.{Frame}
 use Rattle.lisp_reading.specs.declared.limits.Limits.{Limits}
 use Rattle.form_reader.specs.declared.reader.FormReader.{FormReader}
-use Rattle.form_reader.specs.declared.reader.ReaderState.{State}
+use Rattle.form_reader.specs.declared.reader.ReaderState.{ReaderState}
 use Rattle.form_reader.specs.declared.reader.ReaderState.TheVariants.{Open, Refused, OutOfMemory}
-use Rattle.form_reader.specs.declared.reader.Step.{Step}
-use Rattle.form_reader.specs.declared.reader.Step.TheVariants.{More as StepMore, Form as StepForm, Refused as StepRefused}
+use Rattle.form_reader.specs.declared.reader.Advance.{Advance}
+use Rattle.form_reader.specs.declared.reader.Advance.TheVariants.{More as AdvanceMore, Form as AdvanceForm, Refused as AdvanceRefused}
 use Rattle.form_reader.specs.declared.stage.Stage.{Stage}
 use Rattle.form_reader.specs.declared.stage.Stage.TheVariants.{Object as AtObject}
-use Rattle.form_reader.specs.declared.turn.Turn.{Turn}
-use Rattle.form_reader.specs.declared.turn.Turn.TheVariants.{Goes, Form as TurnForm, Refused as TurnRefused}
+use Rattle.form_reader.specs.declared.change.Change.{Change}
+use Rattle.form_reader.specs.declared.change.Change.TheVariants.{Goes, Form as ChangeForm, Refused as ChangeRefused}
 use Rattle.lisp_reading.specs.declared.found.Found.{Found}
 use Rattle.lisp_reading.specs.declared.found.Found.TheVariants.{Nothing as nothing, One as one, LoneDot as lone_dot, TheEnd as the_end}
 use Rattle.lisp_reading.specs.Plans.{Read}
@@ -28,8 +28,8 @@ use Rattle.lisp_reading.specs.Reading.{form, refused, reads}
 use Rattle.form_reader.specs.declared.in_place.InPlace.{InPlace}
 use Rattle.form_reader.specs.declared.in_place.InPlace.TheVariants.{Taken as InPlaceTaken, Passed as InPlacePassed, Left as InPlaceLeft, Refused as InPlaceRefused}
 use Rattle.form_reader.specs.InPlace.{FeedsInPlace, IsReadyInPlace}
-use Rattle.form_reader.specs.Turning.{outcome_of, rest_of, TurnsTo, IsStanding, IsReadyTurn, BeginsFrom}
-use Rattle.form_reader.specs.Reader.{fed, begun, MayGoOn, DecideNothing, IsNew, IsAfter, IsAfterIn, Steps, BeginsLater, IsSoundStep, Takes}
+use Rattle.form_reader.specs.Changing.{outcome_of, rest_of, ChangesTo, IsStanding, IsReadyChange, BeginsFrom}
+use Rattle.form_reader.specs.Reader.{fed, begun, MayGoOn, DecideNothing, IsNew, IsAfter, IsAfterIn, Steps, BeginsLater, IsSoundStep, Becomes}
 use Rattle.form_reader.proofs.Deciding.{may_go_on, decide_nothing}
 use Rattle.lisp_reading.proofs.Forms.{reads_is, stood}
 
@@ -40,7 +40,7 @@ new_rest setting frames none cs = reads_is setting 0 cs ∙ ap (λ (fs : List Fr
 
 pub new_after : (setting : Setting) (reader : FormReader) → IsNew reader → IsAfter setting reader []
 new_after setting reader n =
-    subst (λ (s : State). IsAfterIn setting reader s []) (sym n.state)
+    subst (λ (s : ReaderState). IsAfterIn setting reader s []) (sym n.state)
     (omega (arith, n.start, n.at), λ cs. new_rest setting reader.frames n.frames cs ∙ (λ i. rest_of setting reader.frames AtObject (sym n.start i) (sym n.at i) cs))
 
 module _ (setting : Setting) (old mid new : FormReader) (stage : Stage) (bytes : List ℕ) (byte : ℕ) (after : List Frame) where
@@ -88,20 +88,20 @@ module _ (setting : Setting) (old mid new : FormReader) (stage : Stage) (bytes :
       → (cs : List ℕ) → reads setting (fed_now ++ cs) ≡ refused code place
   gave_up code place a same cs = one_more a cs ∙ same cs
 
-  pub stepped : (turn : Turn) (step : Step) → IsAfterIn setting old (Open stage) bytes
-      → ((cs : List ℕ) → TurnsTo setting after cs turn (rest_of setting old.frames stage old.start old.at (byte ∷ cs)))
-      → IsReadyTurn setting.limits after (old.start + old.at + 1) turn → Takes turn mid new step → mid.frames ≡ after → Steps setting new fed_now step
+  pub stepped : (change : Change) (step : Advance) → IsAfterIn setting old (Open stage) bytes
+      → ((cs : List ℕ) → ChangesTo setting after cs change (rest_of setting old.frames stage old.start old.at (byte ∷ cs)))
+      → IsReadyChange setting.limits after (old.start + old.at + 1) change → Becomes change mid new step → mid.frames ≡ after → Steps setting new fed_now step
   stepped (Goes start at st) step a turns ready takes same =
       let many : length fed_now ≡ length bytes + 1 = length-append bytes (byte ∷ []) in
       let rest : (cs : List ℕ) → reads setting (fed_now ++ cs) ≡ rest_of setting new.frames st new.start new.at cs =
       λ cs. one_more a cs ∙ turns cs ∙ (λ i. rest_of setting ((sym same ∙ sym takes.3) i) st (sym takes.1 i) (sym takes.2 i) cs) in
-      subst (λ (s : Step). Steps setting new fed_now s) (sym takes.0) (
-        subst (λ (s : State). IsAfterIn setting new s fed_now) (sym takes.4) (omega (arith, many, takes.1, takes.2, ready.1, a.0), rest),
+      subst (λ (s : Advance). Steps setting new fed_now s) (sym takes.0) (
+        subst (λ (s : ReaderState). IsAfterIn setting new s fed_now) (sym takes.4) (omega (arith, many, takes.1, takes.2, ready.1, a.0), rest),
         omega (arith, many, takes.1, takes.2, ready.1, a.0),
         may_go_on setting after st start at fed_now ready.0.levels ready.0.place (omega (arith, many, ready.1, a.0)) (λ cs. one_more a cs ∙ turns cs),
         decide_nothing setting after st start at fed_now ready.0.levels ready.0.place (omega (arith, many, ready.1, a.0)) (λ cs. one_more a cs ∙ turns cs),
       )
-  stepped (TurnForm x start «end» next) (StepForm datum s e n) a turns ready takes same =
+  stepped (ChangeForm x start «end» next) (AdvanceForm datum s e n) a turns ready takes same =
       let many : length fed_now ≡ length bytes + 1 = length-append bytes (byte ∷ []) in
       let new_form : IsNew new = record { start = takes.5; at = takes.6; frames = takes.7 ∙ same ∙ (turns []).1; state = takes.8 } in (
         λ cs. one_more a cs ∙ (turns cs).0 ∙ (λ i. form (sym takes.0 i) (sym takes.2 i) (sym takes.3 i) (sym takes.4 i)),
@@ -111,10 +111,10 @@ module _ (setting : Setting) (old mid new : FormReader) (stage : Stage) (bytes :
         new_form,
         λ later. new_after later new new_form,
       )
-  stepped (TurnForm x start «end» next) StepMore a turns ready takes same = absurd takes
-  stepped (TurnForm x start «end» next) (StepRefused code place) a turns ready takes same = absurd takes
-  stepped (TurnRefused code place) step a turns ready takes same =
-      subst (λ (s : Step). Steps setting new fed_now s) (sym takes.0) (λ cs. one_more a cs ∙ turns cs, takes.1)
+  stepped (ChangeForm x start «end» next) AdvanceMore a turns ready takes same = absurd takes
+  stepped (ChangeForm x start «end» next) (AdvanceRefused code place) a turns ready takes same = absurd takes
+  stepped (ChangeRefused code place) step a turns ready takes same =
+      subst (λ (s : Advance). Steps setting new fed_now s) (sym takes.0) (λ cs. one_more a cs ∙ turns cs, takes.1)
 
 -- a byte that is taken in its place, one that is left, and one that is refused there
 module _ (setting : Setting) (frames : List Frame) (start at c : ℕ) (old new : Stage) (fed : InPlace) where
@@ -143,22 +143,22 @@ module _ (setting : Setting) (frames : List Frame) (start at c : ℕ) (old new :
       record { place = omega arith; nesting = standing.nesting; levels = subst (λ (f : InPlace). IsReadyInPlace limits at new f) is ready }
 
 -- at most one byte more was fed
-pub fed_taking : (mid new : FormReader) (after : List Frame) (limits : Limits) (count : ℕ) (turn : Turn) (step : Step) → Takes turn mid new step → IsReadyTurn limits after count turn
+pub fed_taking : (mid new : FormReader) (after : List Frame) (limits : Limits) (count : ℕ) (change : Change) (step : Advance) → Becomes change mid new step → IsReadyChange limits after count change
     → mid.start + mid.at + 1 ≡ count → fed new ≤ count
 fed_taking mid new after limits count (Goes start at st) step takes ready many = omega (arith, takes.1, takes.2, ready.1)
-fed_taking mid new after limits count (TurnForm x start «end» next) (StepForm datum s e n) takes ready many = omega (arith, takes.5, takes.6, many)
-fed_taking mid new after limits count (TurnForm x start «end» next) StepMore takes ready many = absurd takes
-fed_taking mid new after limits count (TurnForm x start «end» next) (StepRefused code place) takes ready many = absurd takes
-fed_taking mid new after limits count (TurnRefused code place) step takes ready many = omega (arith, takes.2, takes.3, many)
+fed_taking mid new after limits count (ChangeForm x start «end» next) (AdvanceForm datum s e n) takes ready many = omega (arith, takes.5, takes.6, many)
+fed_taking mid new after limits count (ChangeForm x start «end» next) AdvanceMore takes ready many = absurd takes
+fed_taking mid new after limits count (ChangeForm x start «end» next) (AdvanceRefused code place) takes ready many = absurd takes
+fed_taking mid new after limits count (ChangeRefused code place) step takes ready many = omega (arith, takes.2, takes.3, many)
 
--- what is open after a turn began no earlier
-pub begins_taking : (mid new : FormReader) (turn : Turn) (step : Step) → Takes turn mid new step → BeginsFrom mid.start turn → BeginsLater mid new step
+-- what is open after a change began no earlier
+pub begins_taking : (mid new : FormReader) (change : Change) (step : Advance) → Becomes change mid new step → BeginsFrom mid.start change → BeginsLater mid new step
 begins_taking mid new (Goes start at st) step takes from =
-    subst (λ (s : Step). BeginsLater mid new s) (sym takes.0) (omega (arith, takes.1, from), omega (arith, takes.1))
-begins_taking mid new (TurnForm x start «end» next) (StepForm datum s e n) takes from = (omega (arith, takes.2, from), takes.5)
-begins_taking mid new (TurnForm x start «end» next) StepMore takes from = absurd takes
-begins_taking mid new (TurnForm x start «end» next) (StepRefused code place) takes from = absurd takes
-begins_taking mid new (TurnRefused code place) step takes from = subst (λ (s : Step). BeginsLater mid new s) (sym takes.0) takes.2
+    subst (λ (s : Advance). BeginsLater mid new s) (sym takes.0) (omega (arith, takes.1, from), omega (arith, takes.1))
+begins_taking mid new (ChangeForm x start «end» next) (AdvanceForm datum s e n) takes from = (omega (arith, takes.2, from), takes.5)
+begins_taking mid new (ChangeForm x start «end» next) AdvanceMore takes from = absurd takes
+begins_taking mid new (ChangeForm x start «end» next) (AdvanceRefused code place) takes from = absurd takes
+begins_taking mid new (ChangeRefused code place) step takes from = subst (λ (s : Advance). BeginsLater mid new s) (sym takes.0) takes.2
 
 -- a form begins where the attempt that is open began, or later
 begins_from : (setting : Setting) (start : ℕ) (r : Read Found) (x : Object) (from «end» next : ℕ) → outcome_of setting start r ≡ form x from «end» next → start ≤ from
@@ -174,7 +174,7 @@ pub begun_first : (setting : Setting) (reader : FormReader) (bytes more : List �
     → reads setting (bytes ++ more) ≡ form x start «end» next → begun reader ≤ start
 begun_first setting reader bytes more x start «end» next after e = by reader.state after
   where
-    by : (state : State) → IsAfterIn setting reader state bytes → begun reader ≤ start
+    by : (state : ReaderState) → IsAfterIn setting reader state bytes → begun reader ≤ start
     by (Open stage) a =
         begins_from setting reader.start (stage_gives setting reader.frames stage reader.at more) x start «end» next (sym (a.1 more) ∙ e)
     by (Refused code place) a = let same : refused code place ≡ form x start «end» next = sym (a more) ∙ e in cc
@@ -185,12 +185,12 @@ begun_first setting reader bytes more x start «end» next after e = by reader.s
 pub refused_finishes : (setting : Setting) (reader : FormReader) (bytes : List ℕ) (code place : ℕ) → reader.state ≡ Refused code place → IsAfter setting reader bytes
     → reads setting bytes ≡ refused code place
 refused_finishes setting reader bytes code place e a =
-    let here : IsAfterIn setting reader (Refused code place) bytes = subst (λ (s : State). IsAfterIn setting reader s bytes) e a in
+    let here : IsAfterIn setting reader (Refused code place) bytes = subst (λ (s : ReaderState). IsAfterIn setting reader s bytes) e a in
     sym (ap (reads setting) (append-nil bytes)) ∙ here []
 
 -- ---- a whole text, where a step decides it
 
-module _ (under : Limits → Setting) (held handed : Limits) (old reader : FormReader) (bytes : List ℕ) (k byte : ℕ) (step : Step) where
+module _ (under : Limits → Setting) (held handed : Limits) (old reader : FormReader) (bytes : List ℕ) (k byte : ℕ) (step : Advance) where
   abbrev front : List ℕ
   front = take k bytes
 
@@ -203,29 +203,29 @@ module _ (under : Limits → Setting) (held handed : Limits) (old reader : FormR
   whole_text : take (k + 1) bytes ≡ front ++ byte ∷ [] → bytes ≡ (front ++ byte ∷ []) ++ drop (k + 1) bytes
   whole_text same = sym (take-append-drop (k + 1) bytes) ∙ ap (λ (t : List ℕ). t ++ drop (k + 1) bytes) same
 
-  pub decided_form : (datum : Datum) (start «end» next : ℕ) → step ≡ StepForm datum start «end» next → IsSoundStep step → held ≡ handed → IsAfter (under handed) old front
+  pub decided_form : (datum : Datum) (start «end» next : ℕ) → step ≡ AdvanceForm datum start «end» next → IsSoundStep step → held ≡ handed → IsAfter (under handed) old front
       → (IsAfter (under held) old front → Steps (under held) reader (front ++ byte ∷ []) step) → take (k + 1) bytes ≡ front ++ byte ∷ []
       → (reads (under handed) bytes ≡ form (object_of datum) start «end» next) × (is_proper datum ≡ true) × IsSound (object_of datum)
   decided_form datum start «end» next e sound limits after steps same =
-      let told : Steps (under handed) reader (front ++ byte ∷ []) (StepForm datum start «end» next) =
-      subst (λ (s : Step). Steps (under handed) reader (front ++ byte ∷ []) s) e (under_limits limits after steps) in
+      let told : Steps (under handed) reader (front ++ byte ∷ []) (AdvanceForm datum start «end» next) =
+      subst (λ (s : Advance). Steps (under handed) reader (front ++ byte ∷ []) s) e (under_limits limits after steps) in
       (ap (reads (under handed)) (whole_text same) ∙ told.0 (drop (k + 1) bytes), told.1, subst IsSoundStep e sound)
 
-  pub decided_refusal : (code place : ℕ) → step ≡ StepRefused code place → held ≡ handed → IsAfter (under handed) old front
+  pub decided_refusal : (code place : ℕ) → step ≡ AdvanceRefused code place → held ≡ handed → IsAfter (under handed) old front
       → (IsAfter (under held) old front → Steps (under held) reader (front ++ byte ∷ []) step) → take (k + 1) bytes ≡ front ++ byte ∷ []
       → reads (under handed) bytes ≡ refused code place
   decided_refusal code place e limits after steps same =
-      let told : Steps (under handed) reader (front ++ byte ∷ []) (StepRefused code place) =
-      subst (λ (s : Step). Steps (under handed) reader (front ++ byte ∷ []) s) e (under_limits limits after steps) in
+      let told : Steps (under handed) reader (front ++ byte ∷ []) (AdvanceRefused code place) =
+      subst (λ (s : Advance). Steps (under handed) reader (front ++ byte ∷ []) s) e (under_limits limits after steps) in
       ap (reads (under handed)) (whole_text same) ∙ told.0 (drop (k + 1) bytes)
 
--- ---- a turn
+-- ---- a change
 
 -- what the attempt came to before the byte is what it gives
-pub done_outcome : (setting : Setting) (frames after : List Frame) (start at c : ℕ) (cs : List ℕ) (passed : Passed) (found : Found) (read : Read Found) (result : Result Turn AllocError)
+pub done_outcome : (setting : Setting) (frames after : List Frame) (start at c : ℕ) (cs : List ℕ) (passed : Passed) (found : Found) (read : Read Found) (result : Result Change AllocError)
     → passed ≡ PassedDone found → Passes setting frames at c cs passed read
-    → IfOk result (λ turn. TurnsTo setting after cs turn (outcome_of setting start (Ok (found, at, c ∷ cs))))
-    → IfOk result (λ turn. TurnsTo setting after cs turn (outcome_of setting start read))
+    → IfOk result (λ change. ChangesTo setting after cs change (outcome_of setting start (Ok (found, at, c ∷ cs))))
+    → IfOk result (λ change. ChangesTo setting after cs change (outcome_of setting start read))
 done_outcome setting frames after start at c cs passed found read result e passes turns =
     let told : Passes setting frames at c cs (PassedDone found) read = subst (λ (p : Passed). Passes setting frames at c cs p read) e passes in
-    subst (λ (r : Read Found). IfOk result (λ turn. TurnsTo setting after cs turn (outcome_of setting start r))) (sym told.0) turns
+    subst (λ (r : Read Found). IfOk result (λ change. ChangesTo setting after cs change (outcome_of setting start r))) (sym told.0) turns

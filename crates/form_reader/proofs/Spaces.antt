@@ -16,7 +16,7 @@ use Rattle.lisp_reading.specs.Setting.{Setting}
 use Rattle.lisp_reading.specs.Reading.{is_blank, is_whitespace, stands_alone}
 use Rattle.form_reader.specs.Frames.{close_of_frames, is_closed_by, given}
 use Rattle.form_reader.specs.InPlace.{is_space}
-use Rattle.form_reader.specs.Turning.{outcome_of, rest_of}
+use Rattle.form_reader.specs.Changing.{outcome_of, rest_of}
 use Rattle.form_reader.proofs.Attempts.{attempts, alone_by}
 use Rattle.form_reader.proofs.TurnsTaken.{nothing_turns}
 

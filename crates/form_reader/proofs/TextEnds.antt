@@ -54,7 +54,7 @@ use Rattle.form_reader.specs.Feeding.{is_going}
 use Rattle.form_reader.specs.Frames.{place_in, part_gives, call_in, given, between, token_goes_on}
 use Rattle.lisp_reading.specs.Reading.{Piece, item, dot, closed, is_whitespace, without_space, at_place, or_closed, place_turn, place, Items, items_step, items_turn, items_after, undotted, after_tail, after_dot, list_end, bytes_back, finished, answered, completed_by, completed, text_to, line_after, block_after, number_after, sub_there, dispatched, told_found, token_found, attempt, Outcome, form, empty, refused}
 use Rattle.form_reader.specs.Resuming.{IsStageAt, inner_at, stage_gives}
-use Rattle.form_reader.specs.Turning.{outcome_of}
+use Rattle.form_reader.specs.Changing.{outcome_of}
 use Rattle.form_reader.proofs.FedTokens.{cut, refused_cut}
 use Rattle.lisp_reading.proofs.Forms.{reads_is, the_end_there}
 
@@ -164,26 +164,26 @@ finished_at_end token (Ok (Some x)) = gives_at_end Whatever (one token x) tt
 finished_at_end token (Ok None) = gives_at_end Whatever (nothing false) tt
 finished_at_end token (Err refusal) = refuses_at_end Whatever (std_refusal_number refusal) (bytes_back refusal) (standard_blames refusal)
 
-answered_at_end : (packages : Packages) (nesting round : ℕ) (token spaced : Bool) (answer : MacroAnswer) → AtEnd Whatever (answered packages nesting round token spaced answer)
-answered_at_end packages nesting round token spaced (value x) =
-    elim (may_be_answered packages x && nat_le (object_depth x + round) nesting) as (λ b. AtEnd Whatever (elim b [ true ↦ gives (one token x) | false ↦ refuses MACRO_ANSWER 0 ])) [
+answered_at_end : (packages : Packages) (nesting depth : ℕ) (token spaced : Bool) (answer : MacroAnswer) → AtEnd Whatever (answered packages nesting depth token spaced answer)
+answered_at_end packages nesting depth token spaced (value x) =
+    elim (may_be_answered packages x && nat_le (object_depth x + depth) nesting) as (λ b. AtEnd Whatever (elim b [ true ↦ gives (one token x) | false ↦ refuses MACRO_ANSWER 0 ])) [
       | true ↦ gives_at_end Whatever (one token x) tt
       | false ↦ refuses_at_end Whatever MACRO_ANSWER 0 refl
     ]
-answered_at_end packages nesting round token spaced no_value = gives_at_end Whatever (nothing spaced) tt
-answered_at_end packages nesting round token spaced improper = refuses_at_end Whatever MACRO_ANSWER 0 refl
-answered_at_end packages nesting round token spaced (answer_refused code) = refuses_at_end Whatever MACRO_REFUSED 0 refl
+answered_at_end packages nesting depth token spaced no_value = gives_at_end Whatever (nothing spaced) tt
+answered_at_end packages nesting depth token spaced improper = refuses_at_end Whatever MACRO_ANSWER 0 refl
+answered_at_end packages nesting depth token spaced (answer_refused code) = refuses_at_end Whatever MACRO_REFUSED 0 refl
 
-completed_by_at_end : (setting : Setting) (round : ℕ) (call : InvokedCall) (function : Function) (token spaced : Bool) (material : Material)
-    → AtEnd Whatever (completed_by setting round call function token spaced material)
-completed_by_at_end setting round call (AStandard kind) token spaced material =
+completed_by_at_end : (setting : Setting) (depth : ℕ) (call : InvokedCall) (function : Function) (token spaced : Bool) (material : Material)
+    → AtEnd Whatever (completed_by setting depth call function token spaced material)
+completed_by_at_end setting depth call (AStandard kind) token spaced material =
     finished_at_end token (value_of kind setting.table.letters call.number material)
-completed_by_at_end setting round call (User own) token spaced material =
-    answered_at_end setting.packages setting.limits.nesting round token spaced (setting.answer own (macro_call call material))
+completed_by_at_end setting depth call (User own) token spaced material =
+    answered_at_end setting.packages setting.limits.nesting depth token spaced (setting.answer own (macro_call call material))
 
-completed_at_end : (setting : Setting) (round : ℕ) (call : InvokedCall) (token spaced : Bool) (material : Material)
-    → AtEnd Whatever (completed setting round call token spaced material)
-completed_at_end setting round call token spaced material = completed_by_at_end setting round call call.function token spaced material
+completed_at_end : (setting : Setting) (depth : ℕ) (call : InvokedCall) (token spaced : Bool) (material : Material)
+    → AtEnd Whatever (completed setting depth call token spaced material)
+completed_at_end setting depth call token spaced material = completed_by_at_end setting depth call call.function token spaced material
 
 -- ---- tokens
 
@@ -246,9 +246,9 @@ token_at_end setting (m ∷ ms) =
 
 -- ---- where an object may begin
 
-attempt_at_end : (setting : Setting) (depth : ℕ) → AtEnd (λ found. found ≡ the_end) (attempt setting depth)
+attempt_at_end : (setting : Setting) (room : ℕ) → AtEnd (λ found. found ≡ the_end) (attempt setting room)
 unfolding AtEnd
-attempt_at_end setting depth = refl
+attempt_at_end setting room = refl
 
 space_at_end : {A : Type 0} (P : A → Type 0) (table : Table) (token : Bool) (on : Plan A) → AtEnd P on → AtEnd P (without_space table token on)
 space_at_end P table false on h = h
@@ -258,57 +258,57 @@ or_closed_at_end : (close : Option ℕ) (plan : Plan Piece) → AtEnd Never plan
 or_closed_at_end None plan h = h
 or_closed_at_end (Some close) plan h = takes_at_end Never plan (λ c. c == close) (λ c. gives closed) h
 
-place_at_end : (setting : Setting) (close : Option ℕ) (depth : ℕ) → AtEnd Never (place setting close (attempt setting depth))
-place_at_end setting close depth =
-    loop_at_end Never setting.limits (place_turn setting.table close (attempt setting depth)) tt
-    (λ more. or_closed_at_end close (then_plan (attempt setting depth) (λ found. at_place setting.table (more tt) found))
-    (then_at_end (λ found. found ≡ the_end) Never (attempt setting depth) (λ found. at_place setting.table (more tt) found) (attempt_at_end setting depth)
+place_at_end : (setting : Setting) (close : Option ℕ) (room : ℕ) → AtEnd Never (place setting close (attempt setting room))
+place_at_end setting close room =
+    loop_at_end Never setting.limits (place_turn setting.table close (attempt setting room)) tt
+    (λ more. or_closed_at_end close (then_plan (attempt setting room) (λ found. at_place setting.table (more tt) found))
+    (then_at_end (λ found. found ≡ the_end) Never (attempt setting room) (λ found. at_place setting.table (more tt) found) (attempt_at_end setting room)
     (λ found is. subst (λ (f : Found). AtEnd Never (at_place setting.table (more tt) f)) (sym is) (refuses_at_end Never END_OF_FILE 0 refl))))
 
-items_at_end : (setting : Setting) (close depth : ℕ) (xs : List Object) → AtEnd Never (items_after setting close (attempt setting depth) xs)
-items_at_end setting close depth xs =
-    loop_at_end Never setting.limits (items_turn setting close (attempt setting depth)) xs
-    (λ more. never_then Never (place setting (Some close) (attempt setting depth)) (λ p. items_step setting.table more xs p) (place_at_end setting (Some close) depth))
+items_at_end : (setting : Setting) (close room : ℕ) (xs : List Object) → AtEnd Never (items_after setting close (attempt setting room) xs)
+items_at_end setting close room xs =
+    loop_at_end Never setting.limits (items_turn setting close (attempt setting room)) xs
+    (λ more. never_then Never (place setting (Some close) (attempt setting room)) (λ p. items_step setting.table more xs p) (place_at_end setting (Some close) room))
 
 -- ---- open calls
 
-module _ (setting : Setting) (round depth : ℕ) (call : InvokedCall) where
+module _ (setting : Setting) (depth room : ℕ) (call : InvokedCall) where
   abbrev may : Plan Found
-  may = attempt setting depth
+  may = attempt setting room
 
-  undotted_at_end : (items : Items) → AtEnd Whatever (undotted (λ m. completed setting round call false false m) items)
-  undotted_at_end (xs, true) = completed_at_end setting round call false false (many xs)
+  undotted_at_end : (items : Items) → AtEnd Whatever (undotted (λ m. completed setting depth call false false m) items)
+  undotted_at_end (xs, true) = completed_at_end setting depth call false false (many xs)
   undotted_at_end (xs, false) = refuses_at_end Whatever DOT_CONTEXT 0 refl
 
-  list_at_end : (items : Items) → AtEnd Whatever (list_end setting may (λ m. completed setting round call false false m) items)
-  list_at_end (xs, true) = completed_at_end setting round call false false (many xs)
+  list_at_end : (items : Items) → AtEnd Whatever (list_end setting may (λ m. completed setting depth call false false m) items)
+  list_at_end (xs, true) = completed_at_end setting depth call false false (many xs)
   list_at_end ([], false) = refuses_at_end Whatever DOT_CONTEXT 0 refl
   list_at_end (x ∷ xs, false) =
-      never_then Whatever (place setting (Some 41) may) (after_dot setting may (λ m. completed setting round call false false m) (x ∷ xs)) (place_at_end setting (Some 41) depth)
+      never_then Whatever (place setting (Some 41) may) (after_dot setting may (λ m. completed setting depth call false false m) (x ∷ xs)) (place_at_end setting (Some 41) room)
 
   step_at_end : (close : ℕ) (xs : List Object) (p : Piece) → AtEnd Whatever (items_step setting.table (items_after setting close may) xs p)
   step_at_end close xs closed = gives_at_end Whatever (xs, true) tt
   step_at_end close xs dot = gives_at_end Whatever (xs, false) tt
   step_at_end close xs (item token x) =
       space_at_end Whatever setting.table token (items_after setting close may (xs ++ x ∷ []))
-      (weaker (items_after setting close may (xs ++ x ∷ [])) (items_at_end setting close depth (xs ++ x ∷ [])))
+      (weaker (items_after setting close may (xs ++ x ∷ [])) (items_at_end setting close room (xs ++ x ∷ [])))
 
-  part_at_end : (part : Part) (p : Piece) → AtEnd Whatever (part_gives setting round may call part p)
-  part_at_end InNext (item token x) = completed_at_end setting round call token token (one_object x)
+  part_at_end : (part : Part) (p : Piece) → AtEnd Whatever (part_gives setting depth may call part p)
+  part_at_end InNext (item token x) = completed_at_end setting depth call token token (one_object x)
   part_at_end InNext dot = refuses_at_end Whatever DOT_CONTEXT 0 refl
   part_at_end InNext closed = refuses_at_end Whatever DOT_CONTEXT 0 refl
   part_at_end (InList xs) p =
-      then_at_end Whatever Whatever (items_step setting.table (items_after setting 41 may) xs p) (list_end setting may (λ m. completed setting round call false false m))
+      then_at_end Whatever Whatever (items_step setting.table (items_after setting 41 may) xs p) (list_end setting may (λ m. completed setting depth call false false m))
       (step_at_end 41 xs p) (λ items none. list_at_end items)
   part_at_end (InUntil close xs) p =
-      then_at_end Whatever Whatever (items_step setting.table (items_after setting close may) xs p) (undotted (λ m. completed setting round call false false m))
+      then_at_end Whatever Whatever (items_step setting.table (items_after setting close may) xs p) (undotted (λ m. completed setting depth call false false m))
       (step_at_end close xs p) (λ items none. undotted_at_end items)
   part_at_end (InDotted xs) closed = refuses_at_end Whatever DOT_CONTEXT 1 refl
   part_at_end (InDotted xs) dot = refuses_at_end Whatever DOT_CONTEXT 0 refl
   part_at_end (InDotted xs) (item token x) =
-      space_at_end Whatever setting.table token (then_plan (place setting (Some 41) may) (after_tail (λ m. completed setting round call false false m) xs x))
-      (never_then Whatever (place setting (Some 41) may) (after_tail (λ m. completed setting round call false false m) xs x) (place_at_end setting (Some 41) depth))
-  part_at_end (InTailed xs tail) closed = completed_at_end setting round call false false (dotted xs tail)
+      space_at_end Whatever setting.table token (then_plan (place setting (Some 41) may) (after_tail (λ m. completed setting depth call false false m) xs x))
+      (never_then Whatever (place setting (Some 41) may) (after_tail (λ m. completed setting depth call false false m) xs x) (place_at_end setting (Some 41) room))
+  part_at_end (InTailed xs tail) closed = completed_at_end setting depth call false false (dotted xs tail)
   part_at_end (InTailed xs tail) dot = refuses_at_end Whatever DOT_CONTEXT 0 refl
   part_at_end (InTailed xs tail) (item token x) = refuses_at_end Whatever DOT_CONTEXT 0 refl
 

@@ -1,13 +1,13 @@
--- What a turn is to the outcome, from what a byte brings.
+-- What a change is to the outcome, from what a byte brings.
 use Rattle.std.proofs.Common.{◌≡◌, ℕ, ◌+◌, ◌≤◌, Bool, List, [], ◌∷◌, length, Result, Ok, IfOk, sym, ap, subst, ◌∙◌}
 use Rattle.lisp_reading.specs.declared.found.Found.{Found}
 use Rattle.lisp_reading.specs.declared.found.Found.TheVariants.{Nothing as nothing}
 use Rattle.form_reader.specs.declared.frame.Frame.{Frame}
 use Rattle.lisp_reading.specs.declared.limits.Limits.{Limits}
 use Rattle.form_reader.specs.declared.stage.Stage.TheVariants.{Object as AtObject}
-use Rattle.form_reader.specs.declared.turn.Settled.{Settled}
-use Rattle.form_reader.specs.declared.turn.Settled.TheVariants.{Done as SettledDone}
-use Rattle.form_reader.specs.declared.turn.Turn.{Turn}
+use Rattle.form_reader.specs.declared.change.Settled.{Settled}
+use Rattle.form_reader.specs.declared.change.Settled.TheVariants.{Done as SettledDone}
+use Rattle.form_reader.specs.declared.change.Change.{Change}
 use Rattle.lisp_reading.specs.Plans.{Read, run}
 use Rattle.lisp_reading.specs.Setting.{Setting}
 use Rattle.std.specs.declared.alloc.AllocError.{AllocError}
@@ -16,18 +16,18 @@ use Rattle.form_reader.specs.declared.objects.Passed.TheVariants.{Done as Passed
 use Rattle.form_reader.specs.Delivering.{Passes}
 use Rattle.form_reader.specs.Frames.{between}
 use Rattle.lisp_reading.specs.Reading.{Outcome}
-use Rattle.form_reader.specs.Turning.{outcome_of, rest_of, Settles, TurnsTo, IsReadySettled}
+use Rattle.form_reader.specs.Changing.{outcome_of, rest_of, Settles, ChangesTo, IsReadySettled}
 use Rattle.lisp_reading.proofs.Forms.{reads_is}
 
 -- ---- what the outermost attempt comes to
 
 module _ (setting : Setting) (frames : List Frame) (start at : ℕ) (cs : List ℕ) (read : Read Found) (settled : Settled) where
-  pub done_turns : (found : Found) (turn : Turn) → settled ≡ SettledDone found → Settles setting frames at cs settled read
-      → TurnsTo setting [] cs turn (outcome_of setting start (Ok (found, at, cs))) → TurnsTo setting frames cs turn (outcome_of setting start read)
-  done_turns found turn e h turns =
+  pub done_turns : (found : Found) (change : Change) → settled ≡ SettledDone found → Settles setting frames at cs settled read
+      → ChangesTo setting [] cs change (outcome_of setting start (Ok (found, at, cs))) → ChangesTo setting frames cs change (outcome_of setting start read)
+  done_turns found change e h turns =
       let told : Settles setting frames at cs (SettledDone found) read = subst (λ (s : Settled). Settles setting frames at cs s read) e h in
-      subst (λ (fs : List Frame). TurnsTo setting fs cs turn (outcome_of setting start read)) (sym told.1)
-      (subst (λ (r : Read Found). TurnsTo setting [] cs turn (outcome_of setting start r)) (sym told.0) turns)
+      subst (λ (fs : List Frame). ChangesTo setting fs cs change (outcome_of setting start read)) (sym told.1)
+      (subst (λ (r : Read Found). ChangesTo setting [] cs change (outcome_of setting start r)) (sym told.0) turns)
 
 -- after discarded text a new attempt begins
 pub nothing_turns : (setting : Setting) (start at : ℕ) (cs : List ℕ) (found : Found) (token : Bool) → found ≡ nothing token
@@ -51,11 +51,11 @@ passed_none setting frames at c cs passed found read e h =
     let told : Passes setting frames at c cs (PassedDone found) read = subst (λ (p : Passed). Passes setting frames at c cs p read) e h in
     told.1
 
-pub nothing_before : (setting : Setting) (start at c : ℕ) (cs : List ℕ) (found : Found) (token : Bool) (before after : List Frame) (result : Result Turn AllocError)
+pub nothing_before : (setting : Setting) (start at c : ℕ) (cs : List ℕ) (found : Found) (token : Bool) (before after : List Frame) (result : Result Change AllocError)
     → found ≡ nothing token → before ≡ []
-    → IfOk result (λ turn. TurnsTo setting after cs turn (outcome_of setting (start + at) (run setting.table setting.limits (between setting before) 0 (c ∷ cs))))
-    → IfOk result (λ turn. TurnsTo setting after cs turn (outcome_of setting start (Ok (found, at, c ∷ cs))))
+    → IfOk result (λ change. ChangesTo setting after cs change (outcome_of setting (start + at) (run setting.table setting.limits (between setting before) 0 (c ∷ cs))))
+    → IfOk result (λ change. ChangesTo setting after cs change (outcome_of setting start (Ok (found, at, c ∷ cs))))
 nothing_before setting start at c cs found token before after result e none turns =
     let whole : outcome_of setting start (Ok (found, at, c ∷ cs)) ≡ outcome_of setting (start + at) (run setting.table setting.limits (between setting before) 0 (c ∷ cs)) =
     nothing_turns setting start at (c ∷ cs) found token e ∙ ap (λ (fs : List Frame). rest_of setting fs AtObject (start + at) 0 (c ∷ cs)) (sym none) in
-    subst (λ (o : Outcome). IfOk result (λ turn. TurnsTo setting after cs turn o)) (sym whole) turns
+    subst (λ (o : Outcome). IfOk result (λ change. ChangesTo setting after cs change o)) (sym whole) turns

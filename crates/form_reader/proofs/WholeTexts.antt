@@ -5,8 +5,8 @@ use Rattle.std.specs.Prelude.{◌&&◌}
 use Rattle.std.specs.List.{list_all}
 use Rattle.form_reader.specs.declared.reader.FormReader.{FormReader}
 use Rattle.lisp_reading.specs.declared.limits.Limits.{Limits}
-use Rattle.form_reader.specs.declared.reader.Step.{Step}
-use Rattle.form_reader.specs.declared.reader.Step.TheVariants.{More as StepMore}
+use Rattle.form_reader.specs.declared.reader.Advance.{Advance}
+use Rattle.form_reader.specs.declared.reader.Advance.TheVariants.{More as AdvanceMore}
 use Rattle.lisp_reading.specs.Setting.{Setting}
 use Rattle.form_reader.specs.Reader.{fed, IsAfter, Steps}
 
@@ -17,11 +17,11 @@ module _ (under : Limits → Setting) (held handed : Limits) (old : FormReader) 
   then_after = subst (λ (l : Limits). IsAfter (under l) old (take k bytes)) (sym limits) after
 
   -- what a step says where more bytes decide
-  module _ (new : FormReader) (step : Step) (more : step ≡ StepMore)
+  module _ (new : FormReader) (step : Advance) (more : step ≡ AdvanceMore)
       (steps : IsAfter (under held) old (take k bytes) → Steps (under held) new (take k bytes ++ c ∷ []) step) where
-    told : Steps (under handed) new (take k bytes ++ c ∷ []) StepMore
+    told : Steps (under handed) new (take k bytes ++ c ∷ []) AdvanceMore
     told =
-        subst (λ (s : Step). Steps (under handed) new (take k bytes ++ c ∷ []) s) more
+        subst (λ (s : Advance). Steps (under handed) new (take k bytes ++ c ∷ []) s) more
         (subst (λ (l : Limits). Steps (under l) new (take k bytes ++ c ∷ []) step) limits (steps then_after))
 
     pub byte_after : IsAfter (under handed) new (take (k + 1) bytes)

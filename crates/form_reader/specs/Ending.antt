@@ -7,8 +7,8 @@ use Rattle.lisp_reading.specs.declared.limits.Limits.{Limits}
 use Rattle.form_reader.specs.declared.stage.Event.{Event}
 use Rattle.form_reader.specs.declared.stage.Event.TheVariants.{Stage as IsAt, Gives as IsGiven, Refused as IsRefused}
 use Rattle.form_reader.specs.declared.stage.Stage.TheVariants.{Object as AtObject}
-use Rattle.form_reader.specs.declared.turn.Settled.{Settled}
-use Rattle.form_reader.specs.declared.turn.Settled.TheVariants.{Open as SettledOpen, Done as SettledDone, Refused as SettledRefused}
+use Rattle.form_reader.specs.declared.change.Settled.{Settled}
+use Rattle.form_reader.specs.declared.change.Settled.TheVariants.{Open as SettledOpen, Done as SettledDone, Refused as SettledRefused}
 use Rattle.lisp_reading.specs.Plans.{fault}
 use Rattle.form_reader.specs.Feeding.{token_read}
 

@@ -1,6 +1,6 @@
 -- What a reader that takes one byte at a time stands for: its open calls, innermost first, and where it is in the innermost.
 -- By recursion on the open calls alone, over the definition of reading.
-use Rattle.std.specs.Prelude.{ℕ, ◌+◌, ◌-◌, ◌==◌, Bool, true, false, List, [], ◌∷◌, ◌++◌, length, Option, Some, None, option_map, Ok, Err}
+use Rattle.std.specs.Prelude.{ℕ, ◌≡◌, ◌+◌, ◌-◌, ◌==◌, Bool, true, false, List, [], ◌∷◌, ◌++◌, length, Option, Some, None, option_map, Ok, Err}
 use Rattle.lisp_object.specs.Object.{Object}
 use Rattle.token_scan.specs.declared.mark.Mark.{Mark}
 use Rattle.std_macros.specs.Values.{one as one_object}
@@ -30,6 +30,10 @@ close_of_frames (f ∷ fs) = close_of f.part
 abbrev pub is_closed_by : Option ℕ → ℕ → Bool
 is_closed_by None c = false
 is_closed_by (Some close) c = c == close
+
+-- this character is not the closing one of the innermost call, if that looks for one
+abbrev pub IsNoClose : ℕ → List Frame → Type 0
+IsNoClose c frames = (close : ℕ) → close_of_frames frames ≡ Some close → (c == close) ≡ false
 
 -- ---- what the innermost call takes, where it goes on as the same call
 
@@ -74,17 +78,17 @@ abbrev pub is_waiting : List Frame → Bool
 is_waiting [] = false
 is_waiting (f ∷ fs) = is_next f.part
 
--- What the call gives if this piece comes next, where so many calls are open round it, and attempts inside it are these.
+-- What the call gives if this piece comes next, at this depth, and attempts inside it are these.
 abbrev pub part_gives : Setting → ℕ → Plan Found → InvokedCall → Part → Piece → Plan Found
-part_gives setting round attempt call InNext p = one_piece (λ token x. completed setting round call token token (one_object x)) p
-part_gives setting round attempt call (InList xs) p =
-    then_plan (items_step setting.table (items_after setting 41 attempt) xs p) (list_end setting attempt (λ m. completed setting round call false false m))
-part_gives setting round attempt call (InUntil close xs) p =
-    then_plan (items_step setting.table (items_after setting close attempt) xs p) (undotted (λ m. completed setting round call false false m))
-part_gives setting round attempt call (InDotted xs) p = after_dot setting attempt (λ m. completed setting round call false false m) xs p
-part_gives setting round attempt call (InTailed xs tail) p = after_tail (λ m. completed setting round call false false m) xs tail p
+part_gives setting depth attempt call InNext p = one_piece (λ token x. completed setting depth call token token (one_object x)) p
+part_gives setting depth attempt call (InList xs) p =
+    then_plan (items_step setting.table (items_after setting 41 attempt) xs p) (list_end setting attempt (λ m. completed setting depth call false false m))
+part_gives setting depth attempt call (InUntil close xs) p =
+    then_plan (items_step setting.table (items_after setting close attempt) xs p) (undotted (λ m. completed setting depth call false false m))
+part_gives setting depth attempt call (InDotted xs) p = after_dot setting attempt (λ m. completed setting depth call false false m) xs p
+part_gives setting depth attempt call (InTailed xs tail) p = after_tail (λ m. completed setting depth call false false m) xs tail p
 
--- the attempts in a call that has these calls round it
+-- the attempts in a call that is open in these
 abbrev pub attempt_in : Setting → List Frame → Plan Found
 attempt_in setting frames = attempt setting (setting.limits.nesting - (length frames + 1))
 

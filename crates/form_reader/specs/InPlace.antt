@@ -1,6 +1,6 @@
 -- What a byte is to where a reader is, where it may be taken in its place: what is open stays open.
-use Rattle.std.specs.Prelude.{ℕ, ◌≡◌, ◌+◌, ◌<◌, ◌&&◌, nat_lt, not, Bool, false, List, ◌∷◌}
-use Rattle.form_reader.specs.Turning.{rest_of}
+use Rattle.std.specs.Prelude.{ℕ, ◌≡◌, ◌+◌, ◌<◌, ◌&&◌, nat_lt, not, Bool, false, List, ◌∷◌, IsTrue}
+use Rattle.form_reader.specs.Changing.{rest_of}
 use Rattle.form_reader.specs.declared.frame.Frame.{Frame}
 use Rattle.form_reader.specs.declared.in_place.InPlace.{InPlace}
 use Rattle.form_reader.specs.declared.in_place.InPlace.TheVariants.{Taken, Passed, Left, Refused}
@@ -12,6 +12,7 @@ use Rattle.lisp_reading.specs.Plans.{fault}
 use Rattle.lisp_reading.specs.Setting.{Setting}
 use Rattle.lisp_reading.specs.Reading.{is_whitespace}
 use Rattle.form_reader.specs.Frames.{close_of_frames, is_closed_by}
+use Rattle.form_reader.specs.Feeding.{is_going}
 use Rattle.form_reader.specs.Resuming.{IsStageAt, stage_gives}
 
 -- the byte at this place is taken, and what is given is what the new stage gives after it; or it is passed over, and what is
@@ -31,8 +32,12 @@ is_space setting frames AtObject at c =
 is_space setting frames _ at c = false
 
 -- a token begins at the byte at this place, where an object may begin
-abbrev pub Begins : Setting → List Frame → ℕ → ℕ → List ℕ → Scan → Type 0
-Begins setting frames at c cs scan = stage_gives setting frames AtObject at (c ∷ cs) ≡ stage_gives setting frames (AtToken scan) (at + 1) cs
+abbrev pub BeginsToken : Setting → List Frame → ℕ → ℕ → List ℕ → Scan → Type 0
+BeginsToken setting frames at c cs scan = stage_gives setting frames AtObject at (c ∷ cs) ≡ stage_gives setting frames (AtToken scan) (at + 1) cs
+
+-- such a token goes on after the byte at this place, which is below the limit of the text
+abbrev pub IsBegunAt : Limits → ℕ → Scan → Type 0
+IsBegunAt limits at scan = (at < limits.text) × IsTrue (is_going scan.stage)
 
 -- the byte at this place is discarded, where an object may begin
 abbrev pub Stays : Setting → List Frame → ℕ → ℕ → List ℕ → Type 0

@@ -8,7 +8,7 @@ pub mod Delivering
 pub mod Ready
 pub mod Opening
 pub mod InPlace
-pub mod Turning
+pub mod Changing
 pub mod Ending
 pub mod Standing
 pub mod Reader

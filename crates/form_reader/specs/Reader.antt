@@ -6,17 +6,17 @@ use Rattle.lisp_reading.specs.declared.limits.Limits.{Limits}
 use Rattle.form_reader.specs.declared.stage.Stage.{Stage}
 use Rattle.form_reader.specs.declared.stage.Stage.TheVariants.{Object as AtObject}
 use Rattle.form_reader.specs.declared.reader.FormReader.{FormReader}
-use Rattle.form_reader.specs.declared.reader.ReaderState.{State}
+use Rattle.form_reader.specs.declared.reader.ReaderState.{ReaderState}
 use Rattle.form_reader.specs.declared.reader.ReaderState.TheVariants.{Open, Refused, OutOfMemory}
-use Rattle.form_reader.specs.declared.reader.Step.{Step}
-use Rattle.form_reader.specs.declared.reader.Step.TheVariants.{More as StepMore, Form as StepForm, Refused as StepRefused}
+use Rattle.form_reader.specs.declared.reader.Advance.{Advance}
+use Rattle.form_reader.specs.declared.reader.Advance.TheVariants.{More as AdvanceMore, Form as AdvanceForm, Refused as AdvanceRefused}
 use Rattle.form_reader.specs.declared.ending.ReadOutcome.{ReadOutcome}
 use Rattle.form_reader.specs.declared.ending.ReadOutcome.TheVariants.{Form as ReadForm, Empty as ReadEmpty, Refused as ReadRefused}
-use Rattle.form_reader.specs.declared.turn.Turn.{Turn}
-use Rattle.form_reader.specs.declared.turn.Turn.TheVariants.{Goes, Form as TurnForm, Refused as TurnRefused}
+use Rattle.form_reader.specs.declared.change.Change.{Change}
+use Rattle.form_reader.specs.declared.change.Change.TheVariants.{Goes, Form as ChangeForm, Refused as ChangeRefused}
 use Rattle.lisp_reading.specs.Setting.{Setting}
 use Rattle.lisp_reading.specs.Reading.{Outcome, form, empty, refused, reads}
-use Rattle.form_reader.specs.Turning.{rest_of}
+use Rattle.form_reader.specs.Changing.{rest_of}
 
 -- the limits under which it reads
 abbrev pub limits_of : FormReader → Limits
@@ -68,13 +68,13 @@ pub record IsBetween (reader : FormReader) : Type 0 where
   pub state : reader.state ≡ Open AtObject
 
 -- after a form it is between forms
-abbrev pub LeavesBetween : FormReader → Step → Type 0
-LeavesBetween new (StepForm datum start «end» next) = IsBetween new
+abbrev pub LeavesBetween : FormReader → Advance → Type 0
+LeavesBetween new (AdvanceForm datum start «end» next) = IsBetween new
 LeavesBetween new _ = Unit {0}
 
 -- The reader is after these bytes, in this setting: what is read of them, with any text after them, is what it stands for with
 -- this text. A reader that ran out of memory is after no bytes.
-abbrev pub IsAfterIn : Setting → FormReader → State → List ℕ → Type 0
+abbrev pub IsAfterIn : Setting → FormReader → ReaderState → List ℕ → Type 0
 IsAfterIn setting reader (Open stage) bytes =
     (fed reader ≡ length bytes)
     × ((cs : List ℕ) → reads setting (bytes ++ cs) ≡ rest_of setting reader.frames stage reader.start reader.at cs)
@@ -88,20 +88,20 @@ IsAfter setting reader bytes = IsAfterIn setting reader reader.state bytes
 -- with a form, or are refused, whatever follows them. Where the form's next is the number of bytes, the last byte was taken;
 -- where it is one less, that byte is for the next form. After a form the reader is new, and after no bytes, whatever is handed
 -- to it then.
-abbrev pub Steps : Setting → FormReader → List ℕ → Step → Type 0
-Steps setting reader bytes StepMore =
+abbrev pub Steps : Setting → FormReader → List ℕ → Advance → Type 0
+Steps setting reader bytes AdvanceMore =
     IsAfter setting reader bytes × (fed reader ≡ length bytes) × MayGoOn bytes (reads setting bytes) × DecideNothing setting bytes
-Steps setting reader bytes (StepForm datum start «end» next) =
+Steps setting reader bytes (AdvanceForm datum start «end» next) =
     ((cs : List ℕ) → reads setting (bytes ++ cs) ≡ form (object_of datum) start «end» next)
     × (is_proper datum ≡ true) × (next ≤ length bytes) × (length bytes ≤ next + 1) × IsNew reader × ((later : Setting) → IsAfter later reader [])
-Steps setting reader bytes (StepRefused code place) =
+Steps setting reader bytes (AdvanceRefused code place) =
     ((cs : List ℕ) → reads setting (bytes ++ cs) ≡ refused code place) × HasRefused reader code place
 
 -- What was open began where what is open after a step began, or before: of a form, its object; after a form nothing is open.
-abbrev pub BeginsLater : FormReader → FormReader → Step → Type 0
-BeginsLater old new StepMore = (begun old ≤ begun new) × (begun new ≤ fed new)
-BeginsLater old new (StepForm datum start «end» next) = (begun old ≤ start) × (begun new ≡ 0)
-BeginsLater old new (StepRefused code place) = begun new ≡ begun old
+abbrev pub BeginsLater : FormReader → FormReader → Advance → Type 0
+BeginsLater old new AdvanceMore = (begun old ≤ begun new) × (begun new ≤ fed new)
+BeginsLater old new (AdvanceForm datum start «end» next) = (begun old ≤ start) × (begun new ≡ 0)
+BeginsLater old new (AdvanceRefused code place) = begun new ≡ begun old
 
 -- What is answered is the outcome, and the object of a form is sound.
 abbrev pub IsOutcome : ReadOutcome → Outcome → Type 0
@@ -110,23 +110,23 @@ IsOutcome ReadEmpty o = o ≡ empty
 IsOutcome (ReadRefused code place) o = o ≡ refused code place
 
 -- how many bytes it was fed after a step: one more, or as many as before where it refuses; after a form none
-abbrev pub Counts : FormReader → FormReader → Step → Type 0
-Counts old new StepMore = fed new ≡ fed old + 1
-Counts old new (StepForm datum start «end» next) = fed new ≡ 0
-Counts old new (StepRefused code place) = fed new ≡ fed old
+abbrev pub Counts : FormReader → FormReader → Advance → Type 0
+Counts old new AdvanceMore = fed new ≡ fed old + 1
+Counts old new (AdvanceForm datum start «end» next) = fed new ≡ 0
+Counts old new (AdvanceRefused code place) = fed new ≡ fed old
 
 -- of a form, the object is sound
-abbrev pub IsSoundStep : Step → Type 0
-IsSoundStep (StepForm datum start «end» next) = IsSound (object_of datum)
+abbrev pub IsSoundStep : Advance → Type 0
+IsSoundStep (AdvanceForm datum start «end» next) = IsSound (object_of datum)
 IsSoundStep _ = Unit {0}
 
--- what a turn makes of a reader, and what is answered
-abbrev pub Takes : Turn → FormReader → FormReader → Step → Type 0
-Takes (Goes start at stage) old new step =
-    (step ≡ StepMore) × (new.start ≡ start) × (new.at ≡ at) × (new.frames ≡ old.frames) × (new.state ≡ Open stage)
-Takes (TurnForm x start «end» next) old new (StepForm datum s e n) =
+-- what a change makes of a reader, and what is answered
+abbrev pub Becomes : Change → FormReader → FormReader → Advance → Type 0
+Becomes (Goes start at stage) old new step =
+    (step ≡ AdvanceMore) × (new.start ≡ start) × (new.at ≡ at) × (new.frames ≡ old.frames) × (new.state ≡ Open stage)
+Becomes (ChangeForm x start «end» next) old new (AdvanceForm datum s e n) =
     (object_of datum ≡ x) × (is_proper datum ≡ true) × (s ≡ start) × (e ≡ «end») × (n ≡ next)
     × (new.start ≡ 0) × (new.at ≡ 0) × (new.frames ≡ old.frames) × (new.state ≡ Open AtObject)
-Takes (TurnForm x start «end» next) old new _ = ⊥
-Takes (TurnRefused code place) old new step =
-    (step ≡ StepRefused code place) × (new.state ≡ Refused code place) × (new.start ≡ old.start) × (new.at ≡ old.at)
+Becomes (ChangeForm x start «end» next) old new _ = ⊥
+Becomes (ChangeRefused code place) old new step =
+    (step ≡ AdvanceRefused code place) × (new.state ≡ Refused code place) × (new.start ≡ old.start) × (new.at ≡ old.at)

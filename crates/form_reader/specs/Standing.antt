@@ -2,7 +2,7 @@
 use Rattle.std.specs.Prelude.{ℕ, ◌&&◌, nat_le, Bool, true, List, length}
 use Rattle.form_reader.specs.declared.frame.Frame.{Frame}
 use Rattle.lisp_reading.specs.declared.limits.Limits.{Limits}
-use Rattle.form_reader.specs.declared.reader.ReaderState.{State}
+use Rattle.form_reader.specs.declared.reader.ReaderState.{ReaderState}
 use Rattle.form_reader.specs.declared.reader.ReaderState.TheVariants.{Open, Refused, OutOfMemory}
 use Rattle.form_reader.specs.declared.stage.Stage.{Stage}
 use Rattle.form_reader.specs.declared.stage.Stage.TheVariants.{Token as AtToken, CallToken as AtCallToken, Block as AtBlock}
@@ -16,7 +16,7 @@ is_stage_at at (AtBlock call levels) = nat_le levels.0 at
 is_stage_at at _ = true
 
 -- The place and the open calls are within the limits. After a refusal, or out of memory, nothing is asked.
-abbrev pub is_standing : Limits → List Frame → ℕ → State → Bool
+abbrev pub is_standing : Limits → List Frame → ℕ → ReaderState → Bool
 is_standing limits frames at (Open stage) = nat_le at limits.text && (nat_le (length frames) limits.nesting && is_stage_at at stage)
 is_standing limits frames at (Refused code place) = true
 is_standing limits frames at OutOfMemory = true

@@ -3,7 +3,7 @@ ghost use Rattle.std.specs.Prelude.{◌≡◌, ◌≤◌, ◌<◌, ◌+◌, ◌^
 ghost use Rattle.form_reader.specs.Surrounding.{setting};
 ghost use Rattle.form_reader.specs.Resuming.{Moves, stage_gives};
 ghost use Rattle.form_reader.specs.Ready.{IsReadyMove};
-ghost use Rattle.form_reader.specs.Turning.{IsStanding};
+ghost use Rattle.form_reader.specs.Changing.{IsStanding};
 
 use crate::frame::Frames;
 use crate::gathering::{in_block, in_escaped, in_line, in_text};
@@ -32,20 +32,20 @@ pub(crate) fn advance<R: MacroFunctions>(
     ensures ready { IfOk result (IsReadyMove with.now.limits at) }
     ensures nesting { IfOk result (λ _. length frames.new ≤ with.now.limits.nesting) }
 {
-    let round = frames.len();
+    let depth = frames.len();
     match stage {
         Stage::Object => Ok(Moved::Taken(at_object(with, frames, at, c)?)),
         Stage::Token(scan) => in_token(with, scan, at, c),
-        Stage::CallToken(call, scan) => in_call_token(with, round, call, scan, at, c),
+        Stage::CallToken(call, scan) => in_call_token(with, depth, call, scan, at, c),
         Stage::Text(call, terminator, text) => {
-            Ok(Moved::Taken(in_text(with, round, call, terminator, text, at, c)?))
+            Ok(Moved::Taken(in_text(with, depth, call, terminator, text, at, c)?))
         }
         Stage::Escaped(call, terminator, text) => {
-            Ok(Moved::Taken(in_escaped(with, round, call, terminator, text, at, c)?))
+            Ok(Moved::Taken(in_escaped(with, depth, call, terminator, text, at, c)?))
         }
-        Stage::Line(call, text) => { Ok(Moved::Taken(in_line(with, round, call, text, at, c)?)) }
+        Stage::Line(call, text) => { Ok(Moved::Taken(in_line(with, depth, call, text, at, c)?)) }
         Stage::Block(call, levels) => {
-            Ok(Moved::Taken(in_block(with, round, call, levels, at, c)?))
+            Ok(Moved::Taken(in_block(with, depth, call, levels, at, c)?))
         }
         Stage::Number(character, number) => {
             Ok(Moved::Taken(in_number(with, frames, character, number, at, c)?))

@@ -1,6 +1,6 @@
 //! The byte at a place where an object may begin.
 ghost use Rattle.std.specs.Prelude.{◌≡◌, ◌≤◌, ◌<◌, ◌+◌, ◌^◌, ℕ, List, ◌∷◌, length, true, false, IfOk};
-ghost use Rattle.form_reader.specs.declared.frame.Frame.{Frame as OpenCall};
+ghost use Rattle.form_reader.specs.declared.frame.Frame.{Frame};
 ghost use Rattle.readtable_core.specs.Tables.{entry_at};
 ghost use Rattle.form_reader.specs.Surrounding.{setting};
 ghost use Rattle.lisp_reading.specs.Reading.{stands_alone, alone};
@@ -53,6 +53,7 @@ pub(crate) fn alone<R: MacroFunctions>(
     ensures nesting { IfOk result (λ _. length frames.new ≤ with.now.limits.nesting) }
 {
     with.readtable.soundness();
+    // One byte too many is refused as that (23), also where it is no character (2).
     if at >= with.limits.text {
         return Ok(Event::Refused(FORM_TOO_LONG, at));
     }
@@ -78,7 +79,7 @@ pub(crate) fn begin_token<R: MacroFunctions>(
     requires place { at ≤ with.now.limits.text }
     requires begins { stands_alone (entry_at with.now.readtable.now c).syntax ≡ false }
     ensures brings { let setting = setting R.functions with.now in
-        (frames : List OpenCall) (cs : List ℕ) → length frames ≤ with.now.limits.nesting
+        (frames : List Frame) (cs : List ℕ) → length frames ≤ with.now.limits.nesting
         → IfOk result (λ event. Brings setting frames (at + 1) cs event
         (plan_gives setting frames (attempt_at setting (length frames)) at (c ∷ cs))) }
     ensures ready { IfOk result (IsReady with.now.limits (at + 1)) }

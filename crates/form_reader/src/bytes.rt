@@ -14,7 +14,7 @@ use readtable_core::{Readtable, Syntax};
 use std::alloc::AllocError;
 
 /// What a byte is to a text.
-#[derive(Clone, Copy, Debug, PartialEq, Eq)]
+#[derive(Clone, Copy)]
 pub enum TextByte {
     /// One more character.
     More,
@@ -27,7 +27,7 @@ pub enum TextByte {
 }
 
 /// What a byte is to a line, a block or a number.
-#[derive(Clone, Copy, Debug, PartialEq, Eq)]
+#[derive(Clone, Copy)]
 pub enum LineByte {
     /// One more.
     More,
@@ -61,6 +61,7 @@ pub(crate) fn text_byte(
     if c >= 128 {
         return Ok(TextByte::Refused(INVALID_CHARACTER));
     }
+    // The terminator is looked for before its own syntax, which may be that of an escape.
     if c == terminator {
         return Ok(TextByte::Ended);
     }
@@ -194,6 +195,7 @@ pub(crate) fn number_byte(
     ensures more { result ≡ LineMore → at < limits.now.text }
     ensures same { result ≡ LineEnded → number.new ≡ number.old }
 {
+    // What ends the number is not taken, so it is not asked whether it is one byte too many.
     if !c.is_ascii_digit() {
         return LineByte::Ended;
     }

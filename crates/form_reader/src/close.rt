@@ -1,6 +1,6 @@
 //! What an open call gives where its closing character comes.
 ghost use Rattle.std.specs.Prelude.{◌≡◌, ◌≤◌, ℕ, List, length, false, IfOk, ◌<◌};
-ghost use Rattle.form_reader.specs.declared.frame.Frame.{Frame as OpenCall};
+ghost use Rattle.form_reader.specs.declared.frame.Frame.{Frame};
 ghost use Rattle.form_reader.specs.Surrounding.{setting};
 ghost use Rattle.lisp_reading.specs.Reading.{closed};
 ghost use Rattle.form_reader.specs.Frames.{call_in, plan_gives};
@@ -16,12 +16,12 @@ use std::alloc::AllocError;
 use std_macros::StdGathered;
 use user_macros::MacroFunctions;
 
-/// What an open call gives, with so many calls round it, where its closing character is the byte before `at`.
+/// What an open call gives at this depth, where its closing character is the byte before `at`.
 #[tactic(auto, using(crate::proofs::Readiness::all_ready))]
 #[inline(always)]
 pub(crate) fn close<R: MacroFunctions>(
     with: &Surroundings<'_, R>,
-    round: usize,
+    depth: usize,
     frame: Frame,
     at: usize,
 ) -> Result<Event, AllocError>
@@ -29,7 +29,7 @@ pub(crate) fn close<R: MacroFunctions>(
     requires place { at ≤ with.now.limits.text }
     requires taken { 0 < at }
     ensures brings { let setting = setting R.functions with.now in
-        (frames : List OpenCall) (cs : List ℕ) → round ≡ length frames
+        (frames : List Frame) (cs : List ℕ) → depth ≡ length frames
         → IfOk result (λ event. Brings setting frames at cs event
         (plan_gives setting frames (call_in setting frame frames closed) at cs)) }
     ensures ready { IfOk result (IsReady with.now.limits at) }
@@ -39,11 +39,11 @@ pub(crate) fn close<R: MacroFunctions>(
         Part::Next => Ok(Event::Refused(DOT_CONTEXT, at)),
         Part::List(items) => {
             let gathered = StdGathered::Many(items.into_items());
-            ended(with, round, &call, false, gathered, at)
+            ended(with, depth, &call, false, gathered, at)
         }
         Part::Until(_, items) => {
             let gathered = StdGathered::Many(items.into_items());
-            ended(with, round, &call, false, gathered, at)
+            ended(with, depth, &call, false, gathered, at)
         }
         Part::Dotted(_) => Ok(Event::Refused(DOT_CONTEXT, at.saturating_sub(1))),
         Part::Tailed(items, tail) => {
@@ -51,7 +51,7 @@ pub(crate) fn close<R: MacroFunctions>(
             let tail = tail.into_datum();
             ended(
                 with,
-                round,
+                depth,
                 &call,
                 false,
                 StdGathered::Dotted { items, tail },

@@ -33,12 +33,12 @@ pub enum Completed {
     Refused(u16, usize),
 }
 
-/// What the function of a call gives for what was gathered, with so many open calls round it: whether a token ends the call,
+/// What the function of a call gives for what was gathered at this depth: whether a token ends the call,
 /// and whether a token ends an object in it.
 #[tactic(auto, using(crate::proofs::Readiness::space_or))]
 pub(crate) fn complete<R: MacroFunctions>(
     with: &Surroundings<'_, R>,
-    round: usize,
+    depth: usize,
     call: &Invoked,
     token: bool,
     spaced: bool,
@@ -47,7 +47,7 @@ pub(crate) fn complete<R: MacroFunctions>(
     requires answers { R.answers with.now.macros.now }
     requires proper { IsProperGathered gathered }
     ensures gives { let setting = setting R.functions with.now in
-        IfOk result (λ r. completed setting round call.now token spaced (view_gathered gathered) ≡ plan_of r) }
+        IfOk result (λ r. completed setting depth call.now token spaced (view_gathered gathered) ≡ plan_of r) }
     ensures ends { IfOk result (λ r. completed_lookahead r ≤ space (token || spaced)) }
 {
     match call.function() {
@@ -56,6 +56,7 @@ pub(crate) fn complete<R: MacroFunctions>(
             finished(with.alloc, kind, case, call.number(), token, gathered)
         }
         Function::User(name) => {
+            // A function that is not registered refuses each call, and is not called.
             if with.macros.gather_of(name).is_none() {
                 return Ok(Completed::Refused(MACRO_REFUSED, 0));
             }
@@ -64,7 +65,7 @@ pub(crate) fn complete<R: MacroFunctions>(
             Ok(answered(
                 with.packages,
                 with.limits.nesting,
-                round,
+                depth,
                 token,
                 spaced,
                 answer,
@@ -83,7 +84,8 @@ fn finished(
     gathered: StdGathered,
 ) -> Result<Completed, AllocError>
     requires { IsProperGathered gathered }
-    ensures gives { IfOk result (λ r. finished token (value_of kind case number (view_gathered gathered)) ≡ plan_of r) }
+    ensures gives { IfOk result (λ r.
+        finished token (value_of kind case number (view_gathered gathered)) ≡ plan_of r) }
     ensures ends { IfOk result (λ r. completed_lookahead r ≤ space token) }
 {
     match finish(alloc, kind, case, number, gathered) {
@@ -113,12 +115,13 @@ fn bytes_back(refusal: StdRefusal) -> usize
 fn answered(
     packages: &Packages,
     nesting: u32,
-    round: usize,
+    depth: usize,
     token: bool,
     spaced: bool,
     answer: Answer,
 ) -> Completed
-    ensures gives { answered packages.now.0 nesting round token spaced (answer_of answer) ≡ plan_of result }
+    ensures gives { answered packages.now.0 nesting depth token spaced (answer_of answer)
+        ≡ plan_of result }
     ensures ends { completed_lookahead result ≤ space (token || spaced) }
 {
     match answer {
@@ -126,7 +129,7 @@ fn answered(
             if !datum.is_proper() {
                 return Completed::Refused(MACRO_ANSWER, 0);
             }
-            if !may_be_answered(packages, &datum) || !fits(&datum, round, nesting) {
+            if !may_be_answered(packages, &datum) || !fits(&datum, depth, nesting) {
                 return Completed::Refused(MACRO_ANSWER, 0);
             }
             Completed::Gives(Found::One(token, HeldObject::new(datum)))
@@ -136,14 +139,14 @@ fn answered(
     }
 }
 
-/// Whether the depth of a proper datum and the open calls round it are within the nesting.
-fn fits(datum: &Datum, round: usize, nesting: u32) -> bool
+/// Whether the depth of a proper datum and that of the call are together within the nesting.
+fn fits(datum: &Datum, depth: usize, nesting: u32) -> bool
     requires { is_proper datum.now ≡ true }
-    ensures { result ≡ nat_le (object_depth (object_of datum.now) + round) nesting }
+    ensures { result ≡ nat_le (object_depth (object_of datum.now) + depth) nesting }
 {
     let nesting = u64::from(nesting);
-    let round = round as u64;
-    round <= nesting && datum.depth() <= nesting - round
+    let depth = depth as u64;
+    depth <= nesting && datum.depth() <= nesting - depth
 }
 
 /// The call that a function of a user gets.

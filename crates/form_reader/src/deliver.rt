@@ -2,7 +2,7 @@
 ghost use Rattle.std.specs.Prelude.{◌≡◌, ◌≤◌, ◌<◌, ℕ, List, length, IfOk};
 ghost use Rattle.lisp_reading.specs.Plans.{gives};
 ghost use Rattle.lisp_reading.specs.declared.found.Found.TheVariants.{One as one, LoneDot as lone_dot};
-ghost use Rattle.form_reader.specs.declared.frame.Frame.{Frame as OpenCall};
+ghost use Rattle.form_reader.specs.declared.frame.Frame.{Frame};
 ghost use Rattle.form_reader.specs.Completing.{plan_of};
 ghost use Rattle.lisp_reading.specs.Setting.{Setting};
 ghost use Rattle.form_reader.specs.Surrounding.{setting};
@@ -84,9 +84,9 @@ fn take_one<R: MacroFunctions>(
 {
     match frames.pop_waiting() {
         Some(call) => {
-            let round = frames.len();
+            let depth = frames.len();
             let gathered = StdGathered::One(x.into_datum());
-            Ok(taken_of(complete(with, round, &call, token, token, gathered)?, at))
+            Ok(taken_of(complete(with, depth, &call, token, token, gathered)?, at))
         }
         None => {
             if frames.take_object(x)? {
@@ -101,7 +101,8 @@ fn take_one<R: MacroFunctions>(
 /// What the innermost open call makes of a dot.
 fn take_dot(frames: &mut Frames, at: usize) -> Taken
     requires open { 0 < length frames.old }
-    ensures takes { (setting : Setting) (cs : List ℕ) → at ≤ setting.limits.text → Takes setting frames.new at cs result
+    ensures takes { (setting : Setting) (cs : List ℕ) → at ≤ setting.limits.text
+        → Takes setting frames.new at cs result
         (plan_gives setting frames.old (gives lone_dot) at cs) }
     ensures leaves { IsTakenAt 1 at result }
     ensures shorter { Shortens frames.old frames.new result }
@@ -115,7 +116,8 @@ fn take_dot(frames: &mut Frames, at: usize) -> Taken
 
 /// What an open call that ends at `at` comes to.
 fn taken_of(completed: Completed, at: usize) -> Taken
-    ensures takes { (setting : Setting) (frames : List OpenCall) (cs : List ℕ) → Takes setting frames at cs result
+    ensures takes { (setting : Setting) (frames : List Frame) (cs : List ℕ)
+        → Takes setting frames at cs result
         (plan_gives setting frames (plan_of completed) at cs) }
     ensures leaves { IsTakenAt (completed_lookahead completed) at result }
 {

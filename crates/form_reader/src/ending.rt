@@ -1,19 +1,20 @@
 //! The end of a text, wherever a reader is in a form.
 ghost use Rattle.std.specs.Prelude.{◌≡◌, ◌≤◌, ◌<◌, ◌+◌, ◌^◌, List, [], length, true, None, Ok, IfOk};
 ghost use Rattle.readtable_core.specs.Tables.{Table};
-ghost use Rattle.form_reader.specs.declared.frame.Frame.{Frame as OpenCall};
+ghost use Rattle.form_reader.specs.declared.frame.Frame.{Frame};
 ghost use Rattle.lisp_reading.specs.Setting.{Setting};
 ghost use Rattle.form_reader.specs.Surrounding.{setting};
 ghost use Rattle.form_reader.specs.declared.stage.Stage.TheVariants.{Object as AtObject, Token as AtToken, CallToken as AtCallToken, Line as AtLine};
 ghost use Rattle.form_reader.specs.declared.ending.ReadOutcome.TheVariants.{Empty as IsEmpty};
 ghost use Rattle.lisp_reading.specs.declared.found.Found.TheVariants.{TheEnd as the_end};
 ghost use Rattle.form_reader.specs.declared.stage.Event.TheVariants.{Stage as IsAt};
-ghost use Rattle.form_reader.specs.declared.turn.Settled.TheVariants.{Done as IsDone};
+ghost use Rattle.form_reader.specs.declared.change.Settled.TheVariants.{Done as IsDone};
 ghost use Rattle.form_reader.specs.Resuming.{Brings, stage_gives};
-ghost use Rattle.form_reader.specs.Turning.{outcome_of, rest_of, Settles};
+ghost use Rattle.form_reader.specs.Changing.{outcome_of, rest_of, Settles};
 ghost use Rattle.form_reader.specs.Ending.{TokenStops, IsLastEvent, IsLastSettled};
 ghost use Rattle.form_reader.specs.Reader.{IsOutcome};
 
+use crate::change::Settled;
 use crate::deliver::{Delivered, deliver};
 use crate::frame::Frames;
 use crate::objects::token_end;
@@ -21,7 +22,6 @@ use crate::opening::ended;
 use crate::stage::{BegunScan, Event, Stage};
 use crate::surroundings::Surroundings;
 use crate::tokens::refused;
-use crate::turn::Settled;
 use lisp_object::Datum;
 use lisp_object::refusal::{DOT_CONTEXT, END_OF_FILE};
 use lisp_reading::{Found, HeldText, Invoked, Limits};
@@ -70,7 +70,7 @@ fn last_token<R: MacroFunctions>(
 ) -> Result<Event, AllocError>
     requires place { at ≤ with.now.limits.text }
     ensures brings { let setting = setting R.functions with.now in
-        (frames : List OpenCall) → IfOk result (λ event. Brings setting frames at [] event
+        (frames : List Frame) → IfOk result (λ event. Brings setting frames at [] event
         (stage_gives setting frames (AtToken scan) at [])) }
     ensures last { IfOk result (IsLastEvent at) }
 {
@@ -81,10 +81,10 @@ fn last_token<R: MacroFunctions>(
     }
 }
 
-/// The end of the text at `at`, in the token of a call with so many open calls round it.
+/// The end of the text at `at`, in the token of a call at this depth.
 fn last_call_token<R: MacroFunctions>(
     with: &Surroundings<'_, R>,
-    round: usize,
+    depth: usize,
     call: Invoked,
     mut scan: TokenScan,
     at: usize,
@@ -92,23 +92,23 @@ fn last_call_token<R: MacroFunctions>(
     requires answers { R.answers with.now.macros.now }
     requires place { at ≤ with.now.limits.text }
     ensures brings { let setting = setting R.functions with.now in
-        (frames : List OpenCall) → round ≡ length frames → IfOk result (λ event. Brings setting frames at [] event
+        (frames : List Frame) → depth ≡ length frames → IfOk result (λ event. Brings setting frames at [] event
         (stage_gives setting frames (AtCallToken call scan) at [])) }
     ensures last { IfOk result (IsLastEvent at) }
 {
     match token_stop(&with.limits, &mut scan, at) {
         None => {
             let gathered = StdGathered::Marks(scan.into_marks());
-            ended(with, round, &call, true, gathered, at)
+            ended(with, depth, &call, true, gathered, at)
         }
         Some(code) => Ok(Event::Refused(code, at)),
     }
 }
 
-/// The end of the text at `at`, which ends the line of a call with so many open calls round it.
+/// The end of the text at `at`, which ends the line of a call at this depth.
 fn last_line<R: MacroFunctions>(
     with: &Surroundings<'_, R>,
-    round: usize,
+    depth: usize,
     call: Invoked,
     text: HeldText,
     at: usize,
@@ -116,26 +116,26 @@ fn last_line<R: MacroFunctions>(
     requires answers { R.answers with.now.macros.now }
     requires place { at ≤ with.now.limits.text }
     ensures brings { let setting = setting R.functions with.now in
-        (frames : List OpenCall) → round ≡ length frames
+        (frames : List Frame) → depth ≡ length frames
         → IfOk result (λ event. Brings setting frames at [] event
         (stage_gives setting frames (AtLine call text) at [])) }
     ensures last { IfOk result (IsLastEvent at) }
 {
     let gathered = StdGathered::Text(text.into_bytes());
-    ended(with, round, &call, false, gathered, at)
+    ended(with, depth, &call, false, gathered, at)
 }
 
 /// What the end of the text at `at` brings; the stage is left where an object may begin.
 fn last<R: MacroFunctions>(
     with: &Surroundings<'_, R>,
-    round: usize,
+    depth: usize,
     stage: Stage,
     at: usize,
 ) -> Result<Event, AllocError>
     requires answers { R.answers with.now.macros.now }
     requires place { at ≤ with.now.limits.text }
     ensures brings { let setting = setting R.functions with.now in
-        (frames : List OpenCall) → round ≡ length frames → IfOk result (λ event. Brings setting frames at [] event
+        (frames : List Frame) → depth ≡ length frames → IfOk result (λ event. Brings setting frames at [] event
         (stage_gives setting frames stage at [])) }
     ensures last { IfOk result (IsLastEvent at) }
     ensures object { stage ≡ AtObject → result ≡ Ok (IsAt AtObject) }
@@ -143,8 +143,8 @@ fn last<R: MacroFunctions>(
     match stage {
         Stage::Object => Ok(Event::Stage(Stage::Object)),
         Stage::Token(scan) => last_token(with, scan, at),
-        Stage::CallToken(call, scan) => last_call_token(with, round, call, scan, at),
-        Stage::Line(call, text) => last_line(with, round, call, text, at),
+        Stage::CallToken(call, scan) => last_call_token(with, depth, call, scan, at),
+        Stage::Line(call, text) => last_line(with, depth, call, text, at),
         Stage::Text(..) => Ok(Event::Refused(END_OF_FILE, at)),
         Stage::Escaped(..) => Ok(Event::Refused(END_OF_FILE, at)),
         Stage::Block(..) => Ok(Event::Refused(END_OF_FILE, at)),
@@ -154,7 +154,8 @@ fn last<R: MacroFunctions>(
 
 /// The end of the text at `at`, where an object may begin.
 fn waited(calls: usize, at: usize) -> Settled
-    ensures settles { (setting : Setting) (frames : List OpenCall) → calls ≡ length frames → at ≤ setting.limits.text
+    ensures settles { (setting : Setting) (frames : List Frame) → calls ≡ length frames
+        → at ≤ setting.limits.text
         → Settles setting frames at [] result (stage_gives setting frames AtObject at []) }
     ensures last { IsLastSettled at result }
     ensures none { calls ≡ 0 → result ≡ IsDone the_end }
@@ -194,7 +195,8 @@ fn settle_last<R: MacroFunctions>(
 /// What the attempt that began at `start` came to at the end of the text, at the place `at` in it.
 fn done_last(found: Found, start: usize, at: usize) -> ReadOutcome
     requires count { start + at ≤ 2 ^ 63 }
-    ensures outcome { (setting : Setting) → IsOutcome result (outcome_of setting start (Ok (found, at, []))) }
+    ensures outcome { (setting : Setting)
+        → IsOutcome result (outcome_of setting start (Ok (found, at, []))) }
     ensures the_end { found ≡ the_end → result ≡ IsEmpty }
 {
     match found {

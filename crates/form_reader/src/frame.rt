@@ -2,7 +2,7 @@
 ghost use Rattle.std.specs.Prelude.{◌≡◌, ◌==◌, ℕ, Bool, Some, None, true, false, [], ◌∷◌, length, MatchOption, OnOk, IfOk};
 ghost use Rattle.form_reader.specs.declared.frame.Part.TheVariants.{Next as InNext};
 ghost use Rattle.lisp_reading.specs.declared.found.Found.TheVariants.{One as one, LoneDot as lone_dot};
-ghost use Rattle.form_reader.specs.Frames.{close_of, close_of_frames, is_closed_by, with_object, with_dot, calls_with, is_next, is_waiting};
+ghost use Rattle.form_reader.specs.Frames.{close_of, close_of_frames, is_closed_by, IsNoClose, with_object, with_dot, calls_with, is_next, is_waiting};
 
 use lisp_reading::{HeldObject, HeldObjects, Invoked};
 use std::alloc::{AllocError, Global};
@@ -77,7 +77,8 @@ impl Frames {
 
     /// Takes the innermost call.
     pub(crate) fn pop(&mut self) -> Option<Frame>
-        ensures { MatchOption result ((self.old ≡ []) × (self.new ≡ [])) (λ frame. self.old ≡ frame ∷ self.new) }
+        ensures { MatchOption result ((self.old ≡ []) × (self.new ≡ []))
+            (λ frame. self.old ≡ frame ∷ self.new) }
     {
         self.frames.pop()
     }
@@ -95,14 +96,14 @@ impl Frames {
     /// Whether `c` is the closing character that the innermost call looks for.
     pub(crate) fn is_closed_by(&self, c: u8) -> bool
         ensures value { result ≡ is_closed_by (close_of_frames self.now) c }
-        ensures other { result ≡ false → (close : ℕ) → close_of_frames self.now ≡ Some close → (c == close) ≡ false }
+        ensures other { result ≡ false → IsNoClose c self.now }
     {
         self.close() == Some(c)
     }
 
     /// Takes the innermost call where `c` is the closing character that it looks for.
     pub(crate) fn pop_closed_by(&mut self, c: u8) -> Option<Frame>
-        ensures { MatchOption result ((self.new ≡ self.old) × ((close : ℕ) → close_of_frames self.old ≡ Some close → (c == close) ≡ false))
+        ensures { MatchOption result ((self.new ≡ self.old) × IsNoClose c self.old)
             (λ frame. (self.old ≡ frame ∷ self.new) × (close_of frame.part ≡ Some c)) }
     {
         if self.close() == Some(c) {
@@ -137,8 +138,10 @@ impl Frames {
 
     /// Hands an object to the innermost call: whether it takes it and goes on. A call that waits for its one object does not.
     pub(crate) fn take_object(&mut self, x: HeldObject) -> Result<bool, AllocError>
-        ensures takes { (token : Bool) → IfOk result (λ taken. taken ≡ true → calls_with self.old (one token x) ≡ Some self.new) }
-        ensures refuses { (token : Bool) → IfOk result (λ taken. taken ≡ false → (calls_with self.old (one token x) ≡ None) × (self.new ≡ self.old)) }
+        ensures takes { (token : Bool) → IfOk result (λ taken.
+            taken ≡ true → calls_with self.old (one token x) ≡ Some self.new) }
+        ensures refuses { (token : Bool) → IfOk result (λ taken.
+            taken ≡ false → (calls_with self.old (one token x) ≡ None) × (self.new ≡ self.old)) }
     {
         if let Some(frame) = self.frames.last_mut() {
             return frame.part.take_object(x);
@@ -149,7 +152,8 @@ impl Frames {
     /// Hands a dot to the innermost call: whether it takes it and goes on.
     pub(crate) fn take_dot(&mut self) -> bool
         ensures takes { result ≡ true → calls_with self.old lone_dot ≡ Some self.new }
-        ensures refuses { result ≡ false → (calls_with self.old lone_dot ≡ None) × (self.new ≡ self.old) }
+        ensures refuses { result ≡ false
+            → (calls_with self.old lone_dot ≡ None) × (self.new ≡ self.old) }
     {
         if let Some(frame) = self.frames.last_mut() {
             return frame.part.take_dot();
@@ -170,8 +174,10 @@ impl Part {
 
     /// Takes an object: whether it goes on.
     fn take_object(&mut self, x: HeldObject) -> Result<bool, AllocError>
-        ensures takes { IfOk result (λ taken. taken ≡ true → with_object self.old x ≡ Some self.new) }
-        ensures refuses { IfOk result (λ taken. taken ≡ false → (with_object self.old x ≡ None) × (self.new ≡ self.old)) }
+        ensures takes { IfOk result (λ taken.
+            taken ≡ true → with_object self.old x ≡ Some self.new) }
+        ensures refuses { IfOk result (λ taken.
+            taken ≡ false → (with_object self.old x ≡ None) × (self.new ≡ self.old)) }
     {
         match self {
             Part::List(items) => {

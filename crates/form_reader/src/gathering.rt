@@ -1,6 +1,6 @@
 //! One byte of what a call gathers, and what the call comes to.
 ghost use Rattle.std.specs.Prelude.{◌≡◌, ◌≤◌, ◌<◌, ◌+◌, ◌^◌, ℕ, List, ◌∷◌, length, IfOk};
-ghost use Rattle.form_reader.specs.declared.frame.Frame.{Frame as OpenCall};
+ghost use Rattle.form_reader.specs.declared.frame.Frame.{Frame};
 ghost use Rattle.form_reader.specs.Surrounding.{setting};
 ghost use Rattle.form_reader.specs.declared.stage.Stage.TheVariants.{Text as AtText, Escaped as AtEscaped, Line as AtLine, Block as AtBlock};
 ghost use Rattle.form_reader.specs.Resuming.{Brings, stage_gives};
@@ -15,11 +15,11 @@ use std::alloc::AllocError;
 use std_macros::StdGathered;
 use user_macros::MacroFunctions;
 
-/// The byte `c` at `at`, in the text of a call with so many open calls round it.
+/// The byte `c` at `at`, in the text of a call at this depth.
 #[tactic(auto, using(crate::proofs::Readiness::all_ready))]
 pub(crate) fn in_text<R: MacroFunctions>(
     with: &Surroundings<'_, R>,
-    round: usize,
+    depth: usize,
     call: Invoked,
     terminator: u8,
     mut text: HeldText,
@@ -30,7 +30,7 @@ pub(crate) fn in_text<R: MacroFunctions>(
     requires place { at ≤ with.now.limits.text }
     requires count { at < 2 ^ 63 }
     ensures brings { let setting = setting R.functions with.now in
-        (frames : List OpenCall) (cs : List ℕ) → round ≡ length frames
+        (frames : List Frame) (cs : List ℕ) → depth ≡ length frames
         → IfOk result (λ event. Brings setting frames (at + 1) cs event
         (stage_gives setting frames (AtText call terminator text) at (c ∷ cs))) }
     ensures ready { IfOk result (IsReady with.now.limits (at + 1)) }
@@ -40,7 +40,7 @@ pub(crate) fn in_text<R: MacroFunctions>(
         TextByte::Escape => Ok(Event::Stage(Stage::Escaped(call, terminator, text))),
         TextByte::Ended => {
             let gathered = StdGathered::Text(text.into_bytes());
-            ended(with, round, &call, false, gathered, at + 1)
+            ended(with, depth, &call, false, gathered, at + 1)
         }
         TextByte::Refused(code) => Ok(Event::Refused(code, at)),
     }
@@ -49,7 +49,7 @@ pub(crate) fn in_text<R: MacroFunctions>(
 /// The byte `c` at `at`, after an escape in the text of a call.
 pub(crate) fn in_escaped<R: MacroFunctions>(
     with: &Surroundings<'_, R>,
-    round: usize,
+    depth: usize,
     call: Invoked,
     terminator: u8,
     mut text: HeldText,
@@ -57,7 +57,7 @@ pub(crate) fn in_escaped<R: MacroFunctions>(
     c: u8,
 ) -> Result<Event, AllocError>
     ensures brings { let setting = setting R.functions with.now in
-        (frames : List OpenCall) (cs : List ℕ) → round ≡ length frames
+        (frames : List Frame) (cs : List ℕ) → depth ≡ length frames
         → IfOk result (λ event. Brings setting frames (at + 1) cs event
         (stage_gives setting frames (AtEscaped call terminator text) at (c ∷ cs))) }
     ensures ready { IfOk result (IsReady with.now.limits (at + 1)) }
@@ -68,11 +68,11 @@ pub(crate) fn in_escaped<R: MacroFunctions>(
     }
 }
 
-/// The byte `c` at `at`, in the line of a call with so many open calls round it.
+/// The byte `c` at `at`, in the line of a call at this depth.
 #[tactic(auto, using(crate::proofs::Readiness::all_ready))]
 pub(crate) fn in_line<R: MacroFunctions>(
     with: &Surroundings<'_, R>,
-    round: usize,
+    depth: usize,
     call: Invoked,
     mut text: HeldText,
     at: usize,
@@ -82,7 +82,7 @@ pub(crate) fn in_line<R: MacroFunctions>(
     requires place { at ≤ with.now.limits.text }
     requires count { at < 2 ^ 63 }
     ensures brings { let setting = setting R.functions with.now in
-        (frames : List OpenCall) (cs : List ℕ) → round ≡ length frames
+        (frames : List Frame) (cs : List ℕ) → depth ≡ length frames
         → IfOk result (λ event. Brings setting frames (at + 1) cs event
         (stage_gives setting frames (AtLine call text) at (c ∷ cs))) }
     ensures ready { IfOk result (IsReady with.now.limits (at + 1)) }
@@ -92,17 +92,17 @@ pub(crate) fn in_line<R: MacroFunctions>(
         LineByte::More => Ok(Event::Stage(Stage::Line(call, text))),
         LineByte::Ended => {
             let gathered = StdGathered::Text(text.into_bytes());
-            ended(with, round, &call, false, gathered, at + 1)
+            ended(with, depth, &call, false, gathered, at + 1)
         }
         LineByte::Refused(code) => Ok(Event::Refused(code, at)),
     }
 }
 
-/// The byte `c` at `at`, in the block of a call with so many open calls round it.
+/// The byte `c` at `at`, in the block of a call at this depth.
 #[tactic(auto, using(crate::proofs::Readiness::all_ready))]
 pub(crate) fn in_block<R: MacroFunctions>(
     with: &Surroundings<'_, R>,
-    round: usize,
+    depth: usize,
     call: Invoked,
     mut levels: (usize, u8),
     at: usize,
@@ -113,14 +113,14 @@ pub(crate) fn in_block<R: MacroFunctions>(
     requires count { at < 2 ^ 63 }
     requires level { levels.0 ≤ at }
     ensures brings { let setting = setting R.functions with.now in
-        (frames : List OpenCall) (cs : List ℕ) → round ≡ length frames
+        (frames : List Frame) (cs : List ℕ) → depth ≡ length frames
         → IfOk result (λ event. Brings setting frames (at + 1) cs event
         (stage_gives setting frames (AtBlock call levels) at (c ∷ cs))) }
     ensures ready { IfOk result (IsReady with.now.limits (at + 1)) }
 {
     match block_byte(with.readtable, &with.limits, &mut levels, at, c) {
         LineByte::More => Ok(Event::Stage(Stage::Block(call, levels))),
-        LineByte::Ended => ended(with, round, &call, false, StdGathered::Nothing, at + 1),
+        LineByte::Ended => ended(with, depth, &call, false, StdGathered::Nothing, at + 1),
         LineByte::Refused(code) => Ok(Event::Refused(code, at)),
     }
 }

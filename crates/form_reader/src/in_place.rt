@@ -4,9 +4,9 @@ ghost use Rattle.form_reader.specs.Feeding.{is_going};
 ghost use Rattle.form_reader.specs.Surrounding.{setting};
 ghost use Rattle.form_reader.specs.declared.stage.Stage.TheVariants.{Object as AtObject};
 ghost use Rattle.form_reader.specs.InPlace.{is_space};
-ghost use Rattle.form_reader.specs.InPlace.{Begins, FeedsInPlace, IsReadyInPlace, Stays};
+ghost use Rattle.form_reader.specs.InPlace.{BeginsToken, FeedsInPlace, IsBegunAt, IsReadyInPlace, Stays};
 ghost use Rattle.form_reader.specs.declared.in_place.InPlace.TheVariants.{Passed as IsPassed};
-ghost use Rattle.form_reader.specs.Turning.{rest_of};
+ghost use Rattle.form_reader.specs.Changing.{rest_of};
 
 use crate::attempt::stands_alone;
 use crate::bytes::LineByte;
@@ -18,7 +18,7 @@ use std::alloc::AllocError;
 use user_macros::MacroFunctions;
 
 /// What a byte is where the reader is, if it may be taken there.
-#[derive(Clone, Copy, Debug, PartialEq, Eq)]
+#[derive(Clone, Copy)]
 pub enum InPlace {
     /// It is taken, and the reader goes on there.
     Taken,
@@ -99,8 +99,8 @@ fn begun_at<R: MacroFunctions>(
     requires place { at ≤ with.now.limits.text }
     requires nesting { length frames.now ≤ with.now.limits.nesting }
     ensures begins { let setting = setting R.functions with.now in
-        (cs : List ℕ) → IfOk result (λ begun. IfSome begun (λ scan. Begins setting frames.now at c cs scan)) }
-    ensures ready { IfOk result (λ begun. IfSome begun (λ scan. (at < with.now.limits.text) × IsTrue (is_going scan.stage))) }
+        (cs : List ℕ) → IfOk result (λ begun. IfSome begun (λ scan. BeginsToken setting frames.now at c cs scan)) }
+    ensures ready { IfOk result (λ begun. IfSome begun (IsBegunAt with.now.limits at)) }
     ensures none { let setting = setting R.functions with.now in
         is_space setting frames.now AtObject at c ≡ true → result ≡ Ok None }
 {

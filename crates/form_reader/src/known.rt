@@ -86,7 +86,8 @@ fn is_nil(home: &[u8], name: &[u8]) -> bool
 }
 
 fn has_home(packages: &Packages, home: &[u8], name: &[u8]) -> bool
-    ensures { result ≡ (finite.contains_key packages.now.0 home.now && is_home home.now (resolution packages.now.0 home.now name.now)) }
+    ensures { result ≡ (finite.contains_key packages.now.0 home.now
+        && is_home home.now (resolution packages.now.0 home.now name.now)) }
 {
     if !is_package(packages, home) {
         return false;

@@ -1,7 +1,7 @@
 //! Laws of readers, as contracts of functions that do nothing.
 ghost use Rattle.std.specs.Prelude.{◌≡◌, ◌≤◌, ◌<◌, ◌∷◌, ◌++◌, ◌-◌, ℕ, List, length};
 ghost use Rattle.form_reader.specs.declared.reader.FormReader.{FormReader};
-ghost use Rattle.form_reader.specs.declared.reader.Step.TheVariants.{More};
+ghost use Rattle.form_reader.specs.declared.reader.Advance.TheVariants.{More};
 ghost use Rattle.form_reader.specs.Reader.{IsAfter, IsBetween, Steps};
 ghost use Rattle.lisp_reading.specs.Setting.{Setting};
 ghost use Rattle.lisp_reading.specs.Reading.{Outcome, form, empty, outcome, reads_at, reads};
@@ -9,15 +9,16 @@ ghost use Rattle.lisp_reading.specs.Reading.{Outcome, form, empty, outcome, read
 /// Where a step answers `More`, no outcome is that of every text that begins with the bytes it was fed: a form, and a
 /// refusal, was answered as soon as the bytes were there that decide it.
 pub fn what_is_decided_is_answered()
-    ensures { (setting : Setting) (reader : FormReader) (bytes : List ℕ) (o : Outcome) → Steps setting reader bytes More
-        → ((more : List ℕ) → reads setting (bytes ++ more) ≡ o) → ⊥ }
+    ensures { (setting : Setting) (reader : FormReader) (bytes : List ℕ) (o : Outcome)
+        → Steps setting reader bytes More → ((more : List ℕ) → reads setting (bytes ++ more) ≡ o) → ⊥ }
 {}
 
 /// The bytes before a reader that is between forms are discarded text, and the text after them is read as a text that begins
 /// there.
 pub fn texts_begin_between_forms()
-    ensures discarded { (setting : Setting) (reader : FormReader) (bytes : List ℕ) → IsAfter setting reader bytes → IsBetween reader
-        → reads setting bytes ≡ empty }
-    ensures begins { (setting : Setting) (reader : FormReader) (bytes more : List ℕ) → IsAfter setting reader bytes → IsBetween reader
+    ensures discarded { (setting : Setting) (reader : FormReader) (bytes : List ℕ)
+        → IsAfter setting reader bytes → IsBetween reader → reads setting bytes ≡ empty }
+    ensures begins { (setting : Setting) (reader : FormReader) (bytes more : List ℕ)
+        → IsAfter setting reader bytes → IsBetween reader
         → reads setting (bytes ++ more) ≡ reads_at setting (length bytes) more }
 {}

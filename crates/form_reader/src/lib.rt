@@ -7,11 +7,11 @@
 //!
 //! - specs/Frames.antt, specs/Resuming.antt: what open calls stand for, and a place in the innermost, for a reader that takes
 //!   one byte at a time; specs/Feeding.antt, specs/Delivering.antt: what one byte, and what is found, are to them
-//! - specs/Ready.antt, specs/Standing.antt: what keeps such a reader going; specs/Turning.antt, specs/Ending.antt: what one byte,
+//! - specs/Ready.antt, specs/Standing.antt: what keeps such a reader going; specs/Changing.antt, specs/Ending.antt: what one byte,
 //!   and the end of the text, are to the outcome; specs/Reader.antt: what a reader is after, and what it answers
 //!
-//! - `reader`: `FormReader`, `Step`; `whole`: `read_one`
-//! - `turn`: one byte, wherever a reader is in a form; `ending`: the end of the text, `ReadOutcome`
+//! - `reader`: `FormReader`, `Advance`; `whole`: `read_one`
+//! - `change`: one byte, wherever a reader is in a form; `ending`: the end of the text, `ReadOutcome`
 //! - `frame`, `stage`: open calls, and where a reader is in the innermost
 //! - `known`: which data may be answered; `complete`: what a call gives
 //! - `advance`: one byte, wherever a reader is in its innermost call
@@ -26,6 +26,7 @@
 mod advance;
 mod attempt;
 mod bytes;
+mod change;
 mod close;
 mod complete;
 mod deliver;
@@ -42,7 +43,6 @@ mod reader;
 mod stage;
 mod surroundings;
 mod tokens;
-mod turn;
 mod whole;
 
 pub use ending::ReadOutcome;
@@ -53,5 +53,5 @@ pub use lisp_reading::{
     only_what_is_found_matters, reading_goes_on, refusals_are_decided, refusals_are_of_reading,
     spaced_forms_are_framed,
 };
-pub use reader::{FormReader, Step};
+pub use reader::{Advance, FormReader};
 pub use whole::read_one;

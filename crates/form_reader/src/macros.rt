@@ -6,7 +6,7 @@ ghost use Rattle.form_reader.specs.Surrounding.{setting};
 ghost use Rattle.lisp_reading.specs.Reading.{macro_called, sub_there};
 ghost use Rattle.form_reader.specs.Frames.{plan_gives};
 ghost use Rattle.form_reader.specs.Resuming.{inner_at, Brings, Moves, stage_gives};
-ghost use Rattle.form_reader.specs.declared.frame.Frame.{Frame as OpenCall};
+ghost use Rattle.form_reader.specs.declared.frame.Frame.{Frame};
 ghost use Rattle.form_reader.specs.declared.stage.Stage.TheVariants.{CallToken as AtCallToken, Number as AtNumber};
 ghost use Rattle.form_reader.specs.Ready.{IsReady, IsReadyMove};
 
@@ -61,10 +61,10 @@ pub(crate) fn begin_macro<R: MacroFunctions>(
     }
 }
 
-/// The byte `c` at `at`, in the token of a call with so many open calls round it.
+/// The byte `c` at `at`, in the token of a call at this depth.
 pub(crate) fn in_call_token<R: MacroFunctions>(
     with: &Surroundings<'_, R>,
-    round: usize,
+    depth: usize,
     call: Invoked,
     mut scan: TokenScan,
     at: usize,
@@ -73,7 +73,7 @@ pub(crate) fn in_call_token<R: MacroFunctions>(
     requires answers { R.answers with.now.macros.now }
     requires place { at ≤ with.now.limits.text }
     ensures moves { let setting = setting R.functions with.now in
-        (frames : List OpenCall) (cs : List ℕ) → round ≡ length frames
+        (frames : List Frame) (cs : List ℕ) → depth ≡ length frames
         → IfOk result (λ moved. Moves setting frames at c cs moved
         (stage_gives setting frames (AtCallToken call scan) at (c ∷ cs))) }
     ensures ready { IfOk result (IsReadyMove with.now.limits at) }
@@ -82,7 +82,7 @@ pub(crate) fn in_call_token<R: MacroFunctions>(
         LineByte::More => Ok(Moved::Taken(Event::Stage(Stage::CallToken(call, scan)))),
         LineByte::Ended => {
             let gathered = StdGathered::Marks(scan.into_marks());
-            Ok(Moved::Before(ended(with, round, &call, true, gathered, at)?))
+            Ok(Moved::Before(ended(with, depth, &call, true, gathered, at)?))
         }
         LineByte::Refused(code) => Ok(Moved::Taken(Event::Refused(code, at))),
     }

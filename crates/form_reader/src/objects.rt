@@ -7,7 +7,7 @@ ghost use Rattle.form_reader.specs.Surrounding.{setting};
 ghost use Rattle.lisp_reading.specs.Reading.{is_blank, token_found};
 ghost use Rattle.form_reader.specs.Frames.{plan_gives, place_gives};
 ghost use Rattle.form_reader.specs.Resuming.{Brings, Moves, stage_gives};
-ghost use Rattle.form_reader.specs.declared.frame.Frame.{Frame as OpenCall};
+ghost use Rattle.form_reader.specs.declared.frame.Frame.{Frame};
 ghost use Rattle.form_reader.specs.declared.stage.Stage.TheVariants.{Object as AtObject, Token as AtToken};
 ghost use Rattle.form_reader.specs.Ready.{lookahead, IsReady, IsReadyMove, IsReadyPass, IsEnd};
 
@@ -42,6 +42,7 @@ pub(crate) fn at_object<R: MacroFunctions>(
     ensures ready { IfOk result (IsReady with.now.limits (at + 1)) }
     ensures nesting { IfOk result (λ _. length frames.new ≤ with.now.limits.nesting) }
 {
+    // The closing character is looked for before its own syntax, which may be any.
     if let Some(frame) = frames.pop_closed_by(c) {
         if at >= with.limits.text {
             return Ok(Event::Refused(FORM_TOO_LONG, at));
@@ -72,6 +73,7 @@ pub(crate) fn after_token<R: MacroFunctions>(
     ensures ready { IfOk result (IsReady with.now.limits (at + 1)) }
     ensures nesting { IfOk result (λ _. length frames.new ≤ with.now.limits.nesting) }
 {
+    // Whitespace that ended a token is discarded with it, also where it is the closing character.
     if is_blank(with.readtable.syntax(c)) {
         if at >= with.limits.text {
             return Ok(Event::Refused(FORM_TOO_LONG, at));
@@ -148,7 +150,7 @@ pub(crate) fn in_token<R: MacroFunctions>(
 ) -> Result<Moved, AllocError>
     requires place { at ≤ with.now.limits.text }
     ensures moves { let setting = setting R.functions with.now in
-        (frames : List OpenCall) (cs : List ℕ) → IfOk result (λ moved. Moves setting frames at c cs moved
+        (frames : List Frame) (cs : List ℕ) → IfOk result (λ moved. Moves setting frames at c cs moved
         (stage_gives setting frames (AtToken scan) at (c ∷ cs))) }
     ensures ready { IfOk result (IsReadyMove with.now.limits at) }
 {
@@ -169,7 +171,7 @@ pub(crate) fn token_end<R: MacroFunctions>(
     requires some { 0 < length marks.items }
     requires ascii { IsTrue (are_ascii marks.items) }
     ensures brings { let setting = setting R.functions with.now in
-        (frames : List OpenCall) (cs : List ℕ) → IfOk result (λ event. Brings setting frames at cs event
+        (frames : List Frame) (cs : List ℕ) → IfOk result (λ event. Brings setting frames at cs event
         (plan_gives setting frames (token_found setting marks.items) at cs)) }
     ensures ends { IfOk result (IsEnd 1 at) }
 {

@@ -2,7 +2,7 @@
 ghost use Rattle.std.specs.Prelude.{◌≡◌, ◌≤◌, ℕ, true, false, List, IfOk, length, Ok, Some};
 ghost use Rattle.lisp_reading.specs.Setting.{Setting, is_baseless, standard_way, user_way, way_in};
 ghost use Rattle.form_reader.specs.Surrounding.{setting};
-ghost use Rattle.form_reader.specs.declared.frame.Frame.{Frame as OpenCall};
+ghost use Rattle.form_reader.specs.declared.frame.Frame.{Frame};
 ghost use Rattle.form_reader.specs.Frames.{plan_gives};
 ghost use Rattle.lisp_reading.specs.Reading.{completed, gathered};
 ghost use Rattle.form_reader.specs.Resuming.{Begins, Brings, Gathers, ComesTo};
@@ -144,7 +144,8 @@ fn gather_objects<R: MacroFunctions>(
 #[tactic(auto, using(crate::proofs::Beginnings::refused_is))]
 #[inline(always)]
 pub(crate) fn event_of(completed: Completed, at: usize) -> Event
-    ensures comes { (setting : Setting) (frames : List OpenCall) (cs : List ℕ) → ComesTo setting frames completed at cs result }
+    ensures comes { (setting : Setting) (frames : List Frame) (cs : List ℕ)
+        → ComesTo setting frames completed at cs result }
     ensures ends { IsEnd (completed_lookahead completed) at result }
 {
     match completed {
@@ -153,11 +154,11 @@ pub(crate) fn event_of(completed: Completed, at: usize) -> Event
     }
 }
 
-/// What a call brings that ends at `at`, with so many open calls round it, and whether a token ends it.
+/// What a call brings that ends at `at` at this depth, and whether a token ends it.
 #[inline(always)]
 pub(crate) fn ended<R: MacroFunctions>(
     with: &Surroundings<'_, R>,
-    round: usize,
+    depth: usize,
     call: &Invoked,
     token: bool,
     gathered: StdGathered,
@@ -166,12 +167,12 @@ pub(crate) fn ended<R: MacroFunctions>(
     requires answers { R.answers with.now.macros.now }
     requires proper { IsProperGathered gathered }
     ensures brings { let setting = setting R.functions with.now in
-        (frames : List OpenCall) (cs : List ℕ) → round ≡ length frames
+        (frames : List Frame) (cs : List ℕ) → depth ≡ length frames
         → IfOk result (λ event. Brings setting frames at cs event
         (plan_gives setting frames (completed setting (length frames) call.now token false (view_gathered gathered)) at cs)) }
     ensures ends { IfOk result (IsEnd (space token) at) }
 {
-    Ok(event_of(complete(with, round, call, token, false, gathered)?, at))
+    Ok(event_of(complete(with, depth, call, token, false, gathered)?, at))
 }
 
 /// The way in which the function of a call gathers.

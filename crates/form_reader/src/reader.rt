@@ -3,12 +3,12 @@ ghost use Rattle.std.specs.Prelude.{◌≡◌, IsTrue};
 ghost use Rattle.form_reader.specs.Standing.{is_standing};
 ghost use Rattle.form_reader.specs.declared.reader.ReaderState.TheVariants.{Refused, OutOfMemory};
 
+use crate::change::{Change, take_byte};
 use crate::ending::{ReadOutcome, last_outcome};
 use crate::frame::Frames;
 use crate::in_place::{InPlace, in_place};
 use crate::stage::Stage;
 use crate::surroundings::Surroundings;
-use crate::turn::{Turn, take_byte};
 use lisp_object::Datum;
 use lisp_reading::Limits;
 use package_table::Packages;
@@ -25,13 +25,13 @@ pub struct FormReader {
     start: usize,
     at: usize,
     frames: Frames,
-    state: State,
+    state: ReaderState,
     ghost standing: { IsTrue (is_standing limits frames at state) },
 }
 
 /// Where a reader is.
 #[derive(Drop)]
-pub enum State {
+pub enum ReaderState {
     /// In a form: where it is in the innermost call.
     Open(Stage),
     /// It refused the text, with this number, at this place.
@@ -42,7 +42,7 @@ pub enum State {
 
 /// What one more byte is to the text.
 #[derive(Drop)]
-pub enum Step {
+pub enum Advance {
     /// More bytes decide.
     More,
     /// The text begins with a form: its object, its start, its end, and where the next form begins.
@@ -66,10 +66,10 @@ impl FormReader {
     ghost use Rattle.form_reader.specs.Surrounding.{setting};
     ghost use Rattle.lisp_object.specs.Object.{Object};
     ghost use Rattle.lisp_reading.specs.Reading.{form, is_whitespace, reads};
-    ghost use Rattle.form_reader.specs.declared.reader.Step.TheVariants.{More as StepMore, Refused as StepRefused};
+    ghost use Rattle.form_reader.specs.declared.reader.Advance.TheVariants.{More as AdvanceMore, Refused as AdvanceRefused};
     ghost use Rattle.form_reader.specs.declared.ending.ReadOutcome.TheVariants.{Empty as ReadEmpty, Refused as ReadRefused};
-    ghost use Rattle.form_reader.specs.Turning.{IsReadyTurn};
-    ghost use Rattle.form_reader.specs.Reader.{limits_of, fed, begun, HasRefused, HasNoMemory, IsNew, IsBetween, LeavesBetween, IsAfter, IsOpen, Steps, Counts, BeginsLater, IsSoundStep, Takes, IsOutcome};
+    ghost use Rattle.form_reader.specs.Changing.{IsReadyChange};
+    ghost use Rattle.form_reader.specs.Reader.{limits_of, fed, begun, HasRefused, HasNoMemory, IsNew, IsBetween, LeavesBetween, IsAfter, IsOpen, Steps, Counts, BeginsLater, IsSoundStep, Becomes, IsOutcome};
 
     /// A reader that was fed nothing, between forms. It keeps `alloc` for what it gathers.
     pub fn new(alloc: Global, limits: Limits) -> FormReader
@@ -85,7 +85,7 @@ impl FormReader {
             start: 0,
             at: 0,
             frames: Frames::new(alloc),
-            state: State::Open(Stage::Object),
+            state: ReaderState::Open(Stage::Object),
         }
     }
 
@@ -94,8 +94,8 @@ impl FormReader {
     pub fn begun(&self) -> usize
         ensures place { result ≡ begun self.now }
         ensures within { result ≤ fed self.now }
-        ensures form { (setting : Setting) (bytes more : List ℕ) (x : Object) (start end next : ℕ) → IsAfter setting self.now bytes
-            → reads setting (bytes ++ more) ≡ form x start end next → result ≤ start }
+        ensures form { (setting : Setting) (bytes more : List ℕ) (x : Object) (start end next : ℕ)
+            → IsAfter setting self.now bytes → reads setting (bytes ++ more) ≡ form x start end next → result ≤ start }
     {
         let FormReader { start, .. } = self;
         *start
@@ -111,7 +111,7 @@ impl FormReader {
         packages: &Packages,
         current: &[u8],
         macros: &R,
-    ) -> Result<Step, AllocError>
+    ) -> Result<Advance, AllocError>
         requires answers { R.answers macros.now }
         requires current { IsPackage packages.now.0 current.now }
         requires count { fed self.old < 2 ^ 63 }
@@ -128,15 +128,17 @@ impl FormReader {
         ensures begun { IfOk result (BeginsLater self.old self.new) }
         ensures sound { IfOk result IsSoundStep }
         ensures refused { (code place : ℕ) → HasRefused self.old code place
-            → (result ≡ Ok (StepRefused code place)) × HasRefused self.new code place }
+            → (result ≡ Ok (AdvanceRefused code place)) × HasRefused self.new code place }
         ensures memory { OnErr result (HasNoMemory self.new) }
         ensures spent { HasNoMemory self.old → IsErr result }
-        ensures stays { (code place : ℕ) → (HasRefused self.old code place → fed self.new ≡ fed self.old)
+        ensures stays { (code place : ℕ)
+            → (HasRefused self.old code place → fed self.new ≡ fed self.old)
             × (HasNoMemory self.old → fed self.new ≡ fed self.old) }
-        ensures between { IsBetween self.old → is_whitespace readtable.now byte ≡ true → 0 < (limits_of self.old).text
-            → (result ≡ Ok StepMore) × IsBetween self.new }
+        ensures between { IsBetween self.old → is_whitespace readtable.now byte ≡ true
+            → 0 < (limits_of self.old).text → (result ≡ Ok AdvanceMore) × IsBetween self.new }
         ensures between_forms { IfOk result (LeavesBetween self.new) }
-        ensures nothing_open { result ≡ Ok StepMore → begun self.new ≡ fed self.new → IsBetween self.new }
+        ensures nothing_open { result ≡ Ok AdvanceMore
+            → begun self.new ≡ fed self.new → IsBetween self.new }
     {
         let with = Surroundings {
             alloc: self.alloc,
@@ -147,32 +149,32 @@ impl FormReader {
             macros,
         };
         match &mut self.state {
-            State::Open(stage) => match in_place(&with, &self.frames, stage, self.at, byte) {
+            ReaderState::Open(stage) => match in_place(&with, &self.frames, stage, self.at, byte) {
                 Ok(InPlace::Taken) => {
                     self.at += 1;
-                    Ok(Step::More)
+                    Ok(Advance::More)
                 }
                 Ok(InPlace::Passed) => {
                     self.start += self.at + 1;
                     self.at = 0;
-                    Ok(Step::More)
+                    Ok(Advance::More)
                 }
                 Ok(InPlace::Left) => self.leave(&with, byte),
                 Ok(InPlace::Refused(code)) => {
                     let place = self.start + self.at;
                     refuse(&mut self.state, code, place);
-                    Ok(Step::Refused { code, at: place })
+                    Ok(Advance::Refused { code, at: place })
                 }
                 Err(error) => {
                     run_out(&mut self.state);
                     Err(error)
                 }
             },
-            State::Refused(code, at) => {
+            ReaderState::Refused(code, at) => {
                 let (code, at) = (*code, *at);
-                Ok(Step::Refused { code, at })
+                Ok(Advance::Refused { code, at })
             }
-            State::OutOfMemory => Err(AllocError),
+            ReaderState::OutOfMemory => Err(AllocError),
         }
     }
 
@@ -182,7 +184,7 @@ impl FormReader {
         &mut self,
         with: &Surroundings<'_, R>,
         byte: u8,
-    ) -> Result<Step, AllocError>
+    ) -> Result<Advance, AllocError>
         requires answers { R.answers with.now.macros.now }
         requires limits { with.now.limits ≡ limits_of self.old }
         requires count { fed self.old < 2 ^ 63 }
@@ -196,47 +198,49 @@ impl FormReader {
         ensures sound { IfOk result IsSoundStep }
         ensures memory { OnErr result (HasNoMemory self.new) }
         ensures between_forms { IfOk result (LeavesBetween self.new) }
-        ensures nothing_open { result ≡ Ok StepMore → begun self.new ≡ fed self.new → IsBetween self.new }
+        ensures nothing_open { result ≡ Ok AdvanceMore
+            → begun self.new ≡ fed self.new → IsBetween self.new }
     {
-        match mem::replace(&mut self.state, State::OutOfMemory) {
-            State::Open(stage) => {
+        // Until the byte has come to something: where that fails, the reader answers the same again.
+        match mem::replace(&mut self.state, ReaderState::OutOfMemory) {
+            ReaderState::Open(stage) => {
                 let next = take_byte(with, &mut self.frames, stage, self.start, self.at, byte)?;
                 Ok(self.take(next))
             }
-            State::Refused(..) => unreachable!(),
-            State::OutOfMemory => unreachable!(),
+            ReaderState::Refused(..) => unreachable!(),
+            ReaderState::OutOfMemory => unreachable!(),
         }
     }
 
-    /// Takes what a byte is to the text.
+    /// Becomes what a byte is to the text.
     #[inline(always)]
-    fn take(&mut self, turn: Turn) -> Step
-        requires ready { IsReadyTurn (limits_of self.old) self.old.frames (fed self.old + 1) turn }
+    fn take(&mut self, change: Change) -> Advance
+        requires ready { IsReadyChange (limits_of self.old) self.old.frames (fed self.old + 1) change }
         ensures limits { limits_of self.new ≡ limits_of self.old }
-        ensures takes { Takes turn self.old self.new result }
+        ensures takes { Becomes change self.old self.new result }
         ensures sound { IsSoundStep result }
     {
-        match turn {
-            Turn::Goes(start, at, stage) => {
+        match change {
+            Change::Goes(start, at, stage) => {
                 self.start = start;
                 self.at = at;
-                self.state = State::Open(stage);
-                Step::More
+                self.state = ReaderState::Open(stage);
+                Advance::More
             }
-            Turn::Form(x, start, end, next) => {
+            Change::Form(x, start, end, next) => {
                 self.start = 0;
                 self.at = 0;
-                self.state = State::Open(Stage::Object);
-                Step::Form {
+                self.state = ReaderState::Open(Stage::Object);
+                Advance::Form {
                     datum: x.into_sound_datum(),
                     start,
                     end,
                     next,
                 }
             }
-            Turn::Refused(code, at) => {
-                self.state = State::Refused(code, at);
-                Step::Refused { code, at }
+            Change::Refused(code, at) => {
+                self.state = ReaderState::Refused(code, at);
+                Advance::Refused { code, at }
             }
         }
     }
@@ -253,7 +257,8 @@ impl FormReader {
         requires answers { R.answers macros.now }
         requires current { IsPackage packages.now.0 current.now }
         requires count { fed self ≤ 2 ^ 63 }
-        ensures refused { (code place : ℕ) → HasRefused self code place → result ≡ Ok (ReadRefused code place) }
+        ensures refused { (code place : ℕ) → HasRefused self code place
+            → result ≡ Ok (ReadRefused code place) }
         ensures spent { HasNoMemory self → IsErr result }
         ensures outcome { (bytes : List ℕ) → IsAfter
             (setting_of (limits_of self) readtable.now packages.now.0 current.now
@@ -273,7 +278,7 @@ impl FormReader {
             state,
         } = self;
         match state {
-            State::Open(stage) => {
+            ReaderState::Open(stage) => {
                 let with = Surroundings {
                     alloc,
                     limits,
@@ -284,24 +289,24 @@ impl FormReader {
                 };
                 last_outcome(&with, &mut frames, stage, start, at)
             }
-            State::Refused(code, at) => Ok(ReadOutcome::Refused { code, at }),
-            State::OutOfMemory => Err(AllocError),
+            ReaderState::Refused(code, at) => Ok(ReadOutcome::Refused { code, at }),
+            ReaderState::OutOfMemory => Err(AllocError),
         }
     }
 }
 
 /// The reader refused the text here.
 #[inline(never)]
-fn refuse(state: &mut State, code: u16, place: usize)
+fn refuse(state: &mut ReaderState, code: u16, place: usize)
     ensures { state.new ≡ Refused code place }
 {
-    *state = State::Refused(code, place);
+    *state = ReaderState::Refused(code, place);
 }
 
 /// The reader ran out of memory.
 #[inline(never)]
-fn run_out(state: &mut State)
+fn run_out(state: &mut ReaderState)
     ensures { state.new ≡ OutOfMemory }
 {
-    *state = State::OutOfMemory;
+    *state = ReaderState::OutOfMemory;
 }

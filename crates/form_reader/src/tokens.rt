@@ -38,6 +38,7 @@ pub(crate) fn token_byte(
     ensures begun { IsTrue (has_begun scan.old) → IsTrue (has_begun scan.new) }
 {
     match scan.feed(readtable.syntax(c), c)? {
+        // The byte is not taken, so it is not asked whether it is one too many.
         Fed::Ended => Ok(LineByte::Ended),
         Fed::More => {
             if at >= limits.text {

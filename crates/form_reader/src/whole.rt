@@ -8,7 +8,7 @@ ghost use Rattle.lisp_reading.specs.Reading.{is_whitespace, reads};
 ghost use Rattle.form_reader.specs.Reader.{IsOutcome};
 
 use crate::ending::ReadOutcome;
-use crate::reader::{FormReader, Step};
+use crate::reader::{Advance, FormReader};
 use lisp_reading::Limits;
 use package_table::Packages;
 use readtable_core::Readtable;
@@ -31,13 +31,14 @@ pub fn read_one<R: MacroFunctions>(
         (setting_of limits readtable.now packages.now.0 current.now
         (R.functions macros.now))
         bytes.now)) }
-    ensures blank { 0 < limits.text → list_all (is_whitespace readtable.now) bytes.now ≡ true → result ≡ Ok ReadEmpty }
+    ensures blank { 0 < limits.text → list_all (is_whitespace readtable.now) bytes.now ≡ true
+        → result ≡ Ok ReadEmpty }
 {
     let mut reader = FormReader::new(alloc, limits);
     for byte in bytes {
         match reader.step(*byte, readtable, packages, current, macros)? {
-            Step::More => {}
-            Step::Form {
+            Advance::More => {}
+            Advance::Form {
                 datum,
                 start,
                 end,
@@ -50,7 +51,7 @@ pub fn read_one<R: MacroFunctions>(
                     next,
                 });
             }
-            Step::Refused { code, at } => return Ok(ReadOutcome::Refused { code, at }),
+            Advance::Refused { code, at } => return Ok(ReadOutcome::Refused { code, at }),
         }
     }
     reader.finish(readtable, packages, current, macros)

@@ -62,35 +62,35 @@ along_within (o.uninterned own) = omega arith
 module _ (P : Object → Type 0) where
   -- P holds of its atoms, and it is at most so deep
   abbrev pub Within : ℕ → Object → Type 0
-  Within depth x = (object_depth x ≤ depth) × AllAtoms P x
+  Within room x = (object_depth x ≤ room) × AllAtoms P x
 
   -- the same as the end of a list
   abbrev Along : ℕ → Object → Type 0
-  Along depth x = (depth_along x ≤ depth) × AllAtoms P x
+  Along room x = (depth_along x ≤ room) × AllAtoms P x
 
-  pairs_along : (depth : ℕ) (xs : List Object) (tail : Object) → All (Within depth) xs → Along depth tail → Along depth (pairs xs tail)
-  pairs_along depth [] tail all end = end
-  pairs_along depth (x ∷ xs) tail all end =
-      let rest = pairs_along depth xs tail (All-tail (Within depth) x xs all) end in
-      let first = All-head (Within depth) x xs all in
+  pairs_along : (room : ℕ) (xs : List Object) (tail : Object) → All (Within room) xs → Along room tail → Along room (pairs xs tail)
+  pairs_along room [] tail all end = end
+  pairs_along room (x ∷ xs) tail all end =
+      let rest = pairs_along room xs tail (All-tail (Within room) x xs all) end in
+      let first = All-head (Within room) x xs all in
       (omega (arith, rest.0, first.0), (first.1, rest.1))
 
-  pairs_within : (depth : ℕ) (xs : List Object) (tail : Object) → All (Within depth) xs → Within depth tail → Within (suc depth) (pairs xs tail)
-  pairs_within depth [] tail all end = (omega (arith, end.0), end.1)
-  pairs_within depth (x ∷ xs) tail all end =
-      let whole = pairs_along depth (x ∷ xs) tail all (omega (arith, end.0, along_within tail), end.1) in
+  pairs_within : (room : ℕ) (xs : List Object) (tail : Object) → All (Within room) xs → Within room tail → Within (suc room) (pairs xs tail)
+  pairs_within room [] tail all end = (omega (arith, end.0), end.1)
+  pairs_within room (x ∷ xs) tail all end =
+      let whole = pairs_along room (x ∷ xs) tail all (omega (arith, end.0, along_within tail), end.1) in
       (omega (arith, whole.0), whole.1)
 
-  vector_within : (depth : ℕ) (xs : List Object) → P nil → All (Within depth) xs → Within (suc depth) (o.vector (list_of xs))
-  vector_within depth xs end all =
-      let whole = pairs_along depth xs nil all (omega arith, end) in
+  vector_within : (room : ℕ) (xs : List Object) → P nil → All (Within room) xs → Within (suc room) (o.vector (list_of xs))
+  vector_within room xs end all =
+      let whole = pairs_along room xs nil all (omega arith, end) in
       (omega (arith, whole.0), whole.1)
 
-  last_within : (depth : ℕ) (xs : List Object) (x : Object) → last_of xs ≡ Some x → All (Within depth) xs → Within depth x
+  last_within : (room : ℕ) (xs : List Object) (x : Object) → last_of xs ≡ Some x → All (Within room) xs → Within room x
   unfolding last_of
-  last_within depth [] x e all = absurd cc
-  last_within depth (y ∷ []) x e all = let same : y ≡ x = cc in subst (Within depth) same (All-head (Within depth) y [] all)
-  last_within depth (y ∷ z ∷ zs) x e all = last_within depth (z ∷ zs) x e (All-tail (Within depth) y (z ∷ zs) all)
+  last_within room [] x e all = absurd cc
+  last_within room (y ∷ []) x e all = let same : y ≡ x = cc in subst (Within room) same (All-head (Within room) y [] all)
+  last_within room (y ∷ z ∷ zs) x e all = last_within room (z ∷ zs) x e (All-tail (Within room) y (z ∷ zs) all)
 
 -- ---- characters of names
 
@@ -338,149 +338,149 @@ module _ (t : Packages) (limit : ℕ) (P : Object → Type 0) (allows : Allows t
   Good = Within P
 
   abbrev ValueAllowed : ℕ → Value → Type 0
-  ValueAllowed depth (Ok (Some x)) = Good depth x
-  ValueAllowed depth (Ok None) = Unit {0}
-  ValueAllowed depth (Err refusal) = Unit {0}
+  ValueAllowed room (Ok (Some x)) = Good room x
+  ValueAllowed room (Ok None) = Unit {0}
+  ValueAllowed room (Err refusal) = Unit {0}
 
-  value_chosen : (depth : ℕ) (b : Bool) (v w : Value) → ValueAllowed depth v → ValueAllowed depth w → ValueAllowed depth (if b then v else w)
-  value_chosen depth true v w p q = p
-  value_chosen depth false v w p q = q
+  value_chosen : (room : ℕ) (b : Bool) (v w : Value) → ValueAllowed room v → ValueAllowed room w → ValueAllowed room (if b then v else w)
+  value_chosen room true v w p q = p
+  value_chosen room false v w p q = q
 
-  good_nil : (depth : ℕ) → Good depth nil
-  good_nil depth = (omega arith, nil_allowed)
+  good_nil : (room : ℕ) → Good room nil
+  good_nil room = (omega arith, nil_allowed)
 
-  list_good : (depth : ℕ) (m : Material) → MaterialAt Good limit depth m → ValueAllowed depth (list_value m)
+  list_good : (room : ℕ) (m : Material) → MaterialAt Good limit room m → ValueAllowed room (list_value m)
   list_good zero (many xs) h = absurd h
   list_good zero (dotted xs tail) h = absurd h
-  list_good (suc depth) (many xs) h = pairs_within P depth xs nil h (good_nil depth)
-  list_good (suc depth) (dotted xs tail) h = pairs_within P depth xs tail h.0 h.1
-  list_good depth nothing h = tt
-  list_good depth (one x) h = tt
-  list_good depth (letters cs) h = tt
-  list_good depth (marked marks) h = tt
+  list_good (suc room) (many xs) h = pairs_within P room xs nil h (good_nil room)
+  list_good (suc room) (dotted xs tail) h = pairs_within P room xs tail h.0 h.1
+  list_good room nothing h = tt
+  list_good room (one x) h = tt
+  list_good room (letters cs) h = tt
+  list_good room (marked marks) h = tt
 
-  headed_good : (own : Name) → P (o.symbol (codes "COMMON-LISP") own) → (depth : ℕ) (m : Material) → MaterialAt Good limit depth m → ValueAllowed depth (headed_value own m)
+  headed_good : (own : Name) → P (o.symbol (codes "COMMON-LISP") own) → (room : ℕ) (m : Material) → MaterialAt Good limit room m → ValueAllowed room (headed_value own m)
   headed_good own head zero (one x) h = absurd h
-  headed_good own head (suc depth) (one x) h =
-      pairs_within P depth (o.symbol (codes "COMMON-LISP") own ∷ x ∷ []) nil
-      (All-cons (Good depth) (o.symbol (codes "COMMON-LISP") own) (x ∷ []) (omega arith, head) (All-cons (Good depth) x [] h (All-nil (Good depth)))) (good_nil depth)
-  headed_good own head depth (many xs) h = tt
-  headed_good own head depth (dotted xs tail) h = tt
-  headed_good own head depth nothing h = tt
-  headed_good own head depth (letters cs) h = tt
-  headed_good own head depth (marked marks) h = tt
+  headed_good own head (suc room) (one x) h =
+      pairs_within P room (o.symbol (codes "COMMON-LISP") own ∷ x ∷ []) nil
+      (All-cons (Good room) (o.symbol (codes "COMMON-LISP") own) (x ∷ []) (omega arith, head) (All-cons (Good room) x [] h (All-nil (Good room)))) (good_nil room)
+  headed_good own head room (many xs) h = tt
+  headed_good own head room (dotted xs tail) h = tt
+  headed_good own head room nothing h = tt
+  headed_good own head room (letters cs) h = tt
+  headed_good own head room (marked marks) h = tt
 
-  text_good : (depth : ℕ) (m : Material) → ValueAllowed depth (text_value m)
-  text_good depth (letters cs) = (omega arith, allows.text cs)
-  text_good depth (many xs) = tt
-  text_good depth (dotted xs tail) = tt
-  text_good depth nothing = tt
-  text_good depth (one x) = tt
-  text_good depth (marked marks) = tt
+  text_good : (room : ℕ) (m : Material) → ValueAllowed room (text_value m)
+  text_good room (letters cs) = (omega arith, allows.text cs)
+  text_good room (many xs) = tt
+  text_good room (dotted xs tail) = tt
+  text_good room nothing = tt
+  text_good room (one x) = tt
+  text_good room (marked marks) = tt
 
-  named_good : (depth : ℕ) (c : Option ℕ) → ValueAllowed depth (character_or_refused c)
-  named_good depth (Some c) = (omega arith, allows.character c)
-  named_good depth None = tt
+  named_good : (room : ℕ) (c : Option ℕ) → ValueAllowed room (character_or_refused c)
+  named_good room (Some c) = (omega arith, allows.character c)
+  named_good room None = tt
 
-  code_good : (depth : ℕ) (cs : List ℕ) → ValueAllowed depth (character_of cs)
-  code_good depth [] = named_good depth (code_named [])
-  code_good depth (c ∷ []) = (omega arith, allows.character c)
-  code_good depth (c ∷ d ∷ ds) = named_good depth (code_named (c ∷ d ∷ ds))
+  code_good : (room : ℕ) (cs : List ℕ) → ValueAllowed room (character_of cs)
+  code_good room [] = named_good room (code_named [])
+  code_good room (c ∷ []) = (omega arith, allows.character c)
+  code_good room (c ∷ d ∷ ds) = named_good room (code_named (c ∷ d ∷ ds))
 
-  character_good : (depth : ℕ) (m : Material) → ValueAllowed depth (character_value m)
-  character_good depth (marked marks) = code_good depth (characters marks)
-  character_good depth (many xs) = tt
-  character_good depth (dotted xs tail) = tt
-  character_good depth nothing = tt
-  character_good depth (one x) = tt
-  character_good depth (letters cs) = tt
+  character_good : (room : ℕ) (m : Material) → ValueAllowed room (character_value m)
+  character_good room (marked marks) = code_good room (characters marks)
+  character_good room (many xs) = tt
+  character_good room (dotted xs tail) = tt
+  character_good room nothing = tt
+  character_good room (one x) = tt
+  character_good room (letters cs) = tt
 
-  repeated_good : (depth n : ℕ) (xs : List Object) (last : Option Object) → last_of xs ≡ last → All (Good depth) xs → ValueAllowed (suc depth) (vector_with n xs last)
-  repeated_good depth n xs None e all =
-      value_chosen (suc depth) (n == 0) (given (o.vector (list_of []))) (Err VectorLength) (vector_within P depth [] nil_allowed (All-nil (Good depth))) tt
-  repeated_good depth n xs (Some last) e all =
+  repeated_good : (room n : ℕ) (xs : List Object) (last : Option Object) → last_of xs ≡ last → All (Good room) xs → ValueAllowed (suc room) (vector_with n xs last)
+  repeated_good room n xs None e all =
+      value_chosen (suc room) (n == 0) (given (o.vector (list_of []))) (Err VectorLength) (vector_within P room [] nil_allowed (All-nil (Good room))) tt
+  repeated_good room n xs (Some last) e all =
       let more = replicate (n - length xs) last in
       let whole = o.vector (list_of (xs ++ more)) in
-      let each : All (Good depth) (xs ++ more) = All-append (Good depth) xs more all (All-replicate (Good depth) (n - length xs) last (last_within P depth xs last e all)) in
-      value_chosen (suc depth) (nat_lt n (length xs)) (Err VectorLength) (bounded (nat_lt (length xs) n) whole) tt
-      (value_chosen (suc depth) (nat_lt (length xs) n && nat_lt 1000000 (object_size whole)) (Err VectorLength) (given whole) tt (vector_within P depth (xs ++ more) nil_allowed each))
+      let each : All (Good room) (xs ++ more) = All-append (Good room) xs more all (All-replicate (Good room) (n - length xs) last (last_within P room xs last e all)) in
+      value_chosen (suc room) (nat_lt n (length xs)) (Err VectorLength) (bounded (nat_lt (length xs) n) whole) tt
+      (value_chosen (suc room) (nat_lt (length xs) n && nat_lt 1000000 (object_size whole)) (Err VectorLength) (given whole) tt (vector_within P room (xs ++ more) nil_allowed each))
 
-  counted_good : (depth : ℕ) (n : Option ℕ) (xs : List Object) → All (Good depth) xs → ValueAllowed (suc depth) (vector_of n xs)
-  counted_good depth None xs all = vector_within P depth xs nil_allowed all
-  counted_good depth (Some n) xs all = repeated_good depth n xs (last_of xs) refl all
+  counted_good : (room : ℕ) (n : Option ℕ) (xs : List Object) → All (Good room) xs → ValueAllowed (suc room) (vector_of n xs)
+  counted_good room None xs all = vector_within P room xs nil_allowed all
+  counted_good room (Some n) xs all = repeated_good room n xs (last_of xs) refl all
 
-  vector_good : (n : Option ℕ) (depth : ℕ) (m : Material) → MaterialAt Good limit depth m → ValueAllowed depth (vector_value n m)
+  vector_good : (n : Option ℕ) (room : ℕ) (m : Material) → MaterialAt Good limit room m → ValueAllowed room (vector_value n m)
   vector_good n zero (many xs) h = absurd h
-  vector_good n (suc depth) (many xs) h = counted_good depth n xs h
-  vector_good n depth (dotted xs tail) h = tt
-  vector_good n depth nothing h = tt
-  vector_good n depth (one x) h = tt
-  vector_good n depth (letters cs) h = tt
-  vector_good n depth (marked marks) h = tt
+  vector_good n (suc room) (many xs) h = counted_good room n xs h
+  vector_good n room (dotted xs tail) h = tt
+  vector_good n room nothing h = tt
+  vector_good n room (one x) h = tt
+  vector_good n room (letters cs) h = tt
+  vector_good n room (marked marks) h = tt
 
-  uninterned_good : (case : Case) (depth : ℕ) (m : Material) → MaterialAt Good limit depth m → ValueAllowed depth (uninterned_value case m)
-  uninterned_good case depth (marked marks) h =
-      value_chosen depth (is_own_name marks) (given (o.uninterned (characters (folded case marks)))) (Err UninternedToken)
+  uninterned_good : (case : Case) (room : ℕ) (m : Material) → MaterialAt Good limit room m → ValueAllowed room (uninterned_value case m)
+  uninterned_good case room (marked marks) h =
+      value_chosen room (is_own_name marks) (given (o.uninterned (characters (folded case marks)))) (Err UninternedToken)
       (omega arith, allows.uninterned (characters (folded case marks)) (omega (arith, h, folded_characters case marks))) tt
-  uninterned_good case depth (many xs) h = tt
-  uninterned_good case depth (dotted xs tail) h = tt
-  uninterned_good case depth nothing h = tt
-  uninterned_good case depth (one x) h = tt
-  uninterned_good case depth (letters cs) h = tt
+  uninterned_good case room (many xs) h = tt
+  uninterned_good case room (dotted xs tail) h = tt
+  uninterned_good case room nothing h = tt
+  uninterned_good case room (one x) h = tt
+  uninterned_good case room (letters cs) h = tt
 
-  good_number : (depth : ℕ) (x : Object) → IsNumber x → Good depth x
-  good_number depth x h = let none = number_allowed x h in (omega (arith, none.0), none.1)
+  good_number : (room : ℕ) (x : Object) → IsNumber x → Good room x
+  good_number room x h = let none = number_allowed x h in (omega (arith, none.0), none.1)
 
-  digits_good : (depth : ℕ) (r : Option (Result Object MeaningRefusal)) → Numeric r → ValueAllowed depth (rational_or_refused r)
-  digits_good depth None h = tt
-  digits_good depth (Some (Ok x)) h = good_number depth x h
-  digits_good depth (Some (Err refusal)) h = tt
+  digits_good : (room : ℕ) (r : Option (Result Object MeaningRefusal)) → Numeric r → ValueAllowed room (rational_or_refused r)
+  digits_good room None h = tt
+  digits_good room (Some (Ok x)) h = good_number room x h
+  digits_good room (Some (Err refusal)) h = tt
 
   digits_numeric : (base : ℕ) (marks : List Mark) → Numeric (rational_of base marks)
   digits_numeric base marks =
       chosen_numeric (list_all is_plain marks) (rational_number base (characters marks)) None
       (rational_numeric base (is_negative (characters marks)) (without_sign (characters marks))) tt
 
-  rational_good : (base depth : ℕ) (m : Material) → ValueAllowed depth (rational_value base m)
-  rational_good base depth (marked marks) = digits_good depth (rational_of base marks) (digits_numeric base marks)
-  rational_good base depth (many xs) = tt
-  rational_good base depth (dotted xs tail) = tt
-  rational_good base depth nothing = tt
-  rational_good base depth (one x) = tt
-  rational_good base depth (letters cs) = tt
+  rational_good : (base room : ℕ) (m : Material) → ValueAllowed room (rational_value base m)
+  rational_good base room (marked marks) = digits_good room (rational_of base marks) (digits_numeric base marks)
+  rational_good base room (many xs) = tt
+  rational_good base room (dotted xs tail) = tt
+  rational_good base room nothing = tt
+  rational_good base room (one x) = tt
+  rational_good base room (letters cs) = tt
 
-  radix_good : (base : Option ℕ) (depth : ℕ) (m : Material) → ValueAllowed depth (radix_value base m)
-  radix_good None depth m = tt
-  radix_good (Some base) depth m = rational_good base depth m
+  radix_good : (base : Option ℕ) (room : ℕ) (m : Material) → ValueAllowed room (radix_value base m)
+  radix_good None room m = tt
+  radix_good (Some base) room m = rational_good base room m
 
-  value_good : (case : Case) (n : Option ℕ) (depth : ℕ) (kind : Standard) (m : Material) → MaterialAt Good limit depth m → ValueAllowed depth (value_of kind case n m)
-  value_good case n depth AList m h = list_good depth m h
-  value_good case n depth Close m h = tt
-  value_good case n depth Quote m h = headed_good (codes "QUOTE") quote_allowed depth m h
-  value_good case n depth Comment m h = tt
-  value_good case n depth String m h = text_good depth m
-  value_good case n depth Out m h = tt
-  value_good case n depth Char m h = character_good depth m
-  value_good case n depth FunctionName m h = headed_good (codes "FUNCTION") function_allowed depth m h
-  value_good case n depth Vector m h = vector_good n depth m h
-  value_good case n depth Uninterned m h = uninterned_good case depth m h
-  value_good case n depth ABlock m h = tt
-  value_good case n depth Binary m h = rational_good 2 depth m
-  value_good case n depth Octal m h = rational_good 8 depth m
-  value_good case n depth Hex m h = rational_good 16 depth m
-  value_good case n depth Radix m h = radix_good (radix_of n) depth m
+  value_good : (case : Case) (n : Option ℕ) (room : ℕ) (kind : Standard) (m : Material) → MaterialAt Good limit room m → ValueAllowed room (value_of kind case n m)
+  value_good case n room AList m h = list_good room m h
+  value_good case n room Close m h = tt
+  value_good case n room Quote m h = headed_good (codes "QUOTE") quote_allowed room m h
+  value_good case n room Comment m h = tt
+  value_good case n room String m h = text_good room m
+  value_good case n room Out m h = tt
+  value_good case n room Char m h = character_good room m
+  value_good case n room FunctionName m h = headed_good (codes "FUNCTION") function_allowed room m h
+  value_good case n room Vector m h = vector_good n room m h
+  value_good case n room Uninterned m h = uninterned_good case room m h
+  value_good case n room ABlock m h = tt
+  value_good case n room Binary m h = rational_good 2 room m
+  value_good case n room Octal m h = rational_good 8 room m
+  value_good case n room Hex m h = rational_good 16 room m
+  value_good case n room Radix m h = radix_good (radix_of n) room m
 
 -- ---- forms
 
 kept_within : (setting : Setting) (P : Object → Type 0) → Allows setting.packages setting.limits.token P → AreKept setting (Within P)
 kept_within setting P allows = record {
-  tokens = λ depth marks x e.
+  tokens = λ room marks x e.
       let h : (object_depth x ≤ 0) × AllAtoms P x =
       subst (ToldAllowed setting.packages setting.limits.token P allows) e (meant_allowed setting.packages setting.limits.token P allows setting.current setting.base (folded setting.table.letters marks)) in
       (omega (arith, h.0), h.1);
-  values = λ depth kind number material x h e.
-      subst (ValueAllowed setting.packages setting.limits.token P allows depth) e (value_good setting.packages setting.limits.token P allows setting.table.letters number depth kind material h);
-  answers = λ depth x le known deep.
+  values = λ room kind number material x h e.
+      subst (ValueAllowed setting.packages setting.limits.token P allows room) e (value_good setting.packages setting.limits.token P allows setting.table.letters number room kind material h);
+  answers = λ room x le known deep.
       (omega (arith, le, deep), answer_allowed setting.packages setting.limits.token P allows x (and_parts (nat_le (object_size x) 1000000) (are_known setting.packages x) known).1);
 }
 

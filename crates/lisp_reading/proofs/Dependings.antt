@@ -88,12 +88,12 @@ module _ (packages others : Packages) (same : FindsSame packages others) where
   known_same (o.character c) = refl
   known_same (o.text bytes) = refl
 
-  answered_same : (nesting round : ℕ) (token spaced : Bool) (a : MacroAnswer) → answered others nesting round token spaced a ≡ answered packages nesting round token spaced a
-  answered_same nesting round token spaced (value x) =
-      ap (λ (b : Bool). elim (nat_le (object_size x) 1000000 && b && nat_le (object_depth x + round) nesting) [ true ↦ gives (one token x) | false ↦ refuses MACRO_ANSWER 0 ]) (known_same x)
-  answered_same nesting round token spaced no_value = refl
-  answered_same nesting round token spaced improper = refl
-  answered_same nesting round token spaced (answer_refused code) = refl
+  answered_same : (nesting depth : ℕ) (token spaced : Bool) (a : MacroAnswer) → answered others nesting depth token spaced a ≡ answered packages nesting depth token spaced a
+  answered_same nesting depth token spaced (value x) =
+      ap (λ (b : Bool). elim (nat_le (object_size x) 1000000 && b && nat_le (object_depth x + depth) nesting) [ true ↦ gives (one token x) | false ↦ refuses MACRO_ANSWER 0 ]) (known_same x)
+  answered_same nesting depth token spaced no_value = refl
+  answered_same nesting depth token spaced improper = refl
+  answered_same nesting depth token spaced (answer_refused code) = refl
 
 -- ---- plans
 
@@ -104,29 +104,29 @@ module _ (setting : Setting) (packages : Packages) (same : FindsSame setting.pac
   told_same : (marks : List Mark) → told other marks ≡ told setting marks
   told_same marks = meant_same setting.packages packages same setting.current (meaning_of setting.base (folded setting.table.letters marks))
 
-  by_same : (round : ℕ) (call : InvokedCall) (f : Function) (token spaced : Bool) (m : Material) → completed_by other round call f token spaced m ≡ completed_by setting round call f token spaced m
-  by_same round call (AStandard kind) token spaced m = refl
-  by_same round call (User f) token spaced m = answered_same setting.packages packages same setting.limits.nesting round token spaced (setting.answer f (macro_call call m))
+  by_same : (depth : ℕ) (call : InvokedCall) (f : Function) (token spaced : Bool) (m : Material) → completed_by other depth call f token spaced m ≡ completed_by setting depth call f token spaced m
+  by_same depth call (AStandard kind) token spaced m = refl
+  by_same depth call (User f) token spaced m = answered_same setting.packages packages same setting.limits.nesting depth token spaced (setting.answer f (macro_call call m))
 
-  completed_same : (round : ℕ) (call : InvokedCall) (token spaced : Bool) (m : Material) → completed other round call token spaced m ≡ completed setting round call token spaced m
-  completed_same round call token spaced m = by_same round call call.function token spaced m
+  completed_same : (depth : ℕ) (call : InvokedCall) (token spaced : Bool) (m : Material) → completed other depth call token spaced m ≡ completed setting depth call token spaced m
+  completed_same depth call token spaced m = by_same depth call call.function token spaced m
 
-  module _ (round : ℕ) (may : Option (Plan Found)) where
-    gathered_same : (call : InvokedCall) (way : Way) → gathered other round may call way ≡ gathered setting round may call way
-    gathered_same call Nothing = completed_same round call false false no_material
+  module _ (depth : ℕ) (may : Option (Plan Found)) where
+    gathered_same : (call : InvokedCall) (way : Way) → gathered other depth may call way ≡ gathered setting depth may call way
+    gathered_same call Nothing = completed_same depth call false false no_material
     gathered_same call Next =
-        λ i. opened may (λ attempt. then_plan (place setting None attempt) (one_piece (λ token x. completed_same round call token token (one_object x) i)))
+        λ i. opened may (λ attempt. then_plan (place setting None attempt) (one_piece (λ token x. completed_same depth call token token (one_object x) i)))
     gathered_same call AList =
-        λ i. opened may (λ attempt. then_plan (items_after setting 41 attempt []) (list_end setting attempt (λ m. completed_same round call false false m i)))
+        λ i. opened may (λ attempt. then_plan (items_after setting 41 attempt []) (list_end setting attempt (λ m. completed_same depth call false false m i)))
     gathered_same call (Until close) =
-        λ i. opened may (λ attempt. then_plan (items_after setting close attempt []) (undotted (λ m. completed_same round call false false m i)))
-    gathered_same call (Text close) = λ i. then_plan (text_to setting close []) (λ cs. completed_same round call false false (letters cs) i)
-    gathered_same call (Line keep) = λ i. then_plan (line_after setting keep []) (λ cs. completed_same round call false false (letters cs) i)
-    gathered_same call Block = λ i. then_plan (block_after setting (0, 0)) (λ u. completed_same round call false false no_material i)
-    gathered_same call Token = λ i. scans false setting.limits.token (λ marks. completed_same round call true false (marked marks) i)
-    gathered_same call EscapedToken = λ i. scans true setting.limits.token (λ marks. completed_same round call true false (marked marks) i)
+        λ i. opened may (λ attempt. then_plan (items_after setting close attempt []) (undotted (λ m. completed_same depth call false false m i)))
+    gathered_same call (Text close) = λ i. then_plan (text_to setting close []) (λ cs. completed_same depth call false false (letters cs) i)
+    gathered_same call (Line keep) = λ i. then_plan (line_after setting keep []) (λ cs. completed_same depth call false false (letters cs) i)
+    gathered_same call Block = λ i. then_plan (block_after setting (0, 0)) (λ u. completed_same depth call false false no_material i)
+    gathered_same call Token = λ i. scans false setting.limits.token (λ marks. completed_same depth call true false (marked marks) i)
+    gathered_same call EscapedToken = λ i. scans true setting.limits.token (λ marks. completed_same depth call true false (marked marks) i)
 
-    way_same : (call : InvokedCall) (way : Option Way) → gathered_by other round may call way ≡ gathered_by setting round may call way
+    way_same : (call : InvokedCall) (way : Option Way) → gathered_by other depth may call way ≡ gathered_by setting depth may call way
     way_same call None = refl
     way_same call (Some way) = gathered_same call way
 
@@ -134,28 +134,28 @@ module _ (setting : Setting) (packages : Packages) (same : FindsSame setting.pac
     function_same call (AStandard kind) = refl
     function_same call (User f) = refl
 
-    called_same : (call : InvokedCall) → called other round may call ≡ called setting round may call
-    called_same call = way_same call (way_in other call) ∙ ap (gathered_by setting round may call) (function_same call call.function)
+    called_same : (call : InvokedCall) → called other depth may call ≡ called setting depth may call
+    called_same call = way_same call (way_in other call) ∙ ap (gathered_by setting depth may call) (function_same call call.function)
 
-    sub_same : (c sub : ℕ) (n : Option ℕ) (f : Option (List ℕ)) → sub_called other round may c sub n f ≡ sub_called setting round may c sub n f
+    sub_same : (c sub : ℕ) (n : Option ℕ) (f : Option (List ℕ)) → sub_called other depth may c sub n f ≡ sub_called setting depth may c sub n f
     sub_same c sub n None = refl
     sub_same c sub n (Some f) = called_same (record { function = function_of f; character = c; sub = Some (upper_case sub); number = n })
 
-    dispatched_same : (c : ℕ) (n : Option ℕ) → dispatched other round may c n ≡ dispatched setting round may c n
+    dispatched_same : (c : ℕ) (n : Option ℕ) → dispatched other depth may c n ≡ dispatched setting depth may c n
     dispatched_same c n = λ i. then_plan (number_after setting n) (λ m. next_byte (λ sub. sub_same c sub m (dispatch_at setting.table c sub) i))
 
-    macro_same : (c : ℕ) (f : Option (List ℕ)) → macro_called other round may c f ≡ macro_called setting round may c f
+    macro_same : (c : ℕ) (f : Option (List ℕ)) → macro_called other depth may c f ≡ macro_called setting depth may c f
     macro_same c None = refl
     macro_same c (Some f) =
         elim (is_dispatch_name f) as (λ b. ◌≡◌ {A = Plan Found} (elim b [
-          | true ↦ dispatched other round may c None
-          | false ↦ called other round may (record { function = function_of f; character = c; sub = None; number = None })
+          | true ↦ dispatched other depth may c None
+          | false ↦ called other depth may (record { function = function_of f; character = c; sub = None; number = None })
         ]) (elim b [
-          | true ↦ dispatched setting round may c None
-          | false ↦ called setting round may (record { function = function_of f; character = c; sub = None; number = None })
+          | true ↦ dispatched setting depth may c None
+          | false ↦ called setting depth may (record { function = function_of f; character = c; sub = None; number = None })
         ])) [ true ↦ dispatched_same c None | false ↦ called_same (record { function = function_of f; character = c; sub = None; number = None }) ]
 
-    alone_same : (c : ℕ) (s : Syntax) → alone other round may c s ≡ alone setting round may c s
+    alone_same : (c : ℕ) (s : Syntax) → alone other depth may c s ≡ alone setting depth may c s
     alone_same c Whitespace = refl
     alone_same c TerminatingMacro = macro_same c (entry_at setting.table c).function
     alone_same c NonTerminatingMacro = macro_same c (entry_at setting.table c).function
@@ -168,22 +168,22 @@ module _ (setting : Setting) (packages : Packages) (same : FindsSame setting.pac
     token_same [] = refl
     token_same (m ∷ ms) = ap told_found (told_same (m ∷ ms))
 
-    by_attempt : attempt_by other round may ≡ attempt_by setting round may
+    by_attempt : attempt_by other depth may ≡ attempt_by setting depth may
     by_attempt =
         λ i. takes (scans false setting.limits.token (λ marks. token_same marks i)) (λ c. stands_alone (entry_at setting.table c).syntax)
         (λ c. alone_same c (entry_at setting.table c).syntax i)
 
-  inner_same : (depth : ℕ) → inner other depth ≡ inner setting depth
+  inner_same : (room : ℕ) → inner other room ≡ inner setting room
   unfolding inner
   inner_same zero = refl
-  inner_same (suc depth) =
-      ap (λ (may : Option (Plan Found)). Some (attempt_by other (setting.limits.nesting - depth) may)) (inner_same depth)
-      ∙ ap (λ (plan : Plan Found). Some plan) (by_attempt (setting.limits.nesting - depth) (inner setting depth))
+  inner_same (suc room) =
+      ap (λ (may : Option (Plan Found)). Some (attempt_by other (setting.limits.nesting - room) may)) (inner_same room)
+      ∙ ap (λ (plan : Plan Found). Some plan) (by_attempt (setting.limits.nesting - room) (inner setting room))
 
-  attempt_same : (depth : ℕ) → attempt other depth ≡ attempt setting depth
-  attempt_same depth =
-      ap (λ (may : Option (Plan Found)). attempt_by other (setting.limits.nesting - depth) may) (inner_same depth)
-      ∙ by_attempt (setting.limits.nesting - depth) (inner setting depth)
+  attempt_same : (room : ℕ) → attempt other room ≡ attempt setting room
+  attempt_same room =
+      ap (λ (may : Option (Plan Found)). attempt_by other (setting.limits.nesting - room) may) (inner_same room)
+      ∙ by_attempt (setting.limits.nesting - room) (inner setting room)
 
   reads_same : (n start : ℕ) (text : List ℕ) → reads_in other n start text ≡ reads_in setting n start text
   unfolding reads_in

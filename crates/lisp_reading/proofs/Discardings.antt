@@ -97,12 +97,12 @@ IsEnd (Ok (one token x, at, cs)) = ⊥
 IsEnd (Ok (lone_dot, at, cs)) = ⊥
 IsEnd (Err e) = ⊥
 
-no_call_ends : (V : ℕ → Object → Type 0) (depth : ℕ) (r : Read Found) → Given (CallAt V depth) r → IsEnd r → ⊥
-no_call_ends V depth (Ok (the_end, at, cs)) h e = h
-no_call_ends V depth (Ok (nothing_found token, at, cs)) h e = e
-no_call_ends V depth (Ok (one token x, at, cs)) h e = e
-no_call_ends V depth (Ok (lone_dot, at, cs)) h e = e
-no_call_ends V depth (Err f) h e = e
+no_call_ends : (V : ℕ → Object → Type 0) (room : ℕ) (r : Read Found) → Given (CallAt V room) r → IsEnd r → ⊥
+no_call_ends V room (Ok (the_end, at, cs)) h e = h
+no_call_ends V room (Ok (nothing_found token, at, cs)) h e = e
+no_call_ends V room (Ok (one token x, at, cs)) h e = e
+no_call_ends V room (Ok (lone_dot, at, cs)) h e = e
+no_call_ends V room (Err f) h e = e
 
 module _ (setting : Setting) where
   told_ends : (r : Result Told ℕ) (at : ℕ) (cs : List ℕ) → IsEnd (run setting.table setting.limits (told_found r) at cs) → ⊥
@@ -136,9 +136,9 @@ module _ (setting : Setting) where
   some_ends c cs =
       let on = alone setting (setting.limits.nesting - setting.limits.nesting) (inner setting setting.limits.nesting) c (entry_at setting.table c).syntax in
       let call : IsEnd (run setting.table setting.limits on (0 + 1) cs) → ⊥ =
-      no_call_ends (λ depth x. Unit {0}) setting.limits.nesting (run setting.table setting.limits on (0 + 1) cs)
-      (given_keeps (CallAt (λ depth x. Unit {0}) setting.limits.nesting) (call_more (λ depth x. Unit {0}) setting.limits.nesting) setting.table setting.limits on true (0 + 1) cs
-      (outermost_calls setting (λ depth x. Unit {0}) (any setting) c (entry_at setting.table c).syntax)) in
+      no_call_ends (λ room x. Unit {0}) setting.limits.nesting (run setting.table setting.limits on (0 + 1) cs)
+      (given_keeps (CallAt (λ room x. Unit {0}) setting.limits.nesting) (call_more (λ room x. Unit {0}) setting.limits.nesting) setting.table setting.limits on true (0 + 1) cs
+      (outermost_calls setting (λ room x. Unit {0}) (any setting) c (entry_at setting.table c).syntax)) in
       let read : Bool → Read Found = λ b. elim b [
         | true ↦ within (nat_le setting.limits.text 0) 0 (run setting.table setting.limits on (0 + 1) cs)
         | false ↦ step (limited setting.limits.text (token_in setting.table setting.limits.token 0 (c ∷ cs)) (λ p. p.1))

@@ -116,71 +116,71 @@ number_keeps setting taken number =
 -- V holds of an object that is read where so many more calls may be open.
 module _ (V : ℕ → Object → Type 0) where
   abbrev pub FoundAt : ℕ → Bool → Found → Type 0
-  FoundAt depth taken (one token x) = V depth x
-  FoundAt depth taken _ = Unit {0}
+  FoundAt room taken (one token x) = V room x
+  FoundAt room taken _ = Unit {0}
 
   -- the same of a call, which comes to an object or to nothing
   abbrev pub CallAt : ℕ → Bool → Found → Type 0
-  CallAt depth taken (one token x) = V depth x
-  CallAt depth taken (nothing token) = Unit {0}
-  CallAt depth taken lone_dot = ⊥
-  CallAt depth taken the_end = ⊥
+  CallAt room taken (one token x) = V room x
+  CallAt room taken (nothing token) = Unit {0}
+  CallAt room taken lone_dot = ⊥
+  CallAt room taken the_end = ⊥
 
-  pub call_more : (depth : ℕ) (f : Found) → CallAt depth false f → CallAt depth true f
-  call_more depth (nothing token) h = h
-  call_more depth (one token x) h = h
-  call_more depth lone_dot h = h
-  call_more depth the_end h = h
+  pub call_more : (room : ℕ) (f : Found) → CallAt room false f → CallAt room true f
+  call_more room (nothing token) h = h
+  call_more room (one token x) h = h
+  call_more room lone_dot h = h
+  call_more room the_end h = h
 
-  call_found : (depth : ℕ) (taken : Bool) (f : Found) → CallAt depth taken f → FoundAt depth taken f
-  call_found depth taken (nothing token) h = h
-  call_found depth taken (one token x) h = h
-  call_found depth taken lone_dot h = absurd h
-  call_found depth taken the_end h = absurd h
+  call_found : (room : ℕ) (taken : Bool) (f : Found) → CallAt room taken f → FoundAt room taken f
+  call_found room taken (nothing token) h = h
+  call_found room taken (one token x) h = h
+  call_found room taken lone_dot h = absurd h
+  call_found room taken the_end h = absurd h
 
-  pub found_more : (depth : ℕ) (f : Found) → FoundAt depth false f → FoundAt depth true f
-  found_more depth (nothing token) h = h
-  found_more depth (one token x) h = h
-  found_more depth lone_dot h = h
-  found_more depth the_end h = h
+  pub found_more : (room : ℕ) (f : Found) → FoundAt room false f → FoundAt room true f
+  found_more room (nothing token) h = h
+  found_more room (one token x) h = h
+  found_more room lone_dot h = h
+  found_more room the_end h = h
 
   abbrev pub PieceAt : ℕ → Bool → Piece → Type 0
-  PieceAt depth taken (item token x) = V depth x
-  PieceAt depth taken dot = Unit {0}
-  PieceAt depth taken closed = taken ≡ true
+  PieceAt room taken (item token x) = V room x
+  PieceAt room taken dot = Unit {0}
+  PieceAt room taken closed = taken ≡ true
 
   abbrev pub ItemsAt : ℕ → Bool → Items → Type 0
-  ItemsAt depth taken xs = All (V depth) xs.0
+  ItemsAt room taken xs = All (V room) xs.0
 
   -- objects were read in a call, where one call less may be open
   abbrev pub MaterialAt : ℕ → ℕ → Material → Type 0
-  MaterialAt limit depth no_material = Unit {0}
+  MaterialAt limit room no_material = Unit {0}
   MaterialAt limit zero (one_object x) = ⊥
   MaterialAt limit zero (many xs) = ⊥
   MaterialAt limit zero (dotted xs tail) = ⊥
-  MaterialAt limit (suc depth) (one_object x) = V depth x
-  MaterialAt limit (suc depth) (many xs) = All (V depth) xs
-  MaterialAt limit (suc depth) (dotted xs tail) = All (V depth) xs × V depth tail
-  MaterialAt limit depth (letters cs) = Unit {0}
-  MaterialAt limit depth (marked marks) = character_count marks ≤ limit
+  MaterialAt limit (suc room) (one_object x) = V room x
+  MaterialAt limit (suc room) (many xs) = All (V room) xs
+  MaterialAt limit (suc room) (dotted xs tail) = All (V room) xs × V room tail
+  MaterialAt limit room (letters cs) = Unit {0}
+  MaterialAt limit room (marked marks) = character_count marks ≤ limit
 
   -- an attempt where one call less may be open
   abbrev pub InnerAt : ℕ → Option (Plan Found) → Type 0
-  InnerAt depth None = Unit {0}
+  InnerAt room None = Unit {0}
   InnerAt zero (Some attempt) = ⊥
-  InnerAt (suc depth) (Some attempt) = Keeps (FoundAt depth) false attempt
+  InnerAt (suc room) (Some attempt) = Keeps (FoundAt room) false attempt
 
 -- V holds of what tokens mean, of what standard functions make of such objects, and of what may be answered.
 pub record AreKept (setting : Setting) (V : ℕ → Object → Type 0) : Type 0 where
-  pub tokens : (depth : ℕ) (marks : List Mark) (x : Object) → told setting marks ≡ Ok (told_object x) → V depth x
-  pub values : (depth : ℕ) (kind : Standard) (number : Option ℕ) (material : Material) (x : Object) → MaterialAt V setting.limits.token depth material
-      → value_of kind setting.table.letters number material ≡ Ok (Some x) → V depth x
-  pub answers : (depth : ℕ) (x : Object) → depth ≤ setting.limits.nesting → may_be_answered setting.packages x ≡ true
-      → object_depth x + (setting.limits.nesting - depth) ≤ setting.limits.nesting → V depth x
+  pub tokens : (room : ℕ) (marks : List Mark) (x : Object) → told setting marks ≡ Ok (told_object x) → V room x
+  pub values : (room : ℕ) (kind : Standard) (number : Option ℕ) (material : Material) (x : Object) → MaterialAt V setting.limits.token room material
+      → value_of kind setting.table.letters number material ≡ Ok (Some x) → V room x
+  pub answers : (room : ℕ) (x : Object) → room ≤ setting.limits.nesting → may_be_answered setting.packages x ≡ true
+      → object_depth x + (setting.limits.nesting - room) ≤ setting.limits.nesting → V room x
 
 module _ (setting : Setting) (V : ℕ → Object → Type 0) (laws : AreKept setting V) where
-  call_either : (depth : ℕ) (taken : Bool) (plan : Plan Found) → Keeps (CallAt V depth) false plan → Keeps (CallAt V depth) taken plan
-  call_either depth taken plan h = keeps_either (CallAt V depth) (call_more V depth) taken plan h
+  call_either : (room : ℕ) (taken : Bool) (plan : Plan Found) → Keeps (CallAt V room) false plan → Keeps (CallAt V room) taken plan
+  call_either room taken plan h = keeps_either (CallAt V room) (call_more V room) taken plan h
 
   space_keeps : {A : Type 0} (P : Bool → A → Type 0) (token taken : Bool) (plan : Plan A) → ((x : A) → P false x → P true x) → Keeps P false plan
       → Keeps P taken (without_space setting.table token plan)
@@ -189,204 +189,204 @@ module _ (setting : Setting) (V : ℕ → Object → Type 0) (laws : AreKept set
 
   -- ---- places
 
-  piece_more : (depth : ℕ) (p : Piece) → PieceAt V depth false p → PieceAt V depth true p
-  piece_more depth (item token x) h = h
-  piece_more depth dot h = h
-  piece_more depth closed h = refl
+  piece_more : (room : ℕ) (p : Piece) → PieceAt V room false p → PieceAt V room true p
+  piece_more room (item token x) h = h
+  piece_more room dot h = h
+  piece_more room closed h = refl
 
-  at_place_keeps : (depth : ℕ) (again : Plan Piece) (taken : Bool) (found : Found) → Keeps (PieceAt V depth) false again → FoundAt V depth taken found
-      → Keeps (PieceAt V depth) taken (at_place setting.table again found)
-  at_place_keeps depth again taken (nothing token) h f = space_keeps (PieceAt V depth) token taken again (piece_more depth) h
-  at_place_keeps depth again taken (one token x) h f = f
-  at_place_keeps depth again taken lone_dot h f = tt
-  at_place_keeps depth again taken the_end h f = omega arith
+  at_place_keeps : (room : ℕ) (again : Plan Piece) (taken : Bool) (found : Found) → Keeps (PieceAt V room) false again → FoundAt V room taken found
+      → Keeps (PieceAt V room) taken (at_place setting.table again found)
+  at_place_keeps room again taken (nothing token) h f = space_keeps (PieceAt V room) token taken again (piece_more room) h
+  at_place_keeps room again taken (one token x) h f = f
+  at_place_keeps room again taken lone_dot h f = tt
+  at_place_keeps room again taken the_end h f = omega arith
 
-  closed_keeps : (depth : ℕ) (close : Option ℕ) (plan : Plan Piece) → Keeps (PieceAt V depth) false plan → Keeps (PieceAt V depth) false (or_closed close plan)
-  closed_keeps depth None plan h = h
-  closed_keeps depth (Some c) plan h = (h, λ d. refl)
+  closed_keeps : (room : ℕ) (close : Option ℕ) (plan : Plan Piece) → Keeps (PieceAt V room) false plan → Keeps (PieceAt V room) false (or_closed close plan)
+  closed_keeps room None plan h = h
+  closed_keeps room (Some c) plan h = (h, λ d. refl)
 
-  place_keeps : (depth : ℕ) (close : Option ℕ) (may : Plan Found) → Keeps (FoundAt V depth) false may → Keeps (PieceAt V depth) false (place setting close may)
-  place_keeps depth close may h =
-      keeps_loop (PieceAt V depth) (λ s. Unit {0}) (place_turn setting.table close may)
-      (λ more all s i. closed_keeps depth close (then_plan may (λ found. at_place setting.table (more tt) found))
-      (keeps_then (FoundAt V depth) (PieceAt V depth) false may (λ found. at_place setting.table (more tt) found) h
-      (λ taken found f. at_place_keeps depth (more tt) taken found (all tt tt) f)))
+  place_keeps : (room : ℕ) (close : Option ℕ) (may : Plan Found) → Keeps (FoundAt V room) false may → Keeps (PieceAt V room) false (place setting close may)
+  place_keeps room close may h =
+      keeps_loop (PieceAt V room) (λ s. Unit {0}) (place_turn setting.table close may)
+      (λ more all s i. closed_keeps room close (then_plan may (λ found. at_place setting.table (more tt) found))
+      (keeps_then (FoundAt V room) (PieceAt V room) false may (λ found. at_place setting.table (more tt) found) h
+      (λ taken found f. at_place_keeps room (more tt) taken found (all tt tt) f)))
       (setting.limits.text + 1) tt tt
 
   -- ---- objects up to the closing character
 
-  items_step_keeps : (depth : ℕ) (more : List Object → Plan Items) (xs : List Object) (taken : Bool) (p : Piece)
-      → ((ys : List Object) → All (V depth) ys → Keeps (ItemsAt V depth) false (more ys)) → All (V depth) xs → PieceAt V depth taken p
-      → Keeps (ItemsAt V depth) taken (items_step setting.table more xs p)
-  items_step_keeps depth more xs taken (item token x) all h p =
-      space_keeps (ItemsAt V depth) token taken (more (xs ++ x ∷ [])) (λ ys g. g) (all (xs ++ x ∷ []) (All-push (V depth) xs x h p))
-  items_step_keeps depth more xs taken dot all h p = h
-  items_step_keeps depth more xs taken closed all h p = h
+  items_step_keeps : (room : ℕ) (more : List Object → Plan Items) (xs : List Object) (taken : Bool) (p : Piece)
+      → ((ys : List Object) → All (V room) ys → Keeps (ItemsAt V room) false (more ys)) → All (V room) xs → PieceAt V room taken p
+      → Keeps (ItemsAt V room) taken (items_step setting.table more xs p)
+  items_step_keeps room more xs taken (item token x) all h p =
+      space_keeps (ItemsAt V room) token taken (more (xs ++ x ∷ [])) (λ ys g. g) (all (xs ++ x ∷ []) (All-push (V room) xs x h p))
+  items_step_keeps room more xs taken dot all h p = h
+  items_step_keeps room more xs taken closed all h p = h
 
-  items_keep : (depth close : ℕ) (may : Plan Found) (xs : List Object) → Keeps (FoundAt V depth) false may → All (V depth) xs
-      → Keeps (ItemsAt V depth) false (items_after setting close may xs)
-  items_keep depth close may xs h all =
-      keeps_loop (ItemsAt V depth) (λ ys. All (V depth) ys) (items_turn setting close may)
-      (λ more each ys i. keeps_then (PieceAt V depth) (ItemsAt V depth) false (place setting (Some close) may) (λ p. items_step setting.table more ys p)
-      (place_keeps depth (Some close) may h) (λ taken p f. items_step_keeps depth more ys taken p each i f))
+  items_keep : (room close : ℕ) (may : Plan Found) (xs : List Object) → Keeps (FoundAt V room) false may → All (V room) xs
+      → Keeps (ItemsAt V room) false (items_after setting close may xs)
+  items_keep room close may xs h all =
+      keeps_loop (ItemsAt V room) (λ ys. All (V room) ys) (items_turn setting close may)
+      (λ more each ys i. keeps_then (PieceAt V room) (ItemsAt V room) false (place setting (Some close) may) (λ p. items_step setting.table more ys p)
+      (place_keeps room (Some close) may h) (λ taken p f. items_step_keeps room more ys taken p each i f))
       (setting.limits.text + 1) xs all
 
   -- ---- what a call gives
 
-  finished_keeps : (depth : ℕ) (taken token : Bool) (v : Value) → ((x : Object) → v ≡ Ok (Some x) → V depth x)
-      → ((refusal : StdRefusal) → v ≡ Err refusal → bytes_back refusal ≤ most_back taken) → Keeps (CallAt V depth) taken (finished token v)
-  finished_keeps depth taken token (Ok (Some x)) all back = all x refl
-  finished_keeps depth taken token (Ok None) all back = tt
-  finished_keeps depth taken token (Err refusal) all back = back refusal refl
+  finished_keeps : (room : ℕ) (taken token : Bool) (v : Value) → ((x : Object) → v ≡ Ok (Some x) → V room x)
+      → ((refusal : StdRefusal) → v ≡ Err refusal → bytes_back refusal ≤ most_back taken) → Keeps (CallAt V room) taken (finished token v)
+  finished_keeps room taken token (Ok (Some x)) all back = all x refl
+  finished_keeps room taken token (Ok None) all back = tt
+  finished_keeps room taken token (Err refusal) all back = back refusal refl
 
-  answered_keeps : (depth : ℕ) (taken token spaced : Bool) (a : MacroAnswer) → depth ≤ setting.limits.nesting
-      → Keeps (CallAt V depth) taken (answered setting.packages setting.limits.nesting (setting.limits.nesting - depth) token spaced a)
-  answered_keeps depth taken token spaced (value x) h =
-      let test = may_be_answered setting.packages x && nat_le (object_depth x + (setting.limits.nesting - depth)) setting.limits.nesting in
-      let by : (b : Bool) → test ≡ b → Keeps (CallAt V depth) taken (elim b [ true ↦ gives (one token x) | false ↦ refuses MACRO_ANSWER 0 ]) =
-      λ b. elim b as (λ b. test ≡ b → Keeps (CallAt V depth) taken (elim b [ true ↦ gives (one token x) | false ↦ refuses MACRO_ANSWER 0 ])) [
+  answered_keeps : (room : ℕ) (taken token spaced : Bool) (a : MacroAnswer) → room ≤ setting.limits.nesting
+      → Keeps (CallAt V room) taken (answered setting.packages setting.limits.nesting (setting.limits.nesting - room) token spaced a)
+  answered_keeps room taken token spaced (value x) h =
+      let test = may_be_answered setting.packages x && nat_le (object_depth x + (setting.limits.nesting - room)) setting.limits.nesting in
+      let by : (b : Bool) → test ≡ b → Keeps (CallAt V room) taken (elim b [ true ↦ gives (one token x) | false ↦ refuses MACRO_ANSWER 0 ]) =
+      λ b. elim b as (λ b. test ≡ b → Keeps (CallAt V room) taken (elim b [ true ↦ gives (one token x) | false ↦ refuses MACRO_ANSWER 0 ])) [
         | true ↦ λ e.
-            let parts = and_parts (may_be_answered setting.packages x) (nat_le (object_depth x + (setting.limits.nesting - depth)) setting.limits.nesting) e in
-            laws.answers depth x h parts.0 (leb-true (object_depth x + (setting.limits.nesting - depth)) setting.limits.nesting parts.1)
+            let parts = and_parts (may_be_answered setting.packages x) (nat_le (object_depth x + (setting.limits.nesting - room)) setting.limits.nesting) e in
+            laws.answers room x h parts.0 (leb-true (object_depth x + (setting.limits.nesting - room)) setting.limits.nesting parts.1)
         | false ↦ λ e. omega arith
       ] in
       by test refl
-  answered_keeps depth taken token spaced no_value h = tt
-  answered_keeps depth taken token spaced improper h = omega arith
-  answered_keeps depth taken token spaced (answer_refused code) h = omega arith
+  answered_keeps room taken token spaced no_value h = tt
+  answered_keeps room taken token spaced improper h = omega arith
+  answered_keeps room taken token spaced (answer_refused code) h = omega arith
 
-  completed_by_keeps : (depth : ℕ) (taken : Bool) (call : InvokedCall) (f : Function) (token spaced : Bool) (material : Material) → depth ≤ setting.limits.nesting
-      → StaysIn setting.table.letters call.number (most_back taken) f → MaterialAt V setting.limits.token depth material
-      → Keeps (CallAt V depth) taken (completed_by setting (setting.limits.nesting - depth) call f token spaced material)
-  completed_by_keeps depth taken call (AStandard kind) token spaced material le back h =
-      finished_keeps depth taken token (value_of kind setting.table.letters call.number material)
-      (λ x e. laws.values depth kind call.number material x h e) (λ refusal e. back material refusal e)
-  completed_by_keeps depth taken call (User name) token spaced material le back h =
-      answered_keeps depth taken token spaced (setting.answer name (macro_call call material)) le
+  completed_by_keeps : (room : ℕ) (taken : Bool) (call : InvokedCall) (f : Function) (token spaced : Bool) (material : Material) → room ≤ setting.limits.nesting
+      → StaysIn setting.table.letters call.number (most_back taken) f → MaterialAt V setting.limits.token room material
+      → Keeps (CallAt V room) taken (completed_by setting (setting.limits.nesting - room) call f token spaced material)
+  completed_by_keeps room taken call (AStandard kind) token spaced material le back h =
+      finished_keeps room taken token (value_of kind setting.table.letters call.number material)
+      (λ x e. laws.values room kind call.number material x h e) (λ refusal e. back material refusal e)
+  completed_by_keeps room taken call (User name) token spaced material le back h =
+      answered_keeps room taken token spaced (setting.answer name (macro_call call material)) le
 
   -- after which nothing more is asked of the place
-  completed_keeps : (depth : ℕ) (taken : Bool) (call : InvokedCall) (token spaced : Bool) (material : Material) → depth ≤ setting.limits.nesting
-      → StaysIn setting.table.letters call.number 0 call.function → MaterialAt V setting.limits.token depth material
-      → Keeps (CallAt V depth) taken (completed setting (setting.limits.nesting - depth) call token spaced material)
-  completed_keeps depth taken call token spaced material le back h =
-      call_either depth taken (completed setting (setting.limits.nesting - depth) call token spaced material)
-      (completed_by_keeps depth false call call.function token spaced material le back h)
+  completed_keeps : (room : ℕ) (taken : Bool) (call : InvokedCall) (token spaced : Bool) (material : Material) → room ≤ setting.limits.nesting
+      → StaysIn setting.table.letters call.number 0 call.function → MaterialAt V setting.limits.token room material
+      → Keeps (CallAt V room) taken (completed setting (setting.limits.nesting - room) call token spaced material)
+  completed_keeps room taken call token spaced material le back h =
+      call_either room taken (completed setting (setting.limits.nesting - room) call token spaced material)
+      (completed_by_keeps room false call call.function token spaced material le back h)
 
   -- ---- lists
 
-  undotted_keeps : (depth : ℕ) (on : Material → Plan Found) (taken : Bool) (xs : List Object) (all : Bool) → ((t : Bool) → Keeps (CallAt V depth) t (on (many xs)))
-      → Keeps (CallAt V depth) taken (undotted on (xs, all))
-  undotted_keeps depth on taken xs true h = h taken
-  undotted_keeps depth on taken xs false h = omega arith
+  undotted_keeps : (room : ℕ) (on : Material → Plan Found) (taken : Bool) (xs : List Object) (all : Bool) → ((t : Bool) → Keeps (CallAt V room) t (on (many xs)))
+      → Keeps (CallAt V room) taken (undotted on (xs, all))
+  undotted_keeps room on taken xs true h = h taken
+  undotted_keeps room on taken xs false h = omega arith
 
-  tail_keeps : (depth : ℕ) (on : Material → Plan Found) (xs : List Object) (tail : Object) (taken : Bool) (p : Piece) → ((t : Bool) → Keeps (CallAt V depth) t (on (dotted xs tail)))
-      → Keeps (CallAt V depth) taken (after_tail on xs tail p)
-  tail_keeps depth on xs tail taken closed h = h taken
-  tail_keeps depth on xs tail taken dot h = omega arith
-  tail_keeps depth on xs tail taken (item token x) h = omega arith
+  tail_keeps : (room : ℕ) (on : Material → Plan Found) (xs : List Object) (tail : Object) (taken : Bool) (p : Piece) → ((t : Bool) → Keeps (CallAt V room) t (on (dotted xs tail)))
+      → Keeps (CallAt V room) taken (after_tail on xs tail p)
+  tail_keeps room on xs tail taken closed h = h taken
+  tail_keeps room on xs tail taken dot h = omega arith
+  tail_keeps room on xs tail taken (item token x) h = omega arith
 
-  module _ (depth : ℕ) (may : Plan Found) (attempts : Keeps (FoundAt V depth) false may) (on : Material → Plan Found)
-      (lists : (xs : List Object) → All (V depth) xs → (t : Bool) → Keeps (CallAt V (suc depth)) t (on (many xs)))
-      (pairs : (xs : List Object) (tail : Object) → All (V depth) xs → V depth tail → (t : Bool) → Keeps (CallAt V (suc depth)) t (on (dotted xs tail))) where
-    dot_keeps : (xs : List Object) (taken : Bool) (p : Piece) → All (V depth) xs → PieceAt V depth taken p → Keeps (CallAt V (suc depth)) taken (after_dot setting may on xs p)
+  module _ (room : ℕ) (may : Plan Found) (attempts : Keeps (FoundAt V room) false may) (on : Material → Plan Found)
+      (lists : (xs : List Object) → All (V room) xs → (t : Bool) → Keeps (CallAt V (suc room)) t (on (many xs)))
+      (pairs : (xs : List Object) (tail : Object) → All (V room) xs → V room tail → (t : Bool) → Keeps (CallAt V (suc room)) t (on (dotted xs tail))) where
+    dot_keeps : (xs : List Object) (taken : Bool) (p : Piece) → All (V room) xs → PieceAt V room taken p → Keeps (CallAt V (suc room)) taken (after_dot setting may on xs p)
     dot_keeps xs taken closed all p = elim taken as (λ t. t ≡ true → 1 ≤ most_back t) [ true ↦ λ e. omega arith | false ↦ λ e. absurd cc ] p
     dot_keeps xs taken dot all p = omega arith
     dot_keeps xs taken (item token x) all p =
-        space_keeps (CallAt V (suc depth)) token taken (then_plan (place setting (Some 41) may) (after_tail on xs x))
-        (call_more V (suc depth))
-        (keeps_then (PieceAt V depth) (CallAt V (suc depth)) false (place setting (Some 41) may) (after_tail on xs x) (place_keeps depth (Some 41) may attempts)
-        (λ t q f. tail_keeps (suc depth) on xs x t q (pairs xs x all p)))
+        space_keeps (CallAt V (suc room)) token taken (then_plan (place setting (Some 41) may) (after_tail on xs x))
+        (call_more V (suc room))
+        (keeps_then (PieceAt V room) (CallAt V (suc room)) false (place setting (Some 41) may) (after_tail on xs x) (place_keeps room (Some 41) may attempts)
+        (λ t q f. tail_keeps (suc room) on xs x t q (pairs xs x all p)))
 
-    list_end_keeps : (taken : Bool) (xs : List Object) (b : Bool) → All (V depth) xs → Keeps (CallAt V (suc depth)) taken (list_end setting may on (xs, b))
+    list_end_keeps : (taken : Bool) (xs : List Object) (b : Bool) → All (V room) xs → Keeps (CallAt V (suc room)) taken (list_end setting may on (xs, b))
     list_end_keeps taken xs true all = lists xs all taken
     list_end_keeps taken [] false all = omega arith
     list_end_keeps taken (x ∷ xs) false all =
-        call_either (suc depth) taken (then_plan (place setting (Some 41) may) (after_dot setting may on (x ∷ xs)))
-        (keeps_then (PieceAt V depth) (CallAt V (suc depth)) false (place setting (Some 41) may) (after_dot setting may on (x ∷ xs)) (place_keeps depth (Some 41) may attempts)
+        call_either (suc room) taken (then_plan (place setting (Some 41) may) (after_dot setting may on (x ∷ xs)))
+        (keeps_then (PieceAt V room) (CallAt V (suc room)) false (place setting (Some 41) may) (after_dot setting may on (x ∷ xs)) (place_keeps room (Some 41) may attempts)
         (λ t p f. dot_keeps (x ∷ xs) t p all f))
 
   -- ---- calls, at their last byte
 
-  one_piece_keeps : (depth : ℕ) (on : Bool → Object → Plan Found) (taken : Bool) (p : Piece)
-      → ((token : Bool) (x : Object) → V depth x → Keeps (CallAt V (suc depth)) taken (on token x)) → PieceAt V depth taken p → Keeps (CallAt V (suc depth)) taken (one_piece on p)
-  one_piece_keeps depth on taken (item token x) all p = all token x p
-  one_piece_keeps depth on taken dot all p = omega arith
-  one_piece_keeps depth on taken closed all p = omega arith
+  one_piece_keeps : (room : ℕ) (on : Bool → Object → Plan Found) (taken : Bool) (p : Piece)
+      → ((token : Bool) (x : Object) → V room x → Keeps (CallAt V (suc room)) taken (on token x)) → PieceAt V room taken p → Keeps (CallAt V (suc room)) taken (one_piece on p)
+  one_piece_keeps room on taken (item token x) all p = all token x p
+  one_piece_keeps room on taken dot all p = omega arith
+  one_piece_keeps room on taken closed all p = omega arith
 
-  gathered_keeps : (depth : ℕ) (may : Option (Plan Found)) (call : InvokedCall) (way : Way) → depth ≤ setting.limits.nesting → InnerAt V depth may
+  gathered_keeps : (room : ℕ) (may : Option (Plan Found)) (call : InvokedCall) (way : Way) → room ≤ setting.limits.nesting → InnerAt V room may
       → StaysIn setting.table.letters call.number (back_of way) call.function
-      → Keeps (CallAt V depth) true (gathered setting (setting.limits.nesting - depth) may call way)
-  gathered_keeps depth may call Nothing le h back = completed_by_keeps depth true call call.function false false no_material le back tt
-  gathered_keeps depth None call Next le h back = omega arith
-  gathered_keeps depth None call AList le h back = omega arith
-  gathered_keeps depth None call (Until close) le h back = omega arith
+      → Keeps (CallAt V room) true (gathered setting (setting.limits.nesting - room) may call way)
+  gathered_keeps room may call Nothing le h back = completed_by_keeps room true call call.function false false no_material le back tt
+  gathered_keeps room None call Next le h back = omega arith
+  gathered_keeps room None call AList le h back = omega arith
+  gathered_keeps room None call (Until close) le h back = omega arith
   gathered_keeps zero (Some may) call Next le h back = absurd h
   gathered_keeps zero (Some may) call AList le h back = absurd h
   gathered_keeps zero (Some may) call (Until close) le h back = absurd h
-  gathered_keeps (suc depth) (Some may) call Next le h back =
-      call_either (suc depth) true (gathered setting (setting.limits.nesting - suc depth) (Some may) call Next)
-      (keeps_then (PieceAt V depth) (CallAt V (suc depth)) false (place setting None may)
-      (one_piece (λ token x. completed setting (setting.limits.nesting - suc depth) call token token (one_object x))) (place_keeps depth None may h)
-      (λ t p f. one_piece_keeps depth (λ token x. completed setting (setting.limits.nesting - suc depth) call token token (one_object x)) t p
-      (λ token x v. completed_keeps (suc depth) t call token token (one_object x) le back v) f))
-  gathered_keeps (suc depth) (Some may) call AList le h back =
-      let on : Material → Plan Found = λ m. completed setting (setting.limits.nesting - suc depth) call false false m in
-      call_either (suc depth) true (gathered setting (setting.limits.nesting - suc depth) (Some may) call AList)
-      (keeps_then (ItemsAt V depth) (CallAt V (suc depth)) false (items_after setting 41 may []) (list_end setting may on) (items_keep depth 41 may [] h (All-nil (V depth)))
-      (λ t xs f. list_end_keeps depth may h on (λ ys all u. completed_keeps (suc depth) u call false false (many ys) le back all)
-      (λ ys tail all v u. completed_keeps (suc depth) u call false false (dotted ys tail) le back (all, v)) t xs.0 xs.1 f))
-  gathered_keeps (suc depth) (Some may) call (Until close) le h back =
-      let on : Material → Plan Found = λ m. completed setting (setting.limits.nesting - suc depth) call false false m in
-      call_either (suc depth) true (gathered setting (setting.limits.nesting - suc depth) (Some may) call (Until close))
-      (keeps_then (ItemsAt V depth) (CallAt V (suc depth)) false (items_after setting close may []) (undotted on) (items_keep depth close may [] h (All-nil (V depth)))
-      (λ t xs f. undotted_keeps (suc depth) on t xs.0 xs.1 (λ u. completed_keeps (suc depth) u call false false (many xs.0) le back f)))
-  gathered_keeps depth may call (Text close) le h back =
-      keeps_then (Any {A = List ℕ}) (CallAt V depth) true (text_to setting close []) (λ cs. completed setting (setting.limits.nesting - depth) call false false (letters cs))
-      (text_keeps setting close true []) (λ t cs f. completed_keeps depth t call false false (letters cs) le back tt)
-  gathered_keeps depth may call (Line keep) le h back =
-      keeps_then (Any {A = List ℕ}) (CallAt V depth) true (line_after setting keep []) (λ cs. completed setting (setting.limits.nesting - depth) call false false (letters cs))
-      (line_keeps setting keep true []) (λ t cs f. completed_keeps depth t call false false (letters cs) le back tt)
-  gathered_keeps depth may call Block le h back =
-      keeps_then (Any {A = Unit {0}}) (CallAt V depth) true (block_after setting (0, 0)) (λ u. completed setting (setting.limits.nesting - depth) call false false no_material)
-      (block_keeps setting true (0, 0)) (λ t u f. completed_keeps depth t call false false no_material le back tt)
-  gathered_keeps depth may call Token le h back = λ marks few. completed_keeps depth false call true false (marked marks) le back few
-  gathered_keeps depth may call EscapedToken le h back = λ marks few. completed_keeps depth false call true false (marked marks) le back few
+  gathered_keeps (suc room) (Some may) call Next le h back =
+      call_either (suc room) true (gathered setting (setting.limits.nesting - suc room) (Some may) call Next)
+      (keeps_then (PieceAt V room) (CallAt V (suc room)) false (place setting None may)
+      (one_piece (λ token x. completed setting (setting.limits.nesting - suc room) call token token (one_object x))) (place_keeps room None may h)
+      (λ t p f. one_piece_keeps room (λ token x. completed setting (setting.limits.nesting - suc room) call token token (one_object x)) t p
+      (λ token x v. completed_keeps (suc room) t call token token (one_object x) le back v) f))
+  gathered_keeps (suc room) (Some may) call AList le h back =
+      let on : Material → Plan Found = λ m. completed setting (setting.limits.nesting - suc room) call false false m in
+      call_either (suc room) true (gathered setting (setting.limits.nesting - suc room) (Some may) call AList)
+      (keeps_then (ItemsAt V room) (CallAt V (suc room)) false (items_after setting 41 may []) (list_end setting may on) (items_keep room 41 may [] h (All-nil (V room)))
+      (λ t xs f. list_end_keeps room may h on (λ ys all u. completed_keeps (suc room) u call false false (many ys) le back all)
+      (λ ys tail all v u. completed_keeps (suc room) u call false false (dotted ys tail) le back (all, v)) t xs.0 xs.1 f))
+  gathered_keeps (suc room) (Some may) call (Until close) le h back =
+      let on : Material → Plan Found = λ m. completed setting (setting.limits.nesting - suc room) call false false m in
+      call_either (suc room) true (gathered setting (setting.limits.nesting - suc room) (Some may) call (Until close))
+      (keeps_then (ItemsAt V room) (CallAt V (suc room)) false (items_after setting close may []) (undotted on) (items_keep room close may [] h (All-nil (V room)))
+      (λ t xs f. undotted_keeps (suc room) on t xs.0 xs.1 (λ u. completed_keeps (suc room) u call false false (many xs.0) le back f)))
+  gathered_keeps room may call (Text close) le h back =
+      keeps_then (Any {A = List ℕ}) (CallAt V room) true (text_to setting close []) (λ cs. completed setting (setting.limits.nesting - room) call false false (letters cs))
+      (text_keeps setting close true []) (λ t cs f. completed_keeps room t call false false (letters cs) le back tt)
+  gathered_keeps room may call (Line keep) le h back =
+      keeps_then (Any {A = List ℕ}) (CallAt V room) true (line_after setting keep []) (λ cs. completed setting (setting.limits.nesting - room) call false false (letters cs))
+      (line_keeps setting keep true []) (λ t cs f. completed_keeps room t call false false (letters cs) le back tt)
+  gathered_keeps room may call Block le h back =
+      keeps_then (Any {A = Unit {0}}) (CallAt V room) true (block_after setting (0, 0)) (λ u. completed setting (setting.limits.nesting - room) call false false no_material)
+      (block_keeps setting true (0, 0)) (λ t u f. completed_keeps room t call false false no_material le back tt)
+  gathered_keeps room may call Token le h back = λ marks few. completed_keeps room false call true false (marked marks) le back few
+  gathered_keeps room may call EscapedToken le h back = λ marks few. completed_keeps room false call true false (marked marks) le back few
 
-  gathered_by_keeps : (depth : ℕ) (may : Option (Plan Found)) (call : InvokedCall) (o : Option Way) → way_in setting call ≡ o → depth ≤ setting.limits.nesting → InnerAt V depth may
-      → Keeps (CallAt V depth) true (gathered_by setting (setting.limits.nesting - depth) may call o)
-  gathered_by_keeps depth may call None e le h = omega arith
-  gathered_by_keeps depth may call (Some way) e le h = gathered_keeps depth may call way le h (way_stays setting call way e)
+  gathered_by_keeps : (room : ℕ) (may : Option (Plan Found)) (call : InvokedCall) (o : Option Way) → way_in setting call ≡ o → room ≤ setting.limits.nesting → InnerAt V room may
+      → Keeps (CallAt V room) true (gathered_by setting (setting.limits.nesting - room) may call o)
+  gathered_by_keeps room may call None e le h = omega arith
+  gathered_by_keeps room may call (Some way) e le h = gathered_keeps room may call way le h (way_stays setting call way e)
 
-  called_keeps : (depth : ℕ) (may : Option (Plan Found)) (call : InvokedCall) → depth ≤ setting.limits.nesting → InnerAt V depth may
-      → Keeps (CallAt V depth) true (called setting (setting.limits.nesting - depth) may call)
-  called_keeps depth may call le h = gathered_by_keeps depth may call (way_in setting call) refl le h
+  called_keeps : (room : ℕ) (may : Option (Plan Found)) (call : InvokedCall) → room ≤ setting.limits.nesting → InnerAt V room may
+      → Keeps (CallAt V room) true (called setting (setting.limits.nesting - room) may call)
+  called_keeps room may call le h = gathered_by_keeps room may call (way_in setting call) refl le h
 
   -- ---- dispatch
 
-  module _ (depth : ℕ) (may : Option (Plan Found)) (le : depth ≤ setting.limits.nesting) (h : InnerAt V depth may) where
-    sub_called_keeps : (c sub : ℕ) (number : Option ℕ) (o : Option (List ℕ)) → Keeps (CallAt V depth) true (sub_called setting (setting.limits.nesting - depth) may c sub number o)
+  module _ (room : ℕ) (may : Option (Plan Found)) (le : room ≤ setting.limits.nesting) (h : InnerAt V room may) where
+    sub_called_keeps : (c sub : ℕ) (number : Option ℕ) (o : Option (List ℕ)) → Keeps (CallAt V room) true (sub_called setting (setting.limits.nesting - room) may c sub number o)
     sub_called_keeps c sub number None = omega arith
     sub_called_keeps c sub number (Some name) =
-        called_keeps depth may (record { function = function_of name; character = c; sub = Some (upper_case sub); number = number }) le h
+        called_keeps room may (record { function = function_of name; character = c; sub = Some (upper_case sub); number = number }) le h
 
-    dispatched_keeps : (taken : Bool) (c : ℕ) (number : Option ℕ) → Keeps (CallAt V depth) taken (dispatched setting (setting.limits.nesting - depth) may c number)
+    dispatched_keeps : (taken : Bool) (c : ℕ) (number : Option ℕ) → Keeps (CallAt V room) taken (dispatched setting (setting.limits.nesting - room) may c number)
     dispatched_keeps taken c number =
-        keeps_then (Any {A = Option ℕ}) (CallAt V depth) taken (number_after setting number) (sub_there setting (setting.limits.nesting - depth) may c) (number_keeps setting taken number)
-        (λ t n f. keeps_next (CallAt V depth) t (λ sub. sub_called setting (setting.limits.nesting - depth) may c sub n (dispatch_at setting.table c sub))
+        keeps_then (Any {A = Option ℕ}) (CallAt V room) taken (number_after setting number) (sub_there setting (setting.limits.nesting - room) may c) (number_keeps setting taken number)
+        (λ t n f. keeps_next (CallAt V room) t (λ sub. sub_called setting (setting.limits.nesting - room) may c sub n (dispatch_at setting.table c sub))
         (λ sub small. sub_called_keeps c sub n (dispatch_at setting.table c sub)))
 
-    macro_keeps : (c : ℕ) (o : Option (List ℕ)) → Keeps (CallAt V depth) true (macro_called setting (setting.limits.nesting - depth) may c o)
+    macro_keeps : (c : ℕ) (o : Option (List ℕ)) → Keeps (CallAt V room) true (macro_called setting (setting.limits.nesting - room) may c o)
     macro_keeps c None = omega arith
     macro_keeps c (Some name) =
         let one_call : InvokedCall = record { function = function_of name; character = c; sub = None; number = None } in
-        elim (is_dispatch_name name) as (λ b. Keeps (CallAt V depth) true (elim b [
-          | true ↦ dispatched setting (setting.limits.nesting - depth) may c None
-          | false ↦ called setting (setting.limits.nesting - depth) may (record { function = function_of name; character = c; sub = None; number = None })
-        ])) [ true ↦ dispatched_keeps true c None | false ↦ called_keeps depth may one_call le h ]
+        elim (is_dispatch_name name) as (λ b. Keeps (CallAt V room) true (elim b [
+          | true ↦ dispatched setting (setting.limits.nesting - room) may c None
+          | false ↦ called setting (setting.limits.nesting - room) may (record { function = function_of name; character = c; sub = None; number = None })
+        ])) [ true ↦ dispatched_keeps true c None | false ↦ called_keeps room may one_call le h ]
 
     -- ---- attempts
 
-    alone_keeps : (c : ℕ) (s : Syntax) → Keeps (CallAt V depth) true (alone setting (setting.limits.nesting - depth) may c s)
+    alone_keeps : (c : ℕ) (s : Syntax) → Keeps (CallAt V room) true (alone setting (setting.limits.nesting - room) may c s)
     alone_keeps c Whitespace = tt
     alone_keeps c TerminatingMacro = macro_keeps c (entry_at setting.table c).function
     alone_keeps c NonTerminatingMacro = macro_keeps c (entry_at setting.table c).function
@@ -395,26 +395,26 @@ module _ (setting : Setting) (V : ℕ → Object → Type 0) (laws : AreKept set
     alone_keeps c MultipleEscape = omega arith
     alone_keeps c Invalid = omega arith
 
-    told_keeps : (marks : List Mark) (r : Result Told ℕ) → told setting marks ≡ r → Keeps (FoundAt V depth) false (told_found r)
-    told_keeps marks (Ok (told_object x)) e = laws.tokens depth marks x e
+    told_keeps : (marks : List Mark) (r : Result Told ℕ) → told setting marks ≡ r → Keeps (FoundAt V room) false (told_found r)
+    told_keeps marks (Ok (told_object x)) e = laws.tokens room marks x e
     told_keeps marks (Ok dot_alone) e = tt
     told_keeps marks (Err code) e = omega arith
 
-    token_keeps : (marks : List Mark) → Keeps (FoundAt V depth) false (token_found setting marks)
+    token_keeps : (marks : List Mark) → Keeps (FoundAt V room) false (token_found setting marks)
     token_keeps [] = tt
     token_keeps (m ∷ ms) = told_keeps (m ∷ ms) (told setting (m ∷ ms)) refl
 
-    attempt_keeps : Keeps (FoundAt V depth) false (attempt_by setting (setting.limits.nesting - depth) may)
+    attempt_keeps : Keeps (FoundAt V room) false (attempt_by setting (setting.limits.nesting - room) may)
     attempt_keeps = (
       λ marks few. token_keeps marks,
-      λ c. keeps_weaker (CallAt V depth) (FoundAt V depth) (call_found V depth) true (alone setting (setting.limits.nesting - depth) may c (entry_at setting.table c).syntax)
+      λ c. keeps_weaker (CallAt V room) (FoundAt V room) (call_found V room) true (alone setting (setting.limits.nesting - room) may c (entry_at setting.table c).syntax)
           (alone_keeps c (entry_at setting.table c).syntax),
     )
 
-  inner_keeps : (depth : ℕ) → depth ≤ setting.limits.nesting → InnerAt V depth (inner setting depth)
+  inner_keeps : (room : ℕ) → room ≤ setting.limits.nesting → InnerAt V room (inner setting room)
   unfolding inner
   inner_keeps zero le = tt
-  inner_keeps (suc depth) le = attempt_keeps depth (inner setting depth) (omega arith) (inner_keeps depth (omega arith))
+  inner_keeps (suc room) le = attempt_keeps room (inner setting room) (omega arith) (inner_keeps room (omega arith))
 
   pub outermost_keeps : Keeps (FoundAt V setting.limits.nesting) false (attempt setting setting.limits.nesting)
   outermost_keeps = attempt_keeps setting.limits.nesting (inner setting setting.limits.nesting) (omega arith) (inner_keeps setting.limits.nesting (omega arith))

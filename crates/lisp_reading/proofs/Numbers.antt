@@ -309,24 +309,24 @@ finished_numbered token (Ok (Some x)) = gives_numbered (one token x)
 finished_numbered token (Ok None) = gives_numbered (nothing false)
 finished_numbered token (Err refusal) = refuses_numbered _ (std_refusal_number refusal) (bytes_back refusal) (standard_numbered refusal)
 
-answered_numbered : (packages : Packages) (nesting round : ℕ) (token spaced : Bool) (answer : MacroAnswer) → Numbered (answered packages nesting round token spaced answer)
-answered_numbered packages nesting round token spaced (value x) =
-    if_numbered (may_be_answered packages x && nat_le (object_depth x + round) nesting) (gives (one token x)) (refuses MACRO_ANSWER 0)
+answered_numbered : (packages : Packages) (nesting depth : ℕ) (token spaced : Bool) (answer : MacroAnswer) → Numbered (answered packages nesting depth token spaced answer)
+answered_numbered packages nesting depth token spaced (value x) =
+    if_numbered (may_be_answered packages x && nat_le (object_depth x + depth) nesting) (gives (one token x)) (refuses MACRO_ANSWER 0)
     (gives_numbered (one token x)) (refuses_numbered _ MACRO_ANSWER 0 (omega arith, omega arith))
-answered_numbered packages nesting round token spaced no_value = gives_numbered (nothing spaced)
-answered_numbered packages nesting round token spaced improper = refuses_numbered _ MACRO_ANSWER 0 (omega arith, omega arith)
-answered_numbered packages nesting round token spaced (answer_refused code) = refuses_numbered _ MACRO_REFUSED 0 (omega arith, omega arith)
+answered_numbered packages nesting depth token spaced no_value = gives_numbered (nothing spaced)
+answered_numbered packages nesting depth token spaced improper = refuses_numbered _ MACRO_ANSWER 0 (omega arith, omega arith)
+answered_numbered packages nesting depth token spaced (answer_refused code) = refuses_numbered _ MACRO_REFUSED 0 (omega arith, omega arith)
 
-completed_by_numbered : (setting : Setting) (round : ℕ) (call : InvokedCall) (function : Function) (token spaced : Bool) (material : Material)
-    → Numbered (completed_by setting round call function token spaced material)
-completed_by_numbered setting round call (AStandard kind) token spaced material =
+completed_by_numbered : (setting : Setting) (depth : ℕ) (call : InvokedCall) (function : Function) (token spaced : Bool) (material : Material)
+    → Numbered (completed_by setting depth call function token spaced material)
+completed_by_numbered setting depth call (AStandard kind) token spaced material =
     finished_numbered token (value_of kind setting.table.letters call.number material)
-completed_by_numbered setting round call (User own) token spaced material =
-    answered_numbered setting.packages setting.limits.nesting round token spaced (setting.answer own (macro_call call material))
+completed_by_numbered setting depth call (User own) token spaced material =
+    answered_numbered setting.packages setting.limits.nesting depth token spaced (setting.answer own (macro_call call material))
 
-completed_numbered : (setting : Setting) (round : ℕ) (call : InvokedCall) (token spaced : Bool) (material : Material)
-    → Numbered (completed setting round call token spaced material)
-completed_numbered setting round call token spaced material = completed_by_numbered setting round call call.function token spaced material
+completed_numbered : (setting : Setting) (depth : ℕ) (call : InvokedCall) (token spaced : Bool) (material : Material)
+    → Numbered (completed setting depth call token spaced material)
+completed_numbered setting depth call token spaced material = completed_by_numbered setting depth call call.function token spaced material
 
 -- ---- calls
 
@@ -369,64 +369,64 @@ opened_numbered : (may : Option (Plan Found)) (on : Plan Found → Plan Found) �
 opened_numbered None on h all = refuses_numbered _ TOO_DEEP 1 (omega arith, omega arith)
 opened_numbered (Some attempt) on h all = all attempt h
 
-module _ (setting : Setting) (round : ℕ) (may : Option (Plan Found)) (numbered : NumberedInner may) where
-  gathered_numbered : (call : InvokedCall) (way : Way) → Numbered (gathered setting round may call way)
-  gathered_numbered call Nothing = completed_numbered setting round call false false no_material
+module _ (setting : Setting) (depth : ℕ) (may : Option (Plan Found)) (numbered : NumberedInner may) where
+  gathered_numbered : (call : InvokedCall) (way : Way) → Numbered (gathered setting depth may call way)
+  gathered_numbered call Nothing = completed_numbered setting depth call false false no_material
   gathered_numbered call Next =
       opened_numbered may _ numbered (λ attempt h. then_numbered (place setting None attempt)
-      (one_piece (λ token x. completed setting round call token token (one_object x))) (place_numbered setting None attempt h)
-      (λ p. one_numbered (λ token x. completed setting round call token token (one_object x)) p (λ token x. completed_numbered setting round call token token (one_object x))))
+      (one_piece (λ token x. completed setting depth call token token (one_object x))) (place_numbered setting None attempt h)
+      (λ p. one_numbered (λ token x. completed setting depth call token token (one_object x)) p (λ token x. completed_numbered setting depth call token token (one_object x))))
   gathered_numbered call AList =
       opened_numbered may _ numbered (λ attempt h. then_numbered (items_after setting 41 attempt [])
-      (list_end setting attempt (λ m. completed setting round call false false m)) (items_numbered setting 41 attempt [] h)
-      (λ items. list_end_numbered setting attempt (λ m. completed setting round call false false m) items h (λ m. completed_numbered setting round call false false m)))
+      (list_end setting attempt (λ m. completed setting depth call false false m)) (items_numbered setting 41 attempt [] h)
+      (λ items. list_end_numbered setting attempt (λ m. completed setting depth call false false m) items h (λ m. completed_numbered setting depth call false false m)))
   gathered_numbered call (Until close) =
       opened_numbered may _ numbered (λ attempt h. then_numbered (items_after setting close attempt [])
-      (undotted (λ m. completed setting round call false false m)) (items_numbered setting close attempt [] h)
-      (λ items. undotted_numbered (λ m. completed setting round call false false m) items (λ m. completed_numbered setting round call false false m)))
+      (undotted (λ m. completed setting depth call false false m)) (items_numbered setting close attempt [] h)
+      (λ items. undotted_numbered (λ m. completed setting depth call false false m) items (λ m. completed_numbered setting depth call false false m)))
   gathered_numbered call (Text close) =
-      then_numbered (text_to setting close []) (λ cs. completed setting round call false false (letters cs))
-      (loop_numbered setting.limits (text_turn setting.table close) (text_numbered setting.table close) []) (λ cs. completed_numbered setting round call false false (letters cs))
+      then_numbered (text_to setting close []) (λ cs. completed setting depth call false false (letters cs))
+      (loop_numbered setting.limits (text_turn setting.table close) (text_numbered setting.table close) []) (λ cs. completed_numbered setting depth call false false (letters cs))
   gathered_numbered call (Line keep) =
-      then_numbered (line_after setting keep []) (λ cs. completed setting round call false false (letters cs))
-      (loop_numbered setting.limits (line_turn keep) (line_numbered keep) []) (λ cs. completed_numbered setting round call false false (letters cs))
+      then_numbered (line_after setting keep []) (λ cs. completed setting depth call false false (letters cs))
+      (loop_numbered setting.limits (line_turn keep) (line_numbered keep) []) (λ cs. completed_numbered setting depth call false false (letters cs))
   gathered_numbered call Block =
-      then_numbered (block_after setting (0, 0)) (λ u. completed setting round call false false no_material)
-      (loop_numbered setting.limits block_turn block_numbered (0, 0)) (λ u. completed_numbered setting round call false false no_material)
+      then_numbered (block_after setting (0, 0)) (λ u. completed setting depth call false false no_material)
+      (loop_numbered setting.limits block_turn block_numbered (0, 0)) (λ u. completed_numbered setting depth call false false no_material)
   gathered_numbered call Token =
-      scans_numbered false setting.limits.token (λ marks. completed setting round call true false (marked marks))
-      (λ marks. completed_numbered setting round call true false (marked marks))
+      scans_numbered false setting.limits.token (λ marks. completed setting depth call true false (marked marks))
+      (λ marks. completed_numbered setting depth call true false (marked marks))
   gathered_numbered call EscapedToken =
-      scans_numbered true setting.limits.token (λ marks. completed setting round call true false (marked marks))
-      (λ marks. completed_numbered setting round call true false (marked marks))
+      scans_numbered true setting.limits.token (λ marks. completed setting depth call true false (marked marks))
+      (λ marks. completed_numbered setting depth call true false (marked marks))
 
-  gathered_by_numbered : (call : InvokedCall) (way : Option Way) → Numbered (gathered_by setting round may call way)
+  gathered_by_numbered : (call : InvokedCall) (way : Option Way) → Numbered (gathered_by setting depth may call way)
   gathered_by_numbered call None = refuses_numbered _ OUT_OF_PROFILE 1 (omega arith, omega arith)
   gathered_by_numbered call (Some way) = gathered_numbered call way
 
-  called_numbered : (call : InvokedCall) → Numbered (called setting round may call)
+  called_numbered : (call : InvokedCall) → Numbered (called setting depth may call)
   called_numbered call = gathered_by_numbered call (way_in setting call)
 
-  sub_numbered : (c sub : ℕ) (argument : Option ℕ) (own : Option (List ℕ)) → Numbered (sub_called setting round may c sub argument own)
+  sub_numbered : (c sub : ℕ) (argument : Option ℕ) (own : Option (List ℕ)) → Numbered (sub_called setting depth may c sub argument own)
   sub_numbered c sub argument None = refuses_numbered _ NO_DISPATCH 1 (omega arith, omega arith)
   sub_numbered c sub argument (Some own) =
       called_numbered (record { function = function_of own; character = c; sub = Some (upper_case sub); number = argument })
 
-  dispatched_numbered : (c : ℕ) (argument : Option ℕ) → Numbered (dispatched setting round may c argument)
+  dispatched_numbered : (c : ℕ) (argument : Option ℕ) → Numbered (dispatched setting depth may c argument)
   dispatched_numbered c argument =
-      then_numbered (number_after setting argument) (sub_there setting round may c) (loop_numbered setting.limits number_turn number_numbered argument)
-      (λ n. next_byte_numbered (λ sub. sub_called setting round may c sub n (dispatch_at setting.table c sub))
+      then_numbered (number_after setting argument) (sub_there setting depth may c) (loop_numbered setting.limits number_turn number_numbered argument)
+      (λ n. next_byte_numbered (λ sub. sub_called setting depth may c sub n (dispatch_at setting.table c sub))
       (λ sub. sub_numbered c sub n (dispatch_at setting.table c sub)))
 
-  macro_numbered : (c : ℕ) (own : Option (List ℕ)) → Numbered (macro_called setting round may c own)
+  macro_numbered : (c : ℕ) (own : Option (List ℕ)) → Numbered (macro_called setting depth may c own)
   macro_numbered c None = refuses_numbered _ OUT_OF_PROFILE 1 (omega arith, omega arith)
   macro_numbered c (Some own) =
       let call : InvokedCall = record { function = function_of own; character = c; sub = None; number = None } in
-      if_numbered (is_dispatch_name own) (dispatched setting round may c None) (called setting round may call) (dispatched_numbered c None) (called_numbered call)
+      if_numbered (is_dispatch_name own) (dispatched setting depth may c None) (called setting depth may call) (dispatched_numbered c None) (called_numbered call)
 
   -- ---- objects
 
-  alone_numbered : (c : ℕ) (syntax : Syntax) → Numbered (alone setting round may c syntax)
+  alone_numbered : (c : ℕ) (syntax : Syntax) → Numbered (alone setting depth may c syntax)
   alone_numbered c Whitespace = gives_numbered (nothing false)
   alone_numbered c TerminatingMacro = macro_numbered c (entry_at setting.table c).function
   alone_numbered c NonTerminatingMacro = macro_numbered c (entry_at setting.table c).function
@@ -435,19 +435,19 @@ module _ (setting : Setting) (round : ℕ) (may : Option (Plan Found)) (numbered
   alone_numbered c MultipleEscape = refuses_numbered _ INVALID_CHARACTER 1 (omega arith, omega arith)
   alone_numbered c Invalid = refuses_numbered _ INVALID_CHARACTER 1 (omega arith, omega arith)
 
-  attempt_by_numbered : Numbered (attempt_by setting round may)
+  attempt_by_numbered : Numbered (attempt_by setting depth may)
   attempt_by_numbered =
       takes_numbered (scans false setting.limits.token (token_found setting)) (λ c. stands_alone (entry_at setting.table c).syntax)
-      (λ c. alone setting round may c (entry_at setting.table c).syntax)
+      (λ c. alone setting depth may c (entry_at setting.table c).syntax)
       (scans_numbered false setting.limits.token (token_found setting) (token_numbered setting)) (λ c. alone_numbered c (entry_at setting.table c).syntax)
 
-inner_numbered : (setting : Setting) (depth : ℕ) → NumberedInner (inner setting depth)
+inner_numbered : (setting : Setting) (room : ℕ) → NumberedInner (inner setting room)
 unfolding inner
 inner_numbered setting zero = tt
-inner_numbered setting (suc depth) = attempt_by_numbered setting (setting.limits.nesting - depth) (inner setting depth) (inner_numbered setting depth)
+inner_numbered setting (suc room) = attempt_by_numbered setting (setting.limits.nesting - room) (inner setting room) (inner_numbered setting room)
 
-attempt_numbered : (setting : Setting) (depth : ℕ) → Numbered (attempt setting depth)
-attempt_numbered setting depth = attempt_by_numbered setting (setting.limits.nesting - depth) (inner setting depth) (inner_numbered setting depth)
+attempt_numbered : (setting : Setting) (room : ℕ) → Numbered (attempt setting room)
+attempt_numbered setting room = attempt_by_numbered setting (setting.limits.nesting - room) (inner setting room) (inner_numbered setting room)
 
 -- ---- forms
 

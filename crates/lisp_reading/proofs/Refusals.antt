@@ -15,13 +15,13 @@ use Rattle.lisp_reading.proofs.Language.{AreKept, FoundAt, outermost_keeps}
 use Rattle.lisp_reading.proofs.Places.{Parts, parts}
 
 -- nothing is asked of objects
-pub any : (setting : Setting) → AreKept setting (λ depth x. Unit {0})
-any setting = record { tokens = λ depth marks x e. tt; values = λ depth kind number material x h e. tt; answers = λ depth x le known deep. tt }
+pub any : (setting : Setting) → AreKept setting (λ room x. Unit {0})
+any setting = record { tokens = λ room marks x e. tt; values = λ room kind number material x h e. tt; answers = λ room x le known deep. tt }
 
 first_decided : (setting : Setting) (text : List ℕ) → Decided 0 0 (0 + length text) (λ more. first setting (text ++ more)) (first setting text)
 first_decided setting text =
-    decided (FoundAt (λ depth x. Unit {0}) setting.limits.nesting) setting.table setting.limits (attempt setting setting.limits.nesting) false 0 text (omega arith)
-    (outermost_keeps setting (λ depth x. Unit {0}) (any setting))
+    decided (FoundAt (λ room x. Unit {0}) setting.limits.nesting) setting.table setting.limits (attempt setting setting.limits.nesting) false 0 text (omega arith)
+    (outermost_keeps setting (λ room x. Unit {0}) (any setting))
 
 no_refusal : (setting : Setting) (n start code place : ℕ) → reads_in setting n start [] ≡ refused code place → ⊥
 unfolding reads_in

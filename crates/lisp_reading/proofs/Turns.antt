@@ -186,9 +186,9 @@ place_guarded table limits close attempt ends = record {
 
 -- ---- attempts
 
-pub attempt_ends : (setting : Setting) (round : ℕ) (may : Option (Plan Found)) → Ends setting.table setting.limits (attempt_by setting round may)
+pub attempt_ends : (setting : Setting) (depth : ℕ) (may : Option (Plan Found)) → Ends setting.table setting.limits (attempt_by setting depth may)
 unfolding run outside
-attempt_ends setting round may = record {
+attempt_ends setting depth may = record {
   rest = λ at h.
       let e : nat_le at setting.limits.text ≡ true = le-leb at setting.limits.text h in
       let on : Read (List Mark) → Read Found = λ r. elim r [ Ok p ↦ run setting.table setting.limits (token_found setting p.0) p.1 p.2 | Err e ↦ Err e ] in

@@ -146,86 +146,86 @@ finished token (Ok (Some x)) = gives (one token x)
 finished token (Ok None) = gives (nothing false)
 finished token (Err refusal) = refuses (std_refusal_number refusal) (bytes_back refusal)
 
--- The answer of a function of a user under a limit of nesting, with so many open calls round it: whether a token ends the call, and whether a token
+-- The answer of a function of a user under a limit of nesting at this depth: whether a token ends the call, and whether a token
 -- ends an object in it. Where no value is given, only an object has its one whitespace character discarded with it.
 abbrev pub answered : Packages → ℕ → ℕ → Bool → Bool → MacroAnswer → Plan Found
-answered packages nesting round token spaced (value x) =
-    elim (may_be_answered packages x && nat_le (object_depth x + round) nesting) [
+answered packages nesting depth token spaced (value x) =
+    elim (may_be_answered packages x && nat_le (object_depth x + depth) nesting) [
       | true ↦ gives (one token x)
       | false ↦ refuses MACRO_ANSWER 0
     ]
-answered packages nesting round token spaced no_value = gives (nothing spaced)
-answered packages nesting round token spaced improper = refuses MACRO_ANSWER 0
-answered packages nesting round token spaced (answer_refused code) = refuses MACRO_REFUSED 0
+answered packages nesting depth token spaced no_value = gives (nothing spaced)
+answered packages nesting depth token spaced improper = refuses MACRO_ANSWER 0
+answered packages nesting depth token spaced (answer_refused code) = refuses MACRO_REFUSED 0
 
 -- what the function gives for what was gathered
 abbrev pub completed_by : Setting → ℕ → InvokedCall → Function → Bool → Bool → Material → Plan Found
-completed_by setting round call (AStandard kind) token spaced material =
+completed_by setting depth call (AStandard kind) token spaced material =
     finished token (value_of kind setting.table.letters call.number material)
-completed_by setting round call (User name) token spaced material =
-    answered setting.packages setting.limits.nesting round token spaced (setting.answer name (macro_call call material))
+completed_by setting depth call (User name) token spaced material =
+    answered setting.packages setting.limits.nesting depth token spaced (setting.answer name (macro_call call material))
 
 abbrev pub completed : Setting → ℕ → InvokedCall → Bool → Bool → Material → Plan Found
-completed setting round call token spaced material = completed_by setting round call call.function token spaced material
+completed setting depth call token spaced material = completed_by setting depth call call.function token spaced material
 
 -- ---- calls
 
--- a call that reads objects, where one more may be round
+-- a call that reads objects, where one more may be open
 abbrev pub opened : Option (Plan Found) → (Plan Found → Plan Found) → Plan Found
 opened None on = refuses TOO_DEEP 1
 opened (Some attempt) on = on attempt
 
 abbrev pub gathered : Setting → ℕ → Option (Plan Found) → InvokedCall → Way → Plan Found
-gathered setting round inner call Nothing = completed setting round call false false no_material
-gathered setting round inner call Next =
+gathered setting depth inner call Nothing = completed setting depth call false false no_material
+gathered setting depth inner call Next =
     opened inner (λ attempt. then_plan (place setting None attempt)
-    (one_piece (λ token x. completed setting round call token token (one_object x))))
-gathered setting round inner call AList =
+    (one_piece (λ token x. completed setting depth call token token (one_object x))))
+gathered setting depth inner call AList =
     opened inner (λ attempt. then_plan (items_after setting 41 attempt [])
-    (list_end setting attempt (λ m. completed setting round call false false m)))
-gathered setting round inner call (Until close) =
+    (list_end setting attempt (λ m. completed setting depth call false false m)))
+gathered setting depth inner call (Until close) =
     opened inner (λ attempt. then_plan (items_after setting close attempt [])
-    (undotted (λ m. completed setting round call false false m)))
-gathered setting round inner call (Text close) =
-    then_plan (text_to setting close []) (λ cs. completed setting round call false false (letters cs))
-gathered setting round inner call (Line keep) =
-    then_plan (line_after setting keep []) (λ cs. completed setting round call false false (letters cs))
-gathered setting round inner call Block =
-    then_plan (block_after setting (0, 0)) (λ u. completed setting round call false false no_material)
-gathered setting round inner call Token =
-    scans false setting.limits.token (λ marks. completed setting round call true false (marked marks))
-gathered setting round inner call EscapedToken =
-    scans true setting.limits.token (λ marks. completed setting round call true false (marked marks))
+    (undotted (λ m. completed setting depth call false false m)))
+gathered setting depth inner call (Text close) =
+    then_plan (text_to setting close []) (λ cs. completed setting depth call false false (letters cs))
+gathered setting depth inner call (Line keep) =
+    then_plan (line_after setting keep []) (λ cs. completed setting depth call false false (letters cs))
+gathered setting depth inner call Block =
+    then_plan (block_after setting (0, 0)) (λ u. completed setting depth call false false no_material)
+gathered setting depth inner call Token =
+    scans false setting.limits.token (λ marks. completed setting depth call true false (marked marks))
+gathered setting depth inner call EscapedToken =
+    scans true setting.limits.token (λ marks. completed setting depth call true false (marked marks))
 
 -- a name of no function is outside the profile
 abbrev pub gathered_by : Setting → ℕ → Option (Plan Found) → InvokedCall → Option Way → Plan Found
-gathered_by setting round inner call None = refuses OUT_OF_PROFILE 1
-gathered_by setting round inner call (Some way) = gathered setting round inner call way
+gathered_by setting depth inner call None = refuses OUT_OF_PROFILE 1
+gathered_by setting depth inner call (Some way) = gathered setting depth inner call way
 
 abbrev pub called : Setting → ℕ → Option (Plan Found) → InvokedCall → Plan Found
-called setting round inner call = gathered_by setting round inner call (way_in setting call)
+called setting depth inner call = gathered_by setting depth inner call (way_in setting call)
 
 -- ---- dispatch: a number and a sub-character, which is taken in upper case
 
 abbrev pub sub_called : Setting → ℕ → Option (Plan Found) → ℕ → ℕ → Option ℕ → Option (List ℕ) → Plan Found
-sub_called setting round inner c sub number None = refuses NO_DISPATCH 1
-sub_called setting round inner c sub number (Some name) =
-    called setting round inner (record { function = function_of name; character = c; sub = Some (upper_case sub); number = number })
+sub_called setting depth inner c sub number None = refuses NO_DISPATCH 1
+sub_called setting depth inner c sub number (Some name) =
+    called setting depth inner (record { function = function_of name; character = c; sub = Some (upper_case sub); number = number })
 
 abbrev pub sub_there : Setting → ℕ → Option (Plan Found) → ℕ → Option ℕ → Plan Found
-sub_there setting round inner c number =
-    next_byte (λ sub. sub_called setting round inner c sub number (dispatch_at setting.table c sub))
+sub_there setting depth inner c number =
+    next_byte (λ sub. sub_called setting depth inner c sub number (dispatch_at setting.table c sub))
 
 abbrev pub dispatched : Setting → ℕ → Option (Plan Found) → ℕ → Option ℕ → Plan Found
-dispatched setting round inner c number = then_plan (number_after setting number) (sub_there setting round inner c)
+dispatched setting depth inner c number = then_plan (number_after setting number) (sub_there setting depth inner c)
 
 -- the function at a macro character, which always has one
 abbrev pub macro_called : Setting → ℕ → Option (Plan Found) → ℕ → Option (List ℕ) → Plan Found
-macro_called setting round inner c None = refuses OUT_OF_PROFILE 1
-macro_called setting round inner c (Some name) =
+macro_called setting depth inner c None = refuses OUT_OF_PROFILE 1
+macro_called setting depth inner c (Some name) =
     elim (is_dispatch_name name) [
-      | true ↦ dispatched setting round inner c None
-      | false ↦ called setting round inner (record { function = function_of name; character = c; sub = None; number = None })
+      | true ↦ dispatched setting depth inner c None
+      | false ↦ called setting depth inner (record { function = function_of name; character = c; sub = None; number = None })
     ]
 
 -- ---- objects
@@ -242,10 +242,10 @@ stands_alone MultipleEscape = false
 
 -- What such a character is where an object may begin (standard 2.2).
 abbrev pub alone : Setting → ℕ → Option (Plan Found) → ℕ → Syntax → Plan Found
-alone setting round inner c Whitespace = gives (nothing false)
-alone setting round inner c TerminatingMacro = macro_called setting round inner c (entry_at setting.table c).function
-alone setting round inner c NonTerminatingMacro = macro_called setting round inner c (entry_at setting.table c).function
-alone setting round inner c _ = refuses INVALID_CHARACTER 1
+alone setting depth inner c Whitespace = gives (nothing false)
+alone setting depth inner c TerminatingMacro = macro_called setting depth inner c (entry_at setting.table c).function
+alone setting depth inner c NonTerminatingMacro = macro_called setting depth inner c (entry_at setting.table c).function
+alone setting depth inner c _ = refuses INVALID_CHARACTER 1
 
 -- a token is an object, or a dot, or is refused where it ends
 abbrev pub told_found : Result Told ℕ → Plan Found
@@ -260,17 +260,17 @@ token_found setting (m ∷ ms) = told_found (told setting (m ∷ ms))
 
 -- One attempt at an object; inner is an attempt one call deeper.
 abbrev pub attempt_by : Setting → ℕ → Option (Plan Found) → Plan Found
-attempt_by setting round inner =
+attempt_by setting depth inner =
     takes (scans false setting.limits.token (token_found setting)) (λ c. stands_alone (entry_at setting.table c).syntax)
-    (λ c. alone setting round inner c (entry_at setting.table c).syntax)
+    (λ c. alone setting depth inner c (entry_at setting.table c).syntax)
 
--- an attempt where so many more calls may be round
+-- an attempt where so many more calls may be open
 unfoldable pub inner : Setting → ℕ → Option (Plan Found)
 inner setting zero = None
-inner setting (suc depth) = Some (attempt_by setting (setting.limits.nesting - depth) (inner setting depth))
+inner setting (suc room) = Some (attempt_by setting (setting.limits.nesting - room) (inner setting room))
 
 abbrev pub attempt : Setting → ℕ → Plan Found
-attempt setting depth = attempt_by setting (setting.limits.nesting - depth) (inner setting depth)
+attempt setting room = attempt_by setting (setting.limits.nesting - room) (inner setting room)
 
 -- ---- the outermost object
 

@@ -5,7 +5,8 @@ ghost use Rattle.lisp_object.specs.declared.refusal.TheConstants.{END_OF_FILE, O
 ghost use Rattle.readtable_core.specs.Names.{is_among};
 ghost use Rattle.readtable_core.specs.Tables.{Table};
 ghost use Rattle.package_table.specs.Table.{Name, Table as Packages, IsSound};
-ghost use Rattle.user_macros.specs.Functions.{Functions, named_among};
+ghost use Rattle.user_macros.specs.declared.call.Gather.{Gather};
+ghost use Rattle.user_macros.specs.Calls.{MacroCall, MacroAnswer};
 ghost use Rattle.lisp_reading.specs.declared.limits.Limits.{Limits};
 ghost use Rattle.lisp_reading.specs.declared.way.Keep.{Keep};
 ghost use Rattle.lisp_reading.specs.Plans.{GiveSame, loop, run};
@@ -89,12 +90,12 @@ pub fn reading_goes_on()
     ensures form { (setting : Setting) (start : ℕ) (text : List ℕ) → reads_at setting start text
         ≡ outcome setting.table start (λ next cs. reads_at setting next cs)
         (run setting.table setting.limits (attempt setting setting.limits.nesting) 0 text) }
-    ensures place { (setting : Setting) (depth : ℕ) (close : Option ℕ) → GiveSame setting.table setting.limits
-        (place setting close (attempt setting depth))
-        (place_turn setting.table close (attempt setting depth) (λ u. place setting close (attempt setting depth)) tt) }
-    ensures items { (setting : Setting) (depth close : ℕ) (xs : List Object) → GiveSame setting.table setting.limits
-        (items_after setting close (attempt setting depth) xs)
-        (items_turn setting close (attempt setting depth) (items_after setting close (attempt setting depth)) xs) }
+    ensures place { (setting : Setting) (room : ℕ) (close : Option ℕ) → GiveSame setting.table setting.limits
+        (place setting close (attempt setting room))
+        (place_turn setting.table close (attempt setting room) (λ u. place setting close (attempt setting room)) tt) }
+    ensures items { (setting : Setting) (room close : ℕ) (xs : List Object) → GiveSame setting.table setting.limits
+        (items_after setting close (attempt setting room) xs)
+        (items_turn setting close (attempt setting room) (items_after setting close (attempt setting room)) xs) }
     ensures text { (setting : Setting) (terminator : ℕ) (text : List ℕ) → GiveSame setting.table setting.limits
         (loop setting.limits (text_turn setting.table terminator) text)
         (text_turn setting.table terminator (loop setting.limits (text_turn setting.table terminator)) text) }
@@ -115,10 +116,10 @@ pub fn refusals_are_of_reading()
 /// What is read depends on the registered functions only through their names: where two registries have the same names, the
 /// setting is the same. So where each function of a meaning is registered, a text is read under all its names.
 pub fn only_registered_names_matter()
-    ensures { (limits : Limits) (table : Table) (packages : Packages) (current : Name) (functions : Functions)
-        (names : List (List ℕ))
-        → ((name : List ℕ) → IsTrue (is_among functions.names name) → IsTrue (is_among names name))
-        → ((name : List ℕ) → IsTrue (is_among names name) → IsTrue (is_among functions.names name))
-        → setting_of limits table packages current (named_among names functions)
-        ≡ setting_of limits table packages current functions }
+    ensures { (limits : Limits) (table : Table) (packages : Packages) (current : Name)
+        (names others : List (List ℕ))
+        (way : List ℕ → Option Gather) (answer : List ℕ → MacroCall → MacroAnswer)
+        → ((name : List ℕ) → IsTrue (is_among names name) → IsTrue (is_among others name))
+        → ((name : List ℕ) → IsTrue (is_among others name) → IsTrue (is_among names name))
+        → setting_of limits table packages current others way answer ≡ setting_of limits table packages current names way answer }
 {}

@@ -53,6 +53,7 @@ fn repeating(
         then given (vector_object (list_of (map object_of (front.items ++ replicate (copies + 1) last)))) else Err VectorLength) }
     ensures proper { IfOk result IsProperFinished }
 {
+    // Nothing is copied for a vector that is too large.
     if !fits(front.as_slice(), &last, copies) {
         return Err(FinishError::Refused(StdRefusal::VectorLength));
     }

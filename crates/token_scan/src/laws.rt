@@ -25,7 +25,8 @@ pub fn token_laws()
         IfOk (token limit at text) (λ t. IsTrue (are_ascii t.0)) }
     ensures forwards { (scan : Scan) (at : ℕ) (text : List TypedByte) →
         MatchResult (token_from scan at text) (λ t. at ≤ t.1) (λ e. at ≤ e.at) }
-    ensures begun { (scan : Scan) → IsTrue (has_begun scan) → scan.stage ≡ Outside → 0 < length scan.marks }
+    ensures begun { (scan : Scan) → IsTrue (has_begun scan) → scan.stage ≡ Outside
+        → 0 < length scan.marks }
 {}
 
 /// The same of a token whose first character is taken as an escaped one, as that of a character's name is (standard

@@ -52,7 +52,8 @@ impl TokenScan {
     /// An empty token of at most `limit` characters, which bars and escapes are not. It keeps `alloc` for its marks.
     pub fn begin(alloc: Global, limit: usize) -> TokenScan
         ensures value { result ≡ begun limit }
-        ensures token { (at : ℕ) (text : List TypedByte) → token_from result at text ≡ token limit at text }
+        ensures token { (at : ℕ) (text : List TypedByte)
+            → token_from result at text ≡ token limit at text }
     {
         TokenScan::starting(alloc, limit, Stage::Outside)
     }
@@ -61,7 +62,8 @@ impl TokenScan {
     /// name is (standard 2.4.8.1).
     pub fn begin_escaped(alloc: Global, limit: usize) -> TokenScan
         ensures value { result ≡ begun_escaped limit }
-        ensures token { (at : ℕ) (text : List TypedByte) → token_from result at text ≡ escaped_token limit at text }
+        ensures token { (at : ℕ) (text : List TypedByte)
+            → token_from result at text ≡ escaped_token limit at text }
     {
         TokenScan::starting(alloc, limit, Stage::EscapedOutside)
     }
@@ -84,6 +86,7 @@ impl TokenScan {
     {
         match (self.stage, kind_of(syntax, byte)) {
             (Stage::Refused(refusal), _) => Ok(Fed::Refused(refusal)),
+            // After a single escape any character is one of the token, whatever its syntax type.
             (Stage::EscapedOutside, _) => self.feed_escaped(byte, Stage::Outside),
             (Stage::EscapedInside, _) => self.feed_escaped(byte, Stage::Inside),
             (_, Syntax::Invalid) => Ok(self.refuse(ScanRefusal::InvalidCharacter)),
@@ -108,9 +111,11 @@ impl TokenScan {
         ensures gives { (at : ℕ) → MatchResult result
             (λ _. token_from self.old at [] ≡ Ok (self.old.marks, at, []))
             (λ refusal. token_from self.old at [] ≡ fault refusal at) }
-        ensures leaves { MatchResult result (λ _. (self.new ≡ self.old) × (self.old.stage ≡ Outside))
+        ensures leaves { MatchResult result
+            (λ _. (self.new ≡ self.old) × (self.old.stage ≡ Outside))
             (λ refusal. self.new ≡ refused self.old refusal) }
-        ensures repeats { (refusal : ScanRefusal) → self.old.stage ≡ Refused refusal → result ≡ Err refusal }
+        ensures repeats { (refusal : ScanRefusal) → self.old.stage ≡ Refused refusal
+            → result ≡ Err refusal }
     {
         match self.stage {
             Stage::Outside => Ok(()),
@@ -174,10 +179,12 @@ impl TokenScan {
         ensures gives { (x : TypedByte) (at : ℕ) (more : List TypedByte) → IfOk result (λ fed.
             with_front self.old.marks (one_more self.old.left at (λ left. plain byte at (outside left (at + 1) more)))
             ≡ fed_gives fed self.new at x more) }
-        ensures leaves { IfOk result (λ fed. LeavesBy (Plain byte ∷ []) false fed self.old self.new) }
+        ensures leaves { IfOk result (λ fed.
+            LeavesBy (Plain byte ∷ []) false fed self.old self.new) }
         ensures unchanged { OnErr result (self.new ≡ self.old) }
         ensures no_end { result ≡ Ok (FedRefused EndOfFile) → ⊥ }
     {
+        // One character too many is refused as that, also where its trait is invalid.
         if self.left == 0 {
             return Ok(self.refuse(ScanRefusal::TokenTooLong));
         }
@@ -194,7 +201,8 @@ impl TokenScan {
             with_front self.old.marks
             (escaped (met syntax byte) self.old.left at (λ left. from_stage back left (at + 1) more))
             ≡ fed_gives fed self.new at (met syntax byte) more) }
-        ensures leaves { IfOk result (λ fed. LeavesBy (Quoted byte ∷ []) false fed self.old self.new) }
+        ensures leaves { IfOk result (λ fed.
+            LeavesBy (Quoted byte ∷ []) false fed self.old self.new) }
         ensures unchanged { OnErr result (self.new ≡ self.old) }
         ensures no_end { result ≡ Ok (FedRefused EndOfFile) → ⊥ }
     {
@@ -210,7 +218,8 @@ impl TokenScan {
         ensures gives { (x : TypedByte) (at : ℕ) (more : List TypedByte) → IfOk result (λ fed.
             with_front self.old.marks (one_more self.old.left at (λ left. quoted byte (from_stage back left (at + 1) more)))
             ≡ fed_gives fed self.new at x more) }
-        ensures leaves { IfOk result (λ fed. LeavesBy (Quoted byte ∷ []) false fed self.old self.new) }
+        ensures leaves { IfOk result (λ fed.
+            LeavesBy (Quoted byte ∷ []) false fed self.old self.new) }
         ensures unchanged { OnErr result (self.new ≡ self.old) }
         ensures no_end { result ≡ Ok (FedRefused EndOfFile) → ⊥ }
     {

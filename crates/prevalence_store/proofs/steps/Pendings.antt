@@ -17,8 +17,8 @@ use Rattle.lisp_reading.specs.declared.limits.Limits.{Limits}
 use Rattle.form_reader.specs.declared.reader.FormReader.{FormReader}
 use Rattle.form_reader.specs.declared.reader.ReaderState.{ReaderState}
 use Rattle.form_reader.specs.declared.reader.ReaderState.TheVariants.{Open, Refused, OutOfMemory}
-use Rattle.form_reader.specs.declared.reader.Step.{Step}
-use Rattle.form_reader.specs.declared.reader.Step.TheVariants.{Form as StepForm}
+use Rattle.form_reader.specs.declared.reader.Advance.{Advance}
+use Rattle.form_reader.specs.declared.reader.Advance.TheVariants.{Form as AdvanceForm}
 use Rattle.lisp_reading.specs.Plans.{Read}
 use Rattle.form_reader.specs.Reader.{begun, fed, limits_of, BeginsLater, IsAfter, IsAfterIn, MayGoOn, Steps}
 use Rattle.lisp_reading.specs.Reading.{form, empty, outcome, reads, reads_at}
@@ -130,17 +130,17 @@ module _ (functions : Functions) (w : World) (mode : Mode) (old : Pending) (byte
     pub within : next ≤ length bytes + 1
     pub close : length bytes ≤ next
 
-  module _ (byte : ℕ) (new : FormReader) (step : Step) (datum : Datum) (start stop next : ℕ) (is : step ≡ StepForm datum start stop next)
+  module _ (byte : ℕ) (new : FormReader) (step : Advance) (datum : Datum) (start stop next : ℕ) (is : step ≡ AdvanceForm datum start stop next)
       (steps : Steps (setting_in functions w mode) new (bytes ++ byte ∷ []) step) where
-    form_told : Steps (setting_in functions w mode) new (bytes ++ byte ∷ []) (StepForm datum start stop next)
-    form_told = subst (λ (s : Step). Steps (setting_in functions w mode) new (bytes ++ byte ∷ []) s) is steps
+    form_told : Steps (setting_in functions w mode) new (bytes ++ byte ∷ []) (AdvanceForm datum start stop next)
+    form_told = subst (λ (s : Advance). Steps (setting_in functions w mode) new (bytes ++ byte ∷ []) s) is steps
 
     pub form_proper : is_proper datum ≡ true
     form_proper = form_told.1
 
     pub fed_places : BeginsLater old.reader new step → FedPlaces byte start stop next
     fed_places later =
-        let from : (begun old.reader ≤ start) × (begun new ≡ 0) = subst (λ (s : Step). BeginsLater old.reader new s) is later in
+        let from : (begun old.reader ≤ start) × (begun new ≡ 0) = subst (λ (s : Advance). BeginsLater old.reader new s) is later in
         let places = form_places functions w mode ((bytes ++ byte ∷ []) ++ []) (object_of datum) start stop next (form_told.0 []) in
         let many : length (bytes ++ byte ∷ []) ≡ length bytes + 1 = length-append bytes (byte ∷ []) in
         record {

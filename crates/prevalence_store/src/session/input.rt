@@ -10,7 +10,7 @@ ghost use Rattle.prevalence_store.specs.steps.Input.{IsPending, IsSoundFed, Feed
 
 use crate::mode::Mode;
 use crate::setting::{package_in, readtable_in};
-use form_reader::{FormReader, Limits, ReadOutcome, Step};
+use form_reader::{FormReader, Limits, ReadOutcome, Advance};
 use lisp_object::Datum;
 use plist_state::World;
 use readtable_core::Readtable;
@@ -124,12 +124,12 @@ impl Pending {
     {
         self.text.push(byte)?;
         match step_in(&mut self.reader, readtable, world, macros, mode, byte)? {
-            Step::More => {
+            Advance::More => {
                 self.discard(alloc)?;
                 Ok(Fed::Nothing)
             }
-            Step::Refused { code, at: _ } => Ok(Fed::Refused(code)),
-            Step::Form {
+            Advance::Refused { code, at: _ } => Ok(Fed::Refused(code)),
+            Advance::Form {
                 datum,
                 start,
                 end,
@@ -235,7 +235,7 @@ fn step_in<R: MacroFunctions>(
     macros: &R,
     mode: Mode,
     byte: u8,
-) -> Result<Step, AllocError>
+) -> Result<Advance, AllocError>
     requires answers { R.answers macros.now }
     requires whole { are_registered R.Meaning.functions (R.functions macros.now) ≡ true }
     requires table { readtable.now ≡ table_in world.now.0 mode }

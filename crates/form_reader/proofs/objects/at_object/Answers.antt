@@ -1,5 +1,5 @@
 use Rattle.std.proofs.Common.{◌≤◌, List, length, arith, sym, subst}
-use Rattle.form_reader.specs.declared.frame.Frame.{Frame as OpenCall}
+use Rattle.form_reader.specs.declared.frame.Frame.{Frame}
 use Rattle.form_reader.specs.Surrounding.{setting}
 use Rattle.form_reader.proofs.ObjectTokens.{object_closes, object_over, object_attempts}
 use Rattle.form_reader.proofs.objects.at_object.Goals as goal
@@ -24,4 +24,4 @@ pub returns-else-stands_alone-clause-brings : goal.returns-else-stands_alone-cla
 returns-else-stands_alone-clause-brings g c = λ cs.
     let setting = setting g.R.MacroFunctions.functions c.args.with.now in
     object_attempts setting c.args.at c.args.c cs c.pop_closed_by.new.self c.args.frames.now _ c.begin_token.result c.in_default.ensures.0 c.requires.place c.in_default.ensures.1
-    (c.begin_token.ensures.brings c.pop_closed_by.new.self cs (subst (λ (fs : List OpenCall). length fs ≤ c.args.with.now.limits.nesting) (sym c.in_default.ensures.0) c.requires.nesting))
+    (c.begin_token.ensures.brings c.pop_closed_by.new.self cs (subst (λ (fs : List Frame). length fs ≤ c.args.with.now.limits.nesting) (sym c.in_default.ensures.0) c.requires.nesting))

@@ -8,14 +8,14 @@ pub returns-clause-form : goal.returns-clause-form
 returns-clause-form c = reads_is
 
 pub returns-clause-place : goal.returns-clause-place
-returns-clause-place c setting depth close at cs h =
-    loop_is setting.table setting.limits (place_turn setting.table close (attempt setting depth))
-    (place_guarded setting.table setting.limits close (attempt setting depth) (attempt_ends setting _ _)) tt at cs h
+returns-clause-place c setting room close at cs h =
+    loop_is setting.table setting.limits (place_turn setting.table close (attempt setting room))
+    (place_guarded setting.table setting.limits close (attempt setting room) (attempt_ends setting _ _)) tt at cs h
 
 pub returns-clause-items : goal.returns-clause-items
-returns-clause-items c setting depth close xs at cs h =
-    loop_is setting.table setting.limits (items_turn setting close (attempt setting depth))
-    (items_guarded setting close (attempt setting depth) (attempt_ends setting _ _)) xs at cs h
+returns-clause-items c setting room close xs at cs h =
+    loop_is setting.table setting.limits (items_turn setting close (attempt setting room))
+    (items_guarded setting close (attempt setting room) (attempt_ends setting _ _)) xs at cs h
 
 pub returns-clause-text : goal.returns-clause-text
 returns-clause-text c setting terminator text at cs h =

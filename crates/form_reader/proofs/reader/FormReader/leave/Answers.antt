@@ -1,6 +1,6 @@
 use Rattle.std.proofs.Common.{◌≡◌, [], sym, subst, ◌∙◌, refl}
-use Rattle.form_reader.specs.declared.reader.ReaderState.{State}
-use Rattle.form_reader.specs.declared.reader.Step.TheVariants.{More as StepMore}
+use Rattle.form_reader.specs.declared.reader.ReaderState.{ReaderState}
+use Rattle.form_reader.specs.declared.reader.Advance.TheVariants.{More as AdvanceMore}
 use Rattle.form_reader.specs.Surrounding.{setting}
 use Rattle.form_reader.specs.Reader.{IsAfterIn}
 use Rattle.form_reader.proofs.Between.{leaves_between, anew_between}
@@ -11,7 +11,7 @@ pub returns-clause-steps : goal.returns-clause-steps
 returns-clause-steps g c = λ bytes after.
     let setting = setting g.R.MacroFunctions.functions c.args.with.now in
     stepped setting c.args.self.now _ c.take.new.self c.in-Open.stage bytes c.args.byte c.take_byte.new.frames c.in_ok-next-in-Open.next c.take.result
-    (subst (λ (s : State). IsAfterIn setting c.args.self.now s bytes) (sym c.replace.ensures.value ∙ c.in-Open.is) after)
+    (subst (λ (s : ReaderState). IsAfterIn setting c.args.self.now s bytes) (sym c.replace.ensures.value ∙ c.in-Open.is) after)
     c.in_ok-next-in-Open.ensures.turns c.in_ok-next-in-Open.ensures.ready c.take.ensures.takes refl
 
 pub returns-clause-between_forms : goal.returns-clause-between_forms
@@ -21,5 +21,5 @@ returns-clause-between_forms g c =
 
 pub returns-clause-nothing_open : goal.returns-clause-nothing_open
 returns-clause-nothing_open g c = λ e here.
-    let more : c.take.result ≡ StepMore = cc in
+    let more : c.take.result ≡ AdvanceMore = cc in
     anew_between _ c.take.new.self c.take_byte.new.frames c.in_ok-next-in-Open.next c.take.result c.in_ok-next-in-Open.ensures.anew c.take.ensures.takes refl more here

@@ -1,7 +1,7 @@
 use Rattle.std.proofs.Common.{◌+◌, [], refl, sym, ap, subst, ◌∙◌}
 use Rattle.std.specs.Prelude.{IsTrue}
 use Rattle.form_reader.specs.Standing.{is_standing}
-use Rattle.form_reader.specs.declared.reader.ReaderState.{State}
+use Rattle.form_reader.specs.declared.reader.ReaderState.{ReaderState}
 use Rattle.form_reader.specs.declared.reader.ReaderState.TheVariants.{Open}
 use Rattle.lisp_reading.specs.Setting.{setting_of}
 use Rattle.form_reader.specs.Reader.{IsAfterIn}
@@ -14,7 +14,7 @@ returns-in-Ok-Taken-clause-steps g c = λ bytes after.
     let setting = setting_of c.args.self.now.limits c.args.readtable.now c.args.packages.now.0 c.args.current.now
     (g.R.MacroFunctions.functions c.args.macros.now) in
     went_on setting c.args.self.now c.args.self.now c.args.self.now c.in-Open.stage bytes c.args.byte c.args.self.now.frames c.in_place.new.stage
-    (subst (λ (s : State). IsAfterIn setting c.args.self.now s bytes) c.in-Open.is after)
+    (subst (λ (s : ReaderState). IsAfterIn setting c.args.self.now s bytes) c.in-Open.is after)
     (λ cs. taken_there setting c.args.self.now.frames c.args.self.now.start c.args.self.now.at c.args.byte c.in-Open.stage c.in_place.new.stage c.in-Ok-Taken.field-0 cs c.in-Ok-Taken.field-0-is (c.in-Ok-Taken.ensures.feeds cs))
     (ready_there setting c.args.self.now.frames c.args.self.now.start c.args.self.now.at c.args.byte c.in-Open.stage c.in_place.new.stage c.in-Ok-Taken.field-0 c.args.self.now.limits c.in-Ok-Taken.field-0-is c.in-Ok-Taken.ensures.ready
     (standing_of c.args.self.now.limits c.args.self.now.frames c.args.self.now.at c.args.self.now.state c.in-Open.stage c.in-Open.is c.args.self.now.standing))
@@ -24,7 +24,7 @@ returns-in-Ok-Passed-clause-steps g c = λ bytes after.
     let setting = setting_of c.args.self.now.limits c.args.readtable.now c.args.packages.now.0 c.args.current.now
     (g.R.MacroFunctions.functions c.args.macros.now) in
     went_past setting c.args.self.now c.args.self.now c.args.self.now c.in-Open.stage bytes c.args.byte c.args.self.now.frames c.in_place.new.stage
-    (subst (λ (s : State). IsAfterIn setting c.args.self.now s bytes) c.in-Open.is after)
+    (subst (λ (s : ReaderState). IsAfterIn setting c.args.self.now s bytes) c.in-Open.is after)
     (λ cs. passed_there setting c.args.self.now.frames c.args.self.now.start c.args.self.now.at c.args.byte c.in-Open.stage c.in_place.new.stage c.in-Ok-Passed.field-0 cs c.in-Ok-Passed.field-0-is (c.in-Ok-Passed.ensures.feeds cs))
     (ready_past setting c.args.self.now.frames c.args.self.now.start c.args.self.now.at c.args.byte c.in-Open.stage c.in_place.new.stage c.in-Ok-Passed.field-0 c.args.self.now.limits c.in-Ok-Passed.field-0-is c.in-Ok-Passed.ensures.ready
     (standing_of c.args.self.now.limits c.args.self.now.frames c.args.self.now.at c.args.self.now.state c.in-Open.stage c.in-Open.is c.args.self.now.standing))
@@ -34,7 +34,7 @@ returns-in-Ok-Refused-clause-steps g c = λ bytes after.
     let setting = setting_of c.args.self.now.limits c.args.readtable.now c.args.packages.now.0 c.args.current.now
     (g.R.MacroFunctions.functions c.args.macros.now) in (
       gave_up setting c.args.self.now c.args.self.now c.args.self.now c.in-Open.stage bytes c.args.byte c.args.self.now.frames c.in-Ok-Refused.code (c.args.self.now.start + c.args.self.now.at)
-          (subst (λ (s : State). IsAfterIn setting c.args.self.now s bytes) c.in-Open.is after)
+          (subst (λ (s : ReaderState). IsAfterIn setting c.args.self.now s bytes) c.in-Open.is after)
           (λ cs. refused_there setting c.args.self.now.frames c.args.self.now.start c.args.self.now.at c.args.byte c.in-Open.stage c.in_place.new.stage c.in-Ok-Refused.field-0 c.in-Ok-Refused.code cs c.in-Ok-Refused.field-0-is (c.in-Ok-Refused.ensures.feeds cs)),
       c.refuse.ensures,
     )
@@ -47,11 +47,11 @@ invariant_of-self-in-Ok-Left g c =
     let setting = setting_of c.args.self.now.limits c.args.readtable.now c.args.packages.now.0 c.args.current.now
     (g.R.MacroFunctions.functions c.args.macros.now) in
     let stays = left_there setting c.args.self.now.frames c.args.self.now.start c.args.self.now.at c.args.byte c.in-Open.stage c.in_place.new.stage c.in-Ok-Left.field-0 [] c.in-Ok-Left.field-0-is (c.in-Ok-Left.ensures.feeds []) in
-    record { standing = subst (λ (s : State). IsTrue (is_standing c.args.self.now.limits c.args.self.now.frames c.args.self.now.at s)) (c.in-Open.is ∙ ap Open (sym stays)) c.args.self.now.standing }
+    record { standing = subst (λ (s : ReaderState). IsTrue (is_standing c.args.self.now.limits c.args.self.now.frames c.args.self.now.at s)) (c.in-Open.is ∙ ap Open (sym stays)) c.args.self.now.standing }
 
 pub returns-in-Ok-Left-clause-steps : goal.returns-in-Ok-Left-clause-steps
 returns-in-Ok-Left-clause-steps g c = λ bytes after.
     let setting = setting_of c.args.self.now.limits c.args.readtable.now c.args.packages.now.0 c.args.current.now
     (g.R.MacroFunctions.functions c.args.macros.now) in
     let stays = left_there setting c.args.self.now.frames c.args.self.now.start c.args.self.now.at c.args.byte c.in-Open.stage c.in_place.new.stage c.in-Ok-Left.field-0 [] c.in-Ok-Left.field-0-is (c.in-Ok-Left.ensures.feeds []) in
-    c.leave.ensures.steps bytes (subst (λ (s : State). IsAfterIn setting c.args.self.now s bytes) (c.in-Open.is ∙ ap Open (sym stays)) after)
+    c.leave.ensures.steps bytes (subst (λ (s : ReaderState). IsAfterIn setting c.args.self.now s bytes) (c.in-Open.is ∙ ap Open (sym stays)) after)

@@ -1,6 +1,6 @@
 use Rattle.form_reader.specs.Surrounding.{setting}
 use Rattle.form_reader.proofs.Passing.{before_passes}
-use Rattle.form_reader.proofs.turn.feed.Goals as goal
+use Rattle.form_reader.proofs.change.feed.Goals as goal
 
 pub returns-in-Gives-clause-passes : goal.returns-in-Gives-clause-passes
 returns-in-Gives-clause-passes g c = λ cs.

@@ -2,14 +2,14 @@
 ghost use Rattle.std.specs.Prelude.{◌≡◌, ◌≤◌, ◌<◌, ◌+◌, ◌^◌, ℕ, List, [], ◌∷◌, length, Ok, IfOk};
 ghost use Rattle.lisp_reading.specs.Plans.{Read};
 ghost use Rattle.lisp_reading.specs.declared.found.Found.{Found as FoundThere};
-ghost use Rattle.form_reader.specs.declared.frame.Frame.{Frame as OpenCall};
+ghost use Rattle.form_reader.specs.declared.frame.Frame.{Frame};
 ghost use Rattle.lisp_reading.specs.declared.limits.Limits.{Limits as Bounds};
 ghost use Rattle.lisp_reading.specs.Setting.{Setting};
 ghost use Rattle.form_reader.specs.Surrounding.{setting};
 ghost use Rattle.form_reader.specs.Delivering.{Passes};
 ghost use Rattle.form_reader.specs.Resuming.{Brings, stage_gives};
 ghost use Rattle.form_reader.specs.Ready.{lookahead, IsReady, IsReadyPass};
-ghost use Rattle.form_reader.specs.Turning.{outcome_of, rest_of, Settles, TurnsTo, IsStanding, IsReadySettled, IsReadyTurn, BeginsFrom, BeginsAnew};
+ghost use Rattle.form_reader.specs.Changing.{outcome_of, rest_of, Settles, ChangesTo, IsStanding, IsReadySettled, IsReadyChange, BeginsFrom, BeginsAnew};
 
 use crate::advance::advance;
 use crate::deliver::{Delivered, deliver};
@@ -36,7 +36,7 @@ pub enum Settled {
 
 /// What a byte is to the text.
 #[derive(Drop)]
-pub enum Turn {
+pub enum Change {
     /// More bytes decide: where the attempt began, how many bytes it has, and where the reader is in it.
     Goes(usize, usize, Stage),
     /// A form: its object, its start, its end, and where the next form begins.
@@ -102,17 +102,19 @@ fn settle<R: MacroFunctions>(
 
 /// What the attempt that began at `start` came to with the byte before the place `at` in it.
 #[inline(always)]
-fn done_after(found: Found, start: usize, at: usize) -> Turn
+fn done_after(found: Found, start: usize, at: usize) -> Change
     requires found { lookahead found ≡ 0 }
     requires count { start + at ≤ 2 ^ 63 }
-    ensures turns { (setting : Setting) (cs : List ℕ) → TurnsTo setting [] cs result (outcome_of setting start (Ok (found, at, cs))) }
-    ensures ready { (limits : Bounds) (frames : List OpenCall) → length frames ≤ limits.nesting → IsReadyTurn limits frames (start + at) result }
+    ensures turns { (setting : Setting) (cs : List ℕ)
+        → ChangesTo setting [] cs result (outcome_of setting start (Ok (found, at, cs))) }
+    ensures ready { (limits : Bounds) (frames : List Frame) → length frames ≤ limits.nesting
+        → IsReadyChange limits frames (start + at) result }
     ensures begins { BeginsFrom start result }
     ensures anew { BeginsAnew [] result }
 {
     match found {
-        Found::Nothing(_) => Turn::Goes(start + at, 0, Stage::Object),
-        Found::One(_, x) => Turn::Form(x, start, start + at, start + at),
+        Found::Nothing(_) => Change::Goes(start + at, 0, Stage::Object),
+        Found::One(_, x) => Change::Form(x, start, start + at, start + at),
         Found::LoneDot => unreachable!(),
         Found::TheEnd => unreachable!(),
     }
@@ -120,28 +122,28 @@ fn done_after(found: Found, start: usize, at: usize) -> Turn
 
 /// What the attempt that began at `start` comes to after what a byte brings, at the place `at` after it.
 #[inline(always)]
-fn turn_of<R: MacroFunctions>(
+fn change_of<R: MacroFunctions>(
     with: &Surroundings<'_, R>,
     frames: &mut Frames,
     event: Event,
     start: usize,
     at: usize,
-) -> Result<Turn, AllocError>
+) -> Result<Change, AllocError>
     requires answers { R.answers with.now.macros.now }
     requires nesting { length frames.old ≤ with.now.limits.nesting }
     requires ready { IsReady with.now.limits at event }
     requires count { start + at ≤ 2 ^ 63 }
     ensures turns { let setting = setting R.functions with.now in
         (cs : List ℕ) (read : Read FoundThere) → Brings setting frames.old at cs event read
-        → IfOk result (λ turn. TurnsTo setting frames.new cs turn (outcome_of setting start read)) }
-    ensures ready { IfOk result (IsReadyTurn with.now.limits frames.new (start + at)) }
+        → IfOk result (λ change. ChangesTo setting frames.new cs change (outcome_of setting start read)) }
+    ensures ready { IfOk result (IsReadyChange with.now.limits frames.new (start + at)) }
     ensures begins { IfOk result (BeginsFrom start) }
     ensures anew { 0 < at → IfOk result (BeginsAnew frames.new) }
 {
     match settle(with, frames, event, at)? {
-        Settled::Open(stage) => Ok(Turn::Goes(start, at, stage)),
+        Settled::Open(stage) => Ok(Change::Goes(start, at, stage)),
         Settled::Done(found) => Ok(done_after(found, start, at)),
-        Settled::Refused(code, place) => Ok(Turn::Refused(code, start + place)),
+        Settled::Refused(code, place) => Ok(Change::Refused(code, start + place)),
     }
 }
 
@@ -154,31 +156,31 @@ fn done_before<R: MacroFunctions>(
     start: usize,
     at: usize,
     c: u8,
-) -> Result<Turn, AllocError>
+) -> Result<Change, AllocError>
     requires answers { R.answers with.now.macros.now }
     requires found { lookahead found ≤ 1 }
     requires none { frames.old ≡ [] }
     requires count { start + at < 2 ^ 63 }
     ensures turns { let setting = setting R.functions with.now in
-        (cs : List ℕ) → IfOk result (λ turn. TurnsTo setting frames.new cs turn
+        (cs : List ℕ) → IfOk result (λ change. ChangesTo setting frames.new cs change
         (outcome_of setting start (Ok (found, at, c ∷ cs)))) }
-    ensures ready { IfOk result (IsReadyTurn with.now.limits frames.new (start + at + 1)) }
+    ensures ready { IfOk result (IsReadyChange with.now.limits frames.new (start + at + 1)) }
     ensures begins { IfOk result (BeginsFrom start) }
     ensures anew { IfOk result (BeginsAnew frames.new) }
 {
     match found {
         Found::Nothing(_) => {
             let event = at_object(with, frames, 0, c)?;
-            turn_of(with, frames, event, start + at, 1)
+            change_of(with, frames, event, start + at, 1)
         }
         Found::One(token, x) => {
             let end = start + at;
             if token && is_blank(with.readtable.syntax(c)) {
-                return Ok(Turn::Form(x, start, end, end + 1));
+                return Ok(Change::Form(x, start, end, end + 1));
             }
-            Ok(Turn::Form(x, start, end, end))
+            Ok(Change::Form(x, start, end, end))
         }
-        Found::LoneDot => Ok(Turn::Refused(DOT_CONTEXT, start + at)),
+        Found::LoneDot => Ok(Change::Refused(DOT_CONTEXT, start + at)),
         Found::TheEnd => unreachable!(),
     }
 }
@@ -191,23 +193,23 @@ pub(crate) fn take_byte<R: MacroFunctions>(
     start: usize,
     at: usize,
     c: u8,
-) -> Result<Turn, AllocError>
+) -> Result<Change, AllocError>
     requires answers { R.answers with.now.macros.now }
     requires standing { IsStanding with.now.limits frames.old stage at }
     requires count { start + at < 2 ^ 63 }
     ensures turns { let setting = setting R.functions with.now in
-        (cs : List ℕ) → IfOk result (λ turn. TurnsTo setting frames.new cs turn
+        (cs : List ℕ) → IfOk result (λ change. ChangesTo setting frames.new cs change
         (rest_of setting frames.old stage start at (c ∷ cs))) }
-    ensures ready { IfOk result (IsReadyTurn with.now.limits frames.new (start + at + 1)) }
+    ensures ready { IfOk result (IsReadyChange with.now.limits frames.new (start + at + 1)) }
     ensures begins { IfOk result (BeginsFrom start) }
     ensures anew { IfOk result (BeginsAnew frames.new) }
 {
     if let Stage::Object = &stage {
         let brought = at_object(with, frames, at, c)?;
-        return turn_of(with, frames, brought, start, at + 1);
+        return change_of(with, frames, brought, start, at + 1);
     }
     match feed(with, frames, stage, at, c)? {
-        Passed::Taken(event) => turn_of(with, frames, event, start, at + 1),
+        Passed::Taken(event) => change_of(with, frames, event, start, at + 1),
         Passed::Done(found) => done_before(with, frames, found, start, at, c),
     }
 }

@@ -3,7 +3,7 @@ use Rattle.form_reader.specs.Surrounding.{setting}
 use Rattle.form_reader.proofs.TurnsTaken.{passed_none}
 use Rattle.form_reader.proofs.ReaderSteps.{done_outcome}
 use Rattle.form_reader.proofs.Passing.{taken_brings}
-use Rattle.form_reader.proofs.turn.take_byte.Goals as goal
+use Rattle.form_reader.proofs.change.take_byte.Goals as goal
 
 pub done_before-requires-clause-none : goal.done_before-requires-clause-none
 done_before-requires-clause-none g c =
@@ -18,4 +18,4 @@ returns-in-Done-clause-turns g c = λ cs.
 pub returns-in-Taken-clause-turns : goal.returns-in-Taken-clause-turns
 returns-in-Taken-clause-turns g c = λ cs.
     let setting = setting g.R.MacroFunctions.functions c.args.with.now in
-    c.turn_of-in-Taken.ensures.turns cs _ (taken_brings setting c.feed.new.frames c.args.at c.args.c cs c.in_ok-event.field-0 c.in-Taken.event _ c.in-Taken.is (c.in_ok-event.ensures.passes cs))
+    c.change_of-in-Taken.ensures.turns cs _ (taken_brings setting c.feed.new.frames c.args.at c.args.c cs c.in_ok-event.field-0 c.in-Taken.event _ c.in-Taken.is (c.in_ok-event.ensures.passes cs))

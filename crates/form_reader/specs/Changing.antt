@@ -5,10 +5,10 @@ use Rattle.form_reader.specs.declared.frame.Frame.{Frame}
 use Rattle.lisp_reading.specs.declared.limits.Limits.{Limits}
 use Rattle.form_reader.specs.declared.stage.Stage.{Stage}
 use Rattle.form_reader.specs.declared.stage.Stage.TheVariants.{Object as AtObject}
-use Rattle.form_reader.specs.declared.turn.Settled.{Settled}
-use Rattle.form_reader.specs.declared.turn.Settled.TheVariants.{Open as SettledOpen, Done as SettledDone, Refused as SettledRefused}
-use Rattle.form_reader.specs.declared.turn.Turn.{Turn}
-use Rattle.form_reader.specs.declared.turn.Turn.TheVariants.{Goes, Form, Refused}
+use Rattle.form_reader.specs.declared.change.Settled.{Settled}
+use Rattle.form_reader.specs.declared.change.Settled.TheVariants.{Open as SettledOpen, Done as SettledDone, Refused as SettledRefused}
+use Rattle.form_reader.specs.declared.change.Change.{Change}
+use Rattle.form_reader.specs.declared.change.Change.TheVariants.{Goes, Form, Refused}
 use Rattle.lisp_reading.specs.Plans.{Read, fault}
 use Rattle.lisp_reading.specs.Setting.{Setting}
 use Rattle.lisp_reading.specs.Reading.{Outcome, form, refused, outcome, reads_at}
@@ -29,11 +29,11 @@ Settles setting frames at cs (SettledOpen stage) read = read ≡ stage_gives set
 Settles setting frames at cs (SettledDone found) read = (read ≡ Ok (found, at, cs)) × (frames ≡ [])
 Settles setting frames at cs (SettledRefused code place) read = read ≡ fault code place
 
--- What a turn is to the outcome: more bytes decide it, or it is a form, or a refusal.
-abbrev pub TurnsTo : Setting → List Frame → List ℕ → Turn → Outcome → Type 0
-TurnsTo setting frames cs (Goes start at stage) o = o ≡ rest_of setting frames stage start at cs
-TurnsTo setting frames cs (Form x start «end» next) o = (o ≡ form x start «end» next) × (frames ≡ [])
-TurnsTo setting frames cs (Refused code place) o = o ≡ refused code place
+-- What a change is to the outcome: more bytes decide it, or it is a form, or a refusal.
+abbrev pub ChangesTo : Setting → List Frame → List ℕ → Change → Outcome → Type 0
+ChangesTo setting frames cs (Goes start at stage) o = o ≡ rest_of setting frames stage start at cs
+ChangesTo setting frames cs (Form x start «end» next) o = (o ≡ form x start «end» next) × (frames ≡ [])
+ChangesTo setting frames cs (Refused code place) o = o ≡ refused code place
 
 -- where a reader may be in a form, so many bytes after it began
 pub record IsStanding (limits : Limits) (frames : List Frame) (stage : Stage) (at : ℕ) : Type 0 where
@@ -42,10 +42,10 @@ pub record IsStanding (limits : Limits) (frames : List Frame) (stage : Stage) (a
   pub levels : IsStageAt at stage
 
 -- after so many bytes of the text
-abbrev pub IsReadyTurn : Limits → List Frame → ℕ → Turn → Type 0
-IsReadyTurn limits frames count (Goes start at stage) = IsStanding limits frames stage at × (start + at ≡ count)
-IsReadyTurn limits frames count (Form x start «end» next) = (next ≤ count) × (count ≤ next + 1) × (length frames ≤ limits.nesting)
-IsReadyTurn limits frames count (Refused code place) = place ≤ count
+abbrev pub IsReadyChange : Limits → List Frame → ℕ → Change → Type 0
+IsReadyChange limits frames count (Goes start at stage) = IsStanding limits frames stage at × (start + at ≡ count)
+IsReadyChange limits frames count (Form x start «end» next) = (next ≤ count) × (count ≤ next + 1) × (length frames ≤ limits.nesting)
+IsReadyChange limits frames count (Refused code place) = place ≤ count
 
 abbrev pub IsReadySettled : Limits → List Frame → ℕ → Settled → Type 0
 IsReadySettled limits frames at (SettledOpen stage) = IsStanding limits frames stage at
@@ -53,13 +53,13 @@ IsReadySettled limits frames at (SettledDone found) = (lookahead found ≡ 0) ×
 IsReadySettled limits frames at (SettledRefused code place) = place ≤ at
 
 -- what is open after it, or the object of the form, began at this place or later
-abbrev pub BeginsFrom : ℕ → Turn → Type 0
+abbrev pub BeginsFrom : ℕ → Change → Type 0
 BeginsFrom from (Goes start at stage) = from ≤ start
 BeginsFrom from (Form x start «end» next) = from ≤ start
 BeginsFrom from (Refused code place) = Unit {0}
 
 -- where the attempt that is open has no byte, nothing is open
-abbrev pub BeginsAnew : List Frame → Turn → Type 0
+abbrev pub BeginsAnew : List Frame → Change → Type 0
 BeginsAnew frames (Goes start at stage) = at ≡ 0 → (frames ≡ []) × (stage ≡ AtObject)
 BeginsAnew frames (Form x start «end» next) = Unit {0}
 BeginsAnew frames (Refused code place) = Unit {0}

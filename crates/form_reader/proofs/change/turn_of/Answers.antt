@@ -2,7 +2,7 @@ use Rattle.std.proofs.Common.{[]}
 use Rattle.form_reader.specs.Surrounding.{setting}
 use Rattle.form_reader.proofs.Between.{brought, done_anew}
 use Rattle.form_reader.proofs.TurnsTaken.{done_turns, done_nesting}
-use Rattle.form_reader.proofs.turn.turn_of.Goals as goal
+use Rattle.form_reader.proofs.change.change_of.Goals as goal
 
 pub returns-in-Done-clause-turns : goal.returns-in-Done-clause-turns
 returns-in-Done-clause-turns g c = λ cs read brings.
