@@ -10,7 +10,7 @@ ghost use Rattle.prevalence_store.specs.steps.Input.{IsPending, IsSoundFed, Feed
 
 use crate::mode::Mode;
 use crate::setting::{package_in, readtable_in};
-use form_reader::{FormReader, Limits, ReadOutcome, Advance};
+use form_reader::{Advance, FormReader, Limits, ReadOutcome};
 use lisp_object::Datum;
 use plist_state::World;
 use readtable_core::Readtable;
