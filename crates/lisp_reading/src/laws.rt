@@ -5,8 +5,7 @@ ghost use Rattle.lisp_object.specs.declared.refusal.TheConstants.{END_OF_FILE, O
 ghost use Rattle.readtable_core.specs.Names.{is_among};
 ghost use Rattle.readtable_core.specs.Tables.{Table};
 ghost use Rattle.package_table.specs.Table.{Name, Table as Packages, IsSound};
-ghost use Rattle.user_macros.specs.declared.call.Gather.{Gather};
-ghost use Rattle.user_macros.specs.Calls.{MacroCall, MacroAnswer};
+ghost use Rattle.user_macros.specs.Functions.{Functions, named_among};
 ghost use Rattle.lisp_reading.specs.declared.limits.Limits.{Limits};
 ghost use Rattle.lisp_reading.specs.declared.way.Keep.{Keep};
 ghost use Rattle.lisp_reading.specs.Plans.{GiveSame, loop, run};
@@ -116,10 +115,10 @@ pub fn refusals_are_of_reading()
 /// What is read depends on the registered functions only through their names: where two registries have the same names, the
 /// setting is the same. So where each function of a meaning is registered, a text is read under all its names.
 pub fn only_registered_names_matter()
-    ensures { (limits : Limits) (table : Table) (packages : Packages) (current : Name)
-        (names others : List (List ℕ))
-        (way : List ℕ → Option Gather) (answer : List ℕ → MacroCall → MacroAnswer)
-        → ((name : List ℕ) → IsTrue (is_among names name) → IsTrue (is_among others name))
-        → ((name : List ℕ) → IsTrue (is_among others name) → IsTrue (is_among names name))
-        → setting_of limits table packages current others way answer ≡ setting_of limits table packages current names way answer }
+    ensures { (limits : Limits) (table : Table) (packages : Packages) (current : Name) (functions : Functions)
+        (names : List (List ℕ))
+        → ((name : List ℕ) → IsTrue (is_among functions.names name) → IsTrue (is_among names name))
+        → ((name : List ℕ) → IsTrue (is_among names name) → IsTrue (is_among functions.names name))
+        → setting_of limits table packages current (named_among names functions)
+        ≡ setting_of limits table packages current functions }
 {}
