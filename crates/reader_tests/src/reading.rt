@@ -6,7 +6,7 @@ mod hostile;
 mod trial;
 
 use form_reader::{
-    FormReader, Limits, ReadOutcome, Step, empty_texts_are_discarded, forms_are_decided,
+    Advance, FormReader, Limits, ReadOutcome, empty_texts_are_discarded, forms_are_decided,
     forms_are_framed, forms_are_within_the_limit, forms_fit, only_registered_names_matter,
     only_what_is_found_matters, read_one, reading_goes_on, refusals_are_decided,
     refusals_are_of_reading, spaced_forms_are_framed, texts_begin_between_forms,
@@ -198,16 +198,16 @@ enum Told {
     Refused(u16, usize),
 }
 
-fn told_at_step(step: &Step) -> Told {
+fn told_at_step(step: &Advance) -> Told {
     match step {
-        Step::More => Told::Nothing,
-        Step::Form {
+        Advance::More => Told::Nothing,
+        Advance::Form {
             start,
             end,
             next,
             ..
         } => Told::Form(*start, *end, *next),
-        Step::Refused { code, at } => Told::Refused(*code, *at),
+        Advance::Refused { code, at } => Told::Refused(*code, *at),
     }
 }
 
