@@ -99,7 +99,10 @@ pub(crate) fn symbol_value(
     let Ok((home, name)) = kinds::symbol(form) else {
         return Err(Refused(NOT_A_FORM));
     };
-    if home == KEYWORD || is_standard_name(home, name, b"T") || is_standard_name(home, name, b"NIL") {
+    if home == KEYWORD
+        || is_standard_name(home, name, b"T")
+        || is_standard_name(home, name, b"NIL")
+    {
         return itself(alloc, form);
     }
     world.soundness();
