@@ -2,7 +2,7 @@
 --     Operators      what is asked of the operators
 --     Steps      what is asked of each step
 --     every_value      the value of a form
-use Rattle.std.proofs.Common.{Bool, true, false, not, ◌&&◌, ◌||◌, ◌==◌, ◌≤◌, cond, List, [], ◌∷◌, ◌++◌, Option, Some, None, Err, codes, bytes_eq, arith}
+use Rattle.std.proofs.Common.{Bool, true, false, not, ◌&&◌, ◌||◌, ◌==◌, cond, List, [], ◌∷◌, ◌++◌, Option, Some, None, Err, codes, bytes_eq, arith}
 use Rattle.std.specs.Prelude.{ℕ}
 use Rattle.lisp_object.specs.Object.{Object, integer, rational, character, text, symbol, uninterned, pair, vector, nil, is_proper_list}
 use Rattle.package_table.specs.Table.{Name, common_lisp, keyword}
@@ -12,12 +12,9 @@ use Rattle.lisp_operators.specs.Evaluation.{Evaluation, gives, and_then}
 use Rattle.lisp_operators.specs.Properties.{list, get, set, remove, symbol_plist, increment, push}
 use Rattle.lisp_operators.specs.Packages.{make, enter, intern, export, import, use_package}
 use Rattle.lisp_operators.specs.Readtables.{a_keyword_of, readtable_case, set_case, copy_readtable, enter_readtable, set_syntax, set_macro, get_macro, make_dispatch, set_dispatch, get_dispatch}
+use Rattle.lisp_operators.proofs.Numbered.{IsNumber}
 use Rattle.evaluator.specs.Operators.{Operator, Action, quotes, sequence, chooses, assigns, increments, pushes, enters_package, calls, operator_named, operator_of, is_standard, is_interned, count, counts, first}
 use Rattle.evaluator.specs.Value.{value, values, choice, other_value, values_at_place, values_before_place, symbol_value, Parts, action_value, form_value, unless, last, is_case_place, place_refusal, case_place_refusal, get_place_refusal, set_place, rest}
-
--- a number of evaluation
-abbrev pub IsNumber : ℕ → Type 0
-IsNumber code = (30 ≤ code) × (code ≤ 46)
 
 -- ---- why an object is no place
 abbrev IsNumbered : Option ℕ → Type 0

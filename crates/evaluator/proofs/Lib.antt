@@ -2,7 +2,10 @@ pub mod Places
 pub mod Heads
 pub mod Steps
 pub mod Forms
+pub mod Branches
+pub mod RowForms
 pub mod Rows
+pub mod WorldRows
 pub mod Induction
 pub mod SilentForms
 pub mod SoundForms

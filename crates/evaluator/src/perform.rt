@@ -14,6 +14,7 @@ use crate::values::Values;
 use lisp_object::Datum;
 use lisp_object::refusal::ARGUMENT_KIND;
 use lisp_operators::EvaluationError::Refused;
+use lisp_operators::readtables::{get_dispatch, make_dispatch, set_dispatch, set_macro};
 use lisp_operators::{
     Evaluated, EvaluationError, package_lists, packages, properties, readtables, values,
 };
@@ -44,6 +45,7 @@ pub(crate) fn perform(
     )
 }
 
+// What it gives of these, as nothing was evaluated before.
 fn carry_out(
     alloc: Global,
     world: &mut World,
@@ -75,29 +77,16 @@ fn carry_out(
         Operation::CopyReadtable => readtables::copy_readtable(alloc, world, values.as_slice()),
         Operation::InReadtable => readtables::enter_readtable(alloc, world, values.as_slice()),
         Operation::SetSyntaxFromChar => readtables::set_syntax(alloc, world, values.as_slice()),
-        Operation::SetMacroCharacter => readtables::set_macro(
-            alloc,
-            world,
-            names,
-            values.as_slice(),
-        ),
+        Operation::SetMacroCharacter => set_macro(alloc, world, names, values.as_slice()),
         Operation::GetMacroCharacter => readtables::get_macro(alloc, world, values.as_slice()),
-        Operation::MakeDispatchMacroCharacter => readtables::make_dispatch(
-            alloc,
-            world,
-            values.as_slice(),
-        ),
-        Operation::SetDispatchMacroCharacter => readtables::set_dispatch(
+        Operation::MakeDispatchMacroCharacter => make_dispatch(alloc, world, values.as_slice()),
+        Operation::SetDispatchMacroCharacter => set_dispatch(
             alloc,
             world,
             names,
             values.as_slice(),
         ),
-        Operation::GetDispatchMacroCharacter => readtables::get_dispatch(
-            alloc,
-            world,
-            values.as_slice(),
-        ),
+        Operation::GetDispatchMacroCharacter => get_dispatch(alloc, world, values.as_slice()),
         Operation::ReadtableCase => readtables::readtable_case(alloc, world, values.as_slice()),
         Operation::Quote => Err(Refused(ARGUMENT_KIND)),
         Operation::If => Err(Refused(ARGUMENT_KIND)),

@@ -1,7 +1,7 @@
 -- The arguments of an operator.
 --     list_object      a list of data is the list of their objects
 --     after_two, after_three      what holds of all of them holds of the first ones, and of those after them
-use Rattle.std.proofs.Common.{◌≡◌, ◌≤◌, ◌-◌, Bool, false, List, [], ◌∷◌, All, Option, Some, None, is_some, map, length, take, drop, get_or, sym, ap, subst, ◌∙◌, arith}
+use Rattle.std.proofs.Common.{◌≡◌, ◌≤◌, ◌-◌, false, List, [], ◌∷◌, All, Option, Some, None, is_some, map, length, take, drop, get_or, sym, ap, subst, ◌∙◌, arith}
 use Rattle.std.proofs.Math.Seq.{take-length}
 use Rattle.std.proofs.lemmas.Bool.{false≢true}
 use Rattle.std.proofs.lemmas.List.Elements.{All-head, All-tail}

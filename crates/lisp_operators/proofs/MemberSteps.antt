@@ -2,19 +2,16 @@
 --     each_found      what they are
 --     no_member      one is not of the kind
 --     packages_found, no_package      packages by their names
-use Rattle.std.proofs.Common.{◌≡◌, ◌<◌, ℕ, Bool, true, false, cond, ◌||◌, List, [], ◌∷◌, Option, Some, None, option_map, option_and_then, unwrap_or, map, take, length, get_or, All, refl, sym, ap, ◌∙◌, suc, zero, arith}
-use Rattle.std.specs.List.{list_all, list_any}
+use Rattle.std.proofs.Common.{◌≡◌, ◌<◌, ℕ, Bool, true, false, cond, List, [], ◌∷◌, Option, Some, None, option_map, option_and_then, unwrap_or, map, length, get_or, All, refl, sym, ap, ◌∙◌, suc, zero, arith}
 use Rattle.std.specs.Option.{IsSome, option_map_or}
-use Rattle.std.proofs.lemmas.Bool.{false≢true, and_parts, and_from}
-use Rattle.std.proofs.lemmas.List.{take-map}
-use Rattle.std.proofs.lemmas.List.Elements.{All-head, All-tail, All-take}
+use Rattle.std.proofs.lemmas.Bool.{false≢true}
+use Rattle.std.proofs.lemmas.List.Elements.{All-head, All-tail}
 use Rattle.lisp_object.specs.declared.datum.Datum.{Datum}
-use Rattle.lisp_object.specs.Object.{Object, list_of}
+use Rattle.lisp_object.specs.Object.{Object}
 use Rattle.lisp_object.specs.Datum.{object_of}
 use Rattle.std.specs.FinMap as finite
 use Rattle.package_table.specs.Table.{Name, Table, full_name, package_named}
 use Rattle.package_table.proofs.Names.{none_some}
-use Rattle.lisp_operators.specs.Kinds.{one_or_each}
 use Rattle.lisp_operators.specs.Members.{each_in, name_in}
 use Rattle.lisp_operators.specs.Packages.{packages_named}
 use Rattle.lisp_operators.proofs.MemberLists.{no_more}

@@ -1,7 +1,7 @@
 -- Objects by the data that stand for them, and the kinds of arguments by one another.
 --     pair_at      a list with items is a pair
 --     name_by_parts, keyword_by_parts      designators of names, and keywords, by symbols and texts
-use Rattle.std.proofs.Common.{◌≡◌, ℕ, Bool, true, false, ◌&&◌, cond, List, [], ◌∷◌, ◌++◌, not, is_some, get_or, subst, codes, suc, Option, Some, None, bytes_eq, map, length, refl, sym, ap, ◌∙◌, ◌<◌, ◌-◌, ◌^◌, min, nat_lt, arith}
+use Rattle.std.proofs.Common.{◌≡◌, ℕ, Bool, true, false, ◌&&◌, cond, List, [], ◌∷◌, not, is_some, Option, Some, None, bytes_eq, map, length, refl, sym, ap, ◌∙◌, ◌<◌, ◌-◌, ◌^◌, min, nat_lt, arith}
 use Rattle.std.proofs.lemmas.Bool.Decides.{nat_tests}
 use Rattle.std.specs.Option.{option_map_or}
 use Rattle.lisp_object.specs.declared.datum.Datum
@@ -11,12 +11,9 @@ use Rattle.lisp_object.specs.Datum.{object_of, is_proper, is_list}
 use Rattle.lisp_object.proofs.Objects.{object_of-List, object_of-dotted}
 use Rattle.std.specs.List.{list_all}
 use Rattle.std.proofs.lemmas.Bool.{false≢true, and_parts}
-use Rattle.std.proofs.Math.Bool.{and-false}
-use Rattle.std.proofs.lemmas.List.{length-map}
-use Rattle.lisp_object.specs.declared.refusal.TheConstants.{ARGUMENT_KIND}
 use Rattle.lisp_object.proofs.Lists.{proper_items}
-use Rattle.lisp_object.proofs.ProperLists.{items_of_proper, tail_of_proper, pairs_proper, proper_pairs, no_proper_list, no_list_object}
-use Rattle.package_table.specs.Table.{keyword, common_lisp}
+use Rattle.lisp_object.proofs.ProperLists.{items_of_proper, tail_of_proper, pairs_proper, no_proper_list, no_list_object}
+use Rattle.package_table.specs.Table.{keyword}
 use Rattle.plist_state.specs.State.{standard_name}
 use Rattle.lisp_operators.specs.Kinds.{a_symbol, a_name, a_text, a_keyword, a_source, is_true}
 

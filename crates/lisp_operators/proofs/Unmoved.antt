@@ -12,7 +12,6 @@ use Rattle.package_table.specs.Table.{Name, Table, common_lisp, keyword, is_lock
 use Rattle.package_table.specs.Lookup.{found, is_external, is_present, is_used}
 use Rattle.package_table.specs.Changes.{after_intern, after_export, after_import, after_use, intern_changes, export_changes, import_changes, use_changes, with_new_symbol, with_external, with_present, finds_this, finds_other, user_finds_other, finds_other_than_shown}
 use Rattle.package_table.proofs.KeptChanges.{exported_again}
-use Rattle.plist_state.specs.Properties.{Symbol}
 use Rattle.lisp_operators.specs.Packages.{one_by_one, then_others}
 use Rattle.lisp_operators.proofs.Silence.{neither}
 

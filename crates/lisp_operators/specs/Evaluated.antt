@@ -1,7 +1,7 @@
 -- What the calls of the evaluator answer.
 use Rattle.std.specs.Prelude.{◌≡◌, ◌≢◌, ◌<◌, ◌⊎◌, ℕ, Bool, true, false, List, map, length, All, Option, Some, None, unwrap_or, Result, Ok, Err, IfOk}
-use Rattle.lisp_object.specs.Object.{Object, symbol, nil, list_of}
-use Rattle.lisp_object.specs.declared.refusal.TheConstants.{ARGUMENT_KIND, NO_SUCH_PACKAGE, PACKAGE_IS_LOCKED, NAME_CONFLICT, NO_READTABLE, NO_MACRO}
+use Rattle.lisp_object.specs.Object.{Object, symbol, nil}
+use Rattle.lisp_object.specs.declared.refusal.TheConstants.{ARGUMENT_KIND, NO_SUCH_PACKAGE, PACKAGE_IS_LOCKED, NO_READTABLE, NO_MACRO}
 use Rattle.lisp_object.specs.declared.datum.Datum.{Datum}
 use Rattle.lisp_object.specs.Datum.{object_of, is_proper}
 use Rattle.lisp_object.specs.Ascii.{is_ascii}

@@ -14,7 +14,8 @@ use Rattle.evaluator.specs.Operations.{action_of, least}
 use Rattle.lisp_operators.specs.Evaluated.{IsArgument, Answers, done}
 use Rattle.evaluator.proofs.Steps.{is_constant, value_dotted, items_arguments, good_value, followed_step, followed_stops, followed_at_end, argument_grown, all_more}
 use Rattle.evaluator.proofs.Places.{some_items}
-use Rattle.evaluator.proofs.Forms.{symbol_form, constant_form, uninterned_form, head_form, head_refused, quote_left, place_first, place_given, push_no_place, push_refused, push_given, choice_refused, choice_true, choice_none, choice_other, same_item, subforms_given}
+use Rattle.evaluator.proofs.Forms.{symbol_form, constant_form, uninterned_form, head_form, head_refused, quote_left, place_first, place_given, push_no_place, push_refused, push_given, same_item, subforms_given}
+use Rattle.evaluator.proofs.Branches.{choice_refused, choice_true, choice_none, choice_other}
 use Rattle.evaluator.proofs.evaluation.+evaluation.Goals as goal
 
 pub act-quoted-requires : goal.act-quoted-requires

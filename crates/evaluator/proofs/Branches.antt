@@ -1,0 +1,115 @@
+-- IF, by what its first argument gives.
+--     choice_refused, choice_true, choice_none, choice_other      it is refused, true, or NIL with and without a third argument
+use Rattle.std.proofs.Common.{◌≡◌, ◌<◌, ◌≤◌, ◌-◌, ℕ, Bool, true, false, cond, not, ◌||◌, ◌&&◌, suc, zero, List, [], ◌∷◌, ◌++◌, Result, Ok, Err, Option, Some, None, map, length, drop, get_or, refl, sym, ap, subst, ◌∙◌, arith}
+use Rattle.std.proofs.lemmas.Bool.{false≢true, and_parts}
+use Rattle.std.proofs.lemmas.List.{length-map}
+use Rattle.lisp_object.specs.declared.datum.Datum
+use Rattle.lisp_object.specs.declared.datum.Datum.{Datum}
+use Rattle.lisp_object.specs.declared.refusal.TheConstants.{NOT_A_FORM, ARGUMENT_KIND}
+use Rattle.lisp_object.specs.Object.{Object, integer, rational, character, text, vector, symbol, uninterned, pair, nil, pairs, list_of, is_proper_list, object_is_list}
+use Rattle.lisp_object.specs.Datum.{object_of, is_proper, is_list}
+use Rattle.lisp_object.proofs.Objects.{object_of-Symbol, object_of-Uninterned, object_of-List, object_of-dotted}
+use Rattle.lisp_object.proofs.ProperLists.{proper_pairs, items_of_proper, tail_of_proper, no_list_object}
+use Rattle.package_table.specs.Table.{Name}
+use Rattle.plist_state.specs.State.{State}
+use Rattle.lisp_operators.specs.declared.error.EvaluationError.{EvaluationError}
+use Rattle.lisp_operators.specs.declared.error.EvaluationError.TheVariants.{Refused, OutOfMemory}
+use Rattle.lisp_operators.specs.declared.evaluated.Evaluated.{Evaluated}
+use Rattle.evaluator.specs.declared.values.Values.{Values}
+use Rattle.evaluator.specs.declared.operation.Operation.{Operation}
+use Rattle.evaluator.specs.declared.operation.Operation.TheVariants.{Quote, Progn, If, MakeList, Get, Setf, Remprop, SymbolPlist, Incf, Push, MakePackage, InPackage, Export, Import, UsePackage, Intern, CopyReadtable, InReadtable, SetSyntaxFromChar, SetMacroCharacter, GetMacroCharacter, MakeDispatchMacroCharacter, SetDispatchMacroCharacter, GetDispatchMacroCharacter, ReadtableCase}
+use Rattle.lisp_operators.specs.Kinds.{a_symbol, is_pair, is_true}
+use Rattle.lisp_operators.specs.Properties.{set}
+use Rattle.lisp_operators.specs.Readtables.{set_case}
+use Rattle.lisp_operators.specs.Evaluation.{Evaluation, gives, also, and_then}
+use Rattle.evaluator.specs.Operators.{count, first}
+use Rattle.evaluator.specs.Value.{value, values, choice, other_value, values_at_place, values_before_place, symbol_value, action_value, unless, is_case_place, rest}
+use Rattle.evaluator.specs.Operations.{action_of, is_ordinary, function_of}
+use Rattle.lisp_operators.specs.Evaluated.{Answers, done}
+use Rattle.evaluator.specs.Gathered.{all_done}
+use Rattle.evaluator.specs.Gathered.{arguments_of, parts, followed, subforms, gathered, refusal_of_place, is_case, IsHead, IsRefusal}
+use Rattle.evaluator.proofs.Steps.{value_symbol, value_constant, value_uninterned, is_constant, followed_start}
+use Rattle.evaluator.proofs.Forms.{two_arguments}
+
+choice_of : (names : List Name) (s : State) (x y others : Object)
+    → choice names s (pair x (pair y others)) ≡ and_then (value names s x) (λ z later. cond (is_true z) (value names later y) (other_value names later others))
+unfolding value
+choice_of names s x y others = refl
+
+pub choice_refused : (names : List Name) (s t u : State) (items : List Datum) (x : Datum) (e : EvaluationError) → 3 ≤ length items → x ≡ get_or items 1 x → Answers done (Err e) t (value names s (object_of x))
+    → Answers done (Err e) u (choice names s (arguments_of (map object_of items)))
+choice_refused names s t u items x (Refused code) some is h =
+    ap (choice names s) (two_arguments items x (get_or items 2 x) some is (at_two items x some))
+    ∙ choice_of names s (object_of x) (object_of (get_or items 2 x)) (list_of (map object_of (drop 3 items)))
+    ∙ ap (λ o. and_then o (λ z later. cond (is_true z) (value names later (object_of (get_or items 2 x))) (other_value names later (list_of (map object_of (drop 3 items)))))) h
+  where
+    at_two : (xs : List Datum) (d : Datum) → 3 ≤ length xs → get_or xs 2 d ≡ get_or xs 2 (get_or xs 2 d)
+    at_two [] d some' = absurd (omega arith)
+    at_two (a ∷ []) d some' = absurd (omega arith)
+    at_two (a ∷ b ∷ []) d some' = absurd (omega arith)
+    at_two (a ∷ b ∷ c ∷ cs) d some' = refl
+choice_refused names s t u items x OutOfMemory some is h = tt
+
+after_test : (names : List Name) (s t : State) (items : List Datum) (x y : Datum) (d : Evaluated) (b : Bool) → 3 ≤ length items → x ≡ get_or items 1 x → y ≡ get_or items 2 y → value names s (object_of x) ≡ Ok (done d t) → is_true (object_of d.value) ≡ b
+    → choice names s (arguments_of (map object_of items)) ≡ also d.wrote (cond b (value names t (object_of y)) (other_value names t (list_of (map object_of (drop 3 items)))))
+after_test names s t items x y d b some is at h test =
+    ap (choice names s) (two_arguments items x y some is at) ∙ choice_of names s (object_of x) (object_of y) (list_of (map object_of (drop 3 items)))
+    ∙ ap (λ o. and_then o (λ z later. cond (is_true z) (value names later (object_of y)) (other_value names later (list_of (map object_of (drop 3 items)))))) h
+    ∙ ap (λ k. also d.wrote (cond k (value names t (object_of y)) (other_value names t (list_of (map object_of (drop 3 items)))))) test
+
+pub choice_true : (names : List Name) (s t u : State) (items : List Datum) (x y : Datum) (d : Evaluated) (r : Result Evaluated EvaluationError) → 3 ≤ length items → x ≡ get_or items 1 x → y ≡ get_or items 2 y → value names s (object_of x) ≡ Ok (done d t)
+    → is_true (object_of d.value) ≡ true → Answers done r u (also d.wrote (value names t (object_of y))) → Answers done r u (choice names s (arguments_of (map object_of items)))
+choice_true names s t u items x y d r some is at h test after = subst (Answers done r u) (sym (after_test names s t items x y d true some is at h test)) after
+
+other_none : (names : List Name) (s : State) → other_value names s nil ≡ gives nil s
+unfolding value
+other_none names s = refl
+
+other_one : (names : List Name) (s : State) (x rest : Object) → other_value names s (pair x rest) ≡ value names s x
+unfolding value
+other_one names s x rest = refl
+
+pub choice_none : (names : List Name) (s t : State) (items : List Datum) (x : Datum) (d : Evaluated) (v : Datum) → 3 ≤ length items → length items ≡ 3 → x ≡ get_or items 1 x → value names s (object_of x) ≡ Ok (done d t)
+    → is_true (object_of d.value) ≡ false → object_of v ≡ nil → choice names s (arguments_of (map object_of items)) ≡ Ok (record { value = object_of v; state = t; wrote = d.wrote })
+choice_none names s t items x d v some three is h test empty =
+    after_test names s t items x (get_or items 2 x) d false some is (at_two items x some) h test
+    ∙ ap (λ l. also d.wrote (other_value names t (list_of (map object_of l)))) (none_left items three)
+    ∙ ap (also d.wrote) (other_none names t)
+    ∙ ap (λ k. Ok (record { value = k; state = t; wrote = d.wrote || false })) (sym empty) ∙ ap (λ b. Ok (record { value = object_of v; state = t; wrote = b })) (or_false d.wrote)
+  where
+    at_two : (xs : List Datum) (e : Datum) → 3 ≤ length xs → get_or xs 2 e ≡ get_or xs 2 (get_or xs 2 e)
+    at_two [] e some' = absurd (omega arith)
+    at_two (a ∷ []) e some' = absurd (omega arith)
+    at_two (a ∷ b ∷ []) e some' = absurd (omega arith)
+    at_two (a ∷ b ∷ c ∷ cs) e some' = refl
+
+    none_left : (xs : List Datum) → length xs ≡ 3 → drop 3 xs ≡ []
+    none_left [] e = absurd (omega arith)
+    none_left (a ∷ []) e = absurd (omega arith)
+    none_left (a ∷ b ∷ []) e = absurd (omega arith)
+    none_left (a ∷ b ∷ c ∷ []) e = refl
+    none_left (a ∷ b ∷ c ∷ k ∷ ks) e = absurd (omega arith)
+
+    or_false : (b : Bool) → (b || false) ≡ b
+    or_false true = refl
+    or_false false = refl
+
+pub choice_other : (names : List Name) (s t u : State) (items : List Datum) (x z : Datum) (d : Evaluated) (r : Result Evaluated EvaluationError) → 3 ≤ length items → (length items ≡ 3 → ⊥) → x ≡ get_or items 1 x → z ≡ get_or items 3 z
+    → value names s (object_of x) ≡ Ok (done d t) → is_true (object_of d.value) ≡ false → Answers done r u (also d.wrote (value names t (object_of z))) → Answers done r u (choice names s (arguments_of (map object_of items)))
+choice_other names s t u items x z d r some more is at h test after =
+    subst (Answers done r u)
+    (sym (after_test names s t items x (get_or items 2 x) d false some is (at_two items x some) h test ∙ ap (λ l. also d.wrote (other_value names t l)) (one_left items z some more at) ∙ ap (also d.wrote) (other_one names t (object_of z) (list_of (map object_of (drop 4 items))))))
+    after
+  where
+    at_two : (xs : List Datum) (e : Datum) → 3 ≤ length xs → get_or xs 2 e ≡ get_or xs 2 (get_or xs 2 e)
+    at_two [] e some' = absurd (omega arith)
+    at_two (a ∷ []) e some' = absurd (omega arith)
+    at_two (a ∷ b ∷ []) e some' = absurd (omega arith)
+    at_two (a ∷ b ∷ c ∷ cs) e some' = refl
+
+    one_left : (xs : List Datum) (e : Datum) → 3 ≤ length xs → (length xs ≡ 3 → ⊥) → e ≡ get_or xs 3 e → list_of (map object_of (drop 3 xs)) ≡ pair (object_of e) (list_of (map object_of (drop 4 xs)))
+    one_left [] e some' more' at' = absurd (omega arith)
+    one_left (a ∷ []) e some' more' at' = absurd (omega arith)
+    one_left (a ∷ b ∷ []) e some' more' at' = absurd (omega arith)
+    one_left (a ∷ b ∷ c ∷ []) e some' more' at' = absurd (more' refl)
+    one_left (a ∷ b ∷ c ∷ k ∷ ks) e some' more' at' = ap (λ w. pair (object_of w) (list_of (map object_of ks))) (sym at')
