@@ -8,13 +8,10 @@ use Rattle.std.proofs.lemmas.Slice.Eq.{bytes_eq-Decides}
 use Rattle.package_table.specs.Table.{Name, Table, Present, Package, IsSound, IsPresent, IsPackage, keyword, common_lisp, common_lisp_names, common_lisp_package, full_name, entry_at}
 use Rattle.package_table.specs.Lookup.{found, external_home, is_external}
 use Rattle.package_table.specs.Resolving.{found_at, resolution, external_resolution, internal_resolution}
-use Rattle.package_table.proofs.Names.{name_total, same_some}
+pub use Rattle.package_table.proofs.FirstNames.{nil_present}
+use Rattle.package_table.proofs.Names.{same_some}
 use Rattle.package_table.proofs.Found.{found_is, external_entry}
 use Rattle.canon_printer.specs.Printed.{has_home, is_accessible}
-
--- a symbol of COMMON-LISP as it is first
-abbrev at_home : Present
-at_home = record { home = common_lisp; external = true }
 
 -- a symbol that was found with this home
 pub is_home : (o : Option Name) (home : Name) → has_home o home ≡ true → o ≡ Some home
@@ -29,13 +26,6 @@ in_package : (k : Option Package) (own h : Name) → option_map (λ (e : Present
     → IsTrue (is_some k)
 in_package None own h e = absurd (cc)
 in_package (Some k) own h e = refl
-
--- NIL is in all packages, so the end of a list is no symbol that is missing
-pub nil_present : (t : Table) → IsSound t → IsPresent t common_lisp (codes "NIL") common_lisp
-unfolding common_lisp_package common_lisp_names
-nil_present t sound =
-    ap (λ (o : Option Package). option_map (λ (e : Present). e.home) (option_and_then (λ (k : Package). finite.get k.symbols (codes "NIL")) o)) sound.first.fixed
-    ∙ ap (option_map (λ (e : Present). e.home)) (get-from_entries name_total (map (λ n. (n, at_home)) common_lisp_names) (codes "NIL"))
 
 module _ (t : Table) (home own : Name) (sound : IsSound t) (present : IsPresent t home own home) where
   pub home_there : IsPackage t home

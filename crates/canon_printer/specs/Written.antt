@@ -1,6 +1,7 @@
 -- How objects are written (standard 22.1.3). What comes before the name of an interned symbol is left open here:
 -- `prefix home name`. Printed.antt says what it is.
-use Rattle.std.specs.Prelude.{ℕ, ℤ, ◌==◌, Bool, false, ◌||◌, if◌then◌else◌, List, [], ◌∷◌, ◌++◌, codes, decimal}
+use Rattle.std.specs.Global.{Vec}
+use Rattle.std.specs.Prelude.{◌≡◌, ℕ, ℤ, ◌==◌, Bool, false, ◌||◌, if◌then◌else◌, List, [], ◌∷◌, ◌++◌, codes, decimal}
 use Rattle.std.specs.Fmt.{signed_decimal}
 use Rattle.std.specs.List.{flat_map}
 use Rattle.std.specs.Str.{byte}
@@ -81,3 +82,7 @@ module _ (prefix : List ℕ → List ℕ → List ℕ) where
   abbrev pub written_items : List Object → List ℕ
   written_items [] = []
   written_items (x ∷ xs) = written x ++ written_others xs
+
+-- a call has added this to the text
+abbrev pub Writes : Vec ℕ → Vec ℕ → List ℕ → Type 0
+Writes before later added = later.items ≡ before.items ++ added

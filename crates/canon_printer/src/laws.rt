@@ -9,7 +9,8 @@ ghost use Rattle.canon_printer.specs.Printed.{is_accessible};
 /// alone in the current package, the name after a colon where the home is KEYWORD, and the name after the home and one or
 /// two package markers. NIL is among the symbols of all packages, so no list ends in a symbol that is missing.
 pub fn printed_symbols_are_found()
-    ensures bare { (t : Table) (current home name : Name) → is_accessible t current home name ≡ true
+    ensures bare { (t : Table) (current home name : Name)
+        → is_accessible t current home name ≡ true
         → resolution t current name ≡ Ok (found_at home) }
     ensures in_keyword { (t : Table) (home name : Name) → IsSound t → IsPresent t home name home
         → bytes_eq home keyword ≡ true → resolution t keyword name ≡ Ok (found_at home) }

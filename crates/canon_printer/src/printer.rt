@@ -7,6 +7,7 @@ ghost use Rattle.lisp_object.specs.Datum.{object_of, is_proper, is_list};
 ghost use Rattle.package_table.specs.Table.{IsPackage};
 ghost use Rattle.canon_printer.specs.Written.{written_rest, written_items};
 ghost use Rattle.canon_printer.specs.Printed.{printed, printed_prefix};
+ghost use Rattle.canon_printer.specs.Written.{Writes};
 
 use crate::atoms::{write_character, write_integer, write_ratio, write_text};
 use crate::symbols::{write_symbol, write_uninterned};
@@ -29,7 +30,8 @@ pub fn print(
 ) -> Result<Vec<u8>, AllocError>
     requires proper { is_proper datum.now ≡ true }
     requires known { IsPackage packages.now.0 current.now }
-    ensures { IfOk result (λ text. text.items ≡ printed packages.now.0 current.now (object_of datum.now)) }
+    ensures { IfOk result (λ text. text.items
+        ≡ printed packages.now.0 current.now (object_of datum.now)) }
 {
     let mut text = Vec::new(alloc);
     write(&mut text, datum, packages, current)?;
@@ -46,7 +48,8 @@ fn write(
 ) -> Result<(), AllocError>
     requires proper { is_proper datum.now ≡ true }
     requires known { IsPackage packages.now.0 current.now }
-    ensures { OnOk result (text.new.items ≡ text.old.items ++ printed packages.now.0 current.now (object_of datum.now)) }
+    ensures { OnOk result (Writes text.old text.new
+        (printed packages.now.0 current.now (object_of datum.now))) }
 {
     match datum {
         Datum::Integer(n) => write_integer(text, *n),
@@ -85,7 +88,8 @@ fn write_items(
 ) -> Result<(), AllocError>
     requires proper { list_all is_proper items.now ≡ true }
     requires known { IsPackage packages.now.0 current.now }
-    ensures { OnOk result (text.new.items ≡ text.old.items ++ written_items (printed_prefix packages.now.0 current.now) (map object_of items.now)) }
+    ensures { OnOk result (Writes text.old text.new
+        (written_items (printed_prefix packages.now.0 current.now) (map object_of items.now))) }
 {
     let items = items.as_slice();
     for (i, item) in items.iter().enumerate() {
@@ -106,7 +110,8 @@ fn write_tail(
 ) -> Result<(), AllocError>
     requires proper { option_map_or (λ d. is_proper d && not (is_list d)) tail.now true ≡ true }
     requires known { IsPackage packages.now.0 current.now }
-    ensures { OnOk result (text.new.items ≡ text.old.items ++ written_rest (printed_prefix packages.now.0 current.now) (option_map_or object_of tail.now nil)) }
+    ensures { OnOk result (Writes text.old text.new
+        (written_rest (printed_prefix packages.now.0 current.now) (option_map_or object_of tail.now nil))) }
 {
     match tail {
         None => {
@@ -124,7 +129,7 @@ fn write_tail(
 
 // A space, but before the first of some items.
 fn write_space(text: &mut Vec<u8>, index: usize) -> Result<(), AllocError>
-    ensures { OnOk result (text.new.items ≡ text.old.items ++ (if index == 0 then [] else codes " ")) }
+    ensures { OnOk result (Writes text.old text.new (if index == 0 then [] else codes " ")) }
 {
     if index > 0 {
         text.push(b' ')?;

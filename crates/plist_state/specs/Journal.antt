@@ -6,6 +6,7 @@ use Rattle.plist_state.specs.declared.note.TableChange.{TableChange}
 use Rattle.plist_state.specs.declared.note.TableChange.TheVariants.{Over, Letters, Character}
 use Rattle.plist_state.specs.declared.note.Note.{Note}
 use Rattle.plist_state.specs.declared.note.Note.TheVariants.{Property, Made, Changed, InPackage, InReadtable}
+use Rattle.plist_state.specs.State.{Readtables}
 use Rattle.plist_state.specs.Lists.{row_of}
 use Rattle.plist_state.specs.Shown.{Rows, room_at, NumberedRest}
 use Rattle.plist_state.specs.Kept.{IsProperChange}
@@ -53,3 +54,8 @@ IsJournal (m ∷ ms) r rows = LeadsBack m (undone_since ms r) rows × IsJournal 
 pub record Continues (ms : List (List Note)) (t : NumberedRest) (ns : List (List Note)) (u : NumberedRest) : Type 0 where
   pub same : rests_at ns u ≡ rests_at ms t
   pub journal : (rows : Rows) → Fits rows t → IsJournal ms t rows → IsJournal ns u rows
+
+-- the same of a change of the readtables alone, whatever else is kept
+abbrev pub ContinuesTables : List (List Note) → Readtables → List (List Note) → Readtables → Type 0
+ContinuesTables ms before ns later =
+    (r : NumberedRest) → Continues ms (record r { readtables = before }) ns (record r { readtables = later })

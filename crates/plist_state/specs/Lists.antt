@@ -3,10 +3,11 @@ use Rattle.std.specs.Prelude.{◌≡◌, ℕ, IsTrue, List, [], ◌∷◌, map, 
 use Rattle.std.specs.List.{filter_map, flat_map}
 use Rattle.std.specs.Ordering.{nat_cmp}
 use Rattle.std.specs.FinMap as finite
+use Rattle.lisp_object.specs.Object.{Object}
 use Rattle.package_table.specs.Table.{Table}
 use Rattle.package_table.specs.Numbers.{Numbered, number_of}
 use Rattle.package_table.specs.Readers.{package_names, own_names}
-use Rattle.plist_state.specs.Properties.{Symbol, Plist, Properties}
+use Rattle.plist_state.specs.Properties.{Symbol, Plist, Properties, value_at, with_value, without_value}
 
 -- the property lists of the symbols that have one, by their numbers, each with a property in it
 abbrev pub NumberedLists : Type 0
@@ -20,6 +21,18 @@ row_of m i = unwrap_or (finite.get m i) []
 abbrev pub with_row : NumberedLists → ℕ → Plist → NumberedLists
 with_row m i [] = finite.remove m i
 with_row m i (p ∷ ps) = finite.insert m i (p ∷ ps)
+
+-- the value of a property of the symbol of a number
+abbrev pub value_in : NumberedLists → ℕ → Symbol → Option Object
+value_in m i x = value_at (row_of m i) x
+
+-- with this value beside the indicator
+abbrev pub with_value_in : NumberedLists → ℕ → Symbol → Object → NumberedLists
+with_value_in m i x v = with_row m i (with_value (row_of m i) x v)
+
+-- without the indicator and its value
+abbrev pub without_value_in : NumberedLists → ℕ → Symbol → NumberedLists
+without_value_in m i x = with_row m i (without_value (row_of m i) x)
 
 -- all symbols, by the names of their homes and then by their own
 abbrev pub symbols : Table → List Symbol

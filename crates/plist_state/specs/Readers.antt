@@ -1,9 +1,14 @@
 -- The lists that the world gives.
-use Rattle.std.specs.Prelude.{List}
+use Rattle.std.specs.Prelude.{List, map}
+use Rattle.std.specs.Borrow.{Bor}
 use Rattle.std.specs.FinMap as finite
 use Rattle.package_table.specs.Table.{Name}
 use Rattle.plist_state.specs.Properties.{Symbol}
 use Rattle.plist_state.specs.State.{State}
+
+-- symbols as a world has them
+abbrev pub symbols_of : List (Bor Name × Bor Name) → List Symbol
+symbols_of symbols = map (λ s. (s.0.now, s.1.now)) symbols
 
 -- the names of the readtables, sorted by their bytes
 abbrev pub readtable_names : State → List Name

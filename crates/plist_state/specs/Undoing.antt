@@ -1,5 +1,5 @@
 -- How changes are taken back: of a property list, of the readtables, and of all that a world keeps besides its packages.
-use Rattle.std.specs.Prelude.{ℕ, zero, suc, ◌-◌, List, [], ◌∷◌, length, take}
+use Rattle.std.specs.Prelude.{◌≡◌, ℕ, zero, suc, ◌-◌, List, [], ◌∷◌, length, take}
 use Rattle.std.specs.Option.{option_map_or}
 use Rattle.std.specs.FinMap as finite
 use Rattle.lisp_object.specs.Object.{Object}
@@ -35,6 +35,10 @@ abbrev pub list_before : PropertyChange → Plist → Plist
 list_before (Set place value) ps = with_value_at ps place (object_of value)
 list_before Added ps = take (length ps - 1) ps
 list_before (Removed place property) ps = with_inserted ps place (property_of property)
+
+-- the change leads back from the later list to the one before
+abbrev pub GoesBack : Plist → Plist → PropertyChange → Type 0
+GoesBack before later change = list_before change later ≡ before
 
 -- the readtable before the change
 abbrev pub table_before : TableChange → Table → Table

@@ -37,7 +37,8 @@ impl World {
         requires { mark < length self.old.1 }
         ensures past { self.new.1 ≡ take mark self.old.1 }
         ensures now { slice_get self.old.1 mark ≡ Some self.new.0 }
-        ensures whole { (w : Worlds) (later : List State) → self.old.1 ≡ w.1 ++ w.0 ∷ later → length w.1 ≡ mark → self.new ≡ w }
+        ensures whole { (w : Worlds) (later : List State)
+            → self.old.1 ≡ w.1 ++ w.0 ∷ later → length w.1 ≡ mark → self.new ≡ w }
     {
         self.packages.back_to(mark);
         undo_to(&mut self.stored, &mut self.marks, mark);

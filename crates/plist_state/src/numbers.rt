@@ -22,7 +22,8 @@ pub(crate) fn number_of(packages: &Packages, home: &[u8], name: &[u8]) -> Option
 /// The number of a symbol that is there. Takes no memory.
 pub(crate) fn number(packages: &Packages, symbol: &Symbol) -> u32
     requires { IsSymbol packages.now.0 (symbol_of symbol.now) }
-    ensures { numbers.number_of (numbered packages.now) (symbol_of symbol.now).0 (symbol_of symbol.now).1 ≡ Some result }
+    ensures { let s = symbol_of symbol.now in
+        numbers.number_of (numbered packages.now) s.0 s.1 ≡ Some result }
 {
     packages.numbering();
     match number_of(packages, symbol.home(), symbol.name()) {

@@ -2,7 +2,7 @@
 ghost use Rattle.std.specs.Prelude.{◌≡◌, ◌<◌, All, Some, IfErr, IfOk};
 ghost use Rattle.package_table.specs.Table.{IsPresent};
 ghost use Rattle.package_table.specs.Lookup.{found};
-ghost use Rattle.package_table.specs.Changes.{after_make, after_intern, after_export, after_import, after_use, intern_changes, export_changes, import_changes, use_changes, Gives, RunsOutOnlyIf};
+ghost use Rattle.package_table.specs.Changes.{after_make, after_intern, after_export, after_import, after_use, intern_changes, export_changes, import_changes, use_changes, Gives, RunsOutOnlyIf, Yields};
 ghost use Rattle.package_table.specs.Growth.{Grows, Tells, IsSameBut};
 ghost use Rattle.plist_state.specs.Changes.{with_packages, after_in_package};
 
@@ -19,7 +19,8 @@ impl World {
     /// Those of `Packages::make`. Nothing has changed then.
     pub fn make(&mut self, name: &[u8]) -> Result<(), PackageError>
         requires { All (λ b. b < 128) name.now }
-        ensures gives { Gives (λ _. self.new.0.packages) result (after_make self.old.0.packages name.now) }
+        ensures gives { Gives (λ _. self.new.0.packages) result
+            (after_make self.old.0.packages name.now) }
         ensures rest { self.new ≡ (with_packages self.old.0 self.new.0.packages, self.old.1) }
         ensures grows { Grows self.old.0.packages self.new.0.packages }
         ensures unchanged { IfErr result (λ _. self.new ≡ self.old) }
@@ -39,9 +40,12 @@ impl World {
         requires { All (λ b. b < 128) name.now }
         ensures gives { Gives (λ interned. (interned.home, self.new.0.packages)) result
             (after_intern self.old.0.packages owner.now name.now) }
-        ensures is_new { IfOk result (λ interned. interned.is_new ≡ intern_changes self.old.0.packages owner.now name.now) }
-        ensures exactly { IfOk result (λ interned. Tells interned.is_new self.old.0.packages self.new.0.packages) }
-        ensures finds { IfOk result (λ interned. found self.new.0.packages owner.now name.now ≡ Some interned.home) }
+        ensures is_new { IfOk result
+            (λ interned. interned.is_new ≡ intern_changes self.old.0.packages owner.now name.now) }
+        ensures exactly { IfOk result
+            (λ interned. Tells interned.is_new self.old.0.packages self.new.0.packages) }
+        ensures finds { IfOk result
+            (λ interned. found self.new.0.packages owner.now name.now ≡ Some interned.home) }
         ensures others { IsSameBut self.old.0.packages self.new.0.packages owner.now name.now }
         ensures rest { self.new ≡ (with_packages self.old.0 self.new.0.packages, self.old.1) }
         ensures grows { Grows self.old.0.packages self.new.0.packages }
@@ -61,9 +65,11 @@ impl World {
     pub fn export(&mut self, owner: &[u8], home: &[u8], name: &[u8]) -> Result<bool, PackageError>
         ensures gives { Gives (λ _. self.new.0.packages) result
             (after_export self.old.0.packages owner.now home.now name.now) }
-        ensures changed { IfOk result (λ changed. changed ≡ export_changes self.old.0.packages owner.now name.now) }
-        ensures memory { IfErr result (RunsOutOnlyIf (export_changes self.old.0.packages owner.now name.now)) }
-        ensures exactly { IfOk result (λ changed. Tells changed self.old.0.packages self.new.0.packages) }
+        ensures changed { Yields result (export_changes self.old.0.packages owner.now name.now) }
+        ensures memory { IfErr result
+            (RunsOutOnlyIf (export_changes self.old.0.packages owner.now name.now)) }
+        ensures exactly { IfOk result
+            (λ changed. Tells changed self.old.0.packages self.new.0.packages) }
         ensures rest { self.new ≡ (with_packages self.old.0 self.new.0.packages, self.old.1) }
         ensures grows { Grows self.old.0.packages self.new.0.packages }
         ensures unchanged { IfErr result (λ _. self.new ≡ self.old) }
@@ -83,9 +89,11 @@ impl World {
         requires { IsPresent self.old.0.packages home.now name.now home.now }
         ensures gives { Gives (λ _. self.new.0.packages) result
             (after_import self.old.0.packages owner.now home.now name.now) }
-        ensures changed { IfOk result (λ changed. changed ≡ import_changes self.old.0.packages owner.now name.now) }
-        ensures memory { IfErr result (RunsOutOnlyIf (import_changes self.old.0.packages owner.now name.now)) }
-        ensures exactly { IfOk result (λ changed. Tells changed self.old.0.packages self.new.0.packages) }
+        ensures changed { Yields result (import_changes self.old.0.packages owner.now name.now) }
+        ensures memory { IfErr result
+            (RunsOutOnlyIf (import_changes self.old.0.packages owner.now name.now)) }
+        ensures exactly { IfOk result
+            (λ changed. Tells changed self.old.0.packages self.new.0.packages) }
         ensures rest { self.new ≡ (with_packages self.old.0 self.new.0.packages, self.old.1) }
         ensures grows { Grows self.old.0.packages self.new.0.packages }
         ensures unchanged { IfErr result (λ _. self.new ≡ self.old) }
@@ -104,9 +112,11 @@ impl World {
     pub fn use_package(&mut self, owner: &[u8], used: &[u8]) -> Result<bool, PackageError>
         ensures gives { Gives (λ _. self.new.0.packages) result
             (after_use self.old.0.packages owner.now used.now) }
-        ensures changed { IfOk result (λ changed. changed ≡ use_changes self.old.0.packages owner.now used.now) }
-        ensures memory { IfErr result (RunsOutOnlyIf (use_changes self.old.0.packages owner.now used.now)) }
-        ensures exactly { IfOk result (λ changed. Tells changed self.old.0.packages self.new.0.packages) }
+        ensures changed { Yields result (use_changes self.old.0.packages owner.now used.now) }
+        ensures memory { IfErr result
+            (RunsOutOnlyIf (use_changes self.old.0.packages owner.now used.now)) }
+        ensures exactly { IfOk result
+            (λ changed. Tells changed self.old.0.packages self.new.0.packages) }
         ensures rest { self.new ≡ (with_packages self.old.0 self.new.0.packages, self.old.1) }
         ensures grows { Grows self.old.0.packages self.new.0.packages }
         ensures unchanged { IfErr result (λ _. self.new ≡ self.old) }

@@ -24,7 +24,8 @@ impl World {
         requires indicator { IsSymbol self.old.0.packages (symbol_of indicator) }
         requires proper { is_proper value ≡ true }
         requires value { IsValue self.old.0.packages (object_of value) }
-        ensures ok { OnOk result (self.new ≡ (with_property self.old.0 (symbol_of symbol.now) (symbol_of indicator) (object_of value), self.old.1)) }
+        ensures ok { OnOk result (self.new
+            ≡ (with_property self.old.0 (symbol_of symbol.now) (symbol_of indicator) (object_of value), self.old.1)) }
         ensures err { OnErr result (self.new ≡ self.old) }
     {
         self.packages.numbering();
@@ -44,9 +45,12 @@ impl World {
     /// changed.
     pub fn remove(&mut self, symbol: &Symbol, indicator: &Symbol) -> Result<bool, AllocError>
         requires { IsSymbol self.old.0.packages (symbol_of symbol.now) }
-        ensures ok { OnOk result (self.new ≡ (without_property self.old.0 (symbol_of symbol.now) (symbol_of indicator.now), self.old.1)) }
-        ensures had { IfOk result (λ had. had ≡ is_some (property self.old.0 (symbol_of symbol.now) (symbol_of indicator.now))) }
-        ensures absent { OnErr result (is_some (property self.old.0 (symbol_of symbol.now) (symbol_of indicator.now)) ≡ true) }
+        ensures ok { OnOk result (self.new
+            ≡ (without_property self.old.0 (symbol_of symbol.now) (symbol_of indicator.now), self.old.1)) }
+        ensures had { IfOk result (λ had. had
+            ≡ is_some (property self.old.0 (symbol_of symbol.now) (symbol_of indicator.now))) }
+        ensures absent { OnErr result
+            (is_some (property self.old.0 (symbol_of symbol.now) (symbol_of indicator.now)) ≡ true) }
         ensures err { OnErr result (self.new ≡ self.old) }
     {
         self.packages.numbering();

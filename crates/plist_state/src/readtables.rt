@@ -36,7 +36,8 @@ impl World {
     /// `NoReadtable` where there is none of that name; `StandardReadtable` for the standard one; `OutOfMemory` where
     /// memory runs out. Nothing has changed then.
     pub fn set_case(&mut self, name: &[u8], letters: Case) -> Result<(), ReadtableError>
-        ensures gives { Gives (λ _. self.new.0) result (in_state self.old.0 (with_case self.old.0.readtables name.now letters)) }
+        ensures gives { Gives (λ _. self.new.0) result
+            (in_state self.old.0 (with_case self.old.0.readtables name.now letters)) }
         ensures marked { self.new.1 ≡ self.old.1 }
         ensures unchanged { IfErr result (λ _. self.new ≡ self.old) }
     {
@@ -65,7 +66,8 @@ impl World {
         requires character { c < 128 }
         requires other { IsFalse (is_dispatch_name function) }
         requires keyword { IsSymbol self.old.0.packages (keyword, function) }
-        ensures gives { Gives (λ _. self.new.0) result (in_state self.old.0 (with_macro self.old.0.readtables name.now c function non_terminating)) }
+        ensures gives { Gives (λ _. self.new.0) result
+            (in_state self.old.0 (with_macro self.old.0.readtables name.now c function non_terminating)) }
         ensures marked { self.new.1 ≡ self.old.1 }
         ensures unchanged { IfErr result (λ _. self.new ≡ self.old) }
     {
@@ -94,7 +96,8 @@ impl World {
         non_terminating: bool,
     ) -> Result<(), ReadtableError>
         requires { c < 128 }
-        ensures gives { Gives (λ _. self.new.0) result (in_state self.old.0 (with_dispatching self.old.0.readtables name.now c non_terminating)) }
+        ensures gives { Gives (λ _. self.new.0) result
+            (in_state self.old.0 (with_dispatching self.old.0.readtables name.now c non_terminating)) }
         ensures marked { self.new.1 ≡ self.old.1 }
         ensures unchanged { IfErr result (λ _. self.new ≡ self.old) }
     {
@@ -127,7 +130,8 @@ impl World {
         requires sub_character { sub < 128 }
         requires other { IsFalse (is_dispatch_name function) }
         requires keyword { IsSymbol self.old.0.packages (keyword, function) }
-        ensures gives { Gives (λ _. self.new.0) result (in_state self.old.0 (with_dispatch self.old.0.readtables name.now c sub function)) }
+        ensures gives { Gives (λ _. self.new.0) result
+            (in_state self.old.0 (with_dispatch self.old.0.readtables name.now c sub function)) }
         ensures marked { self.new.1 ≡ self.old.1 }
         ensures unchanged { IfErr result (λ _. self.new ≡ self.old) }
     {
@@ -158,7 +162,8 @@ impl World {
     ) -> Result<(), ReadtableError>
         requires to { c < 128 }
         requires from { d < 128 }
-        ensures gives { Gives (λ _. self.new.0) result (in_state self.old.0 (with_syntax self.old.0.readtables to.now c from.now d)) }
+        ensures gives { Gives (λ _. self.new.0) result
+            (in_state self.old.0 (with_syntax self.old.0.readtables to.now c from.now d)) }
         ensures marked { self.new.1 ≡ self.old.1 }
         ensures unchanged { IfErr result (λ _. self.new ≡ self.old) }
     {
@@ -181,7 +186,8 @@ impl World {
     /// `to` is new and there are 64; `OutOfMemory` where memory runs out. Nothing has changed then.
     pub fn copy_readtable(&mut self, from: &[u8], to: &[u8]) -> Result<(), ReadtableError>
         requires { IsSymbol self.old.0.packages (keyword, to.now) }
-        ensures gives { Gives (λ _. self.new.0) result (in_state self.old.0 (with_copy self.old.0.readtables from.now to.now)) }
+        ensures gives { Gives (λ _. self.new.0) result
+            (in_state self.old.0 (with_copy self.old.0.readtables from.now to.now)) }
         ensures marked { self.new.1 ≡ self.old.1 }
         ensures unchanged { IfErr result (λ _. self.new ≡ self.old) }
     {

@@ -5,9 +5,9 @@ ghost use Rattle.std.specs.Option.{option_map};
 ghost use Rattle.std.specs.FinMap as finite;
 ghost use Rattle.lisp_object.specs.Datum.{object_of, is_proper};
 ghost use Rattle.plist_state.specs.Properties.{with_value, without_value, value_at, same_symbol};
-ghost use Rattle.plist_state.specs.Lists.{row_of, with_row};
+ghost use Rattle.plist_state.specs.Lists.{row_of, value_in, with_row, with_value_in, without_value_in};
 ghost use Rattle.plist_state.specs.Shown.{symbol_of, property_of, plist_of, lists_of, row_at, room_at};
-ghost use Rattle.plist_state.specs.Undoing.{list_before};
+ghost use Rattle.plist_state.specs.Undoing.{list_before, GoesBack};
 ghost use Rattle.plist_state.specs.Kept.{IsProperRow, IsProperRows, IsProperChange, IsWider};
 
 use crate::note::PropertyChange;
@@ -83,7 +83,7 @@ fn write(
     requires proper { is_proper value ≡ true }
     ensures ok { IfOk result
         (λ _. plist_of row.new ≡ with_value (plist_of row.old) (symbol_of indicator) (object_of value)) }
-    ensures back { IfOk result (λ change. list_before change (plist_of row.new) ≡ plist_of row.old) }
+    ensures back { IfOk result (GoesBack (plist_of row.old) (plist_of row.new)) }
     ensures values { IsProperRow row.old → IsProperRow row.new }
     ensures former { IsProperRow row.old → IfOk result IsProperChange }
     ensures room { vec_capacity row.old ≤ vec_capacity row.new }
@@ -103,9 +103,11 @@ fn write(
 
 // Takes a property out of a row.
 fn cut(row: &mut Vec<Property>, indicator: &Symbol) -> Option<PropertyChange>
-    ensures after { plist_of row.new ≡ without_value (plist_of row.old) (symbol_of indicator.now) }
-    ensures had { is_some result ≡ is_some (value_at (plist_of row.old) (symbol_of indicator.now)) }
-    ensures back { IfSome result (λ change. list_before change (plist_of row.new) ≡ plist_of row.old) }
+    ensures after { plist_of row.new
+        ≡ without_value (plist_of row.old) (symbol_of indicator.now) }
+    ensures had { is_some result
+        ≡ is_some (value_at (plist_of row.old) (symbol_of indicator.now)) }
+    ensures back { IfSome result (GoesBack (plist_of row.old) (plist_of row.new)) }
     ensures values { IsProperRow row.old → IsProperRow row.new }
     ensures former { IsProperRow row.old → IfSome result IsProperChange }
     ensures room { vec_capacity row.old ≤ vec_capacity row.new }
@@ -176,8 +178,10 @@ fn write_at(
     requires proper { is_proper value ≡ true }
     requires row { IsSome (row_at rows.old.entries number) }
     requires values { IsProperRows rows.old.entries }
-    ensures ok { IfOk result (λ _. lists_of rows.new ≡ with_row (lists_of rows.old) number (with_value (row_of (lists_of rows.old) number) (symbol_of indicator) (object_of value))) }
-    ensures back { IfOk result (λ change. list_before change (row_of (lists_of rows.new) number) ≡ row_of (lists_of rows.old) number) }
+    ensures ok { IfOk result (λ _. lists_of rows.new
+        ≡ with_value_in (lists_of rows.old) number (symbol_of indicator) (object_of value)) }
+    ensures back { IfOk result
+        (GoesBack (row_of (lists_of rows.old) number) (row_of (lists_of rows.new) number)) }
     ensures former { IfOk result IsProperChange }
     ensures wider { IsWider rows.old.entries rows.new.entries }
     ensures err { OnErr result (lists_of rows.new ≡ lists_of rows.old) }
@@ -201,8 +205,10 @@ pub(crate) fn put(
 ) -> Result<PropertyChange, AllocError>
     requires proper { is_proper value ≡ true }
     requires values { IsProperRows rows.old.entries }
-    ensures ok { IfOk result (λ _. lists_of rows.new ≡ with_row (lists_of rows.old) number (with_value (row_of (lists_of rows.old) number) (symbol_of indicator) (object_of value))) }
-    ensures back { IfOk result (λ change. list_before change (row_of (lists_of rows.new) number) ≡ row_of (lists_of rows.old) number) }
+    ensures ok { IfOk result (λ _. lists_of rows.new
+        ≡ with_value_in (lists_of rows.old) number (symbol_of indicator) (object_of value)) }
+    ensures back { IfOk result
+        (GoesBack (row_of (lists_of rows.old) number) (row_of (lists_of rows.new) number)) }
     ensures former { IfOk result IsProperChange }
     ensures wider { IsWider rows.old.entries rows.new.entries }
     ensures err { OnErr result (lists_of rows.new ≡ lists_of rows.old) }
@@ -218,9 +224,12 @@ pub(crate) fn remove(
     indicator: &Symbol,
 ) -> Option<PropertyChange>
     requires values { IsProperRows rows.old.entries }
-    ensures after { lists_of rows.new ≡ with_row (lists_of rows.old) number (without_value (row_of (lists_of rows.old) number) (symbol_of indicator.now)) }
-    ensures had { is_some result ≡ is_some (value_at (row_of (lists_of rows.old) number) (symbol_of indicator.now)) }
-    ensures back { IfSome result (λ change. list_before change (row_of (lists_of rows.new) number) ≡ row_of (lists_of rows.old) number) }
+    ensures after { lists_of rows.new
+        ≡ without_value_in (lists_of rows.old) number (symbol_of indicator.now) }
+    ensures had { is_some result
+        ≡ is_some (value_in (lists_of rows.old) number (symbol_of indicator.now)) }
+    ensures back { IfSome result
+        (GoesBack (row_of (lists_of rows.old) number) (row_of (lists_of rows.new) number)) }
     ensures former { IfSome result IsProperChange }
     ensures wider { IsWider rows.old.entries rows.new.entries }
 {
@@ -237,8 +246,10 @@ pub(crate) fn take_back(
     change: PropertyChange,
 )
     requires former { IsProperChange change }
-    requires room { length (list_before change (row_of (lists_of rows.old) number)) ≤ room_at rows.old.entries number }
-    ensures after { lists_of rows.new ≡ with_row (lists_of rows.old) number (list_before change (row_of (lists_of rows.old) number)) }
+    requires room { length (list_before change (row_of (lists_of rows.old) number))
+        ≤ room_at rows.old.entries number }
+    ensures after { lists_of rows.new
+        ≡ with_row (lists_of rows.old) number (list_before change (row_of (lists_of rows.old) number)) }
     ensures wider { IsWider rows.old.entries rows.new.entries }
 {
     if let Some(row) = rows.get_mut(&number) {

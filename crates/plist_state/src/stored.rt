@@ -4,7 +4,7 @@ ghost use Rattle.std.specs.FinMap as finite;
 ghost use Rattle.lisp_object.specs.Datum.{object_of, is_proper};
 ghost use Rattle.plist_state.specs.Properties.{with_value, without_value, value_at};
 ghost use Rattle.plist_state.specs.State.{first_readtables};
-ghost use Rattle.plist_state.specs.Lists.{row_of, with_row};
+ghost use Rattle.plist_state.specs.Lists.{value_in, with_value_in, without_value_in};
 ghost use Rattle.plist_state.specs.Shown.{symbol_of, first_numbered, rest_of, readtables_of};
 ghost use Rattle.plist_state.specs.Kept.{IsProperRows, IsWider};
 ghost use Rattle.plist_state.specs.Journal.{marks_of, Continues};
@@ -67,10 +67,14 @@ pub(crate) fn put(
     requires proper { is_proper value ≡ true }
     requires values { IsProperRows stored.old.properties.entries }
     ensures ok { let r = rest_of stored.old in
-        OnOk result (rest_of stored.new ≡ record r { properties = with_row r.properties number (with_value (row_of r.properties number) (symbol_of indicator) (object_of value)) }) }
+        OnOk result (rest_of stored.new ≡ record r {
+          properties
+              = with_value_in r.properties number (symbol_of indicator) (object_of value);
+        }) }
     ensures err { OnErr result (rest_of stored.new ≡ rest_of stored.old) }
     ensures wider { IsWider stored.old.properties.entries stored.new.properties.entries }
-    ensures marked { Continues (marks_of marks.old.items) (rest_of stored.old) (marks_of marks.new.items) (rest_of stored.new) }
+    ensures marked { Continues (marks_of marks.old.items) (rest_of stored.old)
+        (marks_of marks.new.items) (rest_of stored.new) }
 {
     reserve_note(marks)?;
     let Ok(change) = rows::put(alloc, &mut stored.properties, number, indicator, value) else {
@@ -89,12 +93,18 @@ pub(crate) fn remove(
 ) -> Result<bool, AllocError>
     requires { IsProperRows stored.old.properties.entries }
     ensures ok { let r = rest_of stored.old in
-        OnOk result (rest_of stored.new ≡ record r { properties = with_row r.properties number (without_value (row_of r.properties number) (symbol_of indicator.now)) }) }
-    ensures had { IfOk result (λ had. had ≡ is_some (value_at (row_of (rest_of stored.old).properties number) (symbol_of indicator.now))) }
-    ensures absent { OnErr result (is_some (value_at (row_of (rest_of stored.old).properties number) (symbol_of indicator.now)) ≡ true) }
+        OnOk result (rest_of stored.new ≡ record r {
+          properties
+              = without_value_in r.properties number (symbol_of indicator.now);
+        }) }
+    ensures had { IfOk result (λ had. had
+        ≡ is_some (value_in (rest_of stored.old).properties number (symbol_of indicator.now))) }
+    ensures absent { OnErr result
+        (is_some (value_in (rest_of stored.old).properties number (symbol_of indicator.now)) ≡ true) }
     ensures err { OnErr result (rest_of stored.new ≡ rest_of stored.old) }
     ensures wider { IsWider stored.old.properties.entries stored.new.properties.entries }
-    ensures marked { Continues (marks_of marks.old.items) (rest_of stored.old) (marks_of marks.new.items) (rest_of stored.new) }
+    ensures marked { Continues (marks_of marks.old.items) (rest_of stored.old)
+        (marks_of marks.new.items) (rest_of stored.new) }
 {
     if rows::value(&stored.properties, number, indicator).is_none() {
         return Ok(false);

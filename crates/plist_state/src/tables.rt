@@ -9,9 +9,9 @@ ghost use Rattle.plist_state.specs.declared.error.ReadtableError.TheVariants.{Ou
 ghost use Rattle.plist_state.specs.declared.note.TableChange.TheVariants.{Over, Character};
 ghost use Rattle.plist_state.specs.declared.note.Note.TheVariants.{Made, Changed};
 ghost use Rattle.plist_state.specs.Changes.{writable, with_case, with_macro, with_dispatching, with_dispatch, with_syntax, with_copy, refused_as, Gives};
-ghost use Rattle.plist_state.specs.Shown.{NumberedRest, readtables_of};
+ghost use Rattle.plist_state.specs.Shown.{readtables_of};
 ghost use Rattle.plist_state.specs.Undoing.{table_before, tables_before};
-ghost use Rattle.plist_state.specs.Journal.{marks_of, IsTableChange, Continues};
+ghost use Rattle.plist_state.specs.Journal.{marks_of, IsTableChange, ContinuesTables};
 
 use crate::ReadtableError;
 use crate::journal::{push_note, reserve_named};
@@ -86,7 +86,8 @@ fn copy_entry(
 ) -> Result<CharacterSlot, AllocError>
     requires character { c < 128 }
     requires there { IsTrue (finite.contains_key (readtables_of tables.now) name.now) }
-    ensures { (t : Table) → finite.get (readtables_of tables.now) name.now ≡ Some t → IfOk result (λ entry. entry ≡ entry_at t c) }
+    ensures { (t : Table) → finite.get (readtables_of tables.now) name.now ≡ Some t
+        → IfOk result (λ entry. entry ≡ entry_at t c) }
 {
     let Some(table) = table(tables, name) else {
         unreachable!()
@@ -110,10 +111,11 @@ pub(crate) fn set_case(
     name: &[u8],
     letters: Case,
 ) -> Result<(), ReadtableError>
-    ensures gives { Gives (λ _. readtables_of tables.new) result (with_case (readtables_of tables.old) name.now letters) }
+    ensures gives { Gives (λ _. readtables_of tables.new) result
+        (with_case (readtables_of tables.old) name.now letters) }
     ensures unchanged { IfErr result (λ _. readtables_of tables.new ≡ readtables_of tables.old) }
-    ensures marked { (r : NumberedRest) → Continues (marks_of marks.old.items) (record r { readtables = readtables_of tables.old })
-        (marks_of marks.new.items) (record r { readtables = readtables_of tables.new }) }
+    ensures marked { ContinuesTables (marks_of marks.old.items) (readtables_of tables.old)
+        (marks_of marks.new.items) (readtables_of tables.new) }
 {
     check_writable(tables, name)?;
     let noted = reserve_named(alloc, marks, name)?;
@@ -144,10 +146,11 @@ pub(crate) fn set_macro(
 ) -> Result<(), ReadtableError>
     requires character { c < 128 }
     requires name { IsFalse (is_dispatch_name function) }
-    ensures gives { Gives (λ _. readtables_of tables.new) result (with_macro (readtables_of tables.old) name.now c function non_terminating) }
+    ensures gives { Gives (λ _. readtables_of tables.new) result
+        (with_macro (readtables_of tables.old) name.now c function non_terminating) }
     ensures unchanged { IfErr result (λ _. readtables_of tables.new ≡ readtables_of tables.old) }
-    ensures marked { (r : NumberedRest) → Continues (marks_of marks.old.items) (record r { readtables = readtables_of tables.old })
-        (marks_of marks.new.items) (record r { readtables = readtables_of tables.new }) }
+    ensures marked { ContinuesTables (marks_of marks.old.items) (readtables_of tables.old)
+        (marks_of marks.new.items) (readtables_of tables.new) }
 {
     check_writable(tables, name)?;
     let entry = copy_entry(alloc, tables, name, c)?;
@@ -170,10 +173,11 @@ pub(crate) fn make_dispatch(
     non_terminating: bool,
 ) -> Result<(), ReadtableError>
     requires { c < 128 }
-    ensures gives { Gives (λ _. readtables_of tables.new) result (with_dispatching (readtables_of tables.old) name.now c non_terminating) }
+    ensures gives { Gives (λ _. readtables_of tables.new) result
+        (with_dispatching (readtables_of tables.old) name.now c non_terminating) }
     ensures unchanged { IfErr result (λ _. readtables_of tables.new ≡ readtables_of tables.old) }
-    ensures marked { (r : NumberedRest) → Continues (marks_of marks.old.items) (record r { readtables = readtables_of tables.old })
-        (marks_of marks.new.items) (record r { readtables = readtables_of tables.new }) }
+    ensures marked { ContinuesTables (marks_of marks.old.items) (readtables_of tables.old)
+        (marks_of marks.new.items) (readtables_of tables.new) }
 {
     check_writable(tables, name)?;
     let entry = copy_entry(alloc, tables, name, c)?;
@@ -201,10 +205,11 @@ pub(crate) fn set_dispatch(
     requires character { c < 128 }
     requires sub_character { sub < 128 }
     requires name { IsFalse (is_dispatch_name function) }
-    ensures gives { Gives (λ _. readtables_of tables.new) result (with_dispatch (readtables_of tables.old) name.now c sub function) }
+    ensures gives { Gives (λ _. readtables_of tables.new) result
+        (with_dispatch (readtables_of tables.old) name.now c sub function) }
     ensures unchanged { IfErr result (λ _. readtables_of tables.new ≡ readtables_of tables.old) }
-    ensures marked { (r : NumberedRest) → Continues (marks_of marks.old.items) (record r { readtables = readtables_of tables.old })
-        (marks_of marks.new.items) (record r { readtables = readtables_of tables.new }) }
+    ensures marked { ContinuesTables (marks_of marks.old.items) (readtables_of tables.old)
+        (marks_of marks.new.items) (readtables_of tables.new) }
 {
     check_writable(tables, name)?;
     check_dispatch(tables, name, c, sub)?;
@@ -229,9 +234,11 @@ fn put_entry(
 ) -> CharacterSlot
     requires character { c < 128 }
     requires there { IsTrue (finite.contains_key (readtables_of tables.old) name.now) }
-    ensures after { let m = readtables_of tables.old in (t : Table) → finite.get m name.now ≡ Some t
+    ensures after { let m = readtables_of tables.old in (t : Table)
+        → finite.get m name.now ≡ Some t
         → readtables_of tables.new ≡ finite.insert m name.now (with_entry t c entry) }
-    ensures before { (t : Table) → finite.get (readtables_of tables.old) name.now ≡ Some t → result ≡ entry_at t c }
+    ensures before { (t : Table) → finite.get (readtables_of tables.old) name.now ≡ Some t
+        → result ≡ entry_at t c }
 {
     let Some(table) = tables.get_mut(name) else {
         unreachable!()
@@ -251,10 +258,11 @@ pub(crate) fn set_syntax(
 ) -> Result<(), ReadtableError>
     requires to { c < 128 }
     requires from { d < 128 }
-    ensures gives { Gives (λ _. readtables_of tables.new) result (with_syntax (readtables_of tables.old) to.now c from.now d) }
+    ensures gives { Gives (λ _. readtables_of tables.new) result
+        (with_syntax (readtables_of tables.old) to.now c from.now d) }
     ensures unchanged { IfErr result (λ _. readtables_of tables.new ≡ readtables_of tables.old) }
-    ensures marked { (r : NumberedRest) → Continues (marks_of marks.old.items) (record r { readtables = readtables_of tables.old })
-        (marks_of marks.new.items) (record r { readtables = readtables_of tables.new }) }
+    ensures marked { ContinuesTables (marks_of marks.old.items) (readtables_of tables.old)
+        (marks_of marks.new.items) (readtables_of tables.new) }
 {
     if table(tables, from).is_none() {
         return Err(ReadtableError::NoReadtable);
@@ -275,10 +283,11 @@ pub(crate) fn copy(
     from: &[u8],
     to: &[u8],
 ) -> Result<(), ReadtableError>
-    ensures gives { Gives (λ _. readtables_of tables.new) result (with_copy (readtables_of tables.old) from.now to.now) }
+    ensures gives { Gives (λ _. readtables_of tables.new) result
+        (with_copy (readtables_of tables.old) from.now to.now) }
     ensures unchanged { IfErr result (λ _. readtables_of tables.new ≡ readtables_of tables.old) }
-    ensures marked { (r : NumberedRest) → Continues (marks_of marks.old.items) (record r { readtables = readtables_of tables.old })
-        (marks_of marks.new.items) (record r { readtables = readtables_of tables.new }) }
+    ensures marked { ContinuesTables (marks_of marks.old.items) (readtables_of tables.old)
+        (marks_of marks.new.items) (readtables_of tables.new) }
 {
     check_copy(tables, from, to)?;
     let copied = match table(tables, from) {
@@ -298,9 +307,12 @@ fn put_table(
     name: Vec<u8>,
     table: Readtable,
 ) -> Result<Option<Readtable>, ReadtableError>
-    ensures ok { OnOk result (readtables_of tables.new ≡ finite.insert (readtables_of tables.old) name.items table) }
-    ensures before { IfOk result (λ before. before ≡ finite.get (readtables_of tables.old) name.items) }
-    ensures err { IfErr result (λ e. (e ≡ OutOfMemory) × (readtables_of tables.new ≡ readtables_of tables.old)) }
+    ensures ok { OnOk result
+        (readtables_of tables.new ≡ finite.insert (readtables_of tables.old) name.items table) }
+    ensures before { IfOk result
+        (λ before. before ≡ finite.get (readtables_of tables.old) name.items) }
+    ensures err { IfErr result
+        (λ e. (e ≡ OutOfMemory) × (readtables_of tables.new ≡ readtables_of tables.old)) }
 {
     match tables.insert(name, table) {
         Ok(before) => Ok(before),
@@ -367,7 +379,8 @@ fn revert(table: &mut Readtable, change: TableChange)
 /// Takes a change of the readtable of this name back. Takes no memory.
 pub(crate) fn take_back(tables: &mut BTreeMap<Vec<u8>, Readtable>, name: &[u8], change: TableChange)
     requires { IsTableChange change }
-    ensures { readtables_of tables.new ≡ tables_before (readtables_of tables.old) name.now change }
+    ensures { readtables_of tables.new
+        ≡ tables_before (readtables_of tables.old) name.now change }
 {
     if let Some(table) = tables.get_mut(name) {
         revert(table, change);

@@ -43,13 +43,15 @@ fn undo_all(stored: &mut Stored, notes: Vec<Note>)
 /// What was stored at this mark is there again, with the earlier marks alone.
 pub(crate) fn undo_to(stored: &mut Stored, marks: &mut Vec<Vec<Note>>, mark: usize)
     requires mark { mark < length marks.old.items }
-    requires journal { IsJournal (marks_of marks.old.items) (rest_of stored.old) stored.old.properties.entries }
+    requires journal { IsJournal (marks_of marks.old.items) (rest_of stored.old)
+        stored.old.properties.entries }
     ensures past { rests_at (marks_of marks.new.items) (rest_of stored.new)
         ≡ take mark (rests_at (marks_of marks.old.items) (rest_of stored.old)) }
     ensures now { slice_get (rests_at (marks_of marks.old.items) (rest_of stored.old)) mark
         ≡ Some (rest_of stored.new) }
     ensures count { length marks.new.items ≡ mark }
-    ensures journal { IsJournal (marks_of marks.new.items) (rest_of stored.new) stored.new.properties.entries }
+    ensures journal { IsJournal (marks_of marks.new.items) (rest_of stored.new)
+        stored.new.properties.entries }
     ensures wider { IsWider stored.old.properties.entries stored.new.properties.entries }
 {
     loop {
