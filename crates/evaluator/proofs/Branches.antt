@@ -11,7 +11,7 @@ use Rattle.lisp_object.specs.Datum.{object_of, is_proper, is_list}
 use Rattle.lisp_object.proofs.Objects.{object_of-Symbol, object_of-Uninterned, object_of-List, object_of-dotted}
 use Rattle.lisp_object.proofs.ProperLists.{proper_pairs, items_of_proper, tail_of_proper, no_list_object}
 use Rattle.package_table.specs.Table.{Name}
-use Rattle.plist_state.specs.State.{State}
+use Rattle.plist_state.specs.State.{WorldState}
 use Rattle.lisp_operators.specs.declared.error.EvaluationError.{EvaluationError}
 use Rattle.lisp_operators.specs.declared.error.EvaluationError.TheVariants.{Refused, OutOfMemory}
 use Rattle.lisp_operators.specs.declared.evaluated.Evaluated.{Evaluated}
@@ -31,12 +31,12 @@ use Rattle.evaluator.specs.Gathered.{arguments_of, parts, followed, subforms, ga
 use Rattle.evaluator.proofs.Steps.{value_symbol, value_constant, value_uninterned, is_constant, followed_start}
 use Rattle.evaluator.proofs.Forms.{two_arguments}
 
-choice_of : (names : List Name) (s : State) (x y others : Object)
+choice_of : (names : List Name) (s : WorldState) (x y others : Object)
     → choice names s (pair x (pair y others)) ≡ and_then (value names s x) (λ z later. cond (is_true z) (value names later y) (other_value names later others))
 unfolding value
 choice_of names s x y others = refl
 
-pub choice_refused : (names : List Name) (s t u : State) (items : List Datum) (x : Datum) (e : EvaluationError) → 3 ≤ length items → x ≡ get_or items 1 x → Answers done (Err e) t (value names s (object_of x))
+pub choice_refused : (names : List Name) (s t u : WorldState) (items : List Datum) (x : Datum) (e : EvaluationError) → 3 ≤ length items → x ≡ get_or items 1 x → Answers done (Err e) t (value names s (object_of x))
     → Answers done (Err e) u (choice names s (arguments_of (map object_of items)))
 choice_refused names s t u items x (Refused code) some is h =
     ap (choice names s) (two_arguments items x (get_or items 2 x) some is (at_two items x some))
@@ -50,26 +50,26 @@ choice_refused names s t u items x (Refused code) some is h =
     at_two (a ∷ b ∷ c ∷ cs) d some' = refl
 choice_refused names s t u items x OutOfMemory some is h = tt
 
-after_test : (names : List Name) (s t : State) (items : List Datum) (x y : Datum) (d : Evaluated) (b : Bool) → 3 ≤ length items → x ≡ get_or items 1 x → y ≡ get_or items 2 y → value names s (object_of x) ≡ Ok (done d t) → is_true (object_of d.value) ≡ b
+after_test : (names : List Name) (s t : WorldState) (items : List Datum) (x y : Datum) (d : Evaluated) (b : Bool) → 3 ≤ length items → x ≡ get_or items 1 x → y ≡ get_or items 2 y → value names s (object_of x) ≡ Ok (done d t) → is_true (object_of d.value) ≡ b
     → choice names s (arguments_of (map object_of items)) ≡ also d.wrote (cond b (value names t (object_of y)) (other_value names t (list_of (map object_of (drop 3 items)))))
 after_test names s t items x y d b some is at h test =
     ap (choice names s) (two_arguments items x y some is at) ∙ choice_of names s (object_of x) (object_of y) (list_of (map object_of (drop 3 items)))
     ∙ ap (λ o. and_then o (λ z later. cond (is_true z) (value names later (object_of y)) (other_value names later (list_of (map object_of (drop 3 items)))))) h
     ∙ ap (λ k. also d.wrote (cond k (value names t (object_of y)) (other_value names t (list_of (map object_of (drop 3 items)))))) test
 
-pub choice_true : (names : List Name) (s t u : State) (items : List Datum) (x y : Datum) (d : Evaluated) (r : Result Evaluated EvaluationError) → 3 ≤ length items → x ≡ get_or items 1 x → y ≡ get_or items 2 y → value names s (object_of x) ≡ Ok (done d t)
+pub choice_true : (names : List Name) (s t u : WorldState) (items : List Datum) (x y : Datum) (d : Evaluated) (r : Result Evaluated EvaluationError) → 3 ≤ length items → x ≡ get_or items 1 x → y ≡ get_or items 2 y → value names s (object_of x) ≡ Ok (done d t)
     → is_true (object_of d.value) ≡ true → Answers done r u (also d.wrote (value names t (object_of y))) → Answers done r u (choice names s (arguments_of (map object_of items)))
 choice_true names s t u items x y d r some is at h test after = subst (Answers done r u) (sym (after_test names s t items x y d true some is at h test)) after
 
-other_none : (names : List Name) (s : State) → other_value names s nil ≡ gives nil s
+other_none : (names : List Name) (s : WorldState) → other_value names s nil ≡ gives nil s
 unfolding value
 other_none names s = refl
 
-other_one : (names : List Name) (s : State) (x rest : Object) → other_value names s (pair x rest) ≡ value names s x
+other_one : (names : List Name) (s : WorldState) (x rest : Object) → other_value names s (pair x rest) ≡ value names s x
 unfolding value
 other_one names s x rest = refl
 
-pub choice_none : (names : List Name) (s t : State) (items : List Datum) (x : Datum) (d : Evaluated) (v : Datum) → 3 ≤ length items → length items ≡ 3 → x ≡ get_or items 1 x → value names s (object_of x) ≡ Ok (done d t)
+pub choice_none : (names : List Name) (s t : WorldState) (items : List Datum) (x : Datum) (d : Evaluated) (v : Datum) → 3 ≤ length items → length items ≡ 3 → x ≡ get_or items 1 x → value names s (object_of x) ≡ Ok (done d t)
     → is_true (object_of d.value) ≡ false → object_of v ≡ nil → choice names s (arguments_of (map object_of items)) ≡ Ok (record { value = object_of v; state = t; wrote = d.wrote })
 choice_none names s t items x d v some three is h test empty =
     after_test names s t items x (get_or items 2 x) d false some is (at_two items x some) h test
@@ -94,7 +94,7 @@ choice_none names s t items x d v some three is h test empty =
     or_false true = refl
     or_false false = refl
 
-pub choice_other : (names : List Name) (s t u : State) (items : List Datum) (x z : Datum) (d : Evaluated) (r : Result Evaluated EvaluationError) → 3 ≤ length items → (length items ≡ 3 → ⊥) → x ≡ get_or items 1 x → z ≡ get_or items 3 z
+pub choice_other : (names : List Name) (s t u : WorldState) (items : List Datum) (x z : Datum) (d : Evaluated) (r : Result Evaluated EvaluationError) → 3 ≤ length items → (length items ≡ 3 → ⊥) → x ≡ get_or items 1 x → z ≡ get_or items 3 z
     → value names s (object_of x) ≡ Ok (done d t) → is_true (object_of d.value) ≡ false → Answers done r u (also d.wrote (value names t (object_of z))) → Answers done r u (choice names s (arguments_of (map object_of items)))
 choice_other names s t u items x z d r some more is at h test after =
     subst (Answers done r u)

@@ -3,7 +3,7 @@
 use Rattle.std.proofs.Common.{List}
 use Rattle.lisp_object.specs.Object.{Object}
 use Rattle.package_table.specs.Table.{Name}
-use Rattle.plist_state.specs.State.{State}
+use Rattle.plist_state.specs.State.{WorldState}
 use Rattle.lisp_operators.specs.Evaluation.{Evaluation}
 use Rattle.lisp_operators.proofs.Covering as covering
 use Rattle.lisp_operators.proofs.Covering.{keeps_then}
@@ -12,13 +12,13 @@ use Rattle.evaluator.specs.Value.{value}
 use Rattle.evaluator.proofs.Induction.{Operators, Steps, every_value}
 
 module _ (names : List Name) where
-  abbrev Asks : State → Object → Type 0
+  abbrev Asks : WorldState → Object → Type 0
   Asks s x = Unit {0}
 
-  abbrev Keeps : {A : Type 0} → State → Evaluation A → Type 0
+  abbrev Keeps : {A : Type 0} → WorldState → Evaluation A → Type 0
   Keeps = covering.Keeps names
 
-  abbrev IsCovering : (List Object → State → Evaluation Object) → Type 0
+  abbrev IsCovering : (List Object → WorldState → Evaluation Object) → Type 0
   IsCovering = covers.IsCovering names
 
   operators : Operators names Asks Keeps Keeps IsCovering
@@ -66,5 +66,5 @@ module _ (names : List Name) where
     of_values = λ s o function is covers. keeps_then names s o function is covers;
   }
 
-  pub value_covers : (s : State) (x : Object) → Keeps s (value names s x)
+  pub value_covers : (s : WorldState) (x : Object) → Keeps s (value names s x)
   value_covers s x = every_value names Asks Keeps Keeps IsCovering steps s x tt

@@ -15,7 +15,7 @@ use Rattle.lisp_object.specs.Datum.{object_of, is_proper, is_list}
 use Rattle.lisp_object.proofs.Objects.{object_of-Symbol, object_of-Uninterned, object_of-List, object_of-dotted}
 use Rattle.lisp_object.proofs.ProperLists.{proper_pairs, items_of_proper, tail_of_proper, no_list_object}
 use Rattle.package_table.specs.Table.{Name}
-use Rattle.plist_state.specs.State.{State}
+use Rattle.plist_state.specs.State.{WorldState}
 use Rattle.lisp_operators.specs.declared.error.EvaluationError.{EvaluationError}
 use Rattle.lisp_operators.specs.declared.error.EvaluationError.TheVariants.{Refused, OutOfMemory}
 use Rattle.lisp_operators.specs.declared.evaluated.Evaluated.{Evaluated}
@@ -35,18 +35,18 @@ use Rattle.evaluator.specs.Gathered.{arguments_of, parts, followed, subforms, ga
 use Rattle.evaluator.proofs.Steps.{value_symbol, value_constant, value_uninterned, is_constant, followed_start}
 
 -- ---- atoms
-pub symbol_form : (names : List Name) (s : State) (d : Datum) (home name : Name) (r : Result Evaluated EvaluationError) → d ≡ Datum.Symbol home name
+pub symbol_form : (names : List Name) (s : WorldState) (d : Datum) (home name : Name) (r : Result Evaluated EvaluationError) → d ≡ Datum.Symbol home name
     → ((h n : Name) → a_symbol (object_of d) ≡ Some (h, n) → Answers done r s (symbol_value h n s)) → Answers done r s (value names s (object_of d))
 symbol_form names s d home name r is each =
     let same : object_of d ≡ symbol home name = ap object_of is ∙ object_of-Symbol home name in
     subst (Answers done r s) (sym (ap (value names s) same ∙ value_symbol names s home name)) (each home name (ap a_symbol same))
 
-pub constant_form : (names : List Name) (s : State) (d : Datum) (r : Result Evaluated EvaluationError) → is_constant (object_of d) ≡ true
-    → ((t : State) → Answers done r t (gives (object_of d) t)) → Answers done r s (value names s (object_of d))
+pub constant_form : (names : List Name) (s : WorldState) (d : Datum) (r : Result Evaluated EvaluationError) → is_constant (object_of d) ≡ true
+    → ((t : WorldState) → Answers done r t (gives (object_of d) t)) → Answers done r s (value names s (object_of d))
 constant_form names s d r is each =
     subst (Answers done r s) (sym (value_constant names s (object_of d) is)) (each s)
 
-pub uninterned_form : (names : List Name) (s : State) (d : Datum) (name : Name) → d ≡ Datum.Uninterned name → value names s (object_of d) ≡ Err NOT_A_FORM
+pub uninterned_form : (names : List Name) (s : WorldState) (d : Datum) (name : Name) → d ≡ Datum.Uninterned name → value names s (object_of d) ≡ Err NOT_A_FORM
 uninterned_form names s d name is = ap (λ z. value names s (object_of z)) is ∙ ap (value names s) (object_of-Uninterned name) ∙ value_uninterned names s name
 
 -- ---- a list by its head
@@ -67,12 +67,12 @@ arguments_count [] = refl
 arguments_count (x ∷ xs) = let e : count (pairs (map object_of xs) nil) ≡ length xs = count_pairs (map object_of xs) ∙ length-map xs object_of in omega arith
 
 -- the value of a list that is headed by x
-pub head_form : (names : List Name) (s : State) (items xs : List Datum) (x : Datum) (operation : Operation) → xs ≡ items → 0 < length items → x ≡ get_or xs 0 x → IsHead names (object_of x) (length xs - 1) (Ok operation)
+pub head_form : (names : List Name) (s : WorldState) (items xs : List Datum) (x : Datum) (operation : Operation) → xs ≡ items → 0 < length items → x ≡ get_or xs 0 x → IsHead names (object_of x) (length xs - 1) (Ok operation)
     → value names s (list_of (map object_of items)) ≡ action_value s (action_of names operation) (arguments_of (map object_of xs)) (parts names s (arguments_of (map object_of xs)))
 head_form names s items xs x operation same some is head =
     ap (value names s) (head_at items xs x same some is) ∙ head s (arguments_of (map object_of xs)) (arguments_proper xs) (arguments_count xs)
 
-pub head_refused : (names : List Name) (s t : State) (items xs : List Datum) (x : Datum) (e : EvaluationError) → xs ≡ items → 0 < length items → x ≡ get_or xs 0 x → IsHead names (object_of x) (length xs - 1) (Err e)
+pub head_refused : (names : List Name) (s t : WorldState) (items xs : List Datum) (x : Datum) (e : EvaluationError) → xs ≡ items → 0 < length items → x ≡ get_or xs 0 x → IsHead names (object_of x) (length xs - 1) (Err e)
     → Answers done (Err e) t (value names s (list_of (map object_of items)))
 head_refused names s t items xs x (Refused code) same some is head =
     ap (value names s) (head_at items xs x same some is) ∙ head s (arguments_of (map object_of xs)) (arguments_proper xs) (arguments_count xs)
@@ -106,12 +106,12 @@ quote_left SetDispatchMacroCharacter e f g = absurd (false≢true (sym e))
 quote_left GetDispatchMacroCharacter e f g = absurd (false≢true (sym e))
 quote_left ReadtableCase e f g = absurd (false≢true (sym e))
 
-case_or_property : (names : List Name) (s : State) (arguments : Object) → action_value s (action_of names Setf) arguments (parts names s arguments)
+case_or_property : (names : List Name) (s : WorldState) (arguments : Object) → action_value s (action_of names Setf) arguments (parts names s arguments)
     ≡ unless (refusal_of_place Setf arguments) (and_then (gathered names s Setf arguments) (function_of names Setf (is_case Setf arguments)))
 case_or_property names s arguments =
     elim (is_case_place (first arguments)) as (λ b. unless (refusal_of_place Setf arguments) (and_then (values_at_place names s arguments) (cond b set_case set)) ≡ unless (refusal_of_place Setf arguments) (and_then (values_at_place names s arguments) (λ xs t. cond b (set_case xs t) (set xs t)))) [ true ↦ refl | false ↦ refl ]
 
-pub ordinary_is : (names : List Name) (operation : Operation) (s : State) (arguments : Object) → is_ordinary operation ≡ true → action_value s (action_of names operation) arguments (parts names s arguments)
+pub ordinary_is : (names : List Name) (operation : Operation) (s : WorldState) (arguments : Object) → is_ordinary operation ≡ true → action_value s (action_of names operation) arguments (parts names s arguments)
     ≡ unless (refusal_of_place operation arguments) (and_then (gathered names s operation arguments) (function_of names operation (is_case operation arguments)))
 ordinary_is names Quote s arguments e = absurd (false≢true e)
 ordinary_is names Progn s arguments e = refl
@@ -139,16 +139,16 @@ ordinary_is names SetDispatchMacroCharacter s arguments e = refl
 ordinary_is names GetDispatchMacroCharacter s arguments e = refl
 ordinary_is names ReadtableCase s arguments e = refl
 
-pub place_refused : (refusal : Option ℕ) (e : EvaluationError) (t : State) (o : Evaluation Object) → IsRefusal {A = Bool} refusal (Err e) → Answers done (Err e) t (unless refusal o)
+pub place_refused : (refusal : Option ℕ) (e : EvaluationError) (t : WorldState) (o : Evaluation Object) → IsRefusal {A = Bool} refusal (Err e) → Answers done (Err e) t (unless refusal o)
 place_refused refusal (Refused code) t o h = ap (λ r. unless r o) h
 place_refused refusal OutOfMemory t o h = tt
 
-pub gathered_refused : (e : EvaluationError) (t u : State) (refusal : Option ℕ) (o : Evaluation (List Object)) (next : List Object → State → Evaluation Object) → refusal ≡ None → Answers all_done (Err e) t o
+pub gathered_refused : (e : EvaluationError) (t u : WorldState) (refusal : Option ℕ) (o : Evaluation (List Object)) (next : List Object → WorldState → Evaluation Object) → refusal ≡ None → Answers all_done (Err e) t o
     → Answers done (Err e) u (unless refusal (and_then o next))
 gathered_refused (Refused code) t u refusal o next none h = ap (λ r. unless r (and_then o next)) none ∙ ap (λ x. and_then x next) h
 gathered_refused OutOfMemory t u refusal o next none h = tt
 
-pub performed : (r : Result Evaluated EvaluationError) (t u : State) (v : Values) (refusal : Option ℕ) (o : Evaluation (List Object)) (next : List Object → State → Evaluation Object) → refusal ≡ None → o ≡ Ok (all_done v t)
+pub performed : (r : Result Evaluated EvaluationError) (t u : WorldState) (v : Values) (refusal : Option ℕ) (o : Evaluation (List Object)) (next : List Object → WorldState → Evaluation Object) → refusal ≡ None → o ≡ Ok (all_done v t)
     → Answers done r u (also v.wrote (next (map object_of v.values.items) t)) → Answers done r u (unless refusal (and_then o next))
 performed r t u v refusal o next none is h =
     subst (Answers done r u) (sym (ap (λ k. unless k (and_then o next)) none ∙ ap (λ x. and_then x next) is)) h
@@ -158,7 +158,7 @@ pub arguments_from : (xs : List Datum) → arguments_of (map object_of xs) ≡ l
 arguments_from [] = refl
 arguments_from (x ∷ xs) = refl
 
-pub plain_gathered : (names : List Name) (s : State) (operation : Operation) (arguments : Object) → (operation ≡ Setf → ⊥) → (operation ≡ Incf → ⊥) → (operation ≡ Push → ⊥)
+pub plain_gathered : (names : List Name) (s : WorldState) (operation : Operation) (arguments : Object) → (operation ≡ Setf → ⊥) → (operation ≡ Incf → ⊥) → (operation ≡ Push → ⊥)
     → gathered names s operation arguments ≡ values names s arguments
 plain_gathered names s Quote arguments e f g = refl
 plain_gathered names s Progn arguments e f g = refl
@@ -200,7 +200,7 @@ two_arguments (a ∷ b ∷ []) x y some is then' = absurd (omega arith)
 two_arguments (a ∷ b ∷ e ∷ es) x y some is then' =
     ap (λ d. pair (object_of d) (pair (object_of e) (list_of (map object_of es)))) (sym is) ∙ ap (λ d. pair (object_of x) (pair (object_of d) (list_of (map object_of es)))) (sym then')
 
-at_place_of : (names : List Name) (s : State) (p f : Object) → values_at_place names s (pair p f) ≡ and_then (subforms names [] false s p) (λ xs later. and_then (values names later f) (λ ys end'. gives (xs ++ ys) end'))
+at_place_of : (names : List Name) (s : WorldState) (p f : Object) → values_at_place names s (pair p f) ≡ and_then (subforms names [] false s p) (λ xs later. and_then (values names later f) (λ ys end'. gives (xs ++ ys) end'))
 unfolding value
 at_place_of names s (pair a b) f = ap (λ o. and_then o (λ xs later. and_then (values names later f) (λ ys end'. gives (xs ++ ys) end'))) (sym (followed_start names s b))
 at_place_of names s (symbol h n) f = refl
@@ -211,17 +211,17 @@ at_place_of names s (character c) f = refl
 at_place_of names s (text b) f = refl
 at_place_of names s (vector xs) f = refl
 
-pub none_before : (names : List Name) (s : State) (p : Object) (vs : List Datum) (w : Bool) → vs ≡ [] → w ≡ false → subforms names (map object_of vs) w s p ≡ subforms names [] false s p
+pub none_before : (names : List Name) (s : WorldState) (p : Object) (vs : List Datum) (w : Bool) → vs ≡ [] → w ≡ false → subforms names (map object_of vs) w s p ≡ subforms names [] false s p
 none_before names s p vs w none nothing = ap (λ l. subforms names (map object_of l) w s p) none ∙ ap (λ b. subforms names [] b s p) nothing
 
-pub place_first : (names : List Name) (s t u : State) (items : List Datum) (x : Datum) (vs : List Datum) (w : Bool) (e : EvaluationError) → 2 ≤ length items → x ≡ get_or items 1 x → vs ≡ [] → w ≡ false
+pub place_first : (names : List Name) (s t u : WorldState) (items : List Datum) (x : Datum) (vs : List Datum) (w : Bool) (e : EvaluationError) → 2 ≤ length items → x ≡ get_or items 1 x → vs ≡ [] → w ≡ false
     → Answers all_done (Err e) t (subforms names (map object_of vs) w s (object_of x)) → Answers all_done (Err e) u (values_at_place names s (arguments_of (map object_of items)))
 place_first names s t u items x vs w (Refused code) some is none nothing h =
     ap (values_at_place names s) (one_argument items x some is) ∙ at_place_of names s (object_of x) (list_of (map object_of (drop 2 items)))
     ∙ ap (λ o. and_then o (λ xs later. and_then (values names later (list_of (map object_of (drop 2 items)))) (λ ys end'. gives (xs ++ ys) end'))) (sym (none_before names s (object_of x) vs w none nothing) ∙ h)
 place_first names s t u items x vs w OutOfMemory some is none nothing h = tt
 
-pub place_given : (names : List Name) (s t u : State) (items : List Datum) (x : Datum) (vs : List Datum) (w : Bool) (v : Values) (r : Result Values EvaluationError) → 2 ≤ length items → x ≡ get_or items 1 x → vs ≡ [] → w ≡ false
+pub place_given : (names : List Name) (s t u : WorldState) (items : List Datum) (x : Datum) (vs : List Datum) (w : Bool) (v : Values) (r : Result Values EvaluationError) → 2 ≤ length items → x ≡ get_or items 1 x → vs ≡ [] → w ≡ false
     → subforms names (map object_of vs) w s (object_of x) ≡ Ok (all_done v t) → Answers all_done r u (followed names (map object_of v.values.items) v.wrote t (list_of (map object_of (drop 2 items))))
     → Answers all_done r u (values_at_place names s (arguments_of (map object_of items)))
 place_given names s t u items x vs w v r some is none nothing h after =
@@ -231,7 +231,7 @@ place_given names s t u items x vs w v r some is none nothing h after =
     after
 
 -- ---- PUSH
-before_pair : (names : List Name) (s : State) (x p f : Object) (y : Object) (t : State) (w : Bool) → is_pair p ≡ true → value names s x ≡ Ok (record { value = y; state = t; wrote = w })
+before_pair : (names : List Name) (s : WorldState) (x p f : Object) (y : Object) (t : WorldState) (w : Bool) → is_pair p ≡ true → value names s x ≡ Ok (record { value = y; state = t; wrote = w })
     → values_before_place names s (pair x (pair p f)) ≡ subforms names (y ∷ []) w t p
 unfolding value
 before_pair names s x (pair a b) f y t w is e = ap (λ o. and_then o (λ z later. and_then (values names later b) (λ ys end'. gives (z ∷ ys) end'))) e
@@ -243,7 +243,7 @@ before_pair names s x (character c) f y t w is e = absurd (false≢true is)
 before_pair names s x (text b) f y t w is e = absurd (false≢true is)
 before_pair names s x (vector xs) f y t w is e = absurd (false≢true is)
 
-before_refused : (names : List Name) (s : State) (x p f : Object) (code : ℕ) → is_pair p ≡ true → value names s x ≡ Err code → values_before_place names s (pair x (pair p f)) ≡ Err code
+before_refused : (names : List Name) (s : WorldState) (x p f : Object) (code : ℕ) → is_pair p ≡ true → value names s x ≡ Err code → values_before_place names s (pair x (pair p f)) ≡ Err code
 unfolding value
 before_refused names s x (pair a b) f code is e = ap (λ o. and_then o (λ z later. and_then (values names later b) (λ ys end'. gives (z ∷ ys) end'))) e
 before_refused names s x (symbol h n) f code is e = absurd (false≢true is)
@@ -254,7 +254,7 @@ before_refused names s x (character c) f code is e = absurd (false≢true is)
 before_refused names s x (text b) f code is e = absurd (false≢true is)
 before_refused names s x (vector xs) f code is e = absurd (false≢true is)
 
-before_other : (names : List Name) (s : State) (x p f : Object) → is_pair p ≡ false → values_before_place names s (pair x (pair p f)) ≡ Err ARGUMENT_KIND
+before_other : (names : List Name) (s : WorldState) (x p f : Object) → is_pair p ≡ false → values_before_place names s (pair x (pair p f)) ≡ Err ARGUMENT_KIND
 unfolding value
 before_other names s x (pair a b) f is = absurd (false≢true (sym is))
 before_other names s x (symbol h n) f is = refl
@@ -265,7 +265,7 @@ before_other names s x (character c) f is = refl
 before_other names s x (text b) f is = refl
 before_other names s x (vector xs) f is = refl
 
-pub push_no_place : (names : List Name) (s : State) (items : List Datum) (p : Datum) → 3 ≤ length items → p ≡ get_or items 2 p → is_pair (object_of p) ≡ false
+pub push_no_place : (names : List Name) (s : WorldState) (items : List Datum) (p : Datum) → 3 ≤ length items → p ≡ get_or items 2 p → is_pair (object_of p) ≡ false
     → values_before_place names s (arguments_of (map object_of items)) ≡ Err ARGUMENT_KIND
 push_no_place names s items p some at other =
     ap (values_before_place names s) (two_arguments items (get_or items 1 p) p some (at_one items p some) at) ∙ before_other names s (object_of (get_or items 1 p)) (object_of p) (list_of (map object_of (drop 3 items))) other
@@ -275,13 +275,13 @@ push_no_place names s items p some at other =
     at_one (a ∷ []) d some' = absurd (omega arith)
     at_one (a ∷ b ∷ bs) d some' = refl
 
-pub push_refused : (names : List Name) (s t u : State) (items : List Datum) (x p : Datum) (e : EvaluationError) → 3 ≤ length items → x ≡ get_or items 1 x → p ≡ get_or items 2 p → is_pair (object_of p) ≡ true
+pub push_refused : (names : List Name) (s t u : WorldState) (items : List Datum) (x p : Datum) (e : EvaluationError) → 3 ≤ length items → x ≡ get_or items 1 x → p ≡ get_or items 2 p → is_pair (object_of p) ≡ true
     → Answers done (Err e) t (value names s (object_of x)) → Answers all_done (Err e) u (values_before_place names s (arguments_of (map object_of items)))
 push_refused names s t u items x p (Refused code) some is at place h =
     ap (values_before_place names s) (two_arguments items x p some is at) ∙ before_refused names s (object_of x) (object_of p) (list_of (map object_of (drop 3 items))) code place h
 push_refused names s t u items x p OutOfMemory some is at place h = tt
 
-pub push_given : (names : List Name) (s t u : State) (items : List Datum) (x p : Datum) (d : Evaluated) (vs : List Datum) (w : Bool) (r : Result Values EvaluationError) → 3 ≤ length items → x ≡ get_or items 1 x → p ≡ get_or items 2 p
+pub push_given : (names : List Name) (s t u : WorldState) (items : List Datum) (x p : Datum) (d : Evaluated) (vs : List Datum) (w : Bool) (r : Result Values EvaluationError) → 3 ≤ length items → x ≡ get_or items 1 x → p ≡ get_or items 2 p
     → is_pair (object_of p) ≡ true → value names s (object_of x) ≡ Ok (done d t) → vs ≡ d.value ∷ [] → w ≡ d.wrote → Answers all_done r u (subforms names (map object_of vs) w t (object_of p))
     → Answers all_done r u (values_before_place names s (arguments_of (map object_of items)))
 push_given names s t u items x p d vs w r some is at place h one wrote after =
@@ -299,7 +299,7 @@ same_item xs i x y within is at = is ∙ get_or-any xs i x y within ∙ sym at
     get_or-any (z ∷ zs) (suc j) a b below = get_or-any zs j a b (omega arith)
 
 -- ---- the subforms of a place
-values_of_pairs : (names : List Name) (s : State) (xs : List Object) (end : Object) → object_is_list end ≡ false → values names s (pairs xs end) ≡ values names s (list_of xs)
+values_of_pairs : (names : List Name) (s : WorldState) (xs : List Object) (end : Object) → object_is_list end ≡ false → values names s (pairs xs end) ≡ values names s (list_of xs)
 unfolding value
 values_of_pairs names s [] (symbol h n) other = refl
 values_of_pairs names s [] (uninterned n) other = refl
@@ -311,11 +311,11 @@ values_of_pairs names s [] (vector xs) other = refl
 values_of_pairs names s [] (pair a b) other = absurd (false≢true (sym other))
 values_of_pairs names s (x ∷ xs) end other = and_then_same (value names s x) _ _ (λ y later. ap (λ o. and_then o (λ ys end'. gives (y ∷ ys) end')) (values_of_pairs names later xs end other))
   where
-    and_then_same : {A B : Type 0} (o : Evaluation A) (f g : A → State → Evaluation B) → ((a : A) (t : State) → f a t ≡ g a t) → and_then o f ≡ and_then o g
+    and_then_same : {A B : Type 0} (o : Evaluation A) (f g : A → WorldState → Evaluation B) → ((a : A) (t : WorldState) → f a t ≡ g a t) → and_then o f ≡ and_then o g
     and_then_same (Ok d) f g same = ap (also d.wrote) (same d.value d.state)
     and_then_same (Err code) f g same = refl
 
-pub subforms_given : (names : List Name) (s t : State) (d : Datum) (items xs : List Datum) (tail : Option Datum) (vs : List Object) (w : Bool) (r : Result Values EvaluationError) → d ≡ Datum.List items tail → is_proper d ≡ true → xs ≡ items
+pub subforms_given : (names : List Name) (s t : WorldState) (d : Datum) (items xs : List Datum) (tail : Option Datum) (vs : List Object) (w : Bool) (r : Result Values EvaluationError) → d ≡ Datum.List items tail → is_proper d ≡ true → xs ≡ items
     → Answers all_done r t (followed names vs w s (list_of (map object_of (drop 1 xs)))) → Answers all_done r t (subforms names vs w s (object_of d))
 subforms_given names s t d [] xs tail vs w r is proper same h = absurd (omega (arith, (items_of_proper [] tail (ap is_proper (sym is) ∙ proper)).0))
 subforms_given names s t d (y ∷ ys) xs None vs w r is proper same h =

@@ -5,7 +5,7 @@ use Rattle.std.proofs.Common.{◌≡◌, ℕ, Bool, true, false, cond, not, List
 use Rattle.std.specs.Option.{option_or}
 use Rattle.package_table.specs.Table.{Name, common_lisp}
 use Rattle.lisp_object.specs.Object.{Object, integer, rational, character, text, symbol, uninterned, pair, vector, is_proper_list}
-use Rattle.plist_state.specs.State.{State}
+use Rattle.plist_state.specs.State.{WorldState}
 use Rattle.evaluator.specs.declared.operation.Operation.{Operation}
 use Rattle.evaluator.specs.declared.operation.Operation.TheVariants.{Quote, Progn, If, MakeList, Get, Setf, Remprop, SymbolPlist, Incf, Push, MakePackage, InPackage, Export, Import, UsePackage, Intern, CopyReadtable, InReadtable, SetSyntaxFromChar, SetMacroCharacter, GetMacroCharacter, MakeDispatchMacroCharacter, SetDispatchMacroCharacter, GetDispatchMacroCharacter, ReadtableCase}
 use Rattle.lisp_object.specs.declared.refusal.TheConstants.{NOT_A_FORM, UNKNOWN_OPERATOR, ARGUMENT_COUNT}
@@ -69,18 +69,18 @@ symbol_of_some (uninterned n) p e = absurd (none_some p e)
 symbol_of_some (pair a b) p e = absurd (none_some p e)
 symbol_of_some (vector xs) p e = absurd (none_some p e)
 
-pub head_value : (names : List Name) (s : State) (head arguments : Object) → is_interned head ≡ true → is_proper_list arguments ≡ true → value names s (pair head arguments) ≡ form_value s (operator_of names head) arguments (parts names s arguments)
+pub head_value : (names : List Name) (s : WorldState) (head arguments : Object) → is_interned head ≡ true → is_proper_list arguments ≡ true → value names s (pair head arguments) ≡ form_value s (operator_of names head) arguments (parts names s arguments)
 unfolding value
 head_value names s head arguments interned proper = rw (interned, proper) refl
 
-pub head_symbol : (names : List Name) (s : State) (head arguments : Object) (h n : Name) → Some (h, n) ≡ a_symbol head → is_proper_list arguments ≡ true
+pub head_symbol : (names : List Name) (s : WorldState) (head arguments : Object) (h n : Name) → Some (h, n) ≡ a_symbol head → is_proper_list arguments ≡ true
     → value names s (pair head arguments) ≡ form_value s (cond (bytes_eq h common_lisp) (operator_named names n) None) arguments (parts names s arguments)
 head_symbol names s head arguments h n is proper =
     let same : head ≡ symbol h n = symbol_of_some head (h, n) (sym is) in
     subst (λ k. value names s (pair k arguments) ≡ form_value s (cond (bytes_eq h common_lisp) (operator_named names n) None) arguments (parts names s arguments)) (sym same)
     (head_value names s (symbol h n) arguments refl proper)
 
-pub head_other : (names : List Name) (s : State) (head arguments : Object) → None ≡ a_symbol head → value names s (pair head arguments) ≡ Err NOT_A_FORM
+pub head_other : (names : List Name) (s : WorldState) (head arguments : Object) → None ≡ a_symbol head → value names s (pair head arguments) ≡ Err NOT_A_FORM
 unfolding value
 head_other names s (symbol h n) arguments is = absurd (none_some (h, n) is)
 head_other names s (integer n) arguments is = refl
@@ -92,13 +92,13 @@ head_other names s (pair a b) arguments is = refl
 head_other names s (vector xs) arguments is = refl
 
 -- no operator
-pub head_unknown : (names : List Name) (s : State) (head arguments : Object) (h n : Name) → Some (h, n) ≡ a_symbol head → is_proper_list arguments ≡ true
+pub head_unknown : (names : List Name) (s : WorldState) (head arguments : Object) (h n : Name) → Some (h, n) ≡ a_symbol head → is_proper_list arguments ≡ true
     → cond (bytes_eq h common_lisp) (operator_named names n) None ≡ None → value names s (pair head arguments) ≡ Err UNKNOWN_OPERATOR
 head_unknown names s head arguments h n is proper none =
     head_symbol names s head arguments h n is proper ∙ ap (λ o. form_value s o arguments (parts names s arguments)) none
 
 -- a wrong count, and a right one
-pub head_count : (names : List Name) (s : State) (head arguments : Object) (h n : Name) (operation : Operation) (number : ℕ) → Some (h, n) ≡ a_symbol head → is_proper_list arguments ≡ true
+pub head_count : (names : List Name) (s : WorldState) (head arguments : Object) (h n : Name) (operation : Operation) (number : ℕ) → Some (h, n) ≡ a_symbol head → is_proper_list arguments ≡ true
     → bytes_eq h common_lisp ≡ true → Some (operator names operation) ≡ operator_named names n → count arguments ≡ number → counts (operator names operation) number ≡ false → value names s (pair head arguments) ≡ Err ARGUMENT_COUNT
 head_count names s head arguments h n operation number is proper home named counted wrong =
     head_symbol names s head arguments h n is proper
@@ -106,7 +106,7 @@ head_count names s head arguments h n operation number is proper home named coun
     ∙ ap (λ o. form_value s o arguments (parts names s arguments)) (sym named)
     ∙ ap (λ b. cond (not b) (Err ARGUMENT_COUNT) (action_value s (action_of names operation) arguments (parts names s arguments))) (ap (counts (operator names operation)) counted ∙ wrong)
 
-pub head_acts : (names : List Name) (s : State) (head arguments : Object) (h n : Name) (operation : Operation) (number : ℕ) → Some (h, n) ≡ a_symbol head → is_proper_list arguments ≡ true
+pub head_acts : (names : List Name) (s : WorldState) (head arguments : Object) (h n : Name) (operation : Operation) (number : ℕ) → Some (h, n) ≡ a_symbol head → is_proper_list arguments ≡ true
     → bytes_eq h common_lisp ≡ true → Some (operator names operation) ≡ operator_named names n → count arguments ≡ number → counts (operator names operation) number ≡ true
     → value names s (pair head arguments) ≡ action_value s (action_of names operation) arguments (parts names s arguments)
 head_acts names s head arguments h n operation number is proper home named counted right =

@@ -6,7 +6,7 @@ use Rattle.std.proofs.Common.{Bool, true, false, not, ◌&&◌, ◌||◌, ◌==�
 use Rattle.std.specs.Prelude.{ℕ}
 use Rattle.lisp_object.specs.Object.{Object, integer, rational, character, text, symbol, uninterned, pair, vector, nil, is_proper_list}
 use Rattle.package_table.specs.Table.{Name, common_lisp, keyword}
-use Rattle.plist_state.specs.State.{State}
+use Rattle.plist_state.specs.State.{WorldState}
 use Rattle.lisp_operators.specs.Kinds.{is_true}
 use Rattle.lisp_operators.specs.Evaluation.{Evaluation, gives, and_then}
 use Rattle.lisp_operators.specs.Properties.{list, get, set, remove, symbol_plist, increment, push}
@@ -40,7 +40,7 @@ place_numbered place = either_numbered (is_case_place place) (case_place_refusal
 
 -- What is asked of a form before it is evaluated, what is said of its value and of the values of forms, and what is said of a
 -- function of values.
-module _ (names : List Name) (Asks : State → Object → Type 0) (One : State → Evaluation Object → Type 0) (All : State → Evaluation (List Object) → Type 0) (Function : (List Object → State → Evaluation Object) → Type 0) where
+module _ (names : List Name) (Asks : WorldState → Object → Type 0) (One : WorldState → Evaluation Object → Type 0) (All : WorldState → Evaluation (List Object) → Type 0) (Function : (List Object → WorldState → Evaluation Object) → Type 0) where
   pub record Operators : Type 0 where
     pub lists : Function list
     pub gets : Function get
@@ -66,30 +66,30 @@ module _ (names : List Name) (Asks : State → Object → Type 0) (One : State �
     pub gets_dispatch : Function get_dispatch
 
   -- what is asked of a form stays so from the first state to the second
-  abbrev pub Later : State → State → Type 0
+  abbrev pub Later : WorldState → WorldState → Type 0
   Later s t = (x : Object) → Asks s x → Asks t x
 
   pub record Steps : Type 0 where
     pub operators : Operators
     pub last_one : Function (λ xs later. gives (last xs) later)
-    pub in_package : (s : State) (x asked : Object) → Asks s asked → One s (enter x s)
-    pub refused : (s : State) (code : ℕ) → IsNumber code → One s (Err code)
-    pub all_refused : (s : State) (code : ℕ) → IsNumber code → All s (Err code)
-    pub itself : (s : State) (x : Object) → Asks s x → One s (gives x s)
-    pub nothing : (s : State) (asked : Object) → Asks s asked → One s (gives nil s)
-    pub current_package : (s : State) (asked : Object) → Asks s asked → One s (gives (text s.current_package) s)
-    pub current_readtable : (s : State) (asked : Object) → Asks s asked → One s (gives (a_keyword_of s.current_readtable) s)
-    pub none : (s : State) (asked : Object) → Asks s asked → All s (gives [] s)
-    pub parts : (s : State) (a b : Object) → Asks s (pair a b) → Asks s a × Asks s b
+    pub in_package : (s : WorldState) (x asked : Object) → Asks s asked → One s (enter x s)
+    pub refused : (s : WorldState) (code : ℕ) → IsNumber code → One s (Err code)
+    pub all_refused : (s : WorldState) (code : ℕ) → IsNumber code → All s (Err code)
+    pub itself : (s : WorldState) (x : Object) → Asks s x → One s (gives x s)
+    pub nothing : (s : WorldState) (asked : Object) → Asks s asked → One s (gives nil s)
+    pub current_package : (s : WorldState) (asked : Object) → Asks s asked → One s (gives (text s.current_package) s)
+    pub current_readtable : (s : WorldState) (asked : Object) → Asks s asked → One s (gives (a_keyword_of s.current_readtable) s)
+    pub none : (s : WorldState) (asked : Object) → Asks s asked → All s (gives [] s)
+    pub parts : (s : WorldState) (a b : Object) → Asks s (pair a b) → Asks s a × Asks s b
     -- a value, and then others; values, and then others
-    pub one_more : (s : State) (o : Evaluation Object) (others : State → Evaluation (List Object)) → One s o → ((t : State) → Later s t → All t (others t))
+    pub one_more : (s : WorldState) (o : Evaluation Object) (others : WorldState → Evaluation (List Object)) → One s o → ((t : WorldState) → Later s t → All t (others t))
         → All s (and_then o (λ y later. and_then (others later) (λ ys end'. gives (y ∷ ys) end')))
-    pub more : (s : State) (o : Evaluation (List Object)) (others : State → Evaluation (List Object)) → All s o → ((t : State) → Later s t → All t (others t))
+    pub more : (s : WorldState) (o : Evaluation (List Object)) (others : WorldState → Evaluation (List Object)) → All s o → ((t : WorldState) → Later s t → All t (others t))
         → All s (and_then o (λ xs later. and_then (others later) (λ ys end'. gives (xs ++ ys) end')))
     -- a value, and then the one that it chooses
-    pub then_one : (s : State) (o : Evaluation Object) (next : Object → State → Evaluation Object) → One s o → ((y : Object) (t : State) → Later s t → One t (next y t)) → One s (and_then o next)
+    pub then_one : (s : WorldState) (o : Evaluation Object) (next : Object → WorldState → Evaluation Object) → One s o → ((y : Object) (t : WorldState) → Later s t → One t (next y t)) → One s (and_then o next)
     -- a function of values
-    pub of_values : (s : State) (o : Evaluation (List Object)) (function : List Object → State → Evaluation Object) → All s o → Function function → One s (and_then o function)
+    pub of_values : (s : WorldState) (o : Evaluation (List Object)) (function : List Object → WorldState → Evaluation Object) → All s o → Function function → One s (and_then o function)
 
   module _ (steps : Steps) where
     -- ---- the operators
@@ -144,24 +144,24 @@ module _ (names : List Name) (Asks : State → Object → Type 0) (One : State �
     of_head (vector xs) = tt
 
     -- ---- forms, by their parts
-    record PartsHold (s : State) (parts : Parts) : Type 0 where
+    record PartsHold (s : WorldState) (parts : Parts) : Type 0 where
       in_order : All s parts.in_order
       chosen : One s parts.chosen
       at_place : All s parts.at_place
       before_place : All s parts.before_place
 
-    if_one : (s : State) (b : Bool) (x y : Evaluation Object) → One s x → One s y → One s (cond b x y)
+    if_one : (s : WorldState) (b : Bool) (x y : Evaluation Object) → One s x → One s y → One s (cond b x y)
     if_one s true x y first second = first
     if_one s false x y first second = second
 
-    unless_one : (s : State) (o : Option ℕ) (on : Evaluation Object) → IsNumbered o → One s on → One s (unless o on)
+    unless_one : (s : WorldState) (o : Option ℕ) (on : Evaluation Object) → IsNumbered o → One s on → One s (unless o on)
     unless_one s (Some code) on number is = steps.refused s code number
     unless_one s None on number is = is
 
     set_place_holds : (place : Object) → Function (set_place place)
     set_place_holds place = elim (is_case_place place) as (λ b. Function (cond b set_case set)) [ true ↦ steps.operators.sets_case | false ↦ steps.operators.sets ]
 
-    quoted : (s : State) (arguments : Object) → Asks s arguments → One s (gives (first arguments) s)
+    quoted : (s : WorldState) (arguments : Object) → Asks s arguments → One s (gives (first arguments) s)
     quoted s (pair x xs) asks = steps.itself s x (steps.parts s x xs asks).0
     quoted s (symbol home name) asks = steps.nothing s (symbol home name) asks
     quoted s (integer n) asks = steps.nothing s (integer n) asks
@@ -171,7 +171,7 @@ module _ (names : List Name) (Asks : State → Object → Type 0) (One : State �
     quoted s (uninterned name) asks = steps.nothing s (uninterned name) asks
     quoted s (vector xs) asks = steps.nothing s (vector xs) asks
 
-    of_action : (s : State) (action : Action) (arguments : Object) (parts : Parts) → Asks s arguments → ActionHolds action → PartsHold s parts → One s (action_value s action arguments parts)
+    of_action : (s : WorldState) (action : Action) (arguments : Object) (parts : Parts) → Asks s arguments → ActionHolds action → PartsHold s parts → One s (action_value s action arguments parts)
     of_action s quotes arguments parts asks holds all = quoted s arguments asks
     of_action s sequence arguments parts asks holds all = steps.of_values s parts.in_order (λ xs later. gives (last xs) later) all.in_order steps.last_one
     of_action s chooses arguments parts asks holds all = all.chosen
@@ -184,12 +184,12 @@ module _ (names : List Name) (Asks : State → Object → Type 0) (One : State �
     of_action s enters_package arguments parts asks holds all = steps.in_package s (first arguments) arguments asks
     of_action s (calls function) arguments parts asks holds all = steps.of_values s parts.in_order function all.in_order holds
 
-    of_form : (s : State) (operator : Option Operator) (arguments : Object) (parts : Parts) → Asks s arguments → OperatorHolds operator → PartsHold s parts → One s (form_value s operator arguments parts)
+    of_form : (s : WorldState) (operator : Option Operator) (arguments : Object) (parts : Parts) → Asks s arguments → OperatorHolds operator → PartsHold s parts → One s (form_value s operator arguments parts)
     of_form s None arguments parts asks holds all = steps.refused s _ (omega arith, omega arith)
     of_form s (Some operator) arguments parts asks holds all =
         if_one s (not (counts operator (count arguments))) _ _ (steps.refused s _ (omega arith, omega arith)) (of_action s operator.action arguments parts asks holds all)
 
-    of_symbol : (s : State) (home name : List ℕ) → Asks s (symbol home name) → One s (symbol_value home name s)
+    of_symbol : (s : WorldState) (home name : List ℕ) → Asks s (symbol home name) → One s (symbol_value home name s)
     of_symbol s home name asks =
         if_one s (bytes_eq home keyword || is_standard (codes "T") (symbol home name) || is_standard (codes "NIL") (symbol home name)) _ _ (steps.itself s (symbol home name) asks)
         (if_one s (is_standard (codes "*PACKAGE*") (symbol home name)) _ _ (steps.current_package s (symbol home name) asks)
@@ -198,7 +198,7 @@ module _ (names : List Name) (Asks : State → Object → Type 0) (One : State �
     mutual
       unfolding value
 
-      pub every_value : (s : State) (x : Object) → Asks s x → One s (value names s x)
+      pub every_value : (s : WorldState) (x : Object) → Asks s x → One s (value names s x)
       every_value s (pair head arguments) asks =
           let given = (steps.parts s head arguments asks).1 in
           if_one s (not (is_interned head && is_proper_list arguments)) _ _ (steps.refused s _ (omega arith, omega arith))
@@ -217,7 +217,7 @@ module _ (names : List Name) (Asks : State → Object → Type 0) (One : State �
       every_value s (text characters) asks = steps.itself s (text characters) asks
       every_value s (vector xs) asks = steps.itself s (vector xs) asks
 
-      all_values : (s : State) (x : Object) → Asks s x → All s (values names s x)
+      all_values : (s : WorldState) (x : Object) → Asks s x → All s (values names s x)
       all_values s (pair x xs) asks =
           let both = steps.parts s x xs asks in
           steps.one_more s (value names s x) (λ later. values names later xs) (every_value s x both.0) (λ t still. all_values t xs (still xs both.1))
@@ -229,7 +229,7 @@ module _ (names : List Name) (Asks : State → Object → Type 0) (One : State �
       all_values s (text characters) asks = steps.none s (text characters) asks
       all_values s (vector xs) asks = steps.none s (vector xs) asks
 
-      of_choice : (s : State) (x : Object) → Asks s x → One s (choice names s x)
+      of_choice : (s : WorldState) (x : Object) → Asks s x → One s (choice names s x)
       of_choice s (pair test (pair then' others)) asks =
           let both = steps.parts s test (pair then' others) asks in
           let branches = steps.parts s then' others both.1 in
@@ -237,7 +237,7 @@ module _ (names : List Name) (Asks : State → Object → Type 0) (One : State �
           (λ x t still. if_one t (is_true x) (value names t then') (other_value names t others) (every_value t then' (still then' branches.0)) (of_other t others (still others branches.1)))
       of_choice s _ asks = steps.refused s _ (omega arith, omega arith)
 
-      of_other : (s : State) (x : Object) → Asks s x → One s (other_value names s x)
+      of_other : (s : WorldState) (x : Object) → Asks s x → One s (other_value names s x)
       of_other s (pair x xs) asks = every_value s x (steps.parts s x xs asks).0
       of_other s (symbol home name) asks = steps.nothing s (symbol home name) asks
       of_other s (uninterned name) asks = steps.nothing s (uninterned name) asks
@@ -247,14 +247,14 @@ module _ (names : List Name) (Asks : State → Object → Type 0) (One : State �
       of_other s (text characters) asks = steps.nothing s (text characters) asks
       of_other s (vector xs) asks = steps.nothing s (vector xs) asks
 
-      at_place : (s : State) (x : Object) → Asks s x → All s (values_at_place names s x)
+      at_place : (s : WorldState) (x : Object) → Asks s x → All s (values_at_place names s x)
       at_place s (pair (pair head subforms) forms) asks =
           let both = steps.parts s (pair head subforms) forms asks in
           let given = (steps.parts s head subforms both.0).1 in
           steps.more s (values names s subforms) (λ later. values names later forms) (all_values s subforms given) (λ t still. all_values t forms (still forms both.1))
       at_place s _ asks = steps.all_refused s _ (omega arith, omega arith)
 
-      before_place : (s : State) (x : Object) → Asks s x → All s (values_before_place names s x)
+      before_place : (s : WorldState) (x : Object) → Asks s x → All s (values_before_place names s x)
       before_place s (pair x (pair (pair head subforms) forms)) asks =
           let both = steps.parts s x (pair (pair head subforms) forms) asks in
           let place = steps.parts s (pair head subforms) forms both.1 in

@@ -3,7 +3,7 @@
 use Rattle.std.proofs.Common.{List}
 use Rattle.lisp_object.specs.Object.{Object}
 use Rattle.package_table.specs.Table.{Name}
-use Rattle.plist_state.specs.State.{State}
+use Rattle.plist_state.specs.State.{WorldState}
 use Rattle.lisp_operators.specs.Evaluation.{Evaluation}
 use Rattle.lisp_operators.proofs.Numbered.{Numbered, numbered_then}
 use Rattle.lisp_operators.proofs.NumberedOperators.{IsNumberedFunction, list_numbered, get_numbered, set_numbered, remove_numbered, symbol_plist_numbered, increment_numbered, push_numbered, make_numbered, enter_numbered, intern_numbered, export_numbered, import_numbered, use_numbered, case_numbered, set_case_numbered, copy_numbered, enter_readtable_numbered, set_syntax_numbered, set_macro_numbered, get_macro_numbered, make_dispatch_numbered, set_dispatch_numbered, get_dispatch_numbered}
@@ -11,10 +11,10 @@ use Rattle.evaluator.specs.Value.{value}
 use Rattle.evaluator.proofs.Induction.{Operators, Steps, every_value}
 
 module _ (names : List Name) where
-  abbrev Asks : State → Object → Type 0
+  abbrev Asks : WorldState → Object → Type 0
   Asks s x = Unit {0}
 
-  abbrev Of : {A : Type 0} → State → Evaluation A → Type 0
+  abbrev Of : {A : Type 0} → WorldState → Evaluation A → Type 0
   Of s o = Numbered o
 
   operators : Operators names Asks Of Of IsNumberedFunction
@@ -62,5 +62,5 @@ module _ (names : List Name) where
     of_values = λ s o function is numbered. numbered_then o function is numbered;
   }
 
-  pub value_numbered : (s : State) (x : Object) → Numbered (value names s x)
+  pub value_numbered : (s : WorldState) (x : Object) → Numbered (value names s x)
   value_numbered s x = every_value names Asks Of Of IsNumberedFunction steps s x tt

@@ -13,7 +13,7 @@ use Rattle.package_table.specs.Table.{Name, common_lisp, keyword, symbol_count, 
 use Rattle.package_table.specs.Lookup.{found, is_present, is_external, is_used}
 use Rattle.package_table.specs.Changes.{user_finds_other, with_external, finds_other_than_shown}
 use Rattle.plist_state.specs.Properties.{Symbol, Plist, value_at, with_value, same_symbol}
-use Rattle.plist_state.specs.State.{State, standard_name}
+use Rattle.plist_state.specs.State.{WorldState, standard_name}
 use Rattle.plist_state.specs.Changes.{plist, property, with_property, without_property, with_packages}
 use Rattle.plist_state.proofs.Lists.{list-with_list}
 use Rattle.plist_state.proofs.Orders.{symbol_tied}
@@ -62,7 +62,7 @@ nested zero = nil
 nested (suc k) = pair (nested k) nil
 
 -- what was put last
-pub property_put : (s : State) (x i : Symbol) (v : Object) → property (with_property s x i v) x i ≡ Some v
+pub property_put : (s : WorldState) (x i : Symbol) (v : Object) → property (with_property s x i v) x i ≡ Some v
 property_put s x i v = ap (λ ps. value_at ps i) (list-with_list s.properties x (with_value (plist s x) i v)) ∙ value_there (plist s x)
   where
     value_there : (ps : Plist) → value_at (with_value ps i v) i ≡ Some v

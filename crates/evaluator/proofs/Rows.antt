@@ -13,7 +13,7 @@ use Rattle.package_table.specs.Table.{Name, common_lisp, keyword, symbol_count, 
 use Rattle.package_table.specs.Lookup.{found, is_present, is_external, is_used}
 use Rattle.package_table.specs.Changes.{user_finds_other, with_external, finds_other_than_shown}
 use Rattle.plist_state.specs.Properties.{Symbol, Plist, value_at, with_value, same_symbol}
-use Rattle.plist_state.specs.State.{State, standard_name}
+use Rattle.plist_state.specs.State.{WorldState, standard_name}
 use Rattle.plist_state.specs.Changes.{plist, property, with_property, without_property, with_packages}
 use Rattle.plist_state.proofs.Lists.{list-with_list}
 use Rattle.plist_state.proofs.Orders.{symbol_tied}
@@ -23,7 +23,7 @@ use Rattle.lisp_operators.specs.Readtables.{name_or_nil}
 use Rattle.evaluator.specs.Value.{value}
 use Rattle.evaluator.proofs.RowForms.{property_put, own, named, standard, call, quoted, number, a_symbol, b_symbol, a, b, place, nested}
 
-module _ (s : State) where
+module _ (s : WorldState) where
   -- ---- what gives itself
   keyword_itself : value [] s (named (codes "K")) ≡ gives (named (codes "K")) s
   unfolding value

@@ -3,14 +3,14 @@
 use Rattle.std.proofs.Common.{List, refl}
 use Rattle.lisp_object.specs.Object.{Object}
 use Rattle.package_table.specs.Table.{Name}
-use Rattle.plist_state.specs.State.{State}
+use Rattle.plist_state.specs.State.{WorldState}
 use Rattle.lisp_operators.proofs.Silence.{Keeps, keeps_then}
 use Rattle.lisp_operators.proofs.SilentOperators.{IsSilent, list_silent, get_silent, set_silent, remove_silent, symbol_plist_silent, increment_silent, push_silent, make_silent, enter_silent, intern_silent, export_silent, import_silent, use_silent, case_silent, set_case_silent, copy_silent, enter_readtable_silent, set_syntax_silent, set_macro_silent, get_macro_silent, make_dispatch_silent, set_dispatch_silent, get_dispatch_silent}
 use Rattle.evaluator.specs.Value.{value}
 use Rattle.evaluator.proofs.Induction.{Operators, Steps, every_value}
 
 module _ (names : List Name) where
-  abbrev Asks : State → Object → Type 0
+  abbrev Asks : WorldState → Object → Type 0
   Asks s x = Unit {0}
 
   operators : Operators names Asks Keeps Keeps IsSilent
@@ -58,5 +58,5 @@ module _ (names : List Name) where
     of_values = λ s o function is silent. keeps_then s o function is silent;
   }
 
-  pub value_silent : (s : State) (x : Object) → Keeps s (value names s x)
+  pub value_silent : (s : WorldState) (x : Object) → Keeps s (value names s x)
   value_silent s x = every_value names Asks Keeps Keeps IsSilent steps s x tt

@@ -6,7 +6,7 @@ use Rattle.lisp_object.specs.Object.{Object, text, nil}
 use Rattle.package_table.specs.Table as packages
 use Rattle.package_table.specs.Table.{Name, Table, keyword}
 use Rattle.package_table.specs.Growth.{Grows}
-use Rattle.plist_state.specs.State.{State}
+use Rattle.plist_state.specs.State.{WorldState}
 use Rattle.plist_state.specs.Sound.{IsValue, IsSound}
 use Rattle.lisp_operators.specs.Evaluation.{Evaluation, gives, and_then}
 use Rattle.lisp_operators.specs.Readtables.{AreFunctionNames, a_keyword_of}
@@ -18,11 +18,11 @@ use Rattle.lisp_operators.proofs.SoundReadtables.{case_safe, set_case_safe, copy
 use Rattle.evaluator.specs.Value.{value, last}
 use Rattle.evaluator.proofs.Induction.{Operators, Steps, every_value}
 
-abbrev Asks : State → Object → Type 0
+abbrev Asks : WorldState → Object → Type 0
 Asks s x = IsSound s × IsValue s.packages x
 
 -- what is asked of a form stays so in a sound state whose packages have grown
-stays : (s t : State) → IsSound t → Grows s.packages t.packages → (x : Object) → Asks s x → Asks t x
+stays : (s t : WorldState) → IsSound t → Grows s.packages t.packages → (x : Object) → Asks s x → Asks t x
 stays s t sound grows x asks = (sound, value_grown s.packages t.packages grows x asks.1)
 
 last_value : (u : Table) → packages.IsSound u → (xs : List Object) → AreValues u xs → IsValue u (last xs)
@@ -31,11 +31,11 @@ last_value u sound (x ∷ []) are = All-head (IsValue u) x [] are
 last_value u sound (x ∷ y ∷ ys) are = last_value u sound (y ∷ ys) (All-tail (IsValue u) x (y ∷ ys) are)
 
 -- one value, and then more
-cons_safe : (s : State) (y : Object) (o : Evaluation (List Object)) → IsValue s.packages y → Goods AreValues s o → Goods AreValues s (and_then o (λ ys end'. gives (y ∷ ys) end'))
+cons_safe : (s : WorldState) (y : Object) (o : Evaluation (List Object)) → IsValue s.packages y → Goods AreValues s o → Goods AreValues s (and_then o (λ ys end'. gives (y ∷ ys) end'))
 cons_safe s y o is safe =
     goods_then AreValues AreValues s o _ safe (λ ys end' sound grows are. goods_here AreValues end' (y ∷ ys) false sound (All-cons (IsValue end'.packages) y ys (value_grown s.packages end'.packages grows y is) are))
 
-append_safe : (s : State) (xs : List Object) (o : Evaluation (List Object)) → AreValues s.packages xs → Goods AreValues s o → Goods AreValues s (and_then o (λ ys end'. gives (xs ++ ys) end'))
+append_safe : (s : WorldState) (xs : List Object) (o : Evaluation (List Object)) → AreValues s.packages xs → Goods AreValues s o → Goods AreValues s (and_then o (λ ys end'. gives (xs ++ ys) end'))
 append_safe s xs o before safe =
     goods_then AreValues AreValues s o _ safe (λ ys end' sound grows are. goods_here AreValues end' (xs ++ ys) false sound (All-append (IsValue end'.packages) xs ys (values_grown s.packages end'.packages grows xs before) are))
 
@@ -85,5 +85,5 @@ module _ (names : List Name) (all : AreFunctionNames names) where
     of_values = λ s o function is safe. goods_then AreValues IsValue s o function is (λ xs t sound grows are. safe xs t sound are);
   }
 
-  pub value_safe : (s : State) (x : Object) → IsSound s → IsValue s.packages x → Goods IsValue s (value names s x)
+  pub value_safe : (s : WorldState) (x : Object) → IsSound s → IsValue s.packages x → Goods IsValue s (value names s x)
   value_safe s x sound is = every_value names Asks (Goods IsValue) (Goods AreValues) IsSafe steps s x (sound, is)

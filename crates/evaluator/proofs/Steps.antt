@@ -17,7 +17,7 @@ use Rattle.lisp_object.proofs.Objects.{object_of-List, object_of-dotted}
 use Rattle.lisp_object.proofs.ProperLists.{items_of_proper}
 use Rattle.package_table.specs.Table.{Name, Table}
 use Rattle.package_table.specs.Growth.{Grows}
-use Rattle.plist_state.specs.State.{State}
+use Rattle.plist_state.specs.State.{WorldState}
 use Rattle.plist_state.specs.Sound.{IsSound, IsValue}
 use Rattle.lisp_operators.specs.declared.error.EvaluationError.{EvaluationError}
 use Rattle.lisp_operators.specs.declared.error.EvaluationError.TheVariants.{Refused, OutOfMemory}
@@ -33,11 +33,11 @@ use Rattle.evaluator.proofs.SoundForms.{value_safe}
 use Rattle.lisp_operators.proofs.Shapes.{dotted_pair}
 
 -- ---- atoms, and lists that do not end in NIL
-pub value_symbol : (names : List Name) (s : State) (home name : Name) → value names s (symbol home name) ≡ symbol_value home name s
+pub value_symbol : (names : List Name) (s : WorldState) (home name : Name) → value names s (symbol home name) ≡ symbol_value home name s
 unfolding value
 value_symbol names s home name = refl
 
-pub value_uninterned : (names : List Name) (s : State) (name : Name) → value names s (uninterned name) ≡ Err NOT_A_FORM
+pub value_uninterned : (names : List Name) (s : WorldState) (name : Name) → value names s (uninterned name) ≡ Err NOT_A_FORM
 unfolding value
 value_uninterned names s name = refl
 
@@ -47,7 +47,7 @@ is_constant (uninterned name) = false
 is_constant (pair a b) = false
 is_constant _ = true
 
-pub value_constant : (names : List Name) (s : State) (x : Object) → is_constant x ≡ true → value names s x ≡ gives x s
+pub value_constant : (names : List Name) (s : WorldState) (x : Object) → is_constant x ≡ true → value names s x ≡ gives x s
 unfolding value
 value_constant names s (integer n) e = refl
 value_constant names s (rational n d) e = refl
@@ -58,11 +58,11 @@ value_constant names s (symbol h n) e = absurd (false≢true e)
 value_constant names s (uninterned n) e = absurd (false≢true e)
 value_constant names s (pair a b) e = absurd (false≢true e)
 
-value_improper : (names : List Name) (s : State) (a b : Object) → is_proper_list b ≡ false → value names s (pair a b) ≡ Err NOT_A_FORM
+value_improper : (names : List Name) (s : WorldState) (a b : Object) → is_proper_list b ≡ false → value names s (pair a b) ≡ Err NOT_A_FORM
 unfolding value
 value_improper names s a b e = rw (e, and-false) refl
 
-pub value_dotted : (names : List Name) (s : State) (d : Datum) (items : List Datum) (tail : Option Datum) → d ≡ Datum.List items tail → is_proper d ≡ true → is_some tail ≡ true → value names s (object_of d) ≡ Err NOT_A_FORM
+pub value_dotted : (names : List Name) (s : WorldState) (d : Datum) (items : List Datum) (tail : Option Datum) → d ≡ Datum.List items tail → is_proper d ≡ true → is_some tail ≡ true → value names s (object_of d) ≡ Err NOT_A_FORM
 value_dotted names s d items tail is proper some =
     let shape = dotted_pair d items tail is proper some in
     ap (value names s) shape.2 ∙ value_improper names s shape.0 shape.1 shape.3
@@ -93,7 +93,7 @@ pub argument_grown : (u v : Table) → Grows u v → (d : Datum) → IsArgument 
 argument_grown u v grows d is = record { proper = is.proper; value = value_grown u v grows (object_of d) is.value }
 
 -- ---- the value of a form is good
-pub good_value : (names : List Name) (s : State) (x : Object) (d : Done Object) → AreFunctionNames names → IsSound s → IsValue s.packages x → value names s x ≡ Ok d → IsGood IsValue s d
+pub good_value : (names : List Name) (s : WorldState) (x : Object) (d : Done Object) → AreFunctionNames names → IsSound s → IsValue s.packages x → value names s x ≡ Ok d → IsGood IsValue s d
 good_value names s x d all sound is e = (subst (Goods IsValue s) e (value_safe names all s x sound is)).good
 
 -- ---- forms one after the other
@@ -109,7 +109,7 @@ same_values (Ok d) = ap (λ b. Ok (record { value = d.value; state = d.state; wr
     or_false false = refl
 same_values (Err code) = refl
 
-pub followed_start : (names : List Name) (s : State) (forms : Object) → followed names [] false s forms ≡ values names s forms
+pub followed_start : (names : List Name) (s : WorldState) (forms : Object) → followed names [] false s forms ≡ values names s forms
 followed_start names s forms = also_nothing (and_then (values names s forms) (λ ys end'. gives ([] ++ ys) end')) ∙ same_values (values names s forms)
 
 -- with the value of the first
@@ -134,12 +134,12 @@ forms_from forms i f within is =
     ap (λ l. list_of (map object_of l)) (drop-cons forms i f within) ∙ ap (λ d. pair (object_of d) (list_of (map object_of (drop (suc i) forms)))) (sym is)
     ∙ ap (λ n. pair (object_of f) (list_of (map object_of (drop n forms)))) (sym (add-one i))
 
-value_first : (names : List Name) (s : State) (x rest : Object) (y : Object) (t : State) (v : Bool) → value names s x ≡ Ok (record { value = y; state = t; wrote = v })
+value_first : (names : List Name) (s : WorldState) (x rest : Object) (y : Object) (t : WorldState) (v : Bool) → value names s x ≡ Ok (record { value = y; state = t; wrote = v })
     → values names s (pair x rest) ≡ also v (and_then (values names t rest) (λ ys end'. gives (y ∷ ys) end'))
 unfolding value
 value_first names s x rest y t v e = ap (λ o. and_then o (λ y later. and_then (values names later rest) (λ ys end'. gives (y ∷ ys) end'))) e
 
-pub followed_step : (names : List Name) (xs : List Object) (w : Bool) (s : State) (forms : List Datum) (i : ℕ) (f : Datum) (y : Object) (t : State) (v : Bool) → i < length forms → f ≡ get_or forms i f
+pub followed_step : (names : List Name) (xs : List Object) (w : Bool) (s : WorldState) (forms : List Datum) (i : ℕ) (f : Datum) (y : Object) (t : WorldState) (v : Bool) → i < length forms → f ≡ get_or forms i f
     → value names s (object_of f) ≡ Ok (record { value = y; state = t; wrote = v })
     → followed names xs w s (list_of (map object_of (drop i forms))) ≡ followed names (xs ++ y ∷ []) (w || v) t (list_of (map object_of (drop (i + 1) forms)))
 followed_step names xs w s forms i f y t v within is e =
@@ -147,21 +147,21 @@ followed_step names xs w s forms i f y t v within is e =
     ∙ ap (λ o. also w (and_then o (λ ys end'. gives (xs ++ ys) end'))) (value_first names s (object_of f) (list_of (map object_of (drop (i + 1) forms))) y t v e)
     ∙ next xs w y v (values names t (list_of (map object_of (drop (i + 1) forms))))
 
-refused_first : (names : List Name) (s : State) (x rest : Object) (code : ℕ) → value names s x ≡ Err code → values names s (pair x rest) ≡ Err code
+refused_first : (names : List Name) (s : WorldState) (x rest : Object) (code : ℕ) → value names s x ≡ Err code → values names s (pair x rest) ≡ Err code
 unfolding value
 refused_first names s x rest code e = ap (λ o. and_then o (λ y later. and_then (values names later rest) (λ ys end'. gives (y ∷ ys) end'))) e
 
-pub followed_refused : (names : List Name) (xs : List Object) (w : Bool) (s : State) (forms : List Datum) (i : ℕ) (f : Datum) (code : ℕ) → i < length forms → f ≡ get_or forms i f
+pub followed_refused : (names : List Name) (xs : List Object) (w : Bool) (s : WorldState) (forms : List Datum) (i : ℕ) (f : Datum) (code : ℕ) → i < length forms → f ≡ get_or forms i f
     → value names s (object_of f) ≡ Err code → followed names xs w s (list_of (map object_of (drop i forms))) ≡ Err code
 followed_refused names xs w s forms i f code within is e =
     ap (followed names xs w s) (forms_from forms i f within is)
     ∙ ap (λ o. also w (and_then o (λ ys end'. gives (xs ++ ys) end'))) (refused_first names s (object_of f) (list_of (map object_of (drop (i + 1) forms))) code e)
 
-values_none : (names : List Name) (s : State) → values names s nil ≡ gives [] s
+values_none : (names : List Name) (s : WorldState) → values names s nil ≡ gives [] s
 unfolding value
 values_none names s = refl
 
-pub followed_end : (names : List Name) (xs : List Object) (w : Bool) (s : State) (forms : List Datum) → followed names xs w s (list_of (map object_of (drop (length forms) forms))) ≡ Ok (record { value = xs; state = s; wrote = w })
+pub followed_end : (names : List Name) (xs : List Object) (w : Bool) (s : WorldState) (forms : List Datum) → followed names xs w s (list_of (map object_of (drop (length forms) forms))) ≡ Ok (record { value = xs; state = s; wrote = w })
 followed_end names xs w s forms =
     ap (λ l. followed names xs w s (list_of (map object_of l))) (drop-length forms)
     ∙ ap (λ o. also w (and_then o (λ ys end'. gives (xs ++ ys) end'))) (values_none names s)
@@ -183,10 +183,10 @@ are_proper u (x ∷ xs) all = and_from (is_proper x) (list_all is_proper xs) ((A
 pub all_more : (v : Table) (xs ys : List Datum) (x : Datum) → ys ≡ xs ++ x ∷ [] → All (IsArgument v) xs → IsArgument v x → All (IsArgument v) ys
 all_more v xs ys x is all one = subst (All (IsArgument v)) (sym is) (All-append (IsArgument v) xs (x ∷ []) all (All-cons (IsArgument v) x [] one (All-nil (IsArgument v))))
 
-pub followed_stops : (names : List Name) (xs : List Object) (w : Bool) (s t u : State) (forms : List Datum) (i : ℕ) (f : Datum) (e : EvaluationError) (o : Evaluation (List Object)) → o ≡ followed names xs w s (list_of (map object_of (drop i forms)))
+pub followed_stops : (names : List Name) (xs : List Object) (w : Bool) (s t u : WorldState) (forms : List Datum) (i : ℕ) (f : Datum) (e : EvaluationError) (o : Evaluation (List Object)) → o ≡ followed names xs w s (list_of (map object_of (drop i forms)))
     → i < length forms → f ≡ get_or forms i f → Answers done (Err e) t (value names s (object_of f)) → Answers all_done (Err e) u o
 followed_stops names xs w s t u forms i f (Refused code) o same within is h = same ∙ followed_refused names xs w s forms i f code within is h
 followed_stops names xs w s t u forms i f OutOfMemory o same within is h = tt
 
-pub followed_at_end : (names : List Name) (xs : List Object) (w : Bool) (s : State) (forms : List Datum) (i : ℕ) → i ≡ length forms → followed names xs w s (list_of (map object_of (drop i forms))) ≡ Ok (record { value = xs; state = s; wrote = w })
+pub followed_at_end : (names : List Name) (xs : List Object) (w : Bool) (s : WorldState) (forms : List Datum) (i : ℕ) → i ≡ length forms → followed names xs w s (list_of (map object_of (drop i forms))) ≡ Ok (record { value = xs; state = s; wrote = w })
 followed_at_end names xs w s forms i is = ap (λ n. followed names xs w s (list_of (map object_of (drop n forms)))) is ∙ followed_end names xs w s forms

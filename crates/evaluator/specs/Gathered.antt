@@ -2,7 +2,7 @@
 use Rattle.std.specs.Prelude.{◌≡◌, ℕ, Bool, true, false, List, [], ◌∷◌, ◌++◌, map, Option, Some, None, Result, Ok, Err, IsOk}
 use Rattle.lisp_object.specs.Object.{Object, nil, list_of, is_proper_list, pair}
 use Rattle.package_table.specs.Table.{Name}
-use Rattle.plist_state.specs.State.{State}
+use Rattle.plist_state.specs.State.{WorldState}
 use Rattle.lisp_operators.specs.declared.error.EvaluationError.{EvaluationError}
 use Rattle.lisp_operators.specs.declared.error.EvaluationError.TheVariants.{Refused, OutOfMemory}
 use Rattle.lisp_object.specs.declared.refusal.TheConstants.{ARGUMENT_KIND}
@@ -20,7 +20,7 @@ use Rattle.evaluator.specs.Operations.{action_of, function_of}
 use Rattle.evaluator.specs.Value.{Parts, value, values, choice, values_at_place, values_before_place, action_value, place_refusal, get_place_refusal, is_case_place, rest}
 
 -- values that leave this state
-abbrev pub all_done : Values → State → Done (List Object)
+abbrev pub all_done : Values → WorldState → Done (List Object)
 all_done v s = record { value = map object_of v.values.items; state = s; wrote = v.wrote }
 
 -- the arguments of a form, of the list of what is in it
@@ -33,7 +33,7 @@ abbrev pub arguments_in : List Datum → Object
 arguments_in items = arguments_of (objects items)
 
 -- what the arguments of a form give
-abbrev pub parts : List Name → State → Object → Parts
+abbrev pub parts : List Name → WorldState → Object → Parts
 parts names s arguments = record {
   in_order = values names s arguments;
   chosen = choice names s arguments;
@@ -42,34 +42,34 @@ parts names s arguments = record {
 }
 
 -- what a form with this operator gives
-abbrev pub operation_value : List Name → Operation → Object → State → Evaluation Object
+abbrev pub operation_value : List Name → Operation → Object → WorldState → Evaluation Object
 operation_value names operation arguments s = action_value s (action_of names operation) arguments (parts names s arguments)
 
 -- The value of a form is told, that of a form with this operator, and what an operator makes of values, each from the first of
 -- two states to the second; and a value that leaves every state as it is.
-abbrev pub Evaluates : List Name → Object → State → State → Result Evaluated EvaluationError → Type 0
+abbrev pub Evaluates : List Name → Object → WorldState → WorldState → Result Evaluated EvaluationError → Type 0
 Evaluates names x old new result = Answers done result new (value names old x)
 
-abbrev pub Operates : List Name → Operation → List Datum → State → State → Result Evaluated EvaluationError → Type 0
+abbrev pub Operates : List Name → Operation → List Datum → WorldState → WorldState → Result Evaluated EvaluationError → Type 0
 Operates names operation items old new result = Answers done result new (operation_value names operation (arguments_in items) old)
 
-abbrev pub Performs : List Name → Operation → Bool → List Datum → State → State → Result Evaluated EvaluationError → Type 0
+abbrev pub Performs : List Name → Operation → Bool → List Datum → WorldState → WorldState → Result Evaluated EvaluationError → Type 0
 Performs names operation is_case values old new result = CarriesOut (function_of names operation is_case) values old new result
 
 abbrev pub HasValue : Object → Result Evaluated EvaluationError → Type 0
-HasValue x result = (s : State) → Answers done result s (gives x s)
+HasValue x result = (s : WorldState) → Answers done result s (gives x s)
 
 -- the values of forms after these values, where whether those wrote is known
-abbrev pub followed : List Name → List Object → Bool → State → Object → Evaluation (List Object)
+abbrev pub followed : List Name → List Object → Bool → WorldState → Object → Evaluation (List Object)
 followed names xs wrote s forms = also wrote (and_then (values names s forms) (λ ys end'. gives (xs ++ ys) end'))
 
 -- the same of the subforms of a place
-abbrev pub subforms : List Name → List Object → Bool → State → Object → Evaluation (List Object)
+abbrev pub subforms : List Name → List Object → Bool → WorldState → Object → Evaluation (List Object)
 subforms names xs wrote s (pair operator forms) = followed names xs wrote s forms
 subforms names xs wrote s _ = Err ARGUMENT_KIND
 
 -- what an operator takes of these
-abbrev pub gathered : List Name → State → Operation → Object → Evaluation (List Object)
+abbrev pub gathered : List Name → WorldState → Operation → Object → Evaluation (List Object)
 gathered names s Setf arguments = values_at_place names s arguments
 gathered names s Incf arguments = values_at_place names s arguments
 gathered names s Push arguments = values_before_place names s arguments
@@ -96,8 +96,8 @@ IsRefusal refusal (Err OutOfMemory) = ⊥
 -- What is at the head of a form of so many arguments: an operator that takes them, or the reason for which the form has no
 -- value.
 abbrev pub IsHead : List Name → Object → ℕ → Result Operation EvaluationError → Type 0
-IsHead names head n (Ok operation) = (s : State) (arguments : Object) → is_proper_list arguments ≡ true → count arguments ≡ n
+IsHead names head n (Ok operation) = (s : WorldState) (arguments : Object) → is_proper_list arguments ≡ true → count arguments ≡ n
     → value names s (pair head arguments) ≡ action_value s (action_of names operation) arguments (parts names s arguments)
-IsHead names head n (Err (Refused code)) = (s : State) (arguments : Object) → is_proper_list arguments ≡ true → count arguments ≡ n
+IsHead names head n (Err (Refused code)) = (s : WorldState) (arguments : Object) → is_proper_list arguments ≡ true → count arguments ≡ n
     → value names s (pair head arguments) ≡ Err code
 IsHead names head n (Err OutOfMemory) = ⊥

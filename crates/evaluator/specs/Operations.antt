@@ -2,7 +2,7 @@
 use Rattle.std.specs.Prelude.{ℕ, ◌+◌, ◌≤◌, Bool, true, false, if◌then◌else◌, List, [], ◌∷◌, bytes_eq, codes, Option, Some, None, IfSome, Err}
 use Rattle.lisp_object.specs.Object.{Object}
 use Rattle.lisp_object.specs.declared.refusal.TheConstants.{ARGUMENT_KIND}
-use Rattle.plist_state.specs.State.{State}
+use Rattle.plist_state.specs.State.{WorldState}
 use Rattle.package_table.specs.Table.{Name}
 use Rattle.evaluator.specs.declared.operation.Operation.{Operation}
 use Rattle.evaluator.specs.declared.operation.Operation.TheVariants.{Quote, Progn, If, MakeList, Get, Setf, Remprop, SymbolPlist, Incf, Push, MakePackage, InPackage, Export, Import, UsePackage, Intern, CopyReadtable, InReadtable, SetSyntaxFromChar, SetMacroCharacter, GetMacroCharacter, MakeDispatchMacroCharacter, SetDispatchMacroCharacter, GetDispatchMacroCharacter, ReadtableCase}
@@ -110,14 +110,14 @@ is_ordinary InPackage = false
 is_ordinary _ = true
 
 -- that function; SETF has two, as its place is a readtable's case or a property
-abbrev pub of_values : Action → List Object → State → Evaluation Object
+abbrev pub of_values : Action → List Object → WorldState → Evaluation Object
 of_values (calls function) xs s = function xs s
 of_values _ xs s = Err ARGUMENT_KIND
 
-abbrev pub set_either : Bool → List Object → State → Evaluation Object
+abbrev pub set_either : Bool → List Object → WorldState → Evaluation Object
 set_either is_case xs s = if is_case then set_case xs s else set xs s
 
-abbrev pub function_of : List Name → Operation → Bool → List Object → State → Evaluation Object
+abbrev pub function_of : List Name → Operation → Bool → List Object → WorldState → Evaluation Object
 function_of names Progn is_case xs s = gives (last xs) s
 function_of names Setf is_case xs s = set_either is_case xs s
 function_of names Incf is_case xs s = increment xs s

@@ -5,7 +5,7 @@ use Rattle.std.specs.Str.{bytes_eq}
 use Rattle.std.specs.Option.{option_map_or}
 use Rattle.lisp_object.specs.Object.{Object, symbol, pair, nil}
 use Rattle.package_table.specs.Table.{Name, common_lisp}
-use Rattle.plist_state.specs.State.{State}
+use Rattle.plist_state.specs.State.{WorldState}
 use Rattle.lisp_operators.specs.Evaluation.{Evaluation}
 use Rattle.lisp_operators.specs.Properties.{list, get, remove, symbol_plist}
 use Rattle.lisp_operators.specs.Packages.{make, intern, export, import, use_package}
@@ -20,7 +20,7 @@ pub data Action : Type 0 where
   increments : Action
   pushes : Action
   enters_package : Action
-  calls : (List Object → State → Evaluation Object) → Action
+  calls : (List Object → WorldState → Evaluation Object) → Action
 
 pub record Operator : Type 0 where
   -- how many arguments at least, and how many at most

@@ -4,7 +4,7 @@ use Rattle.std.specs.Str.{bytes_eq}
 use Rattle.lisp_object.specs.Object.{Object, text, symbol, uninterned, pair, nil, is_proper_list}
 use Rattle.lisp_object.specs.declared.refusal.TheConstants.{NOT_A_FORM, UNKNOWN_OPERATOR, ARGUMENT_COUNT, ARGUMENT_KIND}
 use Rattle.package_table.specs.Table.{Name, keyword}
-use Rattle.plist_state.specs.State.{State}
+use Rattle.plist_state.specs.State.{WorldState}
 use Rattle.lisp_operators.specs.Evaluation.{Evaluation, gives, and_then}
 use Rattle.lisp_operators.specs.Kinds.{is_true}
 use Rattle.lisp_operators.specs.Properties.{set, increment, push}
@@ -14,7 +14,7 @@ use Rattle.evaluator.specs.Operators.{Operator, Action, quotes, sequence, choose
 
 -- A symbol is a form where it is a keyword, T or NIL, which have themselves as their values, or the name of one of the two
 -- variables (standard 3.1.2.1.1).
-abbrev pub symbol_value : List ℕ → List ℕ → State → Evaluation Object
+abbrev pub symbol_value : List ℕ → List ℕ → WorldState → Evaluation Object
 symbol_value home name s =
     if bytes_eq home keyword || is_standard (codes "T") (symbol home name) || is_standard (codes "NIL") (symbol home name)
     then gives (symbol home name) s
@@ -54,7 +54,7 @@ is_case_place place = is_standard (codes "READTABLE-CASE") (first place)
 abbrev pub place_refusal : Object → Option ℕ
 place_refusal place = if is_case_place place then case_place_refusal place else get_place_refusal place
 
-abbrev pub set_place : Object → List Object → State → Evaluation Object
+abbrev pub set_place : Object → List Object → WorldState → Evaluation Object
 set_place place = if is_case_place place then set_case else set
 
 abbrev pub unless : Option ℕ → Evaluation Object → Evaluation Object
@@ -72,7 +72,7 @@ pub record Parts : Type 0 where
   -- a form, and then the subforms of a place
   pub before_place : Evaluation (List Object)
 
-abbrev pub action_value : State → Action → Object → Parts → Evaluation Object
+abbrev pub action_value : WorldState → Action → Object → Parts → Evaluation Object
 action_value s quotes arguments parts = gives (first arguments) s
 action_value s sequence arguments parts = and_then parts.in_order (λ xs later. gives (last xs) later)
 action_value s chooses arguments parts = parts.chosen
@@ -86,7 +86,7 @@ action_value s enters_package arguments parts = enter (first arguments) s
 action_value s (calls function) arguments parts = and_then parts.in_order function
 
 -- of an operator and its arguments: the operator is looked at first, then their number
-abbrev pub form_value : State → Option Operator → Object → Parts → Evaluation Object
+abbrev pub form_value : WorldState → Option Operator → Object → Parts → Evaluation Object
 form_value s None arguments parts = Err UNKNOWN_OPERATOR
 form_value s (Some operator) arguments parts =
     if not (counts operator (count arguments)) then Err ARGUMENT_COUNT
@@ -94,7 +94,7 @@ form_value s (Some operator) arguments parts =
 
 unfoldable mutual
   -- the value of a form, where these are the names of macro functions
-  pub value : List Name → State → Object → Evaluation Object
+  pub value : List Name → WorldState → Object → Evaluation Object
   value names s (pair operator arguments) =
       if not (is_interned operator && is_proper_list arguments) then Err NOT_A_FORM
       else form_value s (operator_of names operator) arguments
@@ -109,28 +109,28 @@ unfoldable mutual
   value names s x = gives x s
 
   -- the values of forms, from left to right (standard 3.1.2.1.2.3)
-  pub values : List Name → State → Object → Evaluation (List Object)
+  pub values : List Name → WorldState → Object → Evaluation (List Object)
   values names s (pair x xs) = and_then (value names s x) (λ y later. and_then (values names later xs) (λ ys end'. gives (y ∷ ys) end'))
   values names s _ = gives [] s
 
   -- IF (standard 5.3): NIL where the first is false and there is no third
-  pub choice : List Name → State → Object → Evaluation Object
+  pub choice : List Name → WorldState → Object → Evaluation Object
   choice names s (pair test (pair then' others)) =
       and_then (value names s test) (λ x later. if is_true x then value names later then' else other_value names later others)
   choice names s _ = Err ARGUMENT_COUNT
 
-  pub other_value : List Name → State → Object → Evaluation Object
+  pub other_value : List Name → WorldState → Object → Evaluation Object
   other_value names s (pair x xs) = value names s x
   other_value names s _ = gives nil s
 
   -- the values of a place's subforms, and of the forms after it (standard 5.1.1.1)
-  pub values_at_place : List Name → State → Object → Evaluation (List Object)
+  pub values_at_place : List Name → WorldState → Object → Evaluation (List Object)
   values_at_place names s (pair (pair operator subforms) forms) =
       and_then (values names s subforms) (λ xs later. and_then (values names later forms) (λ ys end'. gives (xs ++ ys) end'))
   values_at_place names s _ = Err ARGUMENT_KIND
 
   -- the value of a form, and then those of the subforms of the place after it
-  pub values_before_place : List Name → State → Object → Evaluation (List Object)
+  pub values_before_place : List Name → WorldState → Object → Evaluation (List Object)
   values_before_place names s (pair x (pair (pair operator subforms) forms)) =
       and_then (value names s x) (λ y later. and_then (values names later subforms) (λ ys end'. gives (y ∷ ys) end'))
   values_before_place names s _ = Err ARGUMENT_KIND

@@ -4,7 +4,7 @@ ghost use Rattle.std.specs.List.{list_all};
 ghost use Rattle.lisp_object.specs.Object.{Object};
 ghost use Rattle.lisp_object.specs.Datum.{object_of, is_proper};
 ghost use Rattle.package_table.specs.Table.{common_lisp};
-ghost use Rattle.plist_state.specs.State.{State};
+ghost use Rattle.plist_state.specs.State.{WorldState};
 ghost use Rattle.lisp_operators.specs.Kinds.{a_symbol};
 ghost use Rattle.lisp_operators.specs.Evaluation.{Evaluation, gives, also};
 ghost use Rattle.evaluator.specs.Operators.{first};
@@ -25,7 +25,7 @@ pub(crate) fn after(
     wrote: bool,
     evaluated: Result<Evaluated, EvaluationError>,
 ) -> Result<Evaluated, EvaluationError>
-    ensures gives { (s : State) (o : Evaluation Object)
+    ensures gives { (s : WorldState) (o : Evaluation Object)
         → Answers done evaluated s o → Answers done result s (also wrote o) }
     ensures proper { IfOk evaluated IsProperValue → IfOk result IsProperValue }
 {

@@ -3,7 +3,7 @@ ghost use Rattle.std.specs.Prelude.{ℕ, ◌≡◌, ◌≤◌, false, List, Ok, 
 ghost use Rattle.lisp_object.specs.Object.{Object};
 ghost use Rattle.package_table.specs.Growth.{Grows};
 ghost use Rattle.package_table.specs.Table.{Name};
-ghost use Rattle.plist_state.specs.State.{State};
+ghost use Rattle.plist_state.specs.State.{WorldState};
 ghost use Rattle.plist_state.specs.Sound.{IsSound, IsValue};
 ghost use Rattle.lisp_operators.specs.Evaluation.{Done};
 ghost use Rattle.lisp_operators.specs.Readtables.{AreCovered, AreFunctionNames};
@@ -11,14 +11,14 @@ ghost use Rattle.evaluator.specs.Value.{value};
 
 /// The value of a form that writes nothing leaves the state as it was. For proofs: it does nothing.
 pub fn silent_values_change_nothing()
-    ensures { (names : List Name) (s : State) (x : Object) (d : Done Object)
+    ensures { (names : List Name) (s : WorldState) (x : Object) (d : Done Object)
         → value names s x ≡ Ok d → d.wrote ≡ false → d.state ≡ s }
 {}
 
 /// In a sound state, the value of a form that may be stored leaves a sound state, in which no package, no symbol, no external
 /// name and no use of a package is lost, and may be stored there. For proofs: it does nothing.
 pub fn values_leave_sound_states()
-    ensures { (names : List Name) (s : State) (x : Object) (d : Done Object)
+    ensures { (names : List Name) (s : WorldState) (x : Object) (d : Done Object)
         → AreFunctionNames names → IsSound s → IsValue s.packages x → value names s x ≡ Ok d
         → IsSound d.state × Grows s.packages d.state.packages × IsValue d.state.packages d.value }
 {}
@@ -26,13 +26,13 @@ pub fn values_leave_sound_states()
 /// Where the readtables of a state name no function but those of the standard readtable and these names of macro functions, the
 /// value of a form leaves such readtables. For proofs: it does nothing.
 pub fn values_leave_covered_readtables()
-    ensures { (names : List Name) (s : State) (x : Object) (d : Done Object)
+    ensures { (names : List Name) (s : WorldState) (x : Object) (d : Done Object)
         → value names s x ≡ Ok d
         → AreCovered names s.readtables → AreCovered names d.state.readtables }
 {}
 
 /// A form has no value under a number of evaluation alone, 30 to 46. For proofs: it does nothing.
 pub fn values_are_refused_by_evaluation()
-    ensures { (names : List Name) (s : State) (x : Object) (code : ℕ)
+    ensures { (names : List Name) (s : WorldState) (x : Object) (code : ℕ)
         → value names s x ≡ Err code → (30 ≤ code) × (code ≤ 46) }
 {}

@@ -8,7 +8,7 @@ use Rattle.package_table.specs.declared.error.PackageError.{PackageError}
 use Rattle.package_table.specs.Table.{Name, Table}
 use Rattle.package_table.specs.Changes.{after_intern, intern_changes}
 use Rattle.plist_state.specs.Properties.{Symbol}
-use Rattle.plist_state.specs.State.{State}
+use Rattle.plist_state.specs.State.{WorldState}
 use Rattle.plist_state.specs.Changes.{with_packages}
 use Rattle.lisp_operators.specs.Evaluation.{Evaluation, Done}
 use Rattle.lisp_operators.specs.Readtables.{AreCovered}
@@ -31,17 +31,17 @@ symbol_still t x u is none =
       | Err e ↦ λ _ no. absurd (let other : Err e ≡ Ok u = no in cc)
     ] refl is
 
-still_after_symbols : (names : List Name) (s : State) (r : Result (Table × Bool) PackageError) (x : Object) → IsUnmoved s.packages false r → Keeps s (accepted names s r x)
+still_after_symbols : (names : List Name) (s : WorldState) (r : Result (Table × Bool) PackageError) (x : Object) → IsUnmoved s.packages false r → Keeps s (accepted names s r x)
 still_after_symbols names s (Ok p) x still =
     keeps_also s p.1 (with_packages s p.0) (value names (with_packages s p.0) x) (λ none. ap (with_packages s) (still none).1) (value_silent names (with_packages s p.0) x)
 still_after_symbols names s (Err e) x still = record { same = tt }
 
-accepted_keeps : (names : List Name) (s : State) (x : Object) → Keeps s (accept names s x)
+accepted_keeps : (names : List Name) (s : WorldState) (x : Object) → Keeps s (accept names s x)
 accepted_keeps names s x =
     still_after_symbols names s (with_symbols s.packages (symbols x)) x
     (one_unmoved after_symbol (λ u (y : Symbol). intern_changes u y.0 y.1) symbol_still s.packages false (symbols x))
 
-pub accepted_silent : (names : List Name) (s : State) (x : Object) (d : Done Object) → accept names s x ≡ Ok d → d.wrote ≡ false → d.state ≡ s
+pub accepted_silent : (names : List Name) (s : WorldState) (x : Object) (d : Done Object) → accept names s x ≡ Ok d → d.wrote ≡ false → d.state ≡ s
 accepted_silent names s x d is none = shown (accept names s x) (accepted_keeps names s x) is
   where
     shown : (o : Evaluation Object) → Keeps s o → o ≡ Ok d → d.state ≡ s
@@ -49,11 +49,11 @@ accepted_silent names s x d is none = shown (accept names s x) (accepted_keeps n
 
 -- ---- readtables
 module _ (names : List Name) where
-  covered_after_symbols : (s : State) (r : Result (Table × Bool) PackageError) (x : Object) → covering.Keeps names s (accepted names s r x)
+  covered_after_symbols : (s : WorldState) (r : Result (Table × Bool) PackageError) (x : Object) → covering.Keeps names s (accepted names s r x)
   covered_after_symbols s (Ok p) x = covering.keeps_also names s p.1 (with_packages s p.0) (value names (with_packages s p.0) x) (λ all. all) (value_covers names (with_packages s p.0) x)
   covered_after_symbols s (Err e) x = record { covered = tt }
 
-  pub accepted_covers : (s : State) (x : Object) (d : Done Object) → accept names s x ≡ Ok d → AreCovered names s.readtables → AreCovered names d.state.readtables
+  pub accepted_covers : (s : WorldState) (x : Object) (d : Done Object) → accept names s x ≡ Ok d → AreCovered names s.readtables → AreCovered names d.state.readtables
   accepted_covers s x d is = shown (accept names s x) (covered_after_symbols s (with_symbols s.packages (symbols x)) x) is
     where
       shown : (o : Evaluation Object) → covering.Keeps names s o → o ≡ Ok d → AreCovered names s.readtables → AreCovered names d.state.readtables
@@ -67,14 +67,14 @@ symbol_numbered u y = of_table (after_intern u y.0 y.1) (numbered_intern u y.0 y
     of_table (Ok p) is = tt
     of_table (Err e) is = is
 
-numbered_after_symbols : (names : List Name) (s : State) (r : Result (Table × Bool) PackageError) (x : Object) → IsPackagesNumbered r → Numbered (accepted names s r x)
+numbered_after_symbols : (names : List Name) (s : WorldState) (r : Result (Table × Bool) PackageError) (x : Object) → IsPackagesNumbered r → Numbered (accepted names s r x)
 numbered_after_symbols names s (Ok p) x is = numbered_also p.1 (value names (with_packages s p.0) x) (value_numbered names (with_packages s p.0) x)
 numbered_after_symbols names s (Err e) x is = record { number = is }
 
-accept_numbered : (names : List Name) (s : State) (x : Object) → Numbered (accept names s x)
+accept_numbered : (names : List Name) (s : WorldState) (x : Object) → Numbered (accept names s x)
 accept_numbered names s x =
     numbered_after_symbols names s (with_symbols s.packages (symbols x)) x
     (one_numbered after_symbol (λ u (y : Symbol). intern_changes u y.0 y.1) symbol_numbered s.packages false (symbols x))
 
-pub accepted_numbered : (names : List Name) (s : State) (x : Object) (code : ℕ) → accept names s x ≡ Err code → (30 ≤ code) × (code ≤ 46)
+pub accepted_numbered : (names : List Name) (s : WorldState) (x : Object) (code : ℕ) → accept names s x ≡ Err code → (30 ≤ code) × (code ≤ 46)
 accepted_numbered names s x code is = (subst Numbered is (accept_numbered names s x)).number

@@ -4,7 +4,7 @@ use Rattle.std.specs.FinMap as finite
 use Rattle.lisp_object.specs.Object.{Object, symbol, list_of}
 use Rattle.package_table.specs.Table.{Name, keyword, symbol_count, with_entry}
 use Rattle.package_table.specs.Lookup.{found}
-use Rattle.plist_state.specs.State.{State}
+use Rattle.plist_state.specs.State.{WorldState}
 use Rattle.plist_state.specs.Changes.{with_packages}
 use Rattle.lisp_operators.specs.Evaluation.{gives, writes}
 use Rattle.evaluator.specs.Value.{value}
@@ -13,7 +13,7 @@ use Rattle.form_eval.specs.Acceptance.{accept}
 abbrev named : Name → Object
 named name = symbol (codes "KEYWORD") name
 
-module _ (s : State) where
+module _ (s : WorldState) where
   symbols_first : finite.contains_key s.packages (codes "P") ≡ true → found s.packages (codes "P") (codes "FROB") ≡ None → nat_le 1000000 (symbol_count s.packages) ≡ true
       → accept [] s (list_of (symbol (codes "P") (codes "FROB") ∷ [])) ≡ Err 46
   unfolding value

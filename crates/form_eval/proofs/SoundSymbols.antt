@@ -21,7 +21,7 @@ use Rattle.package_table.proofs.Keeping.{present_at_home}
 use Rattle.package_table.proofs.Growing.{grows_same, grows_both}
 use Rattle.package_table.proofs.KeptChanges.{kept_intern}
 use Rattle.plist_state.specs.Properties.{Symbol}
-use Rattle.plist_state.specs.State.{State}
+use Rattle.plist_state.specs.State.{WorldState}
 use Rattle.plist_state.specs.Changes.{with_packages}
 use Rattle.plist_state.specs.Sound.{IsSymbol, IsKnown, IsValue, IsSound}
 use Rattle.plist_state.proofs.Soundness.{sound_packages}
@@ -159,13 +159,13 @@ all_of_mapped P f [] all = All-nil (λ x. P (f x))
 all_of_mapped P f (x ∷ xs) all = All-cons (λ x. P (f x)) x xs (All-head P (f x) (map f xs) all) (all_of_mapped P f xs (All-tail P (f x) (map f xs) all))
 
 -- where the symbols of a form are interned, it can be evaluated
-pub form_may : (s : State) (x : Object) (v : Table) (wrote : Bool) → packages.IsSound s.packages → IsForm s.packages x → with_symbols s.packages (symbols x) ≡ Ok (v, wrote) → IsValue v x
+pub form_may : (s : WorldState) (x : Object) (v : Table) (wrote : Bool) → packages.IsSound s.packages → IsForm s.packages x → with_symbols s.packages (symbols x) ≡ Ok (v, wrote) → IsValue v x
 form_may s x v wrote sound form is =
     let done : AllInterned s.packages v (symbols x) = subst (InternedWhere s.packages (symbols x)) is (all_interned s.packages false (symbols x) sound (symbols_can s.packages x form.object form.symbols)) in
     record { object = form.object; depth = form.depth; symbols = known_from s.packages v x form.symbols done.present }
 
 -- ---- whole forms
-module _ (names : List Name) (all : AreFunctionNames names) (s : State) (x : Object) (sound : IsSound s) (form : IsForm s.packages x) where
+module _ (names : List Name) (all : AreFunctionNames names) (s : WorldState) (x : Object) (sound : IsSound s) (form : IsForm s.packages x) where
   after_symbols : (r : Result (Table × Bool) PackageError) → InternedWhere s.packages (symbols x) r → Goods IsValue s (accepted names s r x)
   after_symbols (Ok p) done =
       goods_also IsValue s p.1 (with_packages s p.0) (value names (with_packages s p.0) x) done.grows
@@ -178,7 +178,7 @@ module _ (names : List Name) (all : AreFunctionNames names) (s : State) (x : Obj
       after_symbols (with_symbols s.packages (symbols x))
       (all_interned s.packages false (symbols x) sound.packages (symbols_can s.packages x form.object form.symbols))
 
-pub accepted_sound : (names : List Name) (s : State) (x : Object) (d : Done Object) → AreFunctionNames names → IsSound s → IsForm s.packages x → accept names s x ≡ Ok d → IsSoundAfter s d
+pub accepted_sound : (names : List Name) (s : WorldState) (x : Object) (d : Done Object) → AreFunctionNames names → IsSound s → IsForm s.packages x → accept names s x ≡ Ok d → IsSoundAfter s d
 accepted_sound names s x d all sound form is =
     let good = (subst (Goods IsValue s) is (of_accepted names all s x sound form)).good in
     record { sound = good.sound; grows = good.grows; value = good.value }

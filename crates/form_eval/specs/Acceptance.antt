@@ -7,7 +7,7 @@ use Rattle.package_table.specs.Table.{Name, Table}
 use Rattle.package_table.specs.Errors.{number_of}
 use Rattle.package_table.specs.Changes.{after_intern, intern_changes}
 use Rattle.plist_state.specs.Properties.{Symbol}
-use Rattle.plist_state.specs.State.{State}
+use Rattle.plist_state.specs.State.{WorldState}
 use Rattle.plist_state.specs.Changes.{with_packages}
 use Rattle.lisp_operators.specs.Evaluation.{Evaluation, also}
 use Rattle.lisp_operators.specs.declared.error.EvaluationError.{EvaluationError}
@@ -40,15 +40,15 @@ abbrev pub with_symbols : Table → List Symbol → Result (Table × Bool) Packa
 with_symbols packages xs = one_by_one after_symbol is_new packages false xs
 
 -- the value of a form, the state after it and whether it wrote; or the number of the refusal, and then nothing has changed
-abbrev pub accepted : List Name → State → Result (Table × Bool) PackageError → Object → Evaluation Object
+abbrev pub accepted : List Name → WorldState → Result (Table × Bool) PackageError → Object → Evaluation Object
 accepted names s (Ok p) x = also p.1 (value names (with_packages s p.0) x)
 accepted names s (Err e) x = Err (number_of e)
 
-abbrev pub accept : List Name → State → Object → Evaluation Object
+abbrev pub accept : List Name → WorldState → Object → Evaluation Object
 accept names s x = accepted names s (with_symbols s.packages (symbols x)) x
 
 -- a form as a transaction is answered what the definition says, from the first of two states to the second
-abbrev pub Transacts : List Name → Object → State → State → Result Evaluated EvaluationError → Type 0
+abbrev pub Transacts : List Name → Object → WorldState → WorldState → Result Evaluated EvaluationError → Type 0
 Transacts names x old new result = Answers done result new (accept names old x)
 
 -- a symbol by its home and its name, and such symbols

@@ -5,7 +5,7 @@ use Rattle.lisp_object.specs.Object.{Object, symbol, uninterned, AllAtoms, objec
 use Rattle.package_table.specs.Table.{Name, Table}
 use Rattle.package_table.specs.Lookup.{found}
 use Rattle.package_table.specs.Growth.{Grows}
-use Rattle.plist_state.specs.State.{State}
+use Rattle.plist_state.specs.State.{WorldState}
 use Rattle.plist_state.specs.Sound.{IsSound, IsValue}
 use Rattle.lisp_operators.specs.Evaluation.{Done}
 
@@ -23,7 +23,7 @@ pub record IsForm (t : Table) (x : Object) : Type 0 where
   pub symbols : AllAtoms (Fits t) x
 
 -- a sound state, in which no package, no symbol, no external name and no use is lost, and a value that may be stored
-pub record IsSoundAfter (s : State) (d : Done Object) : Type 0 where
+pub record IsSoundAfter (s : WorldState) (d : Done Object) : Type 0 where
   pub sound : IsSound d.state
   pub grows : Grows s.packages d.state.packages
   pub value : IsValue d.state.packages d.value

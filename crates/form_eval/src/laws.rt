@@ -2,7 +2,7 @@
 ghost use Rattle.std.specs.Prelude.{ℕ, ◌≡◌, ◌≤◌, false, List, Ok, Err};
 ghost use Rattle.lisp_object.specs.Object.{Object};
 ghost use Rattle.package_table.specs.Table.{Name};
-ghost use Rattle.plist_state.specs.State.{State};
+ghost use Rattle.plist_state.specs.State.{WorldState};
 ghost use Rattle.plist_state.specs.Sound.{IsSound};
 ghost use Rattle.lisp_operators.specs.Evaluation.{Done};
 ghost use Rattle.form_eval.specs.Acceptance.{accept};
@@ -11,7 +11,7 @@ ghost use Rattle.form_eval.specs.Laws.{IsForm, IsSoundAfter};
 
 /// A form that is accepted and does not write leaves the state of the world as it was. For proofs: it does nothing.
 pub fn silent_forms_change_nothing()
-    ensures { (names : List Name) (s : State) (x : Object) (d : Done Object)
+    ensures { (names : List Name) (s : WorldState) (x : Object) (d : Done Object)
         → accept names s x ≡ Ok d → d.wrote ≡ false → d.state ≡ s }
 {}
 
@@ -19,20 +19,20 @@ pub fn silent_forms_change_nothing()
 /// use of a package is lost, and its value may be stored there. Asked are the names of macro functions, and a form of depth
 /// at most 100 whose symbols fit the packages. For proofs: it does nothing.
 pub fn accepted_states_are_sound()
-    ensures { (names : List Name) (s : State) (x : Object) (d : Done Object)
+    ensures { (names : List Name) (s : WorldState) (x : Object) (d : Done Object)
         → AreFunctionNames names → IsSound s → IsForm s.packages x → accept names s x ≡ Ok d → IsSoundAfter s d }
 {}
 
 /// Where the readtables of a state name no function but those of the standard readtable and these names of macro functions, a
 /// form that is accepted leaves such readtables. For proofs: it does nothing.
 pub fn accepted_readtables_are_covered()
-    ensures { (names : List Name) (s : State) (x : Object) (d : Done Object)
+    ensures { (names : List Name) (s : WorldState) (x : Object) (d : Done Object)
         → accept names s x ≡ Ok d
         → AreCovered names s.readtables → AreCovered names d.state.readtables }
 {}
 
 /// A form is refused under a number of evaluation alone, 30 to 46. For proofs: it does nothing.
 pub fn refusals_are_of_evaluation()
-    ensures { (names : List Name) (s : State) (x : Object) (code : ℕ)
+    ensures { (names : List Name) (s : WorldState) (x : Object) (code : ℕ)
         → accept names s x ≡ Err code → (30 ≤ code) × (code ≤ 46) }
 {}

@@ -4,20 +4,20 @@
 use Rattle.std.proofs.Common.{Bool, true, false, cond, List, Option, Some, None, Ok, Err}
 use Rattle.std.specs.Option.{option_map_or}
 use Rattle.package_table.specs.Table.{Name}
-use Rattle.plist_state.specs.State.{State}
+use Rattle.plist_state.specs.State.{WorldState}
 use Rattle.lisp_operators.specs.Readtables.{AreCovered}
 use Rattle.lisp_operators.specs.Evaluation.{Evaluation, also, and_then, of_kind}
 
 module _ (names : List Name) where
-  abbrev pub Covers : {A : Type 0} → State → Evaluation A → Type 0
+  abbrev pub Covers : {A : Type 0} → WorldState → Evaluation A → Type 0
   Covers s (Ok d) = AreCovered names s.readtables → AreCovered names d.state.readtables
   Covers s (Err code) = Unit {0}
 
-  pub record Keeps {A : Type 0} (s : State) (o : Evaluation A) : Type 0 where
+  pub record Keeps {A : Type 0} (s : WorldState) (o : Evaluation A) : Type 0 where
     pub covered : Covers s o
 
-  module _ {A : Type 0} (s : State) where
-    pub keeps_also : (wrote : Bool) (t : State) (o : Evaluation A) → (AreCovered names s.readtables → AreCovered names t.readtables) → Keeps t o → Keeps s (also wrote o)
+  module _ {A : Type 0} (s : WorldState) where
+    pub keeps_also : (wrote : Bool) (t : WorldState) (o : Evaluation A) → (AreCovered names s.readtables → AreCovered names t.readtables) → Keeps t o → Keeps s (also wrote o)
     keeps_also wrote t (Ok d) before after = record { covered = λ all. after.covered (before all) }
     keeps_also wrote t (Err code) before after = record { covered = tt }
 
@@ -33,6 +33,6 @@ module _ (names : List Name) where
     keeps_option (Some x) on other each none = each x
     keeps_option None on other each none = none
 
-  pub keeps_then : {A B : Type 0} (s : State) (o : Evaluation A) (next : A → State → Evaluation B) → Keeps s o → ((x : A) (t : State) → Keeps t (next x t)) → Keeps s (and_then o next)
+  pub keeps_then : {A B : Type 0} (s : WorldState) (o : Evaluation A) (next : A → WorldState → Evaluation B) → Keeps s o → ((x : A) (t : WorldState) → Keeps t (next x t)) → Keeps s (and_then o next)
   keeps_then s (Ok d) next before after = keeps_also s d.wrote d.state (next d.value d.state) before.covered (after d.value d.state)
   keeps_then s (Err code) next before after = record { covered = tt }

@@ -25,7 +25,7 @@ use Rattle.package_table.proofs.Names.{name_total}
 use Rattle.plist_state.specs.declared.error.ReadtableError.{ReadtableError}
 use Rattle.plist_state.specs.declared.error.ReadtableError.TheVariants.{NoReadtable, StandardReadtable, Limit}
 use Rattle.plist_state.specs.Properties.{Symbol}
-use Rattle.plist_state.specs.State.{Readtables, State, standard_name}
+use Rattle.plist_state.specs.State.{Readtables, WorldState, standard_name}
 use Rattle.plist_state.specs.Changes.{plist, property, after_in_readtable, put_changed, with_changed, changed as changed_readtables, with_case, with_macro, with_dispatching, dispatched, refused_as, with_dispatch, with_syntax, with_copy, in_state}
 use Rattle.lisp_operators.specs.Kinds.{a_symbol, a_name, a_text, an_integer, a_character, a_keyword, a_source, a_case, one_or_each, given_or, given_or_nil, is_true}
 use Rattle.lisp_operators.specs.Evaluation.{Evaluation, gives}
@@ -37,14 +37,14 @@ use Rattle.lisp_operators.proofs.Covering as covering
 use Rattle.lisp_operators.proofs.Covering.{keeps_if, keeps_kind, keeps_option}
 
 module _ (names : List Name) where
-  abbrev Keeps : {A : Type 0} → State → Evaluation A → Type 0
+  abbrev Keeps : {A : Type 0} → WorldState → Evaluation A → Type 0
   Keeps = covering.Keeps names
 
-  abbrev pub IsCovering : (List Object → State → Evaluation Object) → Type 0
-  IsCovering function = (xs : List Object) (s : State) → Keeps s (function xs s)
+  abbrev pub IsCovering : (List Object → WorldState → Evaluation Object) → Type 0
+  IsCovering function = (xs : List Object) (s : WorldState) → Keeps s (function xs s)
 
   -- ---- property lists
-  built_covers : (s : State) (x : Object) (on : Evaluation Object) → Keeps s on → Keeps s (built x on)
+  built_covers : (s : WorldState) (x : Object) (on : Evaluation Object) → Keeps s on → Keeps s (built x on)
   built_covers s x on covers = keeps_if names s (nat_lt 100 (object_depth x)) _ _ (record { covered = tt }) (keeps_if names s (nat_lt 1000000 (object_size x)) _ on (record { covered = tt }) covers)
 
   pub list_covers : IsCovering list
@@ -59,7 +59,7 @@ module _ (names : List Name) where
   set_covers (x ∷ i ∷ v ∷ []) s = keeps_kind names s (a_symbol x) _ (λ x'. keeps_kind names s (a_symbol i) _ (λ i'. record { covered = λ all. all }))
   set_covers _ s = record { covered = tt }
 
-  removed_covers : (o : Option Object) (s later : State) → later.readtables ≡ s.readtables → Keeps s (removed o s later)
+  removed_covers : (o : Option Object) (s later : WorldState) → later.readtables ≡ s.readtables → Keeps s (removed o s later)
   removed_covers None s later same = record { covered = λ all. all }
   removed_covers (Some v) s later same = record { covered = subst (AreCovered names) (sym same) }
 
@@ -83,10 +83,10 @@ module _ (names : List Name) where
   push_covers _ s = record { covered = tt }
 
   -- ---- packages
-  in_package_covers : {A : Type 0} (s : State) (n : Name) (on : Name → Evaluation A) → ((p : Name) → Keeps s (on p)) → Keeps s (in_package s n on)
+  in_package_covers : {A : Type 0} (s : WorldState) (n : Name) (on : Name → Evaluation A) → ((p : Name) → Keeps s (on p)) → Keeps s (in_package s n on)
   in_package_covers s n on each = keeps_option names s (package_named s.packages n) on (Err NO_SUCH_PACKAGE) each (record { covered = tt })
 
-  made_covers : (s : State) (n : Name) (r : Result Table PackageError) → Keeps s (made s n r)
+  made_covers : (s : WorldState) (n : Name) (r : Result Table PackageError) → Keeps s (made s n r)
   made_covers s n (Ok packages) = record { covered = λ all. all }
   made_covers s n (Err e) = record { covered = tt }
 
@@ -94,10 +94,10 @@ module _ (names : List Name) where
   make_covers (x ∷ []) s = keeps_kind names s (a_name x) _ (λ n. made_covers s n (after_make s.packages n))
   make_covers _ s = record { covered = tt }
 
-  pub enter_covers : (x : Object) (s : State) → Keeps s (enter x s)
+  pub enter_covers : (x : Object) (s : WorldState) → Keeps s (enter x s)
   enter_covers x s = keeps_kind names s (a_name x) _ (λ n. in_package_covers s n _ (λ p. record { covered = λ all. all }))
 
-  interned_covers : (s : State) (n : Name) (changes : Bool) (r : Result (Name × Table) PackageError) → Keeps s (interned s n changes r)
+  interned_covers : (s : WorldState) (n : Name) (changes : Bool) (r : Result (Name × Table) PackageError) → Keeps s (interned s n changes r)
   interned_covers s n changes (Ok p) = record { covered = λ all. all }
   interned_covers s n changes (Err e) = record { covered = tt }
 
@@ -107,11 +107,11 @@ module _ (names : List Name) where
       keeps_kind names s (a_text x) _ (λ n. keeps_kind names s (given_or a_name s.current_package rest) _ (λ q. in_package_covers s q _ (λ p.
       interned_covers s n (intern_changes s.packages p n) (after_intern s.packages p n))))
 
-  changed_covers : (s : State) (r : Result (Table × Bool) PackageError) → Keeps s (changed s r)
+  changed_covers : (s : WorldState) (r : Result (Table × Bool) PackageError) → Keeps s (changed s r)
   changed_covers s (Ok p) = record { covered = λ all. all }
   changed_covers s (Err e) = record { covered = tt }
 
-  unlocked_covers : {A : Type 0} (s : State) (p : Name) (on : Evaluation A) → Keeps s on → Keeps s (unlocked p on)
+  unlocked_covers : {A : Type 0} (s : WorldState) (p : Name) (on : Evaluation A) → Keeps s on → Keeps s (unlocked p on)
   unlocked_covers s p on covers = keeps_if names s (is_locked p) (Err PACKAGE_IS_LOCKED) on (record { covered = tt }) covers
 
   pub export_covers : IsCovering export
@@ -127,7 +127,7 @@ module _ (names : List Name) where
       keeps_kind names s (one_or_each a_symbol x) _ (λ xs. keeps_kind names s (given_or a_name s.current_package rest) _ (λ q. in_package_covers s q _ (λ p. unlocked_covers s p _
       (changed_covers s _))))
 
-  use_all_covers : (s : State) (p : Name) (qs : List Name) → Keeps s (use_all s p qs)
+  use_all_covers : (s : WorldState) (p : Name) (qs : List Name) → Keeps s (use_all s p qs)
   use_all_covers s p qs =
       keeps_if names s (is_locked p || list_any (bytes_eq keyword) qs) _ _ (record { covered = tt })
       (changed_covers s _)
@@ -227,24 +227,24 @@ module _ (names : List Name) where
     from None there = tt
     from (Some table) there = into (bytes_eq n standard_name) full table there
 
-  readtables_cover : (s : State) (x : Object) (r : Result Readtables ReadtableError) → Leaves s.readtables r → Keeps s (after s x (in_state s r))
+  readtables_cover : (s : WorldState) (x : Object) (r : Result Readtables ReadtableError) → Leaves s.readtables r → Keeps s (after s x (in_state s r))
   readtables_cover s x (Ok later) leaves = record { covered = leaves }
   readtables_cover s x (Err e) leaves = record { covered = tt }
 
-  entered_covers : (s : State) (n : Name) (x : Object) → Keeps s (after s x (after_in_readtable s n))
+  entered_covers : (s : WorldState) (n : Name) (x : Object) → Keeps s (after s x (after_in_readtable s n))
   entered_covers s n x =
       elim (finite.contains_key s.readtables n) as (λ b. Keeps s (after s x (cond b (Ok (record s { current_readtable = n })) (Err NoReadtable)))) [
         | true ↦ record { covered = λ all. all }
         | false ↦ record { covered = tt }
       ]
 
-  in_readtable_covers : (s : State) (n : Name) (on : readtable.Table → Evaluation Object) → ((table : readtable.Table) → Keeps s (on table)) → Keeps s (in_readtable s n on)
+  in_readtable_covers : (s : WorldState) (n : Name) (on : readtable.Table → Evaluation Object) → ((table : readtable.Table) → Keeps s (on table)) → Keeps s (in_readtable s n on)
   in_readtable_covers s n on each = keeps_option names s (finite.get s.readtables n) on (Err NO_READTABLE) each (record { covered = tt })
 
-  changeable_covers : (s : State) (n : Name) (on : Evaluation Object) → Keeps s on → Keeps s (changeable s n on)
+  changeable_covers : (s : WorldState) (n : Name) (on : Evaluation Object) → Keeps s on → Keeps s (changeable s n on)
   changeable_covers s n on covers = in_readtable_covers s n _ (λ table. keeps_if names s (bytes_eq n standard_name) _ on (record { covered = tt }) covers)
 
-  function_covers : (s : State) (f : Name) (on : Evaluation Object) → (is_function names f ≡ true → Keeps s on) → Keeps s (a_function names f on)
+  function_covers : (s : WorldState) (f : Name) (on : Evaluation Object) → (is_function names f ≡ true → Keeps s on) → Keeps s (a_function names f on)
   function_covers s f on covers =
       elim (is_function names f) as (λ b. is_function names f ≡ b → Keeps s (cond b on (Err NO_MACRO))) [ true ↦ λ is. covers is | false ↦ λ _. record { covered = tt } ] refl
 

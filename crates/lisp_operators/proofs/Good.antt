@@ -6,30 +6,30 @@ use Rattle.std.specs.Option.{option_map_or}
 use Rattle.package_table.specs.Table as packages
 use Rattle.package_table.specs.Growth.{Grows}
 use Rattle.package_table.proofs.Growing.{grows_same, grows_both}
-use Rattle.plist_state.specs.State.{State}
+use Rattle.plist_state.specs.State.{WorldState}
 use Rattle.plist_state.specs.Sound.{IsSound}
 use Rattle.lisp_operators.specs.Evaluation.{Evaluation, Done, also, and_then, of_kind}
 
-pub record IsGood {A : Type 0} (P : packages.Table → A → Type 0) (s : State) (d : Done A) : Type 0 where
+pub record IsGood {A : Type 0} (P : packages.Table → A → Type 0) (s : WorldState) (d : Done A) : Type 0 where
   pub sound : IsSound d.state
   pub grows : Grows s.packages d.state.packages
   pub value : P d.state.packages d.value
 
-abbrev pub GoodWhere : {A : Type 0} → (packages.Table → A → Type 0) → State → Evaluation A → Type 0
+abbrev pub GoodWhere : {A : Type 0} → (packages.Table → A → Type 0) → WorldState → Evaluation A → Type 0
 GoodWhere P s (Ok d) = IsGood P s d
 GoodWhere P s (Err code) = Unit {0}
 
-pub record Goods {A : Type 0} (P : packages.Table → A → Type 0) (s : State) (o : Evaluation A) : Type 0 where
+pub record Goods {A : Type 0} (P : packages.Table → A → Type 0) (s : WorldState) (o : Evaluation A) : Type 0 where
   pub good : GoodWhere P s o
 
-module _ {A : Type 0} (P : packages.Table → A → Type 0) (s : State) where
+module _ {A : Type 0} (P : packages.Table → A → Type 0) (s : WorldState) where
   pub goods_here : (x : A) (wrote : Bool) → IsSound s → P s.packages x → Goods P s (Ok (record { value = x; state = s; wrote = wrote }))
   goods_here x wrote sound fits = record { good = record { sound = sound; grows = grows_same s.packages; value = fits } }
 
-  pub goods_state : (x : A) (t : State) (wrote : Bool) → IsSound t → Grows s.packages t.packages → P t.packages x → Goods P s (Ok (record { value = x; state = t; wrote = wrote }))
+  pub goods_state : (x : A) (t : WorldState) (wrote : Bool) → IsSound t → Grows s.packages t.packages → P t.packages x → Goods P s (Ok (record { value = x; state = t; wrote = wrote }))
   goods_state x t wrote sound grows fits = record { good = record { sound = sound; grows = grows; value = fits } }
 
-  pub goods_also : (wrote : Bool) (t : State) (o : Evaluation A) → Grows s.packages t.packages → Goods P t o → Goods P s (also wrote o)
+  pub goods_also : (wrote : Bool) (t : WorldState) (o : Evaluation A) → Grows s.packages t.packages → Goods P t o → Goods P s (also wrote o)
   goods_also wrote t (Ok d) grows after = record { good = record { sound = after.good.sound; grows = grows_both s.packages t.packages d.state.packages grows after.good.grows; value = after.good.value } }
   goods_also wrote t (Err code) grows after = record { good = tt }
 
@@ -45,8 +45,8 @@ module _ {A : Type 0} (P : packages.Table → A → Type 0) (s : State) where
   goods_option (Some x) on other each none = each x refl
   goods_option None on other each none = none
 
-pub goods_then : {A B : Type 0} (P : packages.Table → A → Type 0) (Q : packages.Table → B → Type 0) (s : State) (o : Evaluation A) (next : A → State → Evaluation B)
-    → Goods P s o → ((x : A) (t : State) → IsSound t → Grows s.packages t.packages → P t.packages x → Goods Q t (next x t)) → Goods Q s (and_then o next)
+pub goods_then : {A B : Type 0} (P : packages.Table → A → Type 0) (Q : packages.Table → B → Type 0) (s : WorldState) (o : Evaluation A) (next : A → WorldState → Evaluation B)
+    → Goods P s o → ((x : A) (t : WorldState) → IsSound t → Grows s.packages t.packages → P t.packages x → Goods Q t (next x t)) → Goods Q s (and_then o next)
 goods_then P Q s (Ok d) next before after =
     goods_also Q s d.wrote d.state (next d.value d.state) before.good.grows (after d.value d.state before.good.sound before.good.grows before.good.value)
 goods_then P Q s (Err code) next before after = record { good = tt }

@@ -19,7 +19,7 @@ use Rattle.package_table.specs.Changes.{after_make, after_intern, after_export, 
 use Rattle.package_table.specs.Errors as package_errors
 use Rattle.plist_state.specs.declared.error.ReadtableError.{ReadtableError}
 use Rattle.plist_state.specs.Refused as readtable_errors
-use Rattle.plist_state.specs.State.{Readtables, State, standard_name}
+use Rattle.plist_state.specs.State.{Readtables, WorldState, standard_name}
 use Rattle.plist_state.specs.Changes.{writable, put_changed, with_changed, changed, with_case, with_macro, with_dispatching, refused_as, dispatched, with_dispatch, with_syntax, with_copy}
 use Rattle.lisp_operators.specs.Evaluation.{Evaluation, also, and_then, of_kind}
 
@@ -51,7 +51,7 @@ module _ {A : Type 0} where
   numbered_option (Some x) on other each none = each x
   numbered_option None on other each none = none
 
-pub numbered_then : {A B : Type 0} (o : Evaluation A) (next : A → State → Evaluation B) → Numbered o → ((x : A) (t : State) → Numbered (next x t)) → Numbered (and_then o next)
+pub numbered_then : {A B : Type 0} (o : Evaluation A) (next : A → WorldState → Evaluation B) → Numbered o → ((x : A) (t : WorldState) → Numbered (next x t)) → Numbered (and_then o next)
 numbered_then (Ok d) next before after = numbered_also d.wrote (next d.value d.state) (after d.value d.state)
 numbered_then (Err code) next before after = record { number = before.number }
 

@@ -14,7 +14,7 @@ use Rattle.package_table.specs.Changes.{after_make, after_intern, after_export, 
 use Rattle.plist_state.specs.declared.error.ReadtableError.{ReadtableError}
 use Rattle.plist_state.specs.Properties.{Symbol}
 use Rattle.plist_state.specs.declared.error.ReadtableError.TheVariants.{NoReadtable}
-use Rattle.plist_state.specs.State.{Readtables, State, standard_name}
+use Rattle.plist_state.specs.State.{Readtables, WorldState, standard_name}
 use Rattle.plist_state.specs.Changes.{plist, property, after_in_readtable, with_case, with_macro, with_dispatching, with_dispatch, with_syntax, with_copy, in_state}
 use Rattle.lisp_operators.specs.Kinds.{a_symbol, a_name, a_text, an_integer, a_character, a_keyword, a_source, a_case, one_or_each, given_or, given_or_nil, is_true}
 use Rattle.lisp_operators.specs.Evaluation.{Evaluation, gives}
@@ -23,11 +23,11 @@ use Rattle.lisp_operators.specs.Packages.{then_others, one_by_one, in_package, m
 use Rattle.lisp_operators.specs.Readtables.{after, in_readtable, changeable, is_function, a_function, readtable_case, set_case, copy_readtable, enter_readtable, after_first, set_syntax, set_macro, get_macro, make_dispatch, set_dispatch, get_dispatch}
 use Rattle.lisp_operators.proofs.Numbered.{Numbered, IsPackagesNumbered, IsReadtablesNumbered, numbered_if, numbered_kind, numbered_option, numbered_make, numbered_intern, numbered_export, numbered_import, numbered_use, numbered_case, numbered_macro, numbered_dispatching, numbered_dispatch, numbered_syntax, numbered_copy}
 
-abbrev pub IsNumberedFunction : (List Object → State → Evaluation Object) → Type 0
-IsNumberedFunction function = (xs : List Object) (s : State) → Numbered (function xs s)
+abbrev pub IsNumberedFunction : (List Object → WorldState → Evaluation Object) → Type 0
+IsNumberedFunction function = (xs : List Object) (s : WorldState) → Numbered (function xs s)
 
 -- ---- property lists
-built_numbered : (s : State) (x : Object) (on : Evaluation Object) → Numbered on → Numbered (built x on)
+built_numbered : (s : WorldState) (x : Object) (on : Evaluation Object) → Numbered on → Numbered (built x on)
 built_numbered s x on silent = numbered_if (nat_lt 100 (object_depth x)) _ _ (record { number = (omega arith, omega arith) }) (numbered_if (nat_lt 1000000 (object_size x)) _ on (record { number = (omega arith, omega arith) }) silent)
 
 pub list_numbered : IsNumberedFunction list
@@ -42,7 +42,7 @@ pub set_numbered : IsNumberedFunction set
 set_numbered (x ∷ i ∷ v ∷ []) s = numbered_kind (a_symbol x) _ (λ x'. numbered_kind (a_symbol i) _ (λ i'. record { number = tt }))
 set_numbered _ s = record { number = (omega arith, omega arith) }
 
-removed_numbered : (o : Option Object) (s t : State) → Numbered (removed o s t)
+removed_numbered : (o : Option Object) (s t : WorldState) → Numbered (removed o s t)
 removed_numbered None s t = record { number = tt }
 removed_numbered (Some v) s t = record { number = tt }
 
@@ -66,10 +66,10 @@ push_numbered (v ∷ x ∷ i ∷ []) s = numbered_kind (a_symbol x) _ (λ x'. nu
 push_numbered _ s = record { number = (omega arith, omega arith) }
 
 -- ---- packages
-in_package_numbered : {A : Type 0} (s : State) (n : Name) (on : Name → Evaluation A) → ((p : Name) → Numbered (on p)) → Numbered (in_package s n on)
+in_package_numbered : {A : Type 0} (s : WorldState) (n : Name) (on : Name → Evaluation A) → ((p : Name) → Numbered (on p)) → Numbered (in_package s n on)
 in_package_numbered s n on each = numbered_option (package_named s.packages n) on (Err NO_SUCH_PACKAGE) each (record { number = (omega arith, omega arith) })
 
-made_numbered : (s : State) (n : Name) (r : Result Table PackageError) → IsPackagesNumbered r → Numbered (made s n r)
+made_numbered : (s : WorldState) (n : Name) (r : Result Table PackageError) → IsPackagesNumbered r → Numbered (made s n r)
 made_numbered s n (Ok packages) is = record { number = tt }
 made_numbered s n (Err e) is = record { number = is }
 
@@ -77,10 +77,10 @@ pub make_numbered : IsNumberedFunction make
 make_numbered (x ∷ []) s = numbered_kind (a_name x) _ (λ n. made_numbered s n (after_make s.packages n) (numbered_make s.packages n))
 make_numbered _ s = record { number = (omega arith, omega arith) }
 
-pub enter_numbered : (x : Object) (s : State) → Numbered (enter x s)
+pub enter_numbered : (x : Object) (s : WorldState) → Numbered (enter x s)
 enter_numbered x s = numbered_kind (a_name x) _ (λ n. in_package_numbered s n _ (λ p. record { number = tt }))
 
-interned_numbered : (s : State) (n : Name) (changes : Bool) (r : Result (Name × Table) PackageError) → IsPackagesNumbered r → Numbered (interned s n changes r)
+interned_numbered : (s : WorldState) (n : Name) (changes : Bool) (r : Result (Name × Table) PackageError) → IsPackagesNumbered r → Numbered (interned s n changes r)
 interned_numbered s n changes (Ok p) is = record { number = tt }
 interned_numbered s n changes (Err e) is = record { number = is }
 
@@ -99,11 +99,11 @@ module _ {A : Type 0} (change : Table → A → Result Table PackageError) (chan
         | Err e ↦ λ is. is
       ] (each u x)
 
-changed_numbered : (s : State) (r : Result (Table × Bool) PackageError) → IsPackagesNumbered r → Numbered (changed s r)
+changed_numbered : (s : WorldState) (r : Result (Table × Bool) PackageError) → IsPackagesNumbered r → Numbered (changed s r)
 changed_numbered s (Ok p) is = record { number = tt }
 changed_numbered s (Err e) is = record { number = is }
 
-unlocked_numbered : {A : Type 0} (s : State) (p : Name) (on : Evaluation A) → Numbered on → Numbered (unlocked p on)
+unlocked_numbered : {A : Type 0} (s : WorldState) (p : Name) (on : Evaluation A) → Numbered on → Numbered (unlocked p on)
 unlocked_numbered s p on silent = numbered_if (is_locked p) (Err PACKAGE_IS_LOCKED) on (record { number = (omega arith, omega arith) }) silent
 
 pub export_numbered : IsNumberedFunction export
@@ -119,7 +119,7 @@ import_numbered (x ∷ rest) s =
     numbered_kind (one_or_each a_symbol x) _ (λ xs. numbered_kind (given_or a_name s.current_package rest) _ (λ q. in_package_numbered s q _ (λ p. unlocked_numbered s p _
     (changed_numbered s _ (one_numbered (λ u (y : Symbol). after_import u p y.0 y.1) (λ u y. import_changes u p y.1) (λ u y. numbered_import u p y.0 y.1) s.packages false xs)))))
 
-use_all_numbered : (s : State) (p : Name) (qs : List Name) → Numbered (use_all s p qs)
+use_all_numbered : (s : WorldState) (p : Name) (qs : List Name) → Numbered (use_all s p qs)
 use_all_numbered s p qs =
     numbered_if (is_locked p || list_any (bytes_eq keyword) qs) _ _ (record { number = (omega arith, omega arith) })
     (changed_numbered s _ (one_numbered (λ u q. after_use u p q) (λ u q. use_changes u p q) (λ u q. numbered_use u p q) s.packages false qs))
@@ -131,24 +131,24 @@ use_numbered (x ∷ rest) s =
     numbered_option (packages_named s.packages ns) _ (Err NO_SUCH_PACKAGE) (λ qs. in_package_numbered s q _ (λ p. use_all_numbered s p qs)) (record { number = (omega arith, omega arith) })))
 
 -- ---- readtables
-after_numbered : (s : State) (x : Object) (r : Result Readtables ReadtableError) → IsReadtablesNumbered r → Numbered (after s x (in_state s r))
+after_numbered : (s : WorldState) (x : Object) (r : Result Readtables ReadtableError) → IsReadtablesNumbered r → Numbered (after s x (in_state s r))
 after_numbered s x (Ok m) is = record { number = tt }
 after_numbered s x (Err e) is = record { number = is }
 
-entered_numbered : (s : State) (n : Name) (x : Object) → Numbered (after s x (after_in_readtable s n))
+entered_numbered : (s : WorldState) (n : Name) (x : Object) → Numbered (after s x (after_in_readtable s n))
 entered_numbered s n x =
     elim (finite.contains_key s.readtables n) as (λ b. Numbered (after s x (cond b (Ok (record s { current_readtable = n })) (Err NoReadtable)))) [
       | true ↦ record { number = tt }
       | false ↦ record { number = (omega arith, omega arith) }
     ]
 
-in_readtable_numbered : (s : State) (n : Name) (on : readtable.Table → Evaluation Object) → ((table : readtable.Table) → Numbered (on table)) → Numbered (in_readtable s n on)
+in_readtable_numbered : (s : WorldState) (n : Name) (on : readtable.Table → Evaluation Object) → ((table : readtable.Table) → Numbered (on table)) → Numbered (in_readtable s n on)
 in_readtable_numbered s n on each = numbered_option (finite.get s.readtables n) on (Err NO_READTABLE) each (record { number = (omega arith, omega arith) })
 
-changeable_numbered : (s : State) (n : Name) (on : Evaluation Object) → Numbered on → Numbered (changeable s n on)
+changeable_numbered : (s : WorldState) (n : Name) (on : Evaluation Object) → Numbered on → Numbered (changeable s n on)
 changeable_numbered s n on silent = in_readtable_numbered s n _ (λ table. numbered_if (bytes_eq n standard_name) _ on (record { number = (omega arith, omega arith) }) silent)
 
-function_numbered : (s : State) (names : List Name) (f : Name) (on : Evaluation Object) → Numbered on → Numbered (a_function names f on)
+function_numbered : (s : WorldState) (names : List Name) (f : Name) (on : Evaluation Object) → Numbered on → Numbered (a_function names f on)
 function_numbered s names f on silent = numbered_if (is_function names f) on _ silent (record { number = (omega arith, omega arith) })
 
 pub case_numbered : IsNumberedFunction readtable_case

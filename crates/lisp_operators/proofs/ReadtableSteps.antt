@@ -11,7 +11,7 @@ use Rattle.readtable_core.specs.Tables.{Table}
 use Rattle.package_table.specs.Table.{Name}
 use Rattle.plist_state.specs.declared.error.ReadtableError.{ReadtableError}
 use Rattle.plist_state.specs.declared.error.ReadtableError.TheVariants.{NoReadtable, StandardReadtable, NotDispatching, DigitSubcharacter, Limit, OutOfMemory}
-use Rattle.plist_state.specs.State.{State, standard_name}
+use Rattle.plist_state.specs.State.{WorldState, standard_name}
 use Rattle.plist_state.specs.Changes.{writable, with_macro, with_dispatching, with_dispatch, Refused}
 use Rattle.lisp_operators.specs.declared.error.EvaluationError.{EvaluationError}
 use Rattle.lisp_operators.specs.declared.evaluated.Evaluated.{Evaluated}
@@ -23,14 +23,14 @@ use Rattle.lisp_operators.specs.Readtables.{after, with_readtables, changeable, 
 use Rattle.lisp_operators.specs.Evaluated.{Answers, done}
 use Rattle.lisp_operators.proofs.KindSteps.{kind_is}
 
-pub told_made : (s new : State) (said : Result State ReadtableError) (e : Evaluated) → object_of e.value ≡ t → e.wrote ≡ true → said ≡ Ok new → after s t said ≡ Ok (done e new)
+pub told_made : (s new : WorldState) (said : Result WorldState ReadtableError) (e : Evaluated) → object_of e.value ≡ t → e.wrote ≡ true → said ≡ Ok new → after s t said ≡ Ok (done e new)
 told_made s new said e value wrote made =
     ap (after s t) made ∙ (λ i. Ok (record { value = sym value i; state = new; wrote = sym wrote i }))
 
-pub told_refused : (s new : State) (said : Result State ReadtableError) (cause : ReadtableError) (error : EvaluationError) → error ≡ of_readtable cause → Refused cause said → Answers done (Err error) new (after s t said)
+pub told_refused : (s new : WorldState) (said : Result WorldState ReadtableError) (cause : ReadtableError) (error : EvaluationError) → error ≡ of_readtable cause → Refused cause said → Answers done (Err error) new (after s t said)
 told_refused s new said cause error is refused = subst (λ e. Answers done (Err e) new (after s t said)) (sym is) (by cause said refused)
   where
-    by : (cause : ReadtableError) (said : Result State ReadtableError) → Refused cause said → Answers done (Err (of_readtable cause)) new (after s t said)
+    by : (cause : ReadtableError) (said : Result WorldState ReadtableError) → Refused cause said → Answers done (Err (of_readtable cause)) new (after s t said)
     by NoReadtable said h = ap (after s t) h
     by StandardReadtable said h = ap (after s t) h
     by NotDispatching said h = ap (after s t) h
@@ -38,7 +38,7 @@ told_refused s new said cause error is refused = subst (λ e. Answers done (Err 
     by Limit said h = ap (after s t) h
     by OutOfMemory said h = tt
 
-module _ (P : Evaluation Object → Type 0) (s : State) where
+module _ (P : Evaluation Object → Type 0) (s : WorldState) where
   may_change : (n : Name) (table : Table) (on : Evaluation Object) → writable s.readtables n ≡ Ok table → P on → P (changeable s n on)
   may_change n table on may h = at (finite.get s.readtables n) (bytes_eq n standard_name) may
     where

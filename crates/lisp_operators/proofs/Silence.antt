@@ -4,14 +4,14 @@
 use Rattle.std.proofs.Common.{◌≡◌, Bool, true, false, cond, ◌||◌, Option, Some, None, Ok, Err, refl, sym, ◌∙◌}
 use Rattle.std.specs.Option.{option_map_or}
 use Rattle.std.proofs.lemmas.Bool.{false≢true}
-use Rattle.plist_state.specs.State.{State}
+use Rattle.plist_state.specs.State.{WorldState}
 use Rattle.lisp_operators.specs.Evaluation.{Evaluation, also, and_then, of_kind}
 
-abbrev pub Same : {A : Type 0} → State → Evaluation A → Type 0
+abbrev pub Same : {A : Type 0} → WorldState → Evaluation A → Type 0
 Same s (Ok d) = d.wrote ≡ false → d.state ≡ s
 Same s (Err code) = Unit {0}
 
-pub record Keeps {A : Type 0} (s : State) (o : Evaluation A) : Type 0 where
+pub record Keeps {A : Type 0} (s : WorldState) (o : Evaluation A) : Type 0 where
   pub same : Same s o
 
 pub written : {P : Type 0} → true ≡ false → P
@@ -21,8 +21,8 @@ pub neither : (a b : Bool) → (a || b) ≡ false → (a ≡ false) × (b ≡ fa
 neither true b e = absurd (false≢true (sym e))
 neither false b e = (refl, e)
 
-module _ {A : Type 0} (s : State) where
-  pub keeps_also : (wrote : Bool) (t : State) (o : Evaluation A) → (wrote ≡ false → t ≡ s) → Keeps t o → Keeps s (also wrote o)
+module _ {A : Type 0} (s : WorldState) where
+  pub keeps_also : (wrote : Bool) (t : WorldState) (o : Evaluation A) → (wrote ≡ false → t ≡ s) → Keeps t o → Keeps s (also wrote o)
   keeps_also wrote t (Ok d) before after = record { same = λ none. let both = neither wrote d.wrote none in after.same both.1 ∙ before both.0 }
   keeps_also wrote t (Err code) before after = record { same = tt }
 
@@ -38,6 +38,6 @@ module _ {A : Type 0} (s : State) where
   keeps_option (Some x) on other each none = each x
   keeps_option None on other each none = none
 
-pub keeps_then : {A B : Type 0} (s : State) (o : Evaluation A) (next : A → State → Evaluation B) → Keeps s o → ((x : A) (t : State) → Keeps t (next x t)) → Keeps s (and_then o next)
+pub keeps_then : {A B : Type 0} (s : WorldState) (o : Evaluation A) (next : A → WorldState → Evaluation B) → Keeps s o → ((x : A) (t : WorldState) → Keeps t (next x t)) → Keeps s (and_then o next)
 keeps_then s (Ok d) next before after = keeps_also s d.wrote d.state (next d.value d.state) before.same (after d.value d.state)
 keeps_then s (Err code) next before after = record { same = tt }

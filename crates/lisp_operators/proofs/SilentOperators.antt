@@ -13,7 +13,7 @@ use Rattle.package_table.specs.Table.{Name, Table, keyword, is_locked, package_n
 use Rattle.package_table.specs.Changes.{after_make, after_intern, after_export, after_import, after_use, finds_this, intern_changes, export_changes, import_changes, use_changes}
 use Rattle.plist_state.specs.declared.error.ReadtableError.{ReadtableError}
 use Rattle.plist_state.specs.Properties.{Symbol}
-use Rattle.plist_state.specs.State.{State, standard_name}
+use Rattle.plist_state.specs.State.{WorldState, standard_name}
 use Rattle.plist_state.specs.Changes.{plist, property, with_packages, after_in_readtable, with_case, with_macro, with_dispatching, with_dispatch, with_syntax, with_copy, in_state}
 use Rattle.lisp_operators.specs.Kinds.{a_symbol, a_name, a_text, an_integer, a_character, a_keyword, a_source, a_case, one_or_each, given_or, given_or_nil, is_true}
 use Rattle.lisp_operators.specs.Evaluation.{Evaluation, gives}
@@ -23,11 +23,11 @@ use Rattle.lisp_operators.specs.Readtables.{after, in_readtable, changeable, is_
 use Rattle.lisp_operators.proofs.Silence.{Keeps, written, keeps_if, keeps_kind, keeps_option}
 use Rattle.lisp_operators.proofs.Unmoved.{IsUnmoved, intern_still, export_still, import_still, use_still, one_unmoved}
 
-abbrev pub IsSilent : (List Object → State → Evaluation Object) → Type 0
-IsSilent function = (xs : List Object) (s : State) → Keeps s (function xs s)
+abbrev pub IsSilent : (List Object → WorldState → Evaluation Object) → Type 0
+IsSilent function = (xs : List Object) (s : WorldState) → Keeps s (function xs s)
 
 -- ---- property lists
-built_silent : (s : State) (x : Object) (on : Evaluation Object) → Keeps s on → Keeps s (built x on)
+built_silent : (s : WorldState) (x : Object) (on : Evaluation Object) → Keeps s on → Keeps s (built x on)
 built_silent s x on silent = keeps_if s (nat_lt 100 (object_depth x)) _ _ (record { same = tt }) (keeps_if s (nat_lt 1000000 (object_size x)) _ on (record { same = tt }) silent)
 
 pub list_silent : IsSilent list
@@ -42,7 +42,7 @@ pub set_silent : IsSilent set
 set_silent (x ∷ i ∷ v ∷ []) s = keeps_kind s (a_symbol x) _ (λ x'. keeps_kind s (a_symbol i) _ (λ i'. record { same = written }))
 set_silent _ s = record { same = tt }
 
-removed_silent : (o : Option Object) (s t : State) → Keeps s (removed o s t)
+removed_silent : (o : Option Object) (s t : WorldState) → Keeps s (removed o s t)
 removed_silent None s t = record { same = λ _. refl }
 removed_silent (Some v) s t = record { same = written }
 
@@ -66,10 +66,10 @@ push_silent (v ∷ x ∷ i ∷ []) s = keeps_kind s (a_symbol x) _ (λ x'. keeps
 push_silent _ s = record { same = tt }
 
 -- ---- packages
-in_package_silent : {A : Type 0} (s : State) (n : Name) (on : Name → Evaluation A) → ((p : Name) → Keeps s (on p)) → Keeps s (in_package s n on)
+in_package_silent : {A : Type 0} (s : WorldState) (n : Name) (on : Name → Evaluation A) → ((p : Name) → Keeps s (on p)) → Keeps s (in_package s n on)
 in_package_silent s n on each = keeps_option s (package_named s.packages n) on (Err NO_SUCH_PACKAGE) each (record { same = tt })
 
-made_silent : (s : State) (n : Name) (r : Result Table PackageError) → Keeps s (made s n r)
+made_silent : (s : WorldState) (n : Name) (r : Result Table PackageError) → Keeps s (made s n r)
 made_silent s n (Ok packages) = record { same = written }
 made_silent s n (Err e) = record { same = tt }
 
@@ -77,10 +77,10 @@ pub make_silent : IsSilent make
 make_silent (x ∷ []) s = keeps_kind s (a_name x) _ (λ n. made_silent s n (after_make s.packages n))
 make_silent _ s = record { same = tt }
 
-pub enter_silent : (x : Object) (s : State) → Keeps s (enter x s)
+pub enter_silent : (x : Object) (s : WorldState) → Keeps s (enter x s)
 enter_silent x s = keeps_kind s (a_name x) _ (λ n. in_package_silent s n _ (λ p. record { same = written }))
 
-interned_silent : (s : State) (n : Name) (changes : Bool) (r : Result (Name × Table) PackageError) → ((h : Name) (u : Table) → r ≡ Ok (h, u) → changes ≡ false → u ≡ s.packages) → Keeps s (interned s n changes r)
+interned_silent : (s : WorldState) (n : Name) (changes : Bool) (r : Result (Name × Table) PackageError) → ((h : Name) (u : Table) → r ≡ Ok (h, u) → changes ≡ false → u ≡ s.packages) → Keeps s (interned s n changes r)
 interned_silent s n changes (Ok p) still = record { same = λ none. ap (with_packages s) (still p.0 p.1 refl none) }
 interned_silent s n changes (Err e) still = record { same = tt }
 
@@ -90,11 +90,11 @@ intern_silent (x ∷ rest) s =
     keeps_kind s (a_text x) _ (λ n. keeps_kind s (given_or a_name s.current_package rest) _ (λ q. in_package_silent s q _ (λ p.
     interned_silent s n (intern_changes s.packages p n) (after_intern s.packages p n) (λ h u is none. intern_still s.packages p n h u is none))))
 
-changed_silent : (s : State) (r : Result (Table × Bool) PackageError) → IsUnmoved s.packages false r → Keeps s (changed s r)
+changed_silent : (s : WorldState) (r : Result (Table × Bool) PackageError) → IsUnmoved s.packages false r → Keeps s (changed s r)
 changed_silent s (Ok p) still = record { same = λ none. ap (with_packages s) (still none).1 }
 changed_silent s (Err e) still = record { same = tt }
 
-unlocked_silent : {A : Type 0} (s : State) (p : Name) (on : Evaluation A) → Keeps s on → Keeps s (unlocked p on)
+unlocked_silent : {A : Type 0} (s : WorldState) (p : Name) (on : Evaluation A) → Keeps s on → Keeps s (unlocked p on)
 unlocked_silent s p on silent = keeps_if s (is_locked p) (Err PACKAGE_IS_LOCKED) on (record { same = tt }) silent
 
 pub export_silent : IsSilent export
@@ -110,7 +110,7 @@ import_silent (x ∷ rest) s =
     keeps_kind s (one_or_each a_symbol x) _ (λ xs. keeps_kind s (given_or a_name s.current_package rest) _ (λ q. in_package_silent s q _ (λ p. unlocked_silent s p _
     (changed_silent s _ (one_unmoved (λ u (y : Symbol). after_import u p y.0 y.1) (λ u y. import_changes u p y.1) (λ t y u is none. import_still t p y.0 y.1 u is none) s.packages false xs)))))
 
-use_all_silent : (s : State) (p : Name) (qs : List Name) → Keeps s (use_all s p qs)
+use_all_silent : (s : WorldState) (p : Name) (qs : List Name) → Keeps s (use_all s p qs)
 use_all_silent s p qs =
     keeps_if s (is_locked p || list_any (bytes_eq keyword) qs) _ _ (record { same = tt })
     (changed_silent s _ (one_unmoved (λ u q. after_use u p q) (λ u q. use_changes u p q) (λ t q u is none. use_still t p q u is none) s.packages false qs))
@@ -122,17 +122,17 @@ use_silent (x ∷ rest) s =
     keeps_option s (packages_named s.packages ns) _ (Err NO_SUCH_PACKAGE) (λ qs. in_package_silent s q _ (λ p. use_all_silent s p qs)) (record { same = tt })))
 
 -- ---- readtables: each of these writes
-after_silent : (s : State) (x : Object) (r : Result State ReadtableError) → Keeps s (after s x r)
+after_silent : (s : WorldState) (x : Object) (r : Result WorldState ReadtableError) → Keeps s (after s x r)
 after_silent s x (Ok later) = record { same = written }
 after_silent s x (Err e) = record { same = tt }
 
-in_readtable_silent : (s : State) (n : Name) (on : readtable.Table → Evaluation Object) → ((table : readtable.Table) → Keeps s (on table)) → Keeps s (in_readtable s n on)
+in_readtable_silent : (s : WorldState) (n : Name) (on : readtable.Table → Evaluation Object) → ((table : readtable.Table) → Keeps s (on table)) → Keeps s (in_readtable s n on)
 in_readtable_silent s n on each = keeps_option s (finite.get s.readtables n) on (Err NO_READTABLE) each (record { same = tt })
 
-changeable_silent : (s : State) (n : Name) (on : Evaluation Object) → Keeps s on → Keeps s (changeable s n on)
+changeable_silent : (s : WorldState) (n : Name) (on : Evaluation Object) → Keeps s on → Keeps s (changeable s n on)
 changeable_silent s n on silent = in_readtable_silent s n _ (λ table. keeps_if s (bytes_eq n standard_name) _ on (record { same = tt }) silent)
 
-function_silent : (s : State) (names : List Name) (f : Name) (on : Evaluation Object) → Keeps s on → Keeps s (a_function names f on)
+function_silent : (s : WorldState) (names : List Name) (f : Name) (on : Evaluation Object) → Keeps s on → Keeps s (a_function names f on)
 function_silent s names f on silent = keeps_if s (is_function names f) on _ silent (record { same = tt })
 
 pub case_silent : IsSilent readtable_case

@@ -16,7 +16,7 @@ use Rattle.package_table.proofs.Keeping.{present_at_home}
 use Rattle.package_table.proofs.Growing.{grows_same, grows_both}
 use Rattle.package_table.proofs.KeptChanges.{kept_make, kept_intern, kept_export, kept_import, kept_use}
 use Rattle.plist_state.specs.Properties.{Symbol}
-use Rattle.plist_state.specs.State.{State}
+use Rattle.plist_state.specs.State.{WorldState}
 use Rattle.plist_state.specs.Changes.{with_packages}
 use Rattle.plist_state.specs.Sound.{IsSymbol, IsValue, IsSound}
 use Rattle.plist_state.proofs.Soundness.{sound_packages, sound_in_package}
@@ -36,11 +36,11 @@ named_there u n p e =
       | false ↦ λ _ no. absurd (none_some p no)
     ] refl e
 
-in_package_safe : (s : State) (n : Name) (on : Name → Evaluation Object) → ((p : Name) → IsPackage s.packages p → Goods IsValue s (on p)) → Goods IsValue s (in_package s n on)
+in_package_safe : (s : WorldState) (n : Name) (on : Name → Evaluation Object) → ((p : Name) → IsPackage s.packages p → Goods IsValue s (on p)) → Goods IsValue s (in_package s n on)
 in_package_safe s n on each = goods_option IsValue s (package_named s.packages n) on (Err NO_SUCH_PACKAGE) (λ p e. each p (named_there s.packages n p e)) (refused s _)
 
 -- ---- MAKE-PACKAGE and IN-PACKAGE
-made_safe : (s : State) (n : Name) (r : Result Table PackageError) → IsSound s → All (λ b. b < 128) n → after_make s.packages n ≡ r → Goods IsValue s (made s n r)
+made_safe : (s : WorldState) (n : Name) (r : Result Table PackageError) → IsSound s → All (λ b. b < 128) n → after_make s.packages n ≡ r → Goods IsValue s (made s n r)
 made_safe s n (Ok u) sound ascii is =
     let kept = (kept_make s.packages n u sound.packages ascii is).0 in
     goods_state IsValue s (text n) (with_packages s u) true (sound_packages s u sound kept.sound kept.grows) kept.grows (text_value u n ascii)
@@ -50,14 +50,14 @@ pub make_safe : IsSafe make
 make_safe (x ∷ []) s sound are = goods_kind IsValue s (a_name x) _ (λ n e. made_safe s n (after_make s.packages n) sound (name_kind s.packages x n e (first_of s x [] are)) refl)
 make_safe _ s sound are = refused s _
 
-pub enter_safe : (x : Object) (s : State) → IsSound s → Goods IsValue s (enter x s)
+pub enter_safe : (x : Object) (s : WorldState) → IsSound s → Goods IsValue s (enter x s)
 enter_safe x s sound =
     goods_kind IsValue s (a_name x) _ (λ n _. in_package_safe s n _ (λ p there.
     goods_state IsValue s (text p) (record s { current_package = p }) true (sound_in_package s p sound there) (grows_same s.packages)
     (text_value s.packages p (sound.packages.within.package_names p there).ascii)))
 
 -- ---- INTERN
-interned_safe : (s : State) (p n : Name) (changes : Bool) (r : Result (Name × Table) PackageError) → IsSound s → All (λ b. b < 128) n → after_intern s.packages p n ≡ r → Goods IsValue s (interned s n changes r)
+interned_safe : (s : WorldState) (p n : Name) (changes : Bool) (r : Result (Name × Table) PackageError) → IsSound s → All (λ b. b < 128) n → after_intern s.packages p n ≡ r → Goods IsValue s (interned s n changes r)
 interned_safe s p n changes (Ok q) sound ascii is =
     let done = kept_intern s.packages p n sound.packages q.0 q.1 ascii is in
     goods_state IsValue s (symbol q.0 n) (with_packages s q.1) changes (sound_packages s q.1 sound done.kept.sound done.kept.grows) done.kept.grows
@@ -97,11 +97,11 @@ module _ {A : Type 0} (change : Table → A → Result Table PackageError) (chan
         | Err e ↦ λ _. tt
       ] refl
 
-changed_safe : (s : State) (r : Result (Table × Bool) PackageError) → IsSound s → GrownWhere s.packages r → Goods IsValue s (changed s r)
+changed_safe : (s : WorldState) (r : Result (Table × Bool) PackageError) → IsSound s → GrownWhere s.packages r → Goods IsValue s (changed s r)
 changed_safe s (Ok p) sound grown = goods_state IsValue s t (with_packages s p.0) p.1 (sound_packages s p.0 sound grown.sound grown.grows) grown.grows (t_value p.0 grown.sound)
 changed_safe s (Err e) sound grown = refused s _
 
-unlocked_safe : (s : State) (p : Name) (on : Evaluation Object) → Goods IsValue s on → Goods IsValue s (unlocked p on)
+unlocked_safe : (s : WorldState) (p : Name) (on : Evaluation Object) → Goods IsValue s on → Goods IsValue s (unlocked p on)
 unlocked_safe s p on safe = goods_if IsValue s (is_locked p) (Err PACKAGE_IS_LOCKED) on (λ _. refused s _) (λ _. safe)
 
 symbol_still : (u v : Table) (y : Symbol) → Grows u v → IsSymbol u y → IsSymbol v y
@@ -135,7 +135,7 @@ nothing_asked : (qs : List Name) → All (λ (_ : Name). Unit {0}) qs
 nothing_asked [] = All-nil (λ (_ : Name). Unit {0})
 nothing_asked (q ∷ qs) = All-cons (λ (_ : Name). Unit {0}) q qs tt (nothing_asked qs)
 
-use_all_safe : (s : State) (p : Name) (qs : List Name) → IsSound s → Goods IsValue s (use_all s p qs)
+use_all_safe : (s : WorldState) (p : Name) (qs : List Name) → IsSound s → Goods IsValue s (use_all s p qs)
 use_all_safe s p qs sound =
     goods_if IsValue s (is_locked p || list_any (bytes_eq keyword) qs) _ _ (λ _. refused s _)
     (λ _. changed_safe s _ sound (one_grown (λ u q. after_use u p q) (λ u q. use_changes u p q) (λ _ (_ : Name). Unit {0}) (λ _ _ _ _ _. tt) (use_grown p) s.packages false qs sound.packages (nothing_asked qs)))

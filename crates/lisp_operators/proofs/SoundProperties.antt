@@ -10,7 +10,7 @@ use Rattle.package_table.specs.Table as packages
 use Rattle.package_table.specs.Growth.{Grows}
 use Rattle.package_table.proofs.Growing.{grows_same}
 use Rattle.plist_state.specs.Properties.{Symbol, Plist, value_at, same_symbol}
-use Rattle.plist_state.specs.State.{State}
+use Rattle.plist_state.specs.State.{WorldState}
 use Rattle.plist_state.specs.Changes.{plist, property, with_property, without_property}
 use Rattle.plist_state.specs.Sound.{IsSymbol, IsValue, IsSound}
 use Rattle.plist_state.proofs.Soundness.{sound_put, sound_removed}
@@ -21,10 +21,10 @@ use Rattle.lisp_operators.proofs.Good.{Goods, goods_here, goods_state, goods_if,
 use Rattle.lisp_operators.proofs.Storable.{AreValues, symbol_is_value, t_value, nil_value, list_value, pair_value, symbol_kind}
 
 -- of values that may be stored, in a sound state
-abbrev pub IsSafe : (List Object → State → Evaluation Object) → Type 0
-IsSafe function = (xs : List Object) (s : State) → IsSound s → AreValues s.packages xs → Goods IsValue s (function xs s)
+abbrev pub IsSafe : (List Object → WorldState → Evaluation Object) → Type 0
+IsSafe function = (xs : List Object) (s : WorldState) → IsSound s → AreValues s.packages xs → Goods IsValue s (function xs s)
 
-pub refused : (s : State) (code : ℕ) → Goods {A = Object} IsValue s (Err code)
+pub refused : (s : WorldState) (code : ℕ) → Goods {A = Object} IsValue s (Err code)
 refused s code = record { good = tt }
 
 -- ---- what a state holds
@@ -32,7 +32,7 @@ pub record HasValues (u : packages.Table) (ps : Plist) : Type 0 where
   pub indicators : All (λ p. IsSymbol u p.0) ps
   pub values : All (λ p. IsValue u p.1) ps
 
-pub held : (s : State) (x : Symbol) → IsSound s → HasValues s.packages (plist s x)
+pub held : (s : WorldState) (x : Symbol) → IsSound s → HasValues s.packages (plist s x)
 held s x sound =
     elim (finite.get s.properties x) as (λ o. finite.get s.properties x ≡ o → HasValues s.packages (unwrap_or o [])) [
       | None ↦ λ _. record { indicators = All-nil (λ (p : Symbol × Object). IsSymbol s.packages p.0); values = All-nil (λ (p : Symbol × Object). IsValue s.packages p.1) }
@@ -47,7 +47,7 @@ value_held u (p ∷ ps) i x all is =
       | false ↦ value_held u ps i x (All-tail (λ p. IsValue u p.1) p ps all) is
     ]
 
-pub property_value : (s : State) (x i : Symbol) (other : Object) → IsSound s → IsValue s.packages other → IsValue s.packages (unwrap_or (property s x i) other)
+pub property_value : (s : WorldState) (x i : Symbol) (other : Object) → IsSound s → IsValue s.packages other → IsValue s.packages (unwrap_or (property s x i) other)
 property_value s x i other sound is = value_held s.packages (plist s x) i other (held s x sound).values is
 
 turn_values : (u : packages.Table) → packages.IsSound u → (ps : Plist) → All (λ p. IsSymbol u p.0) ps → All (λ p. IsValue u p.1) ps → AreValues u (in_turn ps)
@@ -58,7 +58,7 @@ turn_values u sound (p ∷ ps) indicators values =
     (turn_values u sound ps (All-tail (λ p. IsSymbol u p.0) p ps indicators) (All-tail (λ p. IsValue u p.1) p ps values)))
 
 -- ---- the operators
-built_safe : (s : State) (x : Object) (on : Evaluation Object) → (object_depth x ≤ 100 → Goods IsValue s on) → Goods IsValue s (built x on)
+built_safe : (s : WorldState) (x : Object) (on : Evaluation Object) → (object_depth x ≤ 100 → Goods IsValue s on) → Goods IsValue s (built x on)
 built_safe s x on safe =
     goods_if IsValue s (nat_lt 100 (object_depth x)) _ _ (λ _. refused s _)
     (λ shallow. goods_if IsValue s (nat_lt 1000000 (object_size x)) _ on (λ _. refused s _) (λ _. safe (ltb-false 100 (object_depth x) shallow)))
@@ -67,7 +67,7 @@ pub list_safe : IsSafe list
 list_safe xs s sound are =
     built_safe s (list_of xs) (gives (list_of xs) s) (λ within. goods_here IsValue s (list_of xs) false sound (list_value s.packages sound.packages xs are within))
 
-module _ (s : State) where
+module _ (s : WorldState) where
   pub first_of : (x : Object) (xs : List Object) → AreValues s.packages (x ∷ xs) → IsValue s.packages x
   first_of x xs are = All-head (IsValue s.packages) x xs are
 
@@ -86,7 +86,7 @@ get_safe (x ∷ i ∷ rest) s sound are =
     goods_here IsValue s (unwrap_or (property s x' i') (given_or_nil rest)) false sound
     (property_value s x' i' (given_or_nil rest) sound (given_value s rest sound (rest_of s i rest (rest_of s x (i ∷ rest) are))))))
 
-put_safe : (s : State) (x i : Symbol) (v : Object) → IsSound s → IsSymbol s.packages x → IsSymbol s.packages i → IsValue s.packages v
+put_safe : (s : WorldState) (x i : Symbol) (v : Object) → IsSound s → IsSymbol s.packages x → IsSymbol s.packages i → IsValue s.packages v
     → Goods IsValue s (Ok (record { value = v; state = with_property s x i v; wrote = true }))
 put_safe s x i v sound at_home indicator is = goods_state IsValue s v (with_property s x i v) true (sound_put s x i v sound at_home indicator is) (grows_same s.packages) is
 
@@ -97,7 +97,7 @@ set_safe (x ∷ i ∷ v ∷ []) s sound are =
     put_safe s x' i' v sound (symbol_kind s.packages x x' e (first_of s x (i ∷ v ∷ []) are)) (symbol_kind s.packages i i' f (first_of s i (v ∷ []) rest)) (first_of s v [] (rest_of s i (v ∷ []) rest))))
 set_safe _ s sound are = refused s _
 
-removed_safe : (o : Option Object) (s later : State) → IsSound s → IsSound later → later.packages ≡ s.packages → Goods IsValue s (removed o s later)
+removed_safe : (o : Option Object) (s later : WorldState) → IsSound s → IsSound later → later.packages ≡ s.packages → Goods IsValue s (removed o s later)
 removed_safe None s later sound after same = goods_here IsValue s nil false sound (nil_value s.packages sound.packages)
 removed_safe (Some v) s later sound after same =
     goods_state IsValue s t later true after (subst (λ u. packages_grow s.packages u) (sym same) (grows_same s.packages)) (t_value later.packages after.packages)

@@ -25,7 +25,7 @@ use Rattle.package_table.proofs.Frames.{equal_names}
 use Rattle.package_table.proofs.Growing.{grows_same}
 use Rattle.plist_state.specs.declared.error.ReadtableError.{ReadtableError}
 use Rattle.plist_state.specs.declared.error.ReadtableError.TheVariants.{NoReadtable}
-use Rattle.plist_state.specs.State.{Readtables, State, standard_name}
+use Rattle.plist_state.specs.State.{Readtables, WorldState, standard_name}
 use Rattle.plist_state.specs.Changes.{after_in_readtable, with_case, with_macro, with_dispatching, dispatched, with_dispatch, with_syntax, with_copy, in_state}
 use Rattle.plist_state.specs.Sound.{IsSymbol, IsValue, IsSound}
 use Rattle.plist_state.proofs.Soundness.{sound_in_readtable}
@@ -73,10 +73,10 @@ no_function names f all e =
     elim (is_function names f) as (λ b. is_function names f ≡ b → b ≡ false) [ true ↦ λ is. absurd (false≢true (sym e ∙ (function_named names f all is).1)) | false ↦ λ _. refl ] refl
 
 -- ---- values
-keyword_value : (s : State) (n : Name) → IsSound s → IsSymbol s.packages (keyword, n) → IsValue s.packages (symbol keyword n)
+keyword_value : (s : WorldState) (n : Name) → IsSound s → IsSymbol s.packages (keyword, n) → IsValue s.packages (symbol keyword n)
 keyword_value s n sound is = symbol_is_value s.packages keyword n sound.packages is
 
-case_value : (s : State) (letters : Case) → IsSound s → IsValue s.packages (symbol keyword (case_name letters))
+case_value : (s : WorldState) (letters : Case) → IsSound s → IsValue s.packages (symbol keyword (case_name letters))
 unfolding keyword_names
 case_value s Upcase sound = keyword_value s (case_name Upcase) sound (sound.packages.first.keywords (case_name Upcase) refl)
 case_value s Downcase sound = keyword_value s (case_name Downcase) sound (sound.packages.first.keywords (case_name Downcase) refl)
@@ -90,22 +90,22 @@ symbol_there u h n e =
       | Some k ↦ λ e. ap Some (equal_names k.home h e)
     ] e
 
-name_value : (s : State) (o : Option Name) → IsSound s → ((f : Name) → o ≡ Some f → is_symbol s.packages keyword f ≡ true) → IsValue s.packages (name_or_nil o)
+name_value : (s : WorldState) (o : Option Name) → IsSound s → ((f : Name) → o ≡ Some f → is_symbol s.packages keyword f ≡ true) → IsValue s.packages (name_or_nil o)
 name_value s None sound named = nil_value s.packages sound.packages
 name_value s (Some f) sound named = keyword_value s f sound (symbol_there s.packages keyword f (named f refl))
 
 -- ---- the operators
-after_safe : (s : State) (x : Object) (r : Result Readtables ReadtableError) → ((v : Readtables) → r ≡ Ok v → IsSound (record s { readtables = v })) → IsValue s.packages x → Goods IsValue s (after s x (in_state s r))
+after_safe : (s : WorldState) (x : Object) (r : Result Readtables ReadtableError) → ((v : Readtables) → r ≡ Ok v → IsSound (record s { readtables = v })) → IsValue s.packages x → Goods IsValue s (after s x (in_state s r))
 after_safe s x (Ok v) sound is = goods_state IsValue s x (record s { readtables = v }) true (sound v refl) (grows_same s.packages) is
 after_safe s x (Err e) sound is = refused s _
 
-in_readtable_safe : (s : State) (n : Name) (on : readtable.Table → Evaluation Object) → ((table : readtable.Table) → finite.get s.readtables n ≡ Some table → Goods IsValue s (on table)) → Goods IsValue s (in_readtable s n on)
+in_readtable_safe : (s : WorldState) (n : Name) (on : readtable.Table → Evaluation Object) → ((table : readtable.Table) → finite.get s.readtables n ≡ Some table → Goods IsValue s (on table)) → Goods IsValue s (in_readtable s n on)
 in_readtable_safe s n on each = goods_option IsValue s (finite.get s.readtables n) on (Err NO_READTABLE) each (refused s _)
 
-changeable_safe : (s : State) (n : Name) (on : Evaluation Object) → Goods IsValue s on → Goods IsValue s (changeable s n on)
+changeable_safe : (s : WorldState) (n : Name) (on : Evaluation Object) → Goods IsValue s on → Goods IsValue s (changeable s n on)
 changeable_safe s n on safe = in_readtable_safe s n _ (λ table _. goods_if IsValue s (bytes_eq n standard_name) _ on (λ _. refused s _) (λ _. safe))
 
-function_safe : (s : State) (names : List Name) (f : Name) (on : Evaluation Object) → AreFunctionNames names → (IsFalse (is_dispatch_name f) → IsTrue (is_function_name f) → Goods IsValue s on) → Goods IsValue s (a_function names f on)
+function_safe : (s : WorldState) (names : List Name) (f : Name) (on : Evaluation Object) → AreFunctionNames names → (IsFalse (is_dispatch_name f) → IsTrue (is_function_name f) → Goods IsValue s on) → Goods IsValue s (a_function names f on)
 function_safe s names f on all safe = goods_if IsValue s (is_function names f) on _ (λ is. let named = function_named names f all is in safe named.0 named.1) (λ _. refused s _)
 
 pub case_safe : IsSafe readtable_case
@@ -126,7 +126,7 @@ copy_safe (z ∷ k ∷ []) s sound are =
     goods_kind IsValue s (a_source z) _ (λ m _. goods_kind IsValue s (a_keyword k) _ (λ n e. after_safe s k (with_copy s.readtables m n) (sound_copied s m n sound (keyword_kind s.packages k n e is)) is))
 copy_safe _ s sound are = refused s _
 
-entered_safe : (s : State) (n : Name) (x : Object) → IsSound s → IsValue s.packages x → Goods IsValue s (after s x (after_in_readtable s n))
+entered_safe : (s : WorldState) (n : Name) (x : Object) → IsSound s → IsValue s.packages x → Goods IsValue s (after s x (after_in_readtable s n))
 entered_safe s n x sound is =
     elim (finite.contains_key s.readtables n) as (λ b. finite.contains_key s.readtables n ≡ b → Goods IsValue s (after s x (cond b (Ok (record s { current_readtable = n })) (Err NoReadtable)))) [
       | true ↦ λ there. goods_state IsValue s x (record s { current_readtable = n }) true (sound_in_readtable s n sound there) (grows_same s.packages) is

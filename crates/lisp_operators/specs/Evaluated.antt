@@ -10,7 +10,7 @@ use Rattle.package_table.specs.declared.error.PackageError.{PackageError}
 use Rattle.package_table.specs.declared.error.PackageError.TheVariants.{OutOfMemory as NoRoom}
 use Rattle.package_table.specs.Table.{Name, Table, is_locked}
 use Rattle.plist_state.specs.Properties.{Symbol}
-use Rattle.plist_state.specs.State.{State, Worlds}
+use Rattle.plist_state.specs.State.{WorldState, Worlds}
 use Rattle.plist_state.specs.Sound.{IsValue}
 use Rattle.plist_state.specs.Shown.{symbol_of}
 use Rattle.plist_state.specs.declared.symbol.Symbol.{Symbol as Stored}
@@ -65,22 +65,22 @@ abbrev pub or_nil : Option Object → Object
 or_nil x = unwrap_or x nil
 
 -- a value that leaves this state
-abbrev pub done : Evaluated → State → Done Object
+abbrev pub done : Evaluated → WorldState → Done Object
 done e s = record { value = object_of e.value; state = s; wrote = e.wrote }
 
 -- A call answers what the definition says: what was evaluated, in the state that it leaves, or the number of the refusal.
 -- Where memory ran out it says nothing.
-abbrev pub Answers : {A B : Type 0} → (A → State → Done B) → Result A EvaluationError → State → Evaluation B → Type 0
+abbrev pub Answers : {A B : Type 0} → (A → WorldState → Done B) → Result A EvaluationError → WorldState → Evaluation B → Type 0
 Answers view (Ok x) s said = said ≡ Ok (view x s)
 Answers view (Err (Refused code)) s said = said ≡ Err code
 Answers view (Err OutOfMemory) s said = Unit {0}
 
 -- An operator answers what its definition says of these values, from the first of two states to the second.
-abbrev pub CarriesOut : (List Object → State → Evaluation Object) → List Datum → State → State → Result Evaluated EvaluationError → Type 0
+abbrev pub CarriesOut : (List Object → WorldState → Evaluation Object) → List Datum → WorldState → WorldState → Result Evaluated EvaluationError → Type 0
 CarriesOut function values old new result = Answers done result new (function (objects values) old)
 
 -- the value of a property is told, which the second state has in place of the first
-abbrev pub Stores : State → Symbol → Symbol → Object → State → Result Evaluated EvaluationError → Type 0
+abbrev pub Stores : WorldState → Symbol → Symbol → Object → WorldState → Result Evaluated EvaluationError → Type 0
 Stores old x i v new result = Answers done result new (writes v (with_property old x i v))
 
 -- Changes of the packages answer what the definition says: the packages that they leave, and whether these are others; or the

@@ -10,35 +10,35 @@ use Rattle.package_table.specs.Table.{Name, Table, keyword, is_locked, package_n
 use Rattle.package_table.specs.Errors.{number_of}
 use Rattle.package_table.specs.Changes.{after_make, after_intern, after_export, after_import, after_use, finds_this, intern_changes, export_changes, import_changes, use_changes}
 use Rattle.plist_state.specs.Properties.{Symbol}
-use Rattle.plist_state.specs.State.{State}
+use Rattle.plist_state.specs.State.{WorldState}
 use Rattle.plist_state.specs.Changes.{with_packages}
 use Rattle.lisp_operators.specs.Evaluation.{Evaluation, writes, of_kind}
 use Rattle.lisp_operators.specs.Kinds.{a_symbol, a_name, a_text, one_or_each, given_or}
 use Rattle.lisp_operators.specs.Properties.{t}
 
 -- what goes on with the package of this name or nickname
-abbrev pub in_package : {A : Type 0} → State → Name → (Name → Evaluation A) → Evaluation A
+abbrev pub in_package : {A : Type 0} → WorldState → Name → (Name → Evaluation A) → Evaluation A
 in_package s n on = option_map_or on (package_named s.packages n) (Err NO_SUCH_PACKAGE)
 
 -- MAKE-PACKAGE: the name
-abbrev pub made : State → Name → Result Table PackageError → Evaluation Object
+abbrev pub made : WorldState → Name → Result Table PackageError → Evaluation Object
 made s n (Ok packages) = writes (text n) (with_packages s packages)
 made s n (Err e) = Err (number_of e)
 
-abbrev pub make : List Object → State → Evaluation Object
+abbrev pub make : List Object → WorldState → Evaluation Object
 make (x ∷ []) s = of_kind (a_name x) (λ n. made s n (after_make s.packages n))
 make _ s = Err ARGUMENT_KIND
 
 -- IN-PACKAGE, of its argument as it is written: the package's name
-abbrev pub enter : Object → State → Evaluation Object
+abbrev pub enter : Object → WorldState → Evaluation Object
 enter x s = of_kind (a_name x) (λ n. in_package s n (λ p. writes (text p) (record s { current_package = p })))
 
 -- INTERN: the symbol
-abbrev pub interned : State → Name → Bool → Result (Name × Table) PackageError → Evaluation Object
+abbrev pub interned : WorldState → Name → Bool → Result (Name × Table) PackageError → Evaluation Object
 interned s n changes (Ok p) = Ok (record { value = symbol p.0 n; state = with_packages s p.1; wrote = changes })
 interned s n changes (Err e) = Err (number_of e)
 
-abbrev pub intern : List Object → State → Evaluation Object
+abbrev pub intern : List Object → WorldState → Evaluation Object
 intern (x ∷ rest) s =
     of_kind (a_text x) (λ n. of_kind (given_or a_name s.current_package rest) (λ q.
     in_package s q (λ p. interned s n (intern_changes s.packages p n) (after_intern s.packages p n))))
@@ -66,7 +66,7 @@ abbrev pub after_uses : Table → Name → List Name → Result (Table × Bool) 
 after_uses u p qs = one_by_one (λ v q. after_use v p q) (λ v q. use_changes v p q) u false qs
 
 -- T, in the state after such changes
-abbrev pub changed : State → Result (Table × Bool) PackageError → Evaluation Object
+abbrev pub changed : WorldState → Result (Table × Bool) PackageError → Evaluation Object
 changed s (Ok p) = Ok (record { value = t; state = with_packages s p.0; wrote = p.1 })
 changed s (Err e) = Err (number_of e)
 
@@ -78,7 +78,7 @@ abbrev pub finds_symbol : Table → Name → Symbol → Bool
 finds_symbol u p y = finds_this u p y.0 y.1
 
 -- EXPORT of a symbol or a list of them. That the package finds each is looked at before any conflict.
-abbrev pub export : List Object → State → Evaluation Object
+abbrev pub export : List Object → WorldState → Evaluation Object
 export (x ∷ rest) s =
     of_kind (one_or_each a_symbol x) (λ xs. of_kind (given_or a_name s.current_package rest) (λ q.
     in_package s q (λ p. unlocked p
@@ -87,7 +87,7 @@ export (x ∷ rest) s =
 export _ s = Err ARGUMENT_KIND
 
 -- IMPORT of a symbol or a list of them
-abbrev pub import : List Object → State → Evaluation Object
+abbrev pub import : List Object → WorldState → Evaluation Object
 import (x ∷ rest) s =
     of_kind (one_or_each a_symbol x) (λ xs. of_kind (given_or a_name s.current_package rest) (λ q.
     in_package s q (λ p. unlocked p (changed s (after_imports s.packages p xs)))))
@@ -100,12 +100,12 @@ packages_named u (n ∷ ns) = option_map_or (λ p. option_map_or (λ ps. Some (p
 
 -- USE-PACKAGE of a package or a list of them: each is there, then none of them is KEYWORD nor the user locked, before any
 -- conflict
-abbrev pub use_all : State → Name → List Name → Evaluation Object
+abbrev pub use_all : WorldState → Name → List Name → Evaluation Object
 use_all s p qs =
     if is_locked p || list_any (bytes_eq keyword) qs then Err PACKAGE_IS_LOCKED
     else changed s (after_uses s.packages p qs)
 
-abbrev pub use_package : List Object → State → Evaluation Object
+abbrev pub use_package : List Object → WorldState → Evaluation Object
 use_package (x ∷ rest) s =
     of_kind (one_or_each a_name x) (λ ns. of_kind (given_or a_name s.current_package rest) (λ q.
     option_map_or (λ qs. in_package s q (λ p. use_all s p qs)) (packages_named s.packages ns) (Err NO_SUCH_PACKAGE)))

@@ -4,7 +4,7 @@ use Rattle.lisp_object.specs.Object.{Object, integer, symbol, pair, nil, list_of
 use Rattle.lisp_object.specs.declared.refusal.TheConstants.{ARGUMENT_KIND, INTEGER_RANGE, VALUE_TOO_DEEP, LIMIT}
 use Rattle.package_table.specs.Table.{common_lisp}
 use Rattle.plist_state.specs.Properties.{Plist}
-use Rattle.plist_state.specs.State.{State}
+use Rattle.plist_state.specs.State.{WorldState}
 use Rattle.plist_state.specs.Changes.{plist, property, with_property, without_property}
 use Rattle.lisp_operators.specs.Evaluation.{Evaluation, gives, writes, of_kind}
 use Rattle.lisp_operators.specs.Kinds.{a_symbol, an_integer, given_or_nil}
@@ -19,25 +19,25 @@ built x on =
     else (if nat_lt 1000000 (object_size x) then Err LIMIT else on)
 
 -- LIST
-abbrev pub list : List Object → State → Evaluation Object
+abbrev pub list : List Object → WorldState → Evaluation Object
 list xs s = built (list_of xs) (gives (list_of xs) s)
 
 -- GET of a symbol and an indicator: the property, else the third argument, else NIL
-abbrev pub get : List Object → State → Evaluation Object
+abbrev pub get : List Object → WorldState → Evaluation Object
 get (x ∷ i ∷ rest) s = of_kind (a_symbol x) (λ x'. of_kind (a_symbol i) (λ i'. gives (unwrap_or (property s x' i') (given_or_nil rest)) s))
 get _ s = Err ARGUMENT_KIND
 
 -- SETF of GET's place: the new value
-abbrev pub set : List Object → State → Evaluation Object
+abbrev pub set : List Object → WorldState → Evaluation Object
 set (x ∷ i ∷ v ∷ []) s = of_kind (a_symbol x) (λ x'. of_kind (a_symbol i) (λ i'. writes v (with_property s x' i' v)))
 set _ s = Err ARGUMENT_KIND
 
 -- REMPROP: whether the symbol had the property
-abbrev pub removed : Option Object → State → State → Evaluation Object
+abbrev pub removed : Option Object → WorldState → WorldState → Evaluation Object
 removed None old new = gives nil old
 removed (Some v) old new = writes t new
 
-abbrev pub remove : List Object → State → Evaluation Object
+abbrev pub remove : List Object → WorldState → Evaluation Object
 remove (x ∷ i ∷ []) s =
     of_kind (a_symbol x) (λ x'. of_kind (a_symbol i) (λ i'. removed (property s x' i') s (without_property s x' i')))
 remove _ s = Err ARGUMENT_KIND
@@ -48,7 +48,7 @@ in_turn [] = []
 in_turn (p ∷ ps) = symbol p.0.0 p.0.1 ∷ p.1 ∷ in_turn ps
 
 -- SYMBOL-PLIST
-abbrev pub symbol_plist : List Object → State → Evaluation Object
+abbrev pub symbol_plist : List Object → WorldState → Evaluation Object
 symbol_plist (x ∷ []) s = of_kind (a_symbol x) (λ x'. list (in_turn (plist s x')) s)
 symbol_plist _ s = Err ARGUMENT_KIND
 
@@ -63,7 +63,7 @@ amount [] = Some (pos 1)
 amount (y ∷ ys) = an_integer y
 
 -- INCF of GET's place, by an integer or by 1: the sum. The property is read after all arguments.
-abbrev pub increment : List Object → State → Evaluation Object
+abbrev pub increment : List Object → WorldState → Evaluation Object
 increment (x ∷ i ∷ rest) s =
     of_kind (a_symbol x) (λ x'. of_kind (a_symbol i) (λ i'. of_kind (amount rest) (λ n.
     of_kind (an_integer (unwrap_or (property s x' i') nil)) (λ m.
@@ -71,7 +71,7 @@ increment (x ∷ i ∷ rest) s =
 increment _ s = Err ARGUMENT_KIND
 
 -- PUSH of a value to GET's place: the pair of it and the property, or NIL where there is none
-abbrev pub push : List Object → State → Evaluation Object
+abbrev pub push : List Object → WorldState → Evaluation Object
 push (v ∷ x ∷ i ∷ []) s =
     of_kind (a_symbol x) (λ x'. of_kind (a_symbol i) (λ i'.
     built (pair v (unwrap_or (property s x' i') nil))

@@ -15,7 +15,7 @@ use Rattle.package_table.specs.Table.{Name, keyword}
 use Rattle.std.specs.Str.{bytes_eq}
 use Rattle.std.specs.FinMap as finite
 use Rattle.plist_state.specs.declared.error.ReadtableError.{ReadtableError}
-use Rattle.plist_state.specs.State.{Readtables, State, standard_name}
+use Rattle.plist_state.specs.State.{Readtables, WorldState, standard_name}
 use Rattle.plist_state.specs.Refused.{number_of}
 use Rattle.plist_state.specs.Changes.{after_in_readtable, with_case, with_macro, with_dispatching, with_dispatch, with_syntax, with_copy, in_state}
 use Rattle.lisp_operators.specs.Evaluation.{Evaluation, gives, writes, of_kind}
@@ -31,20 +31,20 @@ name_or_nil (Some name) = a_keyword_of name
 name_or_nil None = nil
 
 -- a value, in the state after a change
-abbrev pub after : State → Object → Result State ReadtableError → Evaluation Object
+abbrev pub after : WorldState → Object → Result WorldState ReadtableError → Evaluation Object
 after s x (Ok later) = writes x later
 after s x (Err e) = Err (number_of e)
 
 -- a value, in the state with other readtables
-abbrev pub with_readtables : State → Object → Result Readtables ReadtableError → Evaluation Object
+abbrev pub with_readtables : WorldState → Object → Result Readtables ReadtableError → Evaluation Object
 with_readtables s x tables = after s x (in_state s tables)
 
 -- what goes on with the readtable of this name
-abbrev pub in_readtable : State → Name → (readtable.Table → Evaluation Object) → Evaluation Object
+abbrev pub in_readtable : WorldState → Name → (readtable.Table → Evaluation Object) → Evaluation Object
 in_readtable s n on = option_map_or on (finite.get s.readtables n) (Err NO_READTABLE)
 
 -- what goes on where a readtable of this name may be changed
-abbrev pub changeable : State → Name → Evaluation Object → Evaluation Object
+abbrev pub changeable : WorldState → Name → Evaluation Object → Evaluation Object
 changeable s n on = in_readtable s n (λ table. if bytes_eq n standard_name then Err STANDARD_READTABLE else on)
 
 -- a function that a readtable may name: of the standard readtable, or of these names; never STD-DISPATCH
@@ -55,22 +55,22 @@ abbrev pub a_function : List Name → Name → Evaluation Object → Evaluation 
 a_function names f on = if is_function names f then on else Err NO_MACRO
 
 -- READTABLE-CASE
-abbrev pub readtable_case : List Object → State → Evaluation Object
+abbrev pub readtable_case : List Object → WorldState → Evaluation Object
 readtable_case (r ∷ []) s = of_kind (a_keyword r) (λ n. in_readtable s n (λ table. gives (a_keyword_of (case_name table.letters)) s))
 readtable_case _ s = Err ARGUMENT_KIND
 
 -- SETF of READTABLE-CASE's place
-abbrev pub set_case : List Object → State → Evaluation Object
+abbrev pub set_case : List Object → WorldState → Evaluation Object
 set_case (r ∷ k ∷ []) s = of_kind (a_keyword r) (λ n. of_kind (a_case k) (λ letters. with_readtables s k (with_case s.readtables n letters)))
 set_case _ s = Err ARGUMENT_KIND
 
 -- COPY-READTABLE
-abbrev pub copy_readtable : List Object → State → Evaluation Object
+abbrev pub copy_readtable : List Object → WorldState → Evaluation Object
 copy_readtable (z ∷ k ∷ []) s = of_kind (a_source z) (λ m. of_kind (a_keyword k) (λ n. with_readtables s k (with_copy s.readtables m n)))
 copy_readtable _ s = Err ARGUMENT_KIND
 
 -- IN-READTABLE
-abbrev pub enter_readtable : List Object → State → Evaluation Object
+abbrev pub enter_readtable : List Object → WorldState → Evaluation Object
 enter_readtable (r ∷ []) s = of_kind (a_keyword r) (λ n. after s r (after_in_readtable s n))
 enter_readtable _ s = Err ARGUMENT_KIND
 
@@ -80,7 +80,7 @@ after_first [] = []
 after_first (x ∷ xs) = xs
 
 -- SET-SYNTAX-FROM-CHAR: to the current readtable and from the standard one, where no other are given
-abbrev pub set_syntax : List Object → State → Evaluation Object
+abbrev pub set_syntax : List Object → WorldState → Evaluation Object
 set_syntax (c ∷ d ∷ rest) s =
     of_kind (a_character c) (λ to. of_kind (a_character d) (λ from.
     of_kind (given_or a_keyword s.current_readtable rest) (λ n. of_kind (given_or a_source standard_name (after_first rest)) (λ m.
@@ -88,7 +88,7 @@ set_syntax (c ∷ d ∷ rest) s =
 set_syntax _ s = Err ARGUMENT_KIND
 
 -- SET-MACRO-CHARACTER
-abbrev pub set_macro : List Name → List Object → State → Evaluation Object
+abbrev pub set_macro : List Name → List Object → WorldState → Evaluation Object
 set_macro names (c ∷ f ∷ rest) s =
     of_kind (a_character c) (λ at. of_kind (a_keyword f) (λ function.
     of_kind (given_or a_keyword s.current_readtable (after_first rest)) (λ n. changeable s n
@@ -96,21 +96,21 @@ set_macro names (c ∷ f ∷ rest) s =
 set_macro names _ s = Err ARGUMENT_KIND
 
 -- GET-MACRO-CHARACTER
-abbrev pub get_macro : List Object → State → Evaluation Object
+abbrev pub get_macro : List Object → WorldState → Evaluation Object
 get_macro (c ∷ rest) s =
     of_kind (a_character c) (λ at. of_kind (given_or a_source s.current_readtable rest) (λ n.
     in_readtable s n (λ table. gives (name_or_nil (entry_at table at).function) s)))
 get_macro _ s = Err ARGUMENT_KIND
 
 -- MAKE-DISPATCH-MACRO-CHARACTER
-abbrev pub make_dispatch : List Object → State → Evaluation Object
+abbrev pub make_dispatch : List Object → WorldState → Evaluation Object
 make_dispatch (c ∷ rest) s =
     of_kind (a_character c) (λ at. of_kind (given_or a_keyword s.current_readtable (after_first rest)) (λ n.
     with_readtables s t (with_dispatching s.readtables n at (is_true (given_or_nil rest)))))
 make_dispatch _ s = Err ARGUMENT_KIND
 
 -- SET-DISPATCH-MACRO-CHARACTER
-abbrev pub set_dispatch : List Name → List Object → State → Evaluation Object
+abbrev pub set_dispatch : List Name → List Object → WorldState → Evaluation Object
 set_dispatch names (c ∷ d ∷ f ∷ rest) s =
     of_kind (a_character c) (λ at. of_kind (a_character d) (λ sub. of_kind (a_keyword f) (λ function.
     of_kind (given_or a_keyword s.current_readtable rest) (λ n. changeable s n
@@ -118,7 +118,7 @@ set_dispatch names (c ∷ d ∷ f ∷ rest) s =
 set_dispatch names _ s = Err ARGUMENT_KIND
 
 -- GET-DISPATCH-MACRO-CHARACTER: a digit has no function
-abbrev pub get_dispatch : List Object → State → Evaluation Object
+abbrev pub get_dispatch : List Object → WorldState → Evaluation Object
 get_dispatch (c ∷ d ∷ rest) s =
     of_kind (a_character c) (λ at. of_kind (a_character d) (λ sub. of_kind (given_or a_source s.current_readtable rest) (λ n.
     in_readtable s n (λ table.

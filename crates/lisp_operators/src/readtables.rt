@@ -3,7 +3,7 @@ ghost use Rattle.std.specs.Prelude.{◌≡◌, true, false, IfOk, Result};
 ghost use Rattle.std.specs.FinMap as finite;
 ghost use Rattle.lisp_object.specs.Datum.{object_of};
 ghost use Rattle.readtable_core.specs.Names.{is_among};
-ghost use Rattle.plist_state.specs.State.{State};
+ghost use Rattle.plist_state.specs.State.{WorldState};
 ghost use Rattle.plist_state.specs.declared.error.ReadtableError.{ReadtableError};
 ghost use Rattle.plist_state.specs.Changes.{writable, Gives as Tells};
 ghost use Rattle.lisp_operators.specs.Properties.{t};
@@ -76,7 +76,7 @@ fn is_among(names: &[FnName], function: FnName) -> bool
 
 // What a change of the readtables gives: T.
 fn changed(alloc: Global, made: Result<(), ReadtableError>) -> Result<Evaluated, EvaluationError>
-    ensures gives { (s later : State) (said : Result State ReadtableError) → Tells (λ _. later) made said → Answers done result later (after s t said) }
+    ensures gives { (s later : WorldState) (said : Result WorldState ReadtableError) → Tells (λ _. later) made said → Answers done result later (after s t said) }
     ensures proper { IfOk result IsProperValue }
 {
     match made {

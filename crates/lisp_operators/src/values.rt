@@ -4,7 +4,7 @@ ghost use Rattle.std.specs.List.{list_all};
 ghost use Rattle.lisp_object.specs.Object.{Object, nil, object_depth, object_size};
 ghost use Rattle.lisp_object.specs.Datum.{object_of, is_proper};
 ghost use Rattle.package_table.specs.Table.{keyword};
-ghost use Rattle.plist_state.specs.State.{State};
+ghost use Rattle.plist_state.specs.State.{WorldState};
 ghost use Rattle.lisp_operators.specs.Properties.{t, list};
 ghost use Rattle.lisp_operators.specs.Evaluated.{Answers, done, IsProper, IsProperValue, IsAscii, objects};
 
@@ -85,7 +85,7 @@ pub(crate) fn is_too_large(value: &Datum) -> bool
 /// LIST: the list of these values.
 pub fn list(alloc: Global, values: Vec<Datum>) -> Result<Evaluated, EvaluationError>
     requires { list_all is_proper values.items ≡ true }
-    ensures gives { (s : State) → Answers done result s (list (objects values.items) s) }
+    ensures gives { (s : WorldState) → Answers done result s (list (objects values.items) s) }
     ensures proper { IfOk result IsProperValue }
 {
     let items = Items::from_vec(values);

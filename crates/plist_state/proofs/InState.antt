@@ -13,7 +13,7 @@ use Rattle.package_table.specs.Growth.{Grows}
 use Rattle.plist_state.specs.declared.note.Note.{Note}
 use Rattle.plist_state.specs.declared.world.World.TheInside.{Inside}
 use Rattle.plist_state.specs.Properties.{Symbol, Plist, Properties, list_at, with_list}
-use Rattle.plist_state.specs.State.{State, Worlds}
+use Rattle.plist_state.specs.State.{WorldState, Worlds}
 use Rattle.plist_state.specs.Changes.{plist, with_packages}
 use Rattle.plist_state.specs.Lists.{row_of, with_row, lists}
 use Rattle.plist_state.specs.Shown.{NumberedRest, rest_of}
@@ -30,7 +30,7 @@ abbrev pub with_changed_row : NumberedRest → ℕ → (Plist → Plist) → Num
 with_changed_row r n f = record r { properties = with_row r.properties n (f (row_of r.properties n)) }
 
 -- a state where the list of a symbol is changed
-abbrev pub with_changed_list : State → Symbol → (Plist → Plist) → State
+abbrev pub with_changed_list : WorldState → Symbol → (Plist → Plist) → WorldState
 with_changed_list s x f = record s { properties = with_list s.properties x (f (list_at s.properties x)) }
 
 module _ (s : Numbered) (count : ℕ) (counted : IsNumbered s count) (x : Symbol) (n : ℕ) (is : number_of s x.0 x.1 ≡ Some n) where

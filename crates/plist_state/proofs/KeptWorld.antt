@@ -25,7 +25,7 @@ use Rattle.package_table.specs.Lookup.{is_symbol}
 use Rattle.package_table.proofs.Frames.{equal_itself}
 use Rattle.plist_state.specs.declared.error.ReadtableError.{ReadtableError}
 use Rattle.plist_state.specs.declared.error.ReadtableError.TheVariants.{NoReadtable, StandardReadtable, Limit}
-use Rattle.plist_state.specs.State.{Readtables, State, standard_name}
+use Rattle.plist_state.specs.State.{Readtables, WorldState, standard_name}
 use Rattle.plist_state.specs.Shown.{NumberedRest}
 use Rattle.plist_state.specs.Changes.{put_changed, with_changed, changed, dispatched, refused_as, with_copy, with_syntax, Gives}
 use Rattle.plist_state.specs.Sound.{IsSymbol, IsNamed, IsSound}
@@ -36,7 +36,7 @@ pub kept_rest : {A E : Type 0} (res : Result A E) (P : NumberedRest → Type 0) 
 kept_rest (Ok x) P r u v ok err old new = subst P (sym ok) new
 kept_rest (Err e) P r u v ok err old new = subst P (sym err) old
 
-pub kept_gives : (res : Result (Unit {0}) ReadtableError) (s : State) (m : Readtables) (said : Result Readtables ReadtableError)
+pub kept_gives : (res : Result (Unit {0}) ReadtableError) (s : WorldState) (m : Readtables) (said : Result Readtables ReadtableError)
     → Gives (λ _. m) res said → IfErr res (λ _. m ≡ s.readtables) → IsSound s → ((v : Readtables) → said ≡ Ok v → IsSound (record s { readtables = v })) → IsSound (record s { readtables = m })
 kept_gives (Ok x) s m said gives same old new = new m gives
 kept_gives (Err e) s m said gives same old new = subst (λ v. IsSound (record s { readtables = v })) (sym same) old
@@ -56,7 +56,7 @@ there_too m n u there count =
     let same : finite.len (finite.insert m n u) ≡ finite.len m = len-insert name_total m n u ∙ ap (λ b. cond b (finite.len m) (finite.len m + 1)) there in
     omega (arith, same, count)
 
-pub sound_changed : (s : State) (n : Name) (change : Table → Result Table ReadtableError) → IsSound s
+pub sound_changed : (s : WorldState) (n : Name) (change : Table → Result Table ReadtableError) → IsSound s
     → ((t u : Table) → IsNamed s.packages t → change t ≡ Ok u → IsNamed s.packages u)
     → (v : Readtables) → changed s.readtables n change ≡ Ok v → IsSound (record s { readtables = v })
 sound_changed s n change sound named v is =
@@ -122,7 +122,7 @@ named_dispatched t c sub f r u below low other fits at_home named is =
     made : Option DispatchRefusal → Result Table ReadtableError
     made o = option_map_or (λ x. Err (refused_as x)) o (Ok (with_entry r c (with_function (entry_at r c) sub f)))
 
-pub sound_syntax : (s : State) (n : Name) (c : ℕ) (m : Name) (d : ℕ) → IsSound s → c < 128 → (v : Readtables) → with_syntax s.readtables n c m d ≡ Ok v → IsSound (record s { readtables = v })
+pub sound_syntax : (s : WorldState) (n : Name) (c : ℕ) (m : Name) (d : ℕ) → IsSound s → c < 128 → (v : Readtables) → with_syntax s.readtables n c m d ≡ Ok v → IsSound (record s { readtables = v })
 sound_syntax s n c m d sound below v is =
     elim (finite.get s.readtables m) as (λ o. finite.get s.readtables m ≡ o → option_map_or (λ z. changed s.readtables n (λ t. Ok (with_entry t c (entry_at z d)))) o (Err NoReadtable) ≡ Ok v → IsSound (record s { readtables = v })) [
       | None ↦ λ _ e. absurd (err_ok e)
@@ -147,7 +147,7 @@ one_more m n u free count =
           omega (arith, more, below)
     ] refl free
 
-pub sound_copied : (s : State) (m n : Name) → IsSound s → IsSymbol s.packages (keyword, n) → (v : Readtables) → with_copy s.readtables m n ≡ Ok v → IsSound (record s { readtables = v })
+pub sound_copied : (s : WorldState) (m n : Name) → IsSound s → IsSymbol s.packages (keyword, n) → (v : Readtables) → with_copy s.readtables m n ≡ Ok v → IsSound (record s { readtables = v })
 sound_copied s m n sound at_home v is =
     elim (finite.get s.readtables m) as (λ o. finite.get s.readtables m ≡ o → copied o ≡ Ok v → IsSound (record s { readtables = v })) [
       | None ↦ λ _ e. absurd (err_ok e)
@@ -171,6 +171,6 @@ sound_copied s m n sound at_home v is =
     copied o = option_map_or (λ t. if bytes_eq n standard_name then Err StandardReadtable else (if full then Err Limit else Ok (finite.insert s.readtables n t))) o (Err NoReadtable)
 
 -- STD-DISPATCH is a keyword of every world
-pub dispatch_there : (s : State) → IsSound s → IsSymbol s.packages (keyword, dispatch_name)
+pub dispatch_there : (s : WorldState) → IsSound s → IsSymbol s.packages (keyword, dispatch_name)
 unfolding keyword_names
 dispatch_there s sound = sound.packages.first.keywords dispatch_name refl

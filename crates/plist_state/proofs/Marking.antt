@@ -10,7 +10,7 @@ use Rattle.std.proofs.lemmas.Option.{slice_get_within, get_or_from_slice_get}
 use Rattle.std.proofs.lemmas.List.Elements.{All-nil, All-push, All-take}
 use Rattle.package_table.specs.Numbers.{Numbered, Tables, numbered}
 use Rattle.plist_state.specs.declared.note.Note.{Note}
-use Rattle.plist_state.specs.State.{Readtables, State, Worlds}
+use Rattle.plist_state.specs.State.{Readtables, WorldState, Worlds}
 use Rattle.plist_state.specs.Lists.{IsOwned}
 use Rattle.plist_state.specs.Shown.{NumberedRest, Rows}
 use Rattle.plist_state.specs.Kept.{IsWider}
@@ -148,8 +148,8 @@ module _ (ts : List Numbered) (ms : List (List Note)) (r : NumberedRest) (rows :
 
     pub sound_at : IsSound (state_in t u)
     sound_at =
-        let all : List State = marked_states ts (rests_at ms r) in
-        let s : State = state_in t u in
+        let all : List WorldState = marked_states ts (rests_at ms r) in
+        let s : WorldState = state_in t u in
         subst IsSound (get_or_from_slice_get all n s s state_at) (kept.sound n s (slice_get_within all n s state_at))
 
     pub owned_at : IsOwned t u.properties
@@ -165,7 +165,7 @@ module _ {X : Type 0} where
   this_mark [] x later = refl
   this_mark (y ∷ past) x later = this_mark past x later
 
-pub gone_back : (w new : Worlds) (later old : List State) (mark : ℕ) → new.1 ≡ take mark old → slice_get old mark ≡ Some new.0 → old ≡ w.1 ++ w.0 ∷ later → length w.1 ≡ mark → new ≡ w
+pub gone_back : (w new : Worlds) (later old : List WorldState) (mark : ℕ) → new.1 ≡ take mark old → slice_get old mark ≡ Some new.0 → old ≡ w.1 ++ w.0 ∷ later → length w.1 ≡ mark → new ≡ w
 gone_back w new later old mark past now is count =
     let states : new.1 ≡ w.1 = past ∙ (λ i. take (sym count i) (is i)) ∙ first_marks w.1 w.0 later in
     let state : Some new.0 ≡ Some w.0 = sym now ∙ (λ i. slice_get (is i) (sym count i)) ∙ this_mark w.1 w.0 later in

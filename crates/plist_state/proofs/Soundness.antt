@@ -22,7 +22,7 @@ use Rattle.package_table.specs.Table.{Name, name_cmp, IsPackage, IsPresent, keyw
 use Rattle.package_table.specs.Lookup.{is_symbol}
 use Rattle.package_table.specs.Growth.{Grows}
 use Rattle.plist_state.specs.Properties.{Symbol, Plist, symbol_cmp, same_symbol, value_at, with_value, without_value, with_list}
-use Rattle.plist_state.specs.State.{State, standard_name, user_name}
+use Rattle.plist_state.specs.State.{WorldState, standard_name, user_name}
 use Rattle.plist_state.specs.Changes.{plist, with_property, without_property, with_packages}
 use Rattle.plist_state.specs.Sound.{IsSymbol, IsKnown, IsValue, IsApart, IsPlist, IsNamed, IsSound}
 use Rattle.plist_state.proofs.Orders.{one_symbol, one_name, name_total, symbol_total}
@@ -82,7 +82,7 @@ named_grown t u grows (n ∷ ns) e =
     (symbol_from u keyword n (grows.homes keyword n keyword (symbol_is t keyword n both.0)))
     (named_grown t u grows ns both.1)
 
-pub sound_packages : (s : State) (u : packages.Table) → IsSound s → packages.IsSound u → Grows s.packages u → IsSound (with_packages s u)
+pub sound_packages : (s : WorldState) (u : packages.Table) → IsSound s → packages.IsSound u → Grows s.packages u → IsSound (with_packages s u)
 sound_packages s u sound sound_u grows = record {
   packages = sound_u;
   symbols = λ x there. grows.homes x.0 x.1 x.0 (sound.symbols x there);
@@ -106,7 +106,7 @@ value_at_nil : (ps : Plist) → ps ≡ [] → (i : Symbol) → value_at ps i ≡
 value_at_nil ps e i = ap (λ l. value_at l i) e
 
 -- a list put at a symbol
-sound_list : (s : State) (x : Symbol) (ps : Plist) → IsSound s → IsSymbol s.packages x → ((ps ≡ [] → ⊥) → IsPlist s.packages ps) → IsSound (record s { properties = with_list s.properties x ps })
+sound_list : (s : WorldState) (x : Symbol) (ps : Plist) → IsSound s → IsSymbol s.packages x → ((ps ≡ [] → ⊥) → IsPlist s.packages ps) → IsSound (record s { properties = with_list s.properties x ps })
 sound_list s x ps sound at_home is = record {
   packages = sound.packages;
   symbols = λ q there. symbols q there;
@@ -207,14 +207,14 @@ record IsList (t : packages.Table) (ps : Plist) : Type 0 where
   indicators : All (λ p. IsSymbol t p.0) ps
   values : All (λ p. IsValue t p.1) ps
 
-list_of : (s : State) (x : Symbol) → IsSound s → IsList s.packages (plist s x)
+list_of : (s : WorldState) (x : Symbol) → IsSound s → IsList s.packages (plist s x)
 list_of s x sound =
     elim (finite.get s.properties x) as (λ o. finite.get s.properties x ≡ o → IsList s.packages (unwrap_or o [])) [
       | None ↦ λ _. record { apart = tt; indicators = All-nil (λ (p : Symbol × Object). IsSymbol s.packages p.0); values = All-nil (λ (p : Symbol × Object). IsValue s.packages p.1) }
       | Some ps ↦ λ e. record { apart = (sound.properties x ps e).apart; indicators = (sound.properties x ps e).indicators; values = (sound.properties x ps e).values }
     ] refl
 
-pub sound_put : (s : State) (x i : Symbol) (v : Object) → IsSound s → IsSymbol s.packages x → IsSymbol s.packages i → IsValue s.packages v → IsSound (with_property s x i v)
+pub sound_put : (s : WorldState) (x i : Symbol) (v : Object) → IsSound s → IsSymbol s.packages x → IsSymbol s.packages i → IsValue s.packages v → IsSound (with_property s x i v)
 sound_put s x i v sound at_home indicator value =
     let old : IsList s.packages (plist s x) = list_of s x sound in
     sound_list s x (with_value (plist s x) i v) sound at_home (λ _. record {
@@ -224,7 +224,7 @@ sound_put s x i v sound at_home indicator value =
       values = all_with (λ p. IsValue s.packages p.1) (plist s x) i v value (λ p k. value) old.values;
     })
 
-pub sound_removed : (s : State) (x i : Symbol) → IsSound s → IsSymbol s.packages x → IsSound (without_property s x i)
+pub sound_removed : (s : WorldState) (x i : Symbol) → IsSound s → IsSymbol s.packages x → IsSound (without_property s x i)
 sound_removed s x i sound at_home =
     let old : IsList s.packages (plist s x) = list_of s x sound in
     sound_list s x (without_value (plist s x) i) sound at_home (λ some. record {
@@ -235,7 +235,7 @@ sound_removed s x i sound at_home =
     })
 
 -- ---- the current names
-pub sound_in_package : (s : State) (n : Name) → IsSound s → IsPackage s.packages n → IsSound (record s { current_package = n })
+pub sound_in_package : (s : WorldState) (n : Name) → IsSound s → IsPackage s.packages n → IsSound (record s { current_package = n })
 sound_in_package s n sound there = record {
   packages = sound.packages;
   symbols = sound.symbols;
@@ -245,7 +245,7 @@ sound_in_package s n sound there = record {
   current_readtable = sound.current_readtable;
 }
 
-pub sound_in_readtable : (s : State) (n : Name) → IsSound s → IsTrue (finite.contains_key s.readtables n) → IsSound (record s { current_readtable = n })
+pub sound_in_readtable : (s : WorldState) (n : Name) → IsSound s → IsTrue (finite.contains_key s.readtables n) → IsSound (record s { current_readtable = n })
 sound_in_readtable s n sound there = record {
   packages = sound.packages;
   symbols = sound.symbols;
@@ -257,7 +257,7 @@ sound_in_readtable s n sound there = record {
 
 -- ---- readtables
 -- a readtable that is put at a name, not that of the standard one
-pub sound_table : (s : State) (n : Name) (r : readtable.Table) → IsSound s → (n ≡ standard_name → ⊥) → IsSymbol s.packages (keyword, n)
+pub sound_table : (s : WorldState) (n : Name) (r : readtable.Table) → IsSound s → (n ≡ standard_name → ⊥) → IsSymbol s.packages (keyword, n)
     → finite.len (finite.insert s.readtables n r) ≤ 64 → IsNamed s.packages r → IsSound (record s { readtables = finite.insert s.readtables n r })
 sound_table s n r sound other at_home count named = record {
   packages = sound.packages;

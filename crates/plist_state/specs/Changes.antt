@@ -16,34 +16,34 @@ use Rattle.package_table.specs.Table.{Name}
 use Rattle.plist_state.specs.declared.error.ReadtableError.{ReadtableError}
 use Rattle.plist_state.specs.declared.error.ReadtableError.TheVariants.{NoReadtable, StandardReadtable, NotDispatching, DigitSubcharacter, Limit, OutOfMemory}
 use Rattle.plist_state.specs.Properties.{Symbol, Plist, value_at, with_value, without_value, list_at, with_list}
-use Rattle.plist_state.specs.State.{Readtables, State, standard_name}
+use Rattle.plist_state.specs.State.{Readtables, WorldState, standard_name}
 
 -- the property list of a symbol (standard 10.2, SYMBOL-PLIST)
-abbrev pub plist : State → Symbol → Plist
+abbrev pub plist : WorldState → Symbol → Plist
 plist s x = list_at s.properties x
 
 -- the value of a property (standard 10.2, GET)
-abbrev pub property : State → Symbol → Symbol → Option Object
+abbrev pub property : WorldState → Symbol → Symbol → Option Object
 property s x i = value_at (plist s x) i
 
 -- with this value beside the indicator
-abbrev pub with_property : State → Symbol → Symbol → Object → State
+abbrev pub with_property : WorldState → Symbol → Symbol → Object → WorldState
 with_property s x i v = record s { properties = with_list s.properties x (with_value (plist s x) i v) }
 
 -- REMPROP (standard 10.2)
-abbrev pub without_property : State → Symbol → Symbol → State
+abbrev pub without_property : WorldState → Symbol → Symbol → WorldState
 without_property s x i = record s { properties = with_list s.properties x (without_value (plist s x) i) }
 
 -- with other packages
-abbrev pub with_packages : State → packages.Table → State
+abbrev pub with_packages : WorldState → packages.Table → WorldState
 with_packages s t = record s { packages = t }
 
 -- IN-PACKAGE (standard 11.2)
-abbrev pub after_in_package : State → Name → Result State PackageError
+abbrev pub after_in_package : WorldState → Name → Result WorldState PackageError
 after_in_package s n = if finite.contains_key s.packages n then Ok (record s { current_package = n }) else Err NoSuchPackage
 
 -- the readtable of this name becomes current
-abbrev pub after_in_readtable : State → Name → Result State ReadtableError
+abbrev pub after_in_readtable : WorldState → Name → Result WorldState ReadtableError
 after_in_readtable s n = if finite.contains_key s.readtables n then Ok (record s { current_readtable = n }) else Err NoReadtable
 
 -- ---- readtables
@@ -105,7 +105,7 @@ with_copy m o n =
     else Ok (finite.insert m n t))) (finite.get m o) (Err NoReadtable)
 
 -- a change of the readtables of a state
-abbrev pub in_state : State → Result Readtables ReadtableError → Result State ReadtableError
+abbrev pub in_state : WorldState → Result Readtables ReadtableError → Result WorldState ReadtableError
 in_state s (Ok m) = Ok (record s { readtables = m })
 in_state s (Err e) = Err e
 

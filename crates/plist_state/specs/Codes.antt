@@ -11,7 +11,7 @@ use Rattle.readtable_core.specs.Tables as readtable
 use Rattle.package_table.specs.Table as packages
 use Rattle.package_table.specs.Table.{Name, name_code, table_code}
 use Rattle.plist_state.specs.Properties.{Properties, properties_code}
-use Rattle.plist_state.specs.State.{Readtables, Rest, State, Worlds}
+use Rattle.plist_state.specs.State.{Readtables, Rest, WorldState, Worlds}
 
 -- the type that a number stands for
 abbrev pub numbered_syntax : ℕ → Syntax
@@ -72,7 +72,7 @@ rest_code =
     (λ r. (r.properties, (r.readtables, (r.current_package, r.current_readtable))))
     (λ p. record { properties = p.0; readtables = p.1.0; current_package = p.1.1.0; current_readtable = p.1.1.1 }) (λ _. refl)
 
-abbrev pub state_code : Coded State
+abbrev pub state_code : Coded WorldState
 state_code =
     code_by (packages.Table × Rest) (coded× table_code rest_code)
     (λ s. (s.packages, record { properties = s.properties; readtables = s.readtables; current_package = s.current_package; current_readtable = s.current_readtable }))

@@ -3,7 +3,7 @@ use Rattle.std.specs.Prelude.{◌≡◌, List, [], ◌∷◌, length, All}
 use Rattle.package_table.specs.Numbers.{Numbered, numbered}
 use Rattle.plist_state.specs.declared.note.Note.{Note}
 use Rattle.plist_state.specs.declared.world.World.TheInside.{Inside}
-use Rattle.plist_state.specs.State.{Rest, State, Worlds, state_with}
+use Rattle.plist_state.specs.State.{Rest, WorldState, Worlds, state_with}
 use Rattle.plist_state.specs.Sound.{IsSound}
 use Rattle.plist_state.specs.Lists.{lists, IsOwned}
 use Rattle.plist_state.specs.Shown.{NumberedRest, Rows, rest_of}
@@ -22,11 +22,11 @@ rest_in s r =
     }
 
 -- the state of these packages, and of what is kept besides
-abbrev pub state_in : Numbered → NumberedRest → State
+abbrev pub state_in : Numbered → NumberedRest → WorldState
 state_in s r = state_with s.0 (rest_in s r)
 
 -- the states that were marked: at each mark the packages, and the rest
-abbrev pub marked_states : List Numbered → List NumberedRest → List State
+abbrev pub marked_states : List Numbered → List NumberedRest → List WorldState
 marked_states [] rests = []
 marked_states (s ∷ ss) [] = []
 marked_states (s ∷ ss) (r ∷ rests) = state_in s r ∷ marked_states ss rests

@@ -4,16 +4,16 @@ use Rattle.std.specs.Borrow.{Bor}
 use Rattle.std.specs.FinMap as finite
 use Rattle.package_table.specs.Table.{Name}
 use Rattle.plist_state.specs.Properties.{Symbol}
-use Rattle.plist_state.specs.State.{State}
+use Rattle.plist_state.specs.State.{WorldState}
 
 -- symbols as a world has them
 abbrev pub symbols_of : List (Bor Name × Bor Name) → List Symbol
 symbols_of symbols = map (λ s. (s.0.now, s.1.now)) symbols
 
 -- the names of the readtables, sorted by their bytes
-abbrev pub readtable_names : State → List Name
+abbrev pub readtable_names : WorldState → List Name
 readtable_names s = finite.keys s.readtables
 
 -- the symbols that have properties, sorted by the bytes of their homes and then of their names
-abbrev pub symbols_with_properties : State → List Symbol
+abbrev pub symbols_with_properties : WorldState → List Symbol
 symbols_with_properties s = finite.keys s.properties

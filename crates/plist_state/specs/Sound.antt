@@ -11,7 +11,7 @@ use Rattle.package_table.specs.Table as packages
 use Rattle.package_table.specs.Table.{Name, IsPackage, IsPresent, keyword}
 use Rattle.package_table.specs.Lookup.{is_symbol}
 use Rattle.plist_state.specs.Properties.{Symbol, Plist, value_at}
-use Rattle.plist_state.specs.State.{Readtables, State, Worlds, standard_name, user_name}
+use Rattle.plist_state.specs.State.{Readtables, WorldState, Worlds, standard_name, user_name}
 
 -- a symbol that is present in its home
 abbrev pub IsSymbol : packages.Table → Symbol → Type 0
@@ -55,7 +55,7 @@ pub record IsReadtables (t : packages.Table) (m : Readtables) : Type 0 where
   pub each : (n : Name) (r : readtable.Table) → finite.get m n ≡ Some r → IsNamed t r
 
 -- The packages are sound, the symbols that have properties are there, and the current names name something.
-pub record IsSound (s : State) : Type 0 where
+pub record IsSound (s : WorldState) : Type 0 where
   pub packages : packages.IsSound s.packages
   pub symbols : (x : Symbol) → IsTrue (finite.contains_key s.properties x) → IsSymbol s.packages x
   pub properties : (x : Symbol) (ps : Plist) → finite.get s.properties x ≡ Some ps → IsPlist s.packages ps

@@ -18,14 +18,14 @@ pub record Rest : Type 0 where
   pub current_package : Name
   pub current_readtable : Name
 
-pub record State : Type 0 where
+pub record WorldState : Type 0 where
   pub packages : packages.Table
   pub properties : Properties
   pub readtables : Readtables
   pub current_package : Name
   pub current_readtable : Name
 
-abbrev pub state_with : packages.Table → Rest → State
+abbrev pub state_with : packages.Table → Rest → WorldState
 state_with t r =
     record {
       packages = t;
@@ -37,7 +37,7 @@ state_with t r =
 
 -- The state now, and the states that were marked, to which the world can go back.
 abbrev pub Worlds : Type 0
-Worlds = State × List State
+Worlds = WorldState × List WorldState
 
 -- the name of the standard readtable, which never changes
 abbrev pub standard_name : Name
@@ -61,5 +61,5 @@ first_rest =
     }
 
 -- the first state
-abbrev pub initial : State
+abbrev pub initial : WorldState
 initial = state_with packages.initial first_rest

@@ -1,7 +1,7 @@
 //! Going back to a state as it was: `mark`, `back_to`, `settle`.
 ghost use Rattle.std.specs.Prelude.{◌≡◌, ◌<◌, ◌++◌, [], ◌∷◌, List, length, take, Some, IfOk, IfErr};
 ghost use Rattle.std.specs.List.{slice_get};
-ghost use Rattle.plist_state.specs.State.{State, Worlds};
+ghost use Rattle.plist_state.specs.State.{WorldState, Worlds};
 
 use crate::World;
 use crate::undo::undo_to;
@@ -37,7 +37,7 @@ impl World {
         requires { mark < length self.old.1 }
         ensures past { self.new.1 ≡ take mark self.old.1 }
         ensures now { slice_get self.old.1 mark ≡ Some self.new.0 }
-        ensures whole { (w : Worlds) (later : List State)
+        ensures whole { (w : Worlds) (later : List WorldState)
             → self.old.1 ≡ w.1 ++ w.0 ∷ later → length w.1 ≡ mark → self.new ≡ w }
     {
         self.packages.back_to(mark);

@@ -1,7 +1,7 @@
 //! Callers over any disk and any macro functions, by the clauses of the store's public calls alone.
 ghost use Rattle.std.specs.Prelude.{◌≡◌, ◌<◌, ◌+◌, ◌-◌, ◌^◌, ◌++◌, ℕ, List, Some, Ok, IfSome, IfOk, length};
 ghost use Rattle.disk_trait.specs.Disk.{IsHonest};
-ghost use Rattle.plist_state.specs.State.{State as LispWorld};
+ghost use Rattle.plist_state.specs.State.{WorldState};
 ghost use Rattle.prevalence_store.specs.meaning.Acceptance.{Acceptance, accepts, records_of};
 ghost use Rattle.prevalence_store.specs.meaning.Answers.{Progress, after_forms};
 ghost use Rattle.prevalence_store.specs.calls.Streams.{Writes};
@@ -37,16 +37,16 @@ fn two_forms<D: Disk + Drop, M: MacroFunctions + Drop>(
     requires room { (D.state disk).failures < 2 ^ 64 - 1 }
     requires room_again { (D.state crashed).failures < 2 ^ 64 - 1 }
     requires answers { M.answers macros }
-    ensures found { IfSome result (λ two. (w : LispWorld)
+    ensures found { IfSome result (λ two. (w : WorldState)
         → IsHonest (D.state disk) → Keeps M.Meaning.functions (D.state disk) w → IsHonest (D.state crashed)
         → (one : Acceptance) × (both : Acceptance)
         × (accepts M.Meaning.functions w Mode.Current first.now ≡ Ok one)
         × (accepts M.Meaning.functions one.world Mode.Current second.now ≡ Ok both)
         × ((D.state two.0).left_since (D.state disk).moment (D.state crashed).reads
-        → IfOk two.1 (λ store. (now : LispWorld) × (store.world ≡ Some now)
+        → IfOk two.1 (λ store. (now : WorldState) × (store.world ≡ Some now)
         × IsAfterSome M.Meaning.functions w (records_of one.wrote Mode.Current one.text ++ records_of both.wrote Mode.Current both.text) 0 now))
         × ((D.state two.0).left_since (D.state two.0).moment (D.state crashed).reads
-        → IfOk two.1 (λ store. (now : LispWorld) × (store.world ≡ Some now)
+        → IfOk two.1 (λ store. (now : WorldState) × (store.world ≡ Some now)
         × IsAfterSome M.Meaning.functions w (records_of one.wrote Mode.Current one.text ++ records_of both.wrote Mode.Current both.text)
         (length (records_of one.wrote Mode.Current one.text) + length (records_of both.wrote Mode.Current both.text)) now))) }
 {
@@ -89,7 +89,7 @@ fn one_session<D: Disk + Drop, M: MacroFunctions + Drop, R: Read, W: Write>(
     requires room { (D.state disk).failures < 2 ^ 64 - 1 }
     requires room_again { (D.state crashed).failures < 2 ^ 64 - 1 }
     requires answers { M.answers macros }
-    ensures acknowledged { IfSome result (λ served. (w : LispWorld) (input : List ℕ)
+    ensures acknowledged { IfSome result (λ served. (w : WorldState) (input : List ℕ)
         → IsHonest (D.state disk) → Keeps M.Meaning.functions (D.state disk) w → IsHonest (D.state crashed)
         → R.remaining reader.old ≡ Some input
         → (D.state served.1).may_leave (D.state crashed).reads
@@ -98,7 +98,7 @@ fn one_session<D: Disk + Drop, M: MacroFunctions + Drop, R: Read, W: Write>(
         × ((lines : ℕ) × (answered : Progress) × (part : List ℕ)
         × (after_forms M.Meaning.functions lines w Mode.Current text ≡ Some answered)
         × (Writes (W.contents writer.old) (W.contents writer.new) (answered.lines ++ part)
-        × ((now : LispWorld) × (store.world ≡ Some now)
+        × ((now : WorldState) × (store.world ≡ Some now)
         × IsAfterSome M.Meaning.functions w far.taken (length answered.taken) now)))))) }
 {
     let Ok(mut store) = Store::open(alloc, disk, macros, AMPLE) else {

@@ -6,7 +6,7 @@ use Rattle.user_macros.specs.Calls.{MacroCall, MacroAnswer}
 use Rattle.package_table.specs.Table.{common_lisp_user}
 use Rattle.canon_printer.specs.Printed.{printed}
 use Rattle.lisp_reading.specs.Setting.{setting_of}
-use Rattle.plist_state.specs.State.{State}
+use Rattle.plist_state.specs.State.{WorldState}
 use Rattle.plist_state.specs.Sound.{IsSound}
 use Rattle.snapshot_text.specs.Built.{with_packages_of, with_properties_of}
 use Rattle.world_text.specs.Lines.{snapshot_limits, IsLineRead}
@@ -14,15 +14,15 @@ use Rattle.world_text.specs.Snapshot.{properties_object, tables_object}
 use Rattle.world_text.proofs.LinesRead.{second_read, third_read}
 use Rattle.user_macros.specs.Functions.{Functions}
 
-module _ (functions : Functions) (s : State) (sound : IsSound s) (w : State) where
+module _ (functions : Functions) (s : WorldState) (sound : IsSound s) (w : WorldState) where
   pub second_line : w ≡ with_packages_of s → length (printed s.packages common_lisp_user (properties_object s)) ≤ 4294967295 → (rest : List ℕ)
       → IsLineRead (setting_of snapshot_limits standard w.packages common_lisp_user functions) s.packages (properties_object s) rest
   second_line old fits rest =
-      subst (λ (v : State). IsLineRead (setting_of snapshot_limits standard v.packages common_lisp_user functions) s.packages (properties_object s) rest) (sym old)
+      subst (λ (v : WorldState). IsLineRead (setting_of snapshot_limits standard v.packages common_lisp_user functions) s.packages (properties_object s) rest) (sym old)
       (second_read functions s sound fits rest)
 
   pub third_line : w ≡ with_properties_of s → length (printed s.packages common_lisp_user (tables_object s)) ≤ 4294967295 → (rest : List ℕ)
       → IsLineRead (setting_of snapshot_limits standard w.packages common_lisp_user functions) s.packages (tables_object s) rest
   third_line old fits rest =
-      subst (λ (v : State). IsLineRead (setting_of snapshot_limits standard v.packages common_lisp_user functions) s.packages (tables_object s) rest) (sym old)
+      subst (λ (v : WorldState). IsLineRead (setting_of snapshot_limits standard v.packages common_lisp_user functions) s.packages (tables_object s) rest) (sym old)
       (third_read functions s sound fits rest)

@@ -19,7 +19,7 @@ use Rattle.readtable_core.proofs.Named.{all_named, passes}
 use Rattle.package_table.specs.Table.{Name, keyword}
 use Rattle.package_table.specs.Lookup.{is_symbol}
 use Rattle.package_table.specs.Table as packages
-use Rattle.plist_state.specs.State.{State}
+use Rattle.plist_state.specs.State.{WorldState}
 use Rattle.plist_state.specs.Sound.{IsSymbol}
 use Rattle.world_text.specs.Snapshot.{number, dispatch_object, dispatch_objects}
 use Rattle.snapshot_text.specs.Built.{with_table, IsWritable, IsSubFunction, IsNamedEntry}
@@ -99,7 +99,7 @@ abbrev pub with_places : CharacterEntry → List (Option Name) → CharacterEntr
 with_places e places = record e { dispatch = places }
 
 -- The readtable has at c the entry e, but for the pairs that are left.
-pub record IsFilling (s : State) (n : Name) (t : Table) (c : ℕ) (e : CharacterEntry) (pairs : List Datum) (k : ℕ) (now : State) : Type 0 where
+pub record IsFilling (s : WorldState) (n : Name) (t : Table) (c : ℕ) (e : CharacterEntry) (pairs : List Datum) (k : ℕ) (now : WorldState) : Type 0 where
   pub proper : list_all is_proper pairs ≡ true
   pub objects : map object_of pairs ≡ dispatch_objects e
   pub places : List (Option Name)
@@ -114,7 +114,7 @@ dispatching_is e b sound is named =
 many_places : (e : CharacterEntry) (b : Bool) → IsCharacterEntry e → e.syntax ≡ macro_syntax b → is_dispatch_name (function_of e) ≡ true → length e.dispatch ≡ 128
 many_places e b sound is named = sound.places ∙ ap (λ b. if b then 128 else 0) (ap dispatches (has_function e b sound is) ∙ named)
 
-pub first_filling : (s : State) (n : Name) (t : Table) (c : ℕ) (e : CharacterEntry) (b : Bool) (pairs : List Datum) (now : State) → IsCharacterEntry e → e.syntax ≡ macro_syntax b
+pub first_filling : (s : WorldState) (n : Name) (t : Table) (c : ℕ) (e : CharacterEntry) (b : Bool) (pairs : List Datum) (now : WorldState) → IsCharacterEntry e → e.syntax ≡ macro_syntax b
     → is_dispatch_name (function_of e) ≡ true → list_all is_proper pairs ≡ true → map object_of pairs ≡ dispatch_objects e
     → now ≡ with_table s n (with_entry t c (dispatching_entry b)) → IsFilling s n t c e pairs 0 now
 first_filling s n t c e b pairs now sound is named proper objects made = record {
@@ -141,7 +141,7 @@ first_filling s n t c e b pairs now sound is named proper objects made = record 
     set_to (Some f) x e = let same : Some f ≡ x = cc in sym same
 
 -- the pair at a place is a function that may be set at a sub-character, in a readtable that may be written
-pub record IsPair (s : State) (n : Name) (t : Table) (c : ℕ) (e : CharacterEntry) (pairs : List Datum) (k : ℕ) (now : State) (pair : Datum) : Type 0 where
+pub record IsPair (s : WorldState) (n : Name) (t : Table) (c : ℕ) (e : CharacterEntry) (pairs : List Datum) (k : ℕ) (now : WorldState) (pair : Datum) : Type 0 where
   pub proper : is_proper pair ≡ true
   pub sub : ℕ
   pub function : Name
@@ -150,7 +150,7 @@ pub record IsPair (s : State) (n : Name) (t : Table) (c : ℕ) (e : CharacterEnt
   pub table : Table
   pub writable : IsWritable now.readtables n table
   pub dispatching : is_dispatching (entry_at table c) ≡ true
-  pub later : (after : State) → after ≡ with_table now n (with_entry table c (with_function (entry_at table c) sub function)) → IsFilling s n t c e pairs (k + 1) after
+  pub later : (after : WorldState) → after ≡ with_table now n (with_entry table c (with_function (entry_at table c) sub function)) → IsFilling s n t c e pairs (k + 1) after
 
 no_key : (a : Bool) (o : Option Name) → is_some o ≡ true → (IsTrue a → o ≡ None) → a ≡ false
 no_key true o some nothing = absurd (let e : o ≡ None = nothing refl in both_ways (is_some o) (ap is_some e) some)
@@ -163,7 +163,7 @@ of_update (Some f) x e =
     let named : f ≡ unwrap_or x [] = ap (λ o. unwrap_or o []) same in
     (ap Some named, sym same ∙ ap Some named)
 
-pub pair_at : (s : State) (n : Name) (t : Table) (c : ℕ) (e : CharacterEntry) (b : Bool) (pairs : List Datum) (k : ℕ) (now : State) (pair : Datum)
+pub pair_at : (s : WorldState) (n : Name) (t : Table) (c : ℕ) (e : CharacterEntry) (b : Bool) (pairs : List Datum) (k : ℕ) (now : WorldState) (pair : Datum)
     → IsNamedEntry s.packages e → e.syntax ≡ macro_syntax b → is_dispatch_name (function_of e) ≡ true → c < 128 → IsWritable s.readtables n t
     → IsFilling s n t c e pairs k now → k < length pairs → pair ≡ get_or pairs k pair → IsPair s n t c e pairs k now pair
 pair_at s n t c e b pairs k now pair named syntax dispatches_here small w so_far few is =
@@ -179,7 +179,7 @@ pair_at s n t c e b pairs k now pair named syntax dispatches_here small w so_far
     let all : list_all (passes (is_symbol s.packages keyword)) e.dispatch ≡ true =
     (and_parts (passes (is_symbol s.packages keyword) e.function) (list_all (passes (is_symbol s.packages keyword)) e.dispatch)
     (sym (all_named (is_symbol s.packages keyword) (e.function ∷ e.dispatch)) ∙ named.functions)).1 in
-    let same : s.packages ≡ now.packages = sym (ap (λ (x : State). x.packages) so_far.is) in
+    let same : s.packages ≡ now.packages = sym (ap (λ (x : WorldState). x.packages) so_far.is) in
     let here = with_entry t c (with_places e so_far.places) in
     let at_c : entry_at here c ≡ with_places e so_far.places = entry_there t c (with_places e so_far.places) (let m = w.count in omega arith) in
     let may : IsSubFunction s.packages u.0 f = record {
@@ -196,14 +196,14 @@ pair_at s n t c e b pairs k now pair named syntax dispatches_here small w so_far
       object = row.1 ∙ ap (λ ys. get_or ys k (object_of pair)) (subs_are e) ∙ get_or-map sub_object us k (0, None) (object_of pair) among;
       may_be = subst (λ p. IsSubFunction p u.0 f) same may;
       table = here;
-      writable = subst (λ (x : State). IsWritable x.readtables n here) (sym so_far.is)
+      writable = subst (λ (x : WorldState). IsWritable x.readtables n here) (sym so_far.is)
           (still_writable s n t here w (length-set t.entries c (with_places e so_far.places) ∙ w.count));
       dispatching = ap is_dispatching at_c ∙ ap dispatches (has_function e b named.entry syntax) ∙ dispatches_here;
       later = λ after made. record {
         proper = so_far.proper;
         objects = so_far.objects;
         places = set so_far.places u.0 u.1;
-        is = made ∙ ap (λ (x : State). with_table x n (with_entry here c (with_function (entry_at here c) u.0 f))) so_far.is
+        is = made ∙ ap (λ (x : WorldState). with_table x n (with_entry here c (with_function (entry_at here c) u.0 f))) so_far.is
             ∙ table_twice s n here (with_entry here c (with_function (entry_at here c) u.0 f))
             ∙ ap (with_table s n) (entry_twice t c (with_places e so_far.places) (with_function (entry_at here c) u.0 f)
             ∙ ap (λ x. with_entry t c (with_function x u.0 f)) at_c
@@ -213,7 +213,7 @@ pair_at s n t c e b pairs k now pair named syntax dispatches_here small w so_far
       };
     }
 
-pub last_filling : (s : State) (n : Name) (t : Table) (c : ℕ) (e : CharacterEntry) (pairs : List Datum) (k : ℕ) (now : State) → IsFilling s n t c e pairs k now → k ≡ length pairs
+pub last_filling : (s : WorldState) (n : Name) (t : Table) (c : ℕ) (e : CharacterEntry) (pairs : List Datum) (k : ℕ) (now : WorldState) → IsFilling s n t c e pairs k now → k ≡ length pairs
     → now ≡ with_table s n (with_entry t c e)
 last_filling s n t c e pairs k now so_far all =
     let us = subs e in

@@ -16,7 +16,7 @@ use Rattle.lisp_object.specs.Object.{Object}
 use Rattle.lisp_object.specs.Datum.{object_of, is_proper}
 use Rattle.readtable_core.specs.Tables.{Table, standard}
 use Rattle.package_table.specs.Table.{Name, name_cmp, keyword}
-use Rattle.plist_state.specs.State.{Readtables, State, standard_name, user_name, first_readtables}
+use Rattle.plist_state.specs.State.{Readtables, WorldState, standard_name, user_name, first_readtables}
 use Rattle.plist_state.specs.Readers.{readtable_names}
 use Rattle.plist_state.specs.Sound.{IsSound, IsNamed, IsSymbol}
 use Rattle.plist_state.proofs.Orders.{name_total, name_exact, one_name, name_tied}
@@ -32,10 +32,10 @@ abbrev other_name : Name → Bool
 other_name n = not (bytes_eq n standard_name)
 
 -- all names but that of the standard readtable
-abbrev pub names : State → List Name
+abbrev pub names : WorldState → List Name
 names s = filter other_name (readtable_names s)
 
-abbrev pub row_of : State → Name → Object
+abbrev pub row_of : WorldState → Name → Object
 row_of s n = readtable_object n (table_named s n)
 
 -- ---- lists that are filtered
@@ -85,11 +85,11 @@ first_of true b e = refl
 first_of false b e = absurd cc
 
 -- ---- readtables put one after the other
-abbrev pub put_named : Readtables → State → List Name → Readtables
+abbrev pub put_named : Readtables → WorldState → List Name → Readtables
 put_named m s [] = m
 put_named m s (n ∷ ns) = put_named (finite.insert m n (table_named s n)) s ns
 
-got : (m : Readtables) (s : State) (ns : List Name) (q : Name) → finite.get (put_named m s ns) q ≡ cond (list_any (eq q) ns) (Some (table_named s q)) (finite.get m q)
+got : (m : Readtables) (s : WorldState) (ns : List Name) (q : Name) → finite.get (put_named m s ns) q ≡ cond (list_any (eq q) ns) (Some (table_named s q)) (finite.get m q)
 got m s [] q = refl
 got m s (n ∷ ns) q =
     got (finite.insert m n (table_named s n)) s ns q
@@ -111,7 +111,7 @@ grown m n t = by (finite.contains_key m n) (finite.len m) (finite.len (finite.in
     by true j k e = omega arith
     by false j k e = omega arith
 
-longer : (m : Readtables) (s : State) (ns : List Name) → finite.len m ≤ finite.len (put_named m s ns)
+longer : (m : Readtables) (s : WorldState) (ns : List Name) → finite.len m ≤ finite.len (put_named m s ns)
 longer m s [] = omega arith
 longer m s (n ∷ ns) =
     let one = grown m n (table_named s n) in
@@ -130,7 +130,7 @@ room_for m n t few = by (finite.contains_key m n) (finite.len m) (finite.len (fi
     by false j k e few = small j (omega arith)
 
 -- ---- all rows
-table_is : (s : State) (n : Name) → IsTrue (finite.contains_key s.readtables n) → finite.get s.readtables n ≡ Some (table_named s n)
+table_is : (s : WorldState) (n : Name) → IsTrue (finite.contains_key s.readtables n) → finite.get s.readtables n ≡ Some (table_named s n)
 table_is s n there =
     elim (finite.get s.readtables n) as (λ o. is_some o ≡ true → o ≡ Some (unwrap_or o standard)) [
       | None ↦ λ e. absurd cc
@@ -138,7 +138,7 @@ table_is s n there =
     ] there
 
 -- where a name has no readtable in a sound state, it had none from the first
-first_at : (s : State) → IsSound s → (q : Name) → bytes_eq q standard_name ≡ false → finite.contains_key s.readtables q ≡ false → finite.get first_readtables q ≡ finite.get s.readtables q
+first_at : (s : WorldState) → IsSound s → (q : Name) → bytes_eq q standard_name ≡ false → finite.contains_key s.readtables q ≡ false → finite.get first_readtables q ≡ finite.get s.readtables q
 first_at s sound q other absent =
     let start : Readtables = finite.empty in
     get-insert name_total (finite.insert start standard_name standard) user_name standard q
@@ -165,7 +165,7 @@ first_standard =
     either start true = sym (get-insert name_total start standard_name standard standard_name ∙ ap (λ b. cond b (Some standard) (finite.get start standard_name)) (name_tied standard_name))
     either start false = refl
 
-all_named : (s : State) → IsSound s → put_named first_readtables s (names s) ≡ s.readtables
+all_named : (s : WorldState) → IsSound s → put_named first_readtables s (names s) ≡ s.readtables
 all_named s sound = same_map name_total name_exact _ _ (λ q.
     got first_readtables s (names s) q
     ∙ ap (λ b. cond b (Some (table_named s q)) (finite.get first_readtables q)) (any_filtered other_name q (readtable_names s)
@@ -186,34 +186,34 @@ all_named s sound = same_map name_total name_exact _ _ (λ q.
     neither false x o = refl
 
 -- The world has the readtables of s, but for those of the rows that are left.
-pub record IsNaming (s : State) (rows : List Datum) (k : ℕ) (now : State) : Type 0 where
+pub record IsNaming (s : WorldState) (rows : List Datum) (k : ℕ) (now : WorldState) : Type 0 where
   pub proper : list_all is_proper rows ≡ true
   pub objects : map object_of rows ≡ map (row_of s) (names s)
   pub is : now ≡ record (with_properties_of s) { readtables = now.readtables }
   pub left : put_named now.readtables s (drop k (names s)) ≡ s.readtables
   pub standard : finite.get now.readtables standard_name ≡ Some standard
 
-pub first_naming : (s : State) → IsSound s → (rows : List Datum) (now : State) → now ≡ with_properties_of s → list_all is_proper rows ≡ true
+pub first_naming : (s : WorldState) → IsSound s → (rows : List Datum) (now : WorldState) → now ≡ with_properties_of s → list_all is_proper rows ≡ true
     → map object_of rows ≡ map (row_of s) (names s) → IsNaming s rows 0 now
 first_naming s sound rows now is proper objects = record {
   proper = proper;
   objects = objects;
-  is = is ∙ ap (λ (m : Readtables). record (with_properties_of s) { readtables = m }) (sym (ap (λ (x : State). x.readtables) is));
-  left = ap (λ (x : State). put_named x.readtables s (names s)) is ∙ all_named s sound;
-  standard = ap (λ (x : State). finite.get x.readtables standard_name) is ∙ first_standard;
+  is = is ∙ ap (λ (m : Readtables). record (with_properties_of s) { readtables = m }) (sym (ap (λ (x : WorldState). x.readtables) is));
+  left = ap (λ (x : WorldState). put_named x.readtables s (names s)) is ∙ all_named s sound;
+  standard = ap (λ (x : WorldState). finite.get x.readtables standard_name) is ∙ first_standard;
 }
 
 -- the row at a place may be put
-pub record IsTableRow (s : State) (rows : List Datum) (k : ℕ) (now : State) (row : Datum) : Type 0 where
+pub record IsTableRow (s : WorldState) (rows : List Datum) (k : ℕ) (now : WorldState) (row : Datum) : Type 0 where
   pub proper : is_proper row ≡ true
   pub name : Name
   pub object : object_of row ≡ readtable_object name (table_named s name)
   pub named : IsNamed now.packages (table_named s name)
   pub there : IsSymbol now.packages (keyword, name)
   pub can : CanBeMade now.readtables name
-  pub later : (after : State) → after ≡ with_table now name (table_named s name) → IsNaming s rows (k + 1) after
+  pub later : (after : WorldState) → after ≡ with_table now name (table_named s name) → IsNaming s rows (k + 1) after
 
-pub table_row_at : (s : State) → IsSound s → (rows : List Datum) (k : ℕ) (now : State) (row : Datum) → IsNaming s rows k now → k < length rows → row ≡ get_or rows k row
+pub table_row_at : (s : WorldState) → IsSound s → (rows : List Datum) (k : ℕ) (now : WorldState) (row : Datum) → IsNaming s rows k now → k < length rows → row ≡ get_or rows k row
     → IsTableRow s rows k now row
 table_row_at s sound rows k now row so_far few is =
     let ns = names s in
@@ -226,7 +226,7 @@ table_row_at s sound rows k now row so_far few is =
     let other : bytes_eq n standard_name ≡ false = turned (bytes_eq n standard_name) passes in
     let there : IsTrue (finite.contains_key s.readtables n) =
     contains_key-keys s.readtables n ∙ first_of (list_any (eq n) (readtable_names s)) (other_name n) (sym (any_filtered other_name n (readtable_names s)) ∙ at_place name_cmp name_total ns k [] among) in
-    let same : s.packages ≡ now.packages = sym (ap (λ (x : State). x.packages) so_far.is) in
+    let same : s.packages ≡ now.packages = sym (ap (λ (x : WorldState). x.packages) so_far.is) in
     let next : put_named (finite.insert now.readtables n t) s (drop (k + 1) ns) ≡ s.readtables =
     ap (λ j. put_named now.readtables s (n ∷ drop j ns)) (add-one k) ∙ ap (put_named now.readtables s) (sym (drop-cons ns k [] among)) ∙ so_far.left in
     record {
@@ -244,10 +244,10 @@ table_row_at s sound rows k now row so_far few is =
       later = λ after made. record {
         proper = so_far.proper;
         objects = so_far.objects;
-        is = made ∙ ap (λ (x : State). record x { readtables = finite.insert now.readtables n t }) so_far.is
-            ∙ ap (λ (m : Readtables). record (with_properties_of s) { readtables = m }) (sym (ap (λ (x : State). x.readtables) made));
-        left = ap (λ (x : State). put_named x.readtables s (drop (k + 1) ns)) made ∙ next;
-        standard = ap (λ (x : State). finite.get x.readtables standard_name) made ∙ get-insert name_total now.readtables n t standard_name
+        is = made ∙ ap (λ (x : WorldState). record x { readtables = finite.insert now.readtables n t }) so_far.is
+            ∙ ap (λ (m : Readtables). record (with_properties_of s) { readtables = m }) (sym (ap (λ (x : WorldState). x.readtables) made));
+        left = ap (λ (x : WorldState). put_named x.readtables s (drop (k + 1) ns)) made ∙ next;
+        standard = ap (λ (x : WorldState). finite.get x.readtables standard_name) made ∙ get-insert name_total now.readtables n t standard_name
             ∙ ap (λ b. cond b (Some t) (finite.get now.readtables standard_name)) ((eq_by_cmp_equiv name_total).symm standard_name n ∙ is_eq-slice_cmp n standard_name ∙ other) ∙ so_far.standard;
       };
     }
@@ -259,7 +259,7 @@ table_row_at s sound rows k now row so_far few is =
     within : (a b : ℕ) → a ≤ b → b ≤ 64 → a ≤ 64
     within a b e f = omega arith
 
-pub last_naming : (s : State) (rows : List Datum) (k : ℕ) (now : State) → IsNaming s rows k now → k ≡ length rows → now ≡ with_readtables_of s
+pub last_naming : (s : WorldState) (rows : List Datum) (k : ℕ) (now : WorldState) → IsNaming s rows k now → k ≡ length rows → now ≡ with_readtables_of s
 last_naming s rows k now so_far all =
     let ns = names s in
     let count : length rows ≡ length ns = item_count rows (map (row_of s) ns) so_far.objects ∙ length-map ns (row_of s) in

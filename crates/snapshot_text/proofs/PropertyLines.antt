@@ -15,7 +15,7 @@ use Rattle.canon_printer.specs.Printed.{printed, printed_prefix}
 use Rattle.lisp_reading.specs.Setting.{setting_of}
 use Rattle.lisp_reading.specs.Reading.{form, space_at, reads}
 use Rattle.plist_state.specs.Properties.{Symbol}
-use Rattle.plist_state.specs.State.{State}
+use Rattle.plist_state.specs.State.{WorldState}
 use Rattle.plist_state.specs.Readers.{symbols_with_properties}
 use Rattle.plist_state.specs.Sound.{IsSound}
 use Rattle.snapshot_text.specs.Built.{with_properties_of}
@@ -45,28 +45,28 @@ module _ (prefix : Name → Name → List ℕ) (f : Symbol → Object) where
   some_text [] rest = omega arith
   some_text (x ∷ xs) rest = omega arith
 
-pub more_after : (s : State) (n : ℕ) (rest : List ℕ) → 0 < length (text_after s n ++ rest)
+pub more_after : (s : WorldState) (n : ℕ) (rest : List ℕ) → 0 < length (text_after s n ++ rest)
 more_after s n rest = some_text (printed_prefix s.packages common_lisp_user) (row_of s) (drop n (symbols_with_properties s)) rest
 
 -- where there is a row at the place, and where there is none
-pub row_after : (s : State) (n : ℕ) → n < length (symbols_with_properties s) → text_after s n ≡ 32 ∷ (row_text s n ++ text_after s (n + 1))
+pub row_after : (s : WorldState) (n : ℕ) → n < length (symbols_with_properties s) → text_after s n ≡ 32 ∷ (row_text s n ++ text_after s (n + 1))
 row_after s n few =
     ap (λ xs. written_rest (printed_prefix s.packages common_lisp_user) (list_of (map (row_of s) xs))) (drop_more (symbols_with_properties s) n ([], []) few)
 
-pub none_after : (s : State) (n : ℕ) → length (symbols_with_properties s) ≤ n → text_after s n ≡ 41 ∷ []
+pub none_after : (s : WorldState) (n : ℕ) → length (symbols_with_properties s) ≤ n → text_after s n ≡ 41 ∷ []
 none_after s n all =
     ap (λ xs. written_rest (printed_prefix s.packages common_lisp_user) (list_of (map (row_of s) xs))) (drop_of_length-le (symbols_with_properties s) all)
 
 -- ---- the line
 
-pub no_rows_line : (s : State) → IsSound s → length (symbols_with_properties s) ≡ 0 → line s.packages (properties_object s) ≡ codes "NIL" ++ 10 ∷ []
+pub no_rows_line : (s : WorldState) → IsSound s → length (symbols_with_properties s) ≡ 0 → line s.packages (properties_object s) ≡ codes "NIL" ++ 10 ∷ []
 no_rows_line s sound none = go (symbols_with_properties s) none
   where
     go : (xs : List Symbol) → length xs ≡ 0 → printed s.packages common_lisp_user (list_of (map (row_of s) xs)) ++ 10 ∷ [] ≡ codes "NIL" ++ 10 ∷ []
     go [] e = ap (λ prefix. (prefix ++ codes "NIL") ++ 10 ∷ []) (no_prefix s.packages sound.packages)
     go (x ∷ xs) e = absurd (omega arith)
 
-pub rows_line : (s : State) → 0 < length (symbols_with_properties s) → line s.packages (properties_object s) ≡ (40 ∷ (row_text s 0 ++ text_after s 1)) ++ 10 ∷ []
+pub rows_line : (s : WorldState) → 0 < length (symbols_with_properties s) → line s.packages (properties_object s) ≡ (40 ∷ (row_text s 0 ++ text_after s 1)) ++ 10 ∷ []
 rows_line s some =
     ap (λ xs. printed s.packages common_lisp_user (list_of (map (row_of s) xs)) ++ 10 ∷ []) (drop_more (symbols_with_properties s) 0 ([], []) some)
 
@@ -74,10 +74,10 @@ rows_line s some =
 
 module _ (functions : Functions) where
   -- where the row ends, with the whitespace after it
-  pub row_next : (s : State) (n : ℕ) (rest : List ℕ) → ℕ
+  pub row_next : (s : WorldState) (n : ℕ) (rest : List ℕ) → ℕ
   row_next s n rest = length (row_text s n) + space_at standard (ends_with_token (row_of s (symbol_at s n))) (text_after s (n + 1) ++ rest)
 
-  pub row_read : (s : State) → IsSound s → (n : ℕ) (now : State) → IsUpTo s n now → n < length (symbols_with_properties s)
+  pub row_read : (s : WorldState) → IsSound s → (n : ℕ) (now : WorldState) → IsUpTo s n now → n < length (symbols_with_properties s)
       → length (row_text s n) ≤ 4294967295 → (rest : List ℕ)
       → reads (setting_of snapshot_limits standard now.packages common_lisp_user functions) (row_text s n ++ (text_after s (n + 1) ++ rest))
       ≡ form (row_of s (symbol_at s n)) 0 (length (row_text s n)) (row_next s n rest)
@@ -87,7 +87,7 @@ module _ (functions : Functions) where
       let y = row_of s x in
       let good = row_good s sound x (key_at s n few) in
       let deep = plist_depth s sound x in
-      let same : now.packages ≡ s.packages = ap (λ (w : State). w.packages) so_far.rest in
+      let same : now.packages ≡ s.packages = ap (λ (w : WorldState). w.packages) so_far.rest in
       ap (λ t. reads (setting_of snapshot_limits standard t common_lisp_user functions) (row_text s n ++ (text_after s (n + 1) ++ rest))) same
       ∙ object_read_back snapshot_limits s.packages common_lisp_user functions sound.packages (omega arith) y
       (good.sound, good_symbols s.packages y good, tokens_short s.packages common_lisp_user sound.packages y good.sound good.known)
@@ -97,14 +97,14 @@ module _ (functions : Functions) where
 -- ---- while the rows are read
 
 -- A row begins at this place, after which the others follow up to the end of the line, and the world has those before it.
-pub record IsAtRow (s : State) (bytes rest : List ℕ) (at : ℕ) (now : State) : Type 0 where
+pub record IsAtRow (s : WorldState) (bytes rest : List ℕ) (at : ℕ) (now : WorldState) : Type 0 where
   pub done : ℕ
   pub few : done < length (symbols_with_properties s)
   pub so_far : IsUpTo s done now
   pub text : drop at bytes ≡ row_text s done ++ (text_after s (done + 1) ++ 10 ∷ rest)
 
 -- the row after one that was put, after a space
-pub next_row : (s : State) (bytes rest : List ℕ) (end next : ℕ) (now : State) (n : ℕ) → length bytes ≤ 4294967295 → IsUpTo s n now → n < length (symbols_with_properties s)
+pub next_row : (s : WorldState) (bytes rest : List ℕ) (end next : ℕ) (now : WorldState) (n : ℕ) → length bytes ≤ 4294967295 → IsUpTo s n now → n < length (symbols_with_properties s)
     → drop end bytes ≡ text_after s n ++ 10 ∷ rest → next ≡ end + 1 → IsAtRow s bytes rest next now
 next_row s bytes rest end next now n fits so_far few e is =
     let here : drop end bytes ≡ 32 ∷ (row_text s n ++ (text_after s (n + 1) ++ 10 ∷ rest)) =
@@ -118,18 +118,18 @@ next_row s bytes rest end next now n fits so_far few e is =
     }
 
 -- What stands after a row that was put: a space and the next row, or the parenthesis after the last one.
-pub record IsLater (s : State) (bytes rest : List ℕ) (end : ℕ) (now : State) : Type 0 where
+pub record IsLater (s : WorldState) (bytes rest : List ℕ) (end : ℕ) (now : WorldState) : Type 0 where
   pub there : end < length bytes
   pub byte : get_or bytes end 0 ≡ 32
   pub row : (next : ℕ) → next ≡ end + 1 → IsAtRow s bytes rest next now
 
-pub record IsLast (s : State) (bytes rest : List ℕ) (end : ℕ) (now : State) : Type 0 where
+pub record IsLast (s : WorldState) (bytes rest : List ℕ) (end : ℕ) (now : WorldState) : Type 0 where
   pub there : end < length bytes
   pub byte : get_or bytes end 0 ≡ 41
   pub world : now ≡ with_properties_of s
   pub text : (next : ℕ) → next ≡ min (end + 2) 18446744073709551615 → drop next bytes ≡ rest
 
-pub after_row : (s : State) (bytes rest : List ℕ) (end : ℕ) (now : State) (n : ℕ) → length bytes ≤ 4294967295 → IsUpTo s n now → n ≤ length (symbols_with_properties s)
+pub after_row : (s : WorldState) (bytes rest : List ℕ) (end : ℕ) (now : WorldState) (n : ℕ) → length bytes ≤ 4294967295 → IsUpTo s n now → n ≤ length (symbols_with_properties s)
     → drop end bytes ≡ text_after s n ++ 10 ∷ rest → IsLater s bytes rest end now ⊎ IsLast s bytes rest end now
 after_row s bytes rest end now n fits so_far within e =
     elim (eq-or-lt_of_le {n = n} {m = length (symbols_with_properties s)} within) [
@@ -154,20 +154,20 @@ after_row s bytes rest end now n fits so_far within e =
 -- ---- the line begins
 
 -- it is NIL, where there are no property lists
-pub record IsNilLine (s : State) (bytes rest : List ℕ) (at : ℕ) : Type 0 where
+pub record IsNilLine (s : WorldState) (bytes rest : List ℕ) (at : ℕ) : Type 0 where
   pub there : at < length bytes
   pub byte : get_or bytes at 0 ≡ 78
   pub none : 0 ≡ length (symbols_with_properties s)
   pub text : (next : ℕ) → next ≡ min (at + 4) 18446744073709551615 → drop next bytes ≡ rest
 
 -- or a parenthesis and the rows
-pub record IsRowsLine (s : State) (bytes rest : List ℕ) (at : ℕ) : Type 0 where
+pub record IsRowsLine (s : WorldState) (bytes rest : List ℕ) (at : ℕ) : Type 0 where
   pub there : at < length bytes
   pub byte : get_or bytes at 0 ≡ 40
   pub some : 0 < length (symbols_with_properties s)
   pub text : (next : ℕ) → next ≡ min (at + 1) 18446744073709551615 → drop next bytes ≡ row_text s 0 ++ (text_after s 1 ++ 10 ∷ rest)
 
-pub line_begins : (s : State) → IsSound s → (bytes rest : List ℕ) (at : ℕ) → length bytes ≤ 4294967295
+pub line_begins : (s : WorldState) → IsSound s → (bytes rest : List ℕ) (at : ℕ) → length bytes ≤ 4294967295
     → drop at bytes ≡ line s.packages (properties_object s) ++ rest → IsNilLine s bytes rest at ⊎ IsRowsLine s bytes rest at
 line_begins s sound bytes rest at fits e =
     elim (eq-or-lt_of_le {n = 0} {m = length (symbols_with_properties s)} (omega arith)) [
@@ -194,24 +194,24 @@ line_begins s sound bytes rest at fits e =
 
 -- ---- which of two it is, by its byte
 
-pub end_there : (s : State) (bytes rest : List ℕ) (end : ℕ) (now : State) → IsLater s bytes rest end now ⊎ IsLast s bytes rest end now → end < length bytes
+pub end_there : (s : WorldState) (bytes rest : List ℕ) (end : ℕ) (now : WorldState) → IsLater s bytes rest end now ⊎ IsLast s bytes rest end now → end < length bytes
 end_there s bytes rest end now (inl w) = w.there
 end_there s bytes rest end now (inr w) = w.there
 
-pub last_at : (s : State) (bytes rest : List ℕ) (end : ℕ) (now : State) → IsLater s bytes rest end now ⊎ IsLast s bytes rest end now → get_or bytes end 0 ≡ 41
+pub last_at : (s : WorldState) (bytes rest : List ℕ) (end : ℕ) (now : WorldState) → IsLater s bytes rest end now ⊎ IsLast s bytes rest end now → get_or bytes end 0 ≡ 41
     → IsLast s bytes rest end now
 last_at s bytes rest end now (inl w) is = absurd (omega (arith, w.byte, is))
 last_at s bytes rest end now (inr w) is = w
 
-pub later_at : (s : State) (bytes rest : List ℕ) (end : ℕ) (now : State) → IsLater s bytes rest end now ⊎ IsLast s bytes rest end now → (get_or bytes end 0 ≡ 41 → ⊥)
+pub later_at : (s : WorldState) (bytes rest : List ℕ) (end : ℕ) (now : WorldState) → IsLater s bytes rest end now ⊎ IsLast s bytes rest end now → (get_or bytes end 0 ≡ 41 → ⊥)
     → IsLater s bytes rest end now
 later_at s bytes rest end now (inl w) other = w
 later_at s bytes rest end now (inr w) other = absurd (other w.byte)
 
-pub rows_at : (s : State) (bytes rest : List ℕ) (at : ℕ) → IsNilLine s bytes rest at ⊎ IsRowsLine s bytes rest at → get_or bytes at 0 ≡ 40 → IsRowsLine s bytes rest at
+pub rows_at : (s : WorldState) (bytes rest : List ℕ) (at : ℕ) → IsNilLine s bytes rest at ⊎ IsRowsLine s bytes rest at → get_or bytes at 0 ≡ 40 → IsRowsLine s bytes rest at
 rows_at s bytes rest at (inl w) is = absurd (omega (arith, w.byte, is))
 rows_at s bytes rest at (inr w) is = w
 
-pub nil_at : (s : State) (bytes rest : List ℕ) (at : ℕ) → IsNilLine s bytes rest at ⊎ IsRowsLine s bytes rest at → (get_or bytes at 0 ≡ 40 → ⊥) → IsNilLine s bytes rest at
+pub nil_at : (s : WorldState) (bytes rest : List ℕ) (at : ℕ) → IsNilLine s bytes rest at ⊎ IsRowsLine s bytes rest at → (get_or bytes at 0 ≡ 40 → ⊥) → IsNilLine s bytes rest at
 nil_at s bytes rest at (inl w) other = w
 nil_at s bytes rest at (inr w) other = absurd (other w.byte)

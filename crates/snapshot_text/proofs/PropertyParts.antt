@@ -16,7 +16,7 @@ use Rattle.lisp_object.specs.Object.{Object}
 use Rattle.lisp_object.specs.Datum.{object_of, is_proper}
 use Rattle.package_table.specs.Table as packages
 use Rattle.plist_state.specs.Properties.{Symbol, Plist, symbol_cmp, same_symbol, value_at, with_value, list_at, with_list}
-use Rattle.plist_state.specs.State.{State}
+use Rattle.plist_state.specs.State.{WorldState}
 use Rattle.plist_state.specs.Changes.{plist, with_property}
 use Rattle.plist_state.specs.Readers.{symbols_with_properties}
 use Rattle.plist_state.specs.Sound.{IsSound, IsSymbol, IsPlist, IsValue, IsApart}
@@ -32,7 +32,7 @@ abbrev pub flat : Plist → List Object
 flat ps = flat_map (λ p. symbol_object p.0 ∷ p.1 ∷ []) ps
 
 -- What is left of a row are properties that may be set, and that make of the world now what is to be made.
-pub record IsLeft (t : packages.Table) (x : Symbol) (made now : State) (rest : List Datum) : Type 0 where
+pub record IsLeft (t : packages.Table) (x : Symbol) (made now : WorldState) (rest : List Datum) : Type 0 where
   pub proper : list_all is_proper rest ≡ true
   pub properties : Plist
   pub objects : map object_of rest ≡ flat properties
@@ -41,13 +41,13 @@ pub record IsLeft (t : packages.Table) (x : Symbol) (made now : State) (rest : L
   pub packages : now.packages ≡ t
   pub is : with_each now x properties ≡ made
 
-pub all_left : (s : State) (x : Symbol) (ps : Plist) (rest : List Datum) → list_all is_proper rest ≡ true → map object_of rest ≡ flat ps → IsPlist s.packages ps
+pub all_left : (s : WorldState) (x : Symbol) (ps : Plist) (rest : List Datum) → list_all is_proper rest ≡ true → map object_of rest ≡ flat ps → IsPlist s.packages ps
     → IsLeft s.packages x (with_each s x ps) s rest
 all_left s x ps rest proper e plist =
     record { proper = proper; properties = ps; objects = e; indicators = plist.indicators; values = plist.values; packages = refl; is = refl }
 
 -- where nothing is left
-pub none_left : (t : packages.Table) (x : Symbol) (made now : State) (rest : List Datum) → IsLeft t x made now rest → length rest ≡ 0 → now ≡ made
+pub none_left : (t : packages.Table) (x : Symbol) (made now : WorldState) (rest : List Datum) → IsLeft t x made now rest → length rest ≡ 0 → now ≡ made
 none_left t x made now (a ∷ rest) left none = absurd (omega arith)
 none_left t x made now [] left none = nothing left.properties left.objects left.is
   where
@@ -56,7 +56,7 @@ none_left t x made now [] left none = nothing left.properties left.objects left.
     nothing (p ∷ ps) e is = absurd cc
 
 -- one object alone is not left
-pub not_one : (t : packages.Table) (x : Symbol) (made now : State) (rest : List Datum) → IsLeft t x made now rest → length rest ≡ 1 → ⊥
+pub not_one : (t : packages.Table) (x : Symbol) (made now : WorldState) (rest : List Datum) → IsLeft t x made now rest → length rest ≡ 1 → ⊥
 not_one t x made now [] left one = absurd (omega arith)
 not_one t x made now (a ∷ b ∷ rest) left one = absurd (omega arith)
 not_one t x made now (a ∷ []) left one = odd left.properties left.objects
@@ -66,7 +66,7 @@ not_one t x made now (a ∷ []) left one = odd left.properties left.objects
     odd (p ∷ ps) e = absurd cc
 
 -- the next two are an indicator and a value
-pub record IsNext (t : packages.Table) (x : Symbol) (made now : State) (a b : Datum) (later : List Datum) : Type 0 where
+pub record IsNext (t : packages.Table) (x : Symbol) (made now : WorldState) (a b : Datum) (later : List Datum) : Type 0 where
   pub indicator_proper : is_proper a ≡ true
   pub value_proper : is_proper b ≡ true
   pub indicator : Symbol
@@ -76,7 +76,7 @@ pub record IsNext (t : packages.Table) (x : Symbol) (made now : State) (a b : Da
   pub packages : now.packages ≡ t
   pub then : IsLeft t x made (with_property now x indicator (object_of b)) later
 
-next_two : (t : packages.Table) (x : Symbol) (made now : State) (a b : Datum) (later : List Datum) → IsLeft t x made now (a ∷ b ∷ later) → IsNext t x made now a b later
+next_two : (t : packages.Table) (x : Symbol) (made now : WorldState) (a b : Datum) (later : List Datum) → IsLeft t x made now (a ∷ b ∷ later) → IsNext t x made now a b later
 next_two t x made now a b later left = go left.properties left.objects left.indicators left.values left.is
   where
     go : (ps : Plist) → object_of a ∷ object_of b ∷ map object_of later ≡ flat ps → All (λ p. IsSymbol t p.0) ps → All (λ p. IsValue t p.1) ps
@@ -110,7 +110,7 @@ next_two t x made now a b later left = go left.properties left.objects left.indi
 all_but_two : (n : ℕ) → suc (suc n) - 2 ≡ n
 all_but_two n = omega arith
 
-pub next_left : (t : packages.Table) (x : Symbol) (made now : State) (rest : List Datum) (a b : Datum) → IsLeft t x made now rest → 2 ≤ length rest
+pub next_left : (t : packages.Table) (x : Symbol) (made now : WorldState) (rest : List Datum) (a b : Datum) → IsLeft t x made now rest → 2 ≤ length rest
     → a ≡ get_or rest 0 a → b ≡ get_or rest 1 b → IsNext t x made now a b (take (length rest - 2) (drop 2 rest))
 next_left t x made now [] a b left two is_a is_b = absurd (omega arith)
 next_left t x made now (c ∷ []) a b left two is_a is_b = absurd (omega arith)
@@ -157,7 +157,7 @@ new_first p ps none = new_after [] p ps (nothing ps) none
     nothing [] = tt
     nothing (q ∷ qs) = (refl, nothing qs)
 
-each_after : (s : State) (x : Symbol) (done ps : Plist) → IsApart ps → AreNew done ps
+each_after : (s : WorldState) (x : Symbol) (done ps : Plist) → IsApart ps → AreNew done ps
     → with_each (with_properties s (with_list s.properties x done)) x ps ≡ with_properties s (with_list s.properties x (done ++ ps))
 each_after s x done [] apart new = ap (λ qs. with_properties s (with_list s.properties x qs)) (sym (append-nil done))
 each_after s x done (p ∷ ps) apart new =
@@ -170,7 +170,7 @@ each_after s x done (p ∷ ps) apart new =
     ∙ ap (λ qs. with_properties s (with_list s.properties x qs)) (append_assoc done (p ∷ []) ps)
 
 -- the properties of a symbol that has none
-pub each_is_list : (s : State) (x : Symbol) (ps : Plist) → ps ≢ [] → IsApart ps → plist s x ≡ [] → with_each s x ps ≡ with_properties s (with_list s.properties x ps)
+pub each_is_list : (s : WorldState) (x : Symbol) (ps : Plist) → ps ≢ [] → IsApart ps → plist s x ≡ [] → with_each s x ps ≡ with_properties s (with_list s.properties x ps)
 each_is_list s x [] some apart none = absurd (some refl)
 each_is_list s x (p ∷ ps) some apart none =
     ap (λ qs. with_each (with_properties s (with_list s.properties x (with_value qs p.0 p.1))) x ps) none
@@ -183,20 +183,20 @@ tied = eq_by_cmp symbol_cmp
 abbrev none : Symbol
 none = ([], [])
 
-pub at_first : (s now : State) → now ≡ with_packages_of s → IsUpTo s 0 now
+pub at_first : (s now : WorldState) → now ≡ with_packages_of s → IsUpTo s 0 now
 at_first s now is = record {
-  rest = is ∙ ap (with_properties (with_packages_of s)) (sym (ap (λ (w : State). w.properties) is));
-  lists = λ q. ap (λ (w : State). finite.get w.properties q) is ∙ get-empty symbol_cmp q;
+  rest = is ∙ ap (with_properties (with_packages_of s)) (sym (ap (λ (w : WorldState). w.properties) is));
+  lists = λ q. ap (λ (w : WorldState). finite.get w.properties q) is ∙ get-empty symbol_cmp q;
 }
 
 -- the row at a place may be put
-pub record IsRow (s now : State) (n : ℕ) : Type 0 where
+pub record IsRow (s now : WorldState) (n : ℕ) : Type 0 where
   pub key : IsTrue (finite.contains_key s.properties (symbol_at s n))
   pub there : IsSymbol now.packages (symbol_at s n)
   pub may_be : IsPlist now.packages (plist s (symbol_at s n))
   pub absent : plist now (symbol_at s n) ≡ []
 
-has_list : (s : State) (x : Symbol) → IsTrue (finite.contains_key s.properties x) → finite.get s.properties x ≡ Some (plist s x)
+has_list : (s : WorldState) (x : Symbol) → IsTrue (finite.contains_key s.properties x) → finite.get s.properties x ≡ Some (plist s x)
 has_list s x there =
     elim (finite.get s.properties x) as (λ o. is_some o ≡ true → o ≡ Some (unwrap_or o [])) [
       | None ↦ λ e. absurd cc
@@ -204,16 +204,16 @@ has_list s x there =
     ] there
 
 -- the symbol of the row at a place has properties
-pub key_at : (s : State) (n : ℕ) → n < length (symbols_with_properties s) → IsTrue (finite.contains_key s.properties (symbol_at s n))
+pub key_at : (s : WorldState) (n : ℕ) → n < length (symbols_with_properties s) → IsTrue (finite.contains_key s.properties (symbol_at s n))
 key_at s n few =
     contains_key-keys s.properties (symbol_at s n) ∙ at_place symbol_cmp symbol_total (symbols_with_properties s) n none few
 
-pub row_at : (s : State) → IsSound s → (n : ℕ) (now : State) → IsUpTo s n now → n < length (symbols_with_properties s) → IsRow s now n
+pub row_at : (s : WorldState) → IsSound s → (n : ℕ) (now : WorldState) → IsUpTo s n now → n < length (symbols_with_properties s) → IsRow s now n
 row_at s sound n now so_far few =
     let xs = symbols_with_properties s in
     let x = symbol_at s n in
     let there : IsTrue (finite.contains_key s.properties x) = key_at s n few in
-    let same : s.packages ≡ now.packages = sym (ap (λ (w : State). w.packages) so_far.rest) in
+    let same : s.packages ≡ now.packages = sym (ap (λ (w : WorldState). w.packages) so_far.rest) in
     record {
       key = there;
       there = subst (λ t. IsSymbol t x) same (sound.symbols x there);
@@ -229,7 +229,7 @@ one_more true false o p same = refl
 one_more false true o p same = sym (same refl)
 one_more false false o p same = refl
 
-pub next_up_to : (s : State) → IsSound s → (n : ℕ) (now then : State) → IsUpTo s n now → n < length (symbols_with_properties s)
+pub next_up_to : (s : WorldState) → IsSound s → (n : ℕ) (now then : WorldState) → IsUpTo s n now → n < length (symbols_with_properties s)
     → then ≡ with_properties now (with_list now.properties (symbol_at s n) (plist s (symbol_at s n))) → IsUpTo s (n + 1) then
 next_up_to s sound n now then so_far few is =
     let xs = symbols_with_properties s in
@@ -237,9 +237,9 @@ next_up_to s sound n now then so_far few is =
     let there : IsTrue (finite.contains_key s.properties x) = key_at s n few in
     let listed : finite.get s.properties x ≡ kept (plist s x) = has_list s x there ∙ some_kept (plist s x) (sound.properties x (plist s x) (has_list s x there)).some in
     record {
-      rest = is ∙ ap (λ (w : State). with_properties w (with_list now.properties x (plist s x))) so_far.rest
-          ∙ ap (with_properties (with_packages_of s)) (sym (ap (λ (w : State). w.properties) is));
-      lists = λ q. ap (λ (w : State). finite.get w.properties q) is ∙ get-with_list now.properties x (plist s x) q
+      rest = is ∙ ap (λ (w : WorldState). with_properties w (with_list now.properties x (plist s x))) so_far.rest
+          ∙ ap (with_properties (with_packages_of s)) (sym (ap (λ (w : WorldState). w.properties) is));
+      lists = λ q. ap (λ (w : WorldState). finite.get w.properties q) is ∙ get-with_list now.properties x (plist s x) q
           ∙ ap (cond (tied q x) (kept (plist s x))) (so_far.lists q)
           ∙ one_more (list_any (tied q) (take n xs)) (tied q x) (finite.get s.properties q) (kept (plist s x)) (λ t. ap (finite.get s.properties) (one_symbol q x t) ∙ listed)
           ∙ ap (λ b. cond b (finite.get s.properties q) None) (sym (list_any_more (tied q) xs n none few));
@@ -249,7 +249,7 @@ next_up_to s sound n now then so_far few is =
     some_kept [] some = absurd (some refl)
     some_kept (p ∷ ps) some = refl
 
-pub at_last : (s : State) (n : ℕ) (now : State) → IsUpTo s n now → n ≡ length (symbols_with_properties s) → now ≡ with_properties_of s
+pub at_last : (s : WorldState) (n : ℕ) (now : WorldState) → IsUpTo s n now → n ≡ length (symbols_with_properties s) → now ≡ with_properties_of s
 at_last s n now so_far all =
     let xs = symbols_with_properties s in
     let same : now.properties ≡ s.properties = same_map symbol_total symbol_exact now.properties s.properties (λ q.

@@ -20,7 +20,7 @@ use Rattle.readtable_core.proofs.Sound.{standard_sound}
 use Rattle.package_table.specs.Table.{Name, name_cmp, keyword}
 use Rattle.package_table.specs.Lookup.{is_symbol}
 use Rattle.plist_state.specs.declared.error.ReadtableError.TheVariants.{NoReadtable, StandardReadtable, Limit}
-use Rattle.plist_state.specs.State.{Readtables, State, standard_name}
+use Rattle.plist_state.specs.State.{Readtables, WorldState, standard_name}
 use Rattle.plist_state.specs.Changes.{with_copy, in_state}
 use Rattle.plist_state.specs.Sound.{IsNamed}
 use Rattle.plist_state.proofs.Orders.{name_total, name_exact, one_name}
@@ -31,7 +31,7 @@ use Rattle.snapshot_text.proofs.ReadParts.{item_at, item_count}
 use Rattle.snapshot_text.proofs.TableParts.{table_twice, made_writable, still_writable}
 
 -- ---- the copy
-pub copied : (s : State) (n : Name) → CanBeMade s.readtables n → in_state s (with_copy s.readtables standard_name n) ≡ Ok (with_table s n standard)
+pub copied : (s : WorldState) (n : Name) → CanBeMade s.readtables n → in_state s (with_copy s.readtables standard_name n) ≡ Ok (with_table s n standard)
 copied s n can =
     let m = s.readtables in
     ap (λ o. in_state s (option_map_or (λ (t : Table).
@@ -43,7 +43,7 @@ copied s n can =
     else Ok (finite.insert m n standard)))) can.other
     ∙ ap (λ b. in_state s (if b then Err Limit else Ok (finite.insert m n standard))) can.room
 
-pub copy_writable : (s : State) (n : Name) → CanBeMade s.readtables n → IsWritable (with_table s n standard).readtables n standard
+pub copy_writable : (s : WorldState) (n : Name) → CanBeMade s.readtables n → IsWritable (with_table s n standard).readtables n standard
 copy_writable s n can = made_writable s n standard can.other can.standard standard_sound.count
 
 -- ---- the entries
@@ -76,7 +76,7 @@ abbrev pub with_entries : Table → List CharacterEntry → Table
 with_entries t entries = record t { entries = entries }
 
 -- The readtable of this name is t, but for the entries that are left.
-pub record IsMaking (s : State) (n : Name) (t : Table) (rows : List Datum) (k : ℕ) (now : State) : Type 0 where
+pub record IsMaking (s : WorldState) (n : Name) (t : Table) (rows : List Datum) (k : ℕ) (now : WorldState) : Type 0 where
   pub proper : list_all is_proper rows ≡ true
   pub objects : map object_of rows ≡ entry_objects t
   pub entries : List CharacterEntry
@@ -85,7 +85,7 @@ pub record IsMaking (s : State) (n : Name) (t : Table) (rows : List Datum) (k : 
   pub left : put_all entries (drop k (entry_updates t)) ≡ t.entries
 
 -- the readtable that is there, put again
-table_same : (s : State) (n : Name) (t : Table) → finite.get s.readtables n ≡ Some t → s ≡ with_table s n t
+table_same : (s : WorldState) (n : Name) (t : Table) → finite.get s.readtables n ≡ Some t → s ≡ with_table s n t
 table_same s n t there = ap (λ (m : Readtables). record s { readtables = m }) (same_map name_total name_exact _ _ (λ q.
     elim (eq_by_cmp name_cmp q n) as (λ b. eq_by_cmp name_cmp q n ≡ b → finite.get s.readtables q ≡ cond b (Some t) (finite.get s.readtables q)) [
       | true ↦ λ e. ap (finite.get s.readtables) (one_name q n e) ∙ there
@@ -100,7 +100,7 @@ not_set : (a : Bool) (e : CharacterEntry) → ◌≡◌ {A = Option CharacterEnt
 not_set true e is = refl
 not_set false e is = absurd cc
 
-pub first_making : (s : State) (n : Name) (t : Table) (rows : List Datum) → IsNamed s.packages t → IsWritable s.readtables n (with_entries t standard.entries)
+pub first_making : (s : WorldState) (n : Name) (t : Table) (rows : List Datum) → IsNamed s.packages t → IsWritable s.readtables n (with_entries t standard.entries)
     → list_all is_proper rows ≡ true → map object_of rows ≡ entry_objects t → IsMaking s n t rows 0 s
 first_making s n t rows named w proper objects = record {
   proper = proper;
@@ -114,7 +114,7 @@ first_making s n t rows named w proper objects = record {
 }
 
 -- the entry at a place may be put
-pub record IsEntryRow (s : State) (n : Name) (t : Table) (rows : List Datum) (k : ℕ) (now : State) (row : Datum) : Type 0 where
+pub record IsEntryRow (s : WorldState) (n : Name) (t : Table) (rows : List Datum) (k : ℕ) (now : WorldState) (row : Datum) : Type 0 where
   pub proper : is_proper row ≡ true
   pub character : ℕ
   pub entry : CharacterEntry
@@ -123,9 +123,9 @@ pub record IsEntryRow (s : State) (n : Name) (t : Table) (rows : List Datum) (k 
   pub named : IsNamedEntry now.packages entry
   pub table : Table
   pub writable : IsWritable now.readtables n table
-  pub later : (after : State) → after ≡ with_table now n (with_entry table character entry) → IsMaking s n t rows (k + 1) after
+  pub later : (after : WorldState) → after ≡ with_table now n (with_entry table character entry) → IsMaking s n t rows (k + 1) after
 
-pub entry_row_at : (s : State) (n : Name) (t : Table) (rows : List Datum) (k : ℕ) (now : State) (row : Datum)
+pub entry_row_at : (s : WorldState) (n : Name) (t : Table) (rows : List Datum) (k : ℕ) (now : WorldState) (row : Datum)
     → IsNamed s.packages t → IsWritable s.readtables n (with_entries t standard.entries) → IsMaking s n t rows k now → k < length rows → row ≡ get_or rows k row
     → IsEntryRow s n t rows k now row
 entry_row_at s n t rows k now row named w so_far few is =
@@ -135,7 +135,7 @@ entry_row_at s n t rows k now row named w so_far few is =
     let count : length rows ≡ length us = item_count rows (entry_objects t) so_far.objects ∙ ap length (updates_are t) ∙ length-map us update_object in
     let among : k < length us = subst (λ j. k < j) count few in
     let of : u.1 ≡ entry_at t u.0 = of_update (differs t u.0) (entry_at t u.0) u.1 (update_at (entry_update t) (range_with_len 0 128) k (0, no_entry) among) in
-    let same : s.packages ≡ now.packages = sym (ap (λ (x : State). x.packages) so_far.is) in
+    let same : s.packages ≡ now.packages = sym (ap (λ (x : WorldState). x.packages) so_far.is) in
     let here = with_entries t so_far.entries in
     record {
       proper = read.0;
@@ -146,19 +146,19 @@ entry_row_at s n t rows k now row named w so_far few is =
       named = subst (IsNamedEntry now.packages) (sym of) (subst (λ p. IsNamedEntry p (entry_at t u.0)) same
           (record { entry = named.readtable.each u.0; functions = named_at (is_symbol s.packages keyword) t u.0 named.functions }));
       table = here;
-      writable = subst (λ (x : State). IsWritable x.readtables n here) (sym so_far.is)
+      writable = subst (λ (x : WorldState). IsWritable x.readtables n here) (sym so_far.is)
           (still_writable s n (with_entries t standard.entries) here w so_far.count);
       later = λ after made. record {
         proper = so_far.proper;
         objects = so_far.objects;
         entries = set so_far.entries u.0 u.1;
         count = length-set so_far.entries u.0 u.1 ∙ so_far.count;
-        is = made ∙ ap (λ (x : State). with_table x n (with_entry here u.0 u.1)) so_far.is ∙ table_twice s n here (with_entry here u.0 u.1);
+        is = made ∙ ap (λ (x : WorldState). with_table x n (with_entry here u.0 u.1)) so_far.is ∙ table_twice s n here (with_entry here u.0 u.1);
         left = put_next so_far.entries us k (0, no_entry) among ∙ so_far.left;
       };
     }
 
-pub last_making : (s : State) (n : Name) (t : Table) (rows : List Datum) (k : ℕ) (now : State) → IsMaking s n t rows k now → k ≡ length rows → now ≡ with_table s n t
+pub last_making : (s : WorldState) (n : Name) (t : Table) (rows : List Datum) (k : ℕ) (now : WorldState) → IsMaking s n t rows k now → k ≡ length rows → now ≡ with_table s n t
 last_making s n t rows k now so_far all =
     let us = entry_updates t in
     let count : length rows ≡ length us = item_count rows (entry_objects t) so_far.objects ∙ ap length (updates_are t) ∙ length-map us update_object in

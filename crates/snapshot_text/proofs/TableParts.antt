@@ -22,14 +22,14 @@ use Rattle.package_table.specs.Lookup.{is_symbol}
 use Rattle.package_table.proofs.Frames.{equal_names}
 use Rattle.plist_state.specs.declared.error.ReadtableError.{ReadtableError}
 use Rattle.plist_state.specs.declared.error.ReadtableError.TheVariants.{NoReadtable, StandardReadtable, NotDispatching, DigitSubcharacter, Limit, OutOfMemory}
-use Rattle.plist_state.specs.State.{Readtables, State, standard_name}
+use Rattle.plist_state.specs.State.{Readtables, WorldState, standard_name}
 use Rattle.plist_state.specs.Changes.{writable, put_changed, with_changed, changed, in_state, dispatched, refused_as, Refused}
 use Rattle.plist_state.specs.Sound.{IsSymbol}
 use Rattle.plist_state.proofs.Orders.{name_total, name_exact, name_tied}
 use Rattle.snapshot_text.specs.Built.{with_table, IsWritable, IsSubFunction}
 
 -- where it is not refused
-pub same_ok : (new made : State) (said : Result State ReadtableError) → said ≡ Ok new → said ≡ Ok made → new ≡ made
+pub same_ok : (new made : WorldState) (said : Result WorldState ReadtableError) → said ≡ Ok new → said ≡ Ok made → new ≡ made
 same_ok new made said gives is = let same : new ≡ made = cc in same
 
 writable_is : (m : Readtables) (n : Name) (t : Table) → IsWritable m n t → writable m n ≡ Ok t
@@ -38,7 +38,7 @@ writable_is m n t w =
     ∙ ap (λ b. if b then Err StandardReadtable else Ok t) w.other
 
 -- a change of a readtable that may be written
-pub changed_to : (s : State) (n : Name) (t u : Table) (change : Table → Result Table ReadtableError) → IsWritable s.readtables n t → change t ≡ Ok u
+pub changed_to : (s : WorldState) (n : Name) (t u : Table) (change : Table → Result Table ReadtableError) → IsWritable s.readtables n t → change t ≡ Ok u
     → in_state s (changed s.readtables n change) ≡ Ok (with_table s n u)
 changed_to s n t u change w is =
     ap (λ r. in_state s (with_changed s.readtables n change r)) (writable_is s.readtables n t w) ∙ ap (λ r. in_state s (put_changed s.readtables n r)) is
@@ -59,7 +59,7 @@ pub upper_same : (p : packages.Table) (sub : ℕ) (f : Name) → IsSubFunction p
 upper_same p sub f may = ap (λ b. if b then sub - 32 else sub) (neither (is_lower_case sub) (is_digit sub) may.upper).0
 
 -- a readtable written twice, and a place in it
-pub table_twice : (s : State) (n : Name) (t u : Table) → with_table (with_table s n t) n u ≡ with_table s n u
+pub table_twice : (s : WorldState) (n : Name) (t u : Table) → with_table (with_table s n t) n u ≡ with_table s n u
 table_twice s n t u = ap (λ (m : Readtables). record s { readtables = m }) (same_map name_total name_exact _ _ (λ q.
     get-insert name_total (finite.insert s.readtables n t) n u q ∙ ap (cond (eq_by_cmp name_cmp q n) (Some u)) (get-insert name_total s.readtables n t q)
     ∙ elim (eq_by_cmp name_cmp q n) as (λ b. cond b (Some u) (cond b (Some t) (finite.get s.readtables q)) ≡ cond b (Some u) (finite.get s.readtables q)) [ true ↦ refl | false ↦ refl ]
@@ -72,7 +72,7 @@ pub entry_there : (t : Table) (c : ℕ) (e : CharacterEntry) → c < length t.en
 entry_there t c e few = get_or-set_same t.entries c e no_entry few
 
 -- it may be written then, and again
-pub made_writable : (s : State) (n : Name) (u : Table) → bytes_eq n standard_name ≡ false → finite.get s.readtables standard_name ≡ Some readtable.standard
+pub made_writable : (s : WorldState) (n : Name) (u : Table) → bytes_eq n standard_name ≡ false → finite.get s.readtables standard_name ≡ Some readtable.standard
     → length u.entries ≡ 128 → IsWritable (with_table s n u).readtables n u
 made_writable s n u other first many = record {
   there = get-insert name_total s.readtables n u n ∙ ap (λ b. cond b (Some u) (finite.get s.readtables n)) (name_tied n);
@@ -82,7 +82,7 @@ made_writable s n u other first many = record {
       ∙ ap (λ b. cond b (Some u) (finite.get s.readtables standard_name)) ((eq_by_cmp_equiv name_total).symm standard_name n ∙ is_eq-slice_cmp n standard_name ∙ other) ∙ first;
 }
 
-pub still_writable : (s : State) (n : Name) (t u : Table) → IsWritable s.readtables n t → length u.entries ≡ 128 → IsWritable (with_table s n u).readtables n u
+pub still_writable : (s : WorldState) (n : Name) (t u : Table) → IsWritable s.readtables n t → length u.entries ≡ 128 → IsWritable (with_table s n u).readtables n u
 still_writable s n t u w many = made_writable s n u w.other w.standard many
 
 pub symbol_is : (t : packages.Table) (h n : Name) → is_symbol t h n ≡ true → IsSymbol t (h, n)
@@ -93,7 +93,7 @@ symbol_is t h n e =
     ] e
 
 -- a refusal is that memory ran out
-pub refused : (made : State) (said : Result State ReadtableError) (e : ReadtableError) → Refused e said → said ≡ Ok made → e ≡ OutOfMemory
+pub refused : (made : WorldState) (said : Result WorldState ReadtableError) (e : ReadtableError) → Refused e said → said ≡ Ok made → e ≡ OutOfMemory
 refused made said NoReadtable gives is = absurd cc
 refused made said StandardReadtable gives is = absurd cc
 refused made said NotDispatching gives is = absurd cc

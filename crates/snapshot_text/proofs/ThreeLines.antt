@@ -2,11 +2,11 @@
 use Rattle.std.proofs.Common.{◌≡◌, ℕ, List, [], ◌++◌, ap, ◌∙◌}
 use Rattle.lisp_object.specs.Object.{Object}
 use Rattle.package_table.specs.Table.{Table}
-use Rattle.plist_state.specs.State.{State}
+use Rattle.plist_state.specs.State.{WorldState}
 use Rattle.world_text.specs.Snapshot.{line, packages_object, properties_object, tables_object, snapshot}
 
 -- the packages p and the object z are those of the state; t is the text so far after each line
-pub three_lines : (s : State) (p : Table) (z : Object) (t₀ t₁ t₂ t₃ : List ℕ)
+pub three_lines : (s : WorldState) (p : Table) (z : Object) (t₀ t₁ t₂ t₃ : List ℕ)
     → p ≡ s.packages → z ≡ tables_object s
     → t₀ ≡ [] → t₁ ≡ t₀ ++ line p (packages_object p) → t₂ ≡ t₁ ++ line s.packages (properties_object s) → t₃ ≡ t₂ ++ line p z → t₃ ≡ snapshot s
 three_lines s p z t₀ t₁ t₂ t₃ same third none one two three =

@@ -14,33 +14,33 @@ use Rattle.package_table.specs.Table as packages
 use Rattle.package_table.specs.Table.{Name, keyword}
 use Rattle.package_table.specs.Lookup.{is_symbol}
 use Rattle.plist_state.specs.Properties.{Symbol, Plist, Properties}
-use Rattle.plist_state.specs.State.{Readtables, State, initial, standard_name}
+use Rattle.plist_state.specs.State.{Readtables, WorldState, initial, standard_name}
 use Rattle.plist_state.specs.Changes.{with_property, with_packages}
 use Rattle.plist_state.specs.Sound.{IsSymbol}
 
 -- with other property lists
-abbrev pub with_properties : State → Properties → State
+abbrev pub with_properties : WorldState → Properties → WorldState
 with_properties s m = record s { properties = m }
 
 -- with each of these properties of a symbol set, one after the other
-abbrev pub with_each : State → Symbol → Plist → State
+abbrev pub with_each : WorldState → Symbol → Plist → WorldState
 with_each s x [] = s
 with_each s x (p ∷ ps) = with_each (with_property s x p.0 p.1) x ps
 
 -- with this readtable under a name
-abbrev pub with_table : State → Name → readtable.Table → State
+abbrev pub with_table : WorldState → Name → readtable.Table → WorldState
 with_table s n t = record s { readtables = finite.insert s.readtables n t }
 
 -- the first state, with the packages of another one
-abbrev pub with_packages_of : State → State
+abbrev pub with_packages_of : WorldState → WorldState
 with_packages_of s = with_packages initial s.packages
 
 -- and with its properties
-abbrev pub with_properties_of : State → State
+abbrev pub with_properties_of : WorldState → WorldState
 with_properties_of s = with_properties (with_packages_of s) s.properties
 
 -- and with its readtables
-abbrev pub with_readtables_of : State → State
+abbrev pub with_readtables_of : WorldState → WorldState
 with_readtables_of s = record (with_properties_of s) { readtables = s.readtables }
 
 -- a readtable of this name may be made from the standard one, which is as ever

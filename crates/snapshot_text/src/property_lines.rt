@@ -2,7 +2,7 @@
 //! beside the world.
 ghost use Rattle.std.specs.Prelude.{◌≡◌, ◌≤◌, ◌<◌, ◌+◌, ℕ, List, ◌∷◌, ◌++◌, length, drop, IfOk, MatchResult};
 ghost use Rattle.readtable_core.specs.Tables.{standard};
-ghost use Rattle.plist_state.specs.State.{State};
+ghost use Rattle.plist_state.specs.State.{WorldState};
 ghost use Rattle.plist_state.specs.Readers.{symbols_with_properties};
 ghost use Rattle.plist_state.specs.Sound.{IsSound as IsSoundState};
 ghost use Rattle.snapshot_text.specs.Built.{with_packages_of, with_properties_of};
@@ -28,7 +28,7 @@ fn read_row<R: MacroFunctions>(
 ) -> Result<usize, BuildError>
     requires answers { R.answers macros.now }
     requires table { table.now ≡ standard }
-    ensures row { (s : State) (n : ℕ) (rest : List ℕ) → IsSoundState s → length bytes.now ≤ 4294967295 → n < length (symbols_with_properties s)
+    ensures row { (s : WorldState) (n : ℕ) (rest : List ℕ) → IsSoundState s → length bytes.now ≤ 4294967295 → n < length (symbols_with_properties s)
         → IsUpTo s n world.old.0 → drop at bytes.now ≡ row_text s n ++ (text_after s (n + 1) ++ rest)
         → MatchResult result (λ next. IsUpTo s (n + 1) world.new.0 × (drop next bytes.now ≡ text_after s (n + 1) ++ rest)) (λ e. e ≡ BuildError.OutOfMemory) }
     ensures on { IfOk result (λ next. at ≤ next) }
@@ -49,7 +49,7 @@ fn read_rows<R: MacroFunctions>(
 ) -> Result<usize, BuildError>
     requires answers { R.answers macros.now }
     requires table { table.now ≡ standard }
-    ensures { (s : State) (rest : List ℕ) → IsSoundState s → length bytes.now ≤ 4294967295 → 0 < length (symbols_with_properties s)
+    ensures { (s : WorldState) (rest : List ℕ) → IsSoundState s → length bytes.now ≤ 4294967295 → 0 < length (symbols_with_properties s)
         → world.old.0 ≡ with_packages_of s → drop at bytes.now ≡ row_text s 0 ++ (text_after s 1 ++ 10 ∷ rest)
         → MatchResult result (λ next. (world.new.0 ≡ with_properties_of s) × (drop next bytes.now ≡ rest)) (λ e. e ≡ BuildError.OutOfMemory) }
 {
@@ -78,7 +78,7 @@ pub(crate) fn read_properties<R: MacroFunctions>(
 ) -> Result<usize, BuildError>
     requires answers { R.answers macros.now }
     requires table { table.now ≡ standard }
-    ensures { (s : State) (rest : List ℕ) → IsSoundState s → length bytes.now ≤ 4294967295
+    ensures { (s : WorldState) (rest : List ℕ) → IsSoundState s → length bytes.now ≤ 4294967295
         → drop at bytes.now ≡ line s.packages (properties_object s) ++ rest → world.old.0 ≡ with_packages_of s
         → MatchResult result (λ next. (world.new.0 ≡ with_properties_of s) × (drop next bytes.now ≡ rest)) (λ e. e ≡ BuildError.OutOfMemory) }
 {

@@ -1,7 +1,7 @@
 //! The world of a text.
 ghost use Rattle.std.specs.Prelude.{◌≡◌, ◌≤◌, ℕ, List, [], ◌++◌, true, length, drop, IfOk, IfErr, MatchResult};
 ghost use Rattle.readtable_core.specs.Tables.{standard};
-ghost use Rattle.plist_state.specs.State.{State, initial};
+ghost use Rattle.plist_state.specs.State.{WorldState, initial};
 ghost use Rattle.snapshot_text.specs.Built.{with_packages_of, with_properties_of};
 ghost use Rattle.plist_state.specs.Sound.{IsSound as IsSoundState};
 ghost use Rattle.snapshot_text.specs.Covered.{are_covered, IsRefused};
@@ -33,7 +33,7 @@ fn read_packages<R: MacroFunctions>(
 ) -> Result<usize, BuildError>
     requires answers { R.answers macros.now }
     requires table { table.now ≡ standard }
-    ensures { (s : State) (rest : List ℕ) → IsSoundState s → length bytes.now ≤ 4294967295
+    ensures { (s : WorldState) (rest : List ℕ) → IsSoundState s → length bytes.now ≤ 4294967295
         → drop at bytes.now ≡ line s.packages (packages_object s.packages) ++ rest → world.old.0 ≡ initial
         → MatchResult result (λ next. (world.new.0 ≡ with_packages_of s) × (drop next bytes.now ≡ rest)) (λ e. e ≡ BuildError.OutOfMemory) }
 {
@@ -54,7 +54,7 @@ fn read_tables<R: MacroFunctions>(
 ) -> Result<(), BuildError>
     requires answers { R.answers macros.now }
     requires table { table.now ≡ standard }
-    ensures { (s : State) (rest : List ℕ) → IsSoundState s → length bytes.now ≤ 4294967295
+    ensures { (s : WorldState) (rest : List ℕ) → IsSoundState s → length bytes.now ≤ 4294967295
         → drop at bytes.now ≡ line s.packages (tables_object s) ++ rest → world.old.0 ≡ with_properties_of s
         → MatchResult result (λ _. world.new.0 ≡ s) (λ e. e ≡ BuildError.OutOfMemory) }
 {
@@ -66,7 +66,7 @@ fn read_tables<R: MacroFunctions>(
 // A world made from the three lines of a text. From the text of a sound state the state is made.
 fn built<R: MacroFunctions>(alloc: Global, bytes: &[u8], macros: &R) -> Result<World, BuildError>
     requires { R.answers macros.now }
-    ensures { (s : State) → IsSoundState s → length bytes.now ≤ 4294967295 → snapshot s ≡ bytes.now
+    ensures { (s : WorldState) → IsSoundState s → length bytes.now ≤ 4294967295 → snapshot s ≡ bytes.now
         → MatchResult result (λ world. world.0 ≡ s) (λ e. e ≡ BuildError.OutOfMemory) }
 {
     let standard = Readtable::standard(alloc)?;
@@ -109,7 +109,7 @@ pub fn read<R: MacroFunctions>(
 ) -> Result<World, SnapshotError>
     requires { R.answers macros.now }
     ensures text { IfOk result (λ world. snapshot world.0 ≡ bytes.now) }
-    ensures only { IfOk result (λ world. (s : State) → IsSoundState s → snapshot s ≡ bytes.now → s ≡ world.0) }
+    ensures only { IfOk result (λ world. (s : WorldState) → IsSoundState s → snapshot s ≡ bytes.now → s ≡ world.0) }
     ensures size { IfOk result (λ world. length bytes.now ≤ 4294967295) }
     ensures covered { IfOk result (λ world. are_covered (R.functions macros.now).names world.0 ≡ true) }
     ensures unmarked { IfOk result (λ world. world.1 ≡ []) }

@@ -10,7 +10,7 @@ ghost use Rattle.readtable_core.specs.Tables.{CharacterEntry, entry_at};
 ghost use Rattle.readtable_core.specs.Sound.{is_dispatching};
 ghost use Rattle.readtable_core.specs.Changes.{macro_syntax, with_entry, with_function};
 ghost use Rattle.package_table.specs.Table.{Name, keyword};
-ghost use Rattle.plist_state.specs.State.{State};
+ghost use Rattle.plist_state.specs.State.{WorldState};
 ghost use Rattle.plist_state.specs.Sound.{IsSymbol, IsNamed, IsSound as IsSoundState};
 ghost use Rattle.world_text.specs.Snapshot.{number, dispatch_objects, entry_object, entry_objects, readtable_object, readtables_object, tables_object};
 ghost use Rattle.snapshot_text.specs.Built.{with_table, with_properties_of, with_readtables_of, CanBeMade, IsWritable, IsSubFunction, IsNamedEntry};
@@ -186,7 +186,7 @@ fn put_readtable(world: &mut World, row: &Datum) -> Result<(), BuildError>
 
 // Makes the readtables of the third object of a snapshot.
 fn put_readtables(world: &mut World, readtables: &Datum) -> Result<(), BuildError>
-    ensures { (s : State) → IsSoundState s → is_proper readtables.now ≡ true → object_of readtables.now ≡ readtables_object s
+    ensures { (s : WorldState) → IsSoundState s → is_proper readtables.now ≡ true → object_of readtables.now ≡ readtables_object s
         → world.old.0 ≡ with_properties_of s
         → MatchResult result (λ _. world.new.0 ≡ with_readtables_of s) (λ e. e ≡ BuildError.OutOfMemory) }
 {
@@ -198,7 +198,7 @@ fn put_readtables(world: &mut World, readtables: &Datum) -> Result<(), BuildErro
 
 // Sets what is current, in a world that has its packages and readtables.
 fn put_current(world: &mut World, home: &Datum, table: &Datum) -> Result<(), BuildError>
-    ensures { (s : State) → IsSoundState s → is_proper home.now ≡ true → object_of home.now ≡ text s.current_package
+    ensures { (s : WorldState) → IsSoundState s → is_proper home.now ≡ true → object_of home.now ≡ text s.current_package
         → is_proper table.now ≡ true → object_of table.now ≡ text s.current_readtable → world.old.0 ≡ with_readtables_of s
         → MatchResult result (λ _. world.new.0 ≡ s) (λ e. e ≡ BuildError.OutOfMemory) }
 {
@@ -209,7 +209,7 @@ fn put_current(world: &mut World, home: &Datum, table: &Datum) -> Result<(), Bui
 
 /// Makes the readtables of the third object of a snapshot, and what is current, in a world that has its packages.
 pub(crate) fn put_tables(world: &mut World, tables: &Datum) -> Result<(), BuildError>
-    ensures { (s : State) → IsSoundState s → is_proper tables.now ≡ true → object_of tables.now ≡ tables_object s
+    ensures { (s : WorldState) → IsSoundState s → is_proper tables.now ≡ true → object_of tables.now ≡ tables_object s
         → world.old.0 ≡ with_properties_of s
         → MatchResult result (λ _. world.new.0 ≡ s) (λ e. e ≡ BuildError.OutOfMemory) }
 {

@@ -3,7 +3,7 @@ use Rattle.std.proofs.Common.{◌≡◌, ℕ, true, List, [], ◌++◌, Option, 
 use Rattle.std.specs.Option.{IfSome}
 use Rattle.disk_trait.specs.Disk.{State}
 use Rattle.lisp_object.specs.declared.refusal.TheConstants.{OUTPUT, NO_MEMORY}
-use Rattle.plist_state.specs.State.{State as World}
+use Rattle.plist_state.specs.State.{WorldState}
 use Rattle.world_text.specs.Snapshot.{snapshot}
 use Rattle.user_macros.specs.Functions.{Functions}
 use Rattle.store_commands.specs.Commands.{TaskBreaksOff, TaskWrites, is_of_opening}
@@ -19,10 +19,10 @@ use Rattle.store_commands.specs.declared.words.Task.TheVariants.{Tell}
 use Rattle.store_commands.proofs.Statuses.{other_number}
 
 -- what was written is the text of this world
-pub tells_world : (status : Status) (known : Option World) (world : World) (held written : Option (List ℕ)) (bytes : List ℕ) → known ≡ Some world → bytes ≡ snapshot world
+pub tells_world : (status : Status) (known : Option WorldState) (world : WorldState) (held written : Option (List ℕ)) (bytes : List ℕ) → known ≡ Some world → bytes ≡ snapshot world
     → TellsText status held written bytes → IfSome known (λ w. TellsText status held written (snapshot w))
 tells_world status known world held written bytes is are told =
-    subst (λ (o : Option World). IfSome o (λ w. TellsText status held written (snapshot w))) (sym is) (subst (TellsText status held written) are told)
+    subst (λ (o : Option WorldState). IfSome o (λ w. TellsText status held written (snapshot w))) (sym is) (subst (TellsText status held written) are told)
 
 -- how it ends after a text that was written whole, or not
 pub told_by : (status : Status) (written : Result Unit Unwritten) (held now : Option (List ℕ)) (text : List ℕ) → status ≡ status_of_output written

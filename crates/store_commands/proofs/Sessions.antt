@@ -2,7 +2,7 @@
 use Rattle.std.proofs.Common.{◌≡◌, ℕ, ◌≤◌, true, List, [], ◌++◌, Option, Some, refl, sym, ap, subst, ◌∙◌, inl, inr, append-nil, arith}
 use Rattle.disk_trait.specs.Disk.{State}
 use Rattle.lisp_object.specs.declared.refusal.TheConstants.{DEVICE, DAMAGED, LOG_FULL, SNAPSHOT_TOO_LARGE, INPUT, OUTPUT, NO_MEMORY}
-use Rattle.plist_state.specs.State.{State as World, initial}
+use Rattle.plist_state.specs.State.{WorldState, initial}
 use Rattle.prevalence_store.specs.declared.mode.Mode.{Mode}
 use Rattle.prevalence_store.specs.declared.open_fault.OpenFault.{OpenFault}
 use Rattle.prevalence_store.specs.declared.open_fault.OpenFault.TheVariants as opening
@@ -12,7 +12,7 @@ use Rattle.user_macros.specs.Functions.{Functions}
 use Rattle.prevalence_store.specs.calls.Open.{fault_number}
 use Rattle.prevalence_store.specs.meaning.Answers.{Progress, after_forms, begun, last_line}
 use Rattle.prevalence_store.specs.calls.Serve.{ServesInput}
-use Rattle.prevalence_store.specs.calls.Store.{Session}
+use Rattle.prevalence_store.specs.calls.Store.{StoreView}
 use Rattle.prevalence_store.specs.meaning.Acceptance.{read_in}
 use Rattle.store_commands.specs.Commands.{is_of_opening}
 use Rattle.store_commands.specs.Session.{AnswersInput, IsBrokenOff, ReadsToEnd}
@@ -20,7 +20,7 @@ use Rattle.store_commands.specs.Status.{HasFaultNumber, IsFaultNumber, status_of
 use Rattle.store_commands.proofs.Statuses.{other_number}
 
 module _ (functions : Functions) (mode : Mode) where
-  same_progress : (n m : ℕ) (w : World) (text : List ℕ) (p q : Progress) → n ≡ m → after_forms functions n w mode text ≡ Some p → after_forms functions m w mode text ≡ Some q → p ≡ q
+  same_progress : (n m : ℕ) (w : WorldState) (text : List ℕ) (p q : Progress) → n ≡ m → after_forms functions n w mode text ≡ Some p → after_forms functions m w mode text ≡ Some q → p ≡ q
   same_progress n m w text p q is here there = let same : after_forms functions n w mode text ≡ after_forms functions m w mode text = ap (λ k. after_forms functions k w mode text) is in cc
 
   -- all lines were written, and this part
@@ -47,7 +47,7 @@ module _ (functions : Functions) (mode : Mode) where
   no_more : (lines part last : List ℕ) → part ≡ [] → lines ++ last ≡ (lines ++ part) ++ last
   no_more lines part last none = ap (λ l. l ++ last) (sym (append-nil lines)) ∙ ap (λ p. (lines ++ p) ++ last) (sym none)
 
-  module _ {D R : Type 0} (state : D → State) (old new : Session D R) (w : World) (had has held_now written : Option (List ℕ)) where
+  module _ {D R : Type 0} (state : D → State) (old new : StoreView D R) (w : WorldState) (had has held_now written : Option (List ℕ)) where
     pub answers_input : {every : ℕ} (ending : Ending) → ServesInput functions state every old new w mode had has held_now written ending → (input held : List ℕ) → had ≡ Some input → held_now ≡ Some held
         → AnswersInput functions mode (status_of_ending ending) input held written
     answers_input End served input held left holds =

@@ -5,7 +5,7 @@ use Rattle.disk_trait.specs.Disk.{State}
 use Rattle.disk_trait.specs.declared.half.Half.{Half}
 use Rattle.lisp_object.specs.declared.refusal.TheConstants.{DEVICE, DAMAGED, MISSING_MACRO, VERSION, NO_MEMORY}
 use Rattle.clap.specs.Words.{Text}
-use Rattle.plist_state.specs.State.{State as World}
+use Rattle.plist_state.specs.State.{WorldState}
 use Rattle.readtable_core.specs.Names.{is_among}
 use Rattle.world_text.specs.Snapshot.{snapshot}
 use Rattle.user_macros.specs.Functions.{Functions}
@@ -56,7 +56,7 @@ module _ (functions : Functions) where
   -- what a command wrote that met a fault is the first part of what it would have written, over the store of some world
   abbrev pub TaskBreaksOff : Task → List ℕ → List ℕ → Option (List ℕ) → Type 0
   TaskBreaksOff (Run mode every) input held written = IsBrokenOff functions mode input held written
-  TaskBreaksOff (Tell Dump) input held written = (world : World) × IsFront held written (snapshot world)
+  TaskBreaksOff (Tell Dump) input held written = (world : WorldState) × IsFront held written (snapshot world)
   TaskBreaksOff (Tell Verify) input held written = (half : Half) × (generation : ℕ) × (records : ℕ) × IsFront held written (half_line half generation records)
 
 -- The store that a disk holds was not opened, all macro functions registered or not, and the status tells why; the disk is left as

@@ -3,11 +3,11 @@ use Rattle.std.specs.Prelude.{◌≡◌, ℕ, List, [], ◌∷◌, ◌++◌, Opt
 use Rattle.disk_trait.specs.Disk.{State}
 use Rattle.disk_trait.specs.declared.half.Half.{Half}
 use Rattle.disk_trait.specs.declared.half.Half.TheVariants.{A, B}
-use Rattle.plist_state.specs.State.{State as World}
+use Rattle.plist_state.specs.State.{WorldState}
 use Rattle.world_text.specs.Snapshot.{snapshot}
 use Rattle.user_macros.specs.Functions.{Functions}
 use Rattle.prevalence_store.specs.calls.Open.{IsOpened}
-use Rattle.prevalence_store.specs.calls.Store.{Session}
+use Rattle.prevalence_store.specs.calls.Store.{StoreView}
 use Rattle.store_commands.specs.Texts.{TellsText}
 use Rattle.store_commands.specs.declared.session.TheConstants.{HALF_LIMIT}
 use Rattle.store_commands.specs.declared.status.Status.{Status}
@@ -25,18 +25,18 @@ abbrev pub half_line : Half → ℕ → ℕ → List ℕ
 half_line half generation records = codes "half " ++ (letter_of half ++ (codes " generation " ++ (decimal generation ++ (codes " records " ++ (decimal records ++ 10 ∷ [])))))
 
 -- the same of an open store
-abbrev pub half_line_of : {D R : Type 0} → Session D R → List ℕ
+abbrev pub half_line_of : {D R : Type 0} → StoreView D R → List ℕ
 half_line_of session = half_line session.half session.generation session.record_count
 
 -- what is told of an open store with this world: `dump` writes the text of it, and `verify` the line on the half in use
-abbrev pub text_of : Report → {D R : Type 0} → Session D R → World → List ℕ
+abbrev pub text_of : Report → {D R : Type 0} → StoreView D R → WorldState → List ℕ
 text_of Dump session world = snapshot world
 text_of Verify session world = half_line_of session
 
 -- The store that a disk holds was opened with these macro functions, this was told of it, and it was closed: this is its disk.
 pub record IsReport (functions : Functions) {D R : Type 0} (state : D → State) (report : Report) (disk : D) (macros : R)
     (held written : Option (List ℕ)) (status : Status) (back : D) : Type 0 where
-  pub opened : Session D R
+  pub opened : StoreView D R
   pub is_opened : IsOpened functions state disk macros HALF_LIMIT opened
   pub tells : TellsText status held written (text_of report opened is_opened.world)
   pub disk_is : back ≡ opened.disk
@@ -45,7 +45,7 @@ pub record IsReport (functions : Functions) {D R : Type 0} (state : D → State)
 
 -- so far as it ends well, the output has the text of some world more
 abbrev pub DumpsWorld : Status → List ℕ → Option (List ℕ) → Type 0
-DumpsWorld Done held written = (world : World) × (written ≡ Some (held ++ snapshot world))
+DumpsWorld Done held written = (world : WorldState) × (written ≡ Some (held ++ snapshot world))
 DumpsWorld ReaderRefused held written = ⊥
 DumpsWorld Helped held written = Unit {0}
 DumpsWorld WordsRefused held written = Unit {0}

@@ -2,7 +2,7 @@
 use Rattle.std.specs.Prelude.{◌≡◌, ◌⊎◌, ℕ, List, [], ◌++◌, Option, Some}
 use Rattle.disk_trait.specs.Disk.{State}
 use Rattle.lisp_reading.specs.Reading.{empty, refused}
-use Rattle.plist_state.specs.State.{State as World}
+use Rattle.plist_state.specs.State.{WorldState}
 use Rattle.prevalence_store.specs.declared.mode.Mode.{Mode}
 use Rattle.prevalence_store.specs.declared.outcome.Ending.{Ending}
 use Rattle.prevalence_store.specs.meaning.Acceptance.{read_in}
@@ -10,7 +10,7 @@ use Rattle.user_macros.specs.Functions.{Functions}
 use Rattle.prevalence_store.specs.calls.Open.{IsOpened}
 use Rattle.prevalence_store.specs.meaning.Answers.{Progress, after_forms, last_line, refusal_line}
 use Rattle.prevalence_store.specs.calls.Serve.{ServesInput}
-use Rattle.prevalence_store.specs.calls.Store.{Session}
+use Rattle.prevalence_store.specs.calls.Store.{StoreView}
 use Rattle.prevalence_store.specs.calls.Streams.{Writes, WritesPart}
 use Rattle.store_commands.specs.declared.session.TheConstants.{HALF_LIMIT}
 use Rattle.store_commands.specs.declared.status.Status.{Status}
@@ -21,14 +21,14 @@ module _ (functions : Functions) (mode : Mode) where
   -- The store that a disk holds was opened with these macro functions, it served the input, with a snapshot after every so many
   -- forms that were logged, and it was closed: this is its disk.
   pub record IsSession (every : ℕ) {D R : Type 0} (state : D → State) (disk : D) (macros : R) (had has held written : Option (List ℕ)) (ending : Ending) (back : D) : Type 0 where
-    pub opened : Session D R
+    pub opened : StoreView D R
     pub is_opened : IsOpened functions state disk macros HALF_LIMIT opened
-    pub closed : Session D R
+    pub closed : StoreView D R
     pub serves : ServesInput functions state every opened closed is_opened.world mode had has held written ending
     pub disk_is : back ≡ closed.disk
 
   -- the lines of so many forms of the input were written, and this last line
-  pub record IsWritten (world : World) (input held : List ℕ) (written : Option (List ℕ)) (last : List ℕ) : Type 0 where
+  pub record IsWritten (world : WorldState) (input held : List ℕ) (written : Option (List ℕ)) (last : List ℕ) : Type 0 where
     pub forms : ℕ
     pub far : Progress
     pub far_is : after_forms functions forms world mode input ≡ Some far
@@ -37,7 +37,7 @@ module _ (functions : Functions) (mode : Mode) where
   -- A session was broken off: what was written is a first part of the answers to what was read, as the store of some world gives
   -- them, and nothing else.
   pub record IsBrokenOff (input held : List ℕ) (written : Option (List ℕ)) : Type 0 where
-    pub world : World
+    pub world : WorldState
     pub read : List ℕ
     pub left : List ℕ
     pub parts : input ≡ read ++ left
@@ -52,9 +52,9 @@ module _ (functions : Functions) (mode : Mode) where
   -- The input was answered as the store of some world answers it: to its end, or to what the reader refused.
   abbrev pub AnswersInput : Status → List ℕ → List ℕ → Option (List ℕ) → Type 0
   AnswersInput Done input held written =
-      (world : World) × (lines : IsWritten world input held written []) × (read_in functions lines.far.world mode lines.far.rest ≡ empty)
+      (world : WorldState) × (lines : IsWritten world input held written []) × (read_in functions lines.far.world mode lines.far.rest ≡ empty)
   AnswersInput ReaderRefused input held written =
-      (world : World) × (number : ℕ) × (lines : IsWritten world input held written (refusal_line number))
+      (world : WorldState) × (number : ℕ) × (lines : IsWritten world input held written (refusal_line number))
       × ((place : ℕ) × (read_in functions lines.far.world mode lines.far.rest ≡ refused number place))
   AnswersInput Helped input held written = Unit {0}
   AnswersInput WordsRefused input held written = Unit {0}

@@ -23,7 +23,7 @@ use Rattle.lisp_reading.specs.declared.limits.Limits.{Limits}
 use Rattle.lisp_reading.specs.Setting.{setting_of}
 use Rattle.lisp_reading.specs.Reading.{form, space_at, reads}
 use Rattle.plist_state.specs.Properties.{Symbol, Plist}
-use Rattle.plist_state.specs.State.{State}
+use Rattle.plist_state.specs.State.{WorldState}
 use Rattle.plist_state.specs.Changes.{plist}
 use Rattle.plist_state.specs.Readers.{symbols_with_properties}
 use Rattle.plist_state.specs.Sound as state
@@ -155,7 +155,7 @@ module _ (t : Table) (sound : packages.IsSound t) where
       pair_good (symbol_object p.0) (o.pair p.1 (list_of (flat_map (λ p. symbol_object p.0 ∷ p.1 ∷ []) ps))) (symbol_good p.0 (hs 0 p (omega arith)))
       (pair_good p.1 (list_of (flat_map (λ p. symbol_object p.0 ∷ p.1 ∷ []) ps)) (value_good p.1 (vs 0 p (omega arith))) later)
 
-module _ (s : State) (sound : state.IsSound s) where
+module _ (s : WorldState) (sound : state.IsSound s) where
   pub row_good : (x : Symbol) → IsTrue (finite.contains_key s.properties x) → IsGood s.packages (plist_object x (plist s x))
   row_good x there =
       pair_good s.packages sound.packages (symbol_object x) (list_of (flat_map (λ p. symbol_object p.0 ∷ p.1 ∷ []) (plist s x))) (symbol_good s.packages sound.packages x (sound.symbols x there))

@@ -22,7 +22,7 @@ use Rattle.readtable_core.proofs.Sound.{standard_sound}
 use Rattle.package_table.specs.Table as packages
 use Rattle.package_table.specs.Table.{Name, Table, common_lisp}
 use Rattle.package_table.specs.Readers.{package_names, used_names, imports}
-use Rattle.plist_state.specs.State.{State, standard_name}
+use Rattle.plist_state.specs.State.{WorldState, standard_name}
 use Rattle.plist_state.specs.Sound.{IsSound}
 use Rattle.plist_state.specs.Readers.{readtable_names}
 use Rattle.world_text.specs.Snapshot.{made_names, shown_names, imported_name, package_object, packages_object, number, dispatch_object, dispatch_objects, entry_object, entry_objects, readtable_object, table_named, tables_object}
@@ -117,7 +117,7 @@ plain_entries t sound = plain_among t sound (λ c. not (same_entry (entry_at t c
 plain_readtable : (n : Name) (t : readtable.Table) → is_ascii_name n ≡ true → IsReadtable t → IsPlain (readtable_object n t)
 plain_readtable n t e sound = (plain_text n e, (plain_case t.letters, (plain_list (entry_objects t) (plain_entries t sound), plain_nil)))
 
-module _ (s : State) (sound : IsSound s) where
+module _ (s : WorldState) (sound : IsSound s) where
   named_sound : (n : Name) → IsReadtable (table_named s n)
   named_sound n =
       elim (finite.get s.readtables n) as (λ t. finite.get s.readtables n ≡ t → IsReadtable (unwrap_or t standard)) [

@@ -8,7 +8,7 @@ use Rattle.std.specs.FinMap.{contains_key-keys, same_map}
 use Rattle.lisp_object.specs.Object as object
 use Rattle.lisp_object.specs.Object.{Object, list_of}
 use Rattle.plist_state.specs.Properties.{Symbol, Plist, symbol_cmp}
-use Rattle.plist_state.specs.State.{State}
+use Rattle.plist_state.specs.State.{WorldState}
 use Rattle.plist_state.specs.Changes.{plist}
 use Rattle.plist_state.proofs.Orders.{symbol_total, symbol_exact, one_symbol}
 use Rattle.world_text.specs.Snapshot.{symbol_object, plist_object, properties_object}
@@ -40,10 +40,10 @@ abbrev of : Symbol → Object → Bool
 of q (object.pair a b) = of_head q a
 of q _ = false
 
-abbrev row : State → Symbol → Option Object
+abbrev row : WorldState → Symbol → Option Object
 row s x = Some (plist_object x (plist s x))
 
-is_of : (s : State) (q x : Symbol) (b : Object) → row s x ≡ Some b → of q b ≡ eq q x
+is_of : (s : WorldState) (q x : Symbol) (b : Object) → row s x ≡ Some b → of q b ≡ eq q x
 is_of s q x b e = ap (of q) (ap (λ o. unwrap_or o b) (sym e))
 
 by_lists : (q : Symbol) (a b : Option Plist)
@@ -55,7 +55,7 @@ by_lists q (Some a) (Some b) e =
     let lists : list_of (flat a) ≡ list_of (flat b) = cc in
     ap (λ x. Some x) (same_flat a b (same_list (flat a) (flat b) lists))
 
-pub same_properties : (s t : State) → properties_object s ≡ properties_object t → s.properties ≡ t.properties
+pub same_properties : (s t : WorldState) → properties_object s ≡ properties_object t → s.properties ≡ t.properties
 same_properties s t e =
     let xs = symbols s in
     let ys = symbols t in
@@ -69,5 +69,5 @@ same_properties s t e =
     ∙ same_rows eq of (row s) (row t) one_symbol (is_of s) (is_of t) xs ys lists q
     ∙ ap (λ b. cond b (row t q) None) (sym (contains_key-keys t.properties q))))
   where
-    symbols : State → List Symbol
+    symbols : WorldState → List Symbol
     symbols u = finite.keys u.properties

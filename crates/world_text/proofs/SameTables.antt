@@ -20,7 +20,7 @@ use Rattle.readtable_core.specs.Sound.{IsCharacterEntry, IsReadtable, is_macro, 
 use Rattle.readtable_core.specs.Named.{same_entry}
 use Rattle.readtable_core.proofs.Named as named
 use Rattle.package_table.specs.Table.{Name, name_cmp}
-use Rattle.plist_state.specs.State.{State, standard_name}
+use Rattle.plist_state.specs.State.{WorldState, standard_name}
 use Rattle.plist_state.specs.Sound.{IsSound}
 use Rattle.plist_state.proofs.Orders.{name_total, name_exact, one_name}
 use Rattle.world_text.specs.Snapshot.{number, dispatch_object, dispatch_objects, entry_object, entry_objects, readtable_object, table_named, readtables_object, tables_object}
@@ -179,10 +179,10 @@ abbrev pub of_name : Name → Object → Bool
 of_name q (object.pair a b) = of_text q a
 of_name q _ = false
 
-abbrev table_row : State → Name → Option Object
+abbrev table_row : WorldState → Name → Option Object
 table_row s n = cond (not (bytes_eq n standard_name)) (Some (readtable_object n (table_named s n))) None
 
-table_of : (s : State) (q x : Name) (b : Object) → table_row s x ≡ Some b → of_name q b ≡ eq_by_cmp name_cmp q x
+table_of : (s : WorldState) (q x : Name) (b : Object) → table_row s x ≡ Some b → of_name q b ≡ eq_by_cmp name_cmp q x
 table_of s q x b e =
     elim (not (bytes_eq x standard_name)) as (λ d. cond d (Some (readtable_object x (table_named s x))) None ≡ Some b → of_name q b ≡ eq_by_cmp name_cmp q x) [
       | true ↦ λ e. ap (of_name q) (ap (λ o. unwrap_or o b) (sym e))
@@ -197,7 +197,7 @@ by_tables q (Some t) None sa sb e = absurd cc
 by_tables q (Some t) (Some u) sa sb e =
     ap (λ x. Some x) (same_table q t u (sa t refl) (sb u refl) (ap (λ o. unwrap_or o (readtable_object q t)) e))
 
-same_readtables : (s t : State) → IsSound s → IsSound t → readtables_object s ≡ readtables_object t → s.readtables ≡ t.readtables
+same_readtables : (s t : WorldState) → IsSound s → IsSound t → readtables_object s ≡ readtables_object t → s.readtables ≡ t.readtables
 same_readtables s t sound_s sound_t e =
     let xs = names s in
     let ys = names t in
@@ -218,16 +218,16 @@ same_readtables s t sound_s sound_t e =
           ∙ ap (λ b. cond b (Some (readtable_object q (table_named t q))) None) (sym (contains_key-keys t.readtables q)))
     ] refl)
   where
-    names : State → List Name
+    names : WorldState → List Name
     names u = finite.keys u.readtables
 
 -- the readtables and the current names
-pub record HaveSameTables (s t : State) : Type 0 where
+pub record HaveSameTables (s t : WorldState) : Type 0 where
   pub readtables : s.readtables ≡ t.readtables
   pub current_package : s.current_package ≡ t.current_package
   pub current_readtable : s.current_readtable ≡ t.current_readtable
 
-pub same_third : (s t : State) → IsSound s → IsSound t → tables_object s ≡ tables_object t → HaveSameTables s t
+pub same_third : (s t : WorldState) → IsSound s → IsSound t → tables_object s ≡ tables_object t → HaveSameTables s t
 same_third s t sound_s sound_t e =
     let objects : readtables_object s ≡ readtables_object t = cc in
     let in_package : s.current_package ≡ t.current_package = cc in

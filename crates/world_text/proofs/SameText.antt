@@ -3,7 +3,7 @@ use Rattle.std.proofs.Common.{◌≡◌, ℕ, List, [], ◌∷◌, ◌++◌, app
 use Rattle.lisp_object.specs.Object.{Object}
 use Rattle.package_table.specs.Table.{Table, common_lisp_user}
 use Rattle.canon_printer.specs.Printed.{printed}
-use Rattle.plist_state.specs.State.{State}
+use Rattle.plist_state.specs.State.{WorldState}
 use Rattle.plist_state.specs.Sound.{IsSound}
 use Rattle.world_text.specs.Snapshot.{packages_object, properties_object, tables_object, snapshot}
 use Rattle.world_text.proofs.PlainObjects.{plain_printed}
@@ -22,13 +22,13 @@ in_turn a b c =
     ∙ ap (λ r. a ++ 10 ∷ r) (append_assoc b (10 ∷ []) (c ++ 10 ∷ []))
 
 -- what comes after the first line
-abbrev later : Table → State → List ℕ
+abbrev later : Table → WorldState → List ℕ
 later t s = text_of t (properties_object s) ++ 10 ∷ (text_of t (tables_object s) ++ 10 ∷ [])
 
-lines : (s : State) → snapshot s ≡ text_of s.packages (packages_object s.packages) ++ 10 ∷ later s.packages s
+lines : (s : WorldState) → snapshot s ≡ text_of s.packages (packages_object s.packages) ++ 10 ∷ later s.packages s
 lines s = in_turn (text_of s.packages (packages_object s.packages)) (text_of s.packages (properties_object s)) (text_of s.packages (tables_object s))
 
-module _ (s t : State) (sound_s : IsSound s) (sound_t : IsSound t) where
+module _ (s t : WorldState) (sound_s : IsSound s) (sound_t : IsSound t) where
   -- the first lines are printed alike with the packages of either state
   first_lines : snapshot s ≡ snapshot t → (packages_object s.packages ≡ packages_object t.packages) × (later s.packages s ≡ later t.packages t)
   first_lines e =

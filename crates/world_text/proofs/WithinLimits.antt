@@ -21,7 +21,7 @@ use Rattle.canon_printer.specs.Written.{printed_ratio, character_name}
 use Rattle.canon_printer.specs.Printed.{is_accessible}
 use Rattle.canon_printer.proofs.Resolved.{home_there}
 use Rattle.plist_state.specs.Properties.{Symbol, Plist}
-use Rattle.plist_state.specs.State.{State, standard_name}
+use Rattle.plist_state.specs.State.{WorldState, standard_name}
 use Rattle.plist_state.specs.Changes.{plist}
 use Rattle.plist_state.specs.Readers.{readtable_names, symbols_with_properties}
 use Rattle.plist_state.specs.Sound as state
@@ -123,7 +123,7 @@ flat_values : (t : Table) (ps : Plist) → All (λ p. IsValue t p.1) ps → AreD
 flat_values t [] vs = tt
 flat_values t (p ∷ ps) vs = (omega arith, ((vs 0 p (omega arith)).depth, flat_values t ps (λ k q lt. vs (suc k) q (omega arith))))
 
-module _ (s : State) (sound : state.IsSound s) where
+module _ (s : WorldState) (sound : state.IsSound s) where
   plist_values : (x : Symbol) → AreDeep 100 (flat_map (λ p. symbol_object p.0 ∷ p.1 ∷ []) (plist s x))
   plist_values x =
       elim (finite.get s.properties x) as (λ ps. finite.get s.properties x ≡ ps → AreDeep 100 (flat_map (λ p. symbol_object p.0 ∷ p.1 ∷ []) (unwrap_or ps []))) [
@@ -160,7 +160,7 @@ entries_deep t = each_deep (λ c. entry_object c (entry_at t c)) 3 (λ c. entry_
 readtable_depth : (n : Name) (t : readtable.Table) → object_depth (readtable_object n t) ≤ 5
 readtable_depth n t = let entries = list_depth 3 (entry_objects t) (entries_deep t) in omega arith
 
-pub tables_depth : (s : State) → object_depth (tables_object s) ≤ 104
+pub tables_depth : (s : WorldState) → object_depth (tables_object s) ≤ 104
 tables_depth s =
     let ns = filter (λ n. not (bytes_eq n standard_name)) (readtable_names s) in
     let tables = list_depth 5 (map (λ n. readtable_object n (table_named s n)) ns) (each_deep (λ n. readtable_object n (table_named s n)) 5 (λ n. readtable_depth n (table_named s n)) ns) in

@@ -11,7 +11,7 @@ use Rattle.package_table.specs.Table.{Name, name_cmp, IsPackage, keyword}
 use Rattle.package_table.specs.Table as packages
 use Rattle.canon_printer.proofs.Resolved.{home_there}
 use Rattle.plist_state.specs.Properties.{Symbol, Plist}
-use Rattle.plist_state.specs.State.{State}
+use Rattle.plist_state.specs.State.{WorldState}
 use Rattle.plist_state.specs.Changes.{plist}
 use Rattle.plist_state.specs.Readers.{readtable_names, symbols_with_properties}
 use Rattle.plist_state.specs.Sound.{IsSound, IsSymbol}
@@ -48,7 +48,7 @@ indicators_ascii t sound [] h = refl
 indicators_ascii t sound (p ∷ ps) h =
     and_from (is_ascii_symbol p.0) (are_ascii_indicators ps) (symbol_ascii t sound p.0 (h 0 p (omega arith))) (indicators_ascii t sound ps (λ k q lt. h (suc k) q (omega arith)))
 
-module _ (s : State) (sound : IsSound s) where
+module _ (s : WorldState) (sound : IsSound s) where
   pub symbols_ascii : are_ascii_symbols (symbols_with_properties s) ≡ true
   symbols_ascii = keys_all symbol_tied s.properties is_ascii_symbol (λ x there. symbol_ascii s.packages sound.packages x (sound.symbols x there))
 

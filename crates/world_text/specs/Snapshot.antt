@@ -15,7 +15,7 @@ use Rattle.package_table.specs.Table.{Name, Table, common_lisp, common_lisp_user
 use Rattle.package_table.specs.Lookup.{is_present}
 use Rattle.package_table.specs.Readers.{package_names, used_names, own_names, external_names, imports}
 use Rattle.plist_state.specs.Properties.{Symbol, Plist}
-use Rattle.plist_state.specs.State.{State, standard_name}
+use Rattle.plist_state.specs.State.{WorldState, standard_name}
 use Rattle.plist_state.specs.Changes.{plist}
 use Rattle.plist_state.specs.Readers.{readtable_names, symbols_with_properties}
 use Rattle.canon_printer.specs.Printed.{printed}
@@ -54,7 +54,7 @@ symbol_object x = symbol x.0 x.1
 abbrev pub plist_object : Symbol → Plist → Object
 plist_object x ps = pair (symbol_object x) (list_of (flat_map (λ p. symbol_object p.0 ∷ p.1 ∷ []) ps))
 
-abbrev pub properties_object : State → Object
+abbrev pub properties_object : WorldState → Object
 properties_object s = list_of (map (λ x. plist_object x (plist s x)) (symbols_with_properties s))
 
 -- ---- readtables: all but STANDARD, which never changes
@@ -85,15 +85,15 @@ abbrev pub readtable_object : Name → readtable.Table → Object
 readtable_object name table = list_of (text name ∷ text (case_name table.letters) ∷ list_of (entry_objects table) ∷ [])
 
 -- the readtable of this name
-abbrev pub table_named : State → Name → readtable.Table
+abbrev pub table_named : WorldState → Name → readtable.Table
 table_named s n = unwrap_or (finite.get s.readtables n) standard
 
-abbrev pub readtables_object : State → Object
+abbrev pub readtables_object : WorldState → Object
 readtables_object s =
     list_of (map (λ n. readtable_object n (table_named s n)) (filter (λ n. not (bytes_eq n standard_name)) (readtable_names s)))
 
 -- the current package and readtable, and the readtables
-abbrev pub tables_object : State → Object
+abbrev pub tables_object : WorldState → Object
 tables_object s = list_of (text s.current_package ∷ text s.current_readtable ∷ readtables_object s ∷ [])
 
 -- ---- the text
@@ -102,5 +102,5 @@ abbrev pub line : Table → Object → List ℕ
 line packages x = printed packages common_lisp_user x ++ 10 ∷ []
 
 -- the text of a state
-abbrev pub snapshot : State → List ℕ
+abbrev pub snapshot : WorldState → List ℕ
 snapshot s = line s.packages (packages_object s.packages) ++ line s.packages (properties_object s) ++ line s.packages (tables_object s)

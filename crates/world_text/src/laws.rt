@@ -12,7 +12,7 @@ ghost use Rattle.canon_printer.specs.Symbols.{HasAllSymbols};
 ghost use Rattle.lisp_reading.specs.declared.limits.Limits.{Limits};
 ghost use Rattle.lisp_reading.specs.Setting.{setting_of};
 ghost use Rattle.lisp_reading.specs.Reading.{form, space_at, reads};
-ghost use Rattle.plist_state.specs.State.{State};
+ghost use Rattle.plist_state.specs.State.{WorldState};
 ghost use Rattle.plist_state.specs.Sound.{IsSound as IsSoundState};
 ghost use Rattle.world_text.specs.Lines.{snapshot_limits, IsLineRead};
 ghost use Rattle.world_text.specs.Snapshot.{packages_object, properties_object, tables_object, snapshot};
@@ -38,19 +38,19 @@ pub fn printed_objects_read_back()
 /// A text is that of one sound state at most: what a snapshot does not say, a state does not have. So a world that `read`
 /// gives is the one whose text the bytes are.
 pub fn one_text_one_state()
-    ensures { (s t : State) → IsSoundState s → IsSoundState t → snapshot s ≡ snapshot t → s ≡ t }
+    ensures { (s t : WorldState) → IsSoundState s → IsSoundState t → snapshot s ≡ snapshot t → s ≡ t }
 {}
 
 /// The lines of the text of a sound state are read, under the limits of a snapshot: each as the object that it is of, up to
 /// its newline and whatever follows. The first is read with any packages, and the others with those of the state.
 pub fn snapshot_lines_are_read()
-    ensures packages { (s : State) (first : Packages) (functions : Functions) (rest : List ℕ) → IsSoundState s → IsSound first
+    ensures packages { (s : WorldState) (first : Packages) (functions : Functions) (rest : List ℕ) → IsSoundState s → IsSound first
         → length (printed s.packages common_lisp_user (packages_object s.packages)) ≤ 4294967295
         → IsLineRead (setting_of snapshot_limits standard first common_lisp_user functions) s.packages (packages_object s.packages) rest }
-    ensures properties { (s : State) (functions : Functions) (rest : List ℕ) → IsSoundState s
+    ensures properties { (s : WorldState) (functions : Functions) (rest : List ℕ) → IsSoundState s
         → length (printed s.packages common_lisp_user (properties_object s)) ≤ 4294967295
         → IsLineRead (setting_of snapshot_limits standard s.packages common_lisp_user functions) s.packages (properties_object s) rest }
-    ensures tables { (s : State) (functions : Functions) (rest : List ℕ) → IsSoundState s
+    ensures tables { (s : WorldState) (functions : Functions) (rest : List ℕ) → IsSoundState s
         → length (printed s.packages common_lisp_user (tables_object s)) ≤ 4294967295
         → IsLineRead (setting_of snapshot_limits standard s.packages common_lisp_user functions) s.packages (tables_object s) rest }
 {}

@@ -17,7 +17,7 @@ use Rattle.lisp_operators.specs.Evaluated.{done}
 use Rattle.lisp_operators.specs.declared.evaluated.Evaluated.{Evaluated}
 use Rattle.lisp_reading.specs.Reading.{Outcome as Reading, form}
 use Rattle.lisp_reading.proofs.Forms.{form_framed}
-use Rattle.plist_state.specs.State.{State as World}
+use Rattle.plist_state.specs.State.{WorldState}
 use Rattle.prevalence_store.specs.declared.failure.Failure.{Failure}
 use Rattle.prevalence_store.specs.declared.failure.Failure.TheVariants.{Refused, Full, DeviceFault, OutOfMemory}
 use Rattle.prevalence_store.specs.declared.mode.Mode.{Mode}
@@ -25,28 +25,28 @@ use Rattle.prevalence_store.specs.declared.outcome.Outcome.TheVariants as outcom
 use Rattle.prevalence_store.specs.meaning.Acceptance.{Acceptance, accepts, accepted_of, acceptance_of, between, read_in, records_of, setting_in}
 use Rattle.prevalence_store.specs.steps.Failure.{failure_number, is_device, IsCause}
 use Rattle.prevalence_store.specs.calls.Execute.{Executes, DeviceFails, IsAccepted, Stores, SurvivesAs, taken_in}
-use Rattle.prevalence_store.specs.calls.Store.{Session, session_of}
+use Rattle.prevalence_store.specs.calls.Store.{StoreView, session_of}
 use Rattle.user_macros.specs.Functions.{Functions}
 
 -- an open store has a world
-pub known_world : (world : Option World) → IsSome world → (w : World) × (world ≡ Some w)
+pub known_world : (world : Option WorldState) → IsSome world → (w : WorldState) × (world ≡ Some w)
 known_world None known = cc
 known_world (Some w) known = (w, refl)
 
 -- the world of an open store is the one in memory
-pub world_inside : {D R : Type 0} (failed : Bool) (log : HalvesValue D) (v w : World) (macros : R) (now : Session D R) → session_of failed log v macros ≡ now
+pub world_inside : {D R : Type 0} (failed : Bool) (log : HalvesValue D) (v w : WorldState) (macros : R) (now : StoreView D R) → session_of failed log v macros ≡ now
     → now.world ≡ Some w → v ≡ w
 world_inside {D = D} {R = R} failed log v w macros now view known =
-    by_failed failed (ap (λ (s : Session D R). s.world) view ∙ known)
+    by_failed failed (ap (λ (s : StoreView D R). s.world) view ∙ known)
   where
     by_failed : (b : Bool) → cond b None (Some v) ≡ Some w → v ≡ w
     by_failed true is = absurd (cc)
     by_failed false is = cc
 
 -- an open store has met no device fault
-pub not_failed : {D R : Type 0} (failed : Bool) (log : HalvesValue D) (v : World) (macros : R) (now : Session D R) → session_of failed log v macros ≡ now
+pub not_failed : {D R : Type 0} (failed : Bool) (log : HalvesValue D) (v : WorldState) (macros : R) (now : StoreView D R) → session_of failed log v macros ≡ now
     → IsSome now.world → failed ≡ false
-not_failed {D = D} {R = R} failed log v macros now view known = by_failed failed (ap (λ (s : Session D R). is_some s.world) view ∙ known) where
+not_failed {D = D} {R = R} failed log v macros now view known = by_failed failed (ap (λ (s : StoreView D R). is_some s.world) view ∙ known) where
   by_failed : (b : Bool) → is_some (cond b None (Some v)) ≡ true → b ≡ false
   by_failed true is = absurd (cc)
   by_failed false is = refl
@@ -64,39 +64,39 @@ form_read o read datum start «end» next is form_is = subst (λ (p : ReadOutcom
 
 module _ (functions : Functions) where
   -- acceptance, by what was read
-  pub accepts_by : (w : World) (mode : Mode) (text : List ℕ) (read : Reading) → read_in functions w mode text ≡ read
+  pub accepts_by : (w : WorldState) (mode : Mode) (text : List ℕ) (read : Reading) → read_in functions w mode text ≡ read
       → accepts functions w mode text ≡ accepted_of functions w text read
   accepts_by w mode text read is = ap (accepted_of functions w text) is
 
   -- of a form that is the whole text
-  pub accepts_form : (w : World) (mode : Mode) (text : List ℕ) (x : Object) (start «end» next : ℕ)
+  pub accepts_form : (w : WorldState) (mode : Mode) (text : List ℕ) (x : Object) (start «end» next : ℕ)
       → read_in functions w mode text ≡ form x start «end» next → next ≡ length text
       → accepts functions w mode text ≡ acceptance_of (between start «end» text) (accept functions.names w x)
   accepts_form w mode text x start «end» next is whole =
       accepts_by w mode text (form x start «end» next) is ∙ rw (eq-eqb next (length text) whole) refl
 
   -- of a form with more after it
-  pub leaves_over : (w : World) (mode : Mode) (text : List ℕ) (x : Object) (start «end» next : ℕ)
+  pub leaves_over : (w : WorldState) (mode : Mode) (text : List ℕ) (x : Object) (start «end» next : ℕ)
       → read_in functions w mode text ≡ form x start «end» next → (next ≡ length text → ⊥) → accepts functions w mode text ≡ Err TEXT_LEFT_OVER
   leaves_over w mode text x start «end» next is more =
       accepts_by w mode text (form x start «end» next) is ∙ rw (ne_eqb next (length text) more) refl
 
   -- where a form is in its text
-  pub form_places : (w : World) (mode : Mode) (text : List ℕ) (x : Object) (start «end» next : ℕ) → read_in functions w mode text ≡ form x start «end» next
+  pub form_places : (w : WorldState) (mode : Mode) (text : List ℕ) (x : Object) (start «end» next : ℕ) → read_in functions w mode text ≡ form x start «end» next
       → (start < «end») × («end» ≤ next) × (next ≤ length text)
   form_places w mode text x start «end» next is =
       let framed = form_framed (setting_in functions w mode) text x start «end» next is in
       (framed.some, framed.after, framed.inside)
 
   -- an object's own text, cut out of the text that it was read from, is that object whole
-  pub own_whole : (w : World) (mode : Mode) (text : List ℕ) (x : Object) (start «end» next : ℕ) → read_in functions w mode text ≡ form x start «end» next
+  pub own_whole : (w : WorldState) (mode : Mode) (text : List ℕ) (x : Object) (start «end» next : ℕ) → read_in functions w mode text ≡ form x start «end» next
       → read_in functions w mode (between start «end» text) ≡ form x 0 (length (between start «end» text)) (length (between start «end» text))
   own_whole w mode text x start «end» next is =
       let framed = form_framed (setting_in functions w mode) text x start «end» next is in
       let within : «end» ≤ length text = let a = framed.after in let b = framed.inside in omega arith in
       subst (λ n. read_in functions w mode (between start «end» text) ≡ form x 0 n n) (sym (length-between start «end» text within)) framed.again
 
-  module _ {D R : Type 0} (state : D → State) (old new : Session D R) (w : World) (mode : Mode) (text : List ℕ) where
+  module _ {D R : Type 0} (state : D → State) (old new : StoreView D R) (w : WorldState) (mode : Mode) (text : List ℕ) where
     pub turned_down : (number : ℕ) → accepts functions w mode text ≡ Err number → new ≡ old → SurvivesAs functions state old new w [] 0
         → Executes functions state old new w mode text (outcome.Refused number)
     turned_down number refused same survives = inl (record { refused = refused; unchanged = same; survives = survives })
@@ -107,16 +107,16 @@ module _ (functions : Functions) where
     -- of a form with this text of its own
     module _ (own : List ℕ) (x : Object) (by : accepts functions w mode text ≡ acceptance_of own (accept functions.names w x)) where
       -- what it was accepted as, by what it was evaluated to
-      abbrev of : Evaluated → World → Acceptance
+      abbrev of : Evaluated → WorldState → Acceptance
       of e given = record { value = object_of e.value; world = given; wrote = e.wrote; text = own }
 
       -- the device has not failed, whether it wrote or not
-      stored_calm : (wrote : Bool) (given : World) → Stores state old new wrote mode own given → (state new.disk).failures ≡ (state old.disk).failures
+      stored_calm : (wrote : Bool) (given : WorldState) → Stores state old new wrote mode own given → (state new.disk).failures ≡ (state old.disk).failures
       stored_calm true given stored = stored.failures
-      stored_calm false given stored = ap (λ (s : Session D R). (state s.disk).failures) stored.0
+      stored_calm false given stored = ap (λ (s : StoreView D R). (state s.disk).failures) stored.0
 
       -- it was evaluated, and logged if it wrote
-      pub accepted : (e : Evaluated) → (given : World) × (accept functions.names w x ≡ Ok (done e given)) × Stores state old new e.wrote mode own given
+      pub accepted : (e : Evaluated) → (given : WorldState) × (accept functions.names w x ≡ Ok (done e given)) × Stores state old new e.wrote mode own given
           → SurvivesAs functions state old new w (records_of e.wrote mode own) (length (records_of e.wrote mode own))
           → IsAccepted functions state old new w mode text (object_of e.value)
       accepted e given survives = record {

@@ -11,11 +11,11 @@ use Rattle.prevalence_store.specs.declared.outcome.Ending.{Ending}
 use Rattle.prevalence_store.specs.declared.outcome.Ending.TheVariants.{End, Reader, Store}
 use Rattle.prevalence_store.specs.meaning.Acceptance.{after, read_in}
 use Rattle.prevalence_store.specs.calls.Execute.{SurvivesAs}
-use Rattle.prevalence_store.specs.calls.Store.{LeavesAlone, Session, Describes}
+use Rattle.prevalence_store.specs.calls.Store.{LeavesAlone, StoreView, Describes}
 use Rattle.prevalence_store.specs.meaning.Answers.{Progress, after_forms, begun, last_line, one_form, one_form_more, onward}
 use Rattle.prevalence_store.specs.calls.Serve.{Advances, Ends, IsAfter, IsExtended, IsRenewed, Serves, contents_after, half_after, with_entries}
 use Rattle.prevalence_store.specs.calls.Streams.{Writes}
-use Rattle.plist_state.specs.State.{State as World}
+use Rattle.plist_state.specs.State.{WorldState}
 use Rattle.prevalence_store.specs.Theorem.{Survives}
 use Rattle.prevalence_store.proofs.calls.LeftAlone.{alone_both}
 use Rattle.prevalence_store.proofs.Surviving.{after-append, both_survive}
@@ -53,7 +53,7 @@ half_after_both zero m k half is = let same : k ≡ m = omega arith in ap (λ j.
 half_after_both (suc n) m zero half is = absurd (omega arith)
 half_after_both (suc n) m (suc k) half is = let less : k ≡ n + m = omega arith in ap opposite_of (half_after_both n m k half less)
 
-module _ (functions : Functions) {D R : Type 0} (state : D → State) (sound : (d : D) → IsHonest (state d) → IsSound (state d)) (old mid new : Session D R) (w v : World) (xs ys : List LogRecord)
+module _ (functions : Functions) {D R : Type 0} (state : D → State) (sound : (d : D) → IsHonest (state d) → IsSound (state d)) (old mid new : StoreView D R) (w v : WorldState) (xs ys : List LogRecord)
     (here : after functions w xs ≡ Some v) (limit : mid.limit ≡ old.limit) (honest : (state mid.disk).honest ≡ (state old.disk).honest) where
   both_extended : IsExtended state old mid xs → IsExtended state mid new ys → IsExtended state old new (xs ++ ys)
   both_extended one two = record {
@@ -142,7 +142,7 @@ module _ (functions : Functions) {D R : Type 0} (state : D → State) (sound : (
   log_both (inr one) (inl two) = inr (renewed_extended one two)
   log_both (inr one) (inr two) = inr (both_renewed one two)
 
-module _ (functions : Functions) {D R : Type 0} (state : D → State) (sound : (d : D) → IsHonest (state d) → IsSound (state d)) (old mid new : Session D R) (w : World) (p : Progress)
+module _ (functions : Functions) {D R : Type 0} (state : D → State) (sound : (d : D) → IsHonest (state d) → IsSound (state d)) (old mid new : StoreView D R) (w : WorldState) (p : Progress)
     (first : IsAfter functions state old mid w p) (honest : (state mid.disk).honest ≡ (state old.disk).honest) where
   pub after_both : (q : Progress) → IsAfter functions state mid new p.world q → IsAfter functions state old new w (onward p q)
   after_both q second = record {
@@ -162,7 +162,7 @@ module _ (functions : Functions) where
   step_back mode (Some q) r is = (q, refl, is)
 
   -- so many forms of the rest, after others
-  pub forms_onward : (n m k : ℕ) (w : World) (mode : Mode) (text : List ℕ) (p q : Progress) → k ≡ n + m
+  pub forms_onward : (n m k : ℕ) (w : WorldState) (mode : Mode) (text : List ℕ) (p q : Progress) → k ≡ n + m
       → after_forms functions m w mode text ≡ Some p → after_forms functions n p.world mode p.rest ≡ Some q → after_forms functions k w mode text ≡ Some (onward p q)
   forms_onward zero m k w mode text p q is here there =
       let count : k ≡ m = omega arith in
@@ -179,7 +179,7 @@ module _ (functions : Functions) where
 
   -- ---- a session goes on
 
-  module _ {D R : Type 0} (state : D → State) (sound : (d : D) → IsHonest (state d) → IsSound (state d)) (old mid new : Session D R) (w : World) (mode : Mode) (text : List ℕ) (a b c : Option (List ℕ)) (m : ℕ) (p : Progress)
+  module _ {D R : Type 0} (state : D → State) (sound : (d : D) → IsHonest (state d) → IsSound (state d)) (old mid new : StoreView D R) (w : WorldState) (mode : Mode) (text : List ℕ) (a b c : Option (List ℕ)) (m : ℕ) (p : Progress)
       (first : Advances functions state old mid w mode text a b m p) (honest : (state mid.disk).honest ≡ (state old.disk).honest) where
     survive_both : (taken : List LogRecord) (n : ℕ) → SurvivesAs functions state mid new p.world taken n → SurvivesAs functions state old new w (p.taken ++ taken) (length p.taken + n)
     survive_both taken n second known claims keeps =

@@ -16,7 +16,7 @@ use Rattle.readtable_core.specs.Names.{is_among, is_dispatch_name, is_standard}
 use Rattle.readtable_core.specs.Tables.{Table, standard}
 use Rattle.package_table.specs.Table.{Name, name_cmp}
 use Rattle.plist_state.specs.Readers.{readtable_names}
-use Rattle.plist_state.specs.State.{State as World, first_readtables, initial, standard_name, user_name}
+use Rattle.plist_state.specs.State.{WorldState, first_readtables, initial, standard_name, user_name}
 use Rattle.plist_state.proofs.Orders.{name_total, one_name}
 use Rattle.user_macros.specs.Registry.{is_covered}
 use Rattle.user_macros.proofs.Covered.{standard_covered}
@@ -53,15 +53,15 @@ at_first n =
     ∙ ap (cond (eq_by_cmp name_cmp n standard_name) (Some standard)) (get-empty name_cmp n))
 
 module _ (names : List Name) where
-  abbrev is_named_covered : World → Name → Bool
+  abbrev is_named_covered : WorldState → Name → Bool
   is_named_covered w n = list_all (is_covered names) (named_by (table_named w n))
 
-  pub covers : (w : World) → are_covered names w ≡ true → AreCovered names w.readtables
+  pub covers : (w : WorldState) → are_covered names w ≡ true → AreCovered names w.readtables
   covers w all n t there =
       let among : list_any (eq_by_cmp name_cmp n) (finite.keys w.readtables) ≡ true = sym (contains_key-keys w.readtables n) ∙ ap is_some there in
       subst (λ (o : Option Table). list_all (is_covered names) (named_by (unwrap_or o standard)) ≡ true) there (passes_each (is_named_covered w) (finite.keys w.readtables) n all among)
 
-  pub covered_by : (w : World) → AreCovered names w.readtables → are_covered names w ≡ true
+  pub covered_by : (w : WorldState) → AreCovered names w.readtables → are_covered names w ≡ true
   covered_by w each = keys_pass w.readtables (is_named_covered w) (λ n there. by_table n (finite.get w.readtables n) refl there) where
     by_table : (n : Name) (o : Option Table) → finite.get w.readtables n ≡ o → IsTrue (is_some (finite.get w.readtables n)) → is_named_covered w n ≡ true
     by_table n (Some t) is there = subst (λ (o : Option Table). list_all (is_covered names) (named_by (unwrap_or o standard)) ≡ true) (sym is) (each n t is)
@@ -84,40 +84,40 @@ module _ (names : List Name) where
 -- ---- forms
 
 module _ (functions : Functions) where
-  evaluated : (w : World) (text : List ℕ) (x : Object) (given : Acceptance) (b : Bool) (o : Evaluation Object) → accept functions.names w x ≡ o
+  evaluated : (w : WorldState) (text : List ℕ) (x : Object) (given : Acceptance) (b : Bool) (o : Evaluation Object) → accept functions.names w x ≡ o
       → ◌≡◌ {A = Result Acceptance ℕ} (if b then acceptance_of text o else Err TEXT_LEFT_OVER) (Ok given)
       → AreCovered functions.names w.readtables → AreCovered functions.names given.world.readtables
   evaluated w text x given true (Ok d) is gives all =
       let same : d.state ≡ given.world = cc in
-      subst (λ (v : World). AreCovered functions.names v.readtables) same (accepted_covers functions.names w x d is all)
+      subst (λ (v : WorldState). AreCovered functions.names v.readtables) same (accepted_covers functions.names w x d is all)
   evaluated w text x given true (Err code) is gives all = absurd (cc)
   evaluated w text x given false o is gives all = absurd (cc)
 
-  by_reading : (w : World) (text : List ℕ) (given : Acceptance) (read : Reading) → accepted_of functions w text read ≡ Ok given
+  by_reading : (w : WorldState) (text : List ℕ) (given : Acceptance) (read : Reading) → accepted_of functions w text read ≡ Ok given
       → AreCovered functions.names w.readtables → AreCovered functions.names given.world.readtables
   by_reading w text given (form x start «end» next) is all =
       evaluated w (between start «end» text) x given (next == length text) (accept functions.names w x) refl is all
   by_reading w text given empty is all = absurd (cc)
   by_reading w text given (refused number at) is all = absurd (cc)
 
-  pub after_covers : (w v : World) (entries : List LogRecord) → after functions w entries ≡ Some v → AreCovered functions.names w.readtables → AreCovered functions.names v.readtables
-  after_covers w v [] is all = let same : w ≡ v = cc in subst (λ (u : World). AreCovered functions.names u.readtables) same all
+  pub after_covers : (w v : WorldState) (entries : List LogRecord) → after functions w entries ≡ Some v → AreCovered functions.names w.readtables → AreCovered functions.names v.readtables
+  after_covers w v [] is all = let same : w ≡ v = cc in subst (λ (u : WorldState). AreCovered functions.names u.readtables) same all
   after_covers w v (entry ∷ entries) is all =
       by_first (λ u made covered. after_covers u v entries made covered) (accepts functions w (mode_of entry.kind) entry.text) refl is
     where
-      by_first : ((u : World) → after functions u entries ≡ Some v → AreCovered functions.names u.readtables → AreCovered functions.names v.readtables)
+      by_first : ((u : WorldState) → after functions u entries ≡ Some v → AreCovered functions.names u.readtables → AreCovered functions.names v.readtables)
           → (given : Result Acceptance ℕ) → accepts functions w (mode_of entry.kind) entry.text ≡ given
           → elim given [ Ok a ↦ after functions a.world entries | Err n ↦ None ] ≡ Some v → AreCovered functions.names v.readtables
       by_first later (Ok a) accepted rest = later a.world rest (by_reading w entry.text a (read_in functions w (mode_of entry.kind) entry.text) accepted all)
       by_first later (Err n) accepted rest = absurd (cc)
 
   -- the world of what a log holds
-  pub held_covered : (k : Contents) (w : World) → ContentsMean functions k w → are_covered functions.names w ≡ true
+  pub held_covered : (k : Contents) (w : WorldState) → ContentsMean functions k w → are_covered functions.names w ≡ true
   held_covered k w mean = covered_by functions.names w (after_covers mean.first w k.entries mean.records (covers functions.names mean.first mean.covered))
 
 -- ---- what is registered
 
 pub registered_covers : (names registered : List Name) → ((name : Name) → is_among registered name ≡ is_among names name)
-    → (w : World) → are_covered registered w ≡ are_covered names w
+    → (w : WorldState) → are_covered registered w ≡ are_covered names w
 registered_covers names registered same w =
     λ i. list_all (λ n. list_all (λ name. is_standard name || (is_dispatch_name name || same name i)) (named_by (table_named w n))) (readtable_names w)

@@ -4,7 +4,7 @@ use Rattle.std.proofs.lemmas.List.{take-append-drop}
 use Rattle.disk_trait.specs.Disk.{State, IsHonest, IsSound}
 use Rattle.lisp_object.specs.Object.{Object}
 use Rattle.lisp_object.specs.declared.refusal.TheConstants.{INPUT}
-use Rattle.plist_state.specs.State.{State as World}
+use Rattle.plist_state.specs.State.{WorldState}
 use Rattle.form_reader.specs.Reader.{MayGoOn, fed}
 use Rattle.lisp_reading.specs.Reading.{form, refused}
 use Rattle.prevalence_store.specs.declared.session.input.Pending.{Pending}
@@ -17,7 +17,7 @@ use Rattle.prevalence_store.specs.meaning.Answers.{Progress, after_forms, begun,
 use Rattle.prevalence_store.specs.steps.Input.{HasForm, IsPending, HasRefusal}
 use Rattle.prevalence_store.specs.calls.Pace.{EndsInPace, Pace, Paces, fill_of}
 use Rattle.prevalence_store.specs.calls.Serve.{Advances, IsAfter, Serves, ServesInPace, StaysRefused}
-use Rattle.prevalence_store.specs.calls.Store.{Session}
+use Rattle.prevalence_store.specs.calls.Store.{StoreView}
 use Rattle.prevalence_store.specs.steps.Serve.{Answers, GoesOn, HasEnded, StaysEnded, ComesTo}
 use Rattle.prevalence_store.specs.steps.Answer.{AnswersFault, AnswersForm, StopsInForm}
 use Rattle.prevalence_store.proofs.steps.Pacing.{ends_after, fault_paced, paces_both}
@@ -28,11 +28,11 @@ use Rattle.prevalence_store.proofs.steps.Endings.{after_none, fault_answered, no
 use Rattle.prevalence_store.proofs.steps.Pieces.{longer, InPace, piece_whole, piece_left, next_is, after_form}
 
 module _ (functions : Functions) {D R : Type 0} (state : D → State) where
-  after_longer : (old new : Session D R) (w : World) (far : Progress) (more : List ℕ) → IsAfter functions state old new w far → IsAfter functions state old new w (longer far more)
+  after_longer : (old new : StoreView D R) (w : WorldState) (far : Progress) (more : List ℕ) → IsAfter functions state old new w far → IsAfter functions state old new w (longer far more)
   after_longer old new w far more a = record { left = a.left; records = a.records; limit = a.limit; macros = a.macros; failures = a.failures; log = a.log }
 
   -- the same forms, of a text that goes on
-  pub extended : (pace later : Pace) (old new : Session D R) (w : World) (mode : Mode) (text : List ℕ) (a b : Option (List ℕ)) (pending : Pending) (left more : List ℕ)
+  pub extended : (pace later : Pace) (old new : StoreView D R) (w : WorldState) (mode : Mode) (text : List ℕ) (a b : Option (List ℕ)) (pending : Pending) (left more : List ℕ)
       → GoesOn functions state pace later old new w mode text a b pending left → GoesOn functions state pace later old new w mode (text ++ more) a b pending (left ++ more)
   extended pace later old new w mode text a b pending left more goes = record {
     forms = goes.forms;
@@ -52,7 +52,7 @@ module _ (functions : Functions) {D R : Type 0} (state : D → State) where
   }
 
   -- nothing was answered yet
-  pub nothing_answered : ((d : D) → IsHonest (state d) → IsSound (state d)) → (pace : Pace) (old : Session D R) (w : World) (mode : Mode) (text : List ℕ) (held : Option (List ℕ)) (pending : Pending)
+  pub nothing_answered : ((d : D) → IsHonest (state d) → IsSound (state d)) → (pace : Pace) (old : StoreView D R) (w : WorldState) (mode : Mode) (text : List ℕ) (held : Option (List ℕ)) (pending : Pending)
       → old.world ≡ Some w → IsPending functions w mode pending text → GoesOn functions state pace pace old old w mode text held held pending []
   nothing_answered sound pace old w mode text held pending known is = record {
     forms = 0;
@@ -71,15 +71,15 @@ module _ (functions : Functions) {D R : Type 0} (state : D → State) where
   }
 
   -- what was answered of what was fed of a piece, and what is left of it
-  pub answered_within : (pace later : Pace) (old new : Session D R) (w : World) (mode : Mode) (a b : Option (List ℕ)) (pending : Pending) (bytes piece left : List ℕ) (n : ℕ)
+  pub answered_within : (pace later : Pace) (old new : StoreView D R) (w : WorldState) (mode : Mode) (a b : Option (List ℕ)) (pending : Pending) (bytes piece left : List ℕ) (n : ℕ)
       → GoesOn functions state pace later old new w mode (bytes ++ take n piece) a b pending left → GoesOn functions state pace later old new w mode (bytes ++ piece) a b pending (left ++ drop n piece)
   answered_within pace later old new w mode a b pending bytes piece left n goes =
       subst (λ t. GoesOn functions state pace later old new w mode t a b pending (left ++ drop n piece)) (piece_whole bytes piece n)
       (extended pace later old new w mode (bytes ++ take n piece) a b pending left (drop n piece) goes)
 
   -- a form that a piece decides was answered, and so many bytes of the piece were taken
-  pub form_answered : (w : World) (mode : Mode) (pending : Pending) (bytes piece : List ℕ) (n count : ℕ) (x : Object) (own : List ℕ) (left : Bool)
-      → HasForm functions w mode pending (bytes ++ take n piece) x own left → n ≤ length piece → count + cond left 1 0 ≡ n → (pace later : Pace) (old new : Session D R) (a b : Option (List ℕ))
+  pub form_answered : (w : WorldState) (mode : Mode) (pending : Pending) (bytes piece : List ℕ) (n count : ℕ) (x : Object) (own : List ℕ) (left : Bool)
+      → HasForm functions w mode pending (bytes ++ take n piece) x own left → n ≤ length piece → count + cond left 1 0 ≡ n → (pace later : Pace) (old new : StoreView D R) (a b : Option (List ℕ))
       → AnswersForm functions state old new w mode pace later (bytes ++ take n piece) a b None → GoesOn functions state pace later old new w mode (bytes ++ piece) a b pending (drop count piece)
   form_answered w mode pending bytes piece n count x own left has within taken pace later old new a b answered =
       let next = next_is functions w mode pending (bytes ++ take n piece) x own left has bytes piece n count refl within taken in
@@ -88,19 +88,19 @@ module _ (functions : Functions) {D R : Type 0} (state : D → State) where
       (after_form functions w mode pending (bytes ++ take n piece) x own left has state pace later old new a b answered))
 
   -- what is pending after it
-  pub pending_again : (pace later : Pace) (old new : Session D R) (w : World) (mode : Mode) (text : List ℕ) (a b : Option (List ℕ)) (pending : Pending) (left : List ℕ)
-      → GoesOn functions state pace later old new w mode text a b pending left → (v : World) → new.world ≡ Some v → (bytes : List ℕ) × IsPending functions v mode pending bytes
+  pub pending_again : (pace later : Pace) (old new : StoreView D R) (w : WorldState) (mode : Mode) (text : List ℕ) (a b : Option (List ℕ)) (pending : Pending) (left : List ℕ)
+      → GoesOn functions state pace later old new w mode text a b pending left → (v : WorldState) → new.world ≡ Some v → (bytes : List ℕ) × IsPending functions v mode pending bytes
   pending_again pace later old new w mode text a b pending left goes v known =
       let same : goes.far.world ≡ v = let left_is = goes.advances.after.left in cc in
       (goes.bytes, subst (λ u. IsPending functions u mode pending goes.bytes) same goes.is_pending)
 
   -- the session ended before any answer, whatever follows the text
-  pub ends_at_once : (pace : Pace) (old new : Session D R) (w : World) (mode : Mode) (text : List ℕ) (a b : Option (List ℕ)) (number : ℕ)
+  pub ends_at_once : (pace : Pace) (old new : StoreView D R) (w : WorldState) (mode : Mode) (text : List ℕ) (a b : Option (List ℕ)) (number : ℕ)
       → (stops : StopsInForm functions state old new w mode text a b number) × ServesInPace functions state pace old new w mode text a b (Store number) stops.serves → HasEnded functions state pace old new w mode text a b (Store number)
   ends_at_once pace old new w mode text a b number is = record { serves = is.0.serves; paced = is.1; stays = λ output all. let one = is.0.in_form output in absurd (omega arith) }
 
   -- the reader refused the text, whatever follows it
-  pub fault_ended : (sound : (d : D) → IsHonest (state d) → IsSound (state d)) (pace later : Pace) (old new : Session D R) (w : World) (mode : Mode) (text : List ℕ) (a b : Option (List ℕ)) (pending : Pending)
+  pub fault_ended : (sound : (d : D) → IsHonest (state d) → IsSound (state d)) (pace later : Pace) (old new : StoreView D R) (w : WorldState) (mode : Mode) (text : List ℕ) (a b : Option (List ℕ)) (pending : Pending)
       (number : ℕ) → old.world ≡ Some w → HasRefusal functions w mode text number → new ≡ old → (ending : Ending) → AnswersFault number a b ending
       → Answers functions state pace later old new w mode text a b pending (Some ending)
   unfolding fault_answered nothing
@@ -122,7 +122,7 @@ module _ (functions : Functions) {D R : Type 0} (state : D → State) where
 
   -- ---- one after the other
 
-  module _ (sound : (d : D) → IsHonest (state d) → IsSound (state d)) (pace later last : Pace) (old mid new : Session D R) (w : World) (mode : Mode) (a b c : Option (List ℕ)) (pending : Pending)
+  module _ (sound : (d : D) → IsHonest (state d) → IsSound (state d)) (pace later last : Pace) (old mid new : StoreView D R) (w : WorldState) (mode : Mode) (a b c : Option (List ℕ)) (pending : Pending)
       (honest : (state mid.disk).honest ≡ (state old.disk).honest) where
     module _ (text : List ℕ) (left : List ℕ) (first : GoesOn functions state pace later old mid w mode text a b pending left) where
       abbrev p : Progress
@@ -211,7 +211,7 @@ module _ (functions : Functions) {D R : Type 0} (state : D → State) where
         (serve_both functions state sound old mid new w mode text a b c first.forms first.far first.advances honest ending whole.0, paced_both text [] first ending whole.0 whole.1)
 
   -- the session ended within a piece
-  pub ended_within : (pace later : Pace) (old new : Session D R) (w : World) (mode : Mode) (a b : Option (List ℕ)) (after : Pending) (bytes piece : List ℕ) (n : ℕ) (ending : Ending)
+  pub ended_within : (pace later : Pace) (old new : StoreView D R) (w : WorldState) (mode : Mode) (a b : Option (List ℕ)) (after : Pending) (bytes piece : List ℕ) (n : ℕ) (ending : Ending)
       → Answers functions state pace later old new w mode (bytes ++ take n piece) a b after (Some ending) → Answers functions state pace later old new w mode (bytes ++ piece) a b after (Some ending)
   ended_within pace later old new w mode a b after bytes piece n ending ended more =
       subst (λ t. HasEnded functions state pace old new w mode t a b ending)
@@ -219,7 +219,7 @@ module _ (functions : Functions) {D R : Type 0} (state : D → State) where
       ∙ sym (append_assoc bytes piece more)) (ended (drop n piece ++ more))
 
   -- a read failed after it
-  pub unread_after : (pace later : Pace) (old new : Session D R) (w : World) (mode : Mode) (text : List ℕ) (a b : Option (List ℕ)) (pending : Pending)
+  pub unread_after : (pace later : Pace) (old new : StoreView D R) (w : WorldState) (mode : Mode) (text : List ℕ) (a b : Option (List ℕ)) (pending : Pending)
       → GoesOn functions state pace later old new w mode text a b pending [] → InPace functions state pace old new w mode text a b (Store INPUT)
   unread_after pace later old new w mode text a b pending goes =
       let far : Progress = goes.far in (

@@ -7,7 +7,7 @@ use Rattle.lisp_object.specs.declared.refusal.TheConstants.{INPUT, NO_MEMORY}
 use Rattle.lisp_operators.specs.declared.evaluated.Evaluated.{Evaluated}
 use Rattle.form_reader.specs.Reader.{MayGoOn}
 use Rattle.lisp_reading.specs.Reading.{form, empty, refused}
-use Rattle.plist_state.specs.State.{State as World}
+use Rattle.plist_state.specs.State.{WorldState}
 use Rattle.prevalence_store.specs.declared.failure.Failure.{Failure}
 use Rattle.prevalence_store.specs.declared.mode.Mode.{Mode}
 use Rattle.prevalence_store.specs.declared.outcome.Ending.{Ending}
@@ -16,7 +16,7 @@ use Rattle.prevalence_store.specs.meaning.Acceptance.{after, read_in}
 use Rattle.prevalence_store.specs.meaning.Answers.{Progress, after_forms, begun, last_line, one_form, onward, refusal_line}
 use Rattle.prevalence_store.specs.calls.Serve.{Ends, IsAfter, Serves}
 use Rattle.gate_log.specs.HalfInUse.{HalvesValue}
-use Rattle.prevalence_store.specs.calls.Store.{Session, Describes, session_of}
+use Rattle.prevalence_store.specs.calls.Store.{StoreView, Describes, session_of}
 use Rattle.prevalence_store.proofs.calls.Executing.{world_inside}
 use Rattle.prevalence_store.specs.calls.Streams.{Writes, WritesPart}
 use Rattle.prevalence_store.specs.steps.Answer.{AnswersFault}
@@ -36,7 +36,7 @@ part_of (Some bytes) written text some part =
     (p.front, p.rest, p.parts, p.more, λ others is. let same : bytes ≡ others = cc in subst (λ b. written ≡ Some (b ++ p.front)) same p.written)
 
 -- the line of an answer, in the world in memory
-pub line_inside : {D R : Type 0} (failed : Bool) (log : HalvesValue D) (w : World) (macros : R) (now : Session D R) → session_of failed log w macros ≡ now
+pub line_inside : {D R : Type 0} (failed : Bool) (log : HalvesValue D) (w : WorldState) (macros : R) (now : StoreView D R) → session_of failed log w macros ≡ now
     → (answer : Result Evaluated Failure) (line : List ℕ) → IsLineOf w answer line → IsLine now answer line
 line_inside failed log w macros now view answer line is = record { world = w; one = λ v known. sym (world_inside failed log w v macros now view known); line_of = is }
 
@@ -48,15 +48,15 @@ module _ (functions : Functions) where
   -- ---- what was written
 
   -- the world of the text's first form
-  pub after_one_form : (w : World) (mode : Mode) (text : List ℕ) (p : Progress) → one_form functions w mode text (read_in functions w mode text) ≡ Some p → after_forms functions 1 w mode text ≡ Some p
+  pub after_one_form : (w : WorldState) (mode : Mode) (text : List ℕ) (p : Progress) → one_form functions w mode text (read_in functions w mode text) ≡ Some p → after_forms functions 1 w mode text ≡ Some p
   after_one_form w mode text p is = ap (option_map (onward (begun w text))) is
 
-  module _ {D R : Type 0} (state : D → State) (sound : (d : D) → IsHonest (state d) → IsSound (state d)) (old new : Session D R) (w : World) (mode : Mode) (text : List ℕ) (held written : Option (List ℕ))
+  module _ {D R : Type 0} (state : D → State) (sound : (d : D) → IsHonest (state d) → IsSound (state d)) (old new : StoreView D R) (w : WorldState) (mode : Mode) (text : List ℕ) (held written : Option (List ℕ))
       (known : old.world ≡ Some w) where
     -- nothing was taken
     pub after_none : (rest lines : List ℕ) → new ≡ old → IsAfter functions state old new w (record { world = w; rest = rest; taken = []; lines = lines })
     after_none rest lines same =
-        subst (λ (s : Session D R). IsAfter functions state old s w (record { world = w; rest = rest; taken = []; lines = lines })) (sym same) (record {
+        subst (λ (s : StoreView D R). IsAfter functions state old s w (record { world = w; rest = rest; taken = []; lines = lines })) (sym same) (record {
           left = known;
           records = refl;
           limit = refl;

@@ -14,7 +14,7 @@ use Rattle.lisp_reading.proofs.Fittings.{form_fits}
 use Rattle.lisp_reading.proofs.Registered.{one_answer}
 use Rattle.form_eval.specs.Laws.{IsForm}
 use Rattle.form_eval.specs.Laws as evaluator
-use Rattle.plist_state.specs.State.{State as World}
+use Rattle.plist_state.specs.State.{WorldState}
 use Rattle.plist_state.specs.Sound as world
 use Rattle.prevalence_store.specs.declared.mode.Mode.{Mode}
 use Rattle.prevalence_store.specs.meaning.Acceptance.{read_in, setting_in}
@@ -31,7 +31,7 @@ is_form t x sound fitting =
     record { object = sound; depth = fitting.depth; symbols = atoms_weaker (reader.Fits t) (evaluator.Fits t) (fits t) x fitting.symbols }
 
 -- a form that was read in a sound world fits its packages
-pub fits_in : (functions : Functions) (w : World) (mode : Mode) (text : List ℕ) (x : Object) (start «end» next : ℕ) → world.IsSound w
+pub fits_in : (functions : Functions) (w : WorldState) (mode : Mode) (text : List ℕ) (x : Object) (start «end» next : ℕ) → world.IsSound w
     → read_in functions w mode text ≡ form x start «end» next → IsFitting w.packages x
 fits_in functions w mode text x start «end» next sound is = form_fits (setting_in functions w mode) text x start «end» next sound.packages (omega arith) (omega arith) is
 

@@ -12,7 +12,7 @@ use Rattle.lisp_operators.specs.Evaluated.{IsArgument, done as done_of}
 use Rattle.lisp_operators.specs.declared.evaluated.Evaluated.{Evaluated}
 use Rattle.canon_printer.specs.Printed.{printed}
 use Rattle.lisp_reading.specs.Reading.{form}
-use Rattle.plist_state.specs.State.{State as World}
+use Rattle.plist_state.specs.State.{WorldState}
 use Rattle.prevalence_store.specs.declared.failure.Failure.{Failure}
 use Rattle.prevalence_store.specs.declared.failure.Failure.TheVariants.{Refused, Full, DeviceFault, OutOfMemory}
 use Rattle.prevalence_store.specs.declared.mode.Mode.{Mode}
@@ -24,7 +24,7 @@ use Rattle.prevalence_store.specs.calls.Execute.{DeviceFails, Stores, SurvivesAs
 use Rattle.prevalence_store.specs.meaning.Answers.{Progress, after_forms, begun, evaluated, last_line, one_form, refusal_line, value_line}
 use Rattle.prevalence_store.specs.calls.Pace.{fill_of}
 use Rattle.prevalence_store.specs.calls.Serve.{Ends, IsAfter, IsOver}
-use Rattle.prevalence_store.specs.calls.Store.{Session}
+use Rattle.prevalence_store.specs.calls.Store.{StoreView}
 use Rattle.prevalence_store.proofs.steps.Committing.{accepts-logged}
 use Rattle.prevalence_store.proofs.calls.Executing.{own_whole}
 use Rattle.prevalence_store.proofs.meaning.Replaying.{stepped}
@@ -48,14 +48,14 @@ some_line : (lines line : List ℕ) → line ≡ lines → lines ≢ [] → line
 some_line lines line same some is = some (sym same ∙ is)
 
 module _ (functions : Functions) where
-  stores_left : {D R : Type 0} (state : D → State) (old new : Session D R) (wrote : Bool) (mode : Mode) (own : List ℕ) (given : World) → Stores state old new wrote mode own given → new.world ≡ Some given
+  stores_left : {D R : Type 0} (state : D → State) (old new : StoreView D R) (wrote : Bool) (mode : Mode) (own : List ℕ) (given : WorldState) → Stores state old new wrote mode own given → new.world ≡ Some given
   stores_left state old new true mode own given stores = stores.left
   stores_left state old new false mode own given stores = stores.1
 
-  value_lines : {D R : Type 0} (new : Session D R) (e : Evaluated) (line : List ℕ) (given : World) → new.world ≡ Some given → IsLine new (Ok e) line → line ≡ value_line given (object_of e.value)
+  value_lines : {D R : Type 0} (new : StoreView D R) (e : Evaluated) (line : List ℕ) (given : WorldState) → new.world ≡ Some given → IsLine new (Ok e) line → line ≡ value_line given (object_of e.value)
   value_lines new e line given left is = is.line_of ∙ ap (λ u. value_line u (object_of e.value)) (sym (is.one given left))
 
-  module _ {D R : Type 0} (state : D → State) (sound : (d : D) → IsHonest (state d) → IsSound (state d)) (old new : Session D R) (w : World) (mode : Mode) (text : List ℕ) (held written : Option (List ℕ))
+  module _ {D R : Type 0} (state : D → State) (sound : (d : D) → IsHonest (state d) → IsSound (state d)) (old new : StoreView D R) (w : WorldState) (mode : Mode) (text : List ℕ) (held written : Option (List ℕ))
       (known : old.world ≡ Some w) (start stop next : ℕ) (x : Object) (is : read_in functions w mode text ≡ form x start stop next) (own : List ℕ) (own_is : own ≡ between start stop text) where
     one_read : (given : Evaluation Object) → accept functions.names w x ≡ given
         → one_form functions w mode text (read_in functions w mode text) ≡ Some (evaluated w mode own (drop next text) given)
@@ -72,7 +72,7 @@ module _ (functions : Functions) where
         subst (λ t. read_in functions w mode t ≡ form x 0 (length t) (length t)) (sym own_is) (own_whole functions w mode text x start stop next is) in
         ap (stepped functions []) (accepts-logged functions w mode own x d whole valued)
 
-    after_stores : (e : Evaluated) (given : World) → accept functions.names w x ≡ Ok (done_of e given) → Stores state old new e.wrote mode own given
+    after_stores : (e : Evaluated) (given : WorldState) → accept functions.names w x ≡ Ok (done_of e given) → Stores state old new e.wrote mode own given
         → IsAfter functions state old new w (evaluated w mode own (drop next text) (Ok (done_of e given)))
     after_stores e given valued stores = by_wrote e.wrote stores where
       by_wrote : (wrote : Bool) → Stores state old new wrote mode own given
@@ -95,22 +95,22 @@ module _ (functions : Functions) where
         });
       }
       by_wrote false same =
-          let left : Some w ≡ Some given = sym known ∙ sym (ap (λ (s : Session D R). s.world) same.0) ∙ same.1 in
+          let left : Some w ≡ Some given = sym known ∙ sym (ap (λ (s : StoreView D R). s.world) same.0) ∙ same.1 in
           let here : w ≡ given = cc in
           subst (λ v. IsAfter functions state old new w (record { world = v; rest = drop next text; taken = []; lines = value_line given (object_of e.value) })) here
           (after_none state sound old new w mode text held written known (drop next text) (value_line given (object_of e.value)) same.0)
 
     -- what it leaves in the half in use
-    leaves : (wrote : Bool) (given : World) → Stores state old new wrote mode own given
+    leaves : (wrote : Bool) (given : WorldState) → Stores state old new wrote mode own given
         → LeavesRecord (LogsAtOnce old.limit (fill_of old) (fill_of new)) (records_of wrote mode own) (fill_of old) (fill_of new) wrote
     leaves true given logs =
         let size = logs.size in
         let fits = logs.fits in
         inr (refl, (logged mode own, refl, (omega arith, λ i. record { generation = logs.generation i; record_count = logs.record_count i; size = logs.size i })))
-    leaves false given same = inl (refl, refl, ap (λ (s : Session D R). fill_of s) same.0)
+    leaves false given same = inl (refl, refl, ap (λ (s : StoreView D R). fill_of s) same.0)
 
     refused_leaves : new ≡ old → LeavesRecord (LogsAtOnce old.limit (fill_of old) (fill_of new)) [] (fill_of old) (fill_of new) false
-    refused_leaves same = inl (refl, refl, ap (λ (s : Session D R). fill_of s) same)
+    refused_leaves same = inl (refl, refl, ap (λ (s : StoreView D R). fill_of s) same)
 
     -- the form is answered, and the session goes on
     form_is_answered : (answer : Result Evaluated Failure) (line : List ℕ) → TakesForm functions state old new mode own x answer → IsLine new answer line
@@ -223,7 +223,7 @@ module _ (functions : Functions) where
             (inr (inr (inr (inr (inr (inr (record { memory = memory; no_part = refl; after = after_none state sound old new w mode text held written known text [] same })))))));
         in_form = λ output. absurd (omega arith);
       },
-      inl (memory, refl, ap (λ (s : Session D R). fill_of s) same),
+      inl (memory, refl, ap (λ (s : StoreView D R). fill_of s) same),
     )
 
     records_written : (wrote : Bool) → wrote ≡ true → records_of wrote mode own ≡ logged mode own ∷ []
@@ -288,7 +288,7 @@ module _ (functions : Functions) where
     form_unwritten answer line of is_line writes = (λ full. absurd (omega arith), λ other. line_unwritten answer line of is_line writes)
 
   -- with the number 64 nothing was done
-  pub full_unchanged : {D R : Type 0} (old new : Session D R) (answer : Result Evaluated Failure) (number : ℕ) → IfErr answer (λ e. is_device e ≡ false → new ≡ old) → IsStop answer number
+  pub full_unchanged : {D R : Type 0} (old new : StoreView D R) (answer : Result Evaluated Failure) (number : ℕ) → IfErr answer (λ e. is_device e ≡ false → new ≡ old) → IsStop answer number
       → number ≡ LOG_FULL → new ≡ old
   full_unchanged old new (Ok e) number same stop full = absurd (omega arith)
   full_unchanged old new (Err (Refused code)) number same stop full = same refl
@@ -297,19 +297,19 @@ module _ (functions : Functions) where
   full_unchanged old new (Err Full) number same stop full = same refl
 
   -- what is answered is proper
-  pub answer_proper : {D R : Type 0} (state : D → State) (old new : Session D R) (w : World) (mode : Mode) (own : List ℕ) (x : Object) (answer : Result Evaluated Failure)
-      → TakesForm functions state old new mode own x answer → old.world ≡ Some w → ((v : World) → new.world ≡ Some v → IfOk answer (λ e. IsArgument v.packages e.value))
+  pub answer_proper : {D R : Type 0} (state : D → State) (old new : StoreView D R) (w : WorldState) (mode : Mode) (own : List ℕ) (x : Object) (answer : Result Evaluated Failure)
+      → TakesForm functions state old new mode own x answer → old.world ≡ Some w → ((v : WorldState) → new.world ≡ Some v → IfOk answer (λ e. IsArgument v.packages e.value))
       → IfOk answer (λ e. is_proper e.value ≡ true)
   answer_proper state old new w mode own x (Ok e) of known argument =
       let given = of.accepted w known in (argument given.0 (stores_left state old new e.wrote mode own given.0 given.2)).proper
   answer_proper state old new w mode own x (Err failure) of known argument = tt
 
   -- a store whose form has a line has a world
-  pub line_known : {D R : Type 0} (state : D → State) (old new : Session D R) (w : World) (mode : Mode) (own : List ℕ) (x : Object) (answer : Result Evaluated Failure) (line : List ℕ)
+  pub line_known : {D R : Type 0} (state : D → State) (old new : StoreView D R) (w : WorldState) (mode : Mode) (own : List ℕ) (x : Object) (answer : Result Evaluated Failure) (line : List ℕ)
       → TakesForm functions state old new mode own x answer → IsLine new answer line → old.world ≡ Some w → IsSome new.world
   line_known state old new w mode own x (Ok e) line of is_line known =
       let given = of.accepted w known in ap is_some (stores_left state old new e.wrote mode own given.0 given.2)
-  line_known {D} {R} state old new w mode own x (Err (Refused number)) line of is_line known = ap (λ (s : Session D R). is_some s.world) (of.unchanged refl) ∙ ap is_some known
+  line_known {D} {R} state old new w mode own x (Err (Refused number)) line of is_line known = ap (λ (s : StoreView D R). is_some s.world) (of.unchanged refl) ∙ ap is_some known
   line_known state old new w mode own x (Err Full) line of is_line known = absurd is_line.line_of
   line_known state old new w mode own x (Err DeviceFault) line of is_line known = absurd is_line.line_of
   line_known state old new w mode own x (Err OutOfMemory) line of is_line known = absurd is_line.line_of

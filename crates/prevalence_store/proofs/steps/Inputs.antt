@@ -3,14 +3,14 @@ use Rattle.std.proofs.Common.{◌≡◌, ℕ, List, [], ◌++◌, Option, None, 
 use Rattle.std.specs.Io.KnownBytes.{Consumes, IsAtEnd, Keeps}
 use Rattle.disk_trait.specs.Disk.{State}
 use Rattle.lisp_object.specs.declared.refusal.TheConstants.{INPUT}
-use Rattle.plist_state.specs.State.{State as World}
+use Rattle.plist_state.specs.State.{WorldState}
 use Rattle.prevalence_store.specs.declared.mode.Mode.{Mode}
 use Rattle.prevalence_store.specs.declared.outcome.Ending.{Ending}
 use Rattle.prevalence_store.specs.declared.outcome.Ending.TheVariants.{End, Reader, Store}
 use Rattle.user_macros.specs.Functions.{Functions}
 use Rattle.prevalence_store.specs.calls.Pace.{first_pace}
 use Rattle.prevalence_store.specs.calls.Serve.{HasRead, Serves, ServesInput}
-use Rattle.prevalence_store.specs.calls.Store.{Session}
+use Rattle.prevalence_store.specs.calls.Store.{StoreView}
 use Rattle.prevalence_store.specs.steps.Serve.{HasEnded}
 use Rattle.prevalence_store.proofs.steps.Pieces.{InPace}
 
@@ -47,7 +47,7 @@ left_both had old new text piece before took all is =
     let then = consumed old new first.0 piece first.1.0 took in
     (then.0, (then.1.0, first.1.1 ∙ ap (λ t. text ++ t) then.1.1 ∙ sym (append_assoc text piece then.0)))
 
-module _ (functions : Functions) {D R : Type 0} (state : D → State) (every : ℕ) (old new : Session D R) (w : World) (mode : Mode) (held written : Option (List ℕ)) (had before has : Option (List ℕ)) (text : List ℕ) where
+module _ (functions : Functions) {D R : Type 0} (state : D → State) (every : ℕ) (old new : StoreView D R) (w : WorldState) (mode : Mode) (held written : Option (List ℕ)) (had before has : Option (List ℕ)) (text : List ℕ) where
   -- a read failed
   pub unread_input : InPace functions state (first_pace every) old new w mode text held written (Store INPUT) → HasLeft had before text → Keeps before has
       → ServesInput functions state every old new w mode had has held written (Store INPUT)

@@ -4,7 +4,7 @@ use Rattle.disk_trait.specs.Disk.{State, IsHonest, IsSound}
 use Rattle.gate_log.specs.Layout.{LogRecord}
 use Rattle.lisp_object.specs.declared.refusal.TheConstants.{DEVICE, LOG_FULL, OUTPUT, NO_MEMORY}
 use Rattle.lisp_reading.specs.Reading.{empty, refused}
-use Rattle.plist_state.specs.State.{State as World}
+use Rattle.plist_state.specs.State.{WorldState}
 use Rattle.prevalence_store.specs.declared.mode.Mode.{Mode}
 use Rattle.prevalence_store.specs.declared.outcome.Ending.{Ending}
 use Rattle.prevalence_store.specs.declared.outcome.Ending.TheVariants.{End, Reader, Store}
@@ -12,18 +12,18 @@ use Rattle.prevalence_store.specs.meaning.Acceptance.{after, read_in}
 use Rattle.user_macros.specs.Functions.{Functions}
 use Rattle.prevalence_store.specs.meaning.Answers.{Progress, after_forms, begun, onward}
 use Rattle.prevalence_store.specs.calls.Pace.{Counts, EndsInPace, Fill, HasMadeRoom, IsDue, IsOverIn, IsPaced, IsUnfollowed, LogsWithRoom, Pace, Paces, IsFollowed, begun_with, fill_of}
-use Rattle.prevalence_store.specs.calls.Store.{Session}
+use Rattle.prevalence_store.specs.calls.Store.{StoreView}
 use Rattle.prevalence_store.specs.steps.Answer.{AnswersFault, LeavesRecord, LogsAtOnce}
 use Rattle.prevalence_store.proofs.Surviving.{after-append}
 use Rattle.prevalence_store.specs.calls.Serve.{ServesInPace}
 use Rattle.prevalence_store.proofs.steps.Endings.{after_one_form, done, fault_answered, no_memory, nothing}
 
 module _ (functions : Functions) (limit : ℕ) where
-  pub none_paced : (w : World) (pace : Pace) (taken : List LogRecord) (fill now : Fill) → taken ≡ [] → now ≡ fill → Paces functions limit w taken pace pace fill now
+  pub none_paced : (w : WorldState) (pace : Pace) (taken : List LogRecord) (fill now : Fill) → taken ≡ [] → now ≡ fill → Paces functions limit w taken pace pace fill now
   none_paced w pace taken fill now none same = subst (λ xs. Paces functions limit w xs pace pace fill now) (sym none) (refl, same)
 
   -- one form that was logged, and what follows it
-  pub one_paced : (w given : World) (entry : LogRecord) (pace later : Pace) (fill logged now : Fill) (taken : List LogRecord) → taken ≡ entry ∷ [] → after functions w taken ≡ Some given
+  pub one_paced : (w given : WorldState) (entry : LogRecord) (pace later : Pace) (fill logged now : Fill) (taken : List LogRecord) → taken ≡ entry ∷ [] → after functions w taken ≡ Some given
       → LogsWithRoom limit w entry fill logged → Counts pace later → IsFollowed limit pace given logged now → Paces functions limit w taken pace later fill now
   one_paced w given entry pace later fill logged now taken is given_is logs counts followed =
       subst (λ xs. Paces functions limit w xs pace later fill now) (sym is)
@@ -31,7 +31,7 @@ module _ (functions : Functions) (limit : ℕ) where
 
   -- ---- some forms, and some more
 
-  pub paces_both : (w v : World) (xs ys : List LogRecord) (p q r : Pace) (f g h : Fill) → after functions w xs ≡ Some v
+  pub paces_both : (w v : WorldState) (xs ys : List LogRecord) (p q r : Pace) (f g h : Fill) → after functions w xs ≡ Some v
       → Paces functions limit w xs p q f g → Paces functions limit v ys q r g h → Paces functions limit w (xs ++ ys) p r f h
   paces_both w v [] ys p q r f g h here one two =
       let same : v ≡ w = cc in
@@ -40,7 +40,7 @@ module _ (functions : Functions) (limit : ℕ) where
   paces_both w v (x ∷ xs) ys p q r f g h here one two =
       (one.0, one.1, one.2, one.3, paces_both one.0 v xs ys one.1 q r one.2 g h (sym (after-append functions w one.0 (x ∷ []) xs one.3.given_is) ∙ here) one.4 two)
 
-  module _ (w : World) (mode : Mode) (pr : Progress) (p q : Pace) (f g : Fill) (here : after functions w pr.taken ≡ Some pr.world) (first : Paces functions limit w pr.taken p q f g) where
+  module _ (w : WorldState) (mode : Mode) (pr : Progress) (p q : Pace) (f g : Fill) (here : after functions w pr.taken ≡ Some pr.world) (first : Paces functions limit w pr.taken p q f g) where
     paced_after : (far : Progress) (now : Fill) → IsPaced functions limit pr.world q g far.taken now → IsPaced functions limit w p f (onward pr far).taken now
     paced_after far now is = (is.0, paces_both w pr.world pr.taken far.taken p q is.0 f g now here first is.1)
 
@@ -88,10 +88,10 @@ module _ (functions : Functions) (limit : ℕ) where
   -- ---- a form that was tried, after a snapshot perhaps
 
   -- the half has not changed; or it had no room for the form that the text begins with, and a snapshot was taken
-  abbrev pub HasReadied : World → Mode → List ℕ → (start middle : Fill) → Type 0
+  abbrev pub HasReadied : WorldState → Mode → List ℕ → (start middle : Fill) → Type 0
   HasReadied w mode text start middle = (middle ≡ start) ⊎ (IsOverIn functions limit start.size w mode text × (middle ≡ begun_with w start))
 
-  module _ (w : World) (mode : Mode) (text : List ℕ) (start middle now : Fill) where
+  module _ (w : WorldState) (mode : Mode) (text : List ℕ) (start middle now : Fill) where
     record_is : (over : IsOverIn functions limit start.size w mode text) (far : Progress) → after_forms functions 1 w mode text ≡ Some far → far.taken ≡ over.record_ ∷ []
     record_is over far is =
         let one = after_one_form functions w mode text over.next over.next_is in
@@ -179,10 +179,10 @@ module _ (functions : Functions) (limit : ℕ) where
 
 -- ---- nothing was done
 
-module _ (functions : Functions) {D R : Type 0} (state : D → State) (sound : (d : D) → IsHonest (state d) → IsSound (state d)) (old new : Session D R) (w : World) (mode : Mode) (text : List ℕ) (held written : Option (List ℕ))
+module _ (functions : Functions) {D R : Type 0} (state : D → State) (sound : (d : D) → IsHonest (state d) → IsSound (state d)) (old new : StoreView D R) (w : WorldState) (mode : Mode) (text : List ℕ) (held written : Option (List ℕ))
     (known : old.world ≡ Some w) where
   same_fill : new ≡ old → fill_of new ≡ fill_of old
-  same_fill same = ap (λ (s : Session D R). fill_of s) same
+  same_fill same = ap (λ (s : StoreView D R). fill_of s) same
 
   -- the answer to a refusal of the reader
   pub fault_paced : (number at : ℕ) (is : read_in functions w mode text ≡ refused number at) (same : new ≡ old) (ending : Ending) (answers : AnswersFault number held written ending) (pace : Pace)

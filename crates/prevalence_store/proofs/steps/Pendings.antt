@@ -28,7 +28,7 @@ use Rattle.lisp_reading.proofs.Bounded.{form_below}
 use Rattle.lisp_reading.proofs.Forms.{reads_is, stood, the_end_there}
 use Rattle.lisp_reading.proofs.Registered.{setting_same}
 use Rattle.plist_state.specs.Sound.{IsSound}
-use Rattle.plist_state.specs.State.{State as World}
+use Rattle.plist_state.specs.State.{WorldState}
 use Rattle.prevalence_store.specs.declared.session.input.Pending.{Pending}
 use Rattle.prevalence_store.specs.declared.mode.Mode.{Mode}
 use Rattle.prevalence_store.specs.meaning.Acceptance.{between, form_limits, package_in, read_in, setting_in, table_in}
@@ -39,7 +39,7 @@ use Rattle.prevalence_store.proofs.calls.Executing.{form_places, length-between,
 use Rattle.prevalence_store.proofs.steps.Fitting.{among_same, fits_in}
 
 -- the setting of a call, with the functions that are registered, is that of the world
-pub called_setting : (w : World) (mode : Mode) (functions registered : Functions) (limits : Limits) (table : Table) (packages : Packages) (current : Name)
+pub called_setting : (w : WorldState) (mode : Mode) (functions registered : Functions) (limits : Limits) (table : Table) (packages : Packages) (current : Name)
     → registered ≡ named_among registered.names functions → are_registered functions registered ≡ true
     → ((name : List ℕ) → IsTrue (is_among registered.names name) → IsTrue (is_among functions.names name))
     → limits ≡ form_limits → table ≡ table_in w mode → packages ≡ w.packages → current ≡ package_in w mode
@@ -56,7 +56,7 @@ unfolding reads
 reads_none setting = reads_is setting 0 [] ∙ ap (outcome setting.table 0 (λ next cs. reads_at setting next cs)) (the_end_there setting)
 
 -- nothing is pending, if the reader is new
-pub none_pending : (functions : Functions) (w : World) (mode : Mode) (pending : Pending) → limits_of pending.reader ≡ form_limits → IsAfter (setting_in functions w mode) pending.reader []
+pub none_pending : (functions : Functions) (w : WorldState) (mode : Mode) (pending : Pending) → limits_of pending.reader ≡ form_limits → IsAfter (setting_in functions w mode) pending.reader []
     → fed pending.reader ≡ 0 → begun pending.reader ≡ 0 → pending.text.items ≡ [] → pending.dropped ≡ 0 → IsPending functions w mode pending []
 none_pending functions w mode pending limits after count begins none zero = record {
   limits = limits;
@@ -99,7 +99,7 @@ piece_more bytes piece k byte taken = append_assoc bytes (take k piece) (byte �
 pub kept_more : (text bytes : List ℕ) (byte dropped : ℕ) → dropped ≤ length bytes → text ≡ drop dropped bytes → text ++ byte ∷ [] ≡ drop dropped (bytes ++ byte ∷ [])
 kept_more text bytes byte dropped within is = ap (λ t. t ++ byte ∷ []) is ∙ sym (drop-append-le dropped bytes (byte ∷ []) within)
 
-module _ (functions : Functions) (w : World) (mode : Mode) (old : Pending) (bytes : List ℕ) (pending : IsPending functions w mode old bytes) where
+module _ (functions : Functions) (w : WorldState) (mode : Mode) (old : Pending) (bytes : List ℕ) (pending : IsPending functions w mode old bytes) where
   -- what was dropped, of the bytes
   pub dropped_within : old.dropped ≤ length bytes
   dropped_within = let a = pending.only in let b = pending.count in omega arith
@@ -176,7 +176,7 @@ module _ (functions : Functions) (w : World) (mode : Mode) (old : Pending) (byte
 
 -- ---- the form that a text begins with
 
-module _ (functions : Functions) (w : World) (mode : Mode) (text : List ℕ) (x : Object) (own : List ℕ) (next : ℕ) (begins : BeginsWith functions w mode text x own next) where
+module _ (functions : Functions) (w : WorldState) (mode : Mode) (text : List ℕ) (x : Object) (own : List ℕ) (next : ℕ) (begins : BeginsWith functions w mode text x own next) where
   pub begins_whole : read_in functions w mode own ≡ form x 0 (length own) (length own)
   begins_whole = subst (λ t. read_in functions w mode t ≡ form x 0 (length t) (length t)) (sym begins.is_own)
       (own_whole functions w mode text x begins.start begins.stop next begins.reads)

@@ -6,7 +6,7 @@ use Rattle.disk_trait.specs.Disk.{State}
 use Rattle.form_eval.specs.Acceptance.{accept}
 use Rattle.lisp_operators.specs.Evaluation.{Evaluation}
 use Rattle.lisp_object.specs.Object.{Object}
-use Rattle.plist_state.specs.State.{State as World}
+use Rattle.plist_state.specs.State.{WorldState}
 use Rattle.form_reader.specs.Reader.{fed}
 use Rattle.lisp_reading.specs.Reading.{form}
 use Rattle.prevalence_store.specs.declared.session.input.Pending.{Pending}
@@ -19,7 +19,7 @@ use Rattle.prevalence_store.specs.meaning.Answers.{Progress, after_forms, evalua
 use Rattle.prevalence_store.specs.steps.Input.{HasForm, IsLastForm, IsPending}
 use Rattle.prevalence_store.specs.calls.Pace.{Pace}
 use Rattle.prevalence_store.specs.calls.Serve.{Serves, ServesInPace}
-use Rattle.prevalence_store.specs.calls.Store.{Session}
+use Rattle.prevalence_store.specs.calls.Store.{StoreView}
 use Rattle.prevalence_store.specs.steps.Serve.{GoesOn, MovesOn}
 use Rattle.prevalence_store.specs.steps.Answer.{AnswersForm, BeginsWith}
 use Rattle.prevalence_store.proofs.calls.Executing.{form_places}
@@ -37,16 +37,16 @@ between_more start stop text more order within =
     let room : stop - start ≤ length (drop start text) = rw (length-drop start text) (omega arith) in
     ap (take (stop - start)) (drop-append-le start text more (omega arith)) ∙ take-append-le (stop - start) (drop start text) more room
 
-longer_evaluated : (w : World) (mode : Mode) (own rest more : List ℕ) (given : Evaluation Object) → evaluated w mode own (rest ++ more) given ≡ longer (evaluated w mode own rest given) more
+longer_evaluated : (w : WorldState) (mode : Mode) (own rest more : List ℕ) (given : Evaluation Object) → evaluated w mode own (rest ++ more) given ≡ longer (evaluated w mode own rest given) more
 longer_evaluated w mode own rest more (Ok done) = refl
 longer_evaluated w mode own rest more (Err number) = refl
 
-rest_evaluated : (w : World) (mode : Mode) (own rest : List ℕ) (given : Evaluation Object) → (evaluated w mode own rest given).rest ≡ rest
+rest_evaluated : (w : WorldState) (mode : Mode) (own rest : List ℕ) (given : Evaluation Object) → (evaluated w mode own rest given).rest ≡ rest
 rest_evaluated w mode own rest (Ok done) = refl
 rest_evaluated w mode own rest (Err number) = refl
 
 -- a session, and how far its snapshots have come
-abbrev pub InPace : (functions : Functions) {D R : Type 0} (state : D → State) (pace : Pace) (old new : Session D R) (world : World) (mode : Mode) (text : List ℕ)
+abbrev pub InPace : (functions : Functions) {D R : Type 0} (state : D → State) (pace : Pace) (old new : StoreView D R) (world : WorldState) (mode : Mode) (text : List ℕ)
     (held written : Option (List ℕ)) (ending : Ending) → Type 0
 InPace functions state pace old new world mode text held written ending =
     (served : Serves functions state old new world mode text held written ending) × ServesInPace functions state pace old new world mode text held written ending served
@@ -73,7 +73,7 @@ to_take (suc n) many = suc (many + many)
 
 -- ---- a form that the bytes begin with, whatever follows them
 
-module _ (functions : Functions) (w : World) (mode : Mode) (pending : Pending) (text : List ℕ) (x : Object) (own : List ℕ) (left : Bool)
+module _ (functions : Functions) (w : WorldState) (mode : Mode) (pending : Pending) (text : List ℕ) (x : Object) (own : List ℕ) (left : Bool)
     (has : HasForm functions w mode pending text x own left) where
   next_within : has.next ≤ length text
   next_within = let is = has.next_is in omega arith
@@ -135,7 +135,7 @@ module _ (functions : Functions) (w : World) (mode : Mode) (pending : Pending) (
       by_count zero is = inr (let order = stop_within.0 in let after = stop_within.1 in let many = before.count in omega arith, none)
       by_count (suc k) is = inl (omega arith)
 
-  module _ {D R : Type 0} (state : D → State) (pace later : Pace) (old new : Session D R) (a b : Option (List ℕ)) (answered : AnswersForm functions state old new w mode pace later text a b None) where
+  module _ {D R : Type 0} (state : D → State) (pace later : Pace) (old new : StoreView D R) (a b : Option (List ℕ)) (answered : AnswersForm functions state old new w mode pace later text a b None) where
     -- the form was answered, and what follows it is left
     pub after_form : GoesOn functions state pace later old new w mode text a b pending (drop has.next text)
     after_form = record {
@@ -151,7 +151,7 @@ module _ (functions : Functions) (w : World) (mode : Mode) (pending : Pending) (
 
 -- ---- the form that ends the input
 
-module _ (functions : Functions) (w : World) (mode : Mode) (text : List ℕ) (x : Object) (own : List ℕ) (last : IsLastForm functions w mode text x own) where
+module _ (functions : Functions) (w : WorldState) (mode : Mode) (text : List ℕ) (x : Object) (own : List ℕ) (last : IsLastForm functions w mode text x own) where
   pub last_begins : (slice : List ℕ) → slice ≡ own → BeginsWith functions w mode text x slice (length text)
   last_begins slice same = record { start = last.start; stop = last.stop; reads = last.reads; is_own = same ∙ last.is_own }
 
@@ -163,7 +163,7 @@ module _ (functions : Functions) (w : World) (mode : Mode) (text : List ℕ) (x 
       ap (λ (p : Progress). p.rest) same ∙ rest_evaluated w mode (between last.start last.stop text) (drop (length text) text) given ∙ drop_all (length text) text (omega arith)
 
   -- it was answered, and nothing is left
-  pub ended_form : {D R : Type 0} (state : D → State) (pace later : Pace) (old new : Session D R) (a b : Option (List ℕ)) → AnswersForm functions state old new w mode pace later text a b None
+  pub ended_form : {D R : Type 0} (state : D → State) (pace later : Pace) (old new : StoreView D R) (a b : Option (List ℕ)) → AnswersForm functions state old new w mode pace later text a b None
       → InPace functions state pace old new w mode text a b End
   ended_form state pace later old new a b answered =
       let far : Progress = answered.0 in

@@ -16,9 +16,9 @@ use Rattle.prevalence_store.specs.declared.mode.Mode.{Mode}
 use Rattle.prevalence_store.specs.declared.outcome.Outcome.{Outcome}
 use Rattle.prevalence_store.specs.declared.outcome.Outcome.TheVariants.{Accepted, Snapshotted, Refused}
 use Rattle.prevalence_store.specs.meaning.Acceptance.{Acceptance, accepts, logged, records_of}
-use Rattle.prevalence_store.specs.calls.Store.{LeavesAlone, Session, Describes}
+use Rattle.prevalence_store.specs.calls.Store.{LeavesAlone, StoreView, Describes}
 use Rattle.prevalence_store.specs.Theorem.{Keeps, Survives}
-use Rattle.plist_state.specs.State.{State as World}
+use Rattle.plist_state.specs.State.{WorldState}
 use Rattle.user_macros.specs.Functions.{Functions}
 
 -- the log holds what it held, or this record more
@@ -26,7 +26,7 @@ abbrev pub IsBeforeOrAfter : Contents → LogRecord → Image → Type 0
 IsBeforeOrAfter k entry = gated.FilesMeanEither (Some k) (Some (with_record k entry))
 
 -- A store without a world answers nothing, until it is opened again.
-abbrev pub AsksToReopen : {D R : Type 0} → (old new : Session D R) → Outcome → Type 0
+abbrev pub AsksToReopen : {D R : Type 0} → (old new : StoreView D R) → Outcome → Type 0
 AsksToReopen old new outcome = (outcome ≡ Refused REOPEN) × (new ≡ old)
 
 -- ---- the forms that a call took, and how many of them it acknowledged
@@ -45,10 +45,10 @@ acknowledged_in mode text (Err failure) = 0
 
 -- ---- what is left of a form
 
-module _ {D R : Type 0} (state : D → State) (old new : Session D R) where
+module _ {D R : Type 0} (state : D → State) (old new : StoreView D R) where
   -- A form with this text was logged, and left this world. On an honest disk its record, which is its mode and its text,
   -- comes after those that were there, and the store tells of it.
-  pub record Logs (mode : Mode) (text : List ℕ) (world : World) : Type 0 where
+  pub record Logs (mode : Mode) (text : List ℕ) (world : WorldState) : Type 0 where
     pub left : new.world ≡ Some world
     pub half : new.half ≡ old.half
     pub generation : new.generation ≡ old.generation
@@ -63,7 +63,7 @@ module _ {D R : Type 0} (state : D → State) (old new : Session D R) where
     pub failures : (state new.disk).failures ≡ (state old.disk).failures
 
   -- A form that wrote was logged. One that wrote nothing left all as it was, the disk too.
-  abbrev pub Stores : Bool → Mode → List ℕ → World → Type 0
+  abbrev pub Stores : Bool → Mode → List ℕ → WorldState → Type 0
   Stores true mode text world = Logs mode text world
   Stores false mode text world = (new ≡ old) × (new.world ≡ Some world)
 
@@ -82,14 +82,14 @@ module _ {D R : Type 0} (state : D → State) (old new : Session D R) where
 
 -- ---- what became of a text, in the world that the store had
 
-module _ (functions : Functions) {D R : Type 0} (state : D → State) (old new : Session D R) where
+module _ (functions : Functions) {D R : Type 0} (state : D → State) (old new : StoreView D R) where
   -- what a crash leaves: on an honest disk of which each crash would have left the world that was there
-  abbrev pub SurvivesAs : World → List LogRecord → ℕ → Type 0
+  abbrev pub SurvivesAs : WorldState → List LogRecord → ℕ → Type 0
   SurvivesAs world taken acknowledged =
       old.world ≡ Some world → IsHonest (state old.disk) → Keeps functions (state old.disk) world
       → Survives functions (state old.disk) (state new.disk) world taken acknowledged new.world
 
-  module _ (world : World) (mode : Mode) (text : List ℕ) where
+  module _ (world : WorldState) (mode : Mode) (text : List ℕ) where
     -- the world accepts the text, and what it wrote was logged
     pub record IsAccepted (value : Object) : Type 0 where
       pub given : Acceptance
@@ -144,7 +144,7 @@ IsProperOutcome Snapshotted = Unit {0}
 IsProperOutcome (Refused number) = Unit {0}
 
 -- And it may be stored in the world that the form left: its symbols are there. So it can be printed there, and read back.
-abbrev pub IsValueIn : World → Outcome → Type 0
+abbrev pub IsValueIn : WorldState → Outcome → Type 0
 IsValueIn world (Accepted value) = IsArgument world.packages value
 IsValueIn world Snapshotted = Unit {0}
 IsValueIn world (Refused number) = Unit {0}

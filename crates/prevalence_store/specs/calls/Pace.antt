@@ -2,7 +2,7 @@
 use Rattle.std.specs.Prelude.{◌≡◌, ◌≢◌, ◌⊎◌, ℕ, ◌+◌, ◌<◌, ◌≤◌, List, [], ◌∷◌, ◌++◌, length, Some}
 use Rattle.gate_log.specs.Layout.{LogRecord}
 use Rattle.lisp_object.specs.declared.refusal.TheConstants.{DEVICE, LOG_FULL, OUTPUT, NO_MEMORY}
-use Rattle.plist_state.specs.State.{State as World}
+use Rattle.plist_state.specs.State.{WorldState}
 use Rattle.world_text.specs.Snapshot.{snapshot}
 use Rattle.prevalence_store.specs.declared.mode.Mode.{Mode}
 use Rattle.prevalence_store.specs.declared.outcome.Ending.{Ending}
@@ -10,7 +10,7 @@ use Rattle.prevalence_store.specs.declared.outcome.Ending.TheVariants.{End, Read
 use Rattle.prevalence_store.specs.meaning.Acceptance.{after, read_in}
 use Rattle.user_macros.specs.Functions.{Functions}
 use Rattle.prevalence_store.specs.meaning.Answers.{Progress, one_form}
-use Rattle.prevalence_store.specs.calls.Store.{Session}
+use Rattle.prevalence_store.specs.calls.Store.{StoreView}
 use Rattle.prevalence_store.specs.calls.Snapshot.{IsTooLargeFor}
 
 -- A snapshot comes after every so many forms that were logged, never if that is 0; and the next one after so many as are left.
@@ -38,7 +38,7 @@ pub record Fill : Type 0 where
   pub record_count : ℕ
   pub size : ℕ
 
-abbrev pub fill_of : {D R : Type 0} → Session D R → Fill
+abbrev pub fill_of : {D R : Type 0} → StoreView D R → Fill
 fill_of session = record { generation = session.generation; record_count = session.record_count; size = session.size }
 
 -- with a record more
@@ -46,11 +46,11 @@ abbrev pub longer_by : LogRecord → Fill → Fill
 longer_by entry fill = record { generation = fill.generation; record_count = fill.record_count + 1; size = fill.size + (6 + length entry.text) }
 
 -- the next half, with the text of this world
-abbrev pub begun_with : World → Fill → Fill
+abbrev pub begun_with : WorldState → Fill → Fill
 begun_with world fill = record { generation = fill.generation + 1; record_count = 0; size = 16 + length (snapshot world) }
 
 -- The form that this text begins with is accepted in this world, and a half of this size would pass its limit by its record.
-pub record IsOverIn (functions : Functions) (limit size : ℕ) (world : World) (mode : Mode) (text : List ℕ) : Type 0 where
+pub record IsOverIn (functions : Functions) (limit size : ℕ) (world : WorldState) (mode : Mode) (text : List ℕ) : Type 0 where
   pub next : Progress
   pub next_is : one_form functions world mode text (read_in functions world mode text) ≡ Some next
   pub record_ : LogRecord
@@ -60,14 +60,14 @@ pub record IsOverIn (functions : Functions) (limit size : ℕ) (world : World) (
 -- ---- one form that was logged
 
 -- A form with this record was logged in this world. If the half had no room for it, a snapshot was taken first.
-pub record LogsWithRoom (limit : ℕ) (world : World) (entry : LogRecord) (fill now : Fill) : Type 0 where
+pub record LogsWithRoom (limit : ℕ) (world : WorldState) (entry : LogRecord) (fill now : Fill) : Type 0 where
   pub room : Fill
   pub made : (room ≡ fill) ⊎ ((limit < fill.size + (6 + length entry.text)) × (room ≡ begun_with world fill))
   pub fits : room.size + (6 + length entry.text) ≤ limit
   pub now_is : now ≡ longer_by entry room
 
 -- What follows it, in the world that it left: a snapshot if one is due and there is a half for it, and else nothing.
-abbrev pub IsFollowed : ℕ → Pace → World → Fill → Fill → Type 0
+abbrev pub IsFollowed : ℕ → Pace → WorldState → Fill → Fill → Type 0
 IsFollowed limit pace world fill now =
     ((IsDue pace → ⊥) × (now ≡ fill))
     ⊎ ((IsDue pace × IsTooLargeFor limit fill.generation world × (now ≡ fill))
@@ -75,7 +75,7 @@ IsFollowed limit pace world fill now =
 
 module _ (functions : Functions) (limit : ℕ) where
   -- a form with this record, and what follows it: it was taken in this world, and left the other
-  pub record PacesOne (world given : World) (entry : LogRecord) (pace later : Pace) (fill now : Fill) : Type 0 where
+  pub record PacesOne (world given : WorldState) (entry : LogRecord) (pace later : Pace) (fill now : Fill) : Type 0 where
     pub given_is : after functions world (entry ∷ []) ≡ Some given
     pub logged : Fill
     pub logs : LogsWithRoom limit world entry fill logged
@@ -83,15 +83,15 @@ module _ (functions : Functions) (limit : ℕ) where
     pub followed : IsFollowed limit pace given logged now
 
   -- Forms with these records, from this world on, each with what follows it. A form that leaves no record changes nothing of it.
-  abbrev pub Paces : World → List LogRecord → (pace later : Pace) (fill now : Fill) → Type 0
+  abbrev pub Paces : WorldState → List LogRecord → (pace later : Pace) (fill now : Fill) → Type 0
   Paces world [] pace later fill now = (later ≡ pace) × (now ≡ fill)
   Paces world (entry ∷ entries) pace later fill now =
-      (given : World) × (counted : Pace) × (next : Fill)
+      (given : WorldState) × (counted : Pace) × (next : Fill)
       × PacesOne world given entry pace counted fill next × Paces given entries counted later next now
 
   -- ---- how far the snapshots have come as a session ends, which began in this world
 
-  module _ (world : World) (pace : Pace) (fill : Fill) where
+  module _ (world : WorldState) (pace : Pace) (fill : Fill) where
     -- all of these forms were logged, each with what follows it
     abbrev pub IsPaced : List LogRecord → Fill → Type 0
     IsPaced taken now = (later : Pace) × Paces world taken pace later fill now
@@ -101,7 +101,7 @@ module _ (functions : Functions) (limit : ℕ) where
       pub earlier : List LogRecord
       pub last : LogRecord
       pub parts : taken ≡ earlier ++ last ∷ []
-      pub first : World
+      pub first : WorldState
       pub first_is : after functions world earlier ≡ Some first
       pub later : Pace
       pub before : Fill

@@ -3,7 +3,7 @@ use Rattle.std.specs.Prelude.{◌≡◌, ℕ, ◌+◌, ◌==◌, if◌then◌els
 use Rattle.disk_trait.specs.Disk.{State}
 use Rattle.gate_log.specs.Layout.{LogRecord}
 use Rattle.lisp_object.specs.declared.refusal.TheConstants.{DEVICE}
-use Rattle.plist_state.specs.State.{State as World}
+use Rattle.plist_state.specs.State.{WorldState}
 use Rattle.prevalence_store.specs.declared.mode.Mode.{Mode}
 use Rattle.prevalence_store.specs.declared.outcome.Outcome.{Outcome}
 use Rattle.prevalence_store.specs.declared.outcome.Outcome.TheVariants.{Accepted, Snapshotted, Refused}
@@ -12,20 +12,20 @@ use Rattle.prevalence_store.specs.declared.step.Step.TheVariants.{Form, Snapshot
 use Rattle.prevalence_store.specs.meaning.Acceptance.{Acceptance, accepts, logged, records_of}
 use Rattle.prevalence_store.specs.calls.Execute.{AsksToReopen, Executes}
 use Rattle.user_macros.specs.Functions.{Functions}
-use Rattle.prevalence_store.specs.calls.Store.{Session}
+use Rattle.prevalence_store.specs.calls.Store.{StoreView}
 use Rattle.prevalence_store.specs.calls.Snapshot.{Snapshots}
 
 module _ (functions : Functions) {D R : Type 0} (state : D → State) where
   -- what became of a step, in the world that the store had: what `execute` or `snapshot` answers in it
-  abbrev pub TakesStep : Session D R → Session D R → Option World → Step → Outcome → Type 0
+  abbrev pub TakesStep : StoreView D R → StoreView D R → Option WorldState → Step → Outcome → Type 0
   TakesStep old new None step outcome = AsksToReopen old new outcome
   TakesStep old new (Some world) (Form mode text) outcome = Executes functions state old new world mode text.now outcome
   TakesStep old new (Some world) Snapshot outcome = Snapshots functions state old new world outcome
 
   -- What became of steps: each has its outcome, in the state that the ones before it left.
-  abbrev pub TakesSteps : Session D R → Session D R → List Step → List Outcome → Type 0
+  abbrev pub TakesSteps : StoreView D R → StoreView D R → List Step → List Outcome → Type 0
   TakesSteps old new [] [] = new ≡ old
-  TakesSteps old new (step ∷ steps) (outcome ∷ outcomes) = (mid : Session D R) × TakesStep old mid old.world step outcome × TakesSteps mid new steps outcomes
+  TakesSteps old new (step ∷ steps) (outcome ∷ outcomes) = (mid : StoreView D R) × TakesStep old mid old.world step outcome × TakesSteps mid new steps outcomes
   TakesSteps old new [] (outcome ∷ outcomes) = ⊥
   TakesSteps old new (step ∷ steps) [] = ⊥
 
@@ -47,7 +47,7 @@ acknowledged_of_form mode (Ok given) Snapshotted = 0
 acknowledged_of_form mode (Ok given) (Refused number) = 0
 
 -- and the world after it
-abbrev pub world_of : World → Result Acceptance ℕ → Outcome → World
+abbrev pub world_of : WorldState → Result Acceptance ℕ → Outcome → WorldState
 world_of world (Err number) outcome = world
 world_of world (Ok given) (Accepted value) = given.world
 world_of world (Ok given) Snapshotted = world
@@ -55,7 +55,7 @@ world_of world (Ok given) (Refused number) = world
 
 module _ (functions : Functions) where
   -- the records of all forms that were accepted and wrote, in order, and of the one under way as the device failed, if any
-  abbrev pub taken_in_steps : World → List Step → List Outcome → List LogRecord
+  abbrev pub taken_in_steps : WorldState → List Step → List Outcome → List LogRecord
   taken_in_steps world [] outcomes = []
   taken_in_steps world (step ∷ steps) [] = []
   taken_in_steps world (Form mode text ∷ steps) (outcome ∷ outcomes) =
@@ -64,7 +64,7 @@ module _ (functions : Functions) where
   taken_in_steps world (Snapshot ∷ steps) (outcome ∷ outcomes) = taken_in_steps world steps outcomes
 
   -- how many of them were acknowledged
-  abbrev pub acknowledged_in_steps : World → List Step → List Outcome → ℕ
+  abbrev pub acknowledged_in_steps : WorldState → List Step → List Outcome → ℕ
   acknowledged_in_steps world [] outcomes = 0
   acknowledged_in_steps world (step ∷ steps) [] = 0
   acknowledged_in_steps world (Form mode text ∷ steps) (outcome ∷ outcomes) =

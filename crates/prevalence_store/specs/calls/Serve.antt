@@ -11,14 +11,14 @@ use Rattle.prevalence_store.specs.declared.outcome.Ending.{Ending}
 use Rattle.prevalence_store.specs.declared.outcome.Ending.TheVariants.{End, Reader, Store}
 use Rattle.prevalence_store.specs.meaning.Acceptance.{after, read_in}
 use Rattle.prevalence_store.specs.calls.Execute.{DeviceFails, SurvivesAs}
-use Rattle.prevalence_store.specs.calls.Store.{LeavesAlone, Session, Describes}
+use Rattle.prevalence_store.specs.calls.Store.{LeavesAlone, StoreView, Describes}
 use Rattle.prevalence_store.specs.meaning.Answers.{Progress, after_forms, last_line, refusal_line}
 use Rattle.prevalence_store.specs.calls.Pace.{EndsInPace, IsOverIn, Pace, fill_of, first_pace}
 use Rattle.form_reader.specs.Reader.{MayGoOn}
 use Rattle.lisp_reading.specs.Reading.{empty, refused}
 use Rattle.prevalence_store.specs.calls.Snapshot.{IsTooLarge}
 use Rattle.prevalence_store.specs.calls.Streams.{Writes}
-use Rattle.plist_state.specs.State.{State as World}
+use Rattle.plist_state.specs.State.{WorldState}
 use Rattle.world_text.specs.Snapshot.{snapshot}
 use Rattle.user_macros.specs.Functions.{Functions}
 
@@ -36,10 +36,10 @@ half_after zero half = half
 half_after (suc snapshots) half = opposite_of (half_after snapshots half)
 
 -- what a half holds that was begun with the text of a world, so many generations after these contents, and these records after it
-abbrev pub contents_after : Contents → ℕ → World → List LogRecord → Contents
+abbrev pub contents_after : Contents → ℕ → WorldState → List LogRecord → Contents
 contents_after k snapshots first entries = record { version = 1; generation = k.generation + snapshots; snapshot = snapshot first; entries = entries }
 
-module _ {D R : Type 0} (state : D → State) (old new : Session D R) where
+module _ {D R : Type 0} (state : D → State) (old new : StoreView D R) where
   -- No snapshot was taken: the half that was in use has these records more.
   pub record IsExtended (taken : List LogRecord) : Type 0 where
     pub half : new.half ≡ old.half
@@ -57,13 +57,13 @@ module _ {D R : Type 0} (state : D → State) (old new : Session D R) where
 
   -- Snapshots were taken, the last of them after the earlier of these records: the half in use is the text of the world that
   -- they left, and the later records.
-  pub record IsRenewed (functions : Functions) (world : World) (taken : List LogRecord) : Type 0 where
+  pub record IsRenewed (functions : Functions) (world : WorldState) (taken : List LogRecord) : Type 0 where
     pub snapshots : ℕ
     pub some : 1 ≤ snapshots
     pub earlier : List LogRecord
     pub later : List LogRecord
     pub parts : taken ≡ earlier ++ later
-    pub first : World
+    pub first : WorldState
     pub first_is : after functions world earlier ≡ Some first
     pub half : new.half ≡ half_after snapshots old.half
     pub generation : new.generation ≡ old.generation + snapshots
@@ -74,7 +74,7 @@ module _ {D R : Type 0} (state : D → State) (old new : Session D R) where
     pub described : (k : Contents) → IsHonest (state old.disk) → Describes old k (state old.disk).reads
         → Describes new (contents_after k snapshots first later) (state new.disk).reads
 
-module _ (functions : Functions) {D R : Type 0} (state : D → State) (old new : Session D R) (world : World) where
+module _ (functions : Functions) {D R : Type 0} (state : D → State) (old new : StoreView D R) (world : WorldState) where
   -- The device has not failed: the world and the log are those after these forms, on an honest disk in the files too.
   pub record IsAfter (far : Progress) : Type 0 where
     pub left : new.world ≡ Some far.world
@@ -86,11 +86,11 @@ module _ (functions : Functions) {D R : Type 0} (state : D → State) (old new :
     pub log : IsExtended state old new far.taken ⊎ IsRenewed state old new functions world far.taken
 
 -- the half would pass its limit by the record of the form that this text begins with
-abbrev pub IsOver : Functions → {D R : Type 0} → Session D R → World → Mode → List ℕ → Type 0
+abbrev pub IsOver : Functions → {D R : Type 0} → StoreView D R → WorldState → Mode → List ℕ → Type 0
 IsOver functions session world mode text = IsOverIn functions session.limit session.size world mode text
 
-module _ (functions : Functions) {D R : Type 0} (state : D → State) (old new : Session D R) where
-  module _ (world : World) (mode : Mode) (text : List ℕ) (held written : Option (List ℕ)) where
+module _ (functions : Functions) {D R : Type 0} (state : D → State) (old new : StoreView D R) where
+  module _ (world : WorldState) (mode : Mode) (text : List ℕ) (held written : Option (List ℕ)) where
     -- the first forms of the text were taken and answered, each line whole
     pub record Advances (forms : ℕ) (far : Progress) : Type 0 where
       pub far_is : after_forms functions forms world mode text ≡ Some far
@@ -123,7 +123,7 @@ module _ (functions : Functions) {D R : Type 0} (state : D → State) (old new :
         pub one_open : forms ≡ lines + 1
         pub no_part : part ≡ []
         -- the store as that form was taken
-        pub mid : Session D R
+        pub mid : StoreView D R
         pub before : IsAfter functions state old mid world answered
         pub record_ : LogRecord
         pub was_accepted : far.taken ≡ answered.taken ++ record_ ∷ []
@@ -136,7 +136,7 @@ module _ (functions : Functions) {D R : Type 0} (state : D → State) (old new :
         pub all : lines ≡ forms
         pub no_part : part ≡ []
         -- the store as the snapshot was begun
-        pub mid : Session D R
+        pub mid : StoreView D R
         pub before : IsAfter functions state old mid world far
         pub fits : IsTooLarge mid far.world → ⊥
         pub failed : DeviceFails state mid new mid.half
@@ -214,7 +214,7 @@ module _ (functions : Functions) {D R : Type 0} (state : D → State) (old new :
 
 -- After these forms the reader refuses what is left of the text with this number, and with more after it too; and the forms are
 -- the same then.
-abbrev pub StaysRefused : Functions → World → Mode → (text : List ℕ) (forms : ℕ) (far : Progress) (number : ℕ) → Type 0
+abbrev pub StaysRefused : Functions → WorldState → Mode → (text : List ℕ) (forms : ℕ) (far : Progress) (number : ℕ) → Type 0
 StaysRefused functions world mode text forms far number = (more : List ℕ)
     → (after_forms functions forms world mode (text ++ more) ≡ Some (record far { rest = far.rest ++ more }))
     × ((at : ℕ) × (read_in functions far.world mode (far.rest ++ more) ≡ refused number at))
@@ -222,7 +222,7 @@ StaysRefused functions world mode text forms far number = (more : List ℕ)
 -- How much a session has read when it ends: at the end of the input all of it; at a refusal of the reader, also if the output
 -- failed in the line of it, all of it, or so much that what follows makes no difference; else what the reader has left is what
 -- was not read.
-abbrev pub HasRead : (functions : Functions) {D R : Type 0} (state : D → State) (old new : Session D R) (world : World) (mode : Mode) (text : List ℕ)
+abbrev pub HasRead : (functions : Functions) {D R : Type 0} (state : D → State) (old new : StoreView D R) (world : WorldState) (mode : Mode) (text : List ℕ)
     (held written : Option (List ℕ)) (ending : Ending) → Serves functions state old new world mode text held written ending → List ℕ → Option (List ℕ) → Type 0
 HasRead functions state old new world mode text held written End served left reader = (left ≡ []) × (reader ≡ Some left)
 HasRead functions state old new world mode text held written (Reader number) served left reader =
@@ -232,14 +232,14 @@ HasRead functions state old new world mode text held written (Store number) serv
     × (reader ≡ Some left)
 
 -- how far the snapshots had come as a session ended that began at this pace
-abbrev pub ServesInPace : (functions : Functions) {D R : Type 0} (state : D → State) (pace : Pace) (old new : Session D R) (world : World) (mode : Mode) (text : List ℕ)
+abbrev pub ServesInPace : (functions : Functions) {D R : Type 0} (state : D → State) (pace : Pace) (old new : StoreView D R) (world : WorldState) (mode : Mode) (text : List ℕ)
     (held written : Option (List ℕ)) (ending : Ending) → Serves functions state old new world mode text held written ending → Type 0
 ServesInPace functions state pace old new world mode text held written ending served =
     EndsInPace functions old.limit world pace (fill_of old) mode served.forms served.far served.lines served.answered (fill_of new) ending
 
 -- A session over what a reader gives, with a snapshot after every so many forms that were logged: what the reader had is what was
 -- read and what is left.
-pub record ServesInput (functions : Functions) {D R : Type 0} (state : D → State) (every : ℕ) (old new : Session D R) (world : World) (mode : Mode) (had has held written : Option (List ℕ)) (ending : Ending) : Type 0 where
+pub record ServesInput (functions : Functions) {D R : Type 0} (state : D → State) (every : ℕ) (old new : StoreView D R) (world : WorldState) (mode : Mode) (had has held written : Option (List ℕ)) (ending : Ending) : Type 0 where
   pub text : List ℕ
   pub serves : Serves functions state old new world mode text held written ending
   pub paced : ServesInPace functions state (first_pace every) old new world mode text held written ending serves

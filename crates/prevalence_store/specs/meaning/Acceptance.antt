@@ -6,7 +6,7 @@ use Rattle.lisp_object.specs.Object.{Object}
 use Rattle.lisp_object.specs.declared.refusal.TheConstants.{END_OF_FILE, TEXT_LEFT_OVER}
 use Rattle.readtable_core.specs.Tables.{Table, standard}
 use Rattle.package_table.specs.Table.{Name, common_lisp_user}
-use Rattle.plist_state.specs.State.{State as World}
+use Rattle.plist_state.specs.State.{WorldState}
 use Rattle.lisp_reading.specs.declared.limits.Limits.{Limits}
 use Rattle.lisp_reading.specs.Setting.{Setting, setting_of}
 use Rattle.lisp_reading.specs.Reading.{Outcome as Reading, form, empty, refused, reads}
@@ -21,7 +21,7 @@ use Rattle.std.specs.Prelude.{◌≤◌}
 -- What an accepted form gives: its value, the world that it leaves, whether it wrote anything, and the text of its object alone.
 pub record Acceptance : Type 0 where
   pub value : Object
-  pub world : World
+  pub world : WorldState
   pub wrote : Bool
   pub text : List ℕ
 
@@ -31,22 +31,22 @@ form_limits = record { text = 65536; token = 4096; nesting = 100 }
 
 -- the readtable under which a text is read: the world's current one; or, to get out of a readtable that has become unusable,
 -- the standard one
-abbrev pub table_in : World → Mode → Table
+abbrev pub table_in : WorldState → Mode → Table
 table_in world Current = unwrap_or (finite.get world.readtables world.current_readtable) standard
 table_in world Rescue = standard
 
 -- and the package in which it is read
-abbrev pub package_in : World → Mode → Name
+abbrev pub package_in : WorldState → Mode → Name
 package_in world Current = world.current_package
 package_in world Rescue = common_lisp_user
 
 -- under what a text is read
-abbrev pub setting_in : Functions → World → Mode → Setting
+abbrev pub setting_in : Functions → WorldState → Mode → Setting
 setting_in functions world mode =
     setting_of form_limits (table_in world mode) world.packages (package_in world mode) functions
 
 -- what a text begins with, as it is read in this world and mode
-abbrev pub read_in : Functions → World → Mode → List ℕ → Reading
+abbrev pub read_in : Functions → WorldState → Mode → List ℕ → Reading
 read_in functions world mode text = reads (setting_in functions world mode) text
 
 -- the bytes from one offset to another
@@ -59,14 +59,14 @@ acceptance_of text (Ok done) = Ok (record { value = done.value; world = done.sta
 acceptance_of text (Err number) = Err number
 
 -- by what was read: a text without an object is refused, and one with more after it
-abbrev pub accepted_of : Functions → World → List ℕ → Reading → Result Acceptance ℕ
+abbrev pub accepted_of : Functions → WorldState → List ℕ → Reading → Result Acceptance ℕ
 accepted_of functions world text (form object start end next) =
     if next == length text then acceptance_of (between start end text) (accept functions.names world object) else Err TEXT_LEFT_OVER
 accepted_of functions world text empty = Err END_OF_FILE
 accepted_of functions world text (refused number at) = Err number
 
 -- What a text gives in a world: the form is read whole, its symbols are interned, and then it is evaluated.
-abbrev pub accepts : Functions → World → Mode → List ℕ → Result Acceptance ℕ
+abbrev pub accepts : Functions → WorldState → Mode → List ℕ → Result Acceptance ℕ
 accepts functions world mode text = accepted_of functions world text (read_in functions world mode text)
 
 -- the byte that says in which mode a record is read
@@ -86,13 +86,13 @@ abbrev pub records_of : Bool → Mode → List ℕ → List LogRecord
 records_of wrote mode text = if wrote then logged mode text ∷ [] else []
 
 -- The world after these records, each accepted in the world that the ones before it left. None if one is not accepted.
-abbrev pub after : Functions → World → List LogRecord → Option World
+abbrev pub after : Functions → WorldState → List LogRecord → Option WorldState
 after functions world [] = Some world
 after functions world (entry ∷ entries) =
     elim (accepts functions world (mode_of entry.kind) entry.text) [ Ok given ↦ after functions given.world entries | Err number ↦ None ]
 
 -- the number under which the first of these records that is not accepted is refused
-abbrev pub first_refusal : Functions → World → List LogRecord → Option ℕ
+abbrev pub first_refusal : Functions → WorldState → List LogRecord → Option ℕ
 first_refusal functions world [] = None
 first_refusal functions world (entry ∷ entries) =
     elim (accepts functions world (mode_of entry.kind) entry.text) [ Ok given ↦ first_refusal functions given.world entries | Err number ↦ Some number ]

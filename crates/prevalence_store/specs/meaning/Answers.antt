@@ -6,7 +6,7 @@ use Rattle.gate_log.specs.Layout.{LogRecord}
 use Rattle.lisp_object.specs.Object.{Object}
 use Rattle.lisp_object.specs.Refusal.{name_of}
 use Rattle.prevalence_store.specs.declared.mode.Mode.{Mode}
-use Rattle.plist_state.specs.State.{State as World}
+use Rattle.plist_state.specs.State.{WorldState}
 use Rattle.prevalence_store.specs.meaning.Acceptance.{between, read_in, records_of}
 use Rattle.lisp_reading.specs.Reading.{Outcome as Reading, form, empty, refused}
 use Rattle.lisp_operators.specs.Evaluation.{Evaluation}
@@ -15,7 +15,7 @@ use Rattle.canon_printer.specs.Printed.{printed}
 use Rattle.user_macros.specs.Functions.{Functions}
 
 -- a value, as it is printed in the world after its form, and a newline
-abbrev pub value_line : World → Object → List ℕ
+abbrev pub value_line : WorldState → Object → List ℕ
 value_line world x = printed world.packages world.current_package x ++ 10 ∷ []
 
 -- an exclamation mark, the number of a refusal, its name, and a newline
@@ -25,13 +25,13 @@ refusal_line number = codes "! " ++ decimal number ++ 32 ∷ name_of number ++ 1
 -- How far a session has come: its world, the text that is left, the records of the forms that were accepted and wrote, and the
 -- lines of all forms.
 pub record Progress : Type 0 where
-  pub world : World
+  pub world : WorldState
   pub rest : List ℕ
   pub taken : List LogRecord
   pub lines : List ℕ
 
 -- before the first form
-abbrev pub begun : World → List ℕ → Progress
+abbrev pub begun : WorldState → List ℕ → Progress
 begun world text = record { world = world; rest = text; taken = []; lines = [] }
 
 -- and what came of the rest
@@ -40,7 +40,7 @@ onward p q = record { world = q.world; rest = q.rest; taken = p.taken ++ q.taken
 
 -- What comes of a form with this text of its own, after which this is left, by what its evaluation gave. A form that is refused
 -- leaves no record, nor does one that writes nothing.
-abbrev pub evaluated : World → Mode → List ℕ → List ℕ → Evaluation Object → Progress
+abbrev pub evaluated : WorldState → Mode → List ℕ → List ℕ → Evaluation Object → Progress
 evaluated world mode own rest (Ok done) = record {
   world = done.state;
   rest = rest;
@@ -50,7 +50,7 @@ evaluated world mode own rest (Ok done) = record {
 evaluated world mode own rest (Err number) = record { world = world; rest = rest; taken = []; lines = refusal_line number }
 
 -- of what the text begins with, if that is a form
-abbrev pub one_form : Functions → World → Mode → List ℕ → Reading → Option Progress
+abbrev pub one_form : Functions → WorldState → Mode → List ℕ → Reading → Option Progress
 one_form functions world mode text (form object start end next) =
     Some (evaluated world mode (between start end text) (drop next text) (accept functions.names world object))
 one_form functions world mode text empty = None
@@ -61,7 +61,7 @@ abbrev pub one_form_more : Functions → Mode → Progress → Option Progress
 one_form_more functions mode p = option_map (onward p) (one_form functions p.world mode p.rest (read_in functions p.world mode p.rest))
 
 -- After so many forms of a text, each read in the world that the ones before it left. None if it has not so many.
-abbrev pub after_forms : Functions → ℕ → World → Mode → List ℕ → Option Progress
+abbrev pub after_forms : Functions → ℕ → WorldState → Mode → List ℕ → Option Progress
 after_forms functions zero world mode text = Some (begun world text)
 after_forms functions (suc n) world mode text = option_and_then (one_form_more functions mode) (after_forms functions n world mode text)
 

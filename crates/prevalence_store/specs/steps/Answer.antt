@@ -16,22 +16,22 @@ use Rattle.prevalence_store.specs.meaning.Acceptance.{between, read_in}
 use Rattle.prevalence_store.specs.meaning.Answers.{Progress, begun, refusal_line}
 use Rattle.prevalence_store.specs.calls.Pace.{Fill, LogsWithRoom, Pace, Paces, fill_of, longer_by}
 use Rattle.prevalence_store.specs.calls.Serve.{Advances, IsOver, Serves, ServesInPace}
-use Rattle.prevalence_store.specs.calls.Store.{Session}
+use Rattle.prevalence_store.specs.calls.Store.{StoreView}
 use Rattle.prevalence_store.specs.calls.Streams.{Writes, WritesPart}
-use Rattle.plist_state.specs.State.{State as World}
+use Rattle.plist_state.specs.State.{WorldState}
 use Rattle.user_macros.specs.Functions.{Functions}
 
 -- the text begins with this form, and this is its own text
-pub record BeginsWith (functions : Functions) (world : World) (mode : Mode) (text : List ℕ) (object : Object) (own : List ℕ) (next : ℕ) : Type 0 where
+pub record BeginsWith (functions : Functions) (world : WorldState) (mode : Mode) (text : List ℕ) (object : Object) (own : List ℕ) (next : ℕ) : Type 0 where
   pub start : ℕ
   pub stop : ℕ
   pub reads : read_in functions world mode text ≡ form object start stop next
   pub is_own : own ≡ between start stop text
 
 -- In this world, if there is one, some text begins with the form of this datum, and this is its own text.
-pub record IsFormOf (functions : Functions) (left : Option World) (mode : Mode) (datum : Datum) (own : List ℕ) : Type 0 where
+pub record IsFormOf (functions : Functions) (left : Option WorldState) (mode : Mode) (datum : Datum) (own : List ℕ) : Type 0 where
   pub known : IsSome left
-  pub read : (world : World) → left ≡ Some world → (text : List ℕ) × ((next : ℕ) × BeginsWith functions world mode text (object_of datum) own next)
+  pub read : (world : WorldState) → left ≡ Some world → (text : List ℕ) × ((next : ℕ) × BeginsWith functions world mode text (object_of datum) own next)
   pub proper : is_proper datum ≡ true
   pub sound : IsSound (object_of datum)
 
@@ -49,7 +49,7 @@ abbrev pub is_logged : Result Evaluated Failure → Bool
 is_logged (Ok evaluated) = evaluated.wrote
 is_logged (Err failure) = false
 
-module _ (functions : Functions) {D R : Type 0} (state : D → State) (old new : Session D R) (world : World) (mode : Mode) where
+module _ (functions : Functions) {D R : Type 0} (state : D → State) (old new : StoreView D R) (world : WorldState) (mode : Mode) where
   -- The session has ended in a form, with this number: if the output failed, in the line of that form.
   pub record StopsInForm (text : List ℕ) (held written : Option (List ℕ)) (number : ℕ) : Type 0 where
     pub serves : Serves functions state old new world mode text held written (Store number)

@@ -6,11 +6,11 @@ use Rattle.lisp_object.specs.declared.refusal.TheConstants.{DEVICE, LOG_FULL, NO
 use Rattle.prevalence_store.specs.declared.failure.Failure.{Failure}
 use Rattle.prevalence_store.specs.declared.failure.Failure.TheVariants.{Refused, Full, DeviceFault, OutOfMemory}
 use Rattle.prevalence_store.specs.meaning.Answers.{refusal_line, value_line}
-use Rattle.prevalence_store.specs.calls.Store.{Session}
-use Rattle.plist_state.specs.State.{State as World}
+use Rattle.prevalence_store.specs.calls.Store.{StoreView}
+use Rattle.plist_state.specs.State.{WorldState}
 
 -- the line that answers a form, in the world that it left
-abbrev pub IsLineOf : World → Result Evaluated Failure → List ℕ → Type 0
+abbrev pub IsLineOf : WorldState → Result Evaluated Failure → List ℕ → Type 0
 IsLineOf world (Ok evaluated) line = line ≡ value_line world (object_of evaluated.value)
 IsLineOf world (Err (Refused number)) line = line ≡ refusal_line number
 IsLineOf world (Err Full) line = ⊥
@@ -18,9 +18,9 @@ IsLineOf world (Err DeviceFault) line = ⊥
 IsLineOf world (Err OutOfMemory) line = ⊥
 
 -- the line that answers a form, in the world that the store has after it, if any
-pub record IsLine {D R : Type 0} (new : Session D R) (answer : Result Evaluated Failure) (line : List ℕ) : Type 0 where
-  pub world : World
-  pub one : (v : World) → new.world ≡ Some v → v ≡ world
+pub record IsLine {D R : Type 0} (new : StoreView D R) (answer : Result Evaluated Failure) (line : List ℕ) : Type 0 where
+  pub world : WorldState
+  pub one : (v : WorldState) → new.world ≡ Some v → v ≡ world
   pub line_of : IsLineOf world answer line
 
 -- why there is no such line

@@ -3,9 +3,9 @@ use Rattle.std.specs.Prelude.{◌≡◌, ◌⊎◌, ℕ, Bool, true, false, Opti
 use Rattle.disk_trait.specs.Disk.{State}
 use Rattle.prevalence_store.specs.declared.session.schedule.Schedule.{Schedule}
 use Rattle.prevalence_store.specs.calls.Pace.{Counts, IsDue, Pace}
-use Rattle.prevalence_store.specs.calls.Store.{Session}
+use Rattle.prevalence_store.specs.calls.Store.{StoreView}
 use Rattle.prevalence_store.specs.calls.Snapshot.{HasNoHalf, HasNoSnapshotMemory, IsSnapshotFault, IsSnapshotted, IsTooLarge}
-use Rattle.plist_state.specs.State.{State as World}
+use Rattle.plist_state.specs.State.{WorldState}
 use Rattle.user_macros.specs.Functions.{Functions}
 
 -- the pace that a session is at
@@ -14,7 +14,7 @@ pace_of schedule = record { every = schedule.every; left = schedule.left }
 
 -- ---- a snapshot in a session
 
-module _ (functions : Functions) {D R : Type 0} (state : D → State) (old new : Session D R) (world : World) where
+module _ (functions : Functions) {D R : Type 0} (state : D → State) (old new : StoreView D R) (world : WorldState) where
   -- it was taken, or it was refused with this number
   abbrev pub Renewing : Result Unit ℕ → Type 0
   Renewing (Ok done) = IsSnapshotted functions state old new world

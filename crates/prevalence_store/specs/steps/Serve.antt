@@ -10,13 +10,13 @@ use Rattle.prevalence_store.specs.meaning.Answers.{Progress, after_forms}
 use Rattle.prevalence_store.specs.calls.Pace.{Pace, Paces, fill_of}
 use Rattle.prevalence_store.specs.steps.Input.{IsPending}
 use Rattle.prevalence_store.specs.calls.Serve.{Advances, Serves, ServesInPace, StaysRefused}
-use Rattle.prevalence_store.specs.calls.Store.{Session}
-use Rattle.plist_state.specs.State.{State as World}
+use Rattle.prevalence_store.specs.calls.Store.{StoreView}
+use Rattle.plist_state.specs.State.{WorldState}
 use Rattle.user_macros.specs.Functions.{Functions}
 
 -- Forms were answered, and the same ones of any text that goes on. Of what is left of the text the reader was fed all but these
 -- last bytes.
-pub record GoesOn (functions : Functions) {D R : Type 0} (state : D → State) (pace later : Pace) (old new : Session D R) (world : World) (mode : Mode) (text : List ℕ)
+pub record GoesOn (functions : Functions) {D R : Type 0} (state : D → State) (pace later : Pace) (old new : StoreView D R) (world : WorldState) (mode : Mode) (text : List ℕ)
     (held written : Option (List ℕ)) (pending : Pending) (left : List ℕ) : Type 0 where
   pub forms : ℕ
   pub far : Progress
@@ -27,7 +27,7 @@ pub record GoesOn (functions : Functions) {D R : Type 0} (state : D → State) (
   pub rest : far.rest ≡ bytes ++ left
   pub is_pending : IsPending functions far.world mode pending bytes
 
-module _ (functions : Functions) {D R : Type 0} (state : D → State) (pace : Pace) (old new : Session D R) (world : World) (mode : Mode) (text : List ℕ) (held written : Option (List ℕ)) where
+module _ (functions : Functions) {D R : Type 0} (state : D → State) (pace : Pace) (old new : StoreView D R) (world : WorldState) (mode : Mode) (text : List ℕ) (held written : Option (List ℕ)) where
   -- a refusal of the reader stays one, whatever follows the text, also if the output failed in the line of it; the end of the
   -- input is not told by a text that may go on
   abbrev pub StaysEnded : (ending : Ending) → Serves functions state old new world mode text held written ending → Type 0
@@ -42,7 +42,7 @@ module _ (functions : Functions) {D R : Type 0} (state : D → State) (pace : Pa
     pub paced : ServesInPace functions state pace old new world mode text held written ending serves
     pub stays : StaysEnded ending serves
 
-module _ (functions : Functions) {D R : Type 0} (state : D → State) (pace later : Pace) (old new : Session D R) (world : World) (mode : Mode) (text : List ℕ) (held written : Option (List ℕ)) (pending : Pending) where
+module _ (functions : Functions) {D R : Type 0} (state : D → State) (pace later : Pace) (old new : StoreView D R) (world : WorldState) (mode : Mode) (text : List ℕ) (held written : Option (List ℕ)) (pending : Pending) where
   -- The session goes on; or it has ended, whatever follows the text.
   abbrev pub Answers : Option Ending → Type 0
   Answers None = GoesOn functions state pace later old new world mode text held written pending []

@@ -2,7 +2,7 @@
 ghost use Rattle.std.specs.Prelude.{◌≡◌, ℕ, List, Some, IsSome, IfOk, IfErr, OnOk, true};
 ghost use Rattle.lisp_object.specs.Datum.{object_of, is_proper};
 ghost use Rattle.lisp_object.specs.declared.refusal.TheConstants.{LOG_FULL};
-ghost use Rattle.plist_state.specs.State.{State as LispWorld};
+ghost use Rattle.plist_state.specs.State.{WorldState};
 ghost use Rattle.prevalence_store.specs.steps.Answer.{AnswersFault, AnswersForm, BeginsWith, FitsForm, IsFormOf, TriesForm, is_logged};
 ghost use Rattle.prevalence_store.specs.steps.Output.{IsLine, IsStop};
 ghost use Rattle.prevalence_store.specs.steps.Schedule.{pace_of};
@@ -46,7 +46,7 @@ impl<D: Disk, R: MacroFunctions> Store<D, R> {
         own: &[u8],
     ) -> Option<u16>
         requires form { IsFormOf R.Meaning.functions self.old.world mode datum.now own.now }
-        ensures answers { (w : LispWorld) → self.old.world ≡ Some w → (text : List ℕ) (next : ℕ)
+        ensures answers { (w : WorldState) → self.old.world ≡ Some w → (text : List ℕ) (next : ℕ)
             → BeginsWith R.Meaning.functions w mode text (object_of datum.now) own.now next
             → AnswersForm R.Meaning.functions D.state self.old self.new w mode (pace_of schedule.old) (pace_of schedule.new)
             text (W.contents writer.old) (W.contents writer.new) result }
@@ -69,7 +69,7 @@ impl<D: Disk, R: MacroFunctions> Store<D, R> {
         own: &[u8],
     ) -> Result<bool, u16>
         requires form { IsFormOf R.Meaning.functions self.old.world mode datum.now own.now }
-        ensures fits { (w : LispWorld) → self.old.world ≡ Some w → (text : List ℕ) (next : ℕ)
+        ensures fits { (w : WorldState) → self.old.world ≡ Some w → (text : List ℕ) (next : ℕ)
             → BeginsWith R.Meaning.functions w mode text (object_of datum.now) own.now next
             → FitsForm R.Meaning.functions D.state self.old self.new w mode
             text (W.contents writer.old) (W.contents writer.new) result }
@@ -102,7 +102,7 @@ impl<D: Disk, R: MacroFunctions> Store<D, R> {
         own: &[u8],
     ) -> Result<bool, u16>
         requires form { IsFormOf R.Meaning.functions self.old.world mode datum.now own.now }
-        ensures tries { (w : LispWorld) → self.old.world ≡ Some w → (text : List ℕ) (next : ℕ)
+        ensures tries { (w : WorldState) → self.old.world ≡ Some w → (text : List ℕ) (next : ℕ)
             → BeginsWith R.Meaning.functions w mode text (object_of datum.now) own.now next
             → TriesForm R.Meaning.functions D.state self.old self.new w mode
             text (W.contents writer.old) (W.contents writer.new) result }

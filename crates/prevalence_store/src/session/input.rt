@@ -2,7 +2,7 @@
 ghost use Rattle.std.specs.Prelude.{◌≡◌, ◌+◌, ◌<◌, ◌≤◌, ◌^◌, ℕ, List, [], ◌∷◌, ◌++◌, drop, take, length, true, IfOk, OnOk, vec_len};
 ghost use Rattle.std.specs.List.{list_all};
 ghost use Rattle.readtable_core.specs.Names.{is_among};
-ghost use Rattle.plist_state.specs.State.{State as LispWorld};
+ghost use Rattle.plist_state.specs.State.{WorldState};
 ghost use Rattle.form_reader.specs.Reader.{fed, begun, limits_of, IsAfter, Steps, BeginsLater, IsOutcome, IsSoundStep};
 ghost use Rattle.prevalence_store.specs.meaning.Acceptance.{between, form_limits, read_in, setting_in, table_in};
 ghost use Rattle.user_macros.specs.Functions.{Functions, are_registered};
@@ -52,7 +52,7 @@ pub(crate) struct FedPiece {
 impl Pending {
     /// Before the first byte.
     pub(crate) fn new(alloc: Global) -> Pending
-        ensures none { (functions : Functions) (world : LispWorld) (mode : Mode)
+        ensures none { (functions : Functions) (world : WorldState) (mode : Mode)
             → IsPending functions world mode result [] }
         ensures count { fed result.reader ≡ 0 }
     {

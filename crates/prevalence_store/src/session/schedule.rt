@@ -1,6 +1,6 @@
 // When a session takes snapshots, and how.
 ghost use Rattle.std.specs.Prelude.{◌≡◌, ◌↔◌, Some, IsSome, IsTrue};
-ghost use Rattle.plist_state.specs.State.{State as LispWorld};
+ghost use Rattle.plist_state.specs.State.{WorldState};
 ghost use Rattle.prevalence_store.specs.calls.Pace.{Counts, IsDue, first_pace};
 ghost use Rattle.prevalence_store.specs.steps.Schedule.{Renewing, RenewsAfterForm, pace_of};
 
@@ -44,7 +44,7 @@ impl<D: Disk, R: MacroFunctions> Store<D, R> {
     // the number of the fault that ends the session in it.
     pub(crate) fn renew_after_form(&mut self, schedule: &mut Schedule, wrote: bool) -> Option<u16>
         requires known { IsSome self.old.world }
-        ensures renews { (w : LispWorld) → self.old.world ≡ Some w
+        ensures renews { (w : WorldState) → self.old.world ≡ Some w
             → RenewsAfterForm R.Meaning.functions D.state self.old self.new w wrote (pace_of schedule.old) (pace_of schedule.new) result }
         ensures honest { (D.state self.new.disk).honest ≡ (D.state self.old.disk).honest }
         ensures macros { self.new.macros ≡ self.old.macros }
@@ -65,7 +65,7 @@ impl<D: Disk, R: MacroFunctions> Store<D, R> {
     // Takes a snapshot, or gives the number of its refusal.
     pub(crate) fn renew(&mut self) -> Result<(), u16>
         requires known { IsSome self.old.world }
-        ensures renews { (w : LispWorld) → self.old.world ≡ Some w
+        ensures renews { (w : WorldState) → self.old.world ≡ Some w
             → Renewing R.Meaning.functions D.state self.old self.new w result }
         ensures honest { (D.state self.new.disk).honest ≡ (D.state self.old.disk).honest }
         ensures macros { self.new.macros ≡ self.old.macros }

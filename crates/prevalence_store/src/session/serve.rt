@@ -3,7 +3,7 @@ ghost use Rattle.std.specs.Prelude.{◌≡◌, ◌≤◌, ◌<◌, ◌+◌, ◌^
 ghost use Rattle.std.specs.List.{list_all};
 ghost use Rattle.lisp_object.specs.declared.refusal.TheConstants.{REOPEN};
 ghost use Rattle.readtable_core.specs.Names.{is_among};
-ghost use Rattle.plist_state.specs.State.{State as LispWorld};
+ghost use Rattle.plist_state.specs.State.{WorldState};
 ghost use Rattle.form_reader.specs.Reader.{fed};
 ghost use Rattle.prevalence_store.specs.calls.Serve.{Serves, ServesInPace, ServesInput};
 ghost use Rattle.prevalence_store.specs.steps.Input.{AwaitsMore, IsPending, IsSoundFed, Feeds, FeedsPart, Finishes};
@@ -53,7 +53,7 @@ impl<D: Disk, R: MacroFunctions> Store<D, R> {
         ensures reopen { self.old.world ≡ None
             → (result ≡ Ending.Store REOPEN) × (self.new ≡ self.old)
             × (reader.new ≡ reader.old) × (writer.new ≡ writer.old) }
-        ensures serves { (world : LispWorld) → self.old.world ≡ Some world
+        ensures serves { (world : WorldState) → self.old.world ≡ Some world
             → ServesInput R.Meaning.functions D.state snapshot_every self.old self.new world mode
             (I.remaining reader.old) (I.remaining reader.new) (W.contents writer.old) (W.contents writer.new) result }
         ensures honest { (D.state self.new.disk).honest ≡ (D.state self.old.disk).honest }
@@ -97,7 +97,7 @@ impl<D: Disk, R: MacroFunctions> Store<D, R> {
         requires whole { are_registered R.Meaning.functions (R.functions self.old.macros) ≡ true }
         requires pending { AwaitsMore R.Meaning.functions self.old.world mode pending.old }
         requires count { fed pending.old.reader + length piece.now ≤ 2 ^ 63 }
-        ensures answers { (w : LispWorld) → self.old.world ≡ Some w → (bytes : List ℕ)
+        ensures answers { (w : WorldState) → self.old.world ≡ Some w → (bytes : List ℕ)
             → IsPending R.Meaning.functions w mode pending.old bytes
             → Answers R.Meaning.functions D.state (pace_of schedule.old) (pace_of schedule.new) self.old self.new w mode
             (bytes ++ piece.now) (W.contents writer.old) (W.contents writer.new) pending.new result }
@@ -130,7 +130,7 @@ impl<D: Disk, R: MacroFunctions> Store<D, R> {
         requires pending { AwaitsMore R.Meaning.functions self.old.world mode pending.old }
         requires some { 0 < length piece.now }
         requires count { fed pending.old.reader + length piece.now ≤ 2 ^ 63 }
-        ensures answers { (w : LispWorld) → self.old.world ≡ Some w → (bytes : List ℕ)
+        ensures answers { (w : WorldState) → self.old.world ≡ Some w → (bytes : List ℕ)
             → IsPending R.Meaning.functions w mode pending.old bytes
             → ComesTo R.Meaning.functions D.state (pace_of schedule.old) (pace_of schedule.new) self.old self.new w mode
             (bytes ++ piece.now) (W.contents writer.old) (W.contents writer.new) pending.new piece.now result }
@@ -166,7 +166,7 @@ impl<D: Disk, R: MacroFunctions> Store<D, R> {
         requires pending { AwaitsMore R.Meaning.functions self.now.world mode pending.old }
         requires some { 0 < length piece.now }
         requires count { fed pending.old.reader + length piece.now ≤ 2 ^ 63 }
-        ensures feeds { (w : LispWorld) → self.now.world ≡ Some w → (bytes : List ℕ)
+        ensures feeds { (w : WorldState) → self.now.world ≡ Some w → (bytes : List ℕ)
             → IsPending R.Meaning.functions w mode pending.old bytes
             → IfOk result (λ part. Feeds R.Meaning.functions w mode pending.new
             (bytes ++ take part.count piece.now) part.fed) }
@@ -189,7 +189,7 @@ impl<D: Disk, R: MacroFunctions> Store<D, R> {
         requires whole { are_registered R.Meaning.functions (R.functions self.old.macros) ≡ true }
         requires pending { AwaitsMore R.Meaning.functions self.old.world mode pending }
         requires count { fed pending.reader ≤ 2 ^ 63 }
-        ensures serves { (w : LispWorld) → self.old.world ≡ Some w → (bytes : List ℕ)
+        ensures serves { (w : WorldState) → self.old.world ≡ Some w → (bytes : List ℕ)
             → IsPending R.Meaning.functions w mode pending bytes
             → (served : Serves R.Meaning.functions D.state self.old self.new w mode
             bytes (W.contents writer.old) (W.contents writer.new) result)
@@ -220,7 +220,7 @@ impl<D: Disk, R: MacroFunctions> Store<D, R> {
         requires whole { are_registered R.Meaning.functions (R.functions self.now.macros) ≡ true }
         requires pending { AwaitsMore R.Meaning.functions self.now.world mode pending }
         requires count { fed pending.reader ≤ 2 ^ 63 }
-        ensures finishes { (w : LispWorld) → self.now.world ≡ Some w → (bytes : List ℕ)
+        ensures finishes { (w : WorldState) → self.now.world ≡ Some w → (bytes : List ℕ)
             → IsPending R.Meaning.functions w mode pending bytes
             → IfOk result (Finishes R.Meaning.functions w mode bytes) }
         ensures sound { IfOk result IsSoundFed }

@@ -2,7 +2,7 @@
 ghost use Rattle.std.specs.Prelude.{◌≡◌, true, IfOk, OnErr};
 ghost use Rattle.std.specs.List.{All, list_all};
 ghost use Rattle.readtable_core.specs.Names.{is_among};
-ghost use Rattle.plist_state.specs.State.{State as LispWorld};
+ghost use Rattle.plist_state.specs.State.{WorldState};
 ghost use Rattle.prevalence_store.specs.calls.Execute.{IsProperOutcome, SurvivesAs};
 ghost use Rattle.prevalence_store.specs.calls.Run.{TakesStep, TakesSteps, acknowledged_in_steps, taken_in_steps};
 ghost use Rattle.user_macros.specs.Functions.{are_registered};
@@ -29,7 +29,7 @@ impl<D: Disk, R: MacroFunctions> Store<D, R> {
         requires whole { are_registered R.Meaning.functions (R.functions self.old.macros) ≡ true }
         ensures takes { IfOk result (λ outcomes. TakesSteps R.Meaning.functions D.state
             self.old self.new steps.now outcomes.items) }
-        ensures survives { (world : LispWorld) → IfOk result (λ outcomes.
+        ensures survives { (world : WorldState) → IfOk result (λ outcomes.
             SurvivesAs R.Meaning.functions D.state self.old self.new world
             (taken_in_steps R.Meaning.functions world steps.now outcomes.items)
             (acknowledged_in_steps R.Meaning.functions world steps.now outcomes.items)) }

@@ -1,6 +1,6 @@
 use Rattle.std.proofs.Common.{◌≡◌, IsTrue, Option, Some, refl, sym, ap, subst, ◌∙◌}
 use Rattle.std.proofs.lemmas.Result.{IfOk-weaker}
-use Rattle.plist_state.specs.State.{State as World}
+use Rattle.plist_state.specs.State.{WorldState}
 use Rattle.program_tests.proofs.callers.one_session.Goals as goal
 
 pub returns : goal.returns
@@ -37,7 +37,7 @@ returns g c = record {
                   count = some.count;
                   enough = some.enough;
                   among = some.among;
-                  after_those = some.after_those ∙ ap (λ (u : World). Some u) ((opened.reopens fresh).only some.left some.meant);
+                  after_those = some.after_those ∙ ap (λ (u : WorldState). Some u) ((opened.reopens fresh).only some.left some.meant);
                 },
               ),
             ),

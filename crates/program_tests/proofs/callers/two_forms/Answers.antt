@@ -1,24 +1,24 @@
 use Rattle.std.proofs.Common.{◌≡◌, IsTrue, true, false, Bool, ℕ, [], ◌∷◌, ◌++◌, ◌+◌, List, length, append-nil, arith, Option, Some, refl, sym, subst, ◌∙◌}
 use Rattle.std.proofs.lemmas.Result.{IfOk-weaker}
 use Rattle.disk_trait.specs.Disk.{State}
-use Rattle.plist_state.specs.State.{State as World}
+use Rattle.plist_state.specs.State.{WorldState}
 use Rattle.prevalence_store.specs.declared.mode.Mode.{Mode}
 use Rattle.prevalence_store.specs.declared.mode.Mode.TheVariants.{Current}
 use Rattle.prevalence_store.specs.meaning.Acceptance.{records_of}
 use Rattle.prevalence_store.specs.calls.Execute.{Stores}
 use Rattle.user_macros.specs.Functions.{Functions}
-use Rattle.prevalence_store.specs.calls.Store.{Session}
+use Rattle.prevalence_store.specs.calls.Store.{StoreView}
 use Rattle.prevalence_store.specs.Theorem.{Call, IsAfterSome, Run, Survives}
 use Rattle.program_tests.proofs.callers.two_forms.Goals as goal
 
 -- the world that an accepted form leaves
-left_by : {D R : Type 0} (state : D → State) (old new : Session D R) (wrote : Bool) (mode : Mode) (text : List ℕ) (world : World)
+left_by : {D R : Type 0} (state : D → State) (old new : StoreView D R) (wrote : Bool) (mode : Mode) (text : List ℕ) (world : WorldState)
     → Stores state old new wrote mode text world → new.world ≡ Some world
 left_by state old new true mode text world stored = stored.left
 left_by state old new false mode text world stored = stored.1
 
 -- the records of two forms, as the theorem joins them
-as_two : (functions : Functions) (w : World) (wrote : Bool) (text : List ℕ) (wrote_more : Bool) (more : List ℕ) (n m : ℕ) (now : World) → n ≡ m
+as_two : (functions : Functions) (w : WorldState) (wrote : Bool) (text : List ℕ) (wrote_more : Bool) (more : List ℕ) (n m : ℕ) (now : WorldState) → n ≡ m
     → IsAfterSome functions w (records_of wrote Current text ++ (records_of wrote_more Current more ++ [])) n now
     → IsAfterSome functions w (records_of wrote Current text ++ records_of wrote_more Current more) m now
 as_two functions w wrote text wrote_more more n m now same some =
@@ -57,13 +57,13 @@ returns g c = record {
       ∷ (record { disk = third.disk; taken = []; acknowledged = 0; left = Some twice.given.world })
       ∷ [] in
       let run : Run functions state c.args.disk (Some w) calls = (
-        subst (λ (left : Option World). Survives functions (state c.args.disk) (state store.disk) w [] 0 left) known opening,
+        subst (λ (left : Option WorldState). Survives functions (state c.args.disk) (state store.disk) w [] 0 left) known opening,
         (
-          subst (λ (left : Option World). Survives functions (state store.disk) (state first.disk) w records (length records) left) left_once one,
+          subst (λ (left : Option WorldState). Survives functions (state store.disk) (state first.disk) w records (length records) left) left_once one,
           (
-            subst (λ (left : Option World). Survives functions (state first.disk) (state second.disk) once.given.world more (length more) left) left_twice both,
+            subst (λ (left : Option WorldState). Survives functions (state first.disk) (state second.disk) once.given.world more (length more) left) left_twice both,
             (
-              subst (λ (left : Option World). Survives functions (state second.disk) (state third.disk) twice.given.world [] 0 left) renewed.renews.left last,
+              subst (λ (left : Option WorldState). Survives functions (state second.disk) (state third.disk) twice.given.world [] 0 left) renewed.renews.left last,
               tt,
             ),
           ),

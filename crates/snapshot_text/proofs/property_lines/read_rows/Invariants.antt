@@ -1,5 +1,5 @@
 use Rattle.std.proofs.Common.{◌≡◌, ◌<◌, ◌≤◌, ◌-◌, ℕ, List, ◌∷◌, ◌++◌, length, drop}
-use Rattle.plist_state.specs.State.{State}
+use Rattle.plist_state.specs.State.{WorldState}
 use Rattle.plist_state.specs.Readers.{symbols_with_properties}
 use Rattle.plist_state.specs.Sound.{IsSound}
 use Rattle.snapshot_text.specs.Built.{with_packages_of}
@@ -10,7 +10,7 @@ use Rattle.snapshot_text.proofs.property_lines.read_rows.Given as goal
 -- the rows before the place are put
 abbrev pub invariant-rows : goal.invariant-rows
 invariant-rows g l =
-    (s : State) (rest : List ℕ) → IsSound s → length l.bytes ≤ 4294967295 → 0 < length (symbols_with_properties s)
+    (s : WorldState) (rest : List ℕ) → IsSound s → length l.bytes ≤ 4294967295 → 0 < length (symbols_with_properties s)
     → l.fn.world.0 ≡ with_packages_of s → drop l.fn.at l.bytes ≡ row_text s 0 ++ (text_after s 1 ++ 10 ∷ rest)
     → IsAtRow s l.bytes rest l.place l.world.0
 

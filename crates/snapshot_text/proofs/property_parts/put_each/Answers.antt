@@ -1,6 +1,6 @@
 use Rattle.std.proofs.Common.{◌≡◌, ◌-◌, rules, sym, subst, arith, length, take, drop}
 use Rattle.lisp_object.specs.Datum.{object_of}
-use Rattle.plist_state.specs.State.{State}
+use Rattle.plist_state.specs.State.{WorldState}
 use Rattle.plist_state.specs.Changes.{with_property}
 use Rattle.plist_state.specs.Shown.{symbol_of}
 use Rattle.plist_state.specs.Sound.{IsSymbol, IsValue}
@@ -21,7 +21,7 @@ loop-rest-preserved c = λ proper ps e there plist.
     let put : c.put_one.new.world.0 ≡ with_property c.loop-rest.world.0 x n.indicator (object_of c.value-item.result) =
     c.in_ok-put_one.ensures n.indicator_proper n.value_proper n.indicator n.named (subst (λ t. IsSymbol t x) (sym n.packages) there)
     (subst (λ t. IsSymbol t n.indicator) (sym n.packages) n.there) (subst (λ t. IsValue t (object_of c.value-item.result)) (sym n.packages) n.value) in
-    subst (λ (w : State). IsLeft t x (with_each c.args.world.now.0 x ps) w (take (length c.loop-rest.rest.now - 2) (drop 2 c.loop-rest.rest.now))) (sym put) n.then
+    subst (λ (w : WorldState). IsLeft t x (with_each c.args.world.now.0 x ps) w (take (length c.loop-rest.rest.now - 2) (drop 2 c.loop-rest.rest.now))) (sym put) n.then
 
 pub returns-in_err-put_one : goal.returns-in_err-put_one
 returns-in_err-put_one c = λ proper ps e there plist.

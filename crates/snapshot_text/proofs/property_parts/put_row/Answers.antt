@@ -1,5 +1,5 @@
 use Rattle.std.proofs.Common.{◌≡◌, ◌∷◌, sym, ap, subst, ◌∙◌, MatchResult}
-use Rattle.plist_state.specs.State.{State}
+use Rattle.plist_state.specs.State.{WorldState}
 use Rattle.plist_state.specs.Shown.{symbol_of}
 use Rattle.plist_state.specs.Sound.{IsSymbol}
 use Rattle.world_text.specs.Snapshot.{symbol_object}
@@ -18,6 +18,6 @@ returns c = λ proper x ps e there plist none.
     let read = c.in_ok-items_in.ensures.read proper (symbol_object x ∷ flat ps) e in
     let first = first_item c.in_ok-items_in.field-0.now c.symbol-item.result (symbol_object x) (flat ps) read.0 read.1 c.symbol-item.is in
     let named : symbol_of c.in_ok-symbol.symbol ≡ x = c.in_ok-symbol.ensures first.proper x first.is in
-    subst (λ (s : State). MatchResult c.put_each.result (λ _. c.put_each.new.world.0 ≡ s) (λ e. e ≡ OutOfMemory))
+    subst (λ (s : WorldState). MatchResult c.put_each.result (λ _. c.put_each.new.world.0 ≡ s) (λ e. e ≡ OutOfMemory))
     (ap (λ y. with_each w y ps) named ∙ each_is_list w x ps plist.some plist.apart none)
     (c.put_each.ensures first.later_proper ps first.later_are (subst (IsSymbol w.packages) (sym named) there) plist)

@@ -2,7 +2,7 @@ use Rattle.std.proofs.Common.{◌≡◌, not, List, rules, arith, sym, ap, ◌�
 use Rattle.std.specs.Str.{bytes_eq}
 use Rattle.std.proofs.lemmas.Bool.{false≢true}
 use Rattle.package_table.proofs.Frames.{equal_itself}
-use Rattle.plist_state.specs.State.{State}
+use Rattle.plist_state.specs.State.{WorldState}
 use Rattle.world_text.specs.Snapshot.{snapshot}
 use Rattle.world_text.proofs.SameText.{one_state}
 use Rattle.snapshot_text.proofs.reader.read.Goals as goal
@@ -18,6 +18,6 @@ returns-clause-only g c = λ s sound e.
 
 pub returns-then-ne-clause-refused : goal.returns-then-ne-clause-refused
 returns-then-ne-clause-refused g c = λ s sound fits e.
-    let state : c.settle.new.self.0 ≡ s = ap (λ (w : State × List State). w.0) c.settle.ensures ∙ c.in_ok-world.ensures s sound fits e in
+    let state : c.settle.new.self.0 ≡ s = ap (λ (w : WorldState × List WorldState). w.0) c.settle.ensures ∙ c.in_ok-world.ensures s sound fits e in
     let same : c.as_slice.result.now ≡ c.args.bytes.now = c.as_slice.ensures.value ∙ c.in_ok-write.ensures ∙ ap snapshot state ∙ e in
     false≢true (sym (c.if-ne.ensures ∙ ap not (ap (λ x. bytes_eq x c.args.bytes.now) same ∙ equal_itself c.args.bytes.now)))

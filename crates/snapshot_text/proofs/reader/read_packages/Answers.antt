@@ -1,7 +1,7 @@
 use Rattle.std.proofs.Common.{List, sym, ap, subst, ◌∙◌}
 use Rattle.package_table.specs.Table.{common_lisp_user}
 use Rattle.canon_printer.specs.Printed.{printed}
-use Rattle.plist_state.specs.State.{State}
+use Rattle.plist_state.specs.State.{WorldState}
 use Rattle.plist_state.specs.Changes.{with_packages}
 use Rattle.snapshot_text.specs.Part.{IsPartOf}
 use Rattle.world_text.specs.Snapshot.{packages_object}
@@ -24,7 +24,7 @@ returns-in_err-make_packages g c = λ s rest sound fits at new.
     let x = packages_object s.packages in
     let short = line_fits c.args.bytes.now (printed s.packages common_lisp_user x) rest c.args.at fits at in
     let read = c.in_ok-packages.ensures s.packages x rest fits at (first_read _ _ _ s sound c.args.world.now.0.packages c.soundness.ensures.present.packages short rest) in
-    let part = subst (λ (w : State). IsPartOf w.packages s.packages) (sym new) (first_part s.packages sound.packages.first) in
+    let part = subst (λ (w : WorldState). IsPartOf w.packages s.packages) (sym new) (first_part s.packages sound.packages.first) in
     refused_same _ c.in_err-make_packages.field-0.0 (c.in_err-make_packages.ensures.made s.packages sound.packages part read.1 read.0)
     c.from_residual-in_err-make_packages.result c.from_residual-in_err-make_packages.ensures.1
 
@@ -33,6 +33,6 @@ returns g c = λ s rest sound fits at new.
     let x = packages_object s.packages in
     let short = line_fits c.args.bytes.now (printed s.packages common_lisp_user x) rest c.args.at fits at in
     let read = c.in_ok-packages.ensures s.packages x rest fits at (first_read _ _ _ s sound c.args.world.now.0.packages c.soundness.ensures.present.packages short rest) in
-    let part = subst (λ (w : State). IsPartOf w.packages s.packages) (sym new) (first_part s.packages sound.packages.first) in
+    let part = subst (λ (w : WorldState). IsPartOf w.packages s.packages) (sym new) (first_part s.packages sound.packages.first) in
     let made = c.in_ok-make_packages.ensures.made s.packages sound.packages part read.1 read.0 in
-    (ap (λ (w : State × List State). w.0) c.in_ok-make_packages.ensures.rest ∙ (λ i. with_packages (new i) (made i)), read.2)
+    (ap (λ (w : WorldState × List WorldState). w.0) c.in_ok-make_packages.ensures.rest ∙ (λ i. with_packages (new i) (made i)), read.2)

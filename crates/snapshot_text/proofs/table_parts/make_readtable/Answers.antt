@@ -4,7 +4,7 @@ use Rattle.readtable_core.specs.declared.table.Case.{Case}
 use Rattle.readtable_core.specs.Cases.{case_name}
 use Rattle.readtable_core.specs.Tables.{Table, standard}
 use Rattle.readtable_core.proofs.Named.{same_case}
-use Rattle.plist_state.specs.State.{State}
+use Rattle.plist_state.specs.State.{WorldState}
 use Rattle.plist_state.specs.Changes.{in_state, with_case}
 use Rattle.plist_state.specs.declared.error.ReadtableError.TheVariants.{OutOfMemory}
 use Rattle.snapshot_text.specs.Built.{with_table, IsWritable}
@@ -21,7 +21,7 @@ returns-in_err-set_case c = λ proper k object there can.
     let name = c.args.name.now in
     let now = c.copy_readtable.new.self.0 in
     let copy : now ≡ with_table s name standard = same_ok now _ _ c.in_ok-copy_readtable.ensures.gives (copied s name can) in
-    let w : IsWritable now.readtables name standard = subst (λ (x : State). IsWritable x.readtables name standard) (sym copy) (copy_writable s name can) in
+    let w : IsWritable now.readtables name standard = subst (λ (x : WorldState). IsWritable x.readtables name standard) (sym copy) (copy_writable s name can) in
     let said : in_state now (with_case now.readtables name c.in-Some.letters) ≡ Ok (with_table now name (of_case c.in-Some.letters)) =
     changed_to now name standard (of_case c.in-Some.letters) (λ t. Ok (record t { letters = c.in-Some.letters })) w refl in
     let out : c.in_err-set_case.field-0.0 ≡ OutOfMemory = refused _ _ c.in_err-set_case.field-0.0 c.in_err-set_case.ensures.gives said in
@@ -33,10 +33,10 @@ returns c = λ proper k object there can.
     let name = c.args.name.now in
     let now = c.copy_readtable.new.self.0 in
     let copy : now ≡ with_table s name standard = same_ok now _ _ c.in_ok-copy_readtable.ensures.gives (copied s name can) in
-    let w : IsWritable now.readtables name standard = subst (λ (x : State). IsWritable x.readtables name standard) (sym copy) (copy_writable s name can) in
+    let w : IsWritable now.readtables name standard = subst (λ (x : WorldState). IsWritable x.readtables name standard) (sym copy) (copy_writable s name can) in
     let said : in_state now (with_case now.readtables name c.in-Some.letters) ≡ Ok (with_table now name (of_case c.in-Some.letters)) =
     changed_to now name standard (of_case c.in-Some.letters) (λ t. Ok (record t { letters = c.in-Some.letters })) w refl in
     let letters : c.in-Some.letters ≡ k = same_case c.in-Some.letters k (c.in-Some.ensures.some ∙ c.as_slice.ensures ∙ c.in_ok-text_in.ensures.read proper (case_name k) object) in
     same_ok c.set_case.new.self.0 _ _ c.in_ok-set_case.ensures.gives said
-    ∙ ap (λ (x : State). with_table x name (of_case c.in-Some.letters)) copy ∙ table_twice s name standard (of_case c.in-Some.letters)
+    ∙ ap (λ (x : WorldState). with_table x name (of_case c.in-Some.letters)) copy ∙ table_twice s name standard (of_case c.in-Some.letters)
     ∙ ap (λ j. with_table s name (of_case j)) letters

@@ -4,7 +4,7 @@ use Rattle.readtable_core.specs.Cases.{case_name}
 use Rattle.readtable_core.specs.Tables.{Table, standard}
 use Rattle.readtable_core.proofs.Sound.{standard_sound}
 use Rattle.package_table.specs.Table.{Name, keyword}
-use Rattle.plist_state.specs.State.{State}
+use Rattle.plist_state.specs.State.{WorldState}
 use Rattle.plist_state.specs.Sound.{IsNamed, IsSymbol}
 use Rattle.world_text.specs.Snapshot.{entry_objects}
 use Rattle.snapshot_text.specs.Built.{with_table, CanBeMade, IsWritable}
@@ -43,9 +43,9 @@ returns c = λ proper name t object named there can.
     let may : CanBeMade s.readtables n = subst (CanBeMade s.readtables) (sym called) can in
     let made : c.make_readtable.new.world.0 ≡ with_table s n u =
     c.in_ok-make_readtable.ensures three.second_proper t.letters three.second (subst (λ x. IsSymbol s.packages (keyword, x)) (sym called) there) may in
-    let named_now : IsNamed c.make_readtable.new.world.0.packages t = subst (λ (x : State). IsNamed x.packages t) (sym made) named in
+    let named_now : IsNamed c.make_readtable.new.world.0.packages t = subst (λ (x : WorldState). IsNamed x.packages t) (sym made) named in
     let w : IsWritable c.make_readtable.new.world.0.readtables n u =
-    subst (λ (x : State). IsWritable x.readtables n u) (sym made) (made_writable s n u may.other may.standard standard_sound.count) in
-    subst (λ (x : State). MatchResult c.put_entries.result (λ _. c.put_entries.new.world.0 ≡ x) (λ e. e ≡ OutOfMemory))
-    (ap (λ (x : State). with_table x n t) made ∙ table_twice s n u t ∙ ap (λ x. with_table s x t) called)
+    subst (λ (x : WorldState). IsWritable x.readtables n u) (sym made) (made_writable s n u may.other may.standard standard_sound.count) in
+    subst (λ (x : WorldState). MatchResult c.put_entries.result (λ _. c.put_entries.new.world.0 ≡ x) (λ e. e ≡ OutOfMemory))
+    (ap (λ (x : WorldState). with_table x n t) made ∙ table_twice s n u t ∙ ap (λ x. with_table s x t) called)
     (c.put_entries.ensures three.third_proper t three.third named_now w)

@@ -1,11 +1,11 @@
 use Rattle.std.proofs.Common.{◌≡◌, ◌∷◌, [], List, length, arith}
 use Rattle.lisp_object.specs.Object.{Object, text}
-use Rattle.plist_state.specs.State.{State}
+use Rattle.plist_state.specs.State.{WorldState}
 use Rattle.world_text.specs.Snapshot.{readtables_object}
 use Rattle.snapshot_text.proofs.ReadParts.{item_count}
 use Rattle.snapshot_text.proofs.table_parts.put_tables.Goals as goal
 
-abbrev parts : State → List Object
+abbrev parts : WorldState → List Object
 parts s = text s.current_package ∷ text s.current_readtable ∷ readtables_object s ∷ []
 
 pub returns-in_err-items_in : goal.returns-in_err-items_in

@@ -2,7 +2,7 @@ use Rattle.std.proofs.Common.{◌≡◌, ◌++◌, [], ◌∷◌, List, length, 
 use Rattle.std.proofs.lemmas.List.{map_push}
 use Rattle.package_table.specs.Numbers.{Numbered, Tables, numbered, with_mark}
 use Rattle.plist_state.specs.declared.note.Note.{Note}
-use Rattle.plist_state.specs.State.{State, Worlds}
+use Rattle.plist_state.specs.State.{WorldState, Worlds}
 use Rattle.plist_state.specs.Lists.{IsOwned}
 use Rattle.plist_state.specs.Shown.{NumberedRest, Rows, rest_of}
 use Rattle.plist_state.specs.Sound.{IsSound}
@@ -39,7 +39,7 @@ returns-clause-ok c =
     let ts : List Numbered = a.packages.1.marked in
     let ms : List (List Note) = marks_of a.marks.items in
     let r : NumberedRest = rest_of a.stored in
-    let ss : List State = marked_states ts (rests_at ms r) in
+    let ss : List WorldState = marked_states ts (rests_at ms r) in
     let changed : c.mark.new.self ≡ with_mark a.packages = c.in_ok-place.ensures.ok.1 in
     let items : marks_of c.push_reserved.new.self.items ≡ ms ++ [] ∷ [] =
     ap marks_of (c.push_reserved.ensures.items ∙ ap (λ xs. xs ++ c.new.result ∷ []) c.in_ok-reserve.ensures.items) ∙ map_push notes_of a.marks.items c.new.result ∙ ap (λ n. ms ++ n ∷ []) c.new.ensures.items in

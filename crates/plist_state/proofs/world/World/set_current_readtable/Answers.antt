@@ -4,7 +4,7 @@ use Rattle.std.specs.FinMap as finite
 use Rattle.plist_state.specs.Sound.{IsSound}
 use Rattle.plist_state.specs.declared.note.Note.TheVariants.{InReadtable}
 use Rattle.package_table.specs.Numbers.{numbered}
-use Rattle.plist_state.specs.State.{State}
+use Rattle.plist_state.specs.State.{WorldState}
 use Rattle.plist_state.specs.Shown.{NumberedRest, rest_of}
 use Rattle.plist_state.specs.Marked.{state_in}
 use Rattle.plist_state.specs.Journal.{marks_of}
@@ -19,7 +19,7 @@ invariant_of-self-2 c =
     let a = c.self.inside in
     let r : NumberedRest = rest_of a.stored in
     let u : NumberedRest = record r { current_readtable = c.replace-before.new.dest.items } in
-    let s : State = state_in (numbered a.packages) r in
+    let s : WorldState = state_in (numbered a.packages) r in
     let there : IsTrue (finite.contains_key s.readtables c.args.name.now) = search rules in
     let named : c.replace-before.new.dest.items ≡ c.args.name.now = ap (λ (v : Vec ℕ). v.items) c.replace-before.ensures.after ∙ c.in_ok-name.ensures.name in
     record {

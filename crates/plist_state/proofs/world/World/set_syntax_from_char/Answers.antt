@@ -1,5 +1,5 @@
 use Rattle.package_table.specs.Numbers.{numbered}
-use Rattle.plist_state.specs.State.{State}
+use Rattle.plist_state.specs.State.{WorldState}
 use Rattle.plist_state.specs.Marked.{state_in}
 use Rattle.plist_state.specs.Shown.{rest_of}
 use Rattle.plist_state.proofs.KeptWorld.{sound_syntax}
@@ -8,7 +8,7 @@ use Rattle.plist_state.proofs.world.World.set_syntax_from_char.Goals as goal
 
 pub invariant_of-self : goal.invariant_of-self
 invariant_of-self c =
-    let s : State = state_in (numbered c.self.inside.packages) (rest_of c.self.inside.stored) in
+    let s : WorldState = state_in (numbered c.self.inside.packages) (rest_of c.self.inside.stored) in
     let e = c.set_syntax.ensures in
     left_kept c.self.inside c.set_syntax.new.tables c.set_syntax.new.marks c.set_syntax.result e.unchanged e.marked _ e.gives c.self.invariant
     (sound_syntax s c.args.to.now c.args.c c.args.from.now c.args.d c.self.invariant.sound c.requires.to)

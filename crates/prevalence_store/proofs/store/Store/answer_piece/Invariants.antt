@@ -1,5 +1,5 @@
 use Rattle.std.proofs.Common.{◌≡◌, ℕ, ◌+◌, ◌≤◌, List, ◌++◌, length, Some, IsSome}
-use Rattle.plist_state.specs.State.{State as World}
+use Rattle.plist_state.specs.State.{WorldState}
 use Rattle.form_reader.specs.Reader.{fed}
 use Rattle.prevalence_store.specs.steps.Input.{IsPending}
 use Rattle.prevalence_store.specs.steps.Serve.{GoesOn}
@@ -14,7 +14,7 @@ invariant-forms g l = record {
   honest : (g.D.Disk.state l.self.disk).honest ≡ (g.D.Disk.state l.fn.self.disk).honest;
   macros : l.self.macros ≡ l.fn.self.macros;
   count : fed l.pending.reader + length l.rest ≤ fed l.fn.pending.reader + length l.piece;
-  goes : (w : World) → l.fn.self.world ≡ Some w → (bytes : List ℕ)
+  goes : (w : WorldState) → l.fn.self.world ≡ Some w → (bytes : List ℕ)
       → IsPending g.R.Meaning.Meaning.functions w l.mode l.fn.pending bytes
       → GoesOn g.R.Meaning.Meaning.functions g.D.Disk.state (pace_of l.fn.schedule) (pace_of l.schedule) l.fn.self l.self w l.mode (bytes ++ l.piece)
       (g.W.Write.contents l.fn.writer) (g.W.Write.contents l.writer) l.pending l.rest;

@@ -1,6 +1,6 @@
 use Rattle.std.proofs.Common.{Err, ap, subst, sym, ◌∙◌}
 use Rattle.prevalence_store.specs.calls.Serve.{IsOver}
-use Rattle.prevalence_store.specs.calls.Store.{Session}
+use Rattle.prevalence_store.specs.calls.Store.{StoreView}
 use Rattle.prevalence_store.proofs.steps.Renewing.{fits_at_once, fits_from, renewal_stops, stops_at_once, tried_after}
 use Rattle.prevalence_store.proofs.store.Store.fit_form.Goals as goal
 
@@ -22,8 +22,8 @@ returns-in-Err-renew-clause-fits g c = λ w known text next begins.
     let functions = g.R.Meaning.Meaning.functions in
     let full = c.if-number-ne-LOG_FULL.false in
     let same = c.in-Err.ensures.unchanged full in
-    let here = ap (λ (s : Session g.row.D.Denot g.row.R.Denot). s.world) same ∙ known in
-    let over = subst (λ (s : Session g.row.D.Denot g.row.R.Denot). IsOver functions s w c.args.mode text) (sym same) ((c.in-Err.ensures.tries w known text next begins).0 full) in
+    let here = ap (λ (s : StoreView g.row.D.Denot g.row.R.Denot). s.world) same ∙ known in
+    let over = subst (λ (s : StoreView g.row.D.Denot g.row.R.Denot). IsOver functions s w c.args.mode text) (sym same) ((c.in-Err.ensures.tries w known text next begins).0 full) in
     let held = g.W.Write.contents c.try_form.new.writer in
     fits_from functions g.D.Disk.state c.args.self.now c.try_form.new.self c.renew.new.self w c.args.mode text (g.W.Write.contents c.args.writer.now) held held (Err c.in-Err-renew.number)
     same (c.in-Err.ensures.quiet full)
@@ -35,8 +35,8 @@ returns-in_default-clause-fits g c = λ w known text next begins.
     let functions = g.R.Meaning.Meaning.functions in
     let full = c.if-number-ne-LOG_FULL.false in
     let same = c.in-Err.ensures.unchanged full in
-    let here = ap (λ (s : Session g.row.D.Denot g.row.R.Denot). s.world) same ∙ known in
-    let over = subst (λ (s : Session g.row.D.Denot g.row.R.Denot). IsOver functions s w c.args.mode text) (sym same) ((c.in-Err.ensures.tries w known text next begins).0 full) in
+    let here = ap (λ (s : StoreView g.row.D.Denot g.row.R.Denot). s.world) same ∙ known in
+    let over = subst (λ (s : StoreView g.row.D.Denot g.row.R.Denot). IsOver functions s w c.args.mode text) (sym same) ((c.in-Err.ensures.tries w known text next begins).0 full) in
     let held = g.W.Write.contents c.try_form.new.writer in
     let again = c.try_form-in-Err in
     let is = c.in_default.ensures.renews w here in

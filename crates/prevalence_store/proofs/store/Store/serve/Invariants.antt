@@ -1,5 +1,5 @@
 use Rattle.std.proofs.Common.{◌≡◌, ℕ, ◌*◌, ◌-◌, ◌≤◌, List, [], ◌++◌, Some, IsSome}
-use Rattle.plist_state.specs.State.{State as World}
+use Rattle.plist_state.specs.State.{WorldState}
 use Rattle.form_reader.specs.Reader.{fed}
 use Rattle.prevalence_store.specs.calls.Pace.{first_pace}
 use Rattle.prevalence_store.specs.steps.Serve.{GoesOn}
@@ -14,7 +14,7 @@ invariant-reads g l = record {
   macros : l.self.macros ≡ l.fn.self.macros;
   most : l.reads ≤ 1099511627776;
   count : fed l.pending.reader ≤ 4096 * l.reads;
-  far : (w : World) → l.fn.self.world ≡ Some w → (text : List ℕ)
+  far : (w : WorldState) → l.fn.self.world ≡ Some w → (text : List ℕ)
       × (GoesOn g.R.Meaning.Meaning.functions g.D.Disk.state (first_pace l.snapshot_every) (pace_of l.schedule) l.fn.self l.self w l.mode text
       (g.W.Write.contents l.fn.writer) (g.W.Write.contents l.writer) l.pending []
       × ((all : List ℕ) → g.I.Read.remaining l.fn.reader ≡ Some all → (left : List ℕ) × ((g.I.Read.remaining l.reader ≡ Some left) × (all ≡ text ++ left))));

@@ -1,7 +1,7 @@
 use Rattle.std.proofs.Common.{refl, subst}
 use Rattle.lisp_object.specs.Datum.{object_of}
 use Rattle.plist_state.specs.Sound.{IsSound}
-use Rattle.plist_state.specs.State.{State as World}
+use Rattle.plist_state.specs.State.{WorldState}
 use Rattle.prevalence_store.specs.calls.Streams.{Writes, WritesPart}
 use Rattle.prevalence_store.proofs.calls.Executing.{known_world, world_inside}
 use Rattle.prevalence_store.proofs.steps.Pendings.{begins_fits, begins_whole}
@@ -22,7 +22,7 @@ take_form-answer-requires g c =
         fits = λ w known.
             let b = c.requires.form.read w known in
             let same = world_inside inside.failed inside.log inside.world.0 w inside.macros c.args.self.now c.self.view_is known in
-            begins_fits functions w c.args.mode b.0 (object_of c.args.datum.now) c.args.own.now b.1.0 b.1.1 (subst (λ (v : World). IsSound v) same c.soundness.ensures.present);
+            begins_fits functions w c.args.mode b.0 (object_of c.args.datum.now) c.args.own.now b.1.0 b.1.1 (subst (λ (v : WorldState). IsSound v) same c.soundness.ensures.present);
       };
     }
 
