@@ -1,11 +1,10 @@
 -- What is written for a symbol that is present in its home is resolved to this symbol again.
-use Rattle.std.proofs.Common.{◌≡◌, map, codes, true, Option, None, Some, Ok, IsTrue, is_some, refl, sym, ap, subst, inl, ◌∙◌}
+use Rattle.std.proofs.Common.{◌≡◌, true, Option, None, Some, Ok, IsTrue, is_some, refl, sym, ap, subst, inl, ◌∙◌}
 use Rattle.std.specs.Prelude.{option_map, option_and_then}
 use Rattle.std.specs.Str.{bytes_eq}
 use Rattle.std.specs.FinMap as finite
-use Rattle.std.specs.FinMap.{get-from_entries}
 use Rattle.std.proofs.lemmas.Slice.Eq.{bytes_eq-Decides}
-use Rattle.package_table.specs.Table.{Name, Table, Present, Package, IsSound, IsPresent, IsPackage, keyword, common_lisp, common_lisp_names, common_lisp_package, full_name, entry_at}
+use Rattle.package_table.specs.Table.{Name, Table, Present, Package, IsSound, IsPresent, IsPackage, keyword, full_name, entry_at}
 use Rattle.package_table.specs.Lookup.{found, external_home, is_external}
 use Rattle.package_table.specs.Resolving.{found_at, resolution, external_resolution, internal_resolution}
 pub use Rattle.package_table.proofs.FirstNames.{nil_present}

@@ -1,11 +1,11 @@
 -- The journal: notes and marks that are pushed and popped.
 --     all_push, rests_push, length-rests      what one note more, and one mark more, lead back to
---     leads_pop, leads_wider, journal_taken, journal_wider      what holds of the way back
+--     leads_pop, leads_wider, journal_split, journal_wider      what holds of the way back
 --     fits_now      the rows have memory for what they hold
 --     same_marks, room_last, had_room, noted      what a write to the newest mark leaves
 --     continues_same, continues_noted      nothing was changed, and a change was noted
 --     property_noted      the same of a change of a property list
---     popped, taken      the newest mark taken away
+--     popped, leads      the newest mark taken away
 --     gone_past, gone_to      the mark that was to be gone back to
 use Rattle.std.proofs.Common.{◌≡◌, ◌++◌, ◌-◌, ◌<◌, ◌≤◌, ℕ, suc, None, Some, List, [], ◌∷◌, length, slice_index_or, slice_set, take, refl, sym, ap, ◌∙◌, arith, subst}
 use Rattle.std.specs.List.{slice_get}
@@ -71,10 +71,10 @@ journal_put [] m r rows leads journal = (leads, tt)
 journal_put (k ∷ ms) m r rows leads journal =
     (subst (λ s. LeadsBack k s rows) (sym (since_push ms m r)) journal.0, journal_put ms m r rows leads journal.1)
 
-pub journal_taken : (ms : List (List Note)) (m : List Note) (r : NumberedRest) (rows : Rows) → IsJournal (ms ++ m ∷ []) r rows → LeadsBack m r rows × IsJournal ms (all_undone m r) rows
-journal_taken [] m r rows journal = (journal.0, tt)
-journal_taken (k ∷ ms) m r rows journal =
-    let left : LeadsBack m r rows × IsJournal ms (all_undone m r) rows = journal_taken ms m r rows journal.1 in
+pub journal_split : (ms : List (List Note)) (m : List Note) (r : NumberedRest) (rows : Rows) → IsJournal (ms ++ m ∷ []) r rows → LeadsBack m r rows × IsJournal ms (all_undone m r) rows
+journal_split [] m r rows journal = (journal.0, tt)
+journal_split (k ∷ ms) m r rows journal =
+    let left : LeadsBack m r rows × IsJournal ms (all_undone m r) rows = journal_split ms m r rows journal.1 in
     (left.0, (subst (λ s. LeadsBack k s rows) (since_push ms m r) journal.0, left.1))
 
 pub journal_wider : (ms : List (List Note)) (r : NumberedRest) (rows later : Rows) → IsWider rows later → IsJournal ms r rows → IsJournal ms r later
@@ -134,7 +134,7 @@ continues_push ms m n t u noted undoes =
     record {
       same = rests_push ms (m ++ n ∷ []) u ∙ (λ i. rests_at ms (back i) ++ back i ∷ []) ∙ sym (rests_push ms m t);
       journal = λ rows fits journal.
-          let left : LeadsBack m t rows × IsJournal ms (all_undone m t) rows = journal_taken ms m t rows journal in
+          let left : LeadsBack m t rows × IsJournal ms (all_undone m t) rows = journal_split ms m t rows journal in
           journal_put ms (m ++ n ∷ []) u rows
           (leads_push m n u rows noted (subst (Fits rows) (sym undoes) fits) (subst (λ r. LeadsBack m r rows) (sym undoes) left.0))
           (subst (λ r. IsJournal ms r rows) (sym back) left.1);
@@ -177,9 +177,9 @@ module _ (before : List (Vec Note)) (m : Vec Note) (ms : List (Vec Note)) (split
       ∙ append_assoc (rests_at (marks_of before) u) (u ∷ []) rest
 
   -- what is undone, and what is left of the journal
-  pub taken : (rows : Rows) → IsJournal (marks_of ms) t rows → LeadsBack m.items t rows × IsJournal (marks_of before) u rows
-  taken rows journal =
-      let left : LeadsBack m.items t rows × IsJournal (marks_of before) (all_undone m.items t) rows = journal_taken (marks_of before) m.items t rows (subst (λ ks. IsJournal ks t rows) marks_split journal) in
+  pub leads : (rows : Rows) → IsJournal (marks_of ms) t rows → LeadsBack m.items t rows × IsJournal (marks_of before) u rows
+  leads rows journal =
+      let left : LeadsBack m.items t rows × IsJournal (marks_of before) (all_undone m.items t) rows = journal_split (marks_of before) m.items t rows (subst (λ ks. IsJournal ks t rows) marks_split journal) in
       (left.0, subst (λ r. IsJournal (marks_of before) r rows) (sym undoes) left.1)
 
 module _ (before : List (List Note)) (u : NumberedRest) (all rest : List NumberedRest) (mark : ℕ) (is : all ≡ rests_at before u ++ u ∷ rest) (here : length before ≡ mark) where

@@ -6,13 +6,13 @@ use Rattle.plist_state.specs.Shown.{NumberedRest, Rows, rest_of}
 use Rattle.plist_state.specs.Undoing.{all_undone}
 use Rattle.plist_state.specs.Journal.{marks_of}
 use Rattle.plist_state.proofs.ListRows.{wider_both}
-use Rattle.plist_state.proofs.Notes.{popped, taken, gone_past, gone_to, journal_wider}
+use Rattle.plist_state.proofs.Notes.{popped, leads, gone_past, gone_to, journal_wider}
 use Rattle.plist_state.proofs.undo.undo_to.Goals as goal
 
 pub undo_all-requires : goal.undo_all-requires
 undo_all-requires c =
     let t : NumberedRest = rest_of c.loop-newest.stored in
-    (taken c.pop.new.self.items c.in-Some.newest c.loop-newest.marks.items c.in-Some.ensures.items t (all_undone c.in-Some.newest.items t) refl c.loop-newest.stored.properties.entries c.loop-newest.invariant.3).0
+    (leads c.pop.new.self.items c.in-Some.newest c.loop-newest.marks.items c.in-Some.ensures.items t (all_undone c.in-Some.newest.items t) refl c.loop-newest.stored.properties.entries c.loop-newest.invariant.3).0
 
 pub returns-then-len-mark-clause-past : goal.returns-then-len-mark-clause-past
 returns-then-len-mark-clause-past c =
@@ -30,7 +30,7 @@ returns-then-len-mark-clause-journal c =
     let u : NumberedRest = rest_of c.undo_all.new.stored in
     let rows : Rows = c.loop-newest.stored.properties.entries in
     journal_wider (marks_of left) u rows c.undo_all.new.stored.properties.entries c.undo_all.ensures.wider
-    (taken left c.in-Some.newest c.loop-newest.marks.items c.in-Some.ensures.items (rest_of c.loop-newest.stored) u c.undo_all.ensures.after rows c.loop-newest.invariant.3).1
+    (leads left c.in-Some.newest c.loop-newest.marks.items c.in-Some.ensures.items (rest_of c.loop-newest.stored) u c.undo_all.ensures.after rows c.loop-newest.invariant.3).1
 
 pub loop-newest-preserved : goal.loop-newest-preserved
 loop-newest-preserved c =
@@ -45,6 +45,6 @@ loop-newest-preserved c =
       u ∷ c.loop-newest.invariant.0,
       popped left m c.loop-newest.marks.items c.in-Some.ensures.items t u c.undo_all.ensures.after _ c.loop-newest.invariant.0 c.loop-newest.invariant.1,
       omega (arith, fewer, is_length, c.if-len-mark.false, c.loop-newest.invariant.2),
-      journal_wider (marks_of left) u rows later c.undo_all.ensures.wider (taken left m c.loop-newest.marks.items c.in-Some.ensures.items t u c.undo_all.ensures.after rows c.loop-newest.invariant.3).1,
+      journal_wider (marks_of left) u rows later c.undo_all.ensures.wider (leads left m c.loop-newest.marks.items c.in-Some.ensures.items t u c.undo_all.ensures.after rows c.loop-newest.invariant.3).1,
       wider_both _ rows later c.loop-newest.invariant.4 c.undo_all.ensures.wider,
     )
