@@ -1,34 +1,19 @@
 -- IF, by what its first argument gives.
 --     choice_refused, choice_true, choice_none, choice_other      it is refused, true, or NIL with and without a third argument
-use Rattle.std.proofs.Common.{◌≡◌, ◌<◌, ◌≤◌, ◌-◌, ℕ, Bool, true, false, cond, not, ◌||◌, ◌&&◌, suc, zero, List, [], ◌∷◌, ◌++◌, Result, Ok, Err, Option, Some, None, map, length, drop, get_or, refl, sym, ap, subst, ◌∙◌, arith}
-use Rattle.std.proofs.lemmas.Bool.{false≢true, and_parts}
-use Rattle.std.proofs.lemmas.List.{length-map}
-use Rattle.lisp_object.specs.declared.datum.Datum
+use Rattle.std.proofs.Common.{◌≡◌, ◌≤◌, Bool, true, false, cond, ◌||◌, List, [], ◌∷◌, Result, Ok, Err, map, length, drop, get_or, refl, sym, ap, subst, ◌∙◌, arith}
 use Rattle.lisp_object.specs.declared.datum.Datum.{Datum}
-use Rattle.lisp_object.specs.declared.refusal.TheConstants.{NOT_A_FORM, ARGUMENT_KIND}
-use Rattle.lisp_object.specs.Object.{Object, integer, rational, character, text, vector, symbol, uninterned, pair, nil, pairs, list_of, is_proper_list, object_is_list}
-use Rattle.lisp_object.specs.Datum.{object_of, is_proper, is_list}
-use Rattle.lisp_object.proofs.Objects.{object_of-Symbol, object_of-Uninterned, object_of-List, object_of-dotted}
-use Rattle.lisp_object.proofs.ProperLists.{proper_pairs, items_of_proper, tail_of_proper, no_list_object}
+use Rattle.lisp_object.specs.Object.{Object, pair, nil, list_of}
+use Rattle.lisp_object.specs.Datum.{object_of}
 use Rattle.package_table.specs.Table.{Name}
 use Rattle.plist_state.specs.State.{WorldState}
 use Rattle.lisp_operators.specs.declared.error.EvaluationError.{EvaluationError}
 use Rattle.lisp_operators.specs.declared.error.EvaluationError.TheVariants.{Refused, OutOfMemory}
 use Rattle.lisp_operators.specs.declared.evaluated.Evaluated.{Evaluated}
-use Rattle.evaluator.specs.declared.values.Values.{Values}
-use Rattle.evaluator.specs.declared.operation.Operation.{Operation}
-use Rattle.evaluator.specs.declared.operation.Operation.TheVariants.{Quote, Progn, If, MakeList, Get, Setf, Remprop, SymbolPlist, Incf, Push, MakePackage, InPackage, Export, Import, UsePackage, Intern, CopyReadtable, InReadtable, SetSyntaxFromChar, SetMacroCharacter, GetMacroCharacter, MakeDispatchMacroCharacter, SetDispatchMacroCharacter, GetDispatchMacroCharacter, ReadtableCase}
-use Rattle.lisp_operators.specs.Kinds.{a_symbol, is_pair, is_true}
-use Rattle.lisp_operators.specs.Properties.{set}
-use Rattle.lisp_operators.specs.Readtables.{set_case}
-use Rattle.lisp_operators.specs.Evaluation.{Evaluation, gives, also, and_then}
-use Rattle.evaluator.specs.Operators.{count, first}
-use Rattle.evaluator.specs.Value.{value, values, choice, other_value, values_at_place, values_before_place, symbol_value, action_value, unless, is_case_place, rest}
-use Rattle.evaluator.specs.Operations.{action_of, is_ordinary, function_of}
+use Rattle.lisp_operators.specs.Kinds.{is_true}
+use Rattle.lisp_operators.specs.Evaluation.{gives, also, and_then}
+use Rattle.evaluator.specs.Value.{value, choice, other_value, rest}
 use Rattle.lisp_operators.specs.Evaluated.{Answers, done}
-use Rattle.evaluator.specs.Gathered.{all_done}
-use Rattle.evaluator.specs.Gathered.{arguments_of, parts, followed, subforms, gathered, refusal_of_place, is_case, IsHead, IsRefusal}
-use Rattle.evaluator.proofs.Steps.{value_symbol, value_constant, value_uninterned, is_constant, followed_start}
+use Rattle.evaluator.specs.Gathered.{arguments_of}
 use Rattle.evaluator.proofs.Forms.{two_arguments}
 
 choice_of : (names : List Name) (s : WorldState) (x y others : Object)

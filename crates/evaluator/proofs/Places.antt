@@ -3,25 +3,22 @@
 --     proper_pair, some_items, first_proper      a list that ends in NIL, and its items
 --     dotted_place      a list that ends in another object is no place
 --     last_of      the last of the values of a sequence
-use Rattle.std.proofs.Common.{◌≡◌, ℕ, Bool, true, false, ◌&&◌, cond, List, [], ◌∷◌, ◌++◌, not, is_some, get_or, subst, codes, suc, Option, Some, None, bytes_eq, map, length, refl, sym, ap, ◌∙◌, ◌<◌, ◌-◌, ◌^◌, min, nat_lt, arith}
-use Rattle.std.proofs.lemmas.Bool.Decides.{nat_tests}
+use Rattle.std.proofs.Common.{◌≡◌, ℕ, true, false, ◌&&◌, cond, List, [], ◌∷◌, ◌++◌, is_some, get_or, subst, codes, suc, Option, Some, None, bytes_eq, map, length, refl, sym, ap, ◌∙◌, ◌<◌, ◌-◌, arith}
 use Rattle.std.specs.Option.{option_map_or}
 use Rattle.lisp_object.specs.declared.datum.Datum
 use Rattle.lisp_object.specs.declared.datum.Datum.{Datum}
-use Rattle.lisp_object.specs.Object.{Object, integer, rational, character, text, symbol, uninterned, pair, vector, nil, is_nil, pairs, is_proper_list}
-use Rattle.lisp_object.specs.Datum.{object_of, is_proper, is_list}
-use Rattle.lisp_object.proofs.Objects.{object_of-List, object_of-dotted}
+use Rattle.lisp_object.specs.Object.{Object, integer, rational, character, text, symbol, uninterned, pair, vector, nil, pairs, is_proper_list}
+use Rattle.lisp_object.specs.Datum.{object_of, is_proper}
+use Rattle.lisp_object.proofs.Objects.{object_of-List}
 use Rattle.std.specs.List.{list_all}
 use Rattle.std.proofs.lemmas.Bool.{false≢true, and_parts}
 use Rattle.std.proofs.Math.Bool.{and-false}
 use Rattle.std.proofs.lemmas.List.{length-map}
 use Rattle.lisp_object.specs.declared.refusal.TheConstants.{ARGUMENT_KIND}
 use Rattle.evaluator.specs.Value.{last, get_place_refusal, case_place_refusal, place_refusal}
-use Rattle.lisp_object.proofs.Lists.{proper_items}
-use Rattle.lisp_object.proofs.ProperLists.{items_of_proper, tail_of_proper, pairs_proper, proper_pairs, no_proper_list, no_list_object}
-use Rattle.package_table.specs.Table.{keyword, common_lisp}
-use Rattle.plist_state.specs.State.{standard_name}
-use Rattle.lisp_operators.specs.Kinds.{a_symbol, a_name, a_text, a_keyword, a_source, is_true}
+use Rattle.lisp_object.proofs.ProperLists.{items_of_proper, proper_pairs}
+use Rattle.package_table.specs.Table.{common_lisp}
+use Rattle.lisp_operators.specs.Kinds.{a_symbol}
 use Rattle.evaluator.specs.Operators.{is_standard, count}
 use Rattle.lisp_operators.proofs.Shapes.{dotted_pair}
 

@@ -1,26 +1,12 @@
 -- What the forms of rows are made of.
-use Rattle.std.proofs.Common.{◌≡◌, ℕ, zero, suc, true, false, cond, nat_le, nat_lt, List, [], ◌∷◌, pos, negsuc, codes, Some, None, Err, refl, ap, ◌∙◌}
-use Rattle.std.specs.FinMap as finite
-use Rattle.lisp_object.specs.Object.{Object, integer, symbol, text, character, uninterned, pair, vector, nil, list_of, object_depth, object_size}
-use Rattle.readtable_core.specs.declared.table.Case.TheVariants.{Invert}
-use Rattle.readtable_core.specs.Tables as readtable
-use Rattle.readtable_core.specs.Tables.{entry_at, dispatch_at}
-use Rattle.readtable_core.specs.Cases.{case_name}
-use Rattle.readtable_core.specs.Changes.{macro_entry, dispatching_entry, with_function}
-use Rattle.readtable_core.specs.Changes.{with_entry as with_entry_at}
-use Rattle.readtable_core.specs.Sound.{is_dispatching}
-use Rattle.package_table.specs.Table.{Name, common_lisp, keyword, symbol_count, with_entry, with_used, with_new_package}
-use Rattle.package_table.specs.Lookup.{found, is_present, is_external, is_used}
-use Rattle.package_table.specs.Changes.{user_finds_other, with_external, finds_other_than_shown}
+use Rattle.std.proofs.Common.{◌≡◌, ℕ, zero, suc, true, false, cond, List, [], ◌∷◌, pos, codes, Some, None, refl, ap, ◌∙◌}
+use Rattle.lisp_object.specs.Object.{Object, integer, symbol, pair, nil, list_of}
+use Rattle.package_table.specs.Table.{Name}
 use Rattle.plist_state.specs.Properties.{Symbol, Plist, value_at, with_value, same_symbol}
-use Rattle.plist_state.specs.State.{WorldState, standard_name}
-use Rattle.plist_state.specs.Changes.{plist, property, with_property, without_property, with_packages}
+use Rattle.plist_state.specs.State.{State}
+use Rattle.plist_state.specs.Changes.{plist, property, with_property}
 use Rattle.plist_state.proofs.Lists.{list-with_list}
 use Rattle.plist_state.proofs.Orders.{symbol_tied}
-use Rattle.lisp_operators.specs.Evaluation.{gives, writes}
-use Rattle.lisp_operators.specs.Properties.{t}
-use Rattle.lisp_operators.specs.Readtables.{name_or_nil}
-use Rattle.evaluator.specs.Value.{value}
 
 abbrev pub own : Name → Object
 own name = symbol (codes "COMMON-LISP-USER") name
@@ -62,7 +48,7 @@ nested zero = nil
 nested (suc k) = pair (nested k) nil
 
 -- what was put last
-pub property_put : (s : WorldState) (x i : Symbol) (v : Object) → property (with_property s x i v) x i ≡ Some v
+pub property_put : (s : State) (x i : Symbol) (v : Object) → property (with_property s x i v) x i ≡ Some v
 property_put s x i v = ap (λ ps. value_at ps i) (list-with_list s.properties x (with_value (plist s x) i v)) ∙ value_there (plist s x)
   where
     value_there : (ps : Plist) → value_at (with_value ps i v) i ≡ Some v

@@ -2,12 +2,12 @@
 --     value_symbol, value_constant, value_uninterned, value_dotted      forms that are no lists of arguments
 --     followed_start, followed_step, followed_refused, followed_end      forms one after the other
 --     good_value      what holds after the value of a form
-use Rattle.std.proofs.Common.{◌≡◌, ◌<◌, ◌≤◌, ◌+◌, ◌-◌, ℕ, Bool, true, false, ◌||◌, List, [], ◌∷◌, ◌++◌, All, Result, Ok, Err, Option, Some, None, is_some, map, length, take, drop, get_or, refl, sym, ap, subst, ◌∙◌, add-one, suc, arith}
-use Rattle.std.proofs.Math.Seq.{drop-cons, drop-length, take-length}
+use Rattle.std.proofs.Common.{◌≡◌, ◌<◌, ◌+◌, ℕ, Bool, true, false, ◌||◌, List, [], ◌∷◌, ◌++◌, All, Ok, Err, Option, Some, None, is_some, map, length, drop, get_or, refl, sym, ap, subst, ◌∙◌, add-one, suc}
+use Rattle.std.proofs.Math.Seq.{drop-cons, drop-length}
 use Rattle.std.proofs.Math.Bool.{and-false}
 use Rattle.std.specs.List.{list_all}
 use Rattle.std.proofs.lemmas.Bool.{and_parts, and_from, false≢true}
-use Rattle.std.proofs.lemmas.List.Elements.{All-weaker, All-append, All-cons, All-nil, All-head, All-tail}
+use Rattle.std.proofs.lemmas.List.Elements.{All-append, All-cons, All-nil, All-head, All-tail}
 use Rattle.lisp_object.specs.declared.datum.Datum
 use Rattle.lisp_object.specs.declared.datum.Datum.{Datum}
 use Rattle.lisp_object.specs.declared.refusal.TheConstants.{NOT_A_FORM}

@@ -1,7 +1,7 @@
 -- Forms on packages and readtables, and what each gives; what a row needs of the state, it asks for.
-use Rattle.std.proofs.Common.{◌≡◌, ℕ, zero, suc, true, false, cond, nat_le, nat_lt, List, [], ◌∷◌, pos, negsuc, codes, Some, None, Err, refl, ap, ◌∙◌}
+use Rattle.std.proofs.Common.{◌≡◌, true, false, nat_le, [], ◌∷◌, codes, Some, None, Err, refl}
 use Rattle.std.specs.FinMap as finite
-use Rattle.lisp_object.specs.Object.{Object, integer, symbol, text, character, uninterned, pair, vector, nil, list_of, object_depth, object_size}
+use Rattle.lisp_object.specs.Object.{symbol, text, character, nil, list_of}
 use Rattle.readtable_core.specs.declared.table.Case.TheVariants.{Invert}
 use Rattle.readtable_core.specs.Tables as readtable
 use Rattle.readtable_core.specs.Tables.{entry_at, dispatch_at}
@@ -9,21 +9,18 @@ use Rattle.readtable_core.specs.Cases.{case_name}
 use Rattle.readtable_core.specs.Changes.{macro_entry, dispatching_entry, with_function}
 use Rattle.readtable_core.specs.Changes.{with_entry as with_entry_at}
 use Rattle.readtable_core.specs.Sound.{is_dispatching}
-use Rattle.package_table.specs.Table.{Name, common_lisp, keyword, symbol_count, with_entry, with_used, with_new_package}
+use Rattle.package_table.specs.Table.{common_lisp, keyword, symbol_count, with_entry, with_used, with_new_package}
 use Rattle.package_table.specs.Lookup.{found, is_present, is_external, is_used}
 use Rattle.package_table.specs.Changes.{user_finds_other, with_external, finds_other_than_shown}
-use Rattle.plist_state.specs.Properties.{Symbol, Plist, value_at, with_value, same_symbol}
-use Rattle.plist_state.specs.State.{WorldState, standard_name}
-use Rattle.plist_state.specs.Changes.{plist, property, with_property, without_property, with_packages}
-use Rattle.plist_state.proofs.Lists.{list-with_list}
-use Rattle.plist_state.proofs.Orders.{symbol_tied}
+use Rattle.plist_state.specs.State.{State, standard_name}
+use Rattle.plist_state.specs.Changes.{with_packages}
 use Rattle.lisp_operators.specs.Evaluation.{gives, writes}
 use Rattle.lisp_operators.specs.Properties.{t}
 use Rattle.lisp_operators.specs.Readtables.{name_or_nil}
 use Rattle.evaluator.specs.Value.{value}
-use Rattle.evaluator.proofs.RowForms.{property_put, own, named, standard, call, quoted, number, a_symbol, b_symbol, a, b, place, nested}
+use Rattle.evaluator.proofs.RowForms.{own, named, call, quoted, number, a}
 
-module _ (s : WorldState) where
+module _ (s : State) where
   -- ---- packages
   no_name : value [] s (call (codes "MAKE-PACKAGE") (text [] ∷ [])) ≡ Err 33
   unfolding value

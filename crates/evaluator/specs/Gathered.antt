@@ -1,5 +1,5 @@
 -- Forms that are evaluated one after the other, and what an operator makes of their values.
-use Rattle.std.specs.Prelude.{◌≡◌, ℕ, Bool, true, false, List, [], ◌∷◌, ◌++◌, map, Option, Some, None, Result, Ok, Err, IsOk}
+use Rattle.std.specs.Prelude.{◌≡◌, ℕ, Bool, true, false, List, [], ◌∷◌, ◌++◌, map, Option, Some, None, Result, Ok, Err}
 use Rattle.lisp_object.specs.Object.{Object, nil, list_of, is_proper_list, pair}
 use Rattle.package_table.specs.Table.{Name}
 use Rattle.plist_state.specs.State.{WorldState}
@@ -13,7 +13,7 @@ use Rattle.lisp_operators.specs.Evaluated.{Answers, CarriesOut, done, objects}
 use Rattle.lisp_operators.specs.Evaluation.{Done}
 use Rattle.evaluator.specs.declared.values.Values.{Values}
 use Rattle.evaluator.specs.declared.operation.Operation.{Operation}
-use Rattle.evaluator.specs.declared.operation.Operation.TheVariants.{Progn, MakeList, Setf, Incf, Push, Export, Import, UsePackage}
+use Rattle.evaluator.specs.declared.operation.Operation.TheVariants.{Setf, Incf, Push}
 use Rattle.lisp_operators.specs.Evaluation.{Evaluation, gives, also, and_then}
 use Rattle.evaluator.specs.Operators.{count, first}
 use Rattle.evaluator.specs.Operations.{action_of, function_of}

@@ -1,5 +1,5 @@
 -- The symbols of lists and vectors are those of their items, and of what ends them.
-use Rattle.std.proofs.Common.{◌≡◌, Bool, true, false, not, ◌||◌, if◌then◌else◌, nat_lt, nat_le, List, [], ◌∷◌, ◌++◌, map, length, append_assoc, Option, Some, None, is_some, is_none, option_map, Result, Ok, Err, sym, ap, ◌∙◌, refl}
+use Rattle.std.proofs.Common.{◌≡◌, true, false, not, ◌||◌, if◌then◌else◌, nat_lt, nat_le, List, [], ◌∷◌, ◌++◌, map, length, append_assoc, Option, Some, None, is_some, is_none, option_map, Result, Ok, Err, sym, ap, ◌∙◌, refl}
 use Rattle.std.specs.Str.{bytes_eq}
 use Rattle.std.specs.FinMap as finite
 use Rattle.std.specs.List.{flat_map, slice_get}

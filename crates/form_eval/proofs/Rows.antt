@@ -1,5 +1,5 @@
 -- Forms as transactions, and what each gives. A symbol that there is no room for comes before the operator.
-use Rattle.std.proofs.Common.{◌≡◌, ◌∷◌, true, false, nat_le, List, [], codes, Some, None, Err, refl}
+use Rattle.std.proofs.Common.{◌≡◌, ◌∷◌, true, false, nat_le, [], codes, Some, None, Err, refl}
 use Rattle.std.specs.FinMap as finite
 use Rattle.lisp_object.specs.Object.{Object, symbol, list_of}
 use Rattle.package_table.specs.Table.{Name, keyword, symbol_count, with_entry}

@@ -1,8 +1,7 @@
-use Rattle.std.proofs.Common.{ℕ, Ok, List, sym, ap, ◌∙◌, arith}
+use Rattle.std.proofs.Common.{Ok, sym, ap, ◌∙◌, arith}
 use Rattle.std.proofs.lemmas.List.{get_or_default}
 use Rattle.package_table.specs.Table.{Table}
 use Rattle.package_table.specs.Changes.{intern_changes}
-use Rattle.plist_state.specs.Properties.{Symbol}
 use Rattle.plist_state.specs.State.{Worlds}
 use Rattle.plist_state.specs.Changes.{with_packages}
 use Rattle.form_eval.specs.Acceptance.{after_symbol, seen}

@@ -1,8 +1,7 @@
-use Rattle.std.proofs.Common.{ℕ, List, ◌++◌, ◌∷◌, [], map, ap, sym, ◌∙◌}
+use Rattle.std.proofs.Common.{◌++◌, ◌∷◌, [], map, ap, sym, ◌∙◌}
 use Rattle.std.proofs.lemmas.List.{map-append}
 use Rattle.lisp_object.specs.Datum.{object_of}
 use Rattle.lisp_object.proofs.Objects.{object_of-Symbol}
-use Rattle.plist_state.specs.Properties.{Symbol}
 use Rattle.form_eval.specs.Acceptance.{symbols, seen}
 use Rattle.form_eval.proofs.symbols.+adding.Goals as goal
 

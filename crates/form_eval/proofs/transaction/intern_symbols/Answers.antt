@@ -1,4 +1,4 @@
-use Rattle.std.proofs.Common.{◌≡◌, ◌<◌, ℕ, List, All, map, sym, subst, ap, ◌∙◌}
+use Rattle.std.proofs.Common.{◌≡◌, ◌<◌, All, map, sym, subst, ap, ◌∙◌}
 use Rattle.lisp_object.specs.Datum.{object_of}
 use Rattle.plist_state.specs.Properties.{Symbol}
 use Rattle.form_eval.specs.Acceptance.{symbols, with_symbols, seen}
