@@ -3,7 +3,7 @@ use Rattle.std.proofs.Common.{◌≡◌, ℕ, zero, suc, true, false, cond, List
 use Rattle.lisp_object.specs.Object.{Object, integer, symbol, pair, nil, list_of}
 use Rattle.package_table.specs.Table.{Name}
 use Rattle.plist_state.specs.Properties.{Symbol, Plist, value_at, with_value, same_symbol}
-use Rattle.plist_state.specs.State.{State}
+use Rattle.plist_state.specs.State.{WorldState}
 use Rattle.plist_state.specs.Changes.{plist, property, with_property}
 use Rattle.plist_state.proofs.Lists.{list-with_list}
 use Rattle.plist_state.proofs.Orders.{symbol_tied}
@@ -48,7 +48,7 @@ nested zero = nil
 nested (suc k) = pair (nested k) nil
 
 -- what was put last
-pub property_put : (s : State) (x i : Symbol) (v : Object) → property (with_property s x i v) x i ≡ Some v
+pub property_put : (s : WorldState) (x i : Symbol) (v : Object) → property (with_property s x i v) x i ≡ Some v
 property_put s x i v = ap (λ ps. value_at ps i) (list-with_list s.properties x (with_value (plist s x) i v)) ∙ value_there (plist s x)
   where
     value_there : (ps : Plist) → value_at (with_value ps i v) i ≡ Some v

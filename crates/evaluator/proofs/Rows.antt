@@ -1,14 +1,14 @@
 -- Forms on data and properties, and what each gives, in any state; what a row needs of the state, it asks for.
 use Rattle.std.proofs.Common.{◌≡◌, true, false, nat_lt, [], ◌∷◌, negsuc, codes, Some, None, Err, refl}
 use Rattle.lisp_object.specs.Object.{Object, integer, text, uninterned, pair, vector, nil, list_of, object_depth, object_size}
-use Rattle.plist_state.specs.State.{State}
+use Rattle.plist_state.specs.State.{WorldState}
 use Rattle.plist_state.specs.Changes.{plist, property, with_property, without_property}
 use Rattle.lisp_operators.specs.Evaluation.{gives, writes}
 use Rattle.lisp_operators.specs.Properties.{t}
 use Rattle.evaluator.specs.Value.{value}
 use Rattle.evaluator.proofs.RowForms.{property_put, own, named, standard, call, quoted, number, a_symbol, b_symbol, a, b, place, nested}
 
-module _ (s : State) where
+module _ (s : WorldState) where
   -- ---- what gives itself
   keyword_itself : value [] s (named (codes "K")) ≡ gives (named (codes "K")) s
   unfolding value

@@ -12,7 +12,7 @@ use Rattle.readtable_core.specs.Sound.{is_dispatching}
 use Rattle.package_table.specs.Table.{common_lisp, keyword, symbol_count, with_entry, with_used, with_new_package}
 use Rattle.package_table.specs.Lookup.{found, is_present, is_external, is_used}
 use Rattle.package_table.specs.Changes.{user_finds_other, with_external, finds_other_than_shown}
-use Rattle.plist_state.specs.State.{State, standard_name}
+use Rattle.plist_state.specs.State.{WorldState, standard_name}
 use Rattle.plist_state.specs.Changes.{with_packages}
 use Rattle.lisp_operators.specs.Evaluation.{gives, writes}
 use Rattle.lisp_operators.specs.Properties.{t}
@@ -20,7 +20,7 @@ use Rattle.lisp_operators.specs.Readtables.{name_or_nil}
 use Rattle.evaluator.specs.Value.{value}
 use Rattle.evaluator.proofs.RowForms.{own, named, call, quoted, number, a}
 
-module _ (s : State) where
+module _ (s : WorldState) where
   -- ---- packages
   no_name : value [] s (call (codes "MAKE-PACKAGE") (text [] ∷ [])) ≡ Err 33
   unfolding value
