@@ -1,5 +1,5 @@
 -- What each call of a disk promises. Of every disk, that its count of failures tells of its faults; the rest of an honest one.
-use Rattle.std.specs.Prelude.{◌≡◌, ℕ, ◌+◌, ◌≤◌, List, length, take, drop, Result, IfOk, OnOk}
+use Rattle.std.specs.Prelude.{◌≡◌, ℕ, ◌≤◌, List, length, take, drop, Result, IfOk, OnOk}
 use Rattle.disk_trait.specs.Disk.{Image, State, IsHonest, Counts, Looks, Changes, OnHalf, Torn, Cut, file_of, written}
 use Rattle.disk_trait.specs.declared.disk.DeviceFault.{DeviceFault}
 use Rattle.disk_trait.specs.declared.half.Half.{Half}

@@ -1,5 +1,5 @@
 -- What reading rests on, and the calls of macro functions.
-use Rattle.std.specs.Prelude.{ℕ, Bool, true, false, if◌then◌else◌, List, Option, Some, None, option_map}
+use Rattle.std.specs.Prelude.{ℕ, Bool, true, false, if◌then◌else◌, List, Option, Some, option_map}
 use Rattle.std.specs.Option.{option_map_or}
 use Rattle.readtable_core.specs.Tables.{Table}
 use Rattle.package_table.specs.Table.{Name, Table as Packages}
