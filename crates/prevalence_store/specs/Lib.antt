@@ -1,21 +1,7 @@
--- what the theorem is said over, in the order in which it builds up
-pub mod Functions
-pub mod Acceptance
-pub mod Numbers
-pub mod Meaning
+-- what the theorem is said over
+pub mod meaning
 pub mod Theorem
--- words of the calls
-pub mod Session
-pub mod Causes
-pub mod LeftAlone
-pub mod Execution
-pub mod Snapshots
-pub mod Opening
-pub mod Output
-pub mod Streams
-pub mod Pacing
-pub mod Serving
-pub mod Runs
--- how the code answers it
-pub mod Pending
-pub mod Turns
+-- what each call answers, and what is left after it
+pub mod calls
+-- what the functions below the calls do
+pub mod steps

@@ -1,6 +1,6 @@
 // Why a form was not accepted, inside the crate.
 ghost use Rattle.std.specs.Prelude.{◌≡◌};
-ghost use Rattle.prevalence_store.specs.Causes.{is_device, failure_number};
+ghost use Rattle.prevalence_store.specs.steps.Failure.{is_device, failure_number};
 
 use lisp_object::refusal::{DEVICE, LOG_FULL, NO_MEMORY};
 

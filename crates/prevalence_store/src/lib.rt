@@ -6,15 +6,15 @@
 //!
 //! - *What a call survives* (`Survives`): a crash at any moment of the call, inside a device call too, leaves files that mean
 //!   the world after some of the forms that the call took, in order, from the first on; once it has ended, at least after
-//!   those that it acknowledged. `execute` takes its one form, and acknowledges it where it answers `Accepted`; `serve` takes
+//!   those that it acknowledged. `execute` takes its one form, and acknowledges it if it answers `Accepted`; `serve` takes
 //!   the forms that it reads and accepts, and has acknowledged all whose answers were written whole; `run` those of its steps;
 //!   `snapshot` and `close` take none.
-//! - *What opening gives* (`Reopens`): where the files mean a world, `Store::open` gives that world, or a refusal that is no
+//! - *What opening gives* (`Reopens`): if the files mean a world, `Store::open` gives that world, or a refusal that is no
 //!   word on the files. While it opens, a crash leaves what the files might have meant before. A refusal gives the disk back.
 //! - *The two together* (`headline`): after an opening and any calls in a row, a crash at any moment and an opening of what it leaves give
 //!   the world after some of all the forms, from the first on, and after all that were acknowledged.
 //!
-//! Of every disk: each call returns; 60 comes exactly where the device's count of failures rose, and after it each call but
+//! Of every disk: each call returns; 60 comes exactly if the device's count of failures rose, and after it each call but
 //! `close`, `world`, `half`, `generation` and `record_count` answers 61; a refusal of 1 to 46, 64, 65 or 90 changes nothing.
 //!
 //! - `Store::execute` answers what acceptance gives for a text in the world (`Executes`), each answer with its cause.
@@ -27,28 +27,26 @@
 //!
 //! # Modules
 //!
-//! - `store` with `open`, `execute`, `snapshot`, `run` and `serve`: the store, on the log of `gate_log`. `commit` evaluates a form and logs it;
-//!   `replay` makes the world again from the records of a log; `input` and `output` are the streams of a session.
-//! - `mode`, `step`, `outcome`, `open_fault`: the words of its calls. `failure`, `turn`: their inner reasons. `schedule`: when a
-//!   session takes snapshots.
+//! - `store` with `open`, `execute`, `snapshot` and `run`: the store, on the log of `gate_log`. `commit` evaluates a form and logs it;
+//!   `replay` makes the world again from the records of a log; `setting` says under what a text is read, by the mode, and what it
+//!   begins with (`form_reader`).
+//! - `session`: `serve`, and its parts: `input` and `output`, the streams; `answer`, what becomes of a form that was read;
+//!   `schedule`, when it takes snapshots.
+//! - `mode`, `step`, `outcome`, `open_fault`: the words of the calls. `failure`: why a form is not accepted.
 //! - `laws`: the headline, that an image means one world, and which numbers refuse a form.
-//! - `setting`: under what a text is read, by the mode, and what it begins with (`form_reader`).
 #![tactic(auto)]
 
 mod commit;
 mod failure;
-mod input;
 mod laws;
 mod mode;
 mod open_fault;
 mod outcome;
-mod output;
 mod replay;
-mod schedule;
+mod session;
 mod setting;
 mod step;
 mod store;
-mod turn;
 
 pub use laws::{form_numbers, fresh_files, headline, one_world, refused_openings};
 pub use lisp_object::refusal::name_of as refusal_name;

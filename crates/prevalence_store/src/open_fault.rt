@@ -1,6 +1,6 @@
 // Why a store is not opened.
 ghost use Rattle.std.specs.Prelude.{◌≡◌};
-ghost use Rattle.prevalence_store.specs.Opening.{fault_number};
+ghost use Rattle.prevalence_store.specs.calls.Open.{fault_number};
 
 use gate_log::{OpenRefusal, ReadError};
 use lisp_object::refusal::{
@@ -44,7 +44,7 @@ impl OpenFault {
 }
 
 impl From<OpenRefusal> for OpenFault {
-    ghost use Rattle.prevalence_store.specs.Opening.{fault_of_refusal};
+    ghost use Rattle.prevalence_store.specs.steps.Open.{fault_of_refusal};
 
     ghost from_gives = { λ refusal fault. fault ≡ fault_of_refusal refusal };
 
@@ -59,7 +59,7 @@ impl From<OpenRefusal> for OpenFault {
 }
 
 impl From<ReadError> for OpenFault {
-    ghost use Rattle.prevalence_store.specs.Opening.{fault_of_read};
+    ghost use Rattle.prevalence_store.specs.steps.Open.{fault_of_read};
 
     ghost from_gives = { λ error fault. fault ≡ fault_of_read error };
 
@@ -73,7 +73,7 @@ impl From<ReadError> for OpenFault {
 }
 
 impl From<SnapshotError> for OpenFault {
-    ghost use Rattle.prevalence_store.specs.Opening.{fault_of_snapshot};
+    ghost use Rattle.prevalence_store.specs.steps.Open.{fault_of_snapshot};
 
     ghost from_gives = { λ error fault. fault ≡ fault_of_snapshot error };
 

@@ -4,8 +4,8 @@ ghost use Rattle.std.specs.List.{list_all};
 ghost use Rattle.readtable_core.specs.Names.{is_among};
 ghost use Rattle.package_table.specs.Table.{IsPackage};
 ghost use Rattle.form_reader.specs.Reader.{IsOutcome};
-ghost use Rattle.prevalence_store.specs.Acceptance.{package_in, read_in, table_in};
-ghost use Rattle.prevalence_store.specs.Functions.{functions_of};
+ghost use Rattle.prevalence_store.specs.meaning.Acceptance.{package_in, read_in, table_in};
+ghost use Rattle.prevalence_store.specs.meaning.Functions.{functions_of};
 
 use crate::mode::Mode;
 use form_reader::{Limits, ReadOutcome, read_one};

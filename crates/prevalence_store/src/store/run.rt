@@ -3,9 +3,9 @@ ghost use Rattle.std.specs.Prelude.{◌≡◌, true, IfOk, OnErr};
 ghost use Rattle.std.specs.List.{All, list_all};
 ghost use Rattle.readtable_core.specs.Names.{is_among};
 ghost use Rattle.plist_state.specs.State.{State as LispWorld};
-ghost use Rattle.prevalence_store.specs.Execution.{IsProperOutcome, SurvivesAs};
-ghost use Rattle.prevalence_store.specs.Functions.{functions_of};
-ghost use Rattle.prevalence_store.specs.Runs.{TakesStep, TakesSteps, acknowledged_in_steps, taken_in_steps};
+ghost use Rattle.prevalence_store.specs.calls.Execute.{IsProperOutcome, SurvivesAs};
+ghost use Rattle.prevalence_store.specs.meaning.Functions.{functions_of};
+ghost use Rattle.prevalence_store.specs.calls.Run.{TakesStep, TakesSteps, acknowledged_in_steps, taken_in_steps};
 
 use crate::outcome::Outcome;
 use crate::step::Step;
@@ -23,7 +23,7 @@ impl<D: Disk, R: MacroFunctions> Store<D, R> {
     ///
     /// # Errors
     ///
-    /// Where there is no room for all outcomes. It is taken first, so that nothing has been done then.
+    /// If there is no room for all outcomes. It is taken first, so that nothing has been done then.
     pub fn run(&mut self, steps: &[Step]) -> Result<Vec<Outcome>, AllocError>
         requires answers { R.answers self.old.macros }
         requires whole { list_all (is_among (R.registered self.old.macros)) R.Meaning.names ≡ true }

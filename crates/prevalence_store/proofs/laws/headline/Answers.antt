@@ -1,7 +1,7 @@
 use Rattle.std.proofs.Common.{sym, subst}
 use Rattle.disk_trait.specs.Disk.{Image}
-use Rattle.prevalence_store.specs.Meaning.{MeansWorld}
-use Rattle.prevalence_store.specs.Opening.{IsNoWord, limit_of}
+use Rattle.prevalence_store.specs.meaning.Files.{MeansWorld}
+use Rattle.prevalence_store.specs.calls.Open.{IsNoWord, limit_of}
 use Rattle.prevalence_store.proofs.Joining.{headline_holds}
 use Rattle.prevalence_store.proofs.laws.headline.Goals as goal
 

@@ -2,9 +2,9 @@ use Rattle.std.proofs.Common.{◌≡◌, subst, ◌∙◌, IfOk}
 use Rattle.form_reader.specs.Reader.{IsOutcome}
 use Rattle.form_reader.specs.Reading.{reads}
 use Rattle.form_reader.specs.Setting.{Setting, setting_of}
-use Rattle.prevalence_store.specs.Acceptance.{form_limits, package_in, table_in}
+use Rattle.prevalence_store.specs.meaning.Acceptance.{form_limits, package_in, table_in}
 use Rattle.form_reader.proofs.Registered.{setting_same}
-use Rattle.prevalence_store.proofs.Fitting.{among_same}
+use Rattle.prevalence_store.proofs.steps.Fitting.{among_same}
 use Rattle.prevalence_store.proofs.setting.begins.Goals as goal
 
 pub returns : goal.returns

@@ -1,15 +1,16 @@
 use Rattle.std.proofs.Common.{◌≡◌, ℕ, ◌+◌, ◌≤◌, List, ◌++◌, length, Some, IsSome}
 use Rattle.plist_state.specs.State.{State as World}
 use Rattle.form_reader.specs.Reader.{fed}
-use Rattle.prevalence_store.specs.Functions.{functions_of}
-use Rattle.prevalence_store.specs.Pending.{IsPending}
-use Rattle.prevalence_store.specs.Turns.{GoesOn, pace_of}
-use Rattle.prevalence_store.proofs.Answering.{to_take}
+use Rattle.prevalence_store.specs.meaning.Functions.{functions_of}
+use Rattle.prevalence_store.specs.steps.Input.{IsPending}
+use Rattle.prevalence_store.specs.steps.Serve.{GoesOn}
+use Rattle.prevalence_store.specs.steps.Schedule.{pace_of}
+use Rattle.prevalence_store.proofs.steps.Pieces.{to_take}
 use Rattle.prevalence_store.proofs.store.Store.answer_piece.Given as goal
 
 -- what the bytes so far decided was answered, and the rest of the piece is left
-abbrev pub invariant-turns : goal.invariant-turns
-invariant-turns g l = record {
+abbrev pub invariant-forms : goal.invariant-forms
+invariant-forms g l = record {
   known : IsSome l.self.world;
   honest : (g.D.Disk.state l.self.disk).honest ≡ (g.D.Disk.state l.fn.self.disk).honest;
   macros : l.self.macros ≡ l.fn.self.macros;
@@ -20,5 +21,5 @@ invariant-turns g l = record {
       (g.W.Write.contents l.fn.writer) (g.W.Write.contents l.writer) l.pending l.rest;
 }
 
-abbrev pub decreases-turns : goal.decreases-turns
-decreases-turns g l = to_take (fed l.pending.reader) (length l.rest)
+abbrev pub decreases-forms : goal.decreases-forms
+decreases-forms g l = to_take (fed l.pending.reader) (length l.rest)

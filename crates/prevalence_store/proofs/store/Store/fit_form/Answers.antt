@@ -1,8 +1,8 @@
 use Rattle.std.proofs.Common.{Err, ap, subst, sym, ◌∙◌}
-use Rattle.prevalence_store.specs.Functions.{functions_of}
-use Rattle.prevalence_store.specs.Serving.{IsOver}
-use Rattle.prevalence_store.specs.Session.{Session}
-use Rattle.prevalence_store.proofs.Renewing.{fits_at_once, fits_from, renewal_stops, stops_at_once, tried_after}
+use Rattle.prevalence_store.specs.meaning.Functions.{functions_of}
+use Rattle.prevalence_store.specs.calls.Serve.{IsOver}
+use Rattle.prevalence_store.specs.calls.Store.{Session}
+use Rattle.prevalence_store.proofs.steps.Renewing.{fits_at_once, fits_from, renewal_stops, stops_at_once, tried_after}
 use Rattle.prevalence_store.proofs.store.Store.fit_form.Goals as goal
 
 pub returns-in-Ok-clause-fits : goal.returns-in-Ok-clause-fits

@@ -1,5 +1,5 @@
-use Rattle.prevalence_store.specs.Turns.{IsLine, IsLineOf}
-use Rattle.prevalence_store.proofs.Turning.{line_inside, ok_map}
+use Rattle.prevalence_store.specs.steps.Output.{IsLine, IsLineOf}
+use Rattle.prevalence_store.proofs.steps.Endings.{line_inside, ok_map}
 use Rattle.prevalence_store.proofs.store.Store.line.Goals as goal
 
 pub returns-clause-line : goal.returns-clause-line

@@ -2,14 +2,14 @@ use Rattle.std.proofs.Common.{List, ◌+◌, [], ◌∷◌, ◌++◌, take, sym,
 use Rattle.std.specs.List.{All}
 use Rattle.std.proofs.lemmas.List.{take_all, take_more}
 use Rattle.std.proofs.lemmas.List.Elements.{All-append, All-cons, All-nil}
-use Rattle.prevalence_store.specs.Execution.{IsProperOutcome}
+use Rattle.prevalence_store.specs.calls.Execute.{IsProperOutcome}
 use Rattle.prevalence_store.specs.declared.outcome.Outcome.{Outcome}
 use Rattle.prevalence_store.specs.declared.step.Step.{Step}
 use Rattle.prevalence_store.specs.declared.mode.Mode.TheVariants.{Current}
 use Rattle.prevalence_store.specs.declared.step.Step.TheVariants.{Form}
-use Rattle.prevalence_store.specs.Functions.{functions_of}
-use Rattle.prevalence_store.specs.Runs.{TakesSteps}
-use Rattle.prevalence_store.proofs.Running.{steps_more, steps_survive}
+use Rattle.prevalence_store.specs.meaning.Functions.{functions_of}
+use Rattle.prevalence_store.specs.calls.Run.{TakesSteps}
+use Rattle.prevalence_store.proofs.calls.Running.{steps_more, steps_survive}
 use Rattle.prevalence_store.proofs.store.Store.run.Goals as goal
 
 pub steps-preserved : goal.steps-preserved

@@ -1,8 +1,8 @@
 use Rattle.std.proofs.Common.{◌≡◌, length, take, vec_capacity, vec_len}
 use Rattle.std.specs.List.{All}
-use Rattle.prevalence_store.specs.Execution.{IsProperOutcome}
-use Rattle.prevalence_store.specs.Functions.{functions_of}
-use Rattle.prevalence_store.specs.Runs.{TakesSteps}
+use Rattle.prevalence_store.specs.calls.Execute.{IsProperOutcome}
+use Rattle.prevalence_store.specs.meaning.Functions.{functions_of}
+use Rattle.prevalence_store.specs.calls.Run.{TakesSteps}
 use Rattle.prevalence_store.proofs.store.Store.run.Given as goal
 
 -- the steps so far have their outcomes, and there is room for the others

@@ -1,10 +1,12 @@
 use Rattle.std.proofs.Common.{rules, [], ◌++◌, None, Some, take, refl, subst, sym, ◌∙◌, arith}
 use Rattle.std.specs.Io.KnownBytes.{Consumes}
-use Rattle.prevalence_store.specs.Functions.{functions_of}
-use Rattle.prevalence_store.specs.Pacing.{Pace, first_pace}
-use Rattle.prevalence_store.specs.Turns.{GoesOn, pace_of}
-use Rattle.prevalence_store.proofs.Answering.{end_both, more_both, nothing_answered, unread_after}
-use Rattle.prevalence_store.proofs.Inputs.{decided_input, ended_input, consumes_none, keeps_same, left_both, unread_input}
+use Rattle.prevalence_store.specs.meaning.Functions.{functions_of}
+use Rattle.prevalence_store.specs.calls.Pace.{Pace, first_pace}
+use Rattle.prevalence_store.specs.steps.Serve.{GoesOn}
+use Rattle.prevalence_store.specs.steps.Schedule.{pace_of}
+use Rattle.prevalence_store.proofs.calls.Executing.{known_world}
+use Rattle.prevalence_store.proofs.steps.Answering.{end_both, more_both, nothing_answered, pending_again, unread_after}
+use Rattle.prevalence_store.proofs.steps.Inputs.{decided_input, ended_input, consumes_none, keeps_same, left_both, unread_input}
 use Rattle.prevalence_store.proofs.store.Store.serve.Goals as goal
 
 pub reads-init : goal.reads-init
@@ -26,6 +28,26 @@ reads-init g c = record {
         ),
       );
 }
+
+pub answer_end-requires-clause-pending : goal.answer_end-requires-clause-pending
+answer_end-requires-clause-pending g c =
+    let functions = functions_of g.R.Meaning.Meaning.names g.R.Meaning.Meaning.way g.R.Meaning.Meaning.answer in
+    let old = known_world c.args.self.now.world (search rules) in
+    let far = c.reads.invariant.far old.0 old.1 in record {
+      known = c.reads.invariant.known;
+      some = pending_again functions g.D.Disk.state (first_pace c.args.snapshot_every) (pace_of c.reads.schedule) c.args.self.now c.reads.self old.0 c.args.mode far.0
+          (g.W.Write.contents c.args.writer.now) (g.W.Write.contents c.reads.writer) c.reads.pending [] far.1.0;
+    }
+
+pub answer_piece-requires-clause-pending : goal.answer_piece-requires-clause-pending
+answer_piece-requires-clause-pending g c =
+    let functions = functions_of g.R.Meaning.Meaning.names g.R.Meaning.Meaning.way g.R.Meaning.Meaning.answer in
+    let old = known_world c.args.self.now.world (search rules) in
+    let far = c.reads.invariant.far old.0 old.1 in record {
+      known = c.reads.invariant.known;
+      some = pending_again functions g.D.Disk.state (first_pace c.args.snapshot_every) (pace_of c.reads.schedule) c.args.self.now c.reads.self old.0 c.args.mode far.0
+          (g.W.Write.contents c.args.writer.now) (g.W.Write.contents c.reads.writer) c.reads.pending [] far.1.0;
+    }
 
 pub returns-in-Err-clause-serves : goal.returns-in-Err-clause-serves
 returns-in-Err-clause-serves g c = λ w known.

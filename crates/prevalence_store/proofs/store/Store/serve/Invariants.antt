@@ -1,9 +1,10 @@
 use Rattle.std.proofs.Common.{◌≡◌, ℕ, ◌*◌, ◌-◌, ◌≤◌, List, [], ◌++◌, Some, IsSome}
 use Rattle.plist_state.specs.State.{State as World}
 use Rattle.form_reader.specs.Reader.{fed}
-use Rattle.prevalence_store.specs.Functions.{functions_of}
-use Rattle.prevalence_store.specs.Pacing.{first_pace}
-use Rattle.prevalence_store.specs.Turns.{GoesOn, pace_of}
+use Rattle.prevalence_store.specs.meaning.Functions.{functions_of}
+use Rattle.prevalence_store.specs.calls.Pace.{first_pace}
+use Rattle.prevalence_store.specs.steps.Serve.{GoesOn}
+use Rattle.prevalence_store.specs.steps.Schedule.{pace_of}
 use Rattle.prevalence_store.proofs.store.Store.serve.Given as goal
 
 -- what was read was answered, as far as it decides; and what is left to read

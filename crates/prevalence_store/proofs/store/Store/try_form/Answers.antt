@@ -2,33 +2,30 @@ use Rattle.std.proofs.Common.{refl, subst}
 use Rattle.lisp_object.specs.Datum.{object_of}
 use Rattle.plist_state.specs.Sound.{IsSound}
 use Rattle.plist_state.specs.State.{State as World}
-use Rattle.prevalence_store.specs.Functions.{functions_of}
-use Rattle.prevalence_store.specs.Streams.{Writes, WritesPart}
-use Rattle.prevalence_store.proofs.Executing.{known_world, world_inside}
-use Rattle.prevalence_store.proofs.Pendings.{begins_fits, begins_whole, begins_within}
-use Rattle.prevalence_store.proofs.Turning.{answer_proper, form_answered, form_stops, form_unwritten, full_unchanged, line_known}
+use Rattle.prevalence_store.specs.meaning.Functions.{functions_of}
+use Rattle.prevalence_store.specs.calls.Streams.{Writes, WritesPart}
+use Rattle.prevalence_store.proofs.calls.Executing.{known_world, world_inside}
+use Rattle.prevalence_store.proofs.steps.Pendings.{begins_fits, begins_whole}
+use Rattle.prevalence_store.proofs.steps.FormAnswers.{answer_proper, form_answered, form_stops, form_unwritten, full_unchanged, line_known}
 use Rattle.prevalence_store.proofs.store.Store.try_form.Goals as goal
 
-pub take_form-answer-requires-clause-fits : goal.take_form-answer-requires-clause-fits
-take_form-answer-requires-clause-fits g c = λ w known.
+pub take_form-answer-requires : goal.take_form-answer-requires
+take_form-answer-requires g c =
     let functions = functions_of g.R.Meaning.Meaning.names g.R.Meaning.Meaning.way g.R.Meaning.Meaning.answer in
-    let b = c.requires.form.read w known in
-    let inside = c.self.inside in
-    let same = world_inside inside.failed inside.log inside.world.0 w inside.macros c.args.self.now c.self.view_is known in
-    begins_fits functions w c.args.mode b.0 (object_of c.args.datum.now) c.args.own.now b.1.0 b.1.1 (subst (λ (v : World). IsSound v) same c.soundness.ensures.present)
-
-pub take_form-answer-requires-clause-within : goal.take_form-answer-requires-clause-within
-take_form-answer-requires-clause-within g c =
-    let functions = functions_of g.R.Meaning.Meaning.names g.R.Meaning.Meaning.way g.R.Meaning.Meaning.answer in
-    let here = known_world c.args.self.now.world c.requires.form.known in
-    let b = c.requires.form.read here.0 here.1 in
-    begins_within functions here.0 c.args.mode b.0 (object_of c.args.datum.now) c.args.own.now b.1.0 b.1.1
-
-pub take_form-answer-requires-clause-whole : goal.take_form-answer-requires-clause-whole
-take_form-answer-requires-clause-whole g c = λ w known.
-    let functions = functions_of g.R.Meaning.Meaning.names g.R.Meaning.Meaning.way g.R.Meaning.Meaning.answer in
-    let b = c.requires.form.read w known in
-    begins_whole functions w c.args.mode b.0 (object_of c.args.datum.now) c.args.own.now b.1.0 b.1.1
+    let inside = c.self.inside in record {
+      form = record {
+        known = c.requires.form.known;
+        read = λ w known.
+            let b = c.requires.form.read w known in
+            begins_whole functions w c.args.mode b.0 (object_of c.args.datum.now) c.args.own.now b.1.0 b.1.1;
+        proper = c.requires.form.proper;
+        sound = c.requires.form.sound;
+        fits = λ w known.
+            let b = c.requires.form.read w known in
+            let same = world_inside inside.failed inside.log inside.world.0 w inside.macros c.args.self.now c.self.view_is known in
+            begins_fits functions w c.args.mode b.0 (object_of c.args.datum.now) c.args.own.now b.1.0 b.1.1 (subst (λ (v : World). IsSound v) same c.soundness.ensures.present);
+      };
+    }
 
 pub line-requires : goal.line-requires
 line-requires g c = record {
@@ -37,7 +34,7 @@ line-requires g c = record {
       let here = known_world c.args.self.now.world c.requires.form.known in
       let e = c.take_form-answer.ensures in
       answer_proper functions g.D.Disk.state c.args.self.now c.take_form-answer.new.self here.0 c.args.mode c.args.own.now (object_of c.args.datum.now) c.take_form-answer.result
-      (record { accepted = e.accepted; cause = e.cause; unchanged = e.unchanged; fault = e.fault; survives = e.survives }) here.1 e.argument;
+      e.takes here.1 e.argument;
 }
 
 pub returns-in-Err-clause-tries : goal.returns-in-Err-clause-tries
@@ -46,7 +43,7 @@ returns-in-Err-clause-tries g c = λ w known text next begins.
     let e = c.take_form-answer.ensures in
     form_stops functions g.D.Disk.state g.met.D.Disk.sound c.args.self.now c.take_form-answer.new.self w c.args.mode text (g.W.Write.contents c.args.writer.now) (g.W.Write.contents c.args.writer.now)
     known begins.start begins.stop next (object_of c.args.datum.now) begins.reads c.args.own.now begins.is_own c.take_form-answer.result c.in-Err.number
-    (record { accepted = e.accepted; cause = e.cause; unchanged = e.unchanged; fault = e.fault; survives = e.survives }) c.in-Err.ensures.stop refl
+    e.takes c.in-Err.ensures.stop refl
 
 pub returns-in-Ok-write_line-clause-tries : goal.returns-in-Ok-write_line-clause-tries
 returns-in-Ok-write_line-clause-tries g c = λ w known text next begins.
@@ -54,7 +51,7 @@ returns-in-Ok-write_line-clause-tries g c = λ w known text next begins.
     let e = c.take_form-answer.ensures in
     form_answered functions g.D.Disk.state g.met.D.Disk.sound c.args.self.now c.take_form-answer.new.self w c.args.mode text (g.W.Write.contents c.args.writer.now) (g.W.Write.contents c.write_line.new.writer)
     known begins.start begins.stop next (object_of c.args.datum.now) begins.reads c.args.own.now begins.is_own c.take_form-answer.result c.in-Ok.line.items
-    (record { accepted = e.accepted; cause = e.cause; unchanged = e.unchanged; fault = e.fault; survives = e.survives }) c.in-Ok.ensures.line
+    e.takes c.in-Ok.ensures.line
     (subst (Writes (g.W.Write.contents c.args.writer.now) (g.W.Write.contents c.write_line.new.writer)) c.as_slice.ensures.value c.in-Ok-write_line.ensures.whole)
     c.was_logged.result c.was_logged.ensures
 
@@ -64,7 +61,7 @@ returns-in-Ok-write_line-clause-known g c =
     let here = known_world c.args.self.now.world c.requires.form.known in
     let e = c.take_form-answer.ensures in
     line_known functions g.D.Disk.state c.args.self.now c.take_form-answer.new.self here.0 c.args.mode c.args.own.now (object_of c.args.datum.now) c.take_form-answer.result c.in-Ok.line.items
-    (record { accepted = e.accepted; cause = e.cause; unchanged = e.unchanged; fault = e.fault; survives = e.survives }) c.in-Ok.ensures.line here.1
+    e.takes c.in-Ok.ensures.line here.1
 
 pub returns-clause-tries : goal.returns-clause-tries
 returns-clause-tries g c = λ w known text next begins.
@@ -72,10 +69,10 @@ returns-clause-tries g c = λ w known text next begins.
     let e = c.take_form-answer.ensures in
     form_unwritten functions g.D.Disk.state g.met.D.Disk.sound c.args.self.now c.take_form-answer.new.self w c.args.mode text (g.W.Write.contents c.args.writer.now) (g.W.Write.contents c.write_line.new.writer)
     known begins.start begins.stop next (object_of c.args.datum.now) begins.reads c.args.own.now begins.is_own c.take_form-answer.result c.in-Ok.line.items
-    (record { accepted = e.accepted; cause = e.cause; unchanged = e.unchanged; fault = e.fault; survives = e.survives }) c.in-Ok.ensures.line
+    e.takes c.in-Ok.ensures.line
     (subst (WritesPart (g.W.Write.contents c.args.writer.now) (g.W.Write.contents c.write_line.new.writer)) c.as_slice.ensures.value c.in-Err-write_line.ensures.part)
 
 pub returns-in-Err-clause-unchanged : goal.returns-in-Err-clause-unchanged
 returns-in-Err-clause-unchanged g c =
     let functions = functions_of g.R.Meaning.Meaning.names g.R.Meaning.Meaning.way g.R.Meaning.Meaning.answer in
-    full_unchanged functions c.args.self.now c.take_form-answer.new.self c.take_form-answer.result c.in-Err.number c.take_form-answer.ensures.unchanged c.in-Err.ensures.stop
+    full_unchanged functions c.args.self.now c.take_form-answer.new.self c.take_form-answer.result c.in-Err.number c.take_form-answer.ensures.takes.unchanged c.in-Err.ensures.stop

@@ -1,0 +1,155 @@
+-- From what was read and evaluated to what `execute` answers.
+use Rattle.std.proofs.Common.{◌≡◌, ℕ, ◌-◌, ◌<◌, ◌≤◌, Bool, false, true, cond, List, [], length, drop, Option, None, Some, IsSome, is_some, Ok, Err, refl, sym, ap, subst, ◌∙◌, inl, inr, arith, length-drop}
+use Rattle.std.proofs.lemmas.List.{length-take-le}
+use Rattle.std.proofs.lemmas.Bool.{eq-eqb, ne_eqb}
+use Rattle.disk_trait.specs.Disk.{State}
+use Rattle.disk_trait.specs.Half.{opposite_of}
+use Rattle.gate_log.specs.Place.{HalvesValue}
+use Rattle.lisp_object.specs.Object.{Object, IsSound}
+use Rattle.lisp_object.specs.declared.datum.Datum.{Datum}
+use Rattle.lisp_object.specs.Datum.{object_of, is_proper}
+use Rattle.form_reader.specs.declared.ending.ReadOutcome.{ReadOutcome}
+use Rattle.form_reader.specs.declared.ending.ReadOutcome.TheVariants.{Form as ReadForm}
+use Rattle.form_reader.specs.Reader.{IsOutcome}
+use Rattle.lisp_object.specs.declared.refusal.TheConstants.{NO_MEMORY, TEXT_LEFT_OVER}
+use Rattle.form_eval.specs.Acceptance.{accept}
+use Rattle.form_eval.specs.Evaluated.{done}
+use Rattle.form_eval.specs.declared.evaluated.Evaluated.{Evaluated}
+use Rattle.form_reader.specs.Reading.{Outcome as Reading, form}
+use Rattle.form_reader.proofs.Forms.{form_framed}
+use Rattle.plist_state.specs.State.{State as World}
+use Rattle.prevalence_store.specs.declared.failure.Failure.{Failure}
+use Rattle.prevalence_store.specs.declared.failure.Failure.TheVariants.{Refused, Full, DeviceFault, OutOfMemory}
+use Rattle.prevalence_store.specs.declared.mode.Mode.{Mode}
+use Rattle.prevalence_store.specs.declared.outcome.Outcome.TheVariants as outcome
+use Rattle.prevalence_store.specs.meaning.Acceptance.{Acceptance, accepts, accepted_of, acceptance_of, between, read_in, records_of, setting_in}
+use Rattle.prevalence_store.specs.steps.Failure.{failure_number, is_device, IsCause}
+use Rattle.prevalence_store.specs.calls.Execute.{Executes, DeviceFails, IsAccepted, Stores, SurvivesAs, taken_in}
+use Rattle.prevalence_store.specs.calls.Store.{Session, session_of}
+use Rattle.prevalence_store.specs.meaning.Functions.{Functions}
+
+-- an open store has a world
+pub known_world : (world : Option World) → IsSome world → (w : World) × (world ≡ Some w)
+known_world None known = cc
+known_world (Some w) known = (w, refl)
+
+-- the world of an open store is the one in memory
+pub world_inside : {D R : Type 0} (failed : Bool) (log : HalvesValue D) (v w : World) (macros : R) (now : Session D R) → session_of failed log v macros ≡ now
+    → now.world ≡ Some w → v ≡ w
+world_inside {D = D} {R = R} failed log v w macros now view known =
+    by_failed failed (ap (λ (s : Session D R). s.world) view ∙ known)
+  where
+    by_failed : (b : Bool) → cond b None (Some v) ≡ Some w → v ≡ w
+    by_failed true is = absurd (cc)
+    by_failed false is = cc
+
+-- an open store has met no device fault
+pub not_failed : {D R : Type 0} (failed : Bool) (log : HalvesValue D) (v : World) (macros : R) (now : Session D R) → session_of failed log v macros ≡ now
+    → IsSome now.world → failed ≡ false
+not_failed {D = D} {R = R} failed log v macros now view known = by_failed failed (ap (λ (s : Session D R). is_some s.world) view ∙ known) where
+  by_failed : (b : Bool) → is_some (cond b None (Some v)) ≡ true → b ≡ false
+  by_failed true is = absurd (cc)
+  by_failed false is = refl
+
+-- a text cut out between places within it is as long as they are apart
+pub length-between : (start «end» : ℕ) (text : List ℕ) → «end» ≤ length text → length (between start «end» text) ≡ «end» - start
+length-between start «end» text within =
+    let room : «end» - start ≤ length (drop start text) = rw (length-drop start text) (omega arith) in
+    length-take-le («end» - start) (drop start text) room
+
+-- what the reader answered as a form was read as this form
+pub form_read : (o : ReadOutcome) (read : Reading) (datum : Datum) (start «end» next : ℕ) → IsOutcome o read → o ≡ ReadForm datum start «end» next
+    → (read ≡ form (object_of datum) start «end» next) × (is_proper datum ≡ true) × IsSound (object_of datum)
+form_read o read datum start «end» next is form_is = subst (λ (p : ReadOutcome). IsOutcome p read) form_is is
+
+module _ (functions : Functions) where
+  -- acceptance, by what was read
+  pub accepts_by : (w : World) (mode : Mode) (text : List ℕ) (read : Reading) → read_in functions w mode text ≡ read
+      → accepts functions w mode text ≡ accepted_of functions w text read
+  accepts_by w mode text read is = ap (accepted_of functions w text) is
+
+  -- of a form that is the whole text
+  pub accepts_form : (w : World) (mode : Mode) (text : List ℕ) (x : Object) (start «end» next : ℕ)
+      → read_in functions w mode text ≡ form x start «end» next → next ≡ length text
+      → accepts functions w mode text ≡ acceptance_of (between start «end» text) (accept functions.names w x)
+  accepts_form w mode text x start «end» next is whole =
+      accepts_by w mode text (form x start «end» next) is ∙ rw (eq-eqb next (length text) whole) refl
+
+  -- of a form with more after it
+  pub leaves_over : (w : World) (mode : Mode) (text : List ℕ) (x : Object) (start «end» next : ℕ)
+      → read_in functions w mode text ≡ form x start «end» next → (next ≡ length text → ⊥) → accepts functions w mode text ≡ Err TEXT_LEFT_OVER
+  leaves_over w mode text x start «end» next is more =
+      accepts_by w mode text (form x start «end» next) is ∙ rw (ne_eqb next (length text) more) refl
+
+  -- where a form is in its text
+  pub form_places : (w : World) (mode : Mode) (text : List ℕ) (x : Object) (start «end» next : ℕ) → read_in functions w mode text ≡ form x start «end» next
+      → (start < «end») × («end» ≤ next) × (next ≤ length text)
+  form_places w mode text x start «end» next is =
+      let framed = form_framed (setting_in functions w mode) text x start «end» next is in
+      (framed.some, framed.after, framed.inside)
+
+  -- an object's own text, cut out of the text that it was read from, is that object whole
+  pub own_whole : (w : World) (mode : Mode) (text : List ℕ) (x : Object) (start «end» next : ℕ) → read_in functions w mode text ≡ form x start «end» next
+      → read_in functions w mode (between start «end» text) ≡ form x 0 (length (between start «end» text)) (length (between start «end» text))
+  own_whole w mode text x start «end» next is =
+      let framed = form_framed (setting_in functions w mode) text x start «end» next is in
+      let within : «end» ≤ length text = let a = framed.after in let b = framed.inside in omega arith in
+      subst (λ n. read_in functions w mode (between start «end» text) ≡ form x 0 n n) (sym (length-between start «end» text within)) framed.again
+
+  module _ {D R : Type 0} (state : D → State) (old new : Session D R) (w : World) (mode : Mode) (text : List ℕ) where
+    pub turned_down : (number : ℕ) → accepts functions w mode text ≡ Err number → new ≡ old → SurvivesAs functions state old new w [] 0
+        → Executes functions state old new w mode text (outcome.Refused number)
+    turned_down number refused same survives = inl (record { refused = refused; unchanged = same; survives = survives })
+
+    pub out_of_memory : new ≡ old → SurvivesAs functions state old new w [] 0 → Executes functions state old new w mode text (outcome.Refused NO_MEMORY)
+    out_of_memory same survives = inr (inr (inr (record { memory = refl; unchanged = same; survives = survives })))
+
+    -- of a form with this text of its own
+    module _ (own : List ℕ) (x : Object) (by : accepts functions w mode text ≡ acceptance_of own (accept functions.names w x)) where
+      -- what it was accepted as, by what it was evaluated to
+      abbrev of : Evaluated → World → Acceptance
+      of e given = record { value = object_of e.value; world = given; wrote = e.wrote; text = own }
+
+      -- the device has not failed, whether it wrote or not
+      stored_calm : (wrote : Bool) (given : World) → Stores state old new wrote mode own given → (state new.disk).failures ≡ (state old.disk).failures
+      stored_calm true given stored = stored.failures
+      stored_calm false given stored = ap (λ (s : Session D R). (state s.disk).failures) stored.0
+
+      -- it was evaluated, and logged if it wrote
+      pub accepted : (e : Evaluated) → (given : World) × (accept functions.names w x ≡ Ok (done e given)) × Stores state old new e.wrote mode own given
+          → SurvivesAs functions state old new w (records_of e.wrote mode own) (length (records_of e.wrote mode own))
+          → IsAccepted functions state old new w mode text (object_of e.value)
+      accepted e given survives = record {
+        given = of e given.0;
+        accepted = by ∙ ap (acceptance_of own) given.1;
+        answered = refl;
+        stored = given.2;
+        calm = stored_calm e.wrote given.0 given.2;
+        survives = survives;
+      }
+
+      -- it was not, and this is why
+      pub failed : (failure : Failure) → IsCause (accept functions.names w x) old.size old.limit (length own) failure
+          → (is_device failure ≡ false → new ≡ old) → (is_device failure ≡ true → DeviceFails state old new (opposite_of old.half))
+          → SurvivesAs functions state old new w (taken_in mode own (Err failure)) 0
+          → Executes functions state old new w mode text (outcome.Refused (failure_number failure))
+      failed (Refused number) cause same fault survives = turned_down number (by ∙ ap (acceptance_of own) cause) (same refl) survives
+      failed Full cause same fault survives = inr (inl (record {
+        full = refl;
+        given = record { value = cause.0.0.value; world = cause.0.0.state; wrote = cause.0.0.wrote; text = own };
+        accepted = by ∙ ap (acceptance_of own) cause.0.1;
+        wrote = cause.0.2;
+        over = cause.1;
+        unchanged = same refl;
+        survives = survives;
+      }))
+      failed DeviceFault cause same fault survives = inr (inr (inl (record {
+        device = refl;
+        given = record { value = cause.0.0.value; world = cause.0.0.state; wrote = cause.0.0.wrote; text = own };
+        accepted = by ∙ ap (acceptance_of own) cause.0.1;
+        wrote = cause.0.2;
+        fits = cause.1;
+        failed = fault refl;
+        survives = survives;
+      })))
+      failed OutOfMemory cause same fault survives = out_of_memory (same refl) survives

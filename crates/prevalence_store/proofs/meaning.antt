@@ -1,0 +1,4 @@
+-- On forms and worlds.
+pub mod Numbered
+pub mod Replaying
+pub mod Covering

@@ -1,0 +1,47 @@
+use Rattle.std.proofs.Common.{◌+◌, ◌++◌, take, sym, subst, arith}
+use Rattle.std.proofs.lemmas.List.{take_more}
+use Rattle.prevalence_store.specs.meaning.Functions.{functions_of}
+use Rattle.prevalence_store.specs.steps.Input.{Feeds}
+use Rattle.prevalence_store.specs.declared.session.input.Fed.{Fed}
+use Rattle.prevalence_store.proofs.steps.Pendings.{piece_more}
+use Rattle.prevalence_store.proofs.session.input.Pending.feed.Goals as goal
+
+pub bytes-preserved : goal.bytes-preserved
+bytes-preserved g c =
+    let invariant = c.bytes.invariant in
+    record {
+      counted = let same = invariant.counted in omega arith;
+      count = let one = c.in_ok-fed.ensures.count in let so_far = invariant.count in omega arith;
+      goes = λ bytes p.
+          let functions = functions_of g.R.Meaning.Meaning.names g.R.Meaning.Meaning.way g.R.Meaning.Meaning.answer in
+          let piece = c.args.piece.now in
+          let k = c.bytes.byte-index in
+          subst (λ (f : Fed). Feeds functions c.args.world.now.0 c.args.mode c.feed_byte.new.self (bytes ++ take (k + 1) piece) f) c.in-Nothing.is
+          (subst (λ t. Feeds functions c.args.world.now.0 c.args.mode c.feed_byte.new.self t c.in_ok-fed.fed) (piece_more bytes piece k _ (take_more piece k 0 c.bytes-test.true))
+          (c.in_ok-fed.ensures.feeds (bytes ++ take k piece) (invariant.goes bytes p)));
+    }
+
+pub returns-in_default : goal.returns-in_default
+returns-in_default g c =
+    let invariant = c.bytes.invariant in
+    let many = c.bytes-test.true in
+    let one = c.in_ok-fed.ensures.count in
+    let so_far = invariant.count in
+    let same = invariant.counted in
+    record {
+      feeds = λ bytes p.
+          let functions = functions_of g.R.Meaning.Meaning.names g.R.Meaning.Meaning.way g.R.Meaning.Meaning.answer in
+          let piece = c.args.piece.now in
+          let k = c.bytes.byte-index in
+          subst (λ n. Feeds functions c.args.world.now.0 c.args.mode c.feed_byte.new.self (bytes ++ take (n + 1) piece) c.in_ok-fed.fed) (sym same)
+          (subst (λ t. Feeds functions c.args.world.now.0 c.args.mode c.feed_byte.new.self t c.in_ok-fed.fed) (piece_more bytes piece k _ (take_more piece k 0 c.bytes-test.true))
+          (c.in_ok-fed.ensures.feeds (bytes ++ take k piece) (invariant.goes bytes p)));
+      part = record {
+        some = omega arith;
+        within = omega arith;
+        all = λ nothing. absurd (c.in_default.not-Nothing nothing);
+        sound = c.in_ok-fed.ensures.sound;
+        pending = omega arith;
+      };
+      count = omega arith;
+    }

@@ -1,0 +1,15 @@
+use Rattle.std.proofs.Common.{◌≡◌, ℕ, ◌+◌, ◌≤◌, List, ◌++◌, take}
+use Rattle.form_reader.specs.Reader.{fed}
+use Rattle.prevalence_store.specs.meaning.Functions.{functions_of}
+use Rattle.prevalence_store.specs.steps.Input.{IsPending}
+use Rattle.prevalence_store.proofs.session.input.Pending.feed.Given as goal
+
+-- the bytes so far decide nothing, and are pending
+abbrev pub invariant-bytes : goal.invariant-bytes
+invariant-bytes g l = record {
+  counted : l.count ≡ l.byte-index;
+  count : fed l.self.reader ≤ fed l.fn.self.reader + l.byte-index;
+  goes : (bytes : List ℕ)
+      → IsPending (functions_of g.R.Meaning.Meaning.names g.R.Meaning.Meaning.way g.R.Meaning.Meaning.answer) l.world.0 l.mode l.fn.self bytes
+      → IsPending (functions_of g.R.Meaning.Meaning.names g.R.Meaning.Meaning.way g.R.Meaning.Meaning.answer) l.world.0 l.mode l.self (bytes ++ take l.byte-index l.piece);
+}

@@ -1,0 +1,36 @@
+use Rattle.std.proofs.Common.{◌∷◌, [], ◌++◌, refl, ◌∙◌, arith}
+use Rattle.prevalence_store.specs.meaning.Functions.{functions_of}
+use Rattle.prevalence_store.proofs.steps.Pendings.{fed_places, has_form, kept_count, kept_more, dropped_within}
+use Rattle.prevalence_store.proofs.session.input.Pending.feed_byte.Goals as goal
+
+pub own_text-requires-clause-order : goal.own_text-requires-clause-order
+own_text-requires-clause-order g c =
+    let functions = functions_of g.R.Meaning.Meaning.names g.R.Meaning.Meaning.way g.R.Meaning.Meaning.answer in
+    let p = c.requires.pending in
+    let f = c.in-Form in
+    let places = fed_places functions c.args.world.now.0 c.args.mode c.args.self.now p.0 p.1 c.args.byte c.step_in.new.reader c.in_ok-step_in.field-0 f.datum f.start f.end f.next f.is
+    (c.in_ok-step_in.ensures.steps p.0 p.1.after) c.in_ok-step_in.ensures.begun in
+    let order = places.order in omega arith
+
+pub own_text-requires-clause-within : goal.own_text-requires-clause-within
+own_text-requires-clause-within g c =
+    let functions = functions_of g.R.Meaning.Meaning.names g.R.Meaning.Meaning.way g.R.Meaning.Meaning.answer in
+    let p = c.requires.pending in
+    let f = c.in-Form in
+    let places = fed_places functions c.args.world.now.0 c.args.mode c.args.self.now p.0 p.1 c.args.byte c.step_in.new.reader c.in_ok-step_in.field-0 f.datum f.start f.end f.next f.is
+    (c.in_ok-step_in.ensures.steps p.0 p.1.after) c.in_ok-step_in.ensures.begun in
+    omega (arith, places.within, places.after, kept_count functions c.args.world.now.0 c.args.mode c.args.self.now p.0 p.1, c.as_slice.ensures.len, c.in_ok-push.ensures.len, c.args.self.now.text.ok.0)
+
+pub returns-in_ok-own-in-Form-clause-feeds : goal.returns-in_ok-own-in-Form-clause-feeds
+returns-in_ok-own-in-Form-clause-feeds g c = λ bytes p.
+    let functions = functions_of g.R.Meaning.Meaning.names g.R.Meaning.Meaning.way g.R.Meaning.Meaning.answer in
+    let w = c.args.world.now.0 in
+    let f = c.in-Form in
+    let steps = c.in_ok-step_in.ensures.steps bytes p.after in
+    let places = fed_places functions w c.args.mode c.args.self.now bytes p c.args.byte c.step_in.new.reader c.in_ok-step_in.field-0 f.datum f.start f.end f.next f.is
+    steps c.in_ok-step_in.ensures.begun in
+    has_form functions w c.args.mode c.args.self.now bytes p c.args.byte c.step_in.new.reader c.in_ok-step_in.field-0 f.datum f.start f.end f.next f.is steps
+    _ c.in_ok-own-in-Form.own.items c.len.result places refl c.clear.ensures.items refl (c.step_in.ensures.limits ∙ p.limits)
+    (omega (arith, kept_count functions w c.args.mode c.args.self.now bytes p, c.len.ensures, c.in_ok-push.ensures.len, c.args.self.now.text.ok.0))
+    (c.in_ok-own-in-Form.ensures (bytes ++ c.args.byte ∷ [])
+    (c.as_slice.ensures.value ∙ c.in_ok-push.ensures.items ∙ kept_more c.args.self.now.text.items bytes c.args.byte c.args.self.now.dropped (dropped_within functions w c.args.mode c.args.self.now bytes p) p.kept))

@@ -1,0 +1,35 @@
+use Rattle.std.proofs.Common.{arith}
+use Rattle.lisp_object.specs.Datum.{object_of}
+use Rattle.prevalence_store.specs.meaning.Acceptance.{read_in}
+use Rattle.prevalence_store.specs.meaning.Functions.{functions_of}
+use Rattle.prevalence_store.proofs.calls.Executing.{form_read}
+use Rattle.prevalence_store.proofs.steps.Pendings.{kept_count, last_places}
+use Rattle.prevalence_store.proofs.session.input.Pending.finish.Goals as goal
+
+pub own_text-requires-clause-kept : goal.own_text-requires-clause-kept
+own_text-requires-clause-kept g c =
+    let functions = functions_of g.R.Meaning.Meaning.names g.R.Meaning.Meaning.way g.R.Meaning.Meaning.answer in
+    let w = c.args.world.now.0 in
+    let p = c.requires.pending in
+    let f = c.in-Form in
+    let read = form_read _ (read_in functions w c.args.mode p.0) f.datum f.start f.end f.next (c.in_ok-finish_in.ensures p.0 p.1.after) f.is in
+    (last_places functions w c.args.mode c.args.self p.0 p.1 (object_of f.datum) f.start f.end f.next read.0).0
+
+pub own_text-requires-clause-order : goal.own_text-requires-clause-order
+own_text-requires-clause-order g c =
+    let functions = functions_of g.R.Meaning.Meaning.names g.R.Meaning.Meaning.way g.R.Meaning.Meaning.answer in
+    let w = c.args.world.now.0 in
+    let p = c.requires.pending in
+    let f = c.in-Form in
+    let read = form_read _ (read_in functions w c.args.mode p.0) f.datum f.start f.end f.next (c.in_ok-finish_in.ensures p.0 p.1.after) f.is in
+    (last_places functions w c.args.mode c.args.self p.0 p.1 (object_of f.datum) f.start f.end f.next read.0).1
+
+pub own_text-requires-clause-within : goal.own_text-requires-clause-within
+own_text-requires-clause-within g c =
+    let functions = functions_of g.R.Meaning.Meaning.names g.R.Meaning.Meaning.way g.R.Meaning.Meaning.answer in
+    let w = c.args.world.now.0 in
+    let p = c.requires.pending in
+    let f = c.in-Form in
+    let read = form_read _ (read_in functions w c.args.mode p.0) f.datum f.start f.end f.next (c.in_ok-finish_in.ensures p.0 p.1.after) f.is in
+    let places = last_places functions w c.args.mode c.args.self p.0 p.1 (object_of f.datum) f.start f.end f.next read.0 in
+    omega (arith, places.2, kept_count functions w c.args.mode c.args.self p.0 p.1, c.as_slice.ensures.len, c.args.self.text.ok.0)

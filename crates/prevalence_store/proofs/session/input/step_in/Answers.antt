@@ -1,0 +1,12 @@
+use Rattle.std.proofs.Common.{◌∷◌, [], ◌++◌, subst, IfOk}
+use Rattle.form_reader.specs.Reader.{IsAfter, Steps}
+use Rattle.form_reader.specs.Setting.{Setting}
+use Rattle.prevalence_store.proofs.steps.Pendings.{called_setting}
+use Rattle.prevalence_store.proofs.session.input.step_in.Goals as goal
+
+pub returns-clause-steps : goal.returns-clause-steps
+returns-clause-steps g c = λ bytes.
+    subst (λ (s : Setting). IsAfter s c.args.reader.now bytes → IfOk c.step.result (Steps s c.step.new.self (bytes ++ c.args.byte ∷ [])))
+    (called_setting c.args.world.now.0 c.args.mode g.R.Meaning.Meaning.names (g.R.MacroFunctions.registered c.args.macros.now) g.R.Meaning.Meaning.way g.R.Meaning.Meaning.answer
+    _ _ _ _ c.requires.whole (g.met.R.MacroFunctions.known c.args.macros.now c.requires.answers) c.requires.limits c.requires.table c.packages.ensures c.package_in-package.ensures.name)
+    (c.step.ensures.steps bytes)

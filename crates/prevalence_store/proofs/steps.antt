@@ -1,0 +1,12 @@
+-- From what the functions below the calls do to what the calls answer.
+pub mod Fitting
+pub mod Committing
+pub mod Loading
+pub mod Pendings
+pub mod Endings
+pub mod FormAnswers
+pub mod Pacing
+pub mod Renewing
+pub mod Pieces
+pub mod Answering
+pub mod Inputs

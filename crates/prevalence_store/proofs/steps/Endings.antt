@@ -1,0 +1,119 @@
+-- A session in which no form was taken, and what is written of a line.
+use Rattle.std.proofs.Common.{◌≡◌, ◌≢◌, ℕ, Bool, List, [], ◌++◌, Option, None, Some, Result, Ok, Err, IfOk, refl, sym, ap, subst, ◌∙◌, inl, inr, append-nil, arith}
+use Rattle.std.specs.Option.{option_map}
+use Rattle.disk_trait.specs.Disk.{State, IsHonest, IsSound}
+use Rattle.disk_trait.specs.Half.{opposite_of}
+use Rattle.lisp_object.specs.declared.refusal.TheConstants.{INPUT, NO_MEMORY}
+use Rattle.form_eval.specs.declared.evaluated.Evaluated.{Evaluated}
+use Rattle.form_reader.specs.Reader.{MayGoOn}
+use Rattle.form_reader.specs.Reading.{form, empty, refused}
+use Rattle.plist_state.specs.State.{State as World}
+use Rattle.prevalence_store.specs.declared.failure.Failure.{Failure}
+use Rattle.prevalence_store.specs.declared.mode.Mode.{Mode}
+use Rattle.prevalence_store.specs.declared.outcome.Ending.{Ending}
+use Rattle.prevalence_store.specs.declared.outcome.Ending.TheVariants.{End, Reader, Store}
+use Rattle.prevalence_store.specs.meaning.Acceptance.{after, read_in}
+use Rattle.prevalence_store.specs.meaning.Answers.{Progress, after_forms, begun, last_line, one_form, onward, refusal_line}
+use Rattle.prevalence_store.specs.calls.Serve.{Ends, IsAfter, Serves}
+use Rattle.gate_log.specs.Place.{HalvesValue}
+use Rattle.prevalence_store.specs.calls.Store.{Session, Describes, session_of}
+use Rattle.prevalence_store.proofs.calls.Executing.{world_inside}
+use Rattle.prevalence_store.specs.calls.Streams.{Writes, WritesPart}
+use Rattle.prevalence_store.specs.steps.Answer.{AnswersFault}
+use Rattle.prevalence_store.specs.steps.Output.{IsLine, IsLineOf}
+use Rattle.prevalence_store.proofs.calls.LeftAlone.{alone_still}
+use Rattle.prevalence_store.proofs.Surviving.{unchanged_survives}
+use Rattle.prevalence_store.specs.meaning.Functions.{Functions}
+
+pub writes_nothing : (held written : Option (List ℕ)) → written ≡ held → Writes held written []
+writes_nothing held written same = λ bytes is. same ∙ is ∙ ap (λ t. Some t) (sym (append-nil bytes))
+
+pub part_of : (held written : Option (List ℕ)) (text : List ℕ) → text ≢ [] → WritesPart held written text
+    → (front : List ℕ) × (rest : List ℕ) × (text ≡ front ++ rest) × (rest ≢ []) × Writes held written front
+part_of None written text some part = ([], text, refl, some, λ bytes is. absurd (cc))
+part_of (Some bytes) written text some part =
+    let p = part bytes refl in
+    (p.front, p.rest, p.parts, p.more, λ others is. let same : bytes ≡ others = cc in subst (λ b. written ≡ Some (b ++ p.front)) same p.written)
+
+-- the line of an answer, in the world in memory
+pub line_inside : {D R : Type 0} (failed : Bool) (log : HalvesValue D) (w : World) (macros : R) (now : Session D R) → session_of failed log w macros ≡ now
+    → (answer : Result Evaluated Failure) (line : List ℕ) → IsLineOf w answer line → IsLine now answer line
+line_inside failed log w macros now view answer line is = record { world = w; one = λ v known. sym (world_inside failed log w v macros now view known); line_of = is }
+
+pub ok_map : {V E : Type 0} (P Q : V → Type 0) (r : Result V E) → ((v : V) → P v → Q v) → IfOk r P → IfOk r Q
+ok_map P Q (Ok v) f is = f v is
+ok_map P Q (Err e) f is = tt
+
+module _ (functions : Functions) where
+  -- ---- what was written
+
+  -- the world of the text's first form
+  pub after_one_form : (w : World) (mode : Mode) (text : List ℕ) (p : Progress) → one_form functions w mode text (read_in functions w mode text) ≡ Some p → after_forms functions 1 w mode text ≡ Some p
+  after_one_form w mode text p is = ap (option_map (onward (begun w text))) is
+
+  module _ {D R : Type 0} (state : D → State) (sound : (d : D) → IsHonest (state d) → IsSound (state d)) (old new : Session D R) (w : World) (mode : Mode) (text : List ℕ) (held written : Option (List ℕ))
+      (known : old.world ≡ Some w) where
+    -- nothing was taken
+    pub after_none : (rest lines : List ℕ) → new ≡ old → IsAfter functions state old new w (record { world = w; rest = rest; taken = []; lines = lines })
+    after_none rest lines same =
+        subst (λ (s : Session D R). IsAfter functions state old s w (record { world = w; rest = rest; taken = []; lines = lines })) (sym same) (record {
+          left = known;
+          records = refl;
+          limit = refl;
+          macros = refl;
+          failures = refl;
+          log = inl (record {
+            half = refl;
+            generation = refl;
+            record_count = omega arith;
+            size = omega arith;
+            fits = omega arith;
+            described = λ k claims told. subst (λ entries. Describes old (record k { entries = entries }) (state old.disk).reads) (sym (append-nil k.entries)) told;
+            other = λ honest. alone_still (opposite_of old.half) (state old.disk) (sound old.disk honest);
+            untouched = λ is. refl;
+          });
+        })
+
+    unfoldable pub nothing : (ending : Ending) (part : List ℕ) → new ≡ old → Writes held written part
+        → Ends functions state old new w mode text held written 0 (begun w text) 0 (begun w text) part ending → Serves functions state old new w mode text held written ending
+    nothing ending part same writes ends = record {
+      forms = 0;
+      far = begun w text;
+      far_is = refl;
+      lines = 0;
+      answered = begun w text;
+      answered_is = refl;
+      at_most = omega arith;
+      in_turn = omega arith;
+      part = part;
+      output = writes;
+      survives = unchanged_survives functions state sound old new w same;
+      ends = ends;
+    }
+
+    unfoldable pub no_memory : new ≡ old → written ≡ held → Serves functions state old new w mode text held written (Store NO_MEMORY)
+    no_memory same quiet = nothing (Store NO_MEMORY) [] same (writes_nothing held written quiet)
+        (inr (inr (inr (inr (inr (inr (record { memory = refl; no_part = refl; after = after_none text [] same })))))))
+
+    unfoldable pub done : new ≡ old → written ≡ held → empty ≡ read_in functions w mode text → Serves functions state old new w mode text held written End
+    done same quiet is = nothing End [] same (writes_nothing held written quiet)
+        (record { all = refl; no_part = refl; nothing_left = sym is; after = after_none text [] same })
+
+    pub unread : (number : ℕ) → number ≡ INPUT → MayGoOn text (read_in functions w mode text) → new ≡ old → written ≡ held → Serves functions state old new w mode text held written (Store number)
+    unread number is more same quiet = nothing (Store number) [] same (writes_nothing held written quiet)
+        (inr (inr (inr (inr (inl (record { input = is; all = refl; no_part = refl; more = more; after = after_none text [] same }))))))
+
+    -- the reader refused what the text begins with
+    unfoldable pub fault_answered : (number at : ℕ) → read_in functions w mode text ≡ refused number at → new ≡ old → (ending : Ending) → AnswersFault number held written ending
+        → Serves functions state old new w mode text held written ending
+    fault_answered number at is same End answers = absurd answers
+    fault_answered number at is same (Reader code) answers =
+        nothing (Reader code) (refusal_line number) same answers.1
+        (record { all = refl; at = at; reads = subst (λ n. read_in functions w mode text ≡ refused n at) (sym answers.0) is; line = ap refusal_line (sym answers.0); after = after_none text [] same })
+    fault_answered number at is same (Store code) (inl full) =
+        let part = part_of held written (refusal_line number) (λ none. absurd (cc)) full.1 in
+        nothing (Store code) part.0 same part.4
+        (inr (inr (inr (inr (inr (inl (record { output = full.0; unwritten = part.1; some_left = part.3; front = ap last_line is ∙ part.2; in_form = λ one. absurd (omega arith); after = after_none text [] same })))))))
+    fault_answered number at is same (Store code) (inr memory) =
+        nothing (Store code) [] same (writes_nothing held written memory.1)
+        (inr (inr (inr (inr (inr (inr (record { memory = memory.0; no_part = refl; after = after_none text [] same })))))))

@@ -1,0 +1,315 @@
+-- What the answer to a form is to a session.
+use Rattle.std.proofs.Common.{◌≡◌, ◌≢◌, ◌∷◌, ℕ, Bool, true, false, List, [], ◌++◌, length, drop, Option, Some, IsSome, is_some, Result, Ok, Err, IfOk, IfErr, refl, sym, ap, subst, ◌∙◌, inl, inr, append_assoc, arith}
+use Rattle.disk_trait.specs.Disk.{State, IsHonest, IsSound}
+use Rattle.disk_trait.specs.Half.{opposite_of}
+use Rattle.gate_log.specs.Layout.{Entry}
+use Rattle.lisp_object.specs.Object.{Object}
+use Rattle.lisp_object.specs.Datum.{object_of, is_proper}
+use Rattle.lisp_object.specs.declared.refusal.TheConstants.{LOG_FULL, OUTPUT, NO_MEMORY}
+use Rattle.form_eval.specs.Acceptance.{accept}
+use Rattle.form_eval.specs.Outcomes.{Done, Outcome as Evaluation}
+use Rattle.form_eval.specs.Evaluated.{IsArgument, done as done_of}
+use Rattle.form_eval.specs.declared.evaluated.Evaluated.{Evaluated}
+use Rattle.canon_printer.specs.Printed.{printed}
+use Rattle.form_reader.specs.Reading.{form}
+use Rattle.plist_state.specs.State.{State as World}
+use Rattle.prevalence_store.specs.declared.failure.Failure.{Failure}
+use Rattle.prevalence_store.specs.declared.failure.Failure.TheVariants.{Refused, Full, DeviceFault, OutOfMemory}
+use Rattle.prevalence_store.specs.declared.mode.Mode.{Mode}
+use Rattle.prevalence_store.specs.declared.outcome.Ending.TheVariants.{Store}
+use Rattle.prevalence_store.specs.meaning.Acceptance.{after, between, logged, read_in, records_of}
+use Rattle.prevalence_store.specs.steps.Failure.{is_device}
+use Rattle.prevalence_store.specs.steps.Commit.{TakesForm}
+use Rattle.prevalence_store.specs.calls.Execute.{DeviceFails, Stores, SurvivesAs, acknowledged_in, taken_in}
+use Rattle.prevalence_store.specs.meaning.Answers.{Progress, after_forms, begun, evaluated, last_line, one_form, refusal_line, value_line}
+use Rattle.prevalence_store.specs.calls.Pace.{fill_of}
+use Rattle.prevalence_store.specs.calls.Serve.{Ends, IsAfter, IsOver}
+use Rattle.prevalence_store.specs.calls.Store.{Session}
+use Rattle.prevalence_store.proofs.steps.Committing.{accepts-logged}
+use Rattle.prevalence_store.proofs.calls.Executing.{own_whole}
+use Rattle.prevalence_store.proofs.meaning.Replaying.{stepped}
+use Rattle.prevalence_store.specs.calls.Streams.{Writes, WritesPart}
+use Rattle.prevalence_store.specs.steps.Answer.{EndsTry, LeavesRecord, LogsAtOnce, StopsInForm, TriesForm, is_logged}
+use Rattle.prevalence_store.specs.steps.Output.{IsLine, IsStop}
+use Rattle.prevalence_store.proofs.Surviving.{fewer_survive, unchanged_survives}
+use Rattle.prevalence_store.specs.meaning.Functions.{Functions}
+use Rattle.prevalence_store.proofs.steps.Endings.{writes_nothing, part_of, after_one_form, after_none, nothing}
+
+-- if something comes first or last, there is something
+some_first : (xs ys : List ℕ) → xs ≢ [] → xs ++ ys ≢ []
+some_first [] ys some is = absurd (some refl)
+some_first (x ∷ xs) ys some is = absurd (cc)
+
+some_last : (xs : List ℕ) (y : ℕ) → xs ++ y ∷ [] ≢ []
+some_last [] y is = absurd (cc)
+some_last (x ∷ xs) y is = absurd (cc)
+
+some_line : (lines line : List ℕ) → line ≡ lines → lines ≢ [] → line ≢ []
+some_line lines line same some is = some (sym same ∙ is)
+
+module _ (functions : Functions) where
+  stores_left : {D R : Type 0} (state : D → State) (old new : Session D R) (wrote : Bool) (mode : Mode) (own : List ℕ) (given : World) → Stores state old new wrote mode own given → new.world ≡ Some given
+  stores_left state old new true mode own given stores = stores.left
+  stores_left state old new false mode own given stores = stores.1
+
+  value_lines : {D R : Type 0} (new : Session D R) (e : Evaluated) (line : List ℕ) (given : World) → new.world ≡ Some given → IsLine new (Ok e) line → line ≡ value_line given (object_of e.value)
+  value_lines new e line given left is = is.line_of ∙ ap (λ u. value_line u (object_of e.value)) (sym (is.one given left))
+
+  module _ {D R : Type 0} (state : D → State) (sound : (d : D) → IsHonest (state d) → IsSound (state d)) (old new : Session D R) (w : World) (mode : Mode) (text : List ℕ) (held written : Option (List ℕ))
+      (known : old.world ≡ Some w) (start stop next : ℕ) (x : Object) (is : read_in functions w mode text ≡ form x start stop next) (own : List ℕ) (own_is : own ≡ between start stop text) where
+    one_read : (given : Evaluation Object) → accept functions.names w x ≡ given
+        → one_form functions w mode text (read_in functions w mode text) ≡ Some (evaluated w mode own (drop next text) given)
+    one_read given valued = ap (one_form functions w mode text) is
+        ∙ (λ i. Some (evaluated w mode (sym own_is i) (drop next text) (valued i)))
+
+    one_is : (given : Evaluation Object) → accept functions.names w x ≡ given → after_forms functions 1 w mode text ≡ Some (evaluated w mode own (drop next text) given)
+    one_is given valued = after_one_form functions w mode text _ (one_read given valued)
+
+    -- its record makes the world that it left
+    record_makes : (d : Done Object) → accept functions.names w x ≡ Ok d → after functions w (logged mode own ∷ []) ≡ Some d.state
+    record_makes d valued =
+        let whole : read_in functions w mode own ≡ form x 0 (length own) (length own) =
+        subst (λ t. read_in functions w mode t ≡ form x 0 (length t) (length t)) (sym own_is) (own_whole functions w mode text x start stop next is) in
+        ap (stepped functions []) (accepts-logged functions w mode own x d whole valued)
+
+    after_stores : (e : Evaluated) (given : World) → accept functions.names w x ≡ Ok (done_of e given) → Stores state old new e.wrote mode own given
+        → IsAfter functions state old new w (evaluated w mode own (drop next text) (Ok (done_of e given)))
+    after_stores e given valued stores = by_wrote e.wrote stores where
+      by_wrote : (wrote : Bool) → Stores state old new wrote mode own given
+          → IsAfter functions state old new w (record { world = given; rest = drop next text; taken = records_of wrote mode own; lines = value_line given (object_of e.value) })
+      by_wrote true logs = record {
+        left = logs.left;
+        records = record_makes (done_of e given) valued;
+        limit = logs.limit;
+        macros = logs.macros;
+        failures = logs.failures;
+        log = inl (record {
+          half = logs.half;
+          generation = logs.generation;
+          record_count = logs.record_count;
+          size = let size = logs.size in omega arith;
+          fits = let fits = logs.fits in omega arith;
+          described = logs.described;
+          other = logs.other;
+          untouched = λ none. absurd (cc);
+        });
+      }
+      by_wrote false same =
+          let left : Some w ≡ Some given = sym known ∙ sym (ap (λ (s : Session D R). s.world) same.0) ∙ same.1 in
+          let here : w ≡ given = cc in
+          subst (λ v. IsAfter functions state old new w (record { world = v; rest = drop next text; taken = []; lines = value_line given (object_of e.value) })) here
+          (after_none functions state sound old new w mode text held written known (drop next text) (value_line given (object_of e.value)) same.0)
+
+    -- what it leaves in the half in use
+    leaves : (wrote : Bool) (given : World) → Stores state old new wrote mode own given
+        → LeavesRecord (LogsAtOnce old.limit (fill_of old) (fill_of new)) (records_of wrote mode own) (fill_of old) (fill_of new) wrote
+    leaves true given logs =
+        let size = logs.size in
+        let fits = logs.fits in
+        inr (refl, (logged mode own, refl, (omega arith, λ i. record { generation = logs.generation i; record_count = logs.record_count i; size = logs.size i })))
+    leaves false given same = inl (refl, refl, ap (λ (s : Session D R). fill_of s) same.0)
+
+    refused_leaves : new ≡ old → LeavesRecord (LogsAtOnce old.limit (fill_of old) (fill_of new)) [] (fill_of old) (fill_of new) false
+    refused_leaves same = inl (refl, refl, ap (λ (s : Session D R). fill_of s) same)
+
+    -- the form is answered, and the session goes on
+    form_is_answered : (answer : Result Evaluated Failure) (line : List ℕ) → TakesForm functions state old new mode own x answer → IsLine new answer line
+        → Writes held written line → TriesForm functions state old new w mode text held written (Ok (is_logged answer))
+    form_is_answered (Ok e) line of is_line writes =
+        let given = of.accepted w known in (
+          evaluated w mode own (drop next text) (Ok (done_of e given.0)),
+          record {
+            far_is = one_is (Ok (done_of e given.0)) given.1;
+            lines = subst (λ l. Writes held written l) (value_lines new e line given.0 (stores_left state old new e.wrote mode own given.0 given.2) is_line) writes;
+            after = after_stores e given.0 given.1 given.2;
+            survives = of.survives w;
+          },
+          leaves e.wrote given.0 given.2,
+        )
+    form_is_answered (Err (Refused number)) line of is_line writes =
+        let same = of.unchanged refl in (
+          evaluated w mode own (drop next text) (Err number),
+          record {
+            far_is = one_is (Err number) (of.cause w known);
+            lines = subst (λ l. Writes held written l) is_line.line_of writes;
+            after = after_none functions state sound old new w mode text held written known (drop next text) (refusal_line number) same;
+            survives = unchanged_survives functions state sound old new w same;
+          },
+          refused_leaves same,
+        )
+    form_is_answered (Err Full) line of is_line writes = absurd is_line.line_of
+    form_is_answered (Err DeviceFault) line of is_line writes = absurd is_line.line_of
+    form_is_answered (Err OutOfMemory) line of is_line writes = absurd is_line.line_of
+
+    pub form_answered : (answer : Result Evaluated Failure) (line : List ℕ) → TakesForm functions state old new mode own x answer → IsLine new answer line
+        → Writes held written line → (wrote : Bool) → wrote ≡ is_logged answer → TriesForm functions state old new w mode text held written (Ok wrote)
+    form_answered answer line of is_line writes wrote same =
+        subst (λ b. TriesForm functions state old new w mode text held written (Ok b)) (sym same) (form_is_answered answer line of is_line writes)
+
+    -- one form was taken, and not answered whole
+    unfoldable taken_only : (far : Progress) (part : List ℕ) (number : ℕ) (n : ℕ) → after_forms functions 1 w mode text ≡ Some far → Writes held written part
+        → SurvivesAs functions state old new w far.taken n → Ends functions state old new w mode text held written 1 far 0 (begun w text) part (Store number)
+        → StopsInForm functions state old new w mode text held written number
+    taken_only far part number n one writes survives ends = record {
+      serves = record {
+        forms = 1;
+        far = far;
+        far_is = one;
+        lines = 0;
+        answered = begun w text;
+        answered_is = refl;
+        at_most = omega arith;
+        in_turn = omega arith;
+        part = part;
+        output = writes;
+        survives = λ here claims keeps. fewer_survive functions (state old.disk) (state new.disk) w far.taken n 0 new.world (survives here claims keeps) (omega arith);
+        ends = ends;
+      };
+      in_form = λ output. refl;
+    }
+
+    -- the session has ended in the form, and this is left of it
+    abbrev Stops : ℕ → Type 0
+    Stops number = (stops : StopsInForm functions state old new w mode text held written number) × EndsTry functions state old new w mode text held written number stops
+
+    -- the writer failed in its line
+    unwritten_front : (lines line : List ℕ) (front rest more : List ℕ) → line ≡ lines → line ≡ front ++ rest → lines ++ more ≡ front ++ (rest ++ more)
+    unwritten_front lines line front rest more same parts = ap (λ t. t ++ more) (sym same ∙ parts) ∙ append_assoc front rest more
+
+    line_unwritten : (answer : Result Evaluated Failure) (line : List ℕ) → TakesForm functions state old new mode own x answer → IsLine new answer line
+        → WritesPart held written line → Stops OUTPUT
+    unfolding taken_only
+    line_unwritten (Ok e) line of is_line writes =
+        let given = of.accepted w known in
+        let same_line = value_lines new e line given.0 (stores_left state old new e.wrote mode own given.0 given.2) is_line in
+        let part = part_of held written line (some_line (value_line given.0 (object_of e.value)) line same_line (some_last (printed given.0.packages given.0.current_package (object_of e.value)) 10)) writes in
+        let far : Progress = evaluated w mode own (drop next text) (Ok (done_of e given.0)) in (
+          taken_only far part.0 OUTPUT (length (records_of e.wrote mode own)) (one_is (Ok (done_of e given.0)) given.1) part.4 (of.survives w)
+              (inr (inr (inr (inr (inr (inl (record {
+                output = refl;
+                unwritten = part.1 ++ last_line (read_in functions far.world mode far.rest);
+                some_left = some_first part.1 (last_line (read_in functions far.world mode far.rest)) part.3;
+                front = unwritten_front far.lines line part.0 part.1 (last_line (read_in functions far.world mode far.rest)) same_line part.2;
+                in_form = λ one. (part.1, part.3, sym same_line ∙ part.2);
+                after = after_stores e given.0 given.1 given.2;
+              }))))))),
+          inr (inl (refl, inl refl, (e.wrote, leaves e.wrote given.0 given.2))),
+        )
+    line_unwritten (Err (Refused number)) line of is_line writes =
+        let same = of.unchanged refl in
+        let part = part_of held written line (some_line (refusal_line number) line is_line.line_of (λ none. absurd (cc))) writes in
+        let far : Progress = evaluated w mode own (drop next text) (Err number) in (
+          taken_only far part.0 OUTPUT 0 (one_is (Err number) (of.cause w known)) part.4 (unchanged_survives functions state sound old new w same)
+              (inr (inr (inr (inr (inr (inl (record {
+                output = refl;
+                unwritten = part.1 ++ last_line (read_in functions far.world mode far.rest);
+                some_left = some_first part.1 (last_line (read_in functions far.world mode far.rest)) part.3;
+                front = unwritten_front far.lines line part.0 part.1 (last_line (read_in functions far.world mode far.rest)) is_line.line_of part.2;
+                in_form = λ one. (part.1, part.3, sym is_line.line_of ∙ part.2);
+                after = after_none functions state sound old new w mode text held written known (drop next text) (refusal_line number) same;
+              }))))))),
+          inr (inl (refl, inl refl, (false, refused_leaves same))),
+        )
+    line_unwritten (Err Full) line of is_line writes = absurd is_line.line_of
+    line_unwritten (Err DeviceFault) line of is_line writes = absurd is_line.line_of
+    line_unwritten (Err OutOfMemory) line of is_line writes = absurd is_line.line_of
+
+    -- there is no line
+    out_of_memory : (number : ℕ) → number ≡ NO_MEMORY → new ≡ old → written ≡ held → Stops number
+    unfolding nothing
+    out_of_memory number memory same quiet = (
+      record {
+        serves = nothing functions state sound old new w mode text held written known (Store number) [] same (writes_nothing held written quiet)
+            (inr (inr (inr (inr (inr (inr (record { memory = memory; no_part = refl; after = after_none functions state sound old new w mode text held written known text [] same })))))));
+        in_form = λ output. absurd (omega arith);
+      },
+      inl (memory, refl, ap (λ (s : Session D R). fill_of s) same),
+    )
+
+    records_written : (wrote : Bool) → wrote ≡ true → records_of wrote mode own ≡ logged mode own ∷ []
+    records_written wrote wrote_is = ap (λ b. records_of b mode own) wrote_is
+
+    stops_in : (answer : Result Evaluated Failure) (number : ℕ) → TakesForm functions state old new mode own x answer → IsStop answer number → number ≢ LOG_FULL → written ≡ held
+        → Stops number
+    unfolding taken_only
+    stops_in (Ok e) number of stop other quiet =
+        let given = of.accepted w known in (
+          taken_only (evaluated w mode own (drop next text) (Ok (done_of e given.0))) [] number (length (records_of e.wrote mode own)) (one_is (Ok (done_of e given.0)) given.1)
+              (writes_nothing held written quiet) (of.survives w)
+              (inr (inr (inr (inr (inr (inr (record { memory = stop; no_part = refl; after = after_stores e given.0 given.1 given.2 }))))))),
+          inr (inl (refl, inr stop, (e.wrote, leaves e.wrote given.0 given.2))),
+        )
+    stops_in (Err (Refused code)) number of stop other quiet = out_of_memory number stop (of.unchanged refl) quiet
+    stops_in (Err OutOfMemory) number of stop other quiet = out_of_memory number stop (of.unchanged refl) quiet
+    stops_in (Err Full) number of stop other quiet = absurd (other stop)
+    stops_in (Err DeviceFault) number of stop other quiet =
+        let why = of.cause w known in
+        let failed = of.fault refl in
+        let taken = records_written why.0.0.wrote why.0.2 in (
+          taken_only (evaluated w mode own (drop next text) (Ok why.0.0)) [] number 0 (one_is (Ok why.0.0) why.0.1) (writes_nothing held written quiet)
+              (subst (λ (es : List Entry). SurvivesAs functions state old new w es 0) (sym taken) (of.survives w))
+              (inl (record {
+                device = stop;
+                one_open = refl;
+                no_part = refl;
+                mid = old;
+                before = after_none functions state sound old old w mode text held held known text [] refl;
+                record_ = logged mode own;
+                was_accepted = taken;
+                fits = why.1;
+                failed = failed;
+              })),
+          inr (inr (stop, refl, refl, λ i. record { generation = failed.generation i; record_count = failed.record_count i; size = failed.size i })),
+        )
+
+    over_in : (answer : Result Evaluated Failure) (number : ℕ) → TakesForm functions state old new mode own x answer → IsStop answer number → number ≡ LOG_FULL → IsOver functions old w mode text
+    over_in (Ok e) number of stop full = absurd (omega arith)
+    over_in (Err (Refused code)) number of stop full = absurd (omega arith)
+    over_in (Err OutOfMemory) number of stop full = absurd (omega arith)
+    over_in (Err DeviceFault) number of stop full = absurd (omega arith)
+    over_in (Err Full) number of stop full =
+        let why = of.cause w known in
+        record {
+          next = evaluated w mode own (drop next text) (Ok why.0.0);
+          next_is = one_read (Ok why.0.0) why.0.1;
+          record_ = logged mode own;
+          is_taken = records_written why.0.0.wrote why.0.2;
+          over = why.1;
+        }
+
+    -- there is no line: the form has no room, or it has ended the session
+    pub form_stops : (answer : Result Evaluated Failure) (number : ℕ) → TakesForm functions state old new mode own x answer → IsStop answer number → written ≡ held
+        → TriesForm functions state old new w mode text held written (Err number)
+    form_stops answer number of stop quiet = (over_in answer number of stop, λ other. stops_in answer number of stop other quiet)
+
+    -- the writer failed
+    pub form_unwritten : (answer : Result Evaluated Failure) (line : List ℕ) → TakesForm functions state old new mode own x answer → IsLine new answer line
+        → WritesPart held written line → TriesForm functions state old new w mode text held written (Err OUTPUT)
+    form_unwritten answer line of is_line writes = (λ full. absurd (omega arith), λ other. line_unwritten answer line of is_line writes)
+
+  -- with the number 64 nothing was done
+  pub full_unchanged : {D R : Type 0} (old new : Session D R) (answer : Result Evaluated Failure) (number : ℕ) → IfErr answer (λ e. is_device e ≡ false → new ≡ old) → IsStop answer number
+      → number ≡ LOG_FULL → new ≡ old
+  full_unchanged old new (Ok e) number same stop full = absurd (omega arith)
+  full_unchanged old new (Err (Refused code)) number same stop full = same refl
+  full_unchanged old new (Err OutOfMemory) number same stop full = same refl
+  full_unchanged old new (Err DeviceFault) number same stop full = absurd (omega arith)
+  full_unchanged old new (Err Full) number same stop full = same refl
+
+  -- what is answered is proper
+  pub answer_proper : {D R : Type 0} (state : D → State) (old new : Session D R) (w : World) (mode : Mode) (own : List ℕ) (x : Object) (answer : Result Evaluated Failure)
+      → TakesForm functions state old new mode own x answer → old.world ≡ Some w → ((v : World) → new.world ≡ Some v → IfOk answer (λ e. IsArgument v.packages e.value))
+      → IfOk answer (λ e. is_proper e.value ≡ true)
+  answer_proper state old new w mode own x (Ok e) of known argument =
+      let given = of.accepted w known in (argument given.0 (stores_left state old new e.wrote mode own given.0 given.2)).proper
+  answer_proper state old new w mode own x (Err failure) of known argument = tt
+
+  -- a store whose form has a line has a world
+  pub line_known : {D R : Type 0} (state : D → State) (old new : Session D R) (w : World) (mode : Mode) (own : List ℕ) (x : Object) (answer : Result Evaluated Failure) (line : List ℕ)
+      → TakesForm functions state old new mode own x answer → IsLine new answer line → old.world ≡ Some w → IsSome new.world
+  line_known state old new w mode own x (Ok e) line of is_line known =
+      let given = of.accepted w known in ap is_some (stores_left state old new e.wrote mode own given.0 given.2)
+  line_known {D} {R} state old new w mode own x (Err (Refused number)) line of is_line known = ap (λ (s : Session D R). is_some s.world) (of.unchanged refl) ∙ ap is_some known
+  line_known state old new w mode own x (Err Full) line of is_line known = absurd is_line.line_of
+  line_known state old new w mode own x (Err DeviceFault) line of is_line known = absurd is_line.line_of
+  line_known state old new w mode own x (Err OutOfMemory) line of is_line known = absurd is_line.line_of

@@ -1,0 +1,191 @@
+-- A form that the bytes of a piece decide, or the end of the input.
+use Rattle.std.proofs.Common.{◌≡◌, ◌⊎◌, ℕ, zero, suc, ◌+◌, ◌-◌, ◌<◌, ◌≤◌, Bool, cond, List, [], ◌++◌, length, take, drop, Option, None, Some, Ok, Err, inl, inr, refl, sym, ap, subst, ◌∙◌, append_assoc, append-nil, length-append, length-drop, arith}
+use Rattle.std.proofs.lemmas.List.{take-append-drop, take-append-le, drop-append-le, drop_all, length-take-le}
+use Rattle.std.proofs.Math.Seq.{drop-append-add}
+use Rattle.disk_trait.specs.Disk.{State}
+use Rattle.form_eval.specs.Acceptance.{accept}
+use Rattle.form_eval.specs.Outcomes.{Outcome as Evaluation}
+use Rattle.lisp_object.specs.Object.{Object}
+use Rattle.plist_state.specs.State.{State as World}
+use Rattle.form_reader.specs.Reader.{fed}
+use Rattle.form_reader.specs.Reading.{form}
+use Rattle.prevalence_store.specs.declared.session.input.Pending.{Pending}
+use Rattle.prevalence_store.specs.declared.mode.Mode.{Mode}
+use Rattle.prevalence_store.specs.declared.outcome.Ending.{Ending}
+use Rattle.prevalence_store.specs.declared.outcome.Ending.TheVariants.{End}
+use Rattle.prevalence_store.specs.meaning.Acceptance.{between, read_in, setting_in}
+use Rattle.prevalence_store.specs.meaning.Functions.{Functions}
+use Rattle.prevalence_store.specs.meaning.Answers.{Progress, after_forms, evaluated, one_form}
+use Rattle.prevalence_store.specs.steps.Input.{HasForm, IsLastForm, IsPending}
+use Rattle.prevalence_store.specs.calls.Pace.{Pace}
+use Rattle.prevalence_store.specs.calls.Serve.{Serves, ServesInPace}
+use Rattle.prevalence_store.specs.calls.Store.{Session}
+use Rattle.prevalence_store.specs.steps.Serve.{GoesOn, MovesOn}
+use Rattle.prevalence_store.specs.steps.Answer.{AnswersForm, BeginsWith}
+use Rattle.prevalence_store.proofs.calls.Executing.{form_places}
+use Rattle.prevalence_store.specs.calls.Streams.{Writes}
+use Rattle.prevalence_store.proofs.steps.Pendings.{reads_none}
+use Rattle.prevalence_store.proofs.steps.Endings.{after_one_form}
+
+-- with more text after what is left
+abbrev pub longer : Progress → List ℕ → Progress
+longer far more = record far { rest = far.rest ++ more }
+
+-- the places of a form are the same in a text that goes on
+between_more : (start stop : ℕ) (text more : List ℕ) → start ≤ stop → stop ≤ length text → between start stop (text ++ more) ≡ between start stop text
+between_more start stop text more order within =
+    let room : stop - start ≤ length (drop start text) = rw (length-drop start text) (omega arith) in
+    ap (take (stop - start)) (drop-append-le start text more (omega arith)) ∙ take-append-le (stop - start) (drop start text) more room
+
+longer_evaluated : (w : World) (mode : Mode) (own rest more : List ℕ) (given : Evaluation Object) → evaluated w mode own (rest ++ more) given ≡ longer (evaluated w mode own rest given) more
+longer_evaluated w mode own rest more (Ok done) = refl
+longer_evaluated w mode own rest more (Err number) = refl
+
+rest_evaluated : (w : World) (mode : Mode) (own rest : List ℕ) (given : Evaluation Object) → (evaluated w mode own rest given).rest ≡ rest
+rest_evaluated w mode own rest (Ok done) = refl
+rest_evaluated w mode own rest (Err number) = refl
+
+-- a session, and how far its snapshots have come
+abbrev pub InPace : (functions : Functions) {D R : Type 0} (state : D → State) (pace : Pace) (old new : Session D R) (world : World) (mode : Mode) (text : List ℕ)
+    (held written : Option (List ℕ)) (ending : Ending) → Type 0
+InPace functions state pace old new world mode text held written ending =
+    (served : Serves functions state old new world mode text held written ending) × ServesInPace functions state pace old new world mode text held written ending served
+
+-- ---- a piece, and what of it was fed
+
+-- what was fed of a piece, and what is left of it
+pub piece_whole : (bytes piece : List ℕ) (n : ℕ) → (bytes ++ take n piece) ++ drop n piece ≡ bytes ++ piece
+piece_whole bytes piece n = append_assoc bytes (take n piece) (drop n piece) ∙ ap (λ t. bytes ++ t) (take-append-drop n piece)
+
+-- what is left of it after a form
+pub piece_left : (bytes piece : List ℕ) (n next count : ℕ) → next ≡ length bytes + count → count ≤ n → n ≤ length piece → drop next (bytes ++ take n piece) ++ drop n piece ≡ drop count piece
+piece_left bytes piece n next count is some within =
+    let many : length (take n piece) ≡ n = length-take-le n piece within in
+    ap (λ m. drop m (bytes ++ take n piece) ++ drop n piece) is
+    ∙ ap (λ t. t ++ drop n piece) (drop-append-add bytes (take n piece) count)
+    ∙ sym (drop-append-le count (take n piece) (drop n piece) (omega arith))
+    ∙ ap (drop count) (take-append-drop n piece)
+
+-- how much a session has still to take of a piece, for its measure: if something is pending, one turn more may take nothing
+abbrev pub to_take : (before many : ℕ) → ℕ
+to_take zero many = many + many
+to_take (suc n) many = suc (many + many)
+
+-- ---- a form that the bytes begin with, whatever follows them
+
+module _ (functions : Functions) (w : World) (mode : Mode) (pending : Pending) (text : List ℕ) (x : Object) (own : List ℕ) (left : Bool)
+    (has : HasForm functions w mode pending text x own left) where
+  next_within : has.next ≤ length text
+  next_within = let is = has.next_is in omega arith
+
+  reads_here : read_in functions w mode text ≡ form x has.start has.stop has.next
+  reads_here = ap (read_in functions w mode) (sym (append-nil text)) ∙ has.reads []
+
+  stop_within : (has.start < has.stop) × (has.stop ≤ has.next)
+  stop_within = let places = form_places functions w mode text x has.start has.stop has.next reads_here in (places.0, places.1)
+
+  abbrev given : Evaluation Object
+  given = accept functions.names w x
+
+  own_again : (more : List ℕ) → between has.start has.stop (text ++ more) ≡ between has.start has.stop text
+  own_again more = between_more has.start has.stop text more (let a = stop_within.0 in omega arith) (let a = stop_within.1 in let b = next_within in omega arith)
+
+  pub form_begins : (slice more : List ℕ) → slice ≡ own → BeginsWith functions w mode (text ++ more) x slice has.next
+  form_begins slice more same = record {
+    start = has.start;
+    stop = has.stop;
+    reads = has.reads more;
+    is_own = same ∙ has.is_own ∙ sym (own_again more);
+  }
+
+  pub form_begins_here : (slice : List ℕ) → slice ≡ own → BeginsWith functions w mode text x slice has.next
+  form_begins_here slice same = record { start = has.start; stop = has.stop; reads = reads_here; is_own = same ∙ has.is_own }
+
+  one_form_of : (t : List ℕ) → read_in functions w mode t ≡ form x has.start has.stop has.next
+      → after_forms functions 1 w mode t ≡ Some (evaluated w mode (between has.start has.stop t) (drop has.next t) given)
+  one_form_of t reads = after_one_form functions w mode t _ (ap (one_form functions w mode t) reads)
+
+  far_is_one : (far : Progress) → after_forms functions 1 w mode text ≡ Some far → far ≡ evaluated w mode (between has.start has.stop text) (drop has.next text) given
+  far_is_one far is = let same = sym is ∙ one_form_of text reads_here in cc
+
+  one_stays : (far : Progress) → after_forms functions 1 w mode text ≡ Some far → (more : List ℕ) → after_forms functions 1 w mode (text ++ more) ≡ Some (longer far more)
+  one_stays far is more =
+      one_form_of (text ++ more) (has.reads more)
+      ∙ (λ i. Some (evaluated w mode (own_again more i) (drop-append-le has.next text more next_within i) given))
+      ∙ ap (λ p. Some p) (longer_evaluated w mode (between has.start has.stop text) (drop has.next text) more given)
+      ∙ ap (λ p. Some (longer p more)) (sym (far_is_one far is))
+
+  one_rest : (far : Progress) → after_forms functions 1 w mode text ≡ Some far → far.rest ≡ drop has.next text
+  one_rest far is = ap (λ (p : Progress). p.rest) (far_is_one far is) ∙ rest_evaluated w mode (between has.start has.stop text) (drop has.next text) given
+
+  -- if a piece decides it, and so many bytes of the piece are taken
+  module _ (bytes piece : List ℕ) (n count : ℕ) (fed_is : text ≡ bytes ++ take n piece) (within : n ≤ length piece) (taken : count + cond left 1 0 ≡ n) where
+    pub next_is : has.next ≡ length bytes + count
+    next_is =
+        let many : length text ≡ length bytes + n = ap length fed_is ∙ length-append bytes (take n piece) ∙ ap (λ m. length bytes + m) (length-take-le n piece within) in
+        let all = has.next_is in
+        omega arith
+
+    pub form_takes : (old : Pending) → IsPending functions w mode old bytes → MovesOn (fed old.reader) (fed pending.reader) (length piece) (Ok count)
+    form_takes old before = (omega arith, rw none (omega arith), by_count count next_is) where
+      none : fed pending.reader ≡ 0
+      none = (has.none w mode).count
+
+      by_count : (k : ℕ) → has.next ≡ length bytes + k → (0 < k) ⊎ ((0 < fed old.reader) × (fed pending.reader ≡ 0))
+      by_count zero is = inr (let order = stop_within.0 in let after = stop_within.1 in let many = before.count in omega arith, none)
+      by_count (suc k) is = inl (omega arith)
+
+  module _ {D R : Type 0} (state : D → State) (pace later : Pace) (old new : Session D R) (a b : Option (List ℕ)) (answered : AnswersForm functions state old new w mode pace later text a b None) where
+    -- the form was answered, and what follows it is left
+    pub after_form : GoesOn functions state pace later old new w mode text a b pending (drop has.next text)
+    after_form = record {
+      forms = 1;
+      far = answered.0;
+      advances = answered.1;
+      paced = answered.2;
+      stays = one_stays answered.0 answered.1.far_is;
+      bytes = [];
+      rest = one_rest answered.0 answered.1.far_is;
+      is_pending = has.none answered.0.world mode;
+    }
+
+-- ---- the form that ends the input
+
+module _ (functions : Functions) (w : World) (mode : Mode) (text : List ℕ) (x : Object) (own : List ℕ) (last : IsLastForm functions w mode text x own) where
+  pub last_begins : (slice : List ℕ) → slice ≡ own → BeginsWith functions w mode text x slice (length text)
+  last_begins slice same = record { start = last.start; stop = last.stop; reads = last.reads; is_own = same ∙ last.is_own }
+
+  last_rest : (far : Progress) → after_forms functions 1 w mode text ≡ Some far → far.rest ≡ []
+  last_rest far is =
+      let given = accept functions.names w x in
+      let one = after_one_form functions w mode text _ (ap (one_form functions w mode text) last.reads) in
+      let same : far ≡ evaluated w mode (between last.start last.stop text) (drop (length text) text) given = let both = sym is ∙ one in cc in
+      ap (λ (p : Progress). p.rest) same ∙ rest_evaluated w mode (between last.start last.stop text) (drop (length text) text) given ∙ drop_all (length text) text (omega arith)
+
+  -- it was answered, and nothing is left
+  pub ended_form : {D R : Type 0} (state : D → State) (pace later : Pace) (old new : Session D R) (a b : Option (List ℕ)) → AnswersForm functions state old new w mode pace later text a b None
+      → InPace functions state pace old new w mode text a b End
+  ended_form state pace later old new a b answered =
+      let far : Progress = answered.0 in
+      let advances = answered.1 in (
+        record {
+          forms = 1;
+          far = far;
+          far_is = advances.far_is;
+          lines = 1;
+          answered = far;
+          answered_is = advances.far_is;
+          at_most = omega arith;
+          in_turn = omega arith;
+          part = [];
+          output = subst (Writes a b) (sym (append-nil far.lines)) advances.lines;
+          survives = advances.survives;
+          ends = record {
+            all = refl;
+            no_part = refl;
+            nothing_left = ap (read_in functions far.world mode) (last_rest far advances.far_is) ∙ reads_none (setting_in functions far.world mode);
+            after = advances.after;
+          };
+        },
+        (later, answered.2),
+      )

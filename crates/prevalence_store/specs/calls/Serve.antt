@@ -1,0 +1,247 @@
+-- How a session goes, and how it ends: one relation, with a case for each ending.
+use Rattle.std.specs.Prelude.{◌≡◌, ◌≢◌, ◌⊎◌, ℕ, zero, suc, ◌+◌, ◌≤◌, max, List, [], ◌∷◌, ◌++◌, length, Option, Some}
+use Rattle.std.specs.List.{sum_by}
+use Rattle.disk_trait.specs.Disk.{State, IsHonest}
+use Rattle.disk_trait.specs.Half.{opposite_of}
+use Rattle.disk_trait.specs.declared.half.Half.{Half}
+use Rattle.gate_log.specs.Layout.{Contents, Entry}
+use Rattle.lisp_object.specs.declared.refusal.TheConstants.{DEVICE, LOG_FULL, SNAPSHOT_TOO_LARGE, INPUT, OUTPUT, NO_MEMORY}
+use Rattle.prevalence_store.specs.declared.mode.Mode.{Mode}
+use Rattle.prevalence_store.specs.declared.outcome.Ending.{Ending}
+use Rattle.prevalence_store.specs.declared.outcome.Ending.TheVariants.{End, Reader, Store}
+use Rattle.prevalence_store.specs.meaning.Acceptance.{after, read_in}
+use Rattle.prevalence_store.specs.calls.Execute.{DeviceFails, SurvivesAs}
+use Rattle.prevalence_store.specs.calls.Store.{LeavesAlone, Session, Describes}
+use Rattle.prevalence_store.specs.meaning.Answers.{Progress, after_forms, last_line, refusal_line}
+use Rattle.prevalence_store.specs.calls.Pace.{EndsInPace, IsOverIn, Pace, fill_of, first_pace}
+use Rattle.form_reader.specs.Reader.{MayGoOn}
+use Rattle.form_reader.specs.Reading.{empty, refused}
+use Rattle.prevalence_store.specs.calls.Snapshot.{IsTooLarge}
+use Rattle.prevalence_store.specs.calls.Streams.{Writes}
+use Rattle.plist_state.specs.State.{State as World}
+use Rattle.snapshot_text.specs.Snapshot.{snapshot}
+use Rattle.prevalence_store.specs.meaning.Functions.{Functions}
+
+-- the contents with these records more
+abbrev pub with_entries : Contents → List Entry → Contents
+with_entries k entries = record k { entries = k.entries ++ entries }
+
+-- the bytes that these records take in a half
+abbrev pub room_of : List Entry → ℕ
+room_of = sum_by (λ entry. 6 + length entry.text)
+
+-- the half in use after so many snapshots
+abbrev pub half_after : ℕ → Half → Half
+half_after zero half = half
+half_after (suc snapshots) half = opposite_of (half_after snapshots half)
+
+-- what a half holds that was begun with the text of a world, so many generations after these contents, and these records after it
+abbrev pub contents_after : Contents → ℕ → World → List Entry → Contents
+contents_after k snapshots first entries = record { version = 1; generation = k.generation + snapshots; snapshot = snapshot first; entries = entries }
+
+module _ {D R : Type 0} (state : D → State) (old new : Session D R) where
+  -- No snapshot was taken: the half that was in use has these records more.
+  pub record IsExtended (taken : List Entry) : Type 0 where
+    pub half : new.half ≡ old.half
+    pub generation : new.generation ≡ old.generation
+    pub record_count : new.record_count ≡ old.record_count + length taken
+    pub size : new.size ≡ old.size + room_of taken
+    -- each record had room
+    pub fits : new.size ≤ max old.size old.limit
+    pub described : (k : Contents) → IsHonest (state old.disk) → Describes old k (state old.disk).reads
+        → Describes new (with_entries k taken) (state new.disk).reads
+    -- the half that is not in use is left alone
+    pub other : IsHonest (state old.disk) → LeavesAlone (opposite_of old.half) (state old.disk) (state new.disk)
+    -- forms that leave no record leave all as it was, the disk too
+    pub untouched : taken ≡ [] → new ≡ old
+
+  -- Snapshots were taken, the last of them after the earlier of these records: the half in use is the text of the world that
+  -- they left, and the later records.
+  pub record IsRenewed (functions : Functions) (world : World) (taken : List Entry) : Type 0 where
+    pub snapshots : ℕ
+    pub some : 1 ≤ snapshots
+    pub earlier : List Entry
+    pub later : List Entry
+    pub parts : taken ≡ earlier ++ later
+    pub first : World
+    pub first_is : after functions world earlier ≡ Some first
+    pub half : new.half ≡ half_after snapshots old.half
+    pub generation : new.generation ≡ old.generation + snapshots
+    pub record_count : new.record_count ≡ length later
+    pub size : new.size ≡ 16 + length (snapshot first) + room_of later
+    -- the text and each record had room
+    pub fits : new.size ≤ old.limit
+    pub described : (k : Contents) → IsHonest (state old.disk) → Describes old k (state old.disk).reads
+        → Describes new (contents_after k snapshots first later) (state new.disk).reads
+
+module _ (functions : Functions) {D R : Type 0} (state : D → State) (old new : Session D R) (world : World) where
+  -- The device has not failed: the world and the log are those after these forms, on an honest disk in the files too.
+  pub record IsAfter (far : Progress) : Type 0 where
+    pub left : new.world ≡ Some far.world
+    -- the records make this world
+    pub records : after functions world far.taken ≡ Some far.world
+    pub limit : new.limit ≡ old.limit
+    pub macros : new.macros ≡ old.macros
+    pub failures : (state new.disk).failures ≡ (state old.disk).failures
+    pub log : IsExtended state old new far.taken ⊎ IsRenewed state old new functions world far.taken
+
+-- the half would pass its limit by the record of the form that this text begins with
+abbrev pub IsOver : Functions → {D R : Type 0} → Session D R → World → Mode → List ℕ → Type 0
+IsOver functions session world mode text = IsOverIn functions session.limit session.size world mode text
+
+module _ (functions : Functions) {D R : Type 0} (state : D → State) (old new : Session D R) where
+  module _ (world : World) (mode : Mode) (text : List ℕ) (held written : Option (List ℕ)) where
+    -- the first forms of the text were taken and answered, each line whole
+    pub record Advances (forms : ℕ) (far : Progress) : Type 0 where
+      pub far_is : after_forms functions forms world mode text ≡ Some far
+      pub lines : Writes held written far.lines
+      pub after : IsAfter functions state old new world far
+      pub survives : SurvivesAs functions state old new world far.taken (length far.taken)
+
+    -- ---- how a session ends: the forms that were taken, those whose lines were written whole, and the part of the next line
+
+    module _ (forms : ℕ) (far : Progress) (lines : ℕ) (answered : Progress) (part : List ℕ) where
+      -- nothing but discarded text is left
+      pub record IsDone : Type 0 where
+        pub all : lines ≡ forms
+        pub no_part : part ≡ []
+        pub nothing_left : read_in functions far.world mode far.rest ≡ empty
+        pub after : IsAfter functions state old new world far
+
+      -- the reader refused what is left, and that was answered
+      pub record IsRefused (number : ℕ) : Type 0 where
+        pub all : lines ≡ forms
+        pub at : ℕ
+        pub reads : read_in functions far.world mode far.rest ≡ refused number at
+        pub line : part ≡ refusal_line number
+        pub after : IsAfter functions state old new world far
+
+      -- The device failed in the last form, which was accepted and had room for its record; it was not answered, and nothing is
+      -- known of the world.
+      pub record IsStopped (number : ℕ) : Type 0 where
+        pub device : number ≡ DEVICE
+        pub one_open : forms ≡ lines + 1
+        pub no_part : part ≡ []
+        -- the store as that form was taken
+        pub mid : Session D R
+        pub before : IsAfter functions state old mid world answered
+        pub record_ : Entry
+        pub was_accepted : far.taken ≡ answered.taken ++ record_ ∷ []
+        pub fits : mid.size + (6 + length record_.text) ≤ mid.limit
+        pub failed : DeviceFails state mid new (opposite_of mid.half)
+
+      -- The device failed in a snapshot, for which there was a half; all forms were answered, and nothing is known of the world.
+      pub record IsStoppedInSnapshot (number : ℕ) : Type 0 where
+        pub device : number ≡ DEVICE
+        pub all : lines ≡ forms
+        pub no_part : part ≡ []
+        -- the store as the snapshot was begun
+        pub mid : Session D R
+        pub before : IsAfter functions state old mid world far
+        pub fits : IsTooLarge mid far.world → ⊥
+        pub failed : DeviceFails state mid new mid.half
+
+      -- The next form is accepted in that world, and has no room; nor has it in a half that holds nothing but the text of it,
+      -- as this one does: a snapshot was taken, and no form logged since.
+      pub record IsFull (number : ℕ) : Type 0 where
+        pub full : number ≡ LOG_FULL
+        pub all : lines ≡ forms
+        pub no_part : part ≡ []
+        pub next : IsOver functions new far.world mode far.rest
+        pub renewed : IsRenewed state old new functions world far.taken
+        pub none_since : renewed.later ≡ []
+        pub only_text : new.size ≡ 16 + length (snapshot far.world)
+        pub after : IsAfter functions state old new world far
+
+      -- the next form is accepted in that world, and has no room, and there is no half for a snapshot of it
+      pub record IsTooLargeToRenew (number : ℕ) : Type 0 where
+        pub large : number ≡ SNAPSHOT_TOO_LARGE
+        pub all : lines ≡ forms
+        pub no_part : part ≡ []
+        pub next : IsOver functions new far.world mode far.rest
+        pub why : IsTooLarge new far.world
+        pub after : IsAfter functions state old new world far
+
+      -- a read failed
+      pub record IsUnread (number : ℕ) : Type 0 where
+        pub input : number ≡ INPUT
+        pub all : lines ≡ forms
+        pub no_part : part ≡ []
+        -- more was needed: no form of what was read is left unanswered
+        pub more : MayGoOn far.rest (read_in functions far.world mode far.rest)
+        pub after : IsAfter functions state old new world far
+
+      -- A write failed, or took nothing: the lines so far are the first part of what was to be written. The line that was begun is
+      -- that of the last form, if it was not answered, and else that of a refusal of the reader.
+      pub record IsUnwritten (number : ℕ) : Type 0 where
+        pub output : number ≡ OUTPUT
+        pub unwritten : List ℕ
+        pub some_left : unwritten ≢ []
+        pub front : far.lines ++ last_line (read_in functions far.world mode far.rest) ≡ answered.lines ++ part ++ unwritten
+        pub in_form : forms ≡ lines + 1 → (rest : List ℕ) × (rest ≢ []) × (far.lines ≡ answered.lines ++ part ++ rest)
+        pub after : IsAfter functions state old new world far
+
+      -- a growth was refused
+      pub record IsOutOfMemory (number : ℕ) : Type 0 where
+        pub memory : number ≡ NO_MEMORY
+        pub no_part : part ≡ []
+        pub after : IsAfter functions state old new world far
+
+      abbrev pub Ends : Ending → Type 0
+      Ends End = IsDone
+      Ends (Reader number) = IsRefused number
+      Ends (Store number) =
+          IsStopped number ⊎ (IsStoppedInSnapshot number ⊎ (IsFull number ⊎ (IsTooLargeToRenew number
+          ⊎ (IsUnread number ⊎ (IsUnwritten number ⊎ IsOutOfMemory number)))))
+
+    -- A session over this text: its first forms were taken, each read in the world that the ones before it left, in this mode,
+    -- and logged by its own text if it was accepted. Each was answered before the next was taken.
+    pub record Serves (ending : Ending) : Type 0 where
+      pub forms : ℕ
+      pub far : Progress
+      pub far_is : after_forms functions forms world mode text ≡ Some far
+      -- of these so many were answered whole
+      pub lines : ℕ
+      pub answered : Progress
+      pub answered_is : after_forms functions lines world mode text ≡ Some answered
+      pub at_most : lines ≤ forms
+      pub in_turn : forms ≤ lines + 1
+      -- and a part of the next line was written
+      pub part : List ℕ
+      pub output : Writes held written (answered.lines ++ part)
+      pub survives : SurvivesAs functions state old new world far.taken (length answered.taken)
+      pub ends : Ends forms far lines answered part ending
+
+-- After these forms the reader refuses what is left of the text with this number, and with more after it too; and the forms are
+-- the same then.
+abbrev pub StaysRefused : Functions → World → Mode → (text : List ℕ) (forms : ℕ) (far : Progress) (number : ℕ) → Type 0
+StaysRefused functions world mode text forms far number = (more : List ℕ)
+    → (after_forms functions forms world mode (text ++ more) ≡ Some (record far { rest = far.rest ++ more }))
+    × ((at : ℕ) × (read_in functions far.world mode (far.rest ++ more) ≡ refused number at))
+
+-- How much a session has read when it ends: at the end of the input all of it; at a refusal of the reader, also if the output
+-- failed in the line of it, all of it, or so much that what follows makes no difference; else what the reader has left is what
+-- was not read.
+abbrev pub HasRead : (functions : Functions) {D R : Type 0} (state : D → State) (old new : Session D R) (world : World) (mode : Mode) (text : List ℕ)
+    (held written : Option (List ℕ)) (ending : Ending) → Serves functions state old new world mode text held written ending → List ℕ → Option (List ℕ) → Type 0
+HasRead functions state old new world mode text held written End served left reader = (left ≡ []) × (reader ≡ Some left)
+HasRead functions state old new world mode text held written (Reader number) served left reader =
+    ((left ≡ []) ⊎ StaysRefused functions world mode text served.forms served.far number) × (reader ≡ Some left)
+HasRead functions state old new world mode text held written (Store number) served left reader =
+    (number ≡ OUTPUT → served.lines ≡ served.forms → (left ≡ []) ⊎ ((code : ℕ) × StaysRefused functions world mode text served.forms served.far code))
+    × (reader ≡ Some left)
+
+-- how far the snapshots had come as a session ended that began at this pace
+abbrev pub ServesInPace : (functions : Functions) {D R : Type 0} (state : D → State) (pace : Pace) (old new : Session D R) (world : World) (mode : Mode) (text : List ℕ)
+    (held written : Option (List ℕ)) (ending : Ending) → Serves functions state old new world mode text held written ending → Type 0
+ServesInPace functions state pace old new world mode text held written ending served =
+    EndsInPace functions old.limit world pace (fill_of old) mode served.forms served.far served.lines served.answered (fill_of new) ending
+
+-- A session over what a reader gives, with a snapshot after every so many forms that were logged: what the reader had is what was
+-- read and what is left.
+pub record ServesInput (functions : Functions) {D R : Type 0} (state : D → State) (every : ℕ) (old new : Session D R) (world : World) (mode : Mode) (had has held written : Option (List ℕ)) (ending : Ending) : Type 0 where
+  pub text : List ℕ
+  pub serves : Serves functions state old new world mode text held written ending
+  pub paced : ServesInPace functions state (first_pace every) old new world mode text held written ending serves
+  pub reads : (all : List ℕ) → had ≡ Some all
+      → (left : List ℕ) × (all ≡ text ++ left) × HasRead functions state old new world mode text held written ending serves left has

@@ -1,0 +1,5 @@
+-- What forms and files mean, in the order in which it builds up.
+pub mod Functions
+pub mod Acceptance
+pub mod Files
+pub mod Answers

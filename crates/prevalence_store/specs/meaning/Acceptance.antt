@@ -1,0 +1,103 @@
+-- Which texts a world accepts as forms, and the world after a list of forms.
+use Rattle.std.specs.Prelude.{ℕ, ◌==◌, ◌-◌, Bool, if◌then◌else◌, List, [], ◌∷◌, length, take, drop, Option, None, Some, Result, Ok, Err, unwrap_or}
+use Rattle.std.specs.FinMap as finite
+use Rattle.gate_log.specs.Layout.{Entry}
+use Rattle.lisp_object.specs.Object.{Object}
+use Rattle.lisp_object.specs.declared.refusal.TheConstants.{END_OF_FILE, TEXT_LEFT_OVER}
+use Rattle.readtable_core.specs.Tables.{Table, standard}
+use Rattle.package_table.specs.Table.{Name, common_lisp_user}
+use Rattle.plist_state.specs.State.{State as World}
+use Rattle.form_reader.specs.declared.limits.Limits.{Limits}
+use Rattle.form_reader.specs.Setting.{Setting, setting_of}
+use Rattle.form_reader.specs.Reading.{Outcome as Reading, form, empty, refused, reads}
+use Rattle.form_eval.specs.Outcomes.{Outcome as Evaluation}
+use Rattle.form_eval.specs.Acceptance.{accept}
+use Rattle.prevalence_store.specs.declared.mode.Mode.{Mode}
+use Rattle.prevalence_store.specs.declared.mode.Mode.TheVariants.{Current, Rescue}
+use Rattle.prevalence_store.specs.meaning.Functions.{Functions}
+use Rattle.lisp_object.specs.declared.refusal.TheConstants.{LIMIT}
+use Rattle.std.specs.Prelude.{◌≤◌}
+
+-- What an accepted form gives: its value, the world that it leaves, whether it wrote anything, and the text of its object alone.
+pub record Acceptance : Type 0 where
+  pub value : Object
+  pub world : World
+  pub wrote : Bool
+  pub text : List ℕ
+
+-- the limits of a form, in bytes, characters and open calls
+abbrev pub form_limits : Limits
+form_limits = record { text = 65536; token = 4096; nesting = 100 }
+
+-- the readtable under which a text is read: the world's current one; or, to get out of a readtable that has become unusable,
+-- the standard one
+abbrev pub table_in : World → Mode → Table
+table_in world Current = unwrap_or (finite.get world.readtables world.current_readtable) standard
+table_in world Rescue = standard
+
+-- and the package in which it is read
+abbrev pub package_in : World → Mode → Name
+package_in world Current = world.current_package
+package_in world Rescue = common_lisp_user
+
+-- under what a text is read
+abbrev pub setting_in : Functions → World → Mode → Setting
+setting_in functions world mode =
+    setting_of form_limits (table_in world mode) world.packages (package_in world mode) functions.names functions.way functions.answer
+
+-- what a text begins with, as it is read in this world and mode
+abbrev pub read_in : Functions → World → Mode → List ℕ → Reading
+read_in functions world mode text = reads (setting_in functions world mode) text
+
+-- the bytes from one offset to another
+abbrev pub between : ℕ → ℕ → List ℕ → List ℕ
+between start end text = take (end - start) (drop start text)
+
+-- what evaluation gave for the object of this text, or the number of a refusal
+abbrev pub acceptance_of : List ℕ → Evaluation Object → Result Acceptance ℕ
+acceptance_of text (Ok done) = Ok (record { value = done.value; world = done.state; wrote = done.wrote; text = text })
+acceptance_of text (Err number) = Err number
+
+-- by what was read: a text without an object is refused, and one with more after it
+abbrev pub accepted_of : Functions → World → List ℕ → Reading → Result Acceptance ℕ
+accepted_of functions world text (form object start end next) =
+    if next == length text then acceptance_of (between start end text) (accept functions.names world object) else Err TEXT_LEFT_OVER
+accepted_of functions world text empty = Err END_OF_FILE
+accepted_of functions world text (refused number at) = Err number
+
+-- What a text gives in a world: the form is read whole, its symbols are interned, and then it is evaluated.
+abbrev pub accepts : Functions → World → Mode → List ℕ → Result Acceptance ℕ
+accepts functions world mode text = accepted_of functions world text (read_in functions world mode text)
+
+-- the byte that says in which mode a record is read
+abbrev pub kind_of : Mode → ℕ
+kind_of Current = 0
+kind_of Rescue = 1
+
+abbrev pub mode_of : ℕ → Mode
+mode_of kind = if kind == 0 then Current else Rescue
+
+-- the record of a form that was accepted
+abbrev pub logged : Mode → List ℕ → Entry
+logged mode text = record { kind = kind_of mode; text = text }
+
+-- a form is logged exactly if it wrote
+abbrev pub records_of : Bool → Mode → List ℕ → List Entry
+records_of wrote mode text = if wrote then logged mode text ∷ [] else []
+
+-- The world after these records, each accepted in the world that the ones before it left. None if one is not accepted.
+abbrev pub after : Functions → World → List Entry → Option World
+after functions world [] = Some world
+after functions world (entry ∷ entries) =
+    elim (accepts functions world (mode_of entry.kind) entry.text) [ Ok given ↦ after functions given.world entries | Err number ↦ None ]
+
+-- the number under which the first of these records that is not accepted is refused
+abbrev pub first_refusal : Functions → World → List Entry → Option ℕ
+first_refusal functions world [] = None
+first_refusal functions world (entry ∷ entries) =
+    elim (accepts functions world (mode_of entry.kind) entry.text) [ Ok given ↦ first_refusal functions given.world entries | Err number ↦ Some number ]
+
+-- the numbers under which a form is refused, of reading and of evaluation: from 1 to 46
+pub record IsFormNumber (number : ℕ) : Type 0 where
+  pub from : END_OF_FILE ≤ number
+  pub to : number ≤ LIMIT

@@ -1,0 +1,9 @@
+-- What the functions below the calls do, each file beside the source file of its name.
+pub mod Failure
+pub mod Commit
+pub mod Open
+pub mod Input
+pub mod Output
+pub mod Answer
+pub mod Schedule
+pub mod Serve

@@ -1,0 +1,100 @@
+-- What the answer to a form, and to a refusal of the reader, is to a session.
+use Rattle.std.specs.Prelude.{◌≡◌, ◌≢◌, ◌⊎◌, ℕ, ◌+◌, ◌≤◌, Bool, true, false, List, [], ◌∷◌, length, Option, None, Some, IsSome, Ok, Err, Result}
+use Rattle.disk_trait.specs.Disk.{State}
+use Rattle.gate_log.specs.Layout.{Entry}
+use Rattle.lisp_object.specs.Object.{Object, IsSound}
+use Rattle.lisp_object.specs.Datum.{object_of, is_proper}
+use Rattle.lisp_object.specs.declared.datum.Datum.{Datum}
+use Rattle.form_eval.specs.declared.evaluated.Evaluated.{Evaluated}
+use Rattle.lisp_object.specs.declared.refusal.TheConstants.{DEVICE, LOG_FULL, OUTPUT, NO_MEMORY}
+use Rattle.form_reader.specs.Reading.{form}
+use Rattle.prevalence_store.specs.declared.failure.Failure.{Failure}
+use Rattle.prevalence_store.specs.declared.mode.Mode.{Mode}
+use Rattle.prevalence_store.specs.declared.outcome.Ending.{Ending}
+use Rattle.prevalence_store.specs.declared.outcome.Ending.TheVariants.{End, Reader, Store}
+use Rattle.prevalence_store.specs.meaning.Acceptance.{between, read_in}
+use Rattle.prevalence_store.specs.meaning.Answers.{Progress, begun, refusal_line}
+use Rattle.prevalence_store.specs.calls.Pace.{Fill, LogsWithRoom, Pace, Paces, fill_of, longer_by}
+use Rattle.prevalence_store.specs.calls.Serve.{Advances, IsOver, Serves, ServesInPace}
+use Rattle.prevalence_store.specs.calls.Store.{Session}
+use Rattle.prevalence_store.specs.calls.Streams.{Writes, WritesPart}
+use Rattle.plist_state.specs.State.{State as World}
+use Rattle.prevalence_store.specs.meaning.Functions.{Functions}
+
+-- the text begins with this form, and this is its own text
+pub record BeginsWith (functions : Functions) (world : World) (mode : Mode) (text : List ℕ) (object : Object) (own : List ℕ) (next : ℕ) : Type 0 where
+  pub start : ℕ
+  pub stop : ℕ
+  pub reads : read_in functions world mode text ≡ form object start stop next
+  pub is_own : own ≡ between start stop text
+
+-- In this world, if there is one, some text begins with the form of this datum, and this is its own text.
+pub record IsFormOf (functions : Functions) (left : Option World) (mode : Mode) (datum : Datum) (own : List ℕ) : Type 0 where
+  pub known : IsSome left
+  pub read : (world : World) → left ≡ Some world → (text : List ℕ) × ((next : ℕ) × BeginsWith functions world mode text (object_of datum) own next)
+  pub proper : is_proper datum ≡ true
+  pub sound : IsSound (object_of datum)
+
+-- a form that was taken left no record, and the half in use is as it was; or its record was logged so
+abbrev pub LeavesRecord : (Entry → Type 0) → List Entry → (fill now : Fill) → (wrote : Bool) → Type 0
+LeavesRecord Logged taken fill now wrote =
+    ((wrote ≡ false) × (taken ≡ []) × (now ≡ fill)) ⊎ ((wrote ≡ true) × ((entry : Entry) × (taken ≡ entry ∷ []) × Logged entry))
+
+-- the half had room for this record
+abbrev pub LogsAtOnce : ℕ → (fill now : Fill) → Entry → Type 0
+LogsAtOnce limit fill now entry = (fill.size + (6 + length entry.text) ≤ limit) × (now ≡ longer_by entry fill)
+
+-- whether a form was logged
+abbrev pub is_logged : Result Evaluated Failure → Bool
+is_logged (Ok evaluated) = evaluated.wrote
+is_logged (Err failure) = false
+
+module _ (functions : Functions) {D R : Type 0} (state : D → State) (old new : Session D R) (world : World) (mode : Mode) where
+  -- The session has ended in a form, with this number: if the output failed, in the line of that form.
+  pub record StopsInForm (text : List ℕ) (held written : Option (List ℕ)) (number : ℕ) : Type 0 where
+    pub serves : Serves functions state old new world mode text held written (Store number)
+    pub in_form : number ≡ OUTPUT → serves.forms ≡ serves.lines + 1
+
+  -- what is in the half in use of a form in which the session has ended: nothing, or its record if it left one
+  abbrev pub EndsTry : (text : List ℕ) (held written : Option (List ℕ)) (number : ℕ) → StopsInForm text held written number → Type 0
+  EndsTry text held written number stops =
+      ((number ≡ NO_MEMORY) × (stops.serves.far ≡ begun world text) × (fill_of new ≡ fill_of old))
+      ⊎ (((stops.serves.forms ≡ 1) × ((number ≡ OUTPUT) ⊎ (number ≡ NO_MEMORY))
+      × ((wrote : Bool) × LeavesRecord (LogsAtOnce old.limit (fill_of old) (fill_of new)) stops.serves.far.taken (fill_of old) (fill_of new) wrote))
+      ⊎ ((number ≡ DEVICE) × (stops.serves.forms ≡ stops.serves.lines + 1) × (stops.serves.answered ≡ begun world text) × (fill_of new ≡ fill_of old)))
+
+  -- The form that the text begins with was answered; or it has no room, and nothing was done; or the session has ended in it,
+  -- with this number.
+  abbrev pub TriesForm : List ℕ → Option (List ℕ) → Option (List ℕ) → Result Bool ℕ → Type 0
+  TriesForm text held written (Ok wrote) =
+      (far : Progress) × Advances functions state old new world mode text held written 1 far
+      × LeavesRecord (LogsAtOnce old.limit (fill_of old) (fill_of new)) far.taken (fill_of old) (fill_of new) wrote
+  TriesForm text held written (Err number) =
+      (number ≡ LOG_FULL → IsOver functions old world mode text)
+      × (number ≢ LOG_FULL → (stops : StopsInForm text held written number) × EndsTry text held written number stops)
+
+  -- The form that the text begins with was answered, if it had no room after a snapshot; or the session has ended in it, with
+  -- this number. What follows it is not there yet.
+  abbrev pub FitsForm : List ℕ → Option (List ℕ) → Option (List ℕ) → Result Bool ℕ → Type 0
+  FitsForm text held written (Ok wrote) =
+      (far : Progress) × Advances functions state old new world mode text held written 1 far
+      × LeavesRecord (λ entry. LogsWithRoom old.limit world entry (fill_of old) (fill_of new)) far.taken (fill_of old) (fill_of new) wrote
+  FitsForm text held written (Err number) =
+      (stops : StopsInForm text held written number)
+      × ((pace : Pace) → ServesInPace functions state pace old new world mode text held written (Store number) stops.serves)
+
+  -- The form that the text begins with was answered, and what follows it is there; or the session has ended in it, with this
+  -- number.
+  abbrev pub AnswersForm : (pace later : Pace) → List ℕ → Option (List ℕ) → Option (List ℕ) → Option ℕ → Type 0
+  AnswersForm pace later text held written None =
+      (far : Progress) × Advances functions state old new world mode text held written 1 far
+      × Paces functions old.limit world far.taken pace later (fill_of old) (fill_of new)
+  AnswersForm pace later text held written (Some number) =
+      (stops : StopsInForm text held written number) × ServesInPace functions state pace old new world mode text held written (Store number) stops.serves
+
+-- A reader refusal ends the session: its line was written, or the writer failed in it, or there was no memory for it.
+abbrev pub AnswersFault : ℕ → Option (List ℕ) → Option (List ℕ) → Ending → Type 0
+AnswersFault number held written End = ⊥
+AnswersFault number held written (Reader code) = (code ≡ number) × Writes held written (refusal_line number)
+AnswersFault number held written (Store code) =
+    ((code ≡ OUTPUT) × WritesPart held written (refusal_line number)) ⊎ ((code ≡ NO_MEMORY) × (written ≡ held))

@@ -1,0 +1,32 @@
+-- The line that answers a form.
+use Rattle.std.specs.Prelude.{◌≡◌, ℕ, List, Some, Ok, Err, Result}
+use Rattle.lisp_object.specs.Datum.{object_of}
+use Rattle.form_eval.specs.declared.evaluated.Evaluated.{Evaluated}
+use Rattle.lisp_object.specs.declared.refusal.TheConstants.{DEVICE, LOG_FULL, NO_MEMORY}
+use Rattle.prevalence_store.specs.declared.failure.Failure.{Failure}
+use Rattle.prevalence_store.specs.declared.failure.Failure.TheVariants.{Refused, Full, DeviceFault, OutOfMemory}
+use Rattle.prevalence_store.specs.meaning.Answers.{refusal_line, value_line}
+use Rattle.prevalence_store.specs.calls.Store.{Session}
+use Rattle.plist_state.specs.State.{State as World}
+
+-- the line that answers a form, in the world that it left
+abbrev pub IsLineOf : World → Result Evaluated Failure → List ℕ → Type 0
+IsLineOf world (Ok evaluated) line = line ≡ value_line world (object_of evaluated.value)
+IsLineOf world (Err (Refused number)) line = line ≡ refusal_line number
+IsLineOf world (Err Full) line = ⊥
+IsLineOf world (Err DeviceFault) line = ⊥
+IsLineOf world (Err OutOfMemory) line = ⊥
+
+-- the line that answers a form, in the world that the store has after it, if any
+pub record IsLine {D R : Type 0} (new : Session D R) (answer : Result Evaluated Failure) (line : List ℕ) : Type 0 where
+  pub world : World
+  pub one : (v : World) → new.world ≡ Some v → v ≡ world
+  pub line_of : IsLineOf world answer line
+
+-- why there is no such line
+abbrev pub IsStop : Result Evaluated Failure → ℕ → Type 0
+IsStop (Ok evaluated) number = number ≡ NO_MEMORY
+IsStop (Err (Refused code)) number = number ≡ NO_MEMORY
+IsStop (Err Full) number = number ≡ LOG_FULL
+IsStop (Err DeviceFault) number = number ≡ DEVICE
+IsStop (Err OutOfMemory) number = number ≡ NO_MEMORY

@@ -1,0 +1,36 @@
+-- The snapshots of a session, by its schedule.
+use Rattle.std.specs.Prelude.{◌≡◌, ◌⊎◌, ℕ, Bool, true, false, Option, None, Some, Ok, Err, Result}
+use Rattle.disk_trait.specs.Disk.{State}
+use Rattle.prevalence_store.specs.declared.session.schedule.Schedule.{Schedule}
+use Rattle.prevalence_store.specs.calls.Pace.{Counts, IsDue, Pace}
+use Rattle.prevalence_store.specs.calls.Store.{Session}
+use Rattle.prevalence_store.specs.calls.Snapshot.{HasNoHalf, HasNoSnapshotMemory, IsSnapshotFault, IsSnapshotted, IsTooLarge}
+use Rattle.plist_state.specs.State.{State as World}
+use Rattle.prevalence_store.specs.meaning.Functions.{Functions}
+
+-- the pace that a session is at
+abbrev pub pace_of : Schedule → Pace
+pace_of schedule = record { every = schedule.every; left = schedule.left }
+
+-- ---- a snapshot in a session
+
+module _ (functions : Functions) {D R : Type 0} (state : D → State) (old new : Session D R) (world : World) where
+  -- it was taken, or it was refused with this number
+  abbrev pub Renewing : Result Unit ℕ → Type 0
+  Renewing (Ok done) = IsSnapshotted functions state old new world
+  Renewing (Err number) =
+      HasNoHalf functions state old new world number
+      ⊎ (IsSnapshotFault functions state old new world number ⊎ HasNoSnapshotMemory functions state old new world number)
+
+  -- after a form that was logged: if none is due, or there is no half for it, nothing was done; and else it was taken
+  abbrev pub RenewsIfDue : Pace → Type 0
+  RenewsIfDue pace =
+      ((IsDue pace → ⊥) × (new ≡ old)) ⊎ (IsDue pace × ((IsTooLarge old world × (new ≡ old)) ⊎ IsSnapshotted functions state old new world))
+
+  -- After a form that was answered: one that was logged was counted, and a snapshot was taken if it is due; or it has ended the
+  -- session, with this number.
+  abbrev pub RenewsAfterForm : Bool → (pace later : Pace) → Option ℕ → Type 0
+  RenewsAfterForm wrote pace later None =
+      ((wrote ≡ false) × (later ≡ pace) × (new ≡ old)) ⊎ ((wrote ≡ true) × Counts pace later × RenewsIfDue pace)
+  RenewsAfterForm wrote pace later (Some number) =
+      (wrote ≡ true) × IsDue pace × (IsSnapshotFault functions state old new world number ⊎ HasNoSnapshotMemory functions state old new world number)

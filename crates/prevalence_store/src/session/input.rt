@@ -1,0 +1,276 @@
+// What a session has read and not answered yet.
+ghost use Rattle.std.specs.Prelude.{◌≡◌, ◌+◌, ◌<◌, ◌≤◌, ◌^◌, ℕ, List, [], ◌∷◌, ◌++◌, drop, take, length, true, IfOk, OnOk, vec_len};
+ghost use Rattle.std.specs.List.{list_all};
+ghost use Rattle.readtable_core.specs.Names.{is_among};
+ghost use Rattle.plist_state.specs.State.{State as LispWorld};
+ghost use Rattle.form_reader.specs.Reader.{fed, begun, limits_of, IsAfter, Steps, BeginsLater, IsOutcome, IsSoundStep};
+ghost use Rattle.prevalence_store.specs.meaning.Acceptance.{between, form_limits, read_in, setting_in, table_in};
+ghost use Rattle.prevalence_store.specs.meaning.Functions.{Functions, functions_of};
+ghost use Rattle.prevalence_store.specs.steps.Input.{IsPending, IsSoundFed, Feeds, Finishes, FeedsPart};
+
+use crate::mode::Mode;
+use crate::setting::{package_in, readtable_in};
+use form_reader::{FormReader, Limits, ReadOutcome, Step};
+use lisp_object::Datum;
+use plist_state::World;
+use readtable_core::Readtable;
+use std::alloc::{AllocError, Global};
+use user_macros::MacroFunctions;
+
+/// What was read and is not answered yet: a reader that was fed it, and the bytes since what the reader has open began.
+#[derive(Drop)]
+pub(crate) struct Pending {
+    reader: FormReader,
+    text: Vec<u8>,
+    // how many bytes come before `text`
+    dropped: usize,
+}
+
+/// What bytes more, or the end of the input, are to what is pending.
+#[derive(Drop)]
+pub(crate) enum Fed {
+    /// There is no form yet; at the end, there is none.
+    Nothing,
+    /// A form, and its own text. If `left`, the last byte is the first of what follows it.
+    Form {
+        datum: Datum,
+        own: Vec<u8>,
+        left: bool,
+    },
+    /// The number of a refusal.
+    Refused(u16),
+}
+
+/// What a piece of the input is to what is pending, up to the first byte that decides something.
+#[derive(Drop)]
+pub(crate) struct FedPiece {
+    pub(crate) fed: Fed,
+    /// How many bytes were fed.
+    pub(crate) count: usize,
+}
+
+impl Pending {
+    /// Before the first byte.
+    pub(crate) fn new(alloc: Global) -> Pending
+        ensures none { (functions : Functions) (world : LispWorld) (mode : Mode)
+            → IsPending functions world mode result [] }
+        ensures count { fed result.reader ≡ 0 }
+    {
+        Pending {
+            reader: FormReader::new(alloc, Limits::form()),
+            text: Vec::new(alloc),
+            dropped: 0,
+        }
+    }
+
+    /// The bytes of a piece, in the same world and mode as those since the last form, up to the first that decides something.
+    /// The readtable is looked up once.
+    pub(crate) fn feed<R: MacroFunctions>(
+        &mut self,
+        alloc: Global,
+        world: &World,
+        macros: &R,
+        mode: Mode,
+        piece: &[u8],
+    ) -> Result<FedPiece, AllocError>
+        requires answers { R.answers macros.now }
+        requires whole { list_all (is_among (R.registered macros.now)) R.Meaning.names ≡ true }
+        requires pending { (bytes : List ℕ)
+            × IsPending (functions_of R.Meaning.names R.Meaning.way R.Meaning.answer) world.now.0 mode self.old bytes }
+        requires some { 0 < length piece.now }
+        requires count { fed self.old.reader + length piece.now ≤ 2 ^ 63 }
+        ensures feeds { (bytes : List ℕ)
+            → IsPending (functions_of R.Meaning.names R.Meaning.way R.Meaning.answer) world.now.0 mode self.old bytes
+            → IfOk result (λ part. Feeds (functions_of R.Meaning.names R.Meaning.way R.Meaning.answer) world.now.0 mode self.new
+            (bytes ++ take part.count piece.now) part.fed) }
+        ensures part { IfOk result (FeedsPart piece.now (fed self.old.reader) (fed self.new.reader)) }
+        ensures count { fed self.new.reader ≤ fed self.old.reader + length piece.now }
+    {
+        let readtable = readtable_in(world, mode);
+        let mut count = 0;
+        'bytes: for byte in piece {
+            count += 1;
+            match self.feed_byte(alloc, readtable, world, macros, mode, *byte)? {
+                Fed::Nothing => {}
+                fed => return Ok(FedPiece { fed, count }),
+            }
+        }
+        let fed = Fed::Nothing;
+        Ok(FedPiece { fed, count })
+    }
+
+    // One byte more, under the readtable of the world.
+    fn feed_byte<R: MacroFunctions>(
+        &mut self,
+        alloc: Global,
+        readtable: &Readtable,
+        world: &World,
+        macros: &R,
+        mode: Mode,
+        byte: u8,
+    ) -> Result<Fed, AllocError>
+        requires answers { R.answers macros.now }
+        requires whole { list_all (is_among (R.registered macros.now)) R.Meaning.names ≡ true }
+        requires table { readtable.now ≡ table_in world.now.0 mode }
+        requires pending { (bytes : List ℕ)
+            × IsPending (functions_of R.Meaning.names R.Meaning.way R.Meaning.answer) world.now.0 mode self.old bytes }
+        requires count { fed self.old.reader < 2 ^ 63 }
+        ensures feeds { (bytes : List ℕ)
+            → IsPending (functions_of R.Meaning.names R.Meaning.way R.Meaning.answer) world.now.0 mode self.old bytes
+            → IfOk result (Feeds (functions_of R.Meaning.names R.Meaning.way R.Meaning.answer) world.now.0 mode self.new
+            (bytes ++ byte ∷ [])) }
+        ensures sound { IfOk result IsSoundFed }
+        ensures count { fed self.new.reader ≤ fed self.old.reader + 1 }
+    {
+        self.text.push(byte)?;
+        match step_in(&mut self.reader, readtable, world, macros, mode, byte)? {
+            Step::More => {
+                self.discard(alloc)?;
+                Ok(Fed::Nothing)
+            }
+            Step::Refused { code, at: _ } => Ok(Fed::Refused(code)),
+            Step::Form {
+                datum,
+                start,
+                end,
+                next,
+            } => {
+                let own = own_text(alloc, self.text.as_slice(), self.dropped, start, end)?;
+                let left = next - self.dropped < self.text.len();
+                self.text.clear();
+                self.dropped = 0;
+                Ok(Fed::Form { datum, own, left })
+            }
+        }
+    }
+
+    // Lets the bytes go that come before what the reader has open.
+    fn discard(&mut self, alloc: Global) -> Result<(), AllocError>
+        requires begun { (self.old.dropped ≤ begun self.old.reader)
+            × (begun self.old.reader ≤ self.old.dropped + vec_len self.old.text) }
+        ensures kept { OnOk result ((bytes : List ℕ)
+            → self.old.text.items ≡ drop self.old.dropped bytes
+            → self.new.text.items ≡ drop self.new.dropped bytes) }
+        ensures only { OnOk result (self.new.dropped ≡ begun self.new.reader) }
+        ensures reader { self.new.reader ≡ self.old.reader }
+    {
+        let begun = self.reader.begun();
+        let count = begun - self.dropped;
+        if count == 0 {
+            return Ok(());
+        }
+        if count == self.text.len() {
+            // mostly nothing is open, and the room of the text serves the bytes to come
+            self.text.clear();
+            self.dropped = begun;
+            return Ok(());
+        }
+        self.text = Vec::from_slice(alloc, &self.text[count..])?;
+        self.dropped = begun;
+        Ok(())
+    }
+
+    /// The end of the input, in the same world and mode as the bytes since the last form.
+    pub(crate) fn finish<R: MacroFunctions>(
+        self,
+        alloc: Global,
+        world: &World,
+        macros: &R,
+        mode: Mode,
+    ) -> Result<Fed, AllocError>
+        requires answers { R.answers macros.now }
+        requires whole { list_all (is_among (R.registered macros.now)) R.Meaning.names ≡ true }
+        requires pending { (bytes : List ℕ)
+            × IsPending (functions_of R.Meaning.names R.Meaning.way R.Meaning.answer) world.now.0 mode self bytes }
+        requires count { fed self.reader ≤ 2 ^ 63 }
+        ensures finishes { (bytes : List ℕ)
+            → IsPending (functions_of R.Meaning.names R.Meaning.way R.Meaning.answer) world.now.0 mode self bytes
+            → IfOk result (Finishes (functions_of R.Meaning.names R.Meaning.way R.Meaning.answer) world.now.0 mode bytes) }
+        ensures sound { IfOk result IsSoundFed }
+    {
+        let Pending {
+            reader,
+            text,
+            dropped,
+        } = self;
+        match finish_in(reader, world, macros, mode)? {
+            ReadOutcome::Empty => Ok(Fed::Nothing),
+            ReadOutcome::Refused { code, at: _ } => Ok(Fed::Refused(code)),
+            ReadOutcome::Form {
+                datum,
+                start,
+                end,
+                ..
+            } => {
+                let own = own_text(alloc, text.as_slice(), dropped, start, end)?;
+                let left = false;
+                Ok(Fed::Form { datum, own, left })
+            }
+        }
+    }
+}
+
+// The text of a form, by its offsets among bytes of which so many were dropped.
+fn own_text(
+    alloc: Global,
+    text: &[u8],
+    dropped: usize,
+    start: usize,
+    end: usize,
+) -> Result<Vec<u8>, AllocError>
+    requires kept { dropped ≤ start }
+    requires order { start ≤ end }
+    requires within { end ≤ dropped + length text.now }
+    ensures { (bytes : List ℕ) → text.now ≡ drop dropped bytes
+        → IfOk result (λ own. own.items ≡ between start end bytes) }
+{
+    Vec::from_slice(alloc, &text[start - dropped..end - dropped])
+}
+
+// One byte more to a reader, as the world reads in this mode, under its readtable.
+fn step_in<R: MacroFunctions>(
+    reader: &mut FormReader,
+    readtable: &Readtable,
+    world: &World,
+    macros: &R,
+    mode: Mode,
+    byte: u8,
+) -> Result<Step, AllocError>
+    requires answers { R.answers macros.now }
+    requires whole { list_all (is_among (R.registered macros.now)) R.Meaning.names ≡ true }
+    requires table { readtable.now ≡ table_in world.now.0 mode }
+    requires limits { limits_of reader.old ≡ form_limits }
+    requires count { fed reader.old < 2 ^ 63 }
+    ensures steps { (bytes : List ℕ)
+        → IsAfter (setting_in (functions_of R.Meaning.names R.Meaning.way R.Meaning.answer) world.now.0 mode) reader.old bytes
+        → IfOk result (Steps (setting_in (functions_of R.Meaning.names R.Meaning.way R.Meaning.answer) world.now.0 mode)
+        reader.new (bytes ++ byte ∷ [])) }
+    ensures limits { limits_of reader.new ≡ limits_of reader.old }
+    ensures count { fed reader.new ≤ fed reader.old + 1 }
+    ensures begun { IfOk result (BeginsLater reader.old reader.new) }
+    ensures sound { IfOk result IsSoundStep }
+{
+    let package = package_in(world, mode);
+    reader.step(byte, readtable, world.packages(), package, macros)
+}
+
+// The end of the text to a reader, as the world reads in this mode.
+fn finish_in<R: MacroFunctions>(
+    reader: FormReader,
+    world: &World,
+    macros: &R,
+    mode: Mode,
+) -> Result<ReadOutcome, AllocError>
+    requires answers { R.answers macros.now }
+    requires whole { list_all (is_among (R.registered macros.now)) R.Meaning.names ≡ true }
+    requires limits { limits_of reader ≡ form_limits }
+    requires count { fed reader ≤ 2 ^ 63 }
+    ensures { (bytes : List ℕ)
+        → IsAfter (setting_in (functions_of R.Meaning.names R.Meaning.way R.Meaning.answer) world.now.0 mode) reader bytes
+        → IfOk result (λ outcome. IsOutcome outcome
+        (read_in (functions_of R.Meaning.names R.Meaning.way R.Meaning.answer) world.now.0 mode bytes)) }
+{
+    let readtable = readtable_in(world, mode);
+    let package = package_in(world, mode);
+    reader.finish(readtable, world.packages(), package, macros)
+}

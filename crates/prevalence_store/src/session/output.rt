@@ -1,0 +1,106 @@
+// What a session writes.
+ghost use Rattle.std.specs.Prelude.{◌≡◌, OnOk, OnErr, IfOk, IfErr, true};
+ghost use Rattle.lisp_object.specs.Datum.{object_of, is_proper};
+ghost use Rattle.prevalence_store.specs.meaning.Answers.{refusal_line, value_line};
+ghost use Rattle.prevalence_store.specs.steps.Output.{IsLineOf, IsStop};
+ghost use Rattle.prevalence_store.specs.calls.Streams.{Writes, WritesPart};
+
+use crate::failure::Failure;
+use canon_printer::print;
+use form_eval::Evaluated;
+use lisp_object::refusal::{NO_MEMORY, name_of};
+use plist_state::World;
+use std::alloc::{AllocError, Global};
+use std::io::Write;
+
+/// A write failed, or took nothing.
+#[derive(Clone, Copy)]
+pub(crate) struct OutputFault;
+
+/// Writes the text whole, or a part of it from its front.
+pub(crate) fn write_text<W: Write>(writer: &mut W, text: &[u8]) -> Result<(), OutputFault>
+    ensures whole { OnOk result (Writes (W.contents writer.old) (W.contents writer.new) text.now) }
+    ensures part { OnErr result
+        (WritesPart (W.contents writer.old) (W.contents writer.new) text.now) }
+{
+    let mut rest = text;
+    'pieces: while !rest.is_empty() {
+        let Ok(count) = writer.write(rest) else {
+            return Err(OutputFault);
+        };
+        if count == 0 {
+            return Err(OutputFault);
+        }
+        rest = &rest[count..];
+    }
+    Ok(())
+}
+
+/// Writes a line whole, or a part of it from its front, and flushes what was written whole.
+pub(crate) fn write_line<W: Write>(writer: &mut W, line: &[u8]) -> Result<(), OutputFault>
+    ensures whole { OnOk result (Writes (W.contents writer.old) (W.contents writer.new) line.now) }
+    ensures part { OnErr result
+        (WritesPart (W.contents writer.old) (W.contents writer.new) line.now) }
+{
+    write_text(writer, line)?;
+    // the line was taken, so a flush that fails ends no session
+    let _flushed = writer.flush();
+    Ok(())
+}
+
+/// The line that answers a form which was accepted: its value, as it is printed in the world after the form.
+pub(crate) fn line_of_value(
+    alloc: Global,
+    world: &World,
+    evaluated: &Evaluated,
+) -> Result<Vec<u8>, AllocError>
+    requires { is_proper evaluated.now.value ≡ true }
+    ensures { IfOk result (λ line.
+        line.items ≡ value_line world.now.0 (object_of evaluated.now.value)) }
+{
+    world.soundness();
+    let packages = world.packages();
+    let mut line = print(alloc, &evaluated.value, packages, world.current_package())?;
+    line.push(b'\n')?;
+    Ok(line)
+}
+
+/// The line that answers a refusal: an exclamation mark, its number and its name.
+pub(crate) fn line_of_refusal(alloc: Global, number: u16) -> Result<Vec<u8>, AllocError>
+    ensures { IfOk result (λ line. line.items ≡ refusal_line number) }
+{
+    let digits = number.to_string(alloc)?;
+    let mut line = Vec::from_slice(alloc, b"! ")?;
+    line.extend_from_slice(digits.as_bytes())?;
+    line.push(b' ')?;
+    line.extend_from_slice(name_of(number).as_bytes())?;
+    line.push(b'\n')?;
+    Ok(line)
+}
+
+/// The line that answers a form: its value, or the number and the name of the refusal of its evaluation.
+///
+/// # Errors
+///
+/// The number of the fault where the form ends the session, or of memory that was refused.
+pub(crate) fn line_of_answer(
+    alloc: Global,
+    world: &World,
+    answer: &Result<Evaluated, Failure>,
+) -> Result<Vec<u8>, u16>
+    requires { IfOk answer.now (λ e. is_proper e.value ≡ true) }
+    ensures line { IfOk result (λ line. IsLineOf world.now.0 answer.now line.items) }
+    ensures stop { IfErr result (IsStop answer.now) }
+{
+    match answer {
+        Ok(evaluated) => match line_of_value(alloc, world, evaluated) {
+            Ok(line) => Ok(line),
+            Err(_) => Err(NO_MEMORY),
+        },
+        Err(Failure::Refused(number)) => match line_of_refusal(alloc, *number) {
+            Ok(line) => Ok(line),
+            Err(_) => Err(NO_MEMORY),
+        },
+        Err(failure) => Err(failure.number()),
+    }
+}
