@@ -1,7 +1,6 @@
 -- What the answer to a form is to a session.
 use Rattle.std.proofs.Common.{◌≡◌, ◌≢◌, ◌∷◌, ℕ, Bool, true, false, List, [], ◌++◌, length, drop, Option, Some, IsSome, is_some, Result, Ok, Err, IfOk, IfErr, refl, sym, ap, subst, ◌∙◌, inl, inr, append_assoc, arith}
 use Rattle.disk_trait.specs.Disk.{State, IsHonest, IsSound}
-use Rattle.disk_trait.specs.Half.{opposite_of}
 use Rattle.gate_log.specs.Layout.{Entry}
 use Rattle.lisp_object.specs.Object.{Object}
 use Rattle.lisp_object.specs.Datum.{object_of, is_proper}
@@ -20,7 +19,7 @@ use Rattle.prevalence_store.specs.declared.outcome.Ending.TheVariants.{Store}
 use Rattle.prevalence_store.specs.meaning.Acceptance.{after, between, logged, read_in, records_of}
 use Rattle.prevalence_store.specs.steps.Failure.{is_device}
 use Rattle.prevalence_store.specs.steps.Commit.{TakesForm}
-use Rattle.prevalence_store.specs.calls.Execute.{DeviceFails, Stores, SurvivesAs, acknowledged_in, taken_in}
+use Rattle.prevalence_store.specs.calls.Execute.{Stores, SurvivesAs}
 use Rattle.prevalence_store.specs.meaning.Answers.{Progress, after_forms, begun, evaluated, last_line, one_form, refusal_line, value_line}
 use Rattle.prevalence_store.specs.calls.Pace.{fill_of}
 use Rattle.prevalence_store.specs.calls.Serve.{Ends, IsAfter, IsOver}

@@ -24,7 +24,6 @@ use Rattle.form_reader.specs.Reader.{begun, fed, limits_of, BeginsLater, IsAfter
 use Rattle.form_reader.specs.Reading.{form, empty, outcome, reads, reads_at}
 use Rattle.form_reader.specs.Setting.{Setting, setting_of}
 use Rattle.form_reader.specs.Fitting.{IsFitting}
-use Rattle.form_reader.proofs.Bounded.{form_below}
 use Rattle.form_reader.proofs.Forms.{reads_is, stood, the_end_there}
 use Rattle.form_reader.proofs.Registered.{setting_same}
 use Rattle.plist_state.specs.Sound.{IsSound}
@@ -35,7 +34,7 @@ use Rattle.prevalence_store.specs.meaning.Acceptance.{between, form_limits, pack
 use Rattle.prevalence_store.specs.meaning.Functions.{Functions, functions_of}
 use Rattle.prevalence_store.specs.steps.Input.{HasForm, IsLastForm, IsPending}
 use Rattle.prevalence_store.specs.steps.Answer.{BeginsWith}
-use Rattle.prevalence_store.proofs.calls.Executing.{form_places, length-between, own_whole}
+use Rattle.prevalence_store.proofs.calls.Executing.{form_places, own_whole}
 use Rattle.prevalence_store.proofs.steps.Fitting.{among_same, fits_in}
 
 -- the setting of a call, with the functions that are registered, is that of the world
