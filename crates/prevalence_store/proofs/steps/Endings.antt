@@ -6,13 +6,13 @@ use Rattle.disk_trait.specs.Half.{opposite_of}
 use Rattle.lisp_object.specs.declared.refusal.TheConstants.{INPUT, NO_MEMORY}
 use Rattle.lisp_operators.specs.declared.evaluated.Evaluated.{Evaluated}
 use Rattle.form_reader.specs.Reader.{MayGoOn}
-use Rattle.lisp_reading.specs.Reading.{form, empty, refused}
+use Rattle.lisp_reading.specs.Reading.{empty, refused}
 use Rattle.plist_state.specs.State.{WorldState}
 use Rattle.prevalence_store.specs.declared.failure.Failure.{Failure}
 use Rattle.prevalence_store.specs.declared.mode.Mode.{Mode}
 use Rattle.prevalence_store.specs.declared.outcome.Ending.{Ending}
 use Rattle.prevalence_store.specs.declared.outcome.Ending.TheVariants.{End, Reader, Store}
-use Rattle.prevalence_store.specs.meaning.Acceptance.{after, read_in}
+use Rattle.prevalence_store.specs.meaning.Acceptance.{read_in}
 use Rattle.prevalence_store.specs.meaning.Answers.{Progress, after_forms, begun, last_line, one_form, onward, refusal_line}
 use Rattle.prevalence_store.specs.calls.Serve.{Ends, IsAfter, Serves}
 use Rattle.gate_log.specs.HalfInUse.{HalvesValue}

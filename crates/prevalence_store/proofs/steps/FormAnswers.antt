@@ -1,7 +1,6 @@
 -- What the answer to a form is to a session.
 use Rattle.std.proofs.Common.{◌≡◌, ◌≢◌, ◌∷◌, ℕ, Bool, true, false, List, [], ◌++◌, length, drop, Option, Some, IsSome, is_some, Result, Ok, Err, IfOk, IfErr, refl, sym, ap, subst, ◌∙◌, inl, inr, append_assoc, arith}
 use Rattle.disk_trait.specs.Disk.{State, IsHonest, IsSound}
-use Rattle.disk_trait.specs.Half.{opposite_of}
 use Rattle.gate_log.specs.Layout.{LogRecord}
 use Rattle.lisp_object.specs.Object.{Object}
 use Rattle.lisp_object.specs.Datum.{object_of, is_proper}
@@ -20,7 +19,7 @@ use Rattle.prevalence_store.specs.declared.outcome.Ending.TheVariants.{Store}
 use Rattle.prevalence_store.specs.meaning.Acceptance.{after, between, logged, read_in, records_of}
 use Rattle.prevalence_store.specs.steps.Failure.{is_device}
 use Rattle.prevalence_store.specs.steps.Commit.{TakesForm}
-use Rattle.prevalence_store.specs.calls.Execute.{DeviceFails, Stores, SurvivesAs, acknowledged_in, taken_in}
+use Rattle.prevalence_store.specs.calls.Execute.{Stores, SurvivesAs}
 use Rattle.prevalence_store.specs.meaning.Answers.{Progress, after_forms, begun, evaluated, last_line, one_form, refusal_line, value_line}
 use Rattle.prevalence_store.specs.calls.Pace.{fill_of}
 use Rattle.prevalence_store.specs.calls.Serve.{Ends, IsAfter, IsOver}
@@ -63,7 +62,7 @@ module _ (functions : Functions) where
         ∙ (λ i. Some (evaluated w mode (sym own_is i) (drop next text) (valued i)))
 
     one_is : (given : Evaluation Object) → accept functions.names w x ≡ given → after_forms functions 1 w mode text ≡ Some (evaluated w mode own (drop next text) given)
-    one_is given valued = after_one_form w mode text _ (one_read given valued)
+    one_is given valued = after_one_form functions w mode text _ (one_read given valued)
 
     -- its record makes the world that it left
     record_makes : (d : Done Object) → accept functions.names w x ≡ Ok d → after functions w (logged mode own ∷ []) ≡ Some d.state
@@ -98,7 +97,7 @@ module _ (functions : Functions) where
           let left : Some w ≡ Some given = sym known ∙ sym (ap (λ (s : StoreView D R). s.world) same.0) ∙ same.1 in
           let here : w ≡ given = cc in
           subst (λ v. IsAfter functions state old new w (record { world = v; rest = drop next text; taken = []; lines = value_line given (object_of e.value) })) here
-          (after_none state sound old new w mode text held written known (drop next text) (value_line given (object_of e.value)) same.0)
+          (after_none functions state sound old new w mode text held written known (drop next text) (value_line given (object_of e.value)) same.0)
 
     -- what it leaves in the half in use
     leaves : (wrote : Bool) (given : WorldState) → Stores state old new wrote mode own given
@@ -132,7 +131,7 @@ module _ (functions : Functions) where
           record {
             far_is = one_is (Err number) (of.cause w known);
             lines = subst (λ l. Writes held written l) is_line.line_of writes;
-            after = after_none state sound old new w mode text held written known (drop next text) (refusal_line number) same;
+            after = after_none functions state sound old new w mode text held written known (drop next text) (refusal_line number) same;
             survives = unchanged_survives functions state sound old new w same;
           },
           refused_leaves same,
@@ -206,7 +205,7 @@ module _ (functions : Functions) where
                 some_left = some_first part.1 (last_line (read_in functions far.world mode far.rest)) part.3;
                 front = unwritten_front far.lines line part.0 part.1 (last_line (read_in functions far.world mode far.rest)) is_line.line_of part.2;
                 in_form = λ one. (part.1, part.3, sym is_line.line_of ∙ part.2);
-                after = after_none state sound old new w mode text held written known (drop next text) (refusal_line number) same;
+                after = after_none functions state sound old new w mode text held written known (drop next text) (refusal_line number) same;
               }))))))),
           inr (inl (refl, inl refl, (false, refused_leaves same))),
         )
@@ -219,8 +218,8 @@ module _ (functions : Functions) where
     unfolding nothing
     out_of_memory number memory same quiet = (
       record {
-        serves = nothing state sound old new w mode text held written known (Store number) [] same (writes_nothing held written quiet)
-            (inr (inr (inr (inr (inr (inr (record { memory = memory; no_part = refl; after = after_none state sound old new w mode text held written known text [] same })))))));
+        serves = nothing functions state sound old new w mode text held written known (Store number) [] same (writes_nothing held written quiet)
+            (inr (inr (inr (inr (inr (inr (record { memory = memory; no_part = refl; after = after_none functions state sound old new w mode text held written known text [] same })))))));
         in_form = λ output. absurd (omega arith);
       },
       inl (memory, refl, ap (λ (s : StoreView D R). fill_of s) same),
@@ -253,7 +252,7 @@ module _ (functions : Functions) where
                 one_open = refl;
                 no_part = refl;
                 mid = old;
-                before = after_none state sound old old w mode text held held known text [] refl;
+                before = after_none functions state sound old old w mode text held held known text [] refl;
                 record_ = logged mode own;
                 was_accepted = taken;
                 fits = why.1;

@@ -24,7 +24,6 @@ use Rattle.form_reader.specs.Reader.{begun, fed, limits_of, BeginsLater, IsAfter
 use Rattle.lisp_reading.specs.Reading.{form, empty, outcome, reads, reads_at}
 use Rattle.lisp_reading.specs.Setting.{Setting, setting_of}
 use Rattle.lisp_reading.specs.Fitting.{IsFitting}
-use Rattle.lisp_reading.proofs.Bounded.{form_below}
 use Rattle.lisp_reading.proofs.Forms.{reads_is, stood, the_end_there}
 use Rattle.lisp_reading.proofs.Registered.{setting_same}
 use Rattle.plist_state.specs.Sound.{IsSound}
@@ -32,10 +31,10 @@ use Rattle.plist_state.specs.State.{WorldState}
 use Rattle.prevalence_store.specs.declared.session.input.Pending.{Pending}
 use Rattle.prevalence_store.specs.declared.mode.Mode.{Mode}
 use Rattle.prevalence_store.specs.meaning.Acceptance.{between, form_limits, package_in, read_in, setting_in, table_in}
-use Rattle.user_macros.specs.Functions.{Functions, are_registered, named_among}
+use Rattle.user_macros.specs.Functions.{Functions}
 use Rattle.prevalence_store.specs.steps.Input.{HasForm, IsLastForm, IsPending}
 use Rattle.prevalence_store.specs.steps.Answer.{BeginsWith}
-use Rattle.prevalence_store.proofs.calls.Executing.{form_places, length-between, own_whole}
+use Rattle.prevalence_store.proofs.calls.Executing.{form_places, own_whole}
 use Rattle.prevalence_store.proofs.steps.Fitting.{among_same, fits_in}
 
 -- the setting of a call, with the functions that are registered, is that of the world

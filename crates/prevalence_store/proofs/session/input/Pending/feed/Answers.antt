@@ -9,7 +9,7 @@ pub bytes-preserved : goal.bytes-preserved
 bytes-preserved g c =
     let invariant = c.bytes.invariant in
     record {
-      fed = let same = invariant.fed in omega arith;
+      counted = let same = invariant.counted in omega arith;
       count = let one = c.in_ok-fed.ensures.count in let so_far = invariant.count in omega arith;
       goes = λ bytes p.
           let functions = g.R.Meaning.Meaning.functions in
@@ -26,7 +26,7 @@ returns-in_default g c =
     let many = c.bytes-test.true in
     let one = c.in_ok-fed.ensures.count in
     let so_far = invariant.count in
-    let same = invariant.fed in
+    let same = invariant.counted in
     record {
       feeds = λ bytes p.
           let functions = g.R.Meaning.Meaning.functions in

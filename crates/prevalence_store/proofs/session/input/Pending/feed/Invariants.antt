@@ -6,7 +6,7 @@ use Rattle.prevalence_store.proofs.session.input.Pending.feed.Given as goal
 -- the bytes so far decide nothing, and are pending
 abbrev pub invariant-bytes : goal.invariant-bytes
 invariant-bytes g l = record {
-  fed : l.count ≡ l.byte-index;
+  counted : l.count ≡ l.byte-index;
   count : fed l.self.reader ≤ fed l.fn.self.reader + l.byte-index;
   goes : (bytes : List ℕ)
       → IsPending g.R.Meaning.Meaning.functions l.world.0 l.mode l.fn.self bytes
