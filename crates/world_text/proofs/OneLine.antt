@@ -92,7 +92,7 @@ module _ (t : Table) (sound : packages.IsSound t) where
       → reads (setting_of limits standard t common_lisp_user no_functions) (printed t common_lisp_user x ++ 10 ∷ rest)
       ≡ form x 0 (length (printed t common_lisp_user x)) (length (printed t common_lisp_user x) + space_at standard (ends_with_token x) (10 ∷ rest))
   read_line limits room x good deep fits few rest =
-      object_read_back limits t common_lisp_user [] (λ _. None) (λ _ _. no_value) sound room x (good.sound, good_symbols t x good, few) deep fits (10 ∷ rest) (ends_line rest)
+      object_read_back limits t common_lisp_user no_functions sound room x (good.sound, good_symbols t x good, few) deep fits (10 ∷ rest) (ends_line rest)
 
   one_object : (x y : Object) → IsGood t x → IsGood t y → (rest more : List ℕ) → printed t common_lisp_user x ++ 10 ∷ rest ≡ printed t common_lisp_user y ++ 10 ∷ more → x ≡ y
   one_object x y gx gy rest more e =
