@@ -31,7 +31,7 @@ use Rattle.plist_state.specs.State.{WorldState}
 use Rattle.prevalence_store.specs.declared.session.input.Pending.{Pending}
 use Rattle.prevalence_store.specs.declared.mode.Mode.{Mode}
 use Rattle.prevalence_store.specs.meaning.Acceptance.{between, form_limits, package_in, read_in, setting_in, table_in}
-use Rattle.user_macros.specs.Functions.{Functions}
+use Rattle.user_macros.specs.Functions.{Functions, are_registered, named_among}
 use Rattle.prevalence_store.specs.steps.Input.{HasForm, IsLastForm, IsPending}
 use Rattle.prevalence_store.specs.steps.Answer.{BeginsWith}
 use Rattle.prevalence_store.proofs.calls.Executing.{form_places, own_whole}
