@@ -73,7 +73,7 @@ module _ (functions : Functions) (mode : Mode) where
                 w,
                 number,
                 record { forms = s.forms; far = s.far; far_is = subst (λ t. after_forms functions s.forms w mode t ≡ Some s.far) text_is s.far_is; all = lines },
-                (s.ends.place, s.ends.reads),
+                (s.ends.at, s.ends.reads),
               )
           | inr stays ↦
               let more = stays read.0 in (
