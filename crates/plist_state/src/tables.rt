@@ -11,7 +11,7 @@ ghost use Rattle.plist_state.specs.declared.note.Note.TheVariants.{Made, Changed
 ghost use Rattle.plist_state.specs.Changes.{writable, with_case, with_macro, with_dispatching, with_dispatch, with_syntax, with_copy, refused_as, Gives};
 ghost use Rattle.plist_state.specs.Shown.{readtables_of};
 ghost use Rattle.plist_state.specs.Undoing.{table_before, tables_before};
-ghost use Rattle.plist_state.specs.Journal.{marks_of, IsTableChange, ContinuesTables};
+ghost use Rattle.plist_state.specs.Journal.{marks_of, has_room, IsTableChange, IsEntryNote, ContinuesTables};
 
 use crate::ReadtableError;
 use crate::journal::{push_note, reserve_named};
@@ -103,6 +103,25 @@ fn was_at(name: Vec<u8>, c: u8, entry: CharacterSlot) -> Note
     Note::Changed { name, change }
 }
 
+// The note of what is at a character of the readtable of this name, which is there. The newest mark has room for it.
+fn entry_note(
+    alloc: Global,
+    tables: &BTreeMap<Vec<u8>, Readtable>,
+    marks: &mut Vec<Vec<Note>>,
+    name: &[u8],
+    c: u8,
+) -> Result<Note, AllocError>
+    requires character { c < 128 }
+    requires there { IsTrue (finite.contains_key (readtables_of tables.now) name.now) }
+    ensures note { IfOk result (IsEntryNote (readtables_of tables.now) name.now c) }
+    ensures same { marks_of marks.new.items ≡ marks_of marks.old.items }
+    ensures room { OnOk result (has_room marks.new.items) }
+{
+    let entry = copy_entry(alloc, tables, name, c)?;
+    let noted = reserve_named(alloc, marks, name)?;
+    Ok(was_at(noted, c, entry))
+}
+
 /// Sets the case of a readtable.
 pub(crate) fn set_case(
     alloc: Global,
@@ -153,13 +172,12 @@ pub(crate) fn set_macro(
         (marks_of marks.new.items) (readtables_of tables.new) }
 {
     check_writable(tables, name)?;
-    let entry = copy_entry(alloc, tables, name, c)?;
-    let noted = reserve_named(alloc, marks, name)?;
+    let note = entry_note(alloc, tables, marks, name, c)?;
     let Some(table) = tables.get_mut(name) else {
         unreachable!()
     };
     table.set_macro(c, function, non_terminating);
-    push_note(marks, was_at(noted, c, entry));
+    push_note(marks, note);
     Ok(())
 }
 
@@ -180,15 +198,14 @@ pub(crate) fn make_dispatch(
         (marks_of marks.new.items) (readtables_of tables.new) }
 {
     check_writable(tables, name)?;
-    let entry = copy_entry(alloc, tables, name, c)?;
-    let noted = reserve_named(alloc, marks, name)?;
+    let note = entry_note(alloc, tables, marks, name, c)?;
     let Some(table) = tables.get_mut(name) else {
         unreachable!()
     };
     if let Err(_) = table.make_dispatch(c, non_terminating) {
         return Err(ReadtableError::OutOfMemory);
     }
-    push_note(marks, was_at(noted, c, entry));
+    push_note(marks, note);
     Ok(())
 }
 
@@ -213,15 +230,14 @@ pub(crate) fn set_dispatch(
 {
     check_writable(tables, name)?;
     check_dispatch(tables, name, c, sub)?;
-    let entry = copy_entry(alloc, tables, name, c)?;
-    let noted = reserve_named(alloc, marks, name)?;
+    let note = entry_note(alloc, tables, marks, name, c)?;
     let Some(table) = tables.get_mut(name) else {
         unreachable!()
     };
     if let Err(_) = table.set_dispatch(c, sub, function) {
         unreachable!()
     }
-    push_note(marks, was_at(noted, c, entry));
+    push_note(marks, note);
     Ok(())
 }
 
