@@ -22,7 +22,8 @@ use plist_state::World;
 use readtable_core::FnName;
 use std::alloc::Global;
 
-/// The value of a form. Where it is refused, or memory runs out, the world is as evaluation left it.
+/// The value of a form. Where it is refused, or memory runs out, what was carried out before stays, and the marks are as they
+/// were.
 #[cycle(evaluation)]
 pub fn evaluate(
     alloc: Global,
@@ -86,7 +87,8 @@ fn list_form(
     requires some { 0 < length items.now }
     requires names { AreFunctionNames names.now }
     requires items { AreArgumentsOf world.old items.now }
-    ensures gives { Evaluates names.now (list_of (objects items.now)) world.old.0 world.new.0 result }
+    ensures gives { Evaluates names.now (list_of (objects items.now))
+        world.old.0 world.new.0 result }
     ensures proper { IfOk result IsProperValue }
     ensures marked { world.new.1 ≡ world.old.1 }
 {
