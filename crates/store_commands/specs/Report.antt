@@ -26,12 +26,12 @@ half_line half generation records = codes "half " ++ (letter_of half ++ (codes "
 
 -- the same of an open store
 abbrev pub half_line_of : {D R : Type 0} → StoreView D R → List ℕ
-half_line_of session = half_line session.half session.generation session.record_count
+half_line_of store = half_line store.half store.generation store.record_count
 
 -- what is told of an open store with this world: `dump` writes the text of it, and `verify` the line on the half in use
 abbrev pub text_of : Report → {D R : Type 0} → StoreView D R → WorldState → List ℕ
-text_of Dump session world = snapshot world
-text_of Verify session world = half_line_of session
+text_of Dump store world = snapshot world
+text_of Verify store world = half_line_of store
 
 -- The store that a disk holds was opened with these macro functions, this was told of it, and it was closed: this is its disk.
 pub record IsReport (functions : Functions) {D R : Type 0} (state : D → State) (report : Report) (disk : D) (macros : R)
