@@ -1,12 +1,10 @@
 -- What the program does for the words that it was started with.
 use Rattle.std.specs.Prelude.{◌≡◌, ◌==◌, ◌||◌, ◌⊎◌, ℕ, Bool, true, false, List, [], Option, Some}
-use Rattle.std.specs.List.{list_all}
 use Rattle.disk_trait.specs.Disk.{State}
 use Rattle.disk_trait.specs.declared.half.Half.{Half}
 use Rattle.lisp_object.specs.declared.refusal.TheConstants.{DEVICE, DAMAGED, MISSING_MACRO, VERSION, NO_MEMORY}
 use Rattle.clap.specs.Words.{Text}
 use Rattle.plist_state.specs.State.{WorldState}
-use Rattle.readtable_core.specs.Names.{is_among}
 use Rattle.world_text.specs.Snapshot.{snapshot}
 use Rattle.user_macros.specs.Functions.{Functions}
 use Rattle.prevalence_store.specs.calls.Open.{IsUnopened}
@@ -21,10 +19,6 @@ use Rattle.store_commands.specs.declared.status.Status.TheVariants.{Fault, Helpe
 use Rattle.store_commands.specs.declared.words.Report.TheVariants.{Dump, Verify}
 use Rattle.store_commands.specs.declared.words.Task.{Task}
 use Rattle.store_commands.specs.declared.words.Task.TheVariants.{Run, Tell}
-
--- each of these names is registered
-abbrev pub is_whole : List (List ℕ) → List (List ℕ) → Bool
-is_whole registered names = list_all (is_among registered) names
 
 -- nothing was read, and nothing written
 abbrev pub IsUntouched : {I O : Type 0} → I → I → O → O → Type 0
