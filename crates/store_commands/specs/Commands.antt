@@ -10,10 +10,9 @@ use Rattle.user_macros.specs.Functions.{Functions}
 use Rattle.prevalence_store.specs.calls.Open.{IsUnopened}
 use Rattle.prevalence_store.specs.declared.outcome.Ending.{Ending}
 use Rattle.store_commands.specs.Report.{DumpsWorld, IsReport, TellsHalf, half_line}
-use Rattle.store_commands.specs.Session.{AnswersInput, IsBrokenOff, IsSession, ReadsToEnd}
+use Rattle.store_commands.specs.Session.{AnswersInput, IsBrokenOff, IsSession, ReadsToEnd, half_limit}
 use Rattle.store_commands.specs.Status.{HasFaultNumber, IsCarriedOut, TakesWords, status_of_ending}
 use Rattle.store_commands.specs.Texts.{IsFront}
-use Rattle.store_commands.specs.declared.session.TheConstants.{HALF_LIMIT}
 use Rattle.store_commands.specs.declared.status.Status.{Status}
 use Rattle.store_commands.specs.declared.status.Status.TheVariants.{Fault, Helped, WordsRefused}
 use Rattle.store_commands.specs.declared.words.Report.TheVariants.{Dump, Verify}
@@ -57,7 +56,7 @@ module _ (functions : Functions) where
 -- the opening left it.
 abbrev pub TellsUnopened : Functions → {D : Type 0} → (D → State) → (disk back : D) → Bool → Status → Type 0
 TellsUnopened functions state disk back whole status =
-    (number : ℕ) × (status ≡ Fault number) × IsUnopened functions state disk whole HALF_LIMIT number back
+    (number : ℕ) × (status ≡ Fault number) × IsUnopened functions state disk whole half_limit number back
 
 -- What a task does with these macro functions, the input and the output. What a reader has left, and what a writer holds, is told
 -- by two functions.

@@ -9,7 +9,7 @@ use Rattle.user_macros.specs.Functions.{Functions}
 use Rattle.prevalence_store.specs.calls.Open.{IsOpened}
 use Rattle.prevalence_store.specs.calls.Store.{StoreView}
 use Rattle.store_commands.specs.Texts.{TellsText}
-use Rattle.store_commands.specs.declared.session.TheConstants.{HALF_LIMIT}
+use Rattle.store_commands.specs.Session.{half_limit}
 use Rattle.store_commands.specs.declared.status.Status.{Status}
 use Rattle.store_commands.specs.declared.status.Status.TheVariants.{Done, Helped, ReaderRefused, WordsRefused, Fault}
 use Rattle.store_commands.specs.declared.words.Report.{Report}
@@ -37,7 +37,7 @@ text_of Verify store world = half_line_of store
 pub record IsReport (functions : Functions) {D R : Type 0} (state : D → State) (report : Report) (disk : D) (macros : R)
     (held written : Option (List ℕ)) (status : Status) (back : D) : Type 0 where
   pub opened : StoreView D R
-  pub is_opened : IsOpened functions state disk macros HALF_LIMIT opened
+  pub is_opened : IsOpened functions state disk macros half_limit opened
   pub tells : TellsText status held written (text_of report opened is_opened.world)
   pub disk_is : back ≡ opened.disk
 
