@@ -2,7 +2,7 @@
 use Rattle.std.proofs.Common.{◌≡◌, inl, inr, ℕ, zero, suc, ◌-◌, ◌<◌, List, [], ◌∷◌, ◌++◌, length, take, replicate, refl, subst, arith, sym, ◌∙◌, ap, ◌+◌, length-append, length-take, length-drop, drop, Option, Some, None}
 use Rattle.std.proofs.lemmas.List.{length-replicate}
 use Rattle.disk_trait.specs.Disk.{Image, AreBytes, written, Torn, Cut}
-use Rattle.disk_trait.specs.Replay.{Present, settled, after_what, where_same, after_call, after_calls, MayLeave}
+use Rattle.disk_trait.specs.Replay.{FileState, settled, after_what, where_same, after_call, after_calls, MayLeave}
 use Rattle.disk_trait.specs.ReplayLaws.{Stays, stay, stay_what, stay_where}
 use Rattle.disk_trait.specs.Crash.{FillsBytes, left_after, on_same, swept, left_by}
 use Rattle.disk_trait.specs.declared.call.Call.{Call}
@@ -46,7 +46,7 @@ abbrev IsFill : Option ℕ → Type 0
 IsFill None = Unit {0}
 IsFill (Some byte) = byte < 256
 
-left_what : (fill : Option ℕ) (what : What) (p : Present) (left : List ℕ) → IsFill fill → Stays p → p.may_leave left → (after_what what p).may_leave (left_after fill what p.reads left)
+left_what : (fill : Option ℕ) (what : What) (p : FileState) (left : List ℕ) → IsFill fill → Stays p → p.may_leave left → (after_what what p).may_leave (left_after fill what p.reads left)
 left_what None Looked p left small stays may = ((left, may, inl refl), tt)
 left_what (Some byte) Looked p left small stays may = ((left, may, inl refl), tt)
 left_what None Synced p left small stays may = ((p.reads, stays, inl refl), refl)
@@ -56,19 +56,19 @@ left_what None (Shortened len) p left small stays may = ((left, may, inl refl), 
 left_what (Some byte) (Wrote at bytes) p left small stays may = ((left, may, inr (inl (filled_write at (length bytes.items) byte left small))), tt)
 left_what (Some byte) (Shortened len) p left small stays may = ((left, may, inr (filled_cut len byte left small)), tt)
 
-left_where : (half on : Half) (p q : Present) (first second : List ℕ) → p.may_leave first → q.may_leave second → (where_same half on p q).may_leave (on_same half on first second)
+left_where : (half on : Half) (p q : FileState) (first second : List ℕ) → p.may_leave first → q.may_leave second → (where_same half on p q).may_leave (on_same half on first second)
 left_where A A p q first second one other = one
 left_where A B p q first second one other = other
 left_where B A p q first second one other = other
 left_where B B p q first second one other = one
 
-reads_where : (half on : Half) (p q : Present) → (where_same half on p q).reads ≡ on_same half on p.reads q.reads
+reads_where : (half on : Half) (p q : FileState) → (where_same half on p q).reads ≡ on_same half on p.reads q.reads
 reads_where A A p q = refl
 reads_where A B p q = refl
 reads_where B A p q = refl
 reads_where B B p q = refl
 
-swept_left : (fill : Option ℕ) (half : Half) (calls : List Call) (p : Present) (left : List ℕ) → IsFill fill → Stays p → p.may_leave left → (after_calls half calls p).may_leave (swept fill half calls p.reads left)
+swept_left : (fill : Option ℕ) (half : Half) (calls : List Call) (p : FileState) (left : List ℕ) → IsFill fill → Stays p → p.may_leave left → (after_calls half calls p).may_leave (swept fill half calls p.reads left)
 swept_left fill half [] p left small stays may = may
 swept_left fill half (call ∷ calls) p left small stays may =
     let next = after_call half call p in

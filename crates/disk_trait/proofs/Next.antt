@@ -3,7 +3,7 @@ use Rattle.std.proofs.Common.{◌≡◌, ◌⊎◌, inl, inr, ⊎_elim, ℕ, ◌
 use Rattle.std.proofs.lemmas.List.{take_all, take-append-le}
 use Rattle.std.proofs.lemmas.Bool.{cases_lt}
 use Rattle.disk_trait.specs.Disk.{Image, other_of, OnHalf, Partly, Elapses}
-use Rattle.disk_trait.specs.Replay.{Present, PartOf, settled, after_what, where_same, after_call, after_calls, MayLeave, LeftSince, told, Follows}
+use Rattle.disk_trait.specs.Replay.{FileState, PartOf, settled, after_what, where_same, after_call, after_calls, MayLeave, LeftSince, told, Follows}
 use Rattle.disk_trait.specs.declared.call.Call.{Call}
 use Rattle.disk_trait.specs.declared.call.What.{What}
 use Rattle.disk_trait.specs.declared.half.Half.{Half}
@@ -12,18 +12,18 @@ use Rattle.disk_trait.specs.declared.half.Half.TheVariants.{A, B}
 abbrev pub one : Half → What → List Call
 one half what = record { half = half; what = what } ∷ []
 
-after_calls-push : (half : Half) (calls : List Call) (call : Call) (p : Present) → after_calls half (calls ++ call ∷ []) p ≡ after_call half call (after_calls half calls p)
+after_calls-push : (half : Half) (calls : List Call) (call : Call) (p : FileState) → after_calls half (calls ++ call ∷ []) p ≡ after_call half call (after_calls half calls p)
 after_calls-push half [] call p = refl
 after_calls-push half (first ∷ calls) call p = after_calls-push half calls call (after_call half first p)
 
-pub reads-push : (half on : Half) (what : What) (calls : List Call) (p : Present) → (after_calls half (calls ++ one on what) p).reads ≡ (where_same half on (after_what what (after_calls half calls p)) (after_calls half calls p)).reads
-reads-push half on what calls p = ap (λ (q : Present). q.reads) (after_calls-push half calls (record { half = on; what = what }) p)
+pub reads-push : (half on : Half) (what : What) (calls : List Call) (p : FileState) → (after_calls half (calls ++ one on what) p).reads ≡ (where_same half on (after_what what (after_calls half calls p)) (after_calls half calls p)).reads
+reads-push half on what calls p = ap (λ (q : FileState). q.reads) (after_calls-push half calls (record { half = on; what = what }) p)
 
-left-push : (half on : Half) (what : What) (calls : List Call) (p : Present) (c : List ℕ) → (after_calls half (calls ++ one on what) p).may_leave c → (where_same half on (after_what what (after_calls half calls p)) (after_calls half calls p)).may_leave c
-left-push half on what calls p c left = subst (λ (q : Present). q.may_leave c) (after_calls-push half calls (record { half = on; what = what }) p) left
+left-push : (half on : Half) (what : What) (calls : List Call) (p : FileState) (c : List ℕ) → (after_calls half (calls ++ one on what) p).may_leave c → (where_same half on (after_what what (after_calls half calls p)) (after_calls half calls p)).may_leave c
+left-push half on what calls p c left = subst (λ (q : FileState). q.may_leave c) (after_calls-push half calls (record { half = on; what = what }) p) left
 
-left-pull : (half on : Half) (what : What) (calls : List Call) (p : Present) (c : List ℕ) → (where_same half on (after_what what (after_calls half calls p)) (after_calls half calls p)).may_leave c → (after_calls half (calls ++ one on what) p).may_leave c
-left-pull half on what calls p c left = subst (λ (q : Present). q.may_leave c) (sym (after_calls-push half calls (record { half = on; what = what }) p)) left
+left-pull : (half on : Half) (what : What) (calls : List Call) (p : FileState) (c : List ℕ) → (where_same half on (after_what what (after_calls half calls p)) (after_calls half calls p)).may_leave c → (after_calls half (calls ++ one on what) p).may_leave c
+left-pull half on what calls p c left = subst (λ (q : FileState). q.may_leave c) (sym (after_calls-push half calls (record { half = on; what = what }) p)) left
 
 elapses_push : (start : Image) (calls : List Call) (call : Call) (failures later_failures : ℕ) → Elapses (told start calls failures) (told start (calls ++ call ∷ []) later_failures)
 elapses_push start calls call failures later_failures = record {

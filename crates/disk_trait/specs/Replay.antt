@@ -9,12 +9,12 @@ use Rattle.disk_trait.specs.declared.half.Half.{Half}
 use Rattle.disk_trait.specs.declared.half.Half.TheVariants.{A, B}
 
 -- one file: what a read gives, and what a crash may leave
-pub record Present : Type 1 where
+pub record FileState : Type 1 where
   pub reads : List ℕ
   pub may_leave : List ℕ → Type 0
 
 -- nothing is pending
-abbrev pub settled : List ℕ → Present
+abbrev pub settled : List ℕ → FileState
 settled file = record { reads = file; may_leave = λ c. c ≡ file }
 
 -- what a read gives after the call
@@ -36,28 +36,28 @@ abbrev pub Binds : What → List ℕ → List ℕ → Type 0
 Binds Synced file left = left ≡ file
 Binds _ file left = Unit {0}
 
-abbrev pub MayFollow : What → Present → List ℕ → Type 0
+abbrev pub MayFollow : What → FileState → List ℕ → Type 0
 MayFollow what before c = (d : List ℕ) × before.may_leave d × ((c ≡ d) ⊎ PartOf what d c)
 
-abbrev pub after_what : What → Present → Present
+abbrev pub after_what : What → FileState → FileState
 after_what what before = record {
   reads = reads_after what before.reads;
   may_leave = λ c. MayFollow what before c × Binds what before.reads c;
 }
 
 -- the first of the two where the halves are the same, else the second
-abbrev pub where_same : Half → Half → Present → Present → Present
+abbrev pub where_same : Half → Half → FileState → FileState → FileState
 where_same A A same other = same
 where_same A B same other = other
 where_same B A same other = other
 where_same B B same other = same
 
 -- a call of the other half changes nothing
-abbrev pub after_call : Half → Call → Present → Present
+abbrev pub after_call : Half → Call → FileState → FileState
 after_call half call before = where_same half call.half (after_what call.what before) before
 
 -- the calls in turn, the oldest first
-abbrev pub after_calls : Half → List Call → Present → Present
+abbrev pub after_calls : Half → List Call → FileState → FileState
 after_calls half [] before = before
 after_calls half (call ∷ calls) before = after_calls half calls (after_call half call before)
 

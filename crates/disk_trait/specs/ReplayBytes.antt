@@ -3,7 +3,7 @@ use Rattle.std.proofs.Common.{⊎_elim, ℕ, zero, suc, ◌+◌, ◌<◌, true, 
 use Rattle.std.specs.Prelude.{nat_lt}
 use Rattle.std.proofs.lemmas.Bool.{and_parts, and_from, ltb-true, lt-ltb}
 use Rattle.disk_trait.specs.Disk.{Image, AreBytes, HoldsBytes, Torn, Cut}
-use Rattle.disk_trait.specs.Replay.{Present, PartOf, settled, after_what, where_same, after_call, after_calls, LeftSince, are_bytes, writes_bytes, began_with_bytes, wrote_bytes}
+use Rattle.disk_trait.specs.Replay.{FileState, PartOf, settled, after_what, where_same, after_call, after_calls, LeftSince, are_bytes, writes_bytes, began_with_bytes, wrote_bytes}
 use Rattle.disk_trait.specs.declared.call.Call.{Call}
 use Rattle.disk_trait.specs.declared.call.What.{What}
 use Rattle.disk_trait.specs.declared.call.What.TheVariants.{Looked, Wrote, Shortened, Synced}
@@ -51,15 +51,15 @@ bytes_part (Shortened len) old new writes part are = bytes_cut len old new part 
 bytes_part Synced old new writes part are = absurd part
 
 -- a crash leaves nothing but bytes
-abbrev LeavesBytes : Present → Type 0
+abbrev LeavesBytes : FileState → Type 0
 LeavesBytes p = (c : List ℕ) → p.may_leave c → AreBytes c
 
-bytes_what : (what : What) (p : Present) → IsTrue (writes_bytes what) → LeavesBytes p → LeavesBytes (after_what what p)
+bytes_what : (what : What) (p : FileState) → IsTrue (writes_bytes what) → LeavesBytes p → LeavesBytes (after_what what p)
 bytes_what what p writes leaves c left =
     let before = left.0 in
     ⊎_elim (λ same. subst AreBytes (sym same) (leaves before.0 before.1)) (λ part. bytes_part what before.0 c writes part (leaves before.0 before.1)) before.2
 
-bytes_where : (half other : Half) (p q : Present) → LeavesBytes p → LeavesBytes q → LeavesBytes (where_same half other p q)
+bytes_where : (half other : Half) (p q : FileState) → LeavesBytes p → LeavesBytes q → LeavesBytes (where_same half other p q)
 bytes_where A A p q first second = first
 bytes_where A B p q first second = second
 bytes_where B A p q first second = second
@@ -78,7 +78,7 @@ pub each_byte : (bytes : List ℕ) → ((i : ℕ) → get_or bytes i 0 < 256) �
 each_byte [] each = refl
 each_byte (b ∷ bs) each = and_from (nat_lt b 256) (are_bytes bs) (lt-ltb b 256 (each 0)) (each_byte bs (λ i. each (suc i)))
 
-bytes_calls : (half : Half) (calls : List Call) (p : Present) → IsTrue (wrote_bytes calls) → LeavesBytes p → LeavesBytes (after_calls half calls p)
+bytes_calls : (half : Half) (calls : List Call) (p : FileState) → IsTrue (wrote_bytes calls) → LeavesBytes p → LeavesBytes (after_calls half calls p)
 bytes_calls half [] p wrote leaves = leaves
 bytes_calls half (call ∷ calls) p wrote leaves =
     let parts = and_parts (writes_bytes call.what) (wrote_bytes calls) wrote in

@@ -2,7 +2,7 @@
 use Rattle.std.proofs.Common.{inl, inr, ℕ, IsTrue, List, [], ◌∷◌, length, take, refl, sym, subst, arith, append-nil, length-take}
 use Rattle.std.proofs.lemmas.List.{take_all}
 use Rattle.disk_trait.specs.Disk.{Image, Cut, IsSound}
-use Rattle.disk_trait.specs.Replay.{Present, settled, after_what, where_same, after_call, after_calls, MayLeave, told, began_with_bytes, wrote_bytes}
+use Rattle.disk_trait.specs.Replay.{FileState, settled, after_what, where_same, after_call, after_calls, MayLeave, told, began_with_bytes, wrote_bytes}
 use Rattle.disk_trait.specs.ReplayBytes.{left_bytes}
 use Rattle.disk_trait.specs.declared.call.Call.{Call}
 use Rattle.disk_trait.specs.declared.call.What.{What}
@@ -11,25 +11,25 @@ use Rattle.disk_trait.specs.declared.half.Half.{Half}
 use Rattle.disk_trait.specs.declared.half.Half.TheVariants.{A, B}
 
 -- a crash may leave what a read gives
-abbrev pub Stays : Present → Type 0
+abbrev pub Stays : FileState → Type 0
 Stays p = p.may_leave p.reads
 
 whole_cut : (len : ℕ) (file : List ℕ) → Cut len file (take len file)
 whole_cut len file = record { middle = []; bytes = tt; parts = sym (append-nil (take len file)); no_longer = omega (arith, length-take len file) }
 
-pub stay_what : (what : What) (p : Present) → Stays p → Stays (after_what what p)
+pub stay_what : (what : What) (p : FileState) → Stays p → Stays (after_what what p)
 stay_what Looked p stays = ((p.reads, stays, inl refl), tt)
 stay_what (Wrote at bytes) p stays = ((p.reads, stays, inr (inr refl)), tt)
 stay_what (Shortened len) p stays = ((p.reads, stays, inr (whole_cut len p.reads)), tt)
 stay_what Synced p stays = ((p.reads, stays, inl refl), refl)
 
-pub stay_where : (half other : Half) (p q : Present) → Stays p → Stays q → Stays (where_same half other p q)
+pub stay_where : (half other : Half) (p q : FileState) → Stays p → Stays q → Stays (where_same half other p q)
 stay_where A A p q first second = first
 stay_where A B p q first second = second
 stay_where B A p q first second = second
 stay_where B B p q first second = first
 
-pub stay : (half : Half) (calls : List Call) (p : Present) → Stays p → Stays (after_calls half calls p)
+pub stay : (half : Half) (calls : List Call) (p : FileState) → Stays p → Stays (after_calls half calls p)
 stay half [] p stays = stays
 stay half (call ∷ calls) p stays = stay half calls (after_call half call p) (stay_where half call.half (after_what call.what p) p (stay_what call.what p stays) stays)
 

@@ -1,5 +1,5 @@
 // What a crash leaves of a file in memory.
-ghost use Rattle.std.specs.Prelude.{◌≡◌, ◌+◌, ◌-◌, ◌<◌, ◌≤◌, ◌++◌, length, take, replicate, IfOk};
+ghost use Rattle.std.specs.Prelude.{◌≡◌, ◌+◌, ◌-◌, ◌<◌, ◌++◌, length, take, replicate, IfOk};
 ghost use Rattle.disk_trait.specs.Disk.{written};
 ghost use Rattle.disk_trait.specs.Replay.{reads_after};
 ghost use Rattle.disk_trait.specs.Crash.{left_after, swept};

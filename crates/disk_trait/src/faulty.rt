@@ -1,5 +1,5 @@
 //! A disk some of whose calls fail.
-ghost use Rattle.std.specs.Prelude.{◌≡◌, ◌+◌, ◌-◌, ◌<◌, ◌^◌, Some, true, false, IsErr, IsOk, OnErr, OnOk, ◌↔◌};
+ghost use Rattle.std.specs.Prelude.{◌≡◌, ◌+◌, ◌-◌, ◌<◌, ◌^◌, Some, true, IsErr, OnErr, OnOk, ◌↔◌};
 ghost use Rattle.disk_trait.specs.Moments.{recounted_sound};
 
 use crate::{DeviceFault, Disk, Faults, Fuse, Half, Once};

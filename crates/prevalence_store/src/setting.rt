@@ -1,7 +1,5 @@
 // Under what a text is read, and what it begins with.
 ghost use Rattle.std.specs.Prelude.{◌≡◌, true, IfOk};
-ghost use Rattle.std.specs.List.{list_all};
-ghost use Rattle.readtable_core.specs.Names.{is_among};
 ghost use Rattle.package_table.specs.Table.{IsPackage};
 ghost use Rattle.form_reader.specs.Reader.{IsOutcome};
 ghost use Rattle.prevalence_store.specs.meaning.Acceptance.{package_in, read_in, table_in};

@@ -112,12 +112,37 @@ fn serve<D: Disk>(
     store.serve(&mut reader, text, session.mode, session.every)
 }
 
+/// The lines of a session, and that of its end.
+fn session_lines<D: Disk>(
+    store: &mut Store<D, ByName>,
+    session: Serving<'_>,
+    text: &mut Vec<u8>,
+) -> Result<(), Trouble> {
+    let ending = serve(store, session, text);
+    ending_line(text, ending)
+}
+
 fn execute<D: Disk>(store: &mut Store<D, ByName>, mode: Mode, form: &[u8]) -> Outcome {
     store.execute(mode, form)
 }
 
+/// The line of a form.
+fn form_line<D: Disk>(
+    store: &mut Store<D, ByName>,
+    mode: Mode,
+    form: &[u8],
+    text: &mut Vec<u8>,
+) -> Result<(), Trouble> {
+    outcome_line(text, &execute(store, mode, form))
+}
+
 fn snapshot<D: Disk>(store: &mut Store<D, ByName>) -> Outcome {
     store.snapshot()
+}
+
+/// The line of a snapshot.
+fn snapshot_line<D: Disk>(store: &mut Store<D, ByName>, text: &mut Vec<u8>) -> Result<(), Trouble> {
+    outcome_line(text, &snapshot(store))
 }
 
 /// The lines of steps.
@@ -163,12 +188,9 @@ fn ask_one<D: Disk>(
     text: &mut Vec<u8>,
 ) -> Result<(), Trouble> {
     match call {
-        Ask::Serve(session) => {
-            let ending = serve(store, session, text);
-            ending_line(text, ending)
-        }
-        Ask::Form(mode, form) => outcome_line(text, &execute(store, mode, form)),
-        Ask::Snapshot => outcome_line(text, &snapshot(store)),
+        Ask::Serve(session) => session_lines(store, session, text),
+        Ask::Form(mode, form) => form_line(store, mode, form, text),
+        Ask::Snapshot => snapshot_line(store, text),
         Ask::Run(steps) => run(store, steps, text),
         Ask::Half => half_line(store, text),
         Ask::World => world_text(alloc, store, text),

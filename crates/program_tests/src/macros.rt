@@ -1,7 +1,6 @@
 //! The macro functions of the program, registered and called.
-ghost use Rattle.std.specs.Prelude.{◌≡◌, true, IsTrue, IfOk};
+ghost use Rattle.std.specs.Prelude.{true, IsTrue};
 ghost use Rattle.user_macros.specs.Sound.{IsProperMaterial, IsSoundCall};
-ghost use Rattle.user_macros.specs.Functions.{are_registered};
 
 use lisp_object::{Bytes, Datum, Items};
 use readtable_core::{FnName, Readtable};

@@ -142,7 +142,7 @@ fn input_and_text(alloc: Global, lines: &str) -> Result<(Vec<u8>, Vec<u8>), Allo
 /// Whether a run of a script has the text that is wanted.
 pub fn holds(rt: &HostRuntime, folder: &str, run: &'static str) -> Result<bool, Fail> {
     let Some((words, lines)) = run.split_once('\n') else {
-        return Ok(true);
+        return Ok(false);
     };
     let (input, wanted) = input_and_text(rt.alloc(), lines)?;
     let found = told(rt, folder, lack_of(words), words, input.as_slice())?;

@@ -1,30 +1,23 @@
 -- What the program does for the words that it was started with.
 use Rattle.std.specs.Prelude.{◌≡◌, ◌==◌, ◌||◌, ◌⊎◌, ℕ, Bool, true, false, List, [], Option, Some}
-use Rattle.std.specs.List.{list_all}
 use Rattle.disk_trait.specs.Disk.{State}
 use Rattle.disk_trait.specs.declared.half.Half.{Half}
 use Rattle.lisp_object.specs.declared.refusal.TheConstants.{DEVICE, DAMAGED, MISSING_MACRO, VERSION, NO_MEMORY}
 use Rattle.clap.specs.Words.{Text}
 use Rattle.plist_state.specs.State.{WorldState}
-use Rattle.readtable_core.specs.Names.{is_among}
 use Rattle.world_text.specs.Snapshot.{snapshot}
 use Rattle.user_macros.specs.Functions.{Functions}
 use Rattle.prevalence_store.specs.calls.Open.{IsUnopened}
 use Rattle.prevalence_store.specs.declared.outcome.Ending.{Ending}
 use Rattle.store_commands.specs.Report.{DumpsWorld, IsReport, TellsHalf, half_line}
-use Rattle.store_commands.specs.Session.{AnswersInput, IsBrokenOff, IsSession, ReadsToEnd}
+use Rattle.store_commands.specs.Session.{AnswersInput, IsBrokenOff, IsSession, ReadsToEnd, half_limit}
 use Rattle.store_commands.specs.Status.{HasFaultNumber, IsCarriedOut, TakesWords, status_of_ending}
 use Rattle.store_commands.specs.Texts.{IsFront}
-use Rattle.store_commands.specs.declared.session.TheConstants.{HALF_LIMIT}
 use Rattle.store_commands.specs.declared.status.Status.{Status}
 use Rattle.store_commands.specs.declared.status.Status.TheVariants.{Fault, Helped, WordsRefused}
 use Rattle.store_commands.specs.declared.words.Report.TheVariants.{Dump, Verify}
 use Rattle.store_commands.specs.declared.words.Task.{Task}
 use Rattle.store_commands.specs.declared.words.Task.TheVariants.{Run, Tell}
-
--- each of these names is registered
-abbrev pub is_whole : List (List ℕ) → List (List ℕ) → Bool
-is_whole registered names = list_all (is_among registered) names
 
 -- nothing was read, and nothing written
 abbrev pub IsUntouched : {I O : Type 0} → I → I → O → O → Type 0
@@ -63,7 +56,7 @@ module _ (functions : Functions) where
 -- the opening left it.
 abbrev pub TellsUnopened : Functions → {D : Type 0} → (D → State) → (disk back : D) → Bool → Status → Type 0
 TellsUnopened functions state disk back whole status =
-    (number : ℕ) × (status ≡ Fault number) × IsUnopened functions state disk whole HALF_LIMIT number back
+    (number : ℕ) × (status ≡ Fault number) × IsUnopened functions state disk whole half_limit number back
 
 -- What a task does with these macro functions, the input and the output. What a reader has left, and what a writer holds, is told
 -- by two functions.

@@ -9,7 +9,7 @@ use Rattle.user_macros.specs.Functions.{Functions}
 use Rattle.prevalence_store.specs.calls.Open.{IsOpened}
 use Rattle.prevalence_store.specs.calls.Store.{StoreView}
 use Rattle.store_commands.specs.Texts.{TellsText}
-use Rattle.store_commands.specs.declared.session.TheConstants.{HALF_LIMIT}
+use Rattle.store_commands.specs.Session.{half_limit}
 use Rattle.store_commands.specs.declared.status.Status.{Status}
 use Rattle.store_commands.specs.declared.status.Status.TheVariants.{Done, Helped, ReaderRefused, WordsRefused, Fault}
 use Rattle.store_commands.specs.declared.words.Report.{Report}
@@ -26,18 +26,18 @@ half_line half generation records = codes "half " ++ (letter_of half ++ (codes "
 
 -- the same of an open store
 abbrev pub half_line_of : {D R : Type 0} → StoreView D R → List ℕ
-half_line_of session = half_line session.half session.generation session.record_count
+half_line_of store = half_line store.half store.generation store.record_count
 
 -- what is told of an open store with this world: `dump` writes the text of it, and `verify` the line on the half in use
 abbrev pub text_of : Report → {D R : Type 0} → StoreView D R → WorldState → List ℕ
-text_of Dump session world = snapshot world
-text_of Verify session world = half_line_of session
+text_of Dump store world = snapshot world
+text_of Verify store world = half_line_of store
 
 -- The store that a disk holds was opened with these macro functions, this was told of it, and it was closed: this is its disk.
 pub record IsReport (functions : Functions) {D R : Type 0} (state : D → State) (report : Report) (disk : D) (macros : R)
     (held written : Option (List ℕ)) (status : Status) (back : D) : Type 0 where
   pub opened : StoreView D R
-  pub is_opened : IsOpened functions state disk macros HALF_LIMIT opened
+  pub is_opened : IsOpened functions state disk macros half_limit opened
   pub tells : TellsText status held written (text_of report opened is_opened.world)
   pub disk_is : back ≡ opened.disk
 

@@ -12,9 +12,12 @@ use Rattle.prevalence_store.specs.meaning.Answers.{Progress, after_forms, last_l
 use Rattle.prevalence_store.specs.calls.Serve.{ServesInput}
 use Rattle.prevalence_store.specs.calls.Store.{StoreView}
 use Rattle.prevalence_store.specs.calls.Streams.{Writes, WritesPart}
-use Rattle.store_commands.specs.declared.session.TheConstants.{HALF_LIMIT}
 use Rattle.store_commands.specs.declared.status.Status.{Status}
 use Rattle.store_commands.specs.declared.status.Status.TheVariants.{Done, Helped, ReaderRefused, WordsRefused, Fault}
+
+-- how many bytes each of the two files of a store may have
+abbrev pub half_limit : ℕ
+half_limit = 1073741824
 
 -- What a session does where the macro functions mean this, and each form is read in this mode.
 module _ (functions : Functions) (mode : Mode) where
@@ -22,7 +25,7 @@ module _ (functions : Functions) (mode : Mode) where
   -- forms that were logged, and it was closed: this is its disk.
   pub record IsSession (every : ℕ) {D R : Type 0} (state : D → State) (disk : D) (macros : R) (had has held written : Option (List ℕ)) (ending : Ending) (back : D) : Type 0 where
     pub opened : StoreView D R
-    pub is_opened : IsOpened functions state disk macros HALF_LIMIT opened
+    pub is_opened : IsOpened functions state disk macros half_limit opened
     pub closed : StoreView D R
     pub serves : ServesInput functions state every opened closed is_opened.world mode had has held written ending
     pub disk_is : back ≡ closed.disk

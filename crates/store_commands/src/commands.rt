@@ -1,9 +1,10 @@
 // What the words of the command line ask for.
 ghost use Rattle.std.specs.Prelude.{◌≡◌, ◌⊎◌, ◌<◌, ◌-◌, ◌^◌, [], map};
 ghost use Rattle.clap.specs.Words.{Text, kind_of};
+ghost use Rattle.user_macros.specs.Functions.{are_registered};
 ghost use Rattle.store_commands.specs.declared.words.Task.{Task};
 ghost use Rattle.store_commands.specs.CommandLine.{AsksFor, IsTaken, faults_of};
-ghost use Rattle.store_commands.specs.Commands.{DoesOn, Performs, PerformsNone, is_whole};
+ghost use Rattle.store_commands.specs.Commands.{DoesOn, Performs, PerformsNone};
 ghost use Rattle.store_commands.specs.Session.{TellsFault};
 ghost use Rattle.store_commands.specs.Status.{EndsAfter, HasFaultNumber, IsAfterWords, IsOfWords, IsQuiet};
 
@@ -51,7 +52,7 @@ where
     ensures ends { EndsAfter (faults_of (map S.text words.now)) result }
     ensures taken { (folder : Text) (task : Task) → IsTaken (map S.text words.now) folder task
         → Performs M.Meaning.functions ⟦<HostDisk as Disk>⟧.state macros
-        (is_whole (M.functions macros).names M.Meaning.functions.names) I.remaining O.contents
+        (are_registered M.Meaning.functions (M.functions macros)) I.remaining O.contents
         input.old input.new output.old output.new folder task result }
     ensures untaken { (faults_of (map S.text words.now) ≡ [] → ⊥)
         → PerformsNone input.old input.new output.old output.new result }
@@ -126,7 +127,7 @@ where
     O: Write,
     requires answers { M.answers macros }
     ensures { Performs M.Meaning.functions ⟦<HostDisk as Disk>⟧.state macros
-        (is_whole (M.functions macros).names M.Meaning.functions.names) I.remaining O.contents
+        (are_registered M.Meaning.functions (M.functions macros)) I.remaining O.contents
         input.old input.new output.old output.new asked.entry.folder.now asked.entry.task result }
 {
     // no folder has an empty name, and files under it would be those of the present folder
@@ -157,7 +158,7 @@ where
     requires room { (D.state disk).failures < 2 ^ 64 - 1 }
     requires answers { M.answers macros }
     ensures { DoesOn M.Meaning.functions D.state macros
-        (is_whole (M.functions macros).names M.Meaning.functions.names) I.remaining O.contents
+        (are_registered M.Meaning.functions (M.functions macros)) I.remaining O.contents
         input.old input.new output.old output.new disk result.1 task result.0 }
 {
     match task {

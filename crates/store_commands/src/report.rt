@@ -1,9 +1,10 @@
 // What is told of the store that a disk holds.
 ghost use Rattle.std.specs.Prelude.{◌≡◌, ◌<◌, ◌-◌, ◌^◌, IsSome, IfSome, IfOk, IfErr};
 ghost use Rattle.prevalence_store.specs.calls.Open.{IsUnopened};
+ghost use Rattle.user_macros.specs.Functions.{are_registered};
 ghost use Rattle.world_text.specs.Snapshot.{snapshot};
-ghost use Rattle.store_commands.specs.Commands.{is_whole};
 ghost use Rattle.store_commands.specs.Report.{IsReport, half_line_of, text_of};
+ghost use Rattle.store_commands.specs.Session.{half_limit};
 ghost use Rattle.store_commands.specs.Status.{status_of_output};
 ghost use Rattle.store_commands.specs.Texts.{TellsText};
 
@@ -42,7 +43,7 @@ where
         disk macros (O.contents output.old) (O.contents output.new) p.0 p.1) }
     ensures kept { IfOk result (λ p. p.2 ≡ macros) }
     ensures refused { IfErr result (λ e. IsUnopened M.Meaning.functions D.state disk
-        (is_whole (M.functions macros).names M.Meaning.functions.names) HALF_LIMIT e.number e.disk
+        (are_registered M.Meaning.functions (M.functions macros)) half_limit e.number e.disk
         × (output.new ≡ output.old)) }
     ensures given_back { IfErr result (λ e. e.macros ≡ macros) }
 {

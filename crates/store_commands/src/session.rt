@@ -1,8 +1,9 @@
 // A session over the store that a disk holds.
 ghost use Rattle.std.specs.Prelude.{◌≡◌, ◌<◌, ◌-◌, ◌^◌, IfOk, IfErr};
 ghost use Rattle.prevalence_store.specs.calls.Open.{IsUnopened};
-ghost use Rattle.store_commands.specs.Commands.{IsUntouched, is_whole};
-ghost use Rattle.store_commands.specs.Session.{IsSession};
+ghost use Rattle.user_macros.specs.Functions.{are_registered};
+ghost use Rattle.store_commands.specs.Commands.{IsUntouched};
+ghost use Rattle.store_commands.specs.Session.{IsSession, half_limit};
 
 use disk_trait::Disk;
 use prevalence_store::{Ending, Mode, Store, Unopened};
@@ -41,7 +42,7 @@ where
         (O.contents output.old) (O.contents output.new) p.0 p.1) }
     ensures kept { IfOk result (λ p. p.2 ≡ macros) }
     ensures refused { IfErr result (λ e. IsUnopened M.Meaning.functions D.state disk
-        (is_whole (M.functions macros).names M.Meaning.functions.names) HALF_LIMIT e.number e.disk
+        (are_registered M.Meaning.functions (M.functions macros)) half_limit e.number e.disk
         × IsUntouched input.old input.new output.old output.new) }
     ensures given_back { IfErr result (λ e. e.macros ≡ macros) }
 {

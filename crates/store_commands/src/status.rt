@@ -1,5 +1,5 @@
 // How the program ends.
-ghost use Rattle.std.specs.Prelude.{◌≡◌, ◌≤◌};
+ghost use Rattle.std.specs.Prelude.{◌≡◌};
 ghost use Rattle.store_commands.specs.Status.{code_of, status_of_ending, status_of_kind};
 
 use clap::error::ErrorKind;

@@ -3,8 +3,6 @@
 #![tactic(auto)]
 
 ghost use Rattle.std.specs.Prelude.{◌≡◌, true, IfErr, is_ok};
-ghost use Rattle.std.specs.List.{list_all};
-ghost use Rattle.readtable_core.specs.Names.{is_among};
 ghost use Rattle.user_macros.specs.Sound.{IsSoundCall};
 ghost use Rattle.user_macros.specs.Functions.{are_registered};
 

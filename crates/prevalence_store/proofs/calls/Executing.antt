@@ -25,7 +25,7 @@ use Rattle.prevalence_store.specs.declared.outcome.Outcome.TheVariants as outcom
 use Rattle.prevalence_store.specs.meaning.Acceptance.{Acceptance, accepts, accepted_of, acceptance_of, between, read_in, records_of, setting_in}
 use Rattle.prevalence_store.specs.steps.Failure.{failure_number, is_device, IsCause}
 use Rattle.prevalence_store.specs.calls.Execute.{Executes, DeviceFails, IsAccepted, Stores, SurvivesAs, taken_in}
-use Rattle.prevalence_store.specs.calls.Store.{StoreView, session_of}
+use Rattle.prevalence_store.specs.calls.Store.{StoreView, store_view_of}
 use Rattle.user_macros.specs.Functions.{Functions}
 
 -- an open store has a world
@@ -34,7 +34,7 @@ known_world None known = cc
 known_world (Some w) known = (w, refl)
 
 -- the world of an open store is the one in memory
-pub world_inside : {D R : Type 0} (failed : Bool) (log : HalvesValue D) (v w : WorldState) (macros : R) (now : StoreView D R) → session_of failed log v macros ≡ now
+pub world_inside : {D R : Type 0} (failed : Bool) (log : HalvesValue D) (v w : WorldState) (macros : R) (now : StoreView D R) → store_view_of failed log v macros ≡ now
     → now.world ≡ Some w → v ≡ w
 world_inside {D = D} {R = R} failed log v w macros now view known =
     by_failed failed (ap (λ (s : StoreView D R). s.world) view ∙ known)
@@ -44,7 +44,7 @@ world_inside {D = D} {R = R} failed log v w macros now view known =
     by_failed false is = cc
 
 -- an open store has met no device fault
-pub not_failed : {D R : Type 0} (failed : Bool) (log : HalvesValue D) (v : WorldState) (macros : R) (now : StoreView D R) → session_of failed log v macros ≡ now
+pub not_failed : {D R : Type 0} (failed : Bool) (log : HalvesValue D) (v : WorldState) (macros : R) (now : StoreView D R) → store_view_of failed log v macros ≡ now
     → IsSome now.world → failed ≡ false
 not_failed {D = D} {R = R} failed log v macros now view known = by_failed failed (ap (λ (s : StoreView D R). is_some s.world) view ∙ known) where
   by_failed : (b : Bool) → is_some (cond b None (Some v)) ≡ true → b ≡ false

@@ -16,7 +16,7 @@ use Rattle.prevalence_store.specs.meaning.Acceptance.{read_in}
 use Rattle.prevalence_store.specs.meaning.Answers.{Progress, after_forms, begun, last_line, one_form, onward, refusal_line}
 use Rattle.prevalence_store.specs.calls.Serve.{Ends, IsAfter, Serves}
 use Rattle.gate_log.specs.HalfInUse.{HalvesValue}
-use Rattle.prevalence_store.specs.calls.Store.{StoreView, Describes, session_of}
+use Rattle.prevalence_store.specs.calls.Store.{StoreView, Describes, store_view_of}
 use Rattle.prevalence_store.proofs.calls.Executing.{world_inside}
 use Rattle.prevalence_store.specs.calls.Streams.{Writes, WritesPart}
 use Rattle.prevalence_store.specs.steps.Answer.{AnswersFault}
@@ -36,7 +36,7 @@ part_of (Some bytes) written text some part =
     (p.front, p.rest, p.parts, p.more, λ others is. let same : bytes ≡ others = cc in subst (λ b. written ≡ Some (b ++ p.front)) same p.written)
 
 -- the line of an answer, in the world in memory
-pub line_inside : {D R : Type 0} (failed : Bool) (log : HalvesValue D) (w : WorldState) (macros : R) (now : StoreView D R) → session_of failed log w macros ≡ now
+pub line_inside : {D R : Type 0} (failed : Bool) (log : HalvesValue D) (w : WorldState) (macros : R) (now : StoreView D R) → store_view_of failed log w macros ≡ now
     → (answer : Result Evaluated Failure) (line : List ℕ) → IsLineOf w answer line → IsLine now answer line
 line_inside failed log w macros now view answer line is = record { world = w; one = λ v known. sym (world_inside failed log w v macros now view known); line_of = is }
 

@@ -39,7 +39,7 @@ pub record Fill : Type 0 where
   pub size : ℕ
 
 abbrev pub fill_of : {D R : Type 0} → StoreView D R → Fill
-fill_of session = record { generation = session.generation; record_count = session.record_count; size = session.size }
+fill_of store = record { generation = store.generation; record_count = store.record_count; size = store.size }
 
 -- with a record more
 abbrev pub longer_by : LogRecord → Fill → Fill

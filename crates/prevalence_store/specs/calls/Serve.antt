@@ -87,7 +87,7 @@ module _ (functions : Functions) {D R : Type 0} (state : D → State) (old new :
 
 -- the half would pass its limit by the record of the form that this text begins with
 abbrev pub IsOver : Functions → {D R : Type 0} → StoreView D R → WorldState → Mode → List ℕ → Type 0
-IsOver functions session world mode text = IsOverIn functions session.limit session.size world mode text
+IsOver functions store world mode text = IsOverIn functions store.limit store.size world mode text
 
 module _ (functions : Functions) {D R : Type 0} (state : D → State) (old new : StoreView D R) where
   module _ (world : WorldState) (mode : Mode) (text : List ℕ) (held written : Option (List ℕ)) where
@@ -228,7 +228,7 @@ HasRead functions state old new world mode text held written End served left rea
 HasRead functions state old new world mode text held written (Reader number) served left reader =
     ((left ≡ []) ⊎ StaysRefused functions world mode text served.forms served.far number) × (reader ≡ Some left)
 HasRead functions state old new world mode text held written (Store number) served left reader =
-    (number ≡ OUTPUT → served.lines ≡ served.forms → (left ≡ []) ⊎ ((code : ℕ) × StaysRefused functions world mode text served.forms served.far code))
+    (number ≡ OUTPUT → served.lines ≡ served.forms → (left ≡ []) ⊎ ((refusal : ℕ) × StaysRefused functions world mode text served.forms served.far refusal))
     × (reader ≡ Some left)
 
 -- how far the snapshots had come as a session ended that began at this pace

@@ -1,9 +1,5 @@
--- What is read from a reader and written to a writer that tell their bytes.
+-- What is written to a writer that tells its bytes.
 use Rattle.std.specs.Prelude.{◌≡◌, ◌≢◌, ℕ, List, [], ◌++◌, Option, Some}
-
--- all that the reader had left was read, and is this
-abbrev pub ReadsAll : Option (List ℕ) → Option (List ℕ) → List ℕ → Type 0
-ReadsAll old new text = (left : List ℕ) → old ≡ Some left → (text ≡ left) × (new ≡ Some [])
 
 -- the text comes after what the writer held
 abbrev pub Writes : Option (List ℕ) → Option (List ℕ) → List ℕ → Type 0

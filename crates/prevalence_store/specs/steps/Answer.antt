@@ -95,6 +95,6 @@ module _ (functions : Functions) {D R : Type 0} (state : D → State) (old new :
 -- A reader refusal ends the session: its line was written, or the writer failed in it, or there was no memory for it.
 abbrev pub AnswersFault : ℕ → Option (List ℕ) → Option (List ℕ) → Ending → Type 0
 AnswersFault number held written End = ⊥
-AnswersFault number held written (Reader code) = (code ≡ number) × Writes held written (refusal_line number)
-AnswersFault number held written (Store code) =
-    ((code ≡ OUTPUT) × WritesPart held written (refusal_line number)) ⊎ ((code ≡ NO_MEMORY) × (written ≡ held))
+AnswersFault number held written (Reader told) = (told ≡ number) × Writes held written (refusal_line number)
+AnswersFault number held written (Store fault) =
+    ((fault ≡ OUTPUT) × WritesPart held written (refusal_line number)) ⊎ ((fault ≡ NO_MEMORY) × (written ≡ held))

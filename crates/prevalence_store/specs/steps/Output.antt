@@ -26,7 +26,7 @@ pub record IsLine {D R : Type 0} (new : StoreView D R) (answer : Result Evaluate
 -- why there is no such line
 abbrev pub IsStop : Result Evaluated Failure → ℕ → Type 0
 IsStop (Ok evaluated) number = number ≡ NO_MEMORY
-IsStop (Err (Refused code)) number = number ≡ NO_MEMORY
+IsStop (Err (Refused refusal)) number = number ≡ NO_MEMORY
 IsStop (Err Full) number = number ≡ LOG_FULL
 IsStop (Err DeviceFault) number = number ≡ DEVICE
 IsStop (Err OutOfMemory) number = number ≡ NO_MEMORY

@@ -34,7 +34,7 @@ module _ (functions : Functions) {D R : Type 0} (state : D → State) (pace : Pa
   StaysEnded End served = ⊥
   StaysEnded (Reader number) served = StaysRefused functions world mode text served.forms served.far number
   StaysEnded (Store number) served =
-      number ≡ OUTPUT → served.lines ≡ served.forms → (code : ℕ) × StaysRefused functions world mode text served.forms served.far code
+      number ≡ OUTPUT → served.lines ≡ served.forms → (refusal : ℕ) × StaysRefused functions world mode text served.forms served.far refusal
 
   -- the session has ended
   pub record HasEnded (ending : Ending) : Type 0 where

@@ -1,8 +1,6 @@
 // A session: forms from a reader, answers to a writer.
 ghost use Rattle.std.specs.Prelude.{◌≡◌, ◌≤◌, ◌<◌, ◌+◌, ◌^◌, ℕ, List, ◌++◌, None, Some, IfOk, true, length, take};
-ghost use Rattle.std.specs.List.{list_all};
 ghost use Rattle.lisp_object.specs.declared.refusal.TheConstants.{REOPEN};
-ghost use Rattle.readtable_core.specs.Names.{is_among};
 ghost use Rattle.plist_state.specs.State.{WorldState};
 ghost use Rattle.form_reader.specs.Reader.{fed};
 ghost use Rattle.prevalence_store.specs.calls.Serve.{Serves, ServesInPace, ServesInput};

@@ -1,7 +1,6 @@
 // Steps one after the other.
 ghost use Rattle.std.specs.Prelude.{◌≡◌, true, IfOk, OnErr};
-ghost use Rattle.std.specs.List.{All, list_all};
-ghost use Rattle.readtable_core.specs.Names.{is_among};
+ghost use Rattle.std.specs.List.{All};
 ghost use Rattle.plist_state.specs.State.{WorldState};
 ghost use Rattle.prevalence_store.specs.calls.Execute.{IsProperOutcome, SurvivesAs};
 ghost use Rattle.prevalence_store.specs.calls.Run.{TakesStep, TakesSteps, acknowledged_in_steps, taken_in_steps};
