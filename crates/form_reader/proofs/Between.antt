@@ -31,14 +31,14 @@ leaves_between setting mid new after (Goes start at stage) step o turns takes sa
 leaves_between setting mid new after (ChangeForm x start «end» next) (AdvanceForm datum s e n) o turns takes same =
     record { at = takes.6; frames = takes.7 ∙ same ∙ turns.1; state = takes.8 }
 leaves_between setting mid new after (ChangeForm x start «end» next) AdvanceMore o turns takes same = absurd takes
-leaves_between setting mid new after (ChangeForm x start «end» next) (AdvanceRefused code place) o turns takes same = absurd takes
-leaves_between setting mid new after (ChangeRefused code place) step o turns takes same = subst (λ (s : Advance). LeavesBetween new s) (sym takes.0) tt
+leaves_between setting mid new after (ChangeForm x start «end» next) (AdvanceRefused code offset) o turns takes same = absurd takes
+leaves_between setting mid new after (ChangeRefused code offset) step o turns takes same = subst (λ (s : Advance). LeavesBetween new s) (sym takes.0) tt
 
 -- what an event brings is what this reads
 pub brought : (setting : Setting) (frames : List Frame) (at : ℕ) (event : Event) → (read : Read Found) × Brings setting frames at [] event read
 brought setting frames at (IsAt stage) = (stage_gives setting frames stage at [], refl)
 brought setting frames at (IsGiven found) = (plan_gives setting frames (gives found) at [], refl)
-brought setting frames at (IsRefused code place) = (fault code place, refl)
+brought setting frames at (IsRefused code offset) = (fault code offset, refl)
 
 -- where the outermost attempt comes to something, no call is open
 pub done_anew : (setting : Setting) (frames : List Frame) (at : ℕ) (settled : Settled) (found : Found) (read : Read Found) (change : Change) → settled ≡ SettledDone found
@@ -55,9 +55,9 @@ anew_between mid new after (Goes start at stage) step anew takes same e here =
     record { at = omega (arith, here); frames = takes.3 ∙ same ∙ none.0; state = takes.4 ∙ ap Open none.1 }
 anew_between mid new after (ChangeForm x start «end» next) (AdvanceForm datum s e n) anew takes same is here = cc
 anew_between mid new after (ChangeForm x start «end» next) AdvanceMore anew takes same is here = absurd takes
-anew_between mid new after (ChangeForm x start «end» next) (AdvanceRefused code place) anew takes same is here = absurd takes
-anew_between mid new after (ChangeRefused code place) step anew takes same is here =
-    let other : AdvanceRefused code place ≡ AdvanceMore = sym takes.0 ∙ is in cc
+anew_between mid new after (ChangeForm x start «end» next) (AdvanceRefused code offset) anew takes same is here = absurd takes
+anew_between mid new after (ChangeRefused code offset) step anew takes same is here =
+    let other : AdvanceRefused code offset ≡ AdvanceMore = sym takes.0 ∙ is in cc
 
 -- ---- what is read where a reader is between forms
 

@@ -25,9 +25,9 @@ use Rattle.lisp_reading.specs.Plans.{Plan, gives, refuses, takes, then_plan, cha
 use Rattle.lisp_reading.specs.Calls.{keep_of}
 use Rattle.lisp_reading.specs.Setting.{Setting}
 use Rattle.form_reader.specs.Feeding.{is_going, token_read, refused_number}
-use Rattle.form_reader.specs.Frames.{close_of, close_of_frames, place_in, call_in, given, between, token_goes_on}
+use Rattle.form_reader.specs.Frames.{close_of, close_of_frames, next_item_in, call_in, given, between, token_goes_on}
 use Rattle.lisp_reading.specs.Gathering.{text_turn, kept, line_turn, block_turn}
-use Rattle.lisp_reading.specs.Reading.{Piece, Outcome, form, empty, refused, at_place, closed, or_closed, place_turn, place, stands_alone, alone, inner, attempt, reads, number_after, sub_there, dispatched}
+use Rattle.lisp_reading.specs.Reading.{Piece, Outcome, form, empty, refused, piece_of, closed, or_closed, next_item_turn, next_item, stands_alone, alone, inner, attempt, reads, number_after, sub_there, dispatched}
 use Rattle.form_reader.specs.Resuming.{IsStageAt, inner_at, stage_gives}
 use Rattle.form_reader.specs.Reader.{MayGoOn, DecideNothing}
 use Rattle.form_reader.specs.Changing.{outcome_of, rest_of}
@@ -40,7 +40,7 @@ use Rattle.form_reader.proofs.Opened.{given_fault, gathering_ends, gathering_fai
 use Rattle.lisp_reading.proofs.Refusals.{refusal_stays}
 use Rattle.lisp_reading.proofs.Steps.{and_then, run_then}
 use Rattle.form_reader.proofs.TextEnds.{blames_byte, stage_last, last_blames, last_refused}
-use Rattle.lisp_reading.proofs.Turns.{attempt_ends, loop_is, text_guarded, line_guarded, block_guarded, place_guarded}
+use Rattle.lisp_reading.proofs.Turns.{attempt_ends, loop_is, text_guarded, line_guarded, block_guarded, next_item_guarded}
 
 -- ---- a byte that is no character
 
@@ -97,7 +97,7 @@ module _ (setting : Setting) (frames : List Frame) (at c : ℕ) where
   reading plan = run setting.table setting.limits plan at (c ∷ [])
 
   gathering : {A : Type 0} (plan : Plan A) (on : A → Plan Found) → Fails at (reading plan) → Fails at (reading (given setting frames (then_plan plan on)))
-  gathering plan on h = (h.0, gathering_fails setting frames plan on (record { code = h.0; at = at }) at (c ∷ []) h.1, h.2)
+  gathering plan on h = (h.0, gathering_fails setting frames plan on (record { number = h.0; at = at }) at (c ∷ []) h.1, h.2)
 
   -- ---- in a text, a line, a block and a number
 
@@ -127,7 +127,7 @@ module _ (setting : Setting) (frames : List Frame) (at c : ℕ) where
         let h : Fails at (reading sub) = next_fails setting.table setting.limits _ at c beyond in (
           h.0,
           gathering_ends setting frames (number_after setting number) (sub_there setting (length frames) (inner_at setting (length frames)) character) number at at (c ∷ []) (c ∷ []) (number_stops number)
-              ∙ given_fault setting frames sub at (c ∷ []) (record { code = h.0; at = at }) h.1,
+              ∙ given_fault setting frames sub at (c ∷ []) (record { number = h.0; at = at }) h.1,
           h.2,
         )
 
@@ -147,21 +147,21 @@ module _ (setting : Setting) (frames : List Frame) (at c : ℕ) where
       closed_fails None plan other h = h
       closed_fails (Some k) plan other h = (h.0, passed setting.table setting.limits plan (λ d. d == k) (λ d. gives closed) at c (ne_eqb c k (λ e. omega (arith, e, other))) ∙ h.1, h.2)
 
-      place_fails : (room : ℕ) (close : Option ℕ) → unwrap_or close 0 < c → Fails at (reading (place setting close (attempt setting room)))
-      place_fails room close other =
+      next_item_fails : (room : ℕ) (close : Option ℕ) → unwrap_or close 0 < c → Fails at (reading (next_item setting close (attempt setting room)))
+      next_item_fails room close other =
           let may = attempt setting room in
-          let again : Unit {0} → Plan Piece = λ u. place setting close may in
-          let turn = then_plan may (λ found. at_place setting.table (again tt) found) in
-          subst (Fails at) (sym (loop_is setting.table setting.limits (place_turn setting.table close may) (place_guarded setting.table setting.limits close may (attempt_ends setting _ _)) tt at (c ∷ []) le))
-          (closed_fails close turn other (then_fails may (λ found. at_place setting.table (again tt) found) (attempt_fails room)))
+          let again : Unit {0} → Plan Piece = λ u. next_item setting close may in
+          let turn = then_plan may (λ found. piece_of setting.table (again tt) found) in
+          subst (Fails at) (sym (loop_is setting.table setting.limits (next_item_turn setting.table close may) (next_item_guarded setting.table setting.limits close may (attempt_ends setting _ _)) tt at (c ∷ []) le))
+          (closed_fails close turn other (then_fails may (λ found. piece_of setting.table (again tt) found) (attempt_fails room)))
 
 -- where the innermost call looks for this character
 between_fails : (setting : Setting) (frames : List Frame) (at c : ℕ) → at ≤ setting.limits.text → IsAlien setting (close_of_frames frames) c
     → Fails at (run setting.table setting.limits (between setting frames) at (c ∷ []))
 between_fails setting [] at c le alien = attempt_fails setting [] at c le alien.beyond (alien_entry setting None c alien) setting.limits.nesting
 between_fails setting (f ∷ fs) at c le alien =
-    gathering setting fs at c (place_in setting f fs) (λ p. call_in setting f fs p)
-    (place_fails setting fs at c le alien.beyond (alien_entry setting (close_of f.part) c alien) (setting.limits.nesting - (length fs + 1)) (close_of f.part) alien.other)
+    gathering setting fs at c (next_item_in setting f fs) (λ p. call_in setting f fs p)
+    (next_item_fails setting fs at c le alien.beyond (alien_entry setting (close_of f.part) c alien) (setting.limits.nesting - (length fs + 1)) (close_of f.part) alien.other)
 
 -- ---- in a token
 
@@ -215,15 +215,15 @@ undecided setting bytes c code (form x start «end» last) e next =
     by false is =
         let framed = form_framed setting bytes x start «end» last e in
         omega (arith, framed.after, framed.inside, ltb-false «end» (length bytes) is)
-undecided setting bytes c code (refused number place) e next =
-    let h = refusal_stays setting bytes number place e in
-    by (nat_lt place (length bytes)) refl
+undecided setting bytes c code (refused number offset) e next =
+    let h = refusal_stays setting bytes number offset e in
+    by (nat_lt offset (length bytes)) refl
   where
-    by : (b : Bool) → nat_lt place (length bytes) ≡ b → place ≡ length bytes
+    by : (b : Bool) → nat_lt offset (length bytes) ≡ b → offset ≡ length bytes
     by true is =
-        let same : refused number place ≡ refused code (length bytes) = sym ((refusal_stays setting bytes number place e).1 (ltb-true place (length bytes) is) (c ∷ [])) ∙ next in
+        let same : refused number offset ≡ refused code (length bytes) = sym ((refusal_stays setting bytes number offset e).1 (ltb-true offset (length bytes) is) (c ∷ [])) ∙ next in
         cc
-    by false is = omega (arith, (refusal_stays setting bytes number place e).0, ltb-false place (length bytes) is)
+    by false is = omega (arith, (refusal_stays setting bytes number offset e).0, ltb-false offset (length bytes) is)
 
 -- The byte that is no character is refused at its own place.
 next_refused : (setting : Setting) (frames : List Frame) (stage : Stage) (start at : ℕ) (bytes : List ℕ) → IsStageAt at stage → at ≤ setting.limits.text → start + at ≡ length bytes

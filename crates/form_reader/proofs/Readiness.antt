@@ -14,7 +14,7 @@ use Rattle.form_reader.specs.Ready.{space, lookahead, IsReady, IsEnd, IsTakenAt}
 pub ended_ready : (limits : Limits) (most at : ℕ) (event : Event) → IsEnd most at event → most ≤ 0 → at ≤ limits.text → IsReady limits at event
 ended_ready limits most at (IsAt stage) h none le = absurd h
 ended_ready limits most at (IsGiven found) h none le = (le, omega (arith, h, none))
-ended_ready limits most at (IsRefused code place) h none le = h
+ended_ready limits most at (IsRefused code offset) h none le = h
 
 -- the same, where it may run out of memory
 pub all_ready : (limits : Limits) (at : ℕ) (result : Result Event AllocError) → IfOk result (IsEnd 0 at) → at ≤ limits.text → IfOk result (IsReady limits at)
@@ -24,7 +24,7 @@ all_ready limits at (Err e) h le = tt
 pub end_within : (less most at : ℕ) (event : Event) → IsEnd less at event → less ≤ most → IsEnd most at event
 end_within less most at (IsAt stage) h le = h
 end_within less most at (IsGiven found) h le = omega (arith, h, le)
-end_within less most at (IsRefused code place) h le = h
+end_within less most at (IsRefused code offset) h le = h
 
 pub or_none : (a : Bool) → space (a || false) ≡ space a
 or_none true = refl
@@ -50,5 +50,5 @@ module _ (less most at : ℕ) (taken : Taken) where
   pub gives_within : (found : Found) → taken ≡ Gives found → IsTakenAt less at taken → less ≤ most → lookahead found ≤ most
   gives_within found e h le = let here : lookahead found ≤ less = subst (λ (t : Taken). IsTakenAt less at t) e h in omega (arith, here, le)
 
-  pub refused_within : (code place : ℕ) → taken ≡ Refused code place → IsTakenAt less at taken → place ≤ at
-  refused_within code place e h = subst (λ (t : Taken). IsTakenAt less at t) e h
+  pub refused_within : (code offset : ℕ) → taken ≡ Refused code offset → IsTakenAt less at taken → offset ≤ at
+  refused_within code offset e h = subst (λ (t : Taken). IsTakenAt less at t) e h

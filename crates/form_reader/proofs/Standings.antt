@@ -39,4 +39,4 @@ standing_of limits frames at state stage e h =
     let open_now : IsTrue (is_standing limits frames at (Open stage)) = subst (λ (s : ReaderState). IsTrue (is_standing limits frames at s)) e h in
     let first = both (nat_le at limits.text) (nat_le (length frames) limits.nesting && is_stage_at at stage) open_now in
     let last = both (nat_le (length frames) limits.nesting) (is_stage_at at stage) first.1 in
-    record { place = below at limits.text first.0; nesting = below (length frames) limits.nesting last.0; levels = stage_below at stage last.1 }
+    record { within = below at limits.text first.0; nesting = below (length frames) limits.nesting last.0; levels = stage_below at stage last.1 }

@@ -51,8 +51,8 @@ use Rattle.lisp_reading.specs.Gathering.{text_turn, line_turn, block_turn, numbe
 use Rattle.lisp_reading.specs.Naming.{symbol_in, symbol_at, named, told_of, told}
 use Rattle.lisp_reading.specs.Answering.{may_be_answered}
 use Rattle.form_reader.specs.Feeding.{is_going}
-use Rattle.form_reader.specs.Frames.{place_in, part_gives, call_in, given, between, token_goes_on}
-use Rattle.lisp_reading.specs.Reading.{Piece, item, dot, closed, is_whitespace, without_space, at_place, or_closed, place_turn, place, Items, items_step, items_turn, items_after, undotted, after_tail, after_dot, list_end, bytes_back, finished, answered, completed_by, completed, text_to, line_after, block_after, number_after, sub_there, dispatched, told_found, token_found, attempt, Outcome, form, empty, refused}
+use Rattle.form_reader.specs.Frames.{next_item_in, part_gives, call_in, given, between, token_goes_on}
+use Rattle.lisp_reading.specs.Reading.{Piece, item, dot, closed, is_whitespace, without_space, piece_of, or_closed, next_item_turn, next_item, Items, items_step, items_turn, items_after, undotted, after_tail, after_dot, list_end, bytes_back, finished, answered, completed_by, completed, text_to, line_after, block_after, number_after, sub_there, dispatched, told_found, token_found, attempt, Outcome, form, empty, refused}
 use Rattle.form_reader.specs.Resuming.{IsStageAt, inner_at, stage_gives}
 use Rattle.form_reader.specs.Changing.{outcome_of}
 use Rattle.form_reader.proofs.FedTokens.{cut, refused_cut}
@@ -79,7 +79,7 @@ Never x = ⊥
 
 abbrev pub LastRead : {A : Type 0} → (A → Type 0) → Read A → Type 0
 LastRead P (Ok (x, to, cs)) = P x × (cs ≡ [])
-LastRead P (Err e) = blames_byte e.code ≡ false
+LastRead P (Err e) = blames_byte e.number ≡ false
 
 module _ {A : Type 0} (P : A → Type 0) (table : Table) (limits : Limits) (at : ℕ) (le : at ≤ limits.text) where
   abbrev goes_on : (List Mark → Plan A) → Read (List Mark) → Read A
@@ -89,7 +89,7 @@ module _ {A : Type 0} (P : A → Type 0) (table : Table) (limits : Limits) (at :
       → LastRead P (goes_on on (limited limits.text (scanned escaped table limit at []) (λ p. p.1)))
   unfolding outside
   scan_at_end false limit on h =
-      let by : Bool → Read A = λ b. goes_on on (elim b [ true ↦ Ok ([], at, []) | false ↦ Err (record { code = FORM_TOO_LONG; at = limits.text }) ]) in
+      let by : Bool → Read A = λ b. goes_on on (elim b [ true ↦ Ok ([], at, []) | false ↦ Err (record { number = FORM_TOO_LONG; at = limits.text }) ]) in
       subst (LastRead P) (sym (ap by (le-leb at limits.text le))) h
   scan_at_end true limit on h = subst (LastRead P) (sym (ap (goes_on on) (refused_cut limits.text EndOfFile at le))) refl
 
@@ -258,17 +258,17 @@ or_closed_at_end : (close : Option ℕ) (plan : Plan Piece) → AtEnd Never plan
 or_closed_at_end None plan h = h
 or_closed_at_end (Some close) plan h = takes_at_end Never plan (λ c. c == close) (λ c. gives closed) h
 
-place_at_end : (setting : Setting) (close : Option ℕ) (room : ℕ) → AtEnd Never (place setting close (attempt setting room))
-place_at_end setting close room =
-    loop_at_end Never setting.limits (place_turn setting.table close (attempt setting room)) tt
-    (λ more. or_closed_at_end close (then_plan (attempt setting room) (λ found. at_place setting.table (more tt) found))
-    (then_at_end (λ found. found ≡ the_end) Never (attempt setting room) (λ found. at_place setting.table (more tt) found) (attempt_at_end setting room)
-    (λ found is. subst (λ (f : Found). AtEnd Never (at_place setting.table (more tt) f)) (sym is) (refuses_at_end Never END_OF_FILE 0 refl))))
+next_item_at_end : (setting : Setting) (close : Option ℕ) (room : ℕ) → AtEnd Never (next_item setting close (attempt setting room))
+next_item_at_end setting close room =
+    loop_at_end Never setting.limits (next_item_turn setting.table close (attempt setting room)) tt
+    (λ more. or_closed_at_end close (then_plan (attempt setting room) (λ found. piece_of setting.table (more tt) found))
+    (then_at_end (λ found. found ≡ the_end) Never (attempt setting room) (λ found. piece_of setting.table (more tt) found) (attempt_at_end setting room)
+    (λ found is. subst (λ (f : Found). AtEnd Never (piece_of setting.table (more tt) f)) (sym is) (refuses_at_end Never END_OF_FILE 0 refl))))
 
 items_at_end : (setting : Setting) (close room : ℕ) (xs : List Object) → AtEnd Never (items_after setting close (attempt setting room) xs)
 items_at_end setting close room xs =
     loop_at_end Never setting.limits (items_turn setting close (attempt setting room)) xs
-    (λ more. never_then Never (place setting (Some close) (attempt setting room)) (λ p. items_step setting.table more xs p) (place_at_end setting (Some close) room))
+    (λ more. never_then Never (next_item setting (Some close) (attempt setting room)) (λ p. items_step setting.table more xs p) (next_item_at_end setting (Some close) room))
 
 -- ---- open calls
 
@@ -284,7 +284,7 @@ module _ (setting : Setting) (depth room : ℕ) (call : InvokedCall) where
   list_at_end (xs, true) = completed_at_end setting depth call false false (many xs)
   list_at_end ([], false) = refuses_at_end Whatever DOT_CONTEXT 0 refl
   list_at_end (x ∷ xs, false) =
-      never_then Whatever (place setting (Some 41) may) (after_dot setting may (λ m. completed setting depth call false false m) (x ∷ xs)) (place_at_end setting (Some 41) room)
+      never_then Whatever (next_item setting (Some 41) may) (after_dot setting may (λ m. completed setting depth call false false m) (x ∷ xs)) (next_item_at_end setting (Some 41) room)
 
   step_at_end : (close : ℕ) (xs : List Object) (p : Piece) → AtEnd Whatever (items_step setting.table (items_after setting close may) xs p)
   step_at_end close xs closed = gives_at_end Whatever (xs, true) tt
@@ -306,16 +306,16 @@ module _ (setting : Setting) (depth room : ℕ) (call : InvokedCall) where
   part_at_end (InDotted xs) closed = refuses_at_end Whatever DOT_CONTEXT 1 refl
   part_at_end (InDotted xs) dot = refuses_at_end Whatever DOT_CONTEXT 0 refl
   part_at_end (InDotted xs) (item token x) =
-      space_at_end Whatever setting.table token (then_plan (place setting (Some 41) may) (after_tail (λ m. completed setting depth call false false m) xs x))
-      (never_then Whatever (place setting (Some 41) may) (after_tail (λ m. completed setting depth call false false m) xs x) (place_at_end setting (Some 41) room))
+      space_at_end Whatever setting.table token (then_plan (next_item setting (Some 41) may) (after_tail (λ m. completed setting depth call false false m) xs x))
+      (never_then Whatever (next_item setting (Some 41) may) (after_tail (λ m. completed setting depth call false false m) xs x) (next_item_at_end setting (Some 41) room))
   part_at_end (InTailed xs tail) closed = completed_at_end setting depth call false false (dotted xs tail)
   part_at_end (InTailed xs tail) dot = refuses_at_end Whatever DOT_CONTEXT 0 refl
   part_at_end (InTailed xs tail) (item token x) = refuses_at_end Whatever DOT_CONTEXT 0 refl
 
 module _ (setting : Setting) where
-  found_at_end : (f : Frame) (fs : List Frame) (found : Found) → AtEnd Whatever (at_place setting.table (place_in setting f fs) found)
+  found_at_end : (f : Frame) (fs : List Frame) (found : Found) → AtEnd Whatever (piece_of setting.table (next_item_in setting f fs) found)
   found_at_end f fs (nothing token) =
-      space_at_end Whatever setting.table token (place_in setting f fs) (weaker (place_in setting f fs) (place_at_end setting _ _))
+      space_at_end Whatever setting.table token (next_item_in setting f fs) (weaker (next_item_in setting f fs) (next_item_at_end setting _ _))
   found_at_end f fs (one token x) = gives_at_end Whatever (item token x) tt
   found_at_end f fs lone_dot = gives_at_end Whatever dot tt
   found_at_end f fs the_end = refuses_at_end Whatever END_OF_FILE 0 refl
@@ -324,17 +324,17 @@ module _ (setting : Setting) where
   unfolding given
   given_at_end [] plan h = h
   given_at_end (f ∷ fs) plan h =
-      given_at_end fs (then_plan (then_plan plan (λ found. at_place setting.table (place_in setting f fs) found)) (λ p. call_in setting f fs p))
-      (then_at_end Whatever Whatever (then_plan plan (λ found. at_place setting.table (place_in setting f fs) found)) (λ p. call_in setting f fs p)
-      (then_at_end Whatever Whatever plan (λ found. at_place setting.table (place_in setting f fs) found) h (λ found none. found_at_end f fs found))
+      given_at_end fs (then_plan (then_plan plan (λ found. piece_of setting.table (next_item_in setting f fs) found)) (λ p. call_in setting f fs p))
+      (then_at_end Whatever Whatever (then_plan plan (λ found. piece_of setting.table (next_item_in setting f fs) found)) (λ p. call_in setting f fs p)
+      (then_at_end Whatever Whatever plan (λ found. piece_of setting.table (next_item_in setting f fs) found) h (λ found none. found_at_end f fs found))
       (λ p none. part_at_end setting (length fs) _ f.call f.part p))
 
   between_at_end : (frames : List Frame) → AtEnd Whatever (between setting frames)
   unfolding AtEnd
   between_at_end [] = tt
   between_at_end (f ∷ fs) =
-      given_at_end fs (then_plan (place_in setting f fs) (λ p. call_in setting f fs p))
-      (never_then Whatever (place_in setting f fs) (λ p. call_in setting f fs p) (place_at_end setting _ _))
+      given_at_end fs (then_plan (next_item_in setting f fs) (λ p. call_in setting f fs p))
+      (never_then Whatever (next_item_in setting f fs) (λ p. call_in setting f fs p) (next_item_at_end setting _ _))
 
   -- ---- at each stage
 
@@ -349,7 +349,7 @@ module _ (setting : Setting) where
         → LastRead Whatever (token_goes_on setting frames on (cut setting.limits.text (with_front marks (from_stage stage left at []))))
     unfolding outside
     token_last on Outside marks left all going =
-        let by : Bool → Read Found = λ b. token_goes_on setting frames on (elim b [ true ↦ Ok (marks ++ [], at, []) | false ↦ Err (record { code = FORM_TOO_LONG; at = setting.limits.text }) ]) in
+        let by : Bool → Read Found = λ b. token_goes_on setting frames on (elim b [ true ↦ Ok (marks ++ [], at, []) | false ↦ Err (record { number = FORM_TOO_LONG; at = setting.limits.text }) ]) in
         subst (LastRead Whatever) (sym (ap by (le-leb at setting.limits.text le))) (last (on (marks ++ [])) (all (marks ++ [])))
     token_last on Inside marks left all going =
         subst (LastRead Whatever) (sym (ap (token_goes_on setting frames on) (refused_cut setting.limits.text EndOfFile at le))) refl
@@ -386,7 +386,7 @@ module _ (setting : Setting) where
 abbrev Blames : Outcome → Type 0
 Blames (form x start «end» next) = Unit {0}
 Blames empty = Unit {0}
-Blames (refused code place) = blames_byte code ≡ false
+Blames (refused code offset) = blames_byte code ≡ false
 
 pub last_blames : (setting : Setting) (start : ℕ) (r : Read Found) → LastRead Whatever r → Blames (outcome_of setting start r)
 last_blames setting start (Ok (nothing token, at, cs)) h =
@@ -398,5 +398,5 @@ last_blames setting start (Ok (lone_dot, at, cs)) h = refl
 last_blames setting start (Ok (the_end, at, cs)) h = tt
 last_blames setting start (Err e) h = h
 
-pub last_refused : (o : Outcome) (code place : ℕ) → o ≡ refused code place → Blames o → blames_byte code ≡ false
-last_refused o code place e h = subst Blames e h
+pub last_refused : (o : Outcome) (code offset : ℕ) → o ≡ refused code offset → Blames o → blames_byte code ≡ false
+last_refused o code offset e h = subst Blames e h

@@ -27,17 +27,17 @@ rest_of setting frames stage start at cs = outcome_of setting start (stage_gives
 abbrev pub Settles : Setting → List Frame → ℕ → List ℕ → Settled → Read Found → Type 0
 Settles setting frames at cs (SettledOpen stage) read = read ≡ stage_gives setting frames stage at cs
 Settles setting frames at cs (SettledDone found) read = (read ≡ Ok (found, at, cs)) × (frames ≡ [])
-Settles setting frames at cs (SettledRefused code place) read = read ≡ fault code place
+Settles setting frames at cs (SettledRefused number offset) read = read ≡ fault number offset
 
 -- What a change is to the outcome: more bytes decide it, or it is a form, or a refusal.
 abbrev pub ChangesTo : Setting → List Frame → List ℕ → Change → Outcome → Type 0
 ChangesTo setting frames cs (Goes start at stage) o = o ≡ rest_of setting frames stage start at cs
 ChangesTo setting frames cs (Form x start «end» next) o = (o ≡ form x start «end» next) × (frames ≡ [])
-ChangesTo setting frames cs (Refused code place) o = o ≡ refused code place
+ChangesTo setting frames cs (Refused number offset) o = o ≡ refused number offset
 
 -- where a reader may be in a form, so many bytes after it began
 pub record IsStanding (limits : Limits) (frames : List Frame) (stage : Stage) (at : ℕ) : Type 0 where
-  pub place : at ≤ limits.text
+  pub within : at ≤ limits.text
   pub nesting : length frames ≤ limits.nesting
   pub levels : IsStageAt at stage
 
@@ -45,21 +45,21 @@ pub record IsStanding (limits : Limits) (frames : List Frame) (stage : Stage) (a
 abbrev pub IsReadyChange : Limits → List Frame → ℕ → Change → Type 0
 IsReadyChange limits frames count (Goes start at stage) = IsStanding limits frames stage at × (start + at ≡ count)
 IsReadyChange limits frames count (Form x start «end» next) = (next ≤ count) × (count ≤ next + 1) × (length frames ≤ limits.nesting)
-IsReadyChange limits frames count (Refused code place) = place ≤ count
+IsReadyChange limits frames count (Refused number offset) = offset ≤ count
 
 abbrev pub IsReadySettled : Limits → List Frame → ℕ → Settled → Type 0
 IsReadySettled limits frames at (SettledOpen stage) = IsStanding limits frames stage at
 IsReadySettled limits frames at (SettledDone found) = (lookahead found ≡ 0) × (length frames ≤ limits.nesting)
-IsReadySettled limits frames at (SettledRefused code place) = place ≤ at
+IsReadySettled limits frames at (SettledRefused number offset) = offset ≤ at
 
 -- what is open after it, or the object of the form, began at this place or later
 abbrev pub BeginsFrom : ℕ → Change → Type 0
 BeginsFrom from (Goes start at stage) = from ≤ start
 BeginsFrom from (Form x start «end» next) = from ≤ start
-BeginsFrom from (Refused code place) = Unit {0}
+BeginsFrom from (Refused number offset) = Unit {0}
 
 -- where the attempt that is open has no byte, nothing is open
 abbrev pub BeginsAnew : List Frame → Change → Type 0
 BeginsAnew frames (Goes start at stage) = at ≡ 0 → (frames ≡ []) × (stage ≡ AtObject)
 BeginsAnew frames (Form x start «end» next) = Unit {0}
-BeginsAnew frames (Refused code place) = Unit {0}
+BeginsAnew frames (Refused number offset) = Unit {0}

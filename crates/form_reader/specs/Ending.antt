@@ -15,16 +15,16 @@ use Rattle.form_reader.specs.Feeding.{token_read}
 -- it ends the token; or the token is refused
 abbrev pub TokenStops : Table → Limits → Scan → ℕ → Option ℕ → Type 0
 TokenStops table limits scan at None = (token_read table limits scan at [] ≡ Ok (scan.marks, at, [])) × (scan.stage ≡ Outside)
-TokenStops table limits scan at (Some code) = token_read table limits scan at [] ≡ fault code at
+TokenStops table limits scan at (Some number) = token_read table limits scan at [] ≡ fault number at
 
 -- Only at a place where an object may begin is more waited for; a refusal is at no later place.
 abbrev pub IsLastEvent : ℕ → Event → Type 0
 IsLastEvent at (IsAt stage) = stage ≡ AtObject
 IsLastEvent at (IsGiven found) = Unit {0}
-IsLastEvent at (IsRefused code place) = place ≤ at
+IsLastEvent at (IsRefused number offset) = offset ≤ at
 
 -- no more is waited for
 abbrev pub IsLastSettled : ℕ → Settled → Type 0
 IsLastSettled at (SettledOpen stage) = ⊥
 IsLastSettled at (SettledDone found) = Unit {0}
-IsLastSettled at (SettledRefused code place) = place ≤ at
+IsLastSettled at (SettledRefused number offset) = offset ≤ at

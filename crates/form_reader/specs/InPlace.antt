@@ -22,7 +22,7 @@ FeedsInPlace setting frames at c cs old new Taken = stage_gives setting frames o
 FeedsInPlace setting frames at c cs old new Passed =
     (start : ℕ) → rest_of setting frames old start at (c ∷ cs) ≡ rest_of setting frames new (start + (at + 1)) 0 cs
 FeedsInPlace setting frames at c cs old new Left = new ≡ old
-FeedsInPlace setting frames at c cs old new (Refused code) = stage_gives setting frames old at (c ∷ cs) ≡ fault code at
+FeedsInPlace setting frames at c cs old new (Refused number) = stage_gives setting frames old at (c ∷ cs) ≡ fault number at
 
 -- The byte at this place is whitespace that is discarded where an object may begin: it is below the limit of the text, and not
 -- the closing character that is looked for.
@@ -48,4 +48,4 @@ abbrev pub IsReadyInPlace : Limits → ℕ → Stage → InPlace → Type 0
 IsReadyInPlace limits at new Taken = (at < limits.text) × IsStageAt (at + 1) new
 IsReadyInPlace limits at new Passed = IsStageAt 0 new
 IsReadyInPlace limits at new Left = Unit {0}
-IsReadyInPlace limits at new (Refused code) = Unit {0}
+IsReadyInPlace limits at new (Refused number) = Unit {0}

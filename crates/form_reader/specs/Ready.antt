@@ -32,20 +32,20 @@ lookahead the_end = 2
 -- the same of what a call comes to
 abbrev pub completed_lookahead : Completed → ℕ
 completed_lookahead (CompletedGives found) = lookahead found
-completed_lookahead (CompletedRefused code back) = 0
+completed_lookahead (CompletedRefused number back) = 0
 
 -- What a byte brings, at the place after it: this place is within the limit of the text, and nothing of what follows matters
 -- to what was found; a refusal is at no later place.
 abbrev pub IsReady : Limits → ℕ → Event → Type 0
 IsReady limits at (IsAt stage) = (at ≤ limits.text) × IsStageAt at stage
 IsReady limits at (IsGiven found) = (at ≤ limits.text) × (lookahead found ≡ 0)
-IsReady limits at (IsRefused code place) = place ≤ at
+IsReady limits at (IsRefused number offset) = offset ≤ at
 
 -- What a call or a token comes to where it ends: no more is gathered in it.
 abbrev pub IsEnd : ℕ → ℕ → Event → Type 0
 IsEnd most at (IsAt stage) = ⊥
 IsEnd most at (IsGiven found) = lookahead found ≤ most
-IsEnd most at (IsRefused code place) = place ≤ at
+IsEnd most at (IsRefused number offset) = offset ≤ at
 
 -- of the byte at this place
 abbrev pub IsReadyMove : Limits → ℕ → Moved → Type 0
@@ -60,9 +60,9 @@ IsReadyPass limits at (PassedDone found) = lookahead found ≤ 1
 abbrev pub IsTakenAt : ℕ → ℕ → Taken → Type 0
 IsTakenAt most at (Stays token) = space token ≤ most
 IsTakenAt most at (TakenGives found) = lookahead found ≤ most
-IsTakenAt most at (TakenRefused code place) = place ≤ at
+IsTakenAt most at (TakenRefused number offset) = offset ≤ at
 
 abbrev pub IsDeliveredAt : ℕ → ℕ → Delivered → Type 0
 IsDeliveredAt most at (Waits token) = space token ≤ most
 IsDeliveredAt most at (Done found) = lookahead found ≤ most
-IsDeliveredAt most at (DeliveredRefused code place) = place ≤ at
+IsDeliveredAt most at (DeliveredRefused number offset) = offset ≤ at

@@ -61,7 +61,7 @@ IsStageAt at _ = Unit {0}
 abbrev pub Brings : Setting → List Frame → ℕ → List ℕ → Event → Read Found → Type 0
 Brings setting frames at cs (IsAt stage) read = read ≡ stage_gives setting frames stage at cs
 Brings setting frames at cs (IsGiven found) read = read ≡ plan_gives setting frames (gives found) at cs
-Brings setting frames at cs (IsRefused code place) read = read ≡ fault code place
+Brings setting frames at cs (IsRefused number offset) read = read ≡ fault number offset
 
 -- the same before the byte at this place
 abbrev pub Moves : Setting → List Frame → ℕ → ℕ → List ℕ → Moved → Read Found → Type 0

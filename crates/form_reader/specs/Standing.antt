@@ -18,5 +18,5 @@ is_stage_at at _ = true
 -- The place and the open calls are within the limits. After a refusal, or out of memory, nothing is asked.
 abbrev pub is_standing : Limits → List Frame → ℕ → ReaderState → Bool
 is_standing limits frames at (Open stage) = nat_le at limits.text && (nat_le (length frames) limits.nesting && is_stage_at at stage)
-is_standing limits frames at (Refused code place) = true
+is_standing limits frames at (Refused number offset) = true
 is_standing limits frames at OutOfMemory = true

@@ -43,7 +43,7 @@ pub(crate) fn alone<R: MacroFunctions>(
     c: u8,
 ) -> Result<Event, AllocError>
     requires answers { R.answers with.now.macros.now }
-    requires place { at ≤ with.now.limits.text }
+    requires within { at ≤ with.now.limits.text }
     requires nesting { length frames.old ≤ with.now.limits.nesting }
     requires alone { stands_alone (entry_at with.now.readtable.now c).syntax ≡ true }
     ensures brings { let setting = setting R.functions with.now in
@@ -76,7 +76,7 @@ pub(crate) fn begin_token<R: MacroFunctions>(
     at: usize,
     c: u8,
 ) -> Result<Event, AllocError>
-    requires place { at ≤ with.now.limits.text }
+    requires within { at ≤ with.now.limits.text }
     requires begins { stands_alone (entry_at with.now.readtable.now c).syntax ≡ false }
     ensures brings { let setting = setting R.functions with.now in
         (frames : List Frame) (cs : List ℕ) → length frames ≤ with.now.limits.nesting

@@ -68,7 +68,7 @@ pub(crate) fn feed<R: MacroFunctions>(
         Moved::Before(event) => match event {
             Event::Stage(_) => unreachable!(),
             Event::Gives(found) => after_found(with, frames, found, at, c),
-            Event::Refused(code, place) => Ok(Passed::Taken(Event::Refused(code, place))),
+            Event::Refused(code, offset) => Ok(Passed::Taken(Event::Refused(code, offset))),
         },
     }
 }
@@ -94,9 +94,9 @@ fn settle<R: MacroFunctions>(
         Event::Gives(found) => match deliver(with, frames, found, at)? {
             Delivered::Waits(_) => Ok(Settled::Open(Stage::Object)),
             Delivered::Done(found) => Ok(Settled::Done(found)),
-            Delivered::Refused(code, place) => Ok(Settled::Refused(code, place)),
+            Delivered::Refused(code, offset) => Ok(Settled::Refused(code, offset)),
         },
-        Event::Refused(code, place) => Ok(Settled::Refused(code, place)),
+        Event::Refused(code, offset) => Ok(Settled::Refused(code, offset)),
     }
 }
 
@@ -143,7 +143,7 @@ fn change_of<R: MacroFunctions>(
     match settle(with, frames, event, at)? {
         Settled::Open(stage) => Ok(Change::Goes(start, at, stage)),
         Settled::Done(found) => Ok(done_after(found, start, at)),
-        Settled::Refused(code, place) => Ok(Change::Refused(code, start + place)),
+        Settled::Refused(code, offset) => Ok(Change::Refused(code, start + offset)),
     }
 }
 

@@ -26,7 +26,7 @@ pub(crate) fn close<R: MacroFunctions>(
     at: usize,
 ) -> Result<Event, AllocError>
     requires answers { R.answers with.now.macros.now }
-    requires place { at ≤ with.now.limits.text }
+    requires within { at ≤ with.now.limits.text }
     requires taken { 0 < at }
     ensures brings { let setting = setting R.functions with.now in
         (frames : List Frame) (cs : List ℕ) → depth ≡ length frames

@@ -49,7 +49,7 @@ fn take<R: MacroFunctions>(
     at: usize,
 ) -> Result<Taken, AllocError>
     requires answers { R.answers with.now.macros.now }
-    requires place { at ≤ with.now.limits.text }
+    requires within { at ≤ with.now.limits.text }
     requires open { 0 < length frames.old }
     ensures takes { let setting = setting R.functions with.now in
         (cs : List ℕ) → IfOk result (λ taken. Takes setting frames.new at cs taken
@@ -74,7 +74,7 @@ fn take_one<R: MacroFunctions>(
     at: usize,
 ) -> Result<Taken, AllocError>
     requires answers { R.answers with.now.macros.now }
-    requires place { at ≤ with.now.limits.text }
+    requires within { at ≤ with.now.limits.text }
     requires open { 0 < length frames.old }
     ensures takes { let setting = setting R.functions with.now in
         (cs : List ℕ) → IfOk result (λ taken. Takes setting frames.new at cs taken
@@ -135,7 +135,7 @@ pub(crate) fn deliver<R: MacroFunctions>(
     at: usize,
 ) -> Result<Delivered, AllocError>
     requires answers { R.answers with.now.macros.now }
-    requires place { at ≤ with.now.limits.text }
+    requires within { at ≤ with.now.limits.text }
     ensures delivers { let setting = setting R.functions with.now in
         (cs : List ℕ) → IfOk result (λ delivered. Delivers setting frames.new at cs delivered
         (plan_gives setting frames.old (gives found) at cs)) }
@@ -147,7 +147,7 @@ pub(crate) fn deliver<R: MacroFunctions>(
         match take(with, frames, found, at)? {
             Taken::Stays(token) => return Ok(Delivered::Waits(token)),
             Taken::Gives(next) => found = next,
-            Taken::Refused(code, place) => return Ok(Delivered::Refused(code, place)),
+            Taken::Refused(code, offset) => return Ok(Delivered::Refused(code, offset)),
         }
     }
     Ok(Delivered::Done(found))

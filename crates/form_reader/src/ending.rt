@@ -68,7 +68,7 @@ fn last_token<R: MacroFunctions>(
     scan: BegunScan,
     at: usize,
 ) -> Result<Event, AllocError>
-    requires place { at ≤ with.now.limits.text }
+    requires within { at ≤ with.now.limits.text }
     ensures brings { let setting = setting R.functions with.now in
         (frames : List Frame) → IfOk result (λ event. Brings setting frames at [] event
         (stage_gives setting frames (AtToken scan) at [])) }
@@ -90,7 +90,7 @@ fn last_call_token<R: MacroFunctions>(
     at: usize,
 ) -> Result<Event, AllocError>
     requires answers { R.answers with.now.macros.now }
-    requires place { at ≤ with.now.limits.text }
+    requires within { at ≤ with.now.limits.text }
     ensures brings { let setting = setting R.functions with.now in
         (frames : List Frame) → depth ≡ length frames → IfOk result (λ event. Brings setting frames at [] event
         (stage_gives setting frames (AtCallToken call scan) at [])) }
@@ -114,7 +114,7 @@ fn last_line<R: MacroFunctions>(
     at: usize,
 ) -> Result<Event, AllocError>
     requires answers { R.answers with.now.macros.now }
-    requires place { at ≤ with.now.limits.text }
+    requires within { at ≤ with.now.limits.text }
     ensures brings { let setting = setting R.functions with.now in
         (frames : List Frame) → depth ≡ length frames
         → IfOk result (λ event. Brings setting frames at [] event
@@ -133,7 +133,7 @@ fn last<R: MacroFunctions>(
     at: usize,
 ) -> Result<Event, AllocError>
     requires answers { R.answers with.now.macros.now }
-    requires place { at ≤ with.now.limits.text }
+    requires within { at ≤ with.now.limits.text }
     ensures brings { let setting = setting R.functions with.now in
         (frames : List Frame) → depth ≡ length frames → IfOk result (λ event. Brings setting frames at [] event
         (stage_gives setting frames stage at [])) }
@@ -174,7 +174,7 @@ fn settle_last<R: MacroFunctions>(
     at: usize,
 ) -> Result<Settled, AllocError>
     requires answers { R.answers with.now.macros.now }
-    requires place { at ≤ with.now.limits.text }
+    requires within { at ≤ with.now.limits.text }
     ensures settles { let setting = setting R.functions with.now in
         IfOk result (λ settled. Settles setting frames.new at [] settled
         (stage_gives setting frames.old stage at [])) }
@@ -186,9 +186,9 @@ fn settle_last<R: MacroFunctions>(
         Event::Gives(found) => match deliver(with, frames, found, at)? {
             Delivered::Waits(_) => Ok(waited(frames.len(), at)),
             Delivered::Done(found) => Ok(Settled::Done(found)),
-            Delivered::Refused(code, place) => Ok(Settled::Refused(code, place)),
+            Delivered::Refused(code, offset) => Ok(Settled::Refused(code, offset)),
         },
-        Event::Refused(code, place) => Ok(Settled::Refused(code, place)),
+        Event::Refused(code, offset) => Ok(Settled::Refused(code, offset)),
     }
 }
 
@@ -227,7 +227,7 @@ pub(crate) fn last_outcome<R: MacroFunctions>(
     at: usize,
 ) -> Result<ReadOutcome, AllocError>
     requires answers { R.answers with.now.macros.now }
-    requires place { at ≤ with.now.limits.text }
+    requires within { at ≤ with.now.limits.text }
     requires count { start + at ≤ 2 ^ 63 }
     ensures outcome { let setting = setting R.functions with.now in
         IfOk result (λ outcome. IsOutcome outcome (rest_of setting frames.old stage start at [])) }
@@ -236,9 +236,9 @@ pub(crate) fn last_outcome<R: MacroFunctions>(
     match settle_last(with, frames, stage, at)? {
         Settled::Open(_) => unreachable!(),
         Settled::Done(found) => Ok(done_last(found, start, at)),
-        Settled::Refused(code, place) => Ok(ReadOutcome::Refused {
+        Settled::Refused(code, offset) => Ok(ReadOutcome::Refused {
             code,
-            at: start + place,
+            at: start + offset,
         }),
     }
 }

@@ -27,7 +27,7 @@ pub(crate) fn in_text<R: MacroFunctions>(
     c: u8,
 ) -> Result<Event, AllocError>
     requires answers { R.answers with.now.macros.now }
-    requires place { at ≤ with.now.limits.text }
+    requires within { at ≤ with.now.limits.text }
     requires count { at < 2 ^ 63 }
     ensures brings { let setting = setting R.functions with.now in
         (frames : List Frame) (cs : List ℕ) → depth ≡ length frames
@@ -79,7 +79,7 @@ pub(crate) fn in_line<R: MacroFunctions>(
     c: u8,
 ) -> Result<Event, AllocError>
     requires answers { R.answers with.now.macros.now }
-    requires place { at ≤ with.now.limits.text }
+    requires within { at ≤ with.now.limits.text }
     requires count { at < 2 ^ 63 }
     ensures brings { let setting = setting R.functions with.now in
         (frames : List Frame) (cs : List ℕ) → depth ≡ length frames
@@ -109,7 +109,7 @@ pub(crate) fn in_block<R: MacroFunctions>(
     c: u8,
 ) -> Result<Event, AllocError>
     requires answers { R.answers with.now.macros.now }
-    requires place { at ≤ with.now.limits.text }
+    requires within { at ≤ with.now.limits.text }
     requires count { at < 2 ^ 63 }
     requires level { levels.0 ≤ at }
     ensures brings { let setting = setting R.functions with.now in

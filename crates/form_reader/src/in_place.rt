@@ -40,7 +40,7 @@ pub(crate) fn in_place<R: MacroFunctions>(
     at: usize,
     c: u8,
 ) -> Result<InPlace, AllocError>
-    requires place { at ≤ with.now.limits.text }
+    requires within { at ≤ with.now.limits.text }
     requires nesting { length frames.now ≤ with.now.limits.nesting }
     ensures feeds { let setting = setting R.functions with.now in
         (cs : List ℕ) → IfOk result (FeedsInPlace setting frames.now at c cs stage.old stage.new) }
@@ -69,7 +69,7 @@ fn begin_in_place<R: MacroFunctions>(
     at: usize,
     c: u8,
 ) -> Result<InPlace, AllocError>
-    requires place { at ≤ with.now.limits.text }
+    requires within { at ≤ with.now.limits.text }
     requires nesting { length frames.now ≤ with.now.limits.nesting }
     requires object { stage.old ≡ AtObject }
     ensures feeds { let setting = setting R.functions with.now in
@@ -96,7 +96,7 @@ fn begun_at<R: MacroFunctions>(
     at: usize,
     c: u8,
 ) -> Result<Option<BegunScan>, AllocError>
-    requires place { at ≤ with.now.limits.text }
+    requires within { at ≤ with.now.limits.text }
     requires nesting { length frames.now ≤ with.now.limits.nesting }
     ensures begins { let setting = setting R.functions with.now in
         (cs : List ℕ) → IfOk result (λ begun. IfSome begun (λ scan. BeginsToken setting frames.now at c cs scan)) }

@@ -39,7 +39,7 @@ pub(crate) fn begin_macro<R: MacroFunctions>(
     at: usize,
 ) -> Result<Event, AllocError>
     requires answers { R.answers with.now.macros.now }
-    requires place { at ≤ with.now.limits.text }
+    requires within { at ≤ with.now.limits.text }
     requires character { c < 128 }
     requires nesting { length frames.old ≤ with.now.limits.nesting }
     ensures brings { let setting = setting R.functions with.now in
@@ -71,7 +71,7 @@ pub(crate) fn in_call_token<R: MacroFunctions>(
     c: u8,
 ) -> Result<Moved, AllocError>
     requires answers { R.answers with.now.macros.now }
-    requires place { at ≤ with.now.limits.text }
+    requires within { at ≤ with.now.limits.text }
     ensures moves { let setting = setting R.functions with.now in
         (frames : List Frame) (cs : List ℕ) → depth ≡ length frames
         → IfOk result (λ moved. Moves setting frames at c cs moved
@@ -98,7 +98,7 @@ pub(crate) fn in_number<R: MacroFunctions>(
     c: u8,
 ) -> Result<Event, AllocError>
     requires answers { R.answers with.now.macros.now }
-    requires place { at ≤ with.now.limits.text }
+    requires within { at ≤ with.now.limits.text }
     requires nesting { length frames.old ≤ with.now.limits.nesting }
     ensures brings { let setting = setting R.functions with.now in
         (cs : List ℕ) → IfOk result (λ event. Brings setting frames.new (at + 1) cs event
@@ -123,7 +123,7 @@ fn sub_byte<R: MacroFunctions>(
     c: u8,
 ) -> Result<Event, AllocError>
     requires answers { R.answers with.now.macros.now }
-    requires place { at ≤ with.now.limits.text }
+    requires within { at ≤ with.now.limits.text }
     requires character { character < 128 }
     requires nesting { length frames.old ≤ with.now.limits.nesting }
     ensures brings { let setting = setting R.functions with.now in

@@ -5,7 +5,7 @@ ghost use Rattle.form_reader.specs.Delivering.{Passes};
 ghost use Rattle.lisp_reading.specs.Plans.{gives};
 ghost use Rattle.form_reader.specs.Surrounding.{setting};
 ghost use Rattle.lisp_reading.specs.Reading.{is_blank, token_found};
-ghost use Rattle.form_reader.specs.Frames.{plan_gives, place_gives};
+ghost use Rattle.form_reader.specs.Frames.{plan_gives, next_item_gives};
 ghost use Rattle.form_reader.specs.Resuming.{Brings, Moves, stage_gives};
 ghost use Rattle.form_reader.specs.declared.frame.Frame.{Frame};
 ghost use Rattle.form_reader.specs.declared.stage.Stage.TheVariants.{Object as AtObject, Token as AtToken};
@@ -34,7 +34,7 @@ pub(crate) fn at_object<R: MacroFunctions>(
     c: u8,
 ) -> Result<Event, AllocError>
     requires answers { R.answers with.now.macros.now }
-    requires place { at ≤ with.now.limits.text }
+    requires within { at ≤ with.now.limits.text }
     requires nesting { length frames.old ≤ with.now.limits.nesting }
     ensures brings { let setting = setting R.functions with.now in
         (cs : List ℕ) → IfOk result (λ event. Brings setting frames.new (at + 1) cs event
@@ -65,11 +65,11 @@ pub(crate) fn after_token<R: MacroFunctions>(
     c: u8,
 ) -> Result<Event, AllocError>
     requires answers { R.answers with.now.macros.now }
-    requires place { at ≤ with.now.limits.text }
+    requires within { at ≤ with.now.limits.text }
     requires nesting { length frames.old ≤ with.now.limits.nesting }
     ensures brings { let setting = setting R.functions with.now in
         (cs : List ℕ) → IfOk result (λ event. Brings setting frames.new (at + 1) cs event
-        (place_gives setting true frames.old at (c ∷ cs))) }
+        (next_item_gives setting true frames.old at (c ∷ cs))) }
     ensures ready { IfOk result (IsReady with.now.limits (at + 1)) }
     ensures nesting { IfOk result (λ _. length frames.new ≤ with.now.limits.nesting) }
 {
@@ -118,7 +118,7 @@ pub(crate) fn after_found<R: MacroFunctions>(
     c: u8,
 ) -> Result<Passed, AllocError>
     requires answers { R.answers with.now.macros.now }
-    requires place { at ≤ with.now.limits.text }
+    requires within { at ≤ with.now.limits.text }
     requires nesting { length frames.old ≤ with.now.limits.nesting }
     requires found { lookahead found ≤ 1 }
     ensures passes { let setting = setting R.functions with.now in
@@ -136,7 +136,7 @@ pub(crate) fn after_found<R: MacroFunctions>(
             }
         }
         Delivered::Done(found) => Ok(Passed::Done(found)),
-        Delivered::Refused(code, place) => Ok(Passed::Taken(Event::Refused(code, place))),
+        Delivered::Refused(code, offset) => Ok(Passed::Taken(Event::Refused(code, offset))),
     }
 }
 
@@ -148,7 +148,7 @@ pub(crate) fn in_token<R: MacroFunctions>(
     at: usize,
     c: u8,
 ) -> Result<Moved, AllocError>
-    requires place { at ≤ with.now.limits.text }
+    requires within { at ≤ with.now.limits.text }
     ensures moves { let setting = setting R.functions with.now in
         (frames : List Frame) (cs : List ℕ) → IfOk result (λ moved. Moves setting frames at c cs moved
         (stage_gives setting frames (AtToken scan) at (c ∷ cs))) }

@@ -33,7 +33,7 @@ pub(crate) fn begin_call<R: MacroFunctions>(
     at: usize,
 ) -> Result<Event, AllocError>
     requires answers { R.answers with.now.macros.now }
-    requires place { at ≤ with.now.limits.text }
+    requires within { at ≤ with.now.limits.text }
     requires nesting { length frames.old ≤ with.now.limits.nesting }
     ensures begins { let setting = setting R.functions with.now in
         (cs : List ℕ) → IfOk result (λ event. Begins setting frames.new frames.old call at cs event) }
@@ -59,7 +59,7 @@ fn gather<R: MacroFunctions>(
     requires answers { R.answers with.now.macros.now }
     requires way { let setting = setting R.functions with.now in
         way_in setting call ≡ Some way }
-    requires place { at ≤ with.now.limits.text }
+    requires within { at ≤ with.now.limits.text }
     requires nesting { length frames.old ≤ with.now.limits.nesting }
     ensures gathers { let setting = setting R.functions with.now in
         (cs : List ℕ) → IfOk result (λ event. Gathers setting frames.new frames.old call way at cs event) }
@@ -102,7 +102,7 @@ fn gather_objects<R: MacroFunctions>(
     at: usize,
 ) -> Result<Event, AllocError>
     requires objects { reads_objects way ≡ true }
-    requires place { at ≤ with.now.limits.text }
+    requires within { at ≤ with.now.limits.text }
     requires nesting { length frames.old ≤ with.now.limits.nesting }
     ensures gathers { let setting = setting R.functions with.now in
         (cs : List ℕ) → IfOk result (λ event. Gathers setting frames.new frames.old call way at cs event) }

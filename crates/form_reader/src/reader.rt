@@ -92,7 +92,7 @@ impl FormReader {
     /// Where the object, or the discarded call or text, that is now open began, as a number of bytes from the beginning of
     /// the text. A form that is read begins there or later, so the bytes before it need not be kept.
     pub fn begun(&self) -> usize
-        ensures place { result ≡ begun self.now }
+        ensures value { result ≡ begun self.now }
         ensures within { result ≤ fed self.now }
         ensures form { (setting : Setting) (bytes more : List ℕ) (x : Object) (start end next : ℕ)
             → IsAfter setting self.now bytes → reads setting (bytes ++ more) ≡ form x start end next → result ≤ start }
@@ -127,12 +127,12 @@ impl FormReader {
         ensures counts { IfOk result (Counts self.old self.new) }
         ensures begun { IfOk result (BeginsLater self.old self.new) }
         ensures sound { IfOk result IsSoundStep }
-        ensures refused { (code place : ℕ) → HasRefused self.old code place
-            → (result ≡ Ok (AdvanceRefused code place)) × HasRefused self.new code place }
+        ensures refused { (number offset : ℕ) → HasRefused self.old number offset
+            → (result ≡ Ok (AdvanceRefused number offset)) × HasRefused self.new number offset }
         ensures memory { OnErr result (HasNoMemory self.new) }
         ensures spent { HasNoMemory self.old → IsErr result }
-        ensures stays { (code place : ℕ)
-            → (HasRefused self.old code place → fed self.new ≡ fed self.old)
+        ensures stays { (number offset : ℕ)
+            → (HasRefused self.old number offset → fed self.new ≡ fed self.old)
             × (HasNoMemory self.old → fed self.new ≡ fed self.old) }
         ensures between { IsBetween self.old → is_whitespace readtable.now byte ≡ true
             → 0 < (limits_of self.old).text → (result ≡ Ok AdvanceMore) × IsBetween self.new }
@@ -161,9 +161,9 @@ impl FormReader {
                 }
                 Ok(InPlace::Left) => self.leave(&with, byte),
                 Ok(InPlace::Refused(code)) => {
-                    let place = self.start + self.at;
-                    refuse(&mut self.state, code, place);
-                    Ok(Advance::Refused { code, at: place })
+                    let offset = self.start + self.at;
+                    refuse(&mut self.state, code, offset);
+                    Ok(Advance::Refused { code, at: offset })
                 }
                 Err(error) => {
                     run_out(&mut self.state);
@@ -257,8 +257,8 @@ impl FormReader {
         requires answers { R.answers macros.now }
         requires current { IsPackage packages.now.0 current.now }
         requires count { fed self ≤ 2 ^ 63 }
-        ensures refused { (code place : ℕ) → HasRefused self code place
-            → result ≡ Ok (ReadRefused code place) }
+        ensures refused { (number offset : ℕ) → HasRefused self number offset
+            → result ≡ Ok (ReadRefused number offset) }
         ensures spent { HasNoMemory self → IsErr result }
         ensures outcome { (bytes : List ℕ) → IsAfter
             (setting_of (limits_of self) readtable.now packages.now.0 current.now
@@ -297,10 +297,10 @@ impl FormReader {
 
 /// The reader refused the text here.
 #[inline(never)]
-fn refuse(state: &mut ReaderState, code: u16, place: usize)
-    ensures { state.new ≡ Refused code place }
+fn refuse(state: &mut ReaderState, number: u16, offset: usize)
+    ensures { state.new ≡ Refused number offset }
 {
-    *state = ReaderState::Refused(code, place);
+    *state = ReaderState::Refused(number, offset);
 }
 
 /// The reader ran out of memory.

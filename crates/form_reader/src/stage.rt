@@ -62,7 +62,7 @@ pub(crate) fn first_byte(
     at: usize,
     c: u8,
 ) -> Result<FirstByte, AllocError>
-    requires place { at ≤ limits.now.text }
+    requires within { at ≤ limits.now.text }
     requires begins { IsFalse (ends_tokens (kind (typed readtable.now c))) }
     ensures feeds { (cs : List ℕ) → IfOk result (λ fed.
         FirstFeeds readtable.now limits.now at cs fed (token_read readtable.now limits.now (begun limits.now.token) at (c ∷ cs))) }

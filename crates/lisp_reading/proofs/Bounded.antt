@@ -25,11 +25,11 @@ no_end limit false e f = tt
 
 limited_below : (limit : ℕ) (r : ScannedBytes) → EndsBelow limit (limited limit r (λ p. p.1))
 limited_below limit (Ok (marks, at, cs)) = go (nat_le at limit) refl where
-  go : (b : Bool) → nat_le at limit ≡ b → EndsBelow {A = List Mark} limit (elim b [ true ↦ Ok (marks, at, cs) | false ↦ Err (record { code = FORM_TOO_LONG; at = limit }) ])
+  go : (b : Bool) → nat_le at limit ≡ b → EndsBelow {A = List Mark} limit (elim b [ true ↦ Ok (marks, at, cs) | false ↦ Err (record { number = FORM_TOO_LONG; at = limit }) ])
   go true e = leb-true at limit e
   go false e = tt
 limited_below limit (Err e) =
-    no_end limit (stands_below limit e.refusal e.at) (record { code = scan_refusal_number e.refusal; at = e.at }) (record { code = FORM_TOO_LONG; at = limit })
+    no_end limit (stands_below limit e.refusal e.at) (record { number = scan_refusal_number e.refusal; at = e.at }) (record { number = FORM_TOO_LONG; at = limit })
 
 byte_below : {A : Type 0} (limit at : ℕ) (full : Bool) → nat_le limit at ≡ full → (r : Read A) → (at + 1 ≤ limit → EndsBelow limit r) → EndsBelow limit (within full at r)
 byte_below limit at true e r more = tt

@@ -14,7 +14,7 @@ use Rattle.lisp_reading.specs.declared.limits.Limits.{Limits}
 use Rattle.lisp_reading.specs.Plans.{Plan, gives, refuses, takes, scans, Read, within, stands_below, limited, scanned, run}
 use Rattle.lisp_reading.proofs.Following.{Follows, token_follows}
 use Rattle.lisp_reading.proofs.Keeping.{most_back, Keeps, few}
-use Rattle.lisp_reading.proofs.Places.{Parts, token_parts}
+use Rattle.lisp_reading.proofs.Offsets.{Parts, token_parts}
 use Rattle.lisp_reading.proofs.TokenFaults.{IsFrom, IsLonger, token_longer, token_from_here}
 
 -- A refusal is at most so far before this place, and at the end at most; before the end it is that of each longer text.
@@ -64,15 +64,15 @@ module _ {A : Type 0} (table : Table) (limits : Limits) (on : List Mark → Plan
   cut r = step (limited limits.text r (λ p. p.1))
 
   abbrev too_long : Read A
-  too_long = Err (record { code = FORM_TOO_LONG; at = limits.text })
+  too_long = Err (record { number = FORM_TOO_LONG; at = limits.text })
 
   abbrev cut_end : Bool → List Mark → ℕ → List ℕ → Read A
-  cut_end b marks next cs = step (elim b [ true ↦ Ok (marks, next, cs) | false ↦ Err (record { code = FORM_TOO_LONG; at = limits.text }) ])
+  cut_end b marks next cs = step (elim b [ true ↦ Ok (marks, next, cs) | false ↦ Err (record { number = FORM_TOO_LONG; at = limits.text }) ])
 
   abbrev cut_fault : Bool → TokenFault → Read A
   cut_fault b f = step (elim b [
-    | true ↦ Err (record { code = scan_refusal_number f.refusal; at = f.at })
-    | false ↦ Err (record { code = FORM_TOO_LONG; at = limits.text })
+    | true ↦ Err (record { number = scan_refusal_number f.refusal; at = f.at })
+    | false ↦ Err (record { number = FORM_TOO_LONG; at = limits.text })
   ])
 
   -- what is beyond the limit is cut there
@@ -87,7 +87,7 @@ module _ {A : Type 0} (table : Table) (limits : Limits) (on : List Mark → Plan
       → Decided 0 next (next + length ds) (λ more. run table limits (on marks) next (ds ++ more)) (run table limits (on marks) next ds))
       → Decided most at (at + length cs) (λ more. cut (longer more)) (cut r)
   token_decided limit most at cs longer (Ok (marks, next, [])) le small here p beyond_end follows all =
-      let total : at + length cs ≡ next = omega (arith, p.place, ap length p.split, length-append p.taken []) in
+      let total : at + length cs ≡ next = omega (arith, p.offset, ap length p.split, length-append p.taken []) in
       let by : (b : Bool) → nat_le next limits.text ≡ b → Decided most at (at + length cs) (λ more. cut (longer more)) (cut_end b marks next []) =
       λ b. elim b as (λ b. nat_le next limits.text ≡ b → Decided most at (at + length cs) (λ more. cut (longer more)) (cut_end b marks next [])) [
         | true ↦ λ e. at_end most at next (at + length cs) (λ more. cut (longer more)) (λ more. run table limits (on marks) next more) (run table limits (on marks) next [])
@@ -98,7 +98,7 @@ module _ {A : Type 0} (table : Table) (limits : Limits) (on : List Mark → Plan
       ] in
       by (nat_le next limits.text) refl
   token_decided limit most at cs longer (Ok (marks, next, d ∷ ds)) le small here p beyond_end follows all =
-      let total : next + length (d ∷ ds) ≡ at + length cs = omega (arith, p.place, ap length p.split, length-append p.taken (d ∷ ds)) in
+      let total : next + length (d ∷ ds) ≡ at + length cs = omega (arith, p.offset, ap length p.split, length-append p.taken (d ∷ ds)) in
       let by : (b : Bool) → nat_le next limits.text ≡ b → Decided most at (at + length cs) (λ more. cut (longer more)) (cut_end b marks next (d ∷ ds)) =
       λ b. elim b as (λ b. nat_le next limits.text ≡ b → Decided most at (at + length cs) (λ more. cut (longer more)) (cut_end b marks next (d ∷ ds))) [
         | true ↦ λ e. goes_on 0 most at next (at + length cs) (next + length (d ∷ ds)) (λ more. cut (longer more)) (λ more. run table limits (on marks) next (d ∷ ds ++ more))

@@ -94,14 +94,14 @@ module _ {A : Type 0} (P : Bool → A → Type 0) (table : Table) (limits : Limi
       → ((marks : List Mark) (next : ℕ) (ds : List ℕ) → character_count marks ≤ limit → Given P (run table limits (on marks) next ds))
       → Given P (step (limited limits.text r (λ p. p.1)))
   given_token limit (Ok (marks, next, ds)) small all =
-      elim (nat_le next limits.text) as (λ b. Given P (step (elim b [ true ↦ Ok (marks, next, ds) | false ↦ Err (record { code = FORM_TOO_LONG; at = limits.text }) ]))) [
+      elim (nat_le next limits.text) as (λ b. Given P (step (elim b [ true ↦ Ok (marks, next, ds) | false ↦ Err (record { number = FORM_TOO_LONG; at = limits.text }) ]))) [
         | true ↦ all marks next ds small
         | false ↦ tt
       ]
   given_token limit (Err e) small all =
       elim (stands_below limits.text e.refusal e.at) as (λ b. Given P (step (elim b [
-        | true ↦ Err (record { code = scan_refusal_number e.refusal; at = e.at })
-        | false ↦ Err (record { code = FORM_TOO_LONG; at = limits.text })
+        | true ↦ Err (record { number = scan_refusal_number e.refusal; at = e.at })
+        | false ↦ Err (record { number = FORM_TOO_LONG; at = limits.text })
       ]))) [ true ↦ tt | false ↦ tt ]
 
 pub given_keeps : {A : Type 0} (P : Bool → A → Type 0) → ((x : A) → P false x → P true x) → (table : Table) (limits : Limits) (plan : Plan A) (taken : Bool) (at : ℕ) (cs : List ℕ)

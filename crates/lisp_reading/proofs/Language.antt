@@ -32,7 +32,7 @@ use Rattle.lisp_reading.specs.Gathering.{text_turn, is_escape, kept, line_turn, 
 use Rattle.lisp_reading.specs.Naming.{told}
 use Rattle.lisp_reading.specs.Plans.{Plan, gives, refuses, then_plan, next_byte}
 use Rattle.lisp_reading.specs.Setting.{Setting, macro_call, way_in, function_of}
-use Rattle.lisp_reading.specs.Reading.{text_to, line_after, block_after, number_after, Piece, item, dot, closed, without_space, at_place, or_closed, place_turn, place, Items, items_step, items_turn, items_after, undotted, after_tail, after_dot, list_end, one_piece, bytes_back, finished, answered, completed_by, completed, gathered, gathered_by, called, sub_called, sub_there, dispatched, macro_called, alone, told_found, token_found, attempt_by, inner, attempt}
+use Rattle.lisp_reading.specs.Reading.{text_to, line_after, block_after, number_after, Piece, item, dot, closed, without_space, piece_of, or_closed, next_item_turn, next_item, Items, items_step, items_turn, items_after, undotted, after_tail, after_dot, list_end, one_piece, bytes_back, finished, answered, completed_by, completed, gathered, gathered_by, called, sub_called, sub_there, dispatched, macro_called, alone, told_found, token_found, attempt_by, inner, attempt}
 use Rattle.lisp_reading.proofs.Keeping.{most_back, Keeps, keeps_either, keeps_weaker, keeps_then, keeps_loop, keeps_character, keeps_next}
 use Rattle.lisp_reading.proofs.Backs.{back_of, StaysIn, way_stays}
 
@@ -194,23 +194,23 @@ module _ (setting : Setting) (V : ℕ → Object → Type 0) (laws : AreKept set
   piece_more room dot h = h
   piece_more room closed h = refl
 
-  at_place_keeps : (room : ℕ) (again : Plan Piece) (taken : Bool) (found : Found) → Keeps (PieceAt V room) false again → FoundAt V room taken found
-      → Keeps (PieceAt V room) taken (at_place setting.table again found)
-  at_place_keeps room again taken (nothing token) h f = space_keeps (PieceAt V room) token taken again (piece_more room) h
-  at_place_keeps room again taken (one token x) h f = f
-  at_place_keeps room again taken lone_dot h f = tt
-  at_place_keeps room again taken the_end h f = omega arith
+  piece_of_keeps : (room : ℕ) (again : Plan Piece) (taken : Bool) (found : Found) → Keeps (PieceAt V room) false again → FoundAt V room taken found
+      → Keeps (PieceAt V room) taken (piece_of setting.table again found)
+  piece_of_keeps room again taken (nothing token) h f = space_keeps (PieceAt V room) token taken again (piece_more room) h
+  piece_of_keeps room again taken (one token x) h f = f
+  piece_of_keeps room again taken lone_dot h f = tt
+  piece_of_keeps room again taken the_end h f = omega arith
 
   closed_keeps : (room : ℕ) (close : Option ℕ) (plan : Plan Piece) → Keeps (PieceAt V room) false plan → Keeps (PieceAt V room) false (or_closed close plan)
   closed_keeps room None plan h = h
   closed_keeps room (Some c) plan h = (h, λ d. refl)
 
-  place_keeps : (room : ℕ) (close : Option ℕ) (may : Plan Found) → Keeps (FoundAt V room) false may → Keeps (PieceAt V room) false (place setting close may)
-  place_keeps room close may h =
-      keeps_loop (PieceAt V room) (λ s. Unit {0}) (place_turn setting.table close may)
-      (λ more all s i. closed_keeps room close (then_plan may (λ found. at_place setting.table (more tt) found))
-      (keeps_then (FoundAt V room) (PieceAt V room) false may (λ found. at_place setting.table (more tt) found) h
-      (λ taken found f. at_place_keeps room (more tt) taken found (all tt tt) f)))
+  next_item_keeps : (room : ℕ) (close : Option ℕ) (may : Plan Found) → Keeps (FoundAt V room) false may → Keeps (PieceAt V room) false (next_item setting close may)
+  next_item_keeps room close may h =
+      keeps_loop (PieceAt V room) (λ s. Unit {0}) (next_item_turn setting.table close may)
+      (λ more all s i. closed_keeps room close (then_plan may (λ found. piece_of setting.table (more tt) found))
+      (keeps_then (FoundAt V room) (PieceAt V room) false may (λ found. piece_of setting.table (more tt) found) h
+      (λ taken found f. piece_of_keeps room (more tt) taken found (all tt tt) f)))
       (setting.limits.text + 1) tt tt
 
   -- ---- objects up to the closing character
@@ -227,8 +227,8 @@ module _ (setting : Setting) (V : ℕ → Object → Type 0) (laws : AreKept set
       → Keeps (ItemsAt V room) false (items_after setting close may xs)
   items_keep room close may xs h all =
       keeps_loop (ItemsAt V room) (λ ys. All (V room) ys) (items_turn setting close may)
-      (λ more each ys i. keeps_then (PieceAt V room) (ItemsAt V room) false (place setting (Some close) may) (λ p. items_step setting.table more ys p)
-      (place_keeps room (Some close) may h) (λ taken p f. items_step_keeps room more ys taken p each i f))
+      (λ more each ys i. keeps_then (PieceAt V room) (ItemsAt V room) false (next_item setting (Some close) may) (λ p. items_step setting.table more ys p)
+      (next_item_keeps room (Some close) may h) (λ taken p f. items_step_keeps room more ys taken p each i f))
       (setting.limits.text + 1) xs all
 
   -- ---- what a call gives
@@ -292,17 +292,17 @@ module _ (setting : Setting) (V : ℕ → Object → Type 0) (laws : AreKept set
     dot_keeps xs taken closed all p = elim taken as (λ t. t ≡ true → 1 ≤ most_back t) [ true ↦ λ e. omega arith | false ↦ λ e. absurd cc ] p
     dot_keeps xs taken dot all p = omega arith
     dot_keeps xs taken (item token x) all p =
-        space_keeps (CallAt V (suc room)) token taken (then_plan (place setting (Some 41) may) (after_tail on xs x))
+        space_keeps (CallAt V (suc room)) token taken (then_plan (next_item setting (Some 41) may) (after_tail on xs x))
         (call_more V (suc room))
-        (keeps_then (PieceAt V room) (CallAt V (suc room)) false (place setting (Some 41) may) (after_tail on xs x) (place_keeps room (Some 41) may attempts)
+        (keeps_then (PieceAt V room) (CallAt V (suc room)) false (next_item setting (Some 41) may) (after_tail on xs x) (next_item_keeps room (Some 41) may attempts)
         (λ t q f. tail_keeps (suc room) on xs x t q (pairs xs x all p)))
 
     list_end_keeps : (taken : Bool) (xs : List Object) (b : Bool) → All (V room) xs → Keeps (CallAt V (suc room)) taken (list_end setting may on (xs, b))
     list_end_keeps taken xs true all = lists xs all taken
     list_end_keeps taken [] false all = omega arith
     list_end_keeps taken (x ∷ xs) false all =
-        call_either (suc room) taken (then_plan (place setting (Some 41) may) (after_dot setting may on (x ∷ xs)))
-        (keeps_then (PieceAt V room) (CallAt V (suc room)) false (place setting (Some 41) may) (after_dot setting may on (x ∷ xs)) (place_keeps room (Some 41) may attempts)
+        call_either (suc room) taken (then_plan (next_item setting (Some 41) may) (after_dot setting may on (x ∷ xs)))
+        (keeps_then (PieceAt V room) (CallAt V (suc room)) false (next_item setting (Some 41) may) (after_dot setting may on (x ∷ xs)) (next_item_keeps room (Some 41) may attempts)
         (λ t p f. dot_keeps (x ∷ xs) t p all f))
 
   -- ---- calls, at their last byte
@@ -325,8 +325,8 @@ module _ (setting : Setting) (V : ℕ → Object → Type 0) (laws : AreKept set
   gathered_keeps zero (Some may) call (Until close) le h back = absurd h
   gathered_keeps (suc room) (Some may) call Next le h back =
       call_either (suc room) true (gathered setting (setting.limits.nesting - suc room) (Some may) call Next)
-      (keeps_then (PieceAt V room) (CallAt V (suc room)) false (place setting None may)
-      (one_piece (λ token x. completed setting (setting.limits.nesting - suc room) call token token (one_object x))) (place_keeps room None may h)
+      (keeps_then (PieceAt V room) (CallAt V (suc room)) false (next_item setting None may)
+      (one_piece (λ token x. completed setting (setting.limits.nesting - suc room) call token token (one_object x))) (next_item_keeps room None may h)
       (λ t p f. one_piece_keeps room (λ token x. completed setting (setting.limits.nesting - suc room) call token token (one_object x)) t p
       (λ token x v. completed_keeps (suc room) t call token token (one_object x) le back v) f))
   gathered_keeps (suc room) (Some may) call AList le h back =

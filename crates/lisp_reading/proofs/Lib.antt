@@ -1,6 +1,6 @@
 pub mod Homes
 pub mod Framing
-pub mod Places
+pub mod Offsets
 pub mod Steps
 pub mod Forms
 pub mod Turns

@@ -48,7 +48,7 @@ use Rattle.lisp_reading.specs.Setting.{Setting, macro_call, way_in, function_of}
 use Rattle.lisp_reading.specs.Gathering.{is_escape, text_turn, kept, line_turn, block_next, block_goes, block_turn, next_digit, number_turn}
 use Rattle.lisp_reading.specs.Naming.{symbol_in, symbol_at, named, told_of, told}
 use Rattle.lisp_reading.specs.Answering.{may_be_answered}
-use Rattle.lisp_reading.specs.Reading.{Piece, item, dot, closed, is_whitespace, without_space, at_place, or_closed, place_turn, place, Items, items_step, items_turn, items_after, undotted, after_tail, after_dot, list_end, one_piece, bytes_back, finished, answered, completed_by, completed, opened, gathered, gathered_by, called, sub_called, sub_there, dispatched, macro_called, stands_alone, alone, told_found, token_found, attempt_by, inner, attempt, Outcome, form, empty, refused, outcome, reads_in, reads, text_to, line_after, block_after, number_after}
+use Rattle.lisp_reading.specs.Reading.{Piece, item, dot, closed, is_whitespace, without_space, piece_of, or_closed, next_item_turn, next_item, Items, items_step, items_turn, items_after, undotted, after_tail, after_dot, list_end, one_piece, bytes_back, finished, answered, completed_by, completed, opened, gathered, gathered_by, called, sub_called, sub_there, dispatched, macro_called, stands_alone, alone, told_found, token_found, attempt_by, inner, attempt, Outcome, form, empty, refused, outcome, reads_in, reads, text_to, line_after, block_after, number_after}
 
 abbrev pub IsOfReading : ℕ → Type 0
 IsOfReading code = (END_OF_FILE ≤ code) × (code ≤ OUT_OF_PROFILE)
@@ -63,7 +63,7 @@ Numbered (scans escaped limit on) = (marks : List Mark) → Numbered (on marks)
 -- ---- what numbered plans give
 
 abbrev NumberedResult : {A : Type 0} → Result A Fault → Type 0
-NumberedResult r = IfErr r (λ e. IsOfReading e.code)
+NumberedResult r = IfErr r (λ e. IsOfReading e.number)
 
 within_numbered : {A : Type 0} (full : Bool) (at : ℕ) (r : Read A) → NumberedResult r → NumberedResult (within full at r)
 within_numbered true at r h = (omega arith, omega arith)
@@ -80,12 +80,12 @@ scan_numbered InvalidCharacter = (omega arith, omega arith)
 scan_numbered InvalidTrait = (omega arith, omega arith)
 scan_numbered TokenTooLong = (omega arith, omega arith)
 
-cut_numbered : {A : Type 0} (b : Bool) (x : A) (limit : ℕ) → NumberedResult (elim b [ true ↦ Ok x | false ↦ Err (record { code = FORM_TOO_LONG; at = limit }) ])
+cut_numbered : {A : Type 0} (b : Bool) (x : A) (limit : ℕ) → NumberedResult (elim b [ true ↦ Ok x | false ↦ Err (record { number = FORM_TOO_LONG; at = limit }) ])
 cut_numbered true x limit = tt
 cut_numbered false x limit = (omega arith, omega arith)
 
 fault_numbered : (A : Type 0) (b : Bool) (limit at : ℕ) (refusal : ScanRefusal)
-    → NumberedResult {A = A} (elim b [ true ↦ Err (record { code = scan_refusal_number refusal; at = at }) | false ↦ Err (record { code = FORM_TOO_LONG; at = limit }) ])
+    → NumberedResult {A = A} (elim b [ true ↦ Err (record { number = scan_refusal_number refusal; at = at }) | false ↦ Err (record { number = FORM_TOO_LONG; at = limit }) ])
 fault_numbered A true limit at refusal = scan_numbered refusal
 fault_numbered A false limit at refusal = (omega arith, omega arith)
 
@@ -264,21 +264,21 @@ space_numbered : {A : Type 0} (table : Table) (token : Bool) (on : Plan A) → N
 space_numbered table false on h = h
 space_numbered table true on h = takes_numbered on (is_whitespace table) (λ c. on) h (λ c. h)
 
-at_place_numbered : (table : Table) (again : Plan Piece) (found : Found) → Numbered again → Numbered (at_place table again found)
-at_place_numbered table again (nothing token) h = space_numbered table token again h
-at_place_numbered table again (one token x) h = gives_numbered (item token x)
-at_place_numbered table again lone_dot h = gives_numbered dot
-at_place_numbered table again the_end h = refuses_numbered _ END_OF_FILE 0 (omega arith, omega arith)
+piece_of_numbered : (table : Table) (again : Plan Piece) (found : Found) → Numbered again → Numbered (piece_of table again found)
+piece_of_numbered table again (nothing token) h = space_numbered table token again h
+piece_of_numbered table again (one token x) h = gives_numbered (item token x)
+piece_of_numbered table again lone_dot h = gives_numbered dot
+piece_of_numbered table again the_end h = refuses_numbered _ END_OF_FILE 0 (omega arith, omega arith)
 
 or_closed_numbered : (close : Option ℕ) (plan : Plan Piece) → Numbered plan → Numbered (or_closed close plan)
 or_closed_numbered None plan h = h
 or_closed_numbered (Some close) plan h = takes_numbered plan (λ c. c == close) (λ c. gives closed) h (λ c. gives_numbered closed)
 
-place_numbered : (setting : Setting) (close : Option ℕ) (attempt : Plan Found) → Numbered attempt → Numbered (place setting close attempt)
-place_numbered setting close attempt h =
-    loop_numbered setting.limits (place_turn setting.table close attempt)
-    (λ more all u. or_closed_numbered close (then_plan attempt (λ found. at_place setting.table (more tt) found))
-    (then_numbered attempt (λ found. at_place setting.table (more tt) found) h (λ found. at_place_numbered setting.table (more tt) found (all tt)))) tt
+next_item_numbered : (setting : Setting) (close : Option ℕ) (attempt : Plan Found) → Numbered attempt → Numbered (next_item setting close attempt)
+next_item_numbered setting close attempt h =
+    loop_numbered setting.limits (next_item_turn setting.table close attempt)
+    (λ more all u. or_closed_numbered close (then_plan attempt (λ found. piece_of setting.table (more tt) found))
+    (then_numbered attempt (λ found. piece_of setting.table (more tt) found) h (λ found. piece_of_numbered setting.table (more tt) found (all tt)))) tt
 
 items_step_numbered : (table : Table) (more : List Object → Plan Items) (xs : List Object) (p : Piece) → ((ys : List Object) → Numbered (more ys))
     → Numbered (items_step table more xs p)
@@ -289,8 +289,8 @@ items_step_numbered table more xs (item token x) all = space_numbered table toke
 items_numbered : (setting : Setting) (close : ℕ) (attempt : Plan Found) (xs : List Object) → Numbered attempt → Numbered (items_after setting close attempt xs)
 items_numbered setting close attempt xs h =
     loop_numbered setting.limits (items_turn setting close attempt)
-    (λ more all ys. then_numbered (place setting (Some close) attempt) (λ p. items_step setting.table more ys p)
-    (place_numbered setting (Some close) attempt h) (λ p. items_step_numbered setting.table more ys p all)) xs
+    (λ more all ys. then_numbered (next_item setting (Some close) attempt) (λ p. items_step setting.table more ys p)
+    (next_item_numbered setting (Some close) attempt h) (λ p. items_step_numbered setting.table more ys p all)) xs
 
 -- ---- what a call gives
 
@@ -349,15 +349,15 @@ after_dot_numbered : (setting : Setting) (attempt : Plan Found) (on : Material �
 after_dot_numbered setting attempt on xs closed h all = refuses_numbered _ DOT_CONTEXT 1 (omega arith, omega arith)
 after_dot_numbered setting attempt on xs dot h all = refuses_numbered _ DOT_CONTEXT 0 (omega arith, omega arith)
 after_dot_numbered setting attempt on xs (item token x) h all =
-    space_numbered setting.table token (then_plan (place setting (Some 41) attempt) (after_tail on xs x))
-    (then_numbered (place setting (Some 41) attempt) (after_tail on xs x) (place_numbered setting (Some 41) attempt h) (λ p. after_tail_numbered on xs x p all))
+    space_numbered setting.table token (then_plan (next_item setting (Some 41) attempt) (after_tail on xs x))
+    (then_numbered (next_item setting (Some 41) attempt) (after_tail on xs x) (next_item_numbered setting (Some 41) attempt h) (λ p. after_tail_numbered on xs x p all))
 
 list_end_numbered : (setting : Setting) (attempt : Plan Found) (on : Material → Plan Found) (items : Items) → Numbered attempt → ((m : Material) → Numbered (on m))
     → Numbered (list_end setting attempt on items)
 list_end_numbered setting attempt on (xs, true) h all = all (many xs)
 list_end_numbered setting attempt on ([], false) h all = refuses_numbered _ DOT_CONTEXT 0 (omega arith, omega arith)
 list_end_numbered setting attempt on (x ∷ xs, false) h all =
-    then_numbered (place setting (Some 41) attempt) (after_dot setting attempt on (x ∷ xs)) (place_numbered setting (Some 41) attempt h)
+    then_numbered (next_item setting (Some 41) attempt) (after_dot setting attempt on (x ∷ xs)) (next_item_numbered setting (Some 41) attempt h)
     (λ p. after_dot_numbered setting attempt on (x ∷ xs) p h all)
 
 abbrev NumberedInner : Option (Plan Found) → Type 0
@@ -373,8 +373,8 @@ module _ (setting : Setting) (depth : ℕ) (may : Option (Plan Found)) (numbered
   gathered_numbered : (call : InvokedCall) (way : Way) → Numbered (gathered setting depth may call way)
   gathered_numbered call Nothing = completed_numbered setting depth call false false no_material
   gathered_numbered call Next =
-      opened_numbered may _ numbered (λ attempt h. then_numbered (place setting None attempt)
-      (one_piece (λ token x. completed setting depth call token token (one_object x))) (place_numbered setting None attempt h)
+      opened_numbered may _ numbered (λ attempt h. then_numbered (next_item setting None attempt)
+      (one_piece (λ token x. completed setting depth call token token (one_object x))) (next_item_numbered setting None attempt h)
       (λ p. one_numbered (λ token x. completed setting depth call token token (one_object x)) p (λ token x. completed_numbered setting depth call token token (one_object x))))
   gathered_numbered call AList =
       opened_numbered may _ numbered (λ attempt h. then_numbered (items_after setting 41 attempt [])
@@ -454,7 +454,7 @@ attempt_numbered setting room = attempt_by_numbered setting (setting.limits.nest
 abbrev NumberedOutcome : Outcome → Type 0
 NumberedOutcome (form x start «end» next) = Unit {0}
 NumberedOutcome empty = Unit {0}
-NumberedOutcome (refused code place) = IsOfReading code
+NumberedOutcome (refused code offset) = IsOfReading code
 
 outcome_numbered : (table : Table) (start : ℕ) (more : ℕ → List ℕ → Outcome) (r : Read Found) → ((next : ℕ) (cs : List ℕ) → NumberedOutcome (more next cs))
     → NumberedResult r → NumberedOutcome (outcome table start more r)

@@ -24,7 +24,7 @@ pub data Plan (A : Type 0) : Type 0 where
 -- one plan, and then another, which knows what the first gave
 unfoldable pub then_plan : {A B : Type 0} → Plan A → (A → Plan B) → Plan B
 then_plan (gives x) next = next x
-then_plan (refuses code back) next = refuses code back
+then_plan (refuses number back) next = refuses number back
 then_plan (takes other test on) next = takes (then_plan other next) test (λ c. then_plan (on c) next)
 then_plan (scans escaped limit on) next = scans escaped limit (λ marks. then_plan (on marks) next)
 
@@ -52,7 +52,7 @@ loop limits turn state = loop_in turn (limits.text + 1) state
 -- ---- what a plan gives on a text
 
 pub record Fault : Type 0 where
-  pub code : ℕ
+  pub number : ℕ
   pub at : ℕ
 
 -- a value, the place after it and the rest of the text; or the first fault
@@ -60,7 +60,7 @@ abbrev pub Read : Type 0 → Type 0
 Read A = Result (A × ℕ × List ℕ) Fault
 
 abbrev pub fault : {A : Type 0} → ℕ → ℕ → Read A
-fault code at = Err (record { code = code; at = at })
+fault number at = Err (record { number = number; at = at })
 
 -- the byte at this place may be taken
 abbrev pub within : {A : Type 0} → Bool → ℕ → Read A → Read A
@@ -73,11 +73,11 @@ stands_below limit _ at = nat_lt at limit
 
 -- a token under the limit of the text
 abbrev pub limited : {A : Type 0} → ℕ → Result A TokenFault → (A → ℕ) → Result A Fault
-limited limit (Ok p) end_of = elim (nat_le (end_of p) limit) [ true ↦ Ok p | false ↦ Err (record { code = FORM_TOO_LONG; at = limit }) ]
+limited limit (Ok p) end_of = elim (nat_le (end_of p) limit) [ true ↦ Ok p | false ↦ Err (record { number = FORM_TOO_LONG; at = limit }) ]
 limited limit (Err e) end_of =
     elim (stands_below limit e.refusal e.at) [
-      | true ↦ Err (record { code = scan_refusal_number e.refusal; at = e.at })
-      | false ↦ Err (record { code = FORM_TOO_LONG; at = limit })
+      | true ↦ Err (record { number = scan_refusal_number e.refusal; at = e.at })
+      | false ↦ Err (record { number = FORM_TOO_LONG; at = limit })
     ]
 
 abbrev pub scanned : Bool → Table → ℕ → ℕ → List ℕ → ScannedBytes
@@ -87,7 +87,7 @@ scanned true table limit at text = escaped_token_in table limit at text
 -- Places count the bytes from the object's start.
 unfoldable pub run : {A : Type 0} → Table → Limits → Plan A → ℕ → List ℕ → Read A
 run table limits (gives x) at text = Ok (x, at, text)
-run table limits (refuses code back) at text = fault code (at - back)
+run table limits (refuses number back) at text = fault number (at - back)
 run table limits (takes other test on) at [] = run table limits other at []
 run table limits (takes other test on) at (c ∷ cs) =
     elim (test c) [

@@ -11,7 +11,7 @@ ghost use Rattle.lisp_reading.specs.declared.way.Keep.{Keep};
 ghost use Rattle.lisp_reading.specs.Plans.{GiveSame, loop, run};
 ghost use Rattle.lisp_reading.specs.Setting.{Setting, setting_of};
 ghost use Rattle.lisp_reading.specs.Gathering.{text_turn, line_turn, block_turn, number_turn};
-ghost use Rattle.lisp_reading.specs.Reading.{is_whitespace, form, empty, refused, place_turn, place, items_turn, items_after, attempt, outcome, reads_at, reads, IsFramed};
+ghost use Rattle.lisp_reading.specs.Reading.{is_whitespace, form, empty, refused, next_item_turn, next_item, items_turn, items_after, attempt, outcome, reads_at, reads, IsFramed};
 ghost use Rattle.lisp_reading.specs.Depending.{FindsSame};
 ghost use Rattle.lisp_reading.specs.Discarding.{IsDiscarded};
 ghost use Rattle.lisp_reading.specs.Fitting.{IsFitting};
@@ -48,10 +48,10 @@ pub fn empty_texts_are_discarded()
 /// A refusal is at the end of the text at most, and one before the end is the same whatever follows the text. So a reader
 /// may give it as soon as the byte at its place is there.
 pub fn refusals_are_decided()
-    ensures inside { (setting : Setting) (text : List ℕ) (code place : ℕ)
-        → reads setting text ≡ refused code place → place ≤ length text }
-    ensures decided { (setting : Setting) (text more : List ℕ) (code place : ℕ)
-        → reads setting text ≡ refused code place → place < length text → reads setting (text ++ more) ≡ refused code place }
+    ensures inside { (setting : Setting) (text : List ℕ) (number offset : ℕ)
+        → reads setting text ≡ refused number offset → offset ≤ length text }
+    ensures decided { (setting : Setting) (text more : List ℕ) (number offset : ℕ)
+        → reads setting text ≡ refused number offset → offset < length text → reads setting (text ++ more) ≡ refused number offset }
 {}
 
 /// A form with which a byte more was discarded is read again from its own bytes and this one, whatever follows them; and the
@@ -89,9 +89,9 @@ pub fn reading_goes_on()
     ensures form { (setting : Setting) (start : ℕ) (text : List ℕ) → reads_at setting start text
         ≡ outcome setting.table start (λ next cs. reads_at setting next cs)
         (run setting.table setting.limits (attempt setting setting.limits.nesting) 0 text) }
-    ensures place { (setting : Setting) (room : ℕ) (close : Option ℕ) → GiveSame setting.table setting.limits
-        (place setting close (attempt setting room))
-        (place_turn setting.table close (attempt setting room) (λ u. place setting close (attempt setting room)) tt) }
+    ensures next_item { (setting : Setting) (room : ℕ) (close : Option ℕ) → GiveSame setting.table setting.limits
+        (next_item setting close (attempt setting room))
+        (next_item_turn setting.table close (attempt setting room) (λ u. next_item setting close (attempt setting room)) tt) }
     ensures items { (setting : Setting) (room close : ℕ) (xs : List Object) → GiveSame setting.table setting.limits
         (items_after setting close (attempt setting room) xs)
         (items_turn setting close (attempt setting room) (items_after setting close (attempt setting room)) xs) }
@@ -108,8 +108,8 @@ pub fn reading_goes_on()
 
 /// A text is refused under a number of reading alone, 1 to 25, whatever the functions of users answer.
 pub fn refusals_are_of_reading()
-    ensures { (setting : Setting) (text : List ℕ) (code place : ℕ)
-        → reads setting text ≡ refused code place → (END_OF_FILE ≤ code) × (code ≤ OUT_OF_PROFILE) }
+    ensures { (setting : Setting) (text : List ℕ) (number offset : ℕ)
+        → reads setting text ≡ refused number offset → (END_OF_FILE ≤ number) × (number ≤ OUT_OF_PROFILE) }
 {}
 
 /// What is read depends on the registered functions only through their names: where two registries have the same names, the

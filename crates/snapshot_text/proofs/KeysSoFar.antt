@@ -80,10 +80,10 @@ module _ {K : Type 0} (R : K → K → Ordering) where
       ((eq_by_cmp_equiv o).symm (get_or ks n d) k ∙ absent_at k ks n d (omega arith) apart.0) (next_is_new o ks n d apart.1 (omega arith))
 
   -- and it is one of all
-  pub at_place : IsTotalOrder R → (ks : List K) (n : ℕ) (d : K) → n < length ks → list_any (eq_by_cmp R (get_or ks n d)) ks ≡ true
-  at_place o [] n d few = absurd (omega arith)
-  at_place o (k ∷ ks) zero d few = ap (λ b. b || list_any (eq_by_cmp R k) ks) ((eq_by_cmp_equiv o).refl k)
-  at_place o (k ∷ ks) (suc n) d few = or_true (eq_by_cmp R (get_or ks n d) k) _ (at_place o ks n d (omega arith))
+  pub at_index : IsTotalOrder R → (ks : List K) (n : ℕ) (d : K) → n < length ks → list_any (eq_by_cmp R (get_or ks n d)) ks ≡ true
+  at_index o [] n d few = absurd (omega arith)
+  at_index o (k ∷ ks) zero d few = ap (λ b. b || list_any (eq_by_cmp R k) ks) ((eq_by_cmp_equiv o).refl k)
+  at_index o (k ∷ ks) (suc n) d few = or_true (eq_by_cmp R (get_or ks n d) k) _ (at_index o ks n d (omega arith))
     where
       or_true : (a b : Bool) → b ≡ true → (a || b) ≡ true
       or_true true b e = refl

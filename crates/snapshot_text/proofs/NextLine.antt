@@ -33,14 +33,14 @@ after_text bytes text rest at next within fits e next_is =
     ap (λ n. drop n bytes) is ∙ sym (drop-drop (length text) at bytes) ∙ ap (drop (length text)) e ∙ drop-append_seam text rest
 
 -- what stands after a byte
-pub byte_place : (bytes rest : List ℕ) (at c : ℕ) → drop at bytes ≡ c ∷ rest → at < length bytes
-byte_place bytes rest at c e =
+pub byte_within : (bytes rest : List ℕ) (at c : ℕ) → drop at bytes ≡ c ∷ rest → at < length bytes
+byte_within bytes rest at c e =
     let cut = both_lengths bytes (c ∷ []) rest at e in
     omega arith
 
 pub after_byte : (bytes rest : List ℕ) (at c next : ℕ) → length bytes ≤ 4294967295 → drop at bytes ≡ c ∷ rest → next ≡ min (at + 1) 18446744073709551615 → drop next bytes ≡ rest
 after_byte bytes rest at c next fits e next_is =
-    let within : at < length bytes = byte_place bytes rest at c e in
+    let within : at < length bytes = byte_within bytes rest at c e in
     after_text bytes (c ∷ []) rest at next (omega arith) fits e next_is
 
 pub byte_is : (bytes rest : List ℕ) (at c d : ℕ) → drop at bytes ≡ c ∷ rest → get_or bytes at d ≡ c

@@ -25,7 +25,7 @@ use Rattle.plist_state.proofs.Lists.{kept, get-with_list, list-with_list, with_l
 use Rattle.world_text.specs.Snapshot.{symbol_object}
 use Rattle.snapshot_text.specs.Built.{with_properties, with_each, with_packages_of, with_properties_of}
 use Rattle.snapshot_text.specs.Rows.{symbol_at, IsUpTo}
-use Rattle.snapshot_text.proofs.KeysSoFar.{keys_apart, next_is_new, at_place}
+use Rattle.snapshot_text.proofs.KeysSoFar.{keys_apart, next_is_new, at_index}
 
 -- ---- the properties of one symbol
 abbrev pub flat : Plist → List Object
@@ -206,7 +206,7 @@ has_list s x there =
 -- the symbol of the row at a place has properties
 pub key_at : (s : WorldState) (n : ℕ) → n < length (symbols_with_properties s) → IsTrue (finite.contains_key s.properties (symbol_at s n))
 key_at s n few =
-    contains_key-keys s.properties (symbol_at s n) ∙ at_place symbol_cmp symbol_total (symbols_with_properties s) n none few
+    contains_key-keys s.properties (symbol_at s n) ∙ at_index symbol_cmp symbol_total (symbols_with_properties s) n none few
 
 pub row_at : (s : WorldState) → IsSound s → (n : ℕ) (now : WorldState) → IsUpTo s n now → n < length (symbols_with_properties s) → IsRow s now n
 row_at s sound n now so_far few =

@@ -53,16 +53,16 @@ fn read_rows<R: MacroFunctions>(
         → world.old.0 ≡ with_packages_of s → drop at bytes.now ≡ row_text s 0 ++ (text_after s 1 ++ 10 ∷ rest)
         → MatchResult result (λ next. (world.new.0 ≡ with_properties_of s) × (drop next bytes.now ≡ rest)) (λ e. e ≡ BuildError.OutOfMemory) }
 {
-    let mut place = at;
+    let mut next_row = at;
     'rows: loop {
-        let end = read_row(alloc, world, table, macros, bytes, place)?;
+        let end = read_row(alloc, world, table, macros, bytes, next_row)?;
         let Some(byte) = bytes.get(end) else {
             return Err(BuildError::Damaged);
         };
         if *byte == b')' {
             return Ok(end.saturating_add(2));
         }
-        place = end + 1;
+        next_row = end + 1;
     }
 }
 

@@ -15,7 +15,7 @@ returns-in_ok-complete-in-Some-clause-takes g c = λ cs.
 pub returns-then-branch-clause-takes : goal.returns-then-branch-clause-takes
 returns-then-branch-clause-takes g c = λ cs.
     let setting = setting g.R.MacroFunctions.functions c.args.with.now in
-    object_goes_on setting c.args.at cs c.args.frames.now c.take_object.new.self c.args.token c.args.x c.requires.place
+    object_goes_on setting c.args.at cs c.args.frames.now c.take_object.new.self c.args.token c.args.x c.requires.within
     (ap (λ (fs : List Frame). calls_with fs (one c.args.token c.args.x)) (sym c.in-None.ensures.0) ∙ c.in_ok-take_object-in-None.ensures.takes c.args.token c.if-branch.true)
 
 pub returns-else-branch-clause-takes : goal.returns-else-branch-clause-takes

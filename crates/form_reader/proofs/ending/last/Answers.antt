@@ -13,7 +13,7 @@ returns-in-Token-clause-brings g c = λ frames open_calls.
 pub returns-in-Text-clause-brings : goal.returns-in-Text-clause-brings
 returns-in-Text-clause-brings g c = λ frames open_calls.
     let setting = setting g.R.MacroFunctions.functions c.args.with.now in
-    ap (λ (s : Stage). stage_gives setting frames s c.args.at []) c.in-Text.is ∙ text_fails setting frames c.args.at _ _ _ c.requires.place
+    ap (λ (s : Stage). stage_gives setting frames s c.args.at []) c.in-Text.is ∙ text_fails setting frames c.args.at _ _ _ c.requires.within
 
 pub returns-in-Escaped-clause-brings : goal.returns-in-Escaped-clause-brings
 returns-in-Escaped-clause-brings g c = λ frames open_calls.
@@ -23,9 +23,9 @@ returns-in-Escaped-clause-brings g c = λ frames open_calls.
 pub returns-in-Block-clause-brings : goal.returns-in-Block-clause-brings
 returns-in-Block-clause-brings g c = λ frames open_calls.
     let setting = setting g.R.MacroFunctions.functions c.args.with.now in
-    ap (λ (s : Stage). stage_gives setting frames s c.args.at []) c.in-Block.is ∙ block_fails setting frames c.args.at _ _ c.requires.place
+    ap (λ (s : Stage). stage_gives setting frames s c.args.at []) c.in-Block.is ∙ block_fails setting frames c.args.at _ _ c.requires.within
 
 pub returns-clause-brings : goal.returns-clause-brings
 returns-clause-brings g c = λ frames open_calls.
     let setting = setting g.R.MacroFunctions.functions c.args.with.now in
-    ap (λ (s : Stage). stage_gives setting frames s c.args.at []) c.in-Number.is ∙ number_fails setting frames c.args.at _ _ c.requires.place
+    ap (λ (s : Stage). stage_gives setting frames s c.args.at []) c.in-Number.is ∙ number_fails setting frames c.args.at _ _ c.requires.within
