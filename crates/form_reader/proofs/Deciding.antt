@@ -51,7 +51,7 @@ no_digit c beyond = and_false (nat_le 48 c) (nat_le c 57) (lt-leb c 57 (omega ar
     and_false true b e = e
     and_false false b e = refl
 
--- refused at this place, as a byte that is no character, or as one too many
+-- refused at this offset, as a byte that is no character, or as one too many
 abbrev Fails : {A : Type 0} → ℕ → Read A → Type 0
 Fails at r = (code : ℕ) × (r ≡ fault code at) × (blames_byte code ≡ true)
 
@@ -225,7 +225,7 @@ undecided setting bytes c code (refused number offset) e next =
         cc
     by false is = omega (arith, (refusal_stays setting bytes number offset e).0, ltb-false offset (length bytes) is)
 
--- The byte that is no character is refused at its own place.
+-- The byte that is no character is refused at its own offset.
 next_refused : (setting : Setting) (frames : List Frame) (stage : Stage) (start at : ℕ) (bytes : List ℕ) → IsStageAt at stage → at ≤ setting.limits.text → start + at ≡ length bytes
     → ((cs : List ℕ) → reads setting (bytes ++ cs) ≡ rest_of setting frames stage start at cs)
     → (c : ℕ) × ((code : ℕ) × (reads setting (bytes ++ c ∷ []) ≡ refused code (length bytes)) × (blames_byte code ≡ true))

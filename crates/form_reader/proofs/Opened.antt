@@ -16,7 +16,7 @@ use Rattle.form_reader.specs.Frames.{attempt_in, next_item_in, call_in, given, b
 use Rattle.lisp_reading.proofs.Steps.{and_then, run_then}
 use Rattle.lisp_reading.proofs.Turns.{Ends, attempt_ends, loop_is, items_guarded}
 
--- where two plans give the same, each at its place, so do these with the next plan after them
+-- where two plans give the same, each at its offset, so do these with the next plan after them
 pub then_moves : {A B : Type 0} (table : Table) (limits : Limits) (p q : Plan A) (next : A → Plan B) (at to : ℕ) (cs ds : List ℕ)
     → run table limits p at cs ≡ run table limits q to ds → run table limits (then_plan p next) at cs ≡ run table limits (then_plan q next) to ds
 then_moves table limits p q next at to cs ds e = run_then table limits p next at cs ∙ ap (and_then table limits next) e ∙ sym (run_then table limits q next to ds)

@@ -52,7 +52,7 @@ IsReadySettled limits frames at (SettledOpen stage) = IsStanding limits frames s
 IsReadySettled limits frames at (SettledDone found) = (lookahead found ≡ 0) × (length frames ≤ limits.nesting)
 IsReadySettled limits frames at (SettledRefused number offset) = offset ≤ at
 
--- what is open after it, or the object of the form, began at this place or later
+-- what is open after it, or the object of the form, began at this offset or later
 abbrev pub BeginsFrom : ℕ → Change → Type 0
 BeginsFrom from (Goes start at stage) = from ≤ start
 BeginsFrom from (Form x start «end» next) = from ≤ start

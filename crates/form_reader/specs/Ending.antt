@@ -17,7 +17,7 @@ abbrev pub TokenStops : Table → Limits → Scan → ℕ → Option ℕ → Typ
 TokenStops table limits scan at None = (token_read table limits scan at [] ≡ Ok (scan.marks, at, [])) × (scan.stage ≡ Outside)
 TokenStops table limits scan at (Some number) = token_read table limits scan at [] ≡ fault number at
 
--- Only at a place where an object may begin is more waited for; a refusal is at no later place.
+-- Only where an object may begin is more waited for; a refusal is at no later offset.
 abbrev pub IsLastEvent : ℕ → Event → Type 0
 IsLastEvent at (IsAt stage) = stage ≡ AtObject
 IsLastEvent at (IsGiven found) = Unit {0}

@@ -66,7 +66,7 @@ TokenFeeds table limits scan at c cs LineMore read = read ≡ token_read table l
 TokenFeeds table limits scan at c cs LineEnded read = read ≡ Ok (scan.marks, at, c ∷ cs)
 TokenFeeds table limits scan at c cs (LineRefused number) read = read ≡ fault number at
 
--- the number of the refusal of a token at this place, which is not beyond the limit
+-- the number of the refusal of a token at this offset, which is not beyond the limit
 abbrev pub refused_number : ℕ → ScanRefusal → ℕ → ℕ
 refused_number limit EndOfFile at = END_OF_FILE
 refused_number limit InvalidCharacter at = if nat_lt at limit then INVALID_CHARACTER else FORM_TOO_LONG

@@ -104,7 +104,7 @@ given setting [] plan = plan
 given setting (f ∷ fs) plan =
     given setting fs (then_plan (then_plan plan (λ found. piece_of setting.table (next_item_in setting f fs) found)) (λ p. call_in setting f fs p))
 
--- the same at a place where an object may begin
+-- the same where an object may begin
 abbrev pub between : Setting → List Frame → Plan Found
 between setting [] = attempt setting setting.limits.nesting
 between setting (f ∷ fs) = given setting fs (then_plan (next_item_in setting f fs) (λ p. call_in setting f fs p))
@@ -115,7 +115,7 @@ between setting (f ∷ fs) = given setting fs (then_plan (next_item_in setting f
 abbrev pub plan_gives : Setting → List Frame → Plan Found → ℕ → List ℕ → Read Found
 plan_gives setting frames plan at cs = run setting.table setting.limits (given setting frames plan) at cs
 
--- at a place where an object may begin: where a token ended before it, one whitespace character is discarded first
+-- where an object may begin: where a token ended before it, one whitespace character is discarded first
 abbrev pub next_item_gives : Setting → Bool → List Frame → ℕ → List ℕ → Read Found
 next_item_gives setting token frames at cs = run setting.table setting.limits (without_space setting.table token (between setting frames)) at cs
 

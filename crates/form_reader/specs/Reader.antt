@@ -30,7 +30,7 @@ fed reader = reader.start + reader.at
 abbrev pub begun : FormReader → ℕ
 begun reader = reader.start
 
--- it refused the text, with this number, at this place
+-- it refused the text, with this number, at this offset
 abbrev pub HasRefused : FormReader → ℕ → ℕ → Type 0
 HasRefused reader number offset = reader.state ≡ Refused number offset
 
@@ -48,7 +48,7 @@ MayGoOn text empty = Unit {0}
 MayGoOn text (form x start «end» next) = next ≡ length text
 MayGoOn text (refused number offset) = offset ≡ length text
 
--- These bytes decide nothing alone: some byte after them is refused at its own place, and at the end of the text they are not
+-- These bytes decide nothing alone: some byte after them is refused at its own offset, and at the end of the text they are not
 -- refused so. Then no outcome is that of every text that begins with them: what they decide was answered before.
 abbrev pub DecideNothing : Setting → List ℕ → Type 0
 DecideNothing setting bytes =

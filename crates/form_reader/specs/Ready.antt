@@ -34,8 +34,8 @@ abbrev pub completed_lookahead : Completed → ℕ
 completed_lookahead (CompletedGives found) = lookahead found
 completed_lookahead (CompletedRefused number back) = 0
 
--- What a byte brings, at the place after it: this place is within the limit of the text, and nothing of what follows matters
--- to what was found; a refusal is at no later place.
+-- What a byte brings, at the offset after it: this offset is within the limit of the text, and nothing of what follows matters
+-- to what was found; a refusal is at no later offset.
 abbrev pub IsReady : Limits → ℕ → Event → Type 0
 IsReady limits at (IsAt stage) = (at ≤ limits.text) × IsStageAt at stage
 IsReady limits at (IsGiven found) = (at ≤ limits.text) × (lookahead found ≡ 0)
@@ -47,7 +47,7 @@ IsEnd most at (IsAt stage) = ⊥
 IsEnd most at (IsGiven found) = lookahead found ≤ most
 IsEnd most at (IsRefused number offset) = offset ≤ at
 
--- of the byte at this place
+-- of the byte at this offset
 abbrev pub IsReadyMove : Limits → ℕ → Moved → Type 0
 IsReadyMove limits at (IsTaken event) = IsReady limits (at + 1) event
 IsReadyMove limits at (IsBefore event) = IsEnd 1 at event
@@ -56,7 +56,7 @@ abbrev pub IsReadyPass : Limits → ℕ → Passed → Type 0
 IsReadyPass limits at (PassedTaken event) = IsReady limits (at + 1) event
 IsReadyPass limits at (PassedDone found) = lookahead found ≤ 1
 
--- What open calls make of what is found at this place: no more of the text matters to it.
+-- What open calls make of what is found at this offset: no more of the text matters to it.
 abbrev pub IsTakenAt : ℕ → ℕ → Taken → Type 0
 IsTakenAt most at (Stays token) = space token ≤ most
 IsTakenAt most at (TakenGives found) = lookahead found ≤ most

@@ -27,7 +27,7 @@ attempt_at setting open_calls = attempt setting (setting.limits.nesting - open_c
 abbrev pub inner_at : Setting → ℕ → Option (Plan Found)
 inner_at setting open_calls = inner setting (setting.limits.nesting - open_calls)
 
--- what the outermost attempt comes to, at a place counted from where it began
+-- what the outermost attempt comes to, at an offset counted from where it began
 abbrev pub stage_gives : Setting → List Frame → Stage → ℕ → List ℕ → Read Found
 stage_gives setting frames AtObject at cs = run setting.table setting.limits (between setting frames) at cs
 stage_gives setting frames (AtToken scan) at cs =
@@ -50,7 +50,7 @@ stage_gives setting frames (AtBlock call levels) at cs =
 stage_gives setting frames (AtNumber c number) at cs =
     plan_gives setting frames (dispatched setting (length frames) (inner_at setting (length frames)) c number) at cs
 
--- What holds of where it is, at this place: a token is not refused, and each block inside a block took a byte.
+-- What holds of where it is, at this offset: a token is not refused, and each block inside a block took a byte.
 abbrev pub IsStageAt : ℕ → Stage → Type 0
 IsStageAt at (AtToken scan) = IsTrue (is_going scan.stage)
 IsStageAt at (AtCallToken call scan) = IsTrue (is_going scan.stage)
@@ -63,7 +63,7 @@ Brings setting frames at cs (IsAt stage) read = read ≡ stage_gives setting fra
 Brings setting frames at cs (IsGiven found) read = read ≡ plan_gives setting frames (gives found) at cs
 Brings setting frames at cs (IsRefused number offset) read = read ≡ fault number offset
 
--- the same before the byte at this place
+-- the same before the byte at this offset
 abbrev pub Moves : Setting → List Frame → ℕ → ℕ → List ℕ → Moved → Read Found → Type 0
 Moves setting frames at c cs (IsTaken event) read = Brings setting frames (at + 1) cs event read
 Moves setting frames at c cs (IsBefore event) read = Brings setting frames at (c ∷ cs) event read

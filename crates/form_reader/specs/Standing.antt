@@ -15,7 +15,7 @@ is_stage_at at (AtCallToken call scan) = is_going scan.stage
 is_stage_at at (AtBlock call levels) = nat_le levels.0 at
 is_stage_at at _ = true
 
--- The place and the open calls are within the limits. After a refusal, or out of memory, nothing is asked.
+-- The offset and the open calls are within the limits. After a refusal, or out of memory, nothing is asked.
 abbrev pub is_standing : Limits → List Frame → ℕ → ReaderState → Bool
 is_standing limits frames at (Open stage) = nat_le at limits.text && (nat_le (length frames) limits.nesting && is_stage_at at stage)
 is_standing limits frames at (Refused number offset) = true

@@ -1,4 +1,4 @@
-//! The byte at a place where an object may begin.
+//! The byte where an object may begin.
 ghost use Rattle.std.specs.Prelude.{◌≡◌, ◌≤◌, ◌<◌, ◌+◌, ◌^◌, ℕ, List, ◌∷◌, length, true, false, IfOk};
 ghost use Rattle.form_reader.specs.declared.frame.Frame.{Frame};
 ghost use Rattle.readtable_core.specs.Tables.{entry_at};

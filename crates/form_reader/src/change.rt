@@ -30,7 +30,7 @@ pub enum Settled {
     Open(Stage),
     /// The outermost attempt comes to this.
     Done(Found),
-    /// The number of a refusal, and its place.
+    /// The number of a refusal, and its offset.
     Refused(u16, usize),
 }
 
@@ -41,7 +41,7 @@ pub enum Change {
     Goes(usize, usize, Stage),
     /// A form: its object, its start, its end, and where the next form begins.
     Form(HeldObject, usize, usize, usize),
-    /// The number of a refusal, and its place.
+    /// The number of a refusal, and its offset.
     Refused(u16, usize),
 }
 
@@ -73,7 +73,7 @@ pub(crate) fn feed<R: MacroFunctions>(
     }
 }
 
-/// What the open calls make of what a byte brings, at the place `at` after it.
+/// What the open calls make of what a byte brings, at the offset `at` after it.
 #[inline(always)]
 fn settle<R: MacroFunctions>(
     with: &Surroundings<'_, R>,
@@ -100,7 +100,7 @@ fn settle<R: MacroFunctions>(
     }
 }
 
-/// What the attempt that began at `start` came to with the byte before the place `at` in it.
+/// What the attempt that began at `start` came to with the byte before the offset `at` in it.
 #[inline(always)]
 fn done_after(found: Found, start: usize, at: usize) -> Change
     requires found { lookahead found ≡ 0 }
@@ -120,7 +120,7 @@ fn done_after(found: Found, start: usize, at: usize) -> Change
     }
 }
 
-/// What the attempt that began at `start` comes to after what a byte brings, at the place `at` after it.
+/// What the attempt that began at `start` comes to after what a byte brings, at the offset `at` after it.
 #[inline(always)]
 fn change_of<R: MacroFunctions>(
     with: &Surroundings<'_, R>,
@@ -147,7 +147,7 @@ fn change_of<R: MacroFunctions>(
     }
 }
 
-/// What the attempt that began at `start` came to before the byte `c`, at the place `at` in it, with no open call.
+/// What the attempt that began at `start` came to before the byte `c`, at the offset `at` in it, with no open call.
 #[inline(always)]
 fn done_before<R: MacroFunctions>(
     with: &Surroundings<'_, R>,

@@ -26,18 +26,18 @@ pub enum Taken {
     Stays(bool),
     /// It ends, and comes to this.
     Gives(Found),
-    /// The number of a refusal, and its place.
+    /// The number of a refusal, and its offset.
     Refused(u16, usize),
 }
 
 /// What all open calls make of what is found in the innermost.
 #[derive(Drop)]
 pub enum Delivered {
-    /// More is read at a place where an object may begin, after one whitespace character where there is one and a token ended.
+    /// More is read where an object may begin, after one whitespace character where there is one and a token ended.
     Waits(bool),
     /// The outermost attempt comes to this.
     Done(Found),
-    /// The number of a refusal, and its place.
+    /// The number of a refusal, and its offset.
     Refused(u16, usize),
 }
 

@@ -43,7 +43,7 @@ pub enum ReadOutcome {
     },
     /// Only discarded text.
     Empty,
-    /// The number of a refusal, and its place.
+    /// The number of a refusal, and its offset.
     Refused {
         code: u16,
         at: usize,
@@ -192,7 +192,7 @@ fn settle_last<R: MacroFunctions>(
     }
 }
 
-/// What the attempt that began at `start` came to at the end of the text, at the place `at` in it.
+/// What the attempt that began at `start` came to at the end of the text, at the offset `at` in it.
 fn done_last(found: Found, start: usize, at: usize) -> ReadOutcome
     requires count { start + at ≤ 2 ^ 63 }
     ensures outcome { (setting : Setting)

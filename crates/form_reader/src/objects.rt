@@ -1,4 +1,4 @@
-//! One byte at a place where an object may begin, after a token there, and in a token that is an object.
+//! One byte where an object may begin, after a token there, and in a token that is an object.
 ghost use Rattle.std.specs.Prelude.{◌≡◌, ◌≤◌, ◌<◌, ◌+◌, ◌^◌, ℕ, List, ◌∷◌, length, true, IfOk, IsTrue};
 ghost use Rattle.token_scan.specs.Marks.{are_ascii};
 ghost use Rattle.form_reader.specs.Delivering.{Passes};

@@ -34,7 +34,7 @@ pub struct FormReader {
 pub enum ReaderState {
     /// In a form: where it is in the innermost call.
     Open(Stage),
-    /// It refused the text, with this number, at this place.
+    /// It refused the text, with this number, at this offset.
     Refused(u16, usize),
     /// It ran out of memory.
     OutOfMemory,
@@ -52,7 +52,7 @@ pub enum Advance {
         end: usize,
         next: usize,
     },
-    /// The number of the refusal, and its place.
+    /// The number of the refusal, and its offset.
     Refused {
         code: u16,
         at: usize,

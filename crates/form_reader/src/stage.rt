@@ -133,7 +133,7 @@ impl BegunScan {
 /// Where a reader is in its innermost call.
 #[derive(Drop)]
 pub enum Stage {
-    /// At a place where an object may begin.
+    /// Where an object may begin.
     Object,
     /// In a token that is an object.
     Token(BegunScan),
@@ -158,6 +158,6 @@ pub enum Event {
     Stage(Stage),
     /// The innermost attempt comes to this.
     Gives(Found),
-    /// The number of a refusal, and its place.
+    /// The number of a refusal, and its offset.
     Refused(u16, usize),
 }

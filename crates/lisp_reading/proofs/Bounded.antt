@@ -14,7 +14,7 @@ use Rattle.lisp_reading.specs.Setting.{Setting}
 use Rattle.lisp_reading.specs.Reading.{attempt, form, reads}
 use Rattle.lisp_reading.proofs.Forms.{stood}
 
--- the place after what is given is at most the limit
+-- the offset after what is given is at most the limit
 abbrev pub EndsBelow : {A : Type 0} → ℕ → Result (A × ℕ × List ℕ) Fault → Type 0
 EndsBelow limit (Ok (x, at, cs)) = at ≤ limit
 EndsBelow limit (Err e) = Unit {0}

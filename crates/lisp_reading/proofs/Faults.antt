@@ -17,7 +17,7 @@ use Rattle.lisp_reading.proofs.Keeping.{most_back, Keeps, few}
 use Rattle.lisp_reading.proofs.Offsets.{Parts, token_parts}
 use Rattle.lisp_reading.proofs.TokenFaults.{IsFrom, IsLonger, token_longer, token_from_here}
 
--- A refusal is at most so far before this place, and at the end at most; before the end it is that of each longer text.
+-- A refusal is at most so far before this offset, and at the end at most; before the end it is that of each longer text.
 abbrev pub Decided : {A : Type 0} → ℕ → ℕ → ℕ → (List ℕ → Read A) → Read A → Type 0
 Decided back at «end» longer (Ok t) = Unit {0}
 Decided back at «end» longer (Err e) = (at ≤ e.at + back) × (e.at ≤ «end») × (e.at < «end» → (more : List ℕ) → longer more ≡ Err e)
@@ -27,7 +27,7 @@ at_end : {A : Type 0} (most at to «end» : ℕ) (longer again : List ℕ → Re
 at_end most at to «end» longer again (Ok t) le e h = tt
 at_end most at to «end» longer again (Err f) le e h = (omega (arith, h.0, le), omega (arith, h.1, e), λ lt. absurd (omega (arith, lt, h.0, e)))
 
--- the same place, where as much of the text is left
+-- the same offset, where as much of the text is left
 goes_on : {A : Type 0} (back most at to «end» last : ℕ) (longer again : List ℕ → Read A) (r : Read A) → at + back ≤ to + most → last ≡ «end» → ((more : List ℕ) → longer more ≡ again more)
     → Decided back to last again r → Decided most at «end» longer r
 goes_on back most at to «end» last longer again (Ok t) le e same h = tt

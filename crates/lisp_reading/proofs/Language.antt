@@ -187,7 +187,7 @@ module _ (setting : Setting) (V : ℕ → Object → Type 0) (laws : AreKept set
   space_keeps P false taken plan more h = keeps_either P more taken plan h
   space_keeps P true taken plan more h = (h, λ c. keeps_either P more true plan h)
 
-  -- ---- places
+  -- ---- what comes next
 
   piece_more : (room : ℕ) (p : Piece) → PieceAt V room false p → PieceAt V room true p
   piece_more room (item token x) h = h
@@ -264,7 +264,7 @@ module _ (setting : Setting) (V : ℕ → Object → Type 0) (laws : AreKept set
   completed_by_keeps room taken call (User name) token spaced material le back h =
       answered_keeps room taken token spaced (setting.answer name (macro_call call material)) le
 
-  -- after which nothing more is asked of the place
+  -- after which nothing more is asked of what comes next
   completed_keeps : (room : ℕ) (taken : Bool) (call : InvokedCall) (token spaced : Bool) (material : Material) → room ≤ setting.limits.nesting
       → StaysIn setting.table.letters call.number 0 call.function → MaterialAt V setting.limits.token room material
       → Keeps (CallAt V room) taken (completed setting (setting.limits.nesting - room) call token spaced material)

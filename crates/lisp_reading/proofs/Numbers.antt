@@ -258,7 +258,7 @@ token_numbered setting (m ∷ ms) =
     told_found_numbered (told setting (m ∷ ms))
     (told_numbered setting.packages setting.current (meaning_of setting.base (folded setting.table.letters (m ∷ ms))))
 
--- ---- places and objects inside a call
+-- ---- what comes next, and objects, inside a call
 
 space_numbered : {A : Type 0} (table : Table) (token : Bool) (on : Plan A) → Numbered on → Numbered (without_space table token on)
 space_numbered table false on h = h

@@ -138,7 +138,7 @@ space_same table limits true p q at cs h same =
     takes_same table limits (is_whitespace table) (λ c. p) (λ c. q) p q at cs (same at cs (omega arith) h)
     (λ c ds lt. same (at + 1) ds (omega arith) (omega arith))
 
--- ---- a place inside a call
+-- ---- what comes next inside a call
 
 -- at the end of the input an attempt gives the end
 pub record Ends (table : Table) (limits : Limits) (attempt : Plan Found) : Type 0 where

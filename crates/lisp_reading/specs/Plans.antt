@@ -1,5 +1,5 @@
--- What reading does from a place on: a plan, which says of each next byte whether it is taken and what is done then. A plan
--- knows no text and no place. What it gives on a text is said once, by `run`.
+-- What reading does from an offset on: a plan, which says of each next byte whether it is taken and what is done then. A plan
+-- knows no text and no offset. What it gives on a text is said once, by `run`.
 use Rattle.std.specs.Prelude.{ℕ, ◌≡◌, ◌≤◌, zero, suc, ◌+◌, ◌-◌, nat_le, nat_lt, Bool, true, false, List, [], ◌∷◌, Result, Ok, Err}
 use Rattle.lisp_object.specs.declared.refusal.TheConstants.{END_OF_FILE, INVALID_CHARACTER, FORM_TOO_LONG}
 use Rattle.readtable_core.specs.Tables.{Table}
@@ -12,7 +12,7 @@ use Rattle.token_meaning.specs.Results.{scan_refusal_number}
 
 pub data Plan (A : Type 0) : Type 0 where
   gives : A → Plan A
-  -- the number of the refusal, and how many bytes its place lies before the present one
+  -- the number of the refusal, and how many bytes its offset lies before the present one
   refuses : ℕ → ℕ → Plan A
   -- A byte that passes the test is taken, and the last plan goes on with it. Before any other byte, and at the end of the
   -- input, the first plan goes on.
@@ -55,14 +55,14 @@ pub record Fault : Type 0 where
   pub number : ℕ
   pub at : ℕ
 
--- a value, the place after it and the rest of the text; or the first fault
+-- a value, the offset after it and the rest of the text; or the first fault
 abbrev pub Read : Type 0 → Type 0
 Read A = Result (A × ℕ × List ℕ) Fault
 
 abbrev pub fault : {A : Type 0} → ℕ → ℕ → Read A
 fault number at = Err (record { number = number; at = at })
 
--- the byte at this place may be taken
+-- the byte at this offset may be taken
 abbrev pub within : {A : Type 0} → Bool → ℕ → Read A → Read A
 within full at r = elim full [ true ↦ fault FORM_TOO_LONG at | false ↦ r ]
 
@@ -84,7 +84,7 @@ abbrev pub scanned : Bool → Table → ℕ → ℕ → List ℕ → ScannedByte
 scanned false table limit at text = token_in table limit at text
 scanned true table limit at text = escaped_token_in table limit at text
 
--- Places count the bytes from the object's start.
+-- Offsets count the bytes from the object's start.
 unfoldable pub run : {A : Type 0} → Table → Limits → Plan A → ℕ → List ℕ → Read A
 run table limits (gives x) at text = Ok (x, at, text)
 run table limits (refuses number back) at text = fault number (at - back)

@@ -42,9 +42,9 @@ block_after setting levels = loop setting.limits block_turn levels
 abbrev pub number_after : Setting → Option ℕ → Plan (Option ℕ)
 number_after setting number = loop setting.limits number_turn number
 
--- ---- what stands at a place
+-- ---- what comes next inside a call
 
--- What stands at a place inside a call, after discarded text.
+-- What comes next inside a call, after discarded text.
 pub data Piece : Type 0 where
   item : Bool → Object → Piece
   dot : Piece
@@ -63,7 +63,7 @@ abbrev pub without_space : {A : Type 0} → Table → Bool → Plan A → Plan A
 without_space table false on = on
 without_space table true on = takes on (is_whitespace table) (λ c. on)
 
--- ---- a place inside a call where an object may begin: after discarded text, an object, a dot or the closing character
+-- ---- what comes next inside a call: after discarded text, an object, a dot or the closing character
 
 abbrev pub piece_of : Table → Plan Piece → Found → Plan Piece
 piece_of table again (nothing token) = without_space table token again
@@ -278,7 +278,7 @@ pub data Outcome : Type 0 where
   -- its start, its end, and where the next form begins
   form : Object → ℕ → ℕ → ℕ → Outcome
   empty : Outcome
-  -- the number of the refusal, and its place
+  -- the number of the refusal, and its offset
   refused : ℕ → ℕ → Outcome
 
 -- how many bytes are discarded with an object: the one whitespace character that ended its token
@@ -295,7 +295,7 @@ outcome table start more (Ok (lone_dot, at, cs)) = refused DOT_CONTEXT (start + 
 outcome table start more (Ok (the_end, at, cs)) = empty
 outcome table start more (Err e) = refused e.number (start + e.at)
 
--- of the text from this place on; the number bounds the turns
+-- of the text from this offset on; the number bounds the turns
 unfoldable pub reads_in : Setting → ℕ → ℕ → List ℕ → Outcome
 reads_in setting zero start text = empty
 reads_in setting (suc n) start text =

@@ -46,7 +46,7 @@ pub fn empty_texts_are_discarded()
 {}
 
 /// A refusal is at the end of the text at most, and one before the end is the same whatever follows the text. So a reader
-/// may give it as soon as the byte at its place is there.
+/// may give it as soon as the byte at its offset is there.
 pub fn refusals_are_decided()
     ensures inside { (setting : Setting) (text : List ℕ) (number offset : ℕ)
         → reads setting text ≡ refused number offset → offset ≤ length text }
@@ -83,7 +83,7 @@ pub fn only_what_is_found_matters()
         → reads (record setting { packages = packages }) text ≡ reads setting text }
 {}
 
-/// What is read is what the next byte says, and then what is read after it: before a form, at a place inside a call,
+/// What is read is what the next byte says, and then what is read after it: before a form, before the next item of a call,
 /// among objects, in a text, a line, a block and a number. No number of turns is in it.
 pub fn reading_goes_on()
     ensures form { (setting : Setting) (start : ℕ) (text : List ℕ) → reads_at setting start text

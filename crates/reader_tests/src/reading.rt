@@ -1,4 +1,4 @@
-//! Rows: forms, empty texts and refusals with their places, a byte at a time, and the laws.
+//! Rows: forms, empty texts and refusals with their offsets, a byte at a time, and the laws.
 ghost use Rattle.package_table.specs.Table.{IsPackage};
 
 mod calls;

@@ -203,7 +203,7 @@ first_naming s sound rows now is proper objects = record {
   standard = ap (λ (x : WorldState). finite.get x.readtables standard_name) is ∙ first_standard;
 }
 
--- the row at a place may be put
+-- the row at an index may be put
 pub record IsTableRow (s : WorldState) (rows : List Datum) (k : ℕ) (now : WorldState) (row : Datum) : Type 0 where
   pub proper : is_proper row ≡ true
   pub name : Name

@@ -15,11 +15,11 @@ use Rattle.snapshot_text.specs.Lines.{IsNext}
 pub rest_is : (bytes : List ℕ) (at : ℕ) → at ≤ length bytes → slice_range bytes at (length bytes) ≡ drop at bytes
 rest_is bytes at h = sym (drop_split bytes at (length bytes) h ∙ ap (λ xs. slice_range bytes at (length bytes) ++ xs) (drop-length bytes) ∙ append-nil (slice_range bytes at (length bytes)))
 
--- how long the parts of what stands at a place are
+-- how long the parts of what stands at an offset are
 both_lengths : (bytes text rest : List ℕ) (at : ℕ) → drop at bytes ≡ text ++ rest → length bytes - at ≡ length text + length rest
 both_lengths bytes text rest at e = sym (length-drop at bytes) ∙ ap length e ∙ length-append text rest
 
--- where something stands at a place, the place is within
+-- where something stands at an offset, the offset is within
 pub text_within : (bytes text rest : List ℕ) (at : ℕ) → drop at bytes ≡ text ++ rest → 0 < length rest → at < length bytes
 text_within bytes text rest at e more =
     let cut = both_lengths bytes text rest at e in

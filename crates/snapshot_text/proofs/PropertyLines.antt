@@ -48,7 +48,7 @@ module _ (prefix : Name → Name → List ℕ) (f : Symbol → Object) where
 pub more_after : (s : WorldState) (n : ℕ) (rest : List ℕ) → 0 < length (text_after s n ++ rest)
 more_after s n rest = some_text (printed_prefix s.packages common_lisp_user) (row_of s) (drop n (symbols_with_properties s)) rest
 
--- where there is a row at the place, and where there is none
+-- where there is a row at the index, and where there is none
 pub row_after : (s : WorldState) (n : ℕ) → n < length (symbols_with_properties s) → text_after s n ≡ 32 ∷ (row_text s n ++ text_after s (n + 1))
 row_after s n few =
     ap (λ xs. written_rest (printed_prefix s.packages common_lisp_user) (list_of (map (row_of s) xs))) (drop_more (symbols_with_properties s) n ([], []) few)
@@ -96,7 +96,7 @@ module _ (functions : Functions) where
 
 -- ---- while the rows are read
 
--- A row begins at this place, after which the others follow up to the end of the line, and the world has those before it.
+-- A row begins at this offset, after which the others follow up to the end of the line, and the world has those before it.
 pub record IsAtRow (s : WorldState) (bytes rest : List ℕ) (at : ℕ) (now : WorldState) : Type 0 where
   pub done : ℕ
   pub few : done < length (symbols_with_properties s)

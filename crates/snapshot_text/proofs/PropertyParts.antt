@@ -189,7 +189,7 @@ at_first s now is = record {
   lists = λ q. ap (λ (w : WorldState). finite.get w.properties q) is ∙ get-empty symbol_cmp q;
 }
 
--- the row at a place may be put
+-- the row at an index may be put
 pub record IsRow (s now : WorldState) (n : ℕ) : Type 0 where
   pub key : IsTrue (finite.contains_key s.properties (symbol_at s n))
   pub there : IsSymbol now.packages (symbol_at s n)
@@ -203,7 +203,7 @@ has_list s x there =
       | Some ps ↦ λ e. refl
     ] there
 
--- the symbol of the row at a place has properties
+-- the symbol of the row at an index has properties
 pub key_at : (s : WorldState) (n : ℕ) → n < length (symbols_with_properties s) → IsTrue (finite.contains_key s.properties (symbol_at s n))
 key_at s n few =
     contains_key-keys s.properties (symbol_at s n) ∙ at_index symbol_cmp symbol_total (symbols_with_properties s) n none few

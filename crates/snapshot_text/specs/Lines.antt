@@ -6,7 +6,7 @@ use Rattle.lisp_object.specs.Object.{Object}
 use Rattle.snapshot_text.specs.declared.error.BuildError.{BuildError}
 use Rattle.snapshot_text.specs.declared.error.BuildError.TheVariants.{OutOfMemory}
 
--- What was read is this object, which ends at this place; or memory ran out.
+-- What was read is this object, which ends at this offset; or memory ran out.
 abbrev pub IsFirst : Object → ℕ → Result (Datum × ℕ) BuildError → Type 0
 IsFirst x end (Ok read) = (object_of read.0 ≡ x) × (is_proper read.0 ≡ true) × (read.1 ≡ end)
 IsFirst x end (Err e) = e ≡ OutOfMemory

@@ -38,7 +38,7 @@ put_after spells next mark front left room at there xs (Ok (marks, «end», rest
 }
 put_after spells next mark front left room at there xs (Err e) offset spell count s = tt
 
--- what holds of the text after a byte, in whichever place
+-- what holds of the text after a byte, in whichever offset
 abbrev pub After : List TypedByte → Type 0
 After xs = (bars : Bool) (left at : ℕ) → SplitsBy (Spells bars) left at xs (from_bars bars left at xs)
 

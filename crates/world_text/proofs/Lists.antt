@@ -59,7 +59,7 @@ module _ (limits : Limits) (packages : Packages) (current : Name) (functions : F
   items_is d xs at cs h =
       loop_is standard limits (items_turn s 41 (attempt s d)) (items_guarded s 41 (attempt s d) (attempt_ends s _ _)) xs at cs h
 
-  -- ---- a place
+  -- ---- what comes next
 
   closed_here : (d at : ℕ) (cs : List ℕ) → at < limits.text → run standard limits (piece d) at (41 ∷ cs) ≡ Ok (closed, at + 1, cs)
   unfolding run

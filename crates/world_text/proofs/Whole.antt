@@ -93,7 +93,7 @@ module _ (limits : Limits) (packages : Packages) (current : Name) (functions : F
   Attempted x text = (d at : ℕ) (rest : List ℕ) → object_depth x ≤ d → at + length text ≤ limits.text → may_end (met_text rest) ≡ true
       → attempted d at (text ++ rest) ≡ Ok (one (ends_with_token x) x, at + length text, rest)
 
-  -- the place may be written in another way
+  -- the offset may be written in another way
   placed : (token : Bool) (x : Object) (there offset : ℕ) (rest : List ℕ) (r : Read Found) → r ≡ Ok (one token x, there, rest) → there ≡ offset → r ≡ Ok (one token x, offset, rest)
   placed token x there offset rest r e p = e ∙ (λ i. Ok (one token x, p i, rest))
 
