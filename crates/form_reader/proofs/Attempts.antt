@@ -12,7 +12,7 @@ use Rattle.token_scan.specs.Scans.{begun}
 use Rattle.lisp_reading.specs.declared.limits.Limits.{Limits}
 use Rattle.lisp_reading.specs.declared.found.Found.{Found}
 use Rattle.form_reader.specs.declared.frame.Frame.{Frame}
-use Rattle.form_reader.specs.declared.stage.Event.{Event}
+use Rattle.form_reader.specs.declared.position.Event.{Event}
 use Rattle.lisp_reading.specs.Plans.{Plan, refuses, takes, scans, then_plan, Read, fault, within, run}
 use Rattle.lisp_reading.specs.Setting.{Setting}
 use Rattle.lisp_reading.specs.Reading.{Piece, closed, piece_of, or_closed, next_item_turn, stands_alone, alone, token_found, attempt_by, attempt}

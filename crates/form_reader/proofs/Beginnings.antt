@@ -12,7 +12,7 @@ use Rattle.form_reader.specs.declared.complete.Completed.TheVariants.{Refused}
 use Rattle.lisp_reading.specs.declared.found.Found.{Found}
 use Rattle.form_reader.specs.declared.frame.Frame.{Frame}
 use Rattle.form_reader.specs.declared.frame.Part.TheVariants.{Next as InNext, List as InList, Until as InUntil}
-use Rattle.form_reader.specs.declared.stage.Event.{Event}
+use Rattle.form_reader.specs.declared.position.Event.{Event}
 use Rattle.lisp_reading.specs.declared.way.Way.{Way}
 use Rattle.lisp_reading.specs.declared.way.Way.TheVariants.{Nothing, Next, List as AList, Until, Token, EscapedToken}
 use Rattle.lisp_reading.specs.Plans.{Plan, refuses, scans, Read, fault, limited, scanned, run}

@@ -9,7 +9,7 @@ use Rattle.lisp_reading.specs.declared.found.Found.{Found}
 use Rattle.form_reader.specs.declared.frame.Frame.{Frame}
 use Rattle.form_reader.specs.declared.frame.Part.{Part}
 use Rattle.form_reader.specs.declared.frame.Part.TheVariants.{Next as InNext, List as InList, Until as InUntil, Dotted as InDotted, Tailed as InTailed}
-use Rattle.form_reader.specs.declared.stage.Event.{Event}
+use Rattle.form_reader.specs.declared.position.Event.{Event}
 use Rattle.lisp_reading.specs.Plans.{Plan, Read, then_plan, fault}
 use Rattle.lisp_reading.specs.Calls.{InvokedCall}
 use Rattle.lisp_reading.specs.Setting.{Setting}

@@ -18,8 +18,8 @@ use Rattle.lisp_reading.specs.declared.found.Found.{Found}
 use Rattle.lisp_reading.specs.declared.found.Found.TheVariants.{Nothing as nothing, One as one}
 use Rattle.form_reader.specs.declared.frame.Frame.{Frame}
 use Rattle.lisp_reading.specs.declared.limits.Limits.{Limits}
-use Rattle.form_reader.specs.declared.stage.Stage.{Stage}
-use Rattle.form_reader.specs.declared.stage.Stage.TheVariants.{Object as AtObject, Token as AtToken, CallToken as AtCallToken, Text as AtText, Escaped as AtEscaped, Line as AtLine, Block as AtBlock, Number as AtNumber}
+use Rattle.form_reader.specs.declared.position.Position.{Position}
+use Rattle.form_reader.specs.declared.position.Position.TheVariants.{Object as AtObject, Token as AtToken, CallToken as AtCallToken, Text as AtText, Escaped as AtEscaped, Line as AtLine, Block as AtBlock, Number as AtNumber}
 use Rattle.lisp_reading.specs.declared.way.Keep.{Keep}
 use Rattle.lisp_reading.specs.Plans.{Plan, gives, refuses, takes, then_plan, character, next_byte, loop, Read, fault, within, run}
 use Rattle.lisp_reading.specs.Calls.{keep_of}
@@ -28,7 +28,7 @@ use Rattle.form_reader.specs.Feeding.{is_going, token_read, refused_number}
 use Rattle.form_reader.specs.Frames.{close_of, close_of_frames, next_item_in, call_in, given, between, token_goes_on}
 use Rattle.lisp_reading.specs.Gathering.{text_turn, kept, line_turn, block_turn}
 use Rattle.lisp_reading.specs.Reading.{Piece, Outcome, form, empty, refused, piece_of, closed, or_closed, next_item_turn, next_item, stands_alone, alone, inner, attempt, reads, number_after, sub_there, dispatched}
-use Rattle.form_reader.specs.Resuming.{IsStageAt, inner_at, stage_gives}
+use Rattle.form_reader.specs.Resuming.{IsPositionAt, inner_at, position_gives}
 use Rattle.form_reader.specs.Reader.{MayGoOn, DecideNothing}
 use Rattle.form_reader.specs.Changing.{outcome_of, rest_of}
 use Rattle.form_reader.proofs.FedTokens.{cut, refused_cut}
@@ -39,7 +39,7 @@ use Rattle.lisp_reading.proofs.Forms.{form_framed}
 use Rattle.form_reader.proofs.Opened.{given_fault, gathering_ends, gathering_fails}
 use Rattle.lisp_reading.proofs.Refusals.{refusal_stays}
 use Rattle.lisp_reading.proofs.Steps.{and_then, run_then}
-use Rattle.form_reader.proofs.TextEnds.{blames_byte, stage_last, last_blames, last_refused}
+use Rattle.form_reader.proofs.TextEnds.{blames_byte, position_last, last_blames, last_refused}
 use Rattle.lisp_reading.proofs.Turns.{attempt_ends, loop_is, text_guarded, line_guarded, block_guarded, next_item_guarded}
 
 -- ---- a byte that is no character
@@ -186,18 +186,18 @@ token_fails setting frames on scan at c going le beyond =
       elim (nat_lt at setting.limits.text) as (λ b. blames_byte (if b then INVALID_CHARACTER else FORM_TOO_LONG) ≡ true) [ true ↦ refl | false ↦ refl ],
     )
 
--- ---- at each stage
+-- ---- at each position
 
-stage_fails : (setting : Setting) (frames : List Frame) (stage : Stage) (at c : ℕ) → IsStageAt at stage → at ≤ setting.limits.text → IsAlien setting (close_of_frames frames) c
-    → Fails at (stage_gives setting frames stage at (c ∷ []))
-stage_fails setting frames AtObject at c stands le alien = between_fails setting frames at c le alien
-stage_fails setting frames (AtToken scan) at c stands le alien = token_fails setting frames _ scan at c stands le alien.beyond
-stage_fails setting frames (AtCallToken call scan) at c stands le alien = token_fails setting frames _ scan at c stands le alien.beyond
-stage_fails setting frames (AtText call terminator text) at c stands le alien = gathering setting frames at c _ _ (text_fails setting frames at c le alien.beyond terminator text)
-stage_fails setting frames (AtEscaped call terminator text) at c stands le alien = gathering setting frames at c _ _ (next_fails setting.table setting.limits _ at c alien.beyond)
-stage_fails setting frames (AtLine call text) at c stands le alien = gathering setting frames at c _ _ (line_fails setting frames at c le alien.beyond (keep_of call.function) text)
-stage_fails setting frames (AtBlock call levels) at c stands le alien = gathering setting frames at c _ _ (block_fails setting frames at c le alien.beyond levels)
-stage_fails setting frames (AtNumber character number) at c stands le alien = number_fails setting frames at c le alien.beyond character number
+position_fails : (setting : Setting) (frames : List Frame) (position : Position) (at c : ℕ) → IsPositionAt at position → at ≤ setting.limits.text → IsAlien setting (close_of_frames frames) c
+    → Fails at (position_gives setting frames position at (c ∷ []))
+position_fails setting frames AtObject at c stands le alien = between_fails setting frames at c le alien
+position_fails setting frames (AtToken scan) at c stands le alien = token_fails setting frames _ scan at c stands le alien.beyond
+position_fails setting frames (AtCallToken call scan) at c stands le alien = token_fails setting frames _ scan at c stands le alien.beyond
+position_fails setting frames (AtText call terminator text) at c stands le alien = gathering setting frames at c _ _ (text_fails setting frames at c le alien.beyond terminator text)
+position_fails setting frames (AtEscaped call terminator text) at c stands le alien = gathering setting frames at c _ _ (next_fails setting.table setting.limits _ at c alien.beyond)
+position_fails setting frames (AtLine call text) at c stands le alien = gathering setting frames at c _ _ (line_fails setting frames at c le alien.beyond (keep_of call.function) text)
+position_fails setting frames (AtBlock call levels) at c stands le alien = gathering setting frames at c _ _ (block_fails setting frames at c le alien.beyond levels)
+position_fails setting frames (AtNumber character number) at c stands le alien = number_fails setting frames at c le alien.beyond character number
 
 -- ---- where a reader waits for more
 
@@ -226,28 +226,28 @@ undecided setting bytes c code (refused number offset) e next =
     by false is = omega (arith, (refusal_stays setting bytes number offset e).0, ltb-false offset (length bytes) is)
 
 -- The byte that is no character is refused at its own offset.
-next_refused : (setting : Setting) (frames : List Frame) (stage : Stage) (start at : ℕ) (bytes : List ℕ) → IsStageAt at stage → at ≤ setting.limits.text → start + at ≡ length bytes
-    → ((cs : List ℕ) → reads setting (bytes ++ cs) ≡ rest_of setting frames stage start at cs)
+next_refused : (setting : Setting) (frames : List Frame) (position : Position) (start at : ℕ) (bytes : List ℕ) → IsPositionAt at position → at ≤ setting.limits.text → start + at ≡ length bytes
+    → ((cs : List ℕ) → reads setting (bytes ++ cs) ≡ rest_of setting frames position start at cs)
     → (c : ℕ) × ((code : ℕ) × (reads setting (bytes ++ c ∷ []) ≡ refused code (length bytes)) × (blames_byte code ≡ true))
-next_refused setting frames stage start at bytes stands le count rest =
+next_refused setting frames position start at bytes stands le count rest =
     let c = 128 + length setting.table.entries + unwrap_or (close_of_frames frames) 0 + 1 in
-    let h = stage_fails setting frames stage at c stands le (record { beyond = omega arith; none = omega arith; other = omega arith }) in
+    let h = position_fails setting frames position at c stands le (record { beyond = omega arith; none = omega arith; other = omega arith }) in
     (c, (h.0, rest (c ∷ []) ∙ ap (outcome_of setting start) h.1 ∙ ap (λ (n : ℕ). refused h.0 n) count, h.2))
 
-pub decide_nothing : (setting : Setting) (frames : List Frame) (stage : Stage) (start at : ℕ) (bytes : List ℕ) → IsStageAt at stage → at ≤ setting.limits.text → start + at ≡ length bytes
-    → ((cs : List ℕ) → reads setting (bytes ++ cs) ≡ rest_of setting frames stage start at cs) → DecideNothing setting bytes
-decide_nothing setting frames stage start at bytes stands le count rest =
-    let next = next_refused setting frames stage start at bytes stands le count rest in
-    let last : reads setting bytes ≡ rest_of setting frames stage start at [] = sym (ap (reads setting) (append-nil bytes)) ∙ rest [] in
+pub decide_nothing : (setting : Setting) (frames : List Frame) (position : Position) (start at : ℕ) (bytes : List ℕ) → IsPositionAt at position → at ≤ setting.limits.text → start + at ≡ length bytes
+    → ((cs : List ℕ) → reads setting (bytes ++ cs) ≡ rest_of setting frames position start at cs) → DecideNothing setting bytes
+decide_nothing setting frames position start at bytes stands le count rest =
+    let next = next_refused setting frames position start at bytes stands le count rest in
+    let last : reads setting bytes ≡ rest_of setting frames position start at [] = sym (ap (reads setting) (append-nil bytes)) ∙ rest [] in
     let unlike : reads setting bytes ≡ refused next.1.0 (length bytes) → ⊥ = λ e.
     let blameless : blames_byte next.1.0 ≡ false =
-    last_refused (rest_of setting frames stage start at []) next.1.0 (length bytes) (sym last ∙ e)
-    (last_blames setting start (stage_gives setting frames stage at []) (stage_last setting frames at le stage stands)) in
+    last_refused (rest_of setting frames position start at []) next.1.0 (length bytes) (sym last ∙ e)
+    (last_blames setting start (position_gives setting frames position at []) (position_last setting frames at le position stands)) in
     false≢true (sym blameless ∙ next.1.2) in
     (next.0, (next.1.0, next.1.1, unlike))
 
-pub may_go_on : (setting : Setting) (frames : List Frame) (stage : Stage) (start at : ℕ) (bytes : List ℕ) → IsStageAt at stage → at ≤ setting.limits.text → start + at ≡ length bytes
-    → ((cs : List ℕ) → reads setting (bytes ++ cs) ≡ rest_of setting frames stage start at cs) → MayGoOn bytes (reads setting bytes)
-may_go_on setting frames stage start at bytes stands le count rest =
-    let next = next_refused setting frames stage start at bytes stands le count rest in
+pub may_go_on : (setting : Setting) (frames : List Frame) (position : Position) (start at : ℕ) (bytes : List ℕ) → IsPositionAt at position → at ≤ setting.limits.text → start + at ≡ length bytes
+    → ((cs : List ℕ) → reads setting (bytes ++ cs) ≡ rest_of setting frames position start at cs) → MayGoOn bytes (reads setting bytes)
+may_go_on setting frames position start at bytes stands le count rest =
+    let next = next_refused setting frames position start at bytes stands le count rest in
     undecided setting bytes next.0 next.1.0 (reads setting bytes) refl next.1.1

@@ -6,7 +6,7 @@ use Rattle.readtable_core.specs.Characters.{upper_case}
 use Rattle.readtable_core.specs.Tables.{dispatch_at}
 use Rattle.lisp_reading.specs.declared.found.Found.{Found}
 use Rattle.form_reader.specs.declared.frame.Frame.{Frame}
-use Rattle.form_reader.specs.declared.stage.Event.{Event}
+use Rattle.form_reader.specs.declared.position.Event.{Event}
 use Rattle.lisp_reading.specs.declared.way.Function.{Function}
 use Rattle.lisp_reading.specs.Plans.{Plan, Read, fault, run}
 use Rattle.lisp_reading.specs.Calls.{InvokedCall}

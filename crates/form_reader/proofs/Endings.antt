@@ -9,13 +9,13 @@ use Rattle.lisp_reading.specs.declared.found.Found.{Found}
 use Rattle.lisp_reading.specs.declared.found.Found.TheVariants.{Nothing as nothing, TheEnd as the_end}
 use Rattle.form_reader.specs.declared.frame.Frame.{Frame}
 use Rattle.lisp_reading.specs.declared.limits.Limits.{Limits}
-use Rattle.form_reader.specs.declared.stage.Event.{Event}
+use Rattle.form_reader.specs.declared.position.Event.{Event}
 use Rattle.lisp_reading.specs.declared.way.Keep.{Keep}
 use Rattle.form_reader.specs.declared.deliver.Delivered.{Delivered}
 use Rattle.form_reader.specs.declared.deliver.Delivered.TheVariants.{Waits}
 use Rattle.form_reader.specs.declared.ending.ReadOutcome.{ReadOutcome}
-use Rattle.form_reader.specs.declared.stage.Event.TheVariants.{Gives as IsGiven}
-use Rattle.form_reader.specs.declared.stage.Stage.{Stage}
+use Rattle.form_reader.specs.declared.position.Event.TheVariants.{Gives as IsGiven}
+use Rattle.form_reader.specs.declared.position.Position.{Position}
 use Rattle.form_reader.specs.declared.change.Settled.{Settled}
 use Rattle.form_reader.specs.declared.change.Settled.TheVariants.{Done as SettledDone}
 use Rattle.form_reader.specs.Delivering.{Delivers}
@@ -26,7 +26,7 @@ use Rattle.lisp_reading.specs.Gathering.{text_turn, line_turn, block_turn, numbe
 use Rattle.lisp_reading.specs.Reading.{Piece, without_space, empty, sub_there, dispatched}
 use Rattle.form_reader.specs.Feeding.{token_read}
 use Rattle.form_reader.specs.Frames.{attempt_in, next_item_in, call_in, close_of, given, between, token_goes_on}
-use Rattle.form_reader.specs.Resuming.{inner_at, stage_gives, Brings}
+use Rattle.form_reader.specs.Resuming.{inner_at, position_gives, Brings}
 use Rattle.form_reader.specs.Ending.{TokenStops}
 use Rattle.form_reader.specs.Changing.{outcome_of, Settles}
 use Rattle.form_reader.proofs.Deliveries.{delivered}
@@ -129,10 +129,10 @@ nothing_last setting start at found token e =
     ∙ ap (λ (r : Read Found). outcome_of setting (start + at) r) (the_end_there setting)
 
 module _ (setting : Setting) (frames : List Frame) (at : ℕ) where
-  pub stage_last : (stage known : Stage) (result : Result Event AllocError) → stage ≡ known
-      → IfOk result (λ event. Brings setting frames at [] event (stage_gives setting frames known at []))
-      → IfOk result (λ event. Brings setting frames at [] event (stage_gives setting frames stage at []))
-  stage_last stage known result e h = subst (λ (s : Stage). IfOk result (λ event. Brings setting frames at [] event (stage_gives setting frames s at []))) (sym e) h
+  pub position_last : (position known : Position) (result : Result Event AllocError) → position ≡ known
+      → IfOk result (λ event. Brings setting frames at [] event (position_gives setting frames known at []))
+      → IfOk result (λ event. Brings setting frames at [] event (position_gives setting frames position at []))
+  position_last position known result e h = subst (λ (s : Position). IfOk result (λ event. Brings setting frames at [] event (position_gives setting frames s at []))) (sym e) h
 
   pub waits_last : (before : List Frame) (found : Found) (event : Event) (delivered : Delivered) (token : Bool) (settled : Settled) (read : Read Found) → event ≡ IsGiven found
       → Brings setting before at [] event read → delivered ≡ Waits token

@@ -11,8 +11,8 @@ use Rattle.form_reader.specs.declared.reader.ReaderState.{ReaderState}
 use Rattle.form_reader.specs.declared.reader.ReaderState.TheVariants.{Open, Refused, OutOfMemory}
 use Rattle.form_reader.specs.declared.reader.Advance.{Advance}
 use Rattle.form_reader.specs.declared.reader.Advance.TheVariants.{More as AdvanceMore, Form as AdvanceForm, Refused as AdvanceRefused}
-use Rattle.form_reader.specs.declared.stage.Stage.{Stage}
-use Rattle.form_reader.specs.declared.stage.Stage.TheVariants.{Object as AtObject}
+use Rattle.form_reader.specs.declared.position.Position.{Position}
+use Rattle.form_reader.specs.declared.position.Position.TheVariants.{Object as AtObject}
 use Rattle.form_reader.specs.declared.change.Change.{Change}
 use Rattle.form_reader.specs.declared.change.Change.TheVariants.{Goes, Form as ChangeForm, Refused as ChangeRefused}
 use Rattle.lisp_reading.specs.declared.found.Found.{Found}
@@ -22,7 +22,7 @@ use Rattle.std.specs.declared.alloc.AllocError.{AllocError}
 use Rattle.form_reader.specs.declared.objects.Passed.{Passed}
 use Rattle.form_reader.specs.declared.objects.Passed.TheVariants.{Done as PassedDone}
 use Rattle.form_reader.specs.Delivering.{Passes}
-use Rattle.form_reader.specs.Resuming.{stage_gives}
+use Rattle.form_reader.specs.Resuming.{position_gives}
 use Rattle.lisp_reading.specs.Setting.{Setting}
 use Rattle.lisp_reading.specs.Reading.{form, refused, reads}
 use Rattle.form_reader.specs.declared.in_place.InPlace.{InPlace}
@@ -43,16 +43,16 @@ new_after setting reader n =
     subst (λ (s : ReaderState). IsAfterIn setting reader s []) (sym n.state)
     (omega (arith, n.start, n.at), λ cs. new_rest setting reader.frames n.frames cs ∙ (λ i. rest_of setting reader.frames AtObject (sym n.start i) (sym n.at i) cs))
 
-module _ (setting : Setting) (old mid new : FormReader) (stage : Stage) (bytes : List ℕ) (byte : ℕ) (after : List Frame) where
+module _ (setting : Setting) (old mid new : FormReader) (position : Position) (bytes : List ℕ) (byte : ℕ) (after : List Frame) where
   abbrev fed_now : List ℕ
   fed_now = bytes ++ byte ∷ []
 
-  one_more : IsAfterIn setting old (Open stage) bytes → (cs : List ℕ) → reads setting (fed_now ++ cs) ≡ rest_of setting old.frames stage old.start old.at (byte ∷ cs)
+  one_more : IsAfterIn setting old (Open position) bytes → (cs : List ℕ) → reads setting (fed_now ++ cs) ≡ rest_of setting old.frames position old.start old.at (byte ∷ cs)
   one_more a cs = ap (reads setting) (append_assoc bytes (byte ∷ []) cs) ∙ a.1 (byte ∷ cs)
 
   -- it is taken, and what is read of the text after it is this
-  went_to : (next : Stage) (start at : ℕ) → start + at ≡ old.start + old.at + 1 → IsAfterIn setting old (Open stage) bytes
-      → ((cs : List ℕ) → rest_of setting old.frames stage old.start old.at (byte ∷ cs) ≡ rest_of setting old.frames next start at cs)
+  went_to : (next : Position) (start at : ℕ) → start + at ≡ old.start + old.at + 1 → IsAfterIn setting old (Open position) bytes
+      → ((cs : List ℕ) → rest_of setting old.frames position old.start old.at (byte ∷ cs) ≡ rest_of setting old.frames next start at cs)
       → IsStanding setting.limits old.frames next at
       → ((start + at ≡ length fed_now) × ((cs : List ℕ) → reads setting (fed_now ++ cs) ≡ rest_of setting old.frames next start at cs))
       × (start + at ≡ length fed_now) × MayGoOn fed_now (reads setting fed_now) × DecideNothing setting fed_now
@@ -67,29 +67,29 @@ module _ (setting : Setting) (old mid new : FormReader) (stage : Stage) (bytes :
       )
 
   -- it is taken where the reader is
-  pub went_on : (next : Stage) → IsAfterIn setting old (Open stage) bytes
-      → ((cs : List ℕ) → rest_of setting old.frames stage old.start old.at (byte ∷ cs) ≡ rest_of setting old.frames next old.start (old.at + 1) cs)
+  pub went_on : (next : Position) → IsAfterIn setting old (Open position) bytes
+      → ((cs : List ℕ) → rest_of setting old.frames position old.start old.at (byte ∷ cs) ≡ rest_of setting old.frames next old.start (old.at + 1) cs)
       → IsStanding setting.limits old.frames next (old.at + 1)
       → ((old.start + (old.at + 1) ≡ length fed_now) × ((cs : List ℕ) → reads setting (fed_now ++ cs) ≡ rest_of setting old.frames next old.start (old.at + 1) cs))
       × (old.start + (old.at + 1) ≡ length fed_now) × MayGoOn fed_now (reads setting fed_now) × DecideNothing setting fed_now
   went_on next a same ready = went_to next old.start (old.at + 1) (omega arith) a same ready
 
   -- it is passed over, where nothing is open
-  pub went_past : (next : Stage) → IsAfterIn setting old (Open stage) bytes
-      → ((cs : List ℕ) → rest_of setting old.frames stage old.start old.at (byte ∷ cs) ≡ rest_of setting old.frames next (old.start + (old.at + 1)) 0 cs)
+  pub went_past : (next : Position) → IsAfterIn setting old (Open position) bytes
+      → ((cs : List ℕ) → rest_of setting old.frames position old.start old.at (byte ∷ cs) ≡ rest_of setting old.frames next (old.start + (old.at + 1)) 0 cs)
       → IsStanding setting.limits old.frames next 0
       → ((old.start + (old.at + 1) + 0 ≡ length fed_now) × ((cs : List ℕ) → reads setting (fed_now ++ cs) ≡ rest_of setting old.frames next (old.start + (old.at + 1)) 0 cs))
       × (old.start + (old.at + 1) + 0 ≡ length fed_now) × MayGoOn fed_now (reads setting fed_now) × DecideNothing setting fed_now
   went_past next a same ready = went_to next (old.start + (old.at + 1)) 0 (omega arith) a same ready
 
   -- it is refused where the reader is
-  pub gave_up : (code offset : ℕ) → IsAfterIn setting old (Open stage) bytes
-      → ((cs : List ℕ) → rest_of setting old.frames stage old.start old.at (byte ∷ cs) ≡ refused code offset)
+  pub gave_up : (code offset : ℕ) → IsAfterIn setting old (Open position) bytes
+      → ((cs : List ℕ) → rest_of setting old.frames position old.start old.at (byte ∷ cs) ≡ refused code offset)
       → (cs : List ℕ) → reads setting (fed_now ++ cs) ≡ refused code offset
   gave_up code offset a same cs = one_more a cs ∙ same cs
 
-  pub stepped : (change : Change) (step : Advance) → IsAfterIn setting old (Open stage) bytes
-      → ((cs : List ℕ) → ChangesTo setting after cs change (rest_of setting old.frames stage old.start old.at (byte ∷ cs)))
+  pub stepped : (change : Change) (step : Advance) → IsAfterIn setting old (Open position) bytes
+      → ((cs : List ℕ) → ChangesTo setting after cs change (rest_of setting old.frames position old.start old.at (byte ∷ cs)))
       → IsReadyChange setting.limits after (old.start + old.at + 1) change → Becomes change mid new step → mid.frames ≡ after → Steps setting new fed_now step
   stepped (Goes start at st) step a turns ready takes same =
       let many : length fed_now ≡ length bytes + 1 = length-append bytes (byte ∷ []) in
@@ -117,7 +117,7 @@ module _ (setting : Setting) (old mid new : FormReader) (stage : Stage) (bytes :
       subst (λ (s : Advance). Steps setting new fed_now s) (sym takes.0) (λ cs. one_more a cs ∙ turns cs, takes.1)
 
 -- a byte that is taken in its place, one that is left, and one that is refused there
-module _ (setting : Setting) (frames : List Frame) (start at c : ℕ) (old new : Stage) (fed : InPlace) where
+module _ (setting : Setting) (frames : List Frame) (start at c : ℕ) (old new : Position) (fed : InPlace) where
   pub taken_there : (cs : List ℕ) → fed ≡ InPlaceTaken → FeedsInPlace setting frames at c cs old new fed
       → rest_of setting frames old start at (c ∷ cs) ≡ rest_of setting frames new start (at + 1) cs
   taken_there cs is feeds = ap (outcome_of setting start) (subst (λ (f : InPlace). FeedsInPlace setting frames at c cs old new f) is feeds)
@@ -175,8 +175,8 @@ pub begun_first : (setting : Setting) (reader : FormReader) (bytes more : List �
 begun_first setting reader bytes more x start «end» next after e = by reader.state after
   where
     by : (state : ReaderState) → IsAfterIn setting reader state bytes → begun reader ≤ start
-    by (Open stage) a =
-        begins_from setting reader.start (stage_gives setting reader.frames stage reader.at more) x start «end» next (sym (a.1 more) ∙ e)
+    by (Open position) a =
+        begins_from setting reader.start (position_gives setting reader.frames position reader.at more) x start «end» next (sym (a.1 more) ∙ e)
     by (Refused code offset) a = let same : refused code offset ≡ form x start «end» next = sym (a more) ∙ e in cc
     by OutOfMemory a = absurd a
 

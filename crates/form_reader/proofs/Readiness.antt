@@ -3,8 +3,8 @@ use Rattle.std.proofs.Common.{◌≡◌, ℕ, ◌≤◌, Bool, true, false, Resu
 use Rattle.std.specs.Prelude.{◌||◌}
 use Rattle.std.specs.declared.alloc.AllocError.{AllocError}
 use Rattle.lisp_reading.specs.declared.limits.Limits.{Limits}
-use Rattle.form_reader.specs.declared.stage.Event.{Event}
-use Rattle.form_reader.specs.declared.stage.Event.TheVariants.{Stage as IsAt, Gives as IsGiven, Refused as IsRefused}
+use Rattle.form_reader.specs.declared.position.Event.{Event}
+use Rattle.form_reader.specs.declared.position.Event.TheVariants.{Open as IsAt, Gives as IsGiven, Refused as IsRefused}
 use Rattle.form_reader.specs.declared.deliver.Taken.{Taken}
 use Rattle.form_reader.specs.declared.deliver.Taken.TheVariants.{Stays, Gives, Refused}
 use Rattle.lisp_reading.specs.declared.found.Found.{Found}
@@ -12,7 +12,7 @@ use Rattle.form_reader.specs.Ready.{space, lookahead, IsReady, IsEnd, IsTakenAt}
 
 -- a call that ends with a byte, and no token in it
 pub ended_ready : (limits : Limits) (most at : ℕ) (event : Event) → IsEnd most at event → most ≤ 0 → at ≤ limits.text → IsReady limits at event
-ended_ready limits most at (IsAt stage) h none le = absurd h
+ended_ready limits most at (IsAt position) h none le = absurd h
 ended_ready limits most at (IsGiven found) h none le = (le, omega (arith, h, none))
 ended_ready limits most at (IsRefused code offset) h none le = h
 
@@ -22,7 +22,7 @@ all_ready limits at (Ok event) h le = ended_ready limits 0 at event h (omega ari
 all_ready limits at (Err e) h le = tt
 
 pub end_within : (less most at : ℕ) (event : Event) → IsEnd less at event → less ≤ most → IsEnd most at event
-end_within less most at (IsAt stage) h le = h
+end_within less most at (IsAt position) h le = h
 end_within less most at (IsGiven found) h le = omega (arith, h, le)
 end_within less most at (IsRefused code offset) h le = h
 

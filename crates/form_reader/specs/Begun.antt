@@ -4,10 +4,10 @@ use Rattle.readtable_core.specs.Tables.{Table}
 use Rattle.token_scan.specs.declared.mark.Mark.{Mark}
 use Rattle.token_scan.specs.Marks.{are_ascii}
 use Rattle.lisp_reading.specs.declared.limits.Limits.{Limits}
-use Rattle.form_reader.specs.declared.stage.BegunByte.{BegunByte}
-use Rattle.form_reader.specs.declared.stage.BegunByte.TheVariants.{More, Ended, Refused}
-use Rattle.form_reader.specs.declared.stage.FirstByte.{FirstByte}
-use Rattle.form_reader.specs.declared.stage.FirstByte.TheVariants.{More as FirstMore, Refused as FirstRefused}
+use Rattle.form_reader.specs.declared.position.BegunByte.{BegunByte}
+use Rattle.form_reader.specs.declared.position.BegunByte.TheVariants.{More, Ended, Refused}
+use Rattle.form_reader.specs.declared.position.FirstByte.{FirstByte}
+use Rattle.form_reader.specs.declared.position.FirstByte.TheVariants.{More as FirstMore, Refused as FirstRefused}
 use Rattle.lisp_reading.specs.Plans.{Read, fault}
 use Rattle.form_reader.specs.Feeding.{token_read}
 

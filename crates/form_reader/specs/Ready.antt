@@ -13,9 +13,9 @@ use Rattle.form_reader.specs.declared.macros.Moved.{Moved}
 use Rattle.form_reader.specs.declared.macros.Moved.TheVariants.{Taken as IsTaken, Before as IsBefore}
 use Rattle.form_reader.specs.declared.objects.Passed.{Passed}
 use Rattle.form_reader.specs.declared.objects.Passed.TheVariants.{Taken as PassedTaken, Done as PassedDone}
-use Rattle.form_reader.specs.declared.stage.Event.{Event}
-use Rattle.form_reader.specs.declared.stage.Event.TheVariants.{Stage as IsAt, Gives as IsGiven, Refused as IsRefused}
-use Rattle.form_reader.specs.Resuming.{IsStageAt}
+use Rattle.form_reader.specs.declared.position.Event.{Event}
+use Rattle.form_reader.specs.declared.position.Event.TheVariants.{Open as IsAt, Gives as IsGiven, Refused as IsRefused}
+use Rattle.form_reader.specs.Resuming.{IsPositionAt}
 
 -- one character, where a token ended
 abbrev pub space : Bool → ℕ
@@ -37,13 +37,13 @@ completed_lookahead (CompletedRefused number back) = 0
 -- What a byte brings, at the offset after it: this offset is within the limit of the text, and nothing of what follows matters
 -- to what was found; a refusal is at no later offset.
 abbrev pub IsReady : Limits → ℕ → Event → Type 0
-IsReady limits at (IsAt stage) = (at ≤ limits.text) × IsStageAt at stage
+IsReady limits at (IsAt position) = (at ≤ limits.text) × IsPositionAt at position
 IsReady limits at (IsGiven found) = (at ≤ limits.text) × (lookahead found ≡ 0)
 IsReady limits at (IsRefused number offset) = offset ≤ at
 
 -- What a call or a token comes to where it ends: no more is gathered in it.
 abbrev pub IsEnd : ℕ → ℕ → Event → Type 0
-IsEnd most at (IsAt stage) = ⊥
+IsEnd most at (IsAt position) = ⊥
 IsEnd most at (IsGiven found) = lookahead found ≤ most
 IsEnd most at (IsRefused number offset) = offset ≤ at
 

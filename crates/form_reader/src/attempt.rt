@@ -10,7 +10,7 @@ ghost use Rattle.form_reader.specs.Ready.{IsReady};
 
 use crate::frame::Frames;
 use crate::macros::begin_macro;
-use crate::stage::{Event, FirstByte, Stage, first_byte};
+use crate::position::{Event, FirstByte, Position, first_byte};
 use crate::surroundings::Surroundings;
 use lisp_object::refusal::{FORM_TOO_LONG, INVALID_CHARACTER};
 use lisp_reading::Found;
@@ -85,7 +85,7 @@ pub(crate) fn begin_token<R: MacroFunctions>(
     ensures ready { IfOk result (IsReady with.now.limits (at + 1)) }
 {
     match first_byte(with.alloc, with.readtable, &with.limits, at, c)? {
-        FirstByte::More(scan) => Ok(Event::Stage(Stage::Token(scan))),
+        FirstByte::More(scan) => Ok(Event::Open(Position::Token(scan))),
         FirstByte::Refused(code) => Ok(Event::Refused(code, at)),
     }
 }

@@ -9,7 +9,7 @@ ghost use Rattle.form_reader.specs.Ready.{IsReady};
 
 use crate::frame::{Frame, Part};
 use crate::opening::ended;
-use crate::stage::Event;
+use crate::position::Event;
 use crate::surroundings::Surroundings;
 use lisp_object::refusal::DOT_CONTEXT;
 use std::alloc::AllocError;

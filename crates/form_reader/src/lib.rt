@@ -12,7 +12,7 @@
 //!
 //! - `reader`: `FormReader`, `Advance`; `whole`: `read_one`
 //! - `change`: one byte, wherever a reader is in a form; `ending`: the end of the text, `ReadOutcome`
-//! - `frame`, `stage`: open calls, and where a reader is in the innermost
+//! - `frame`, `position`: open calls, and where a reader is in the innermost
 //! - `known`: which data may be answered; `complete`: what a call gives
 //! - `advance`: one byte, wherever a reader is in its innermost call
 //! - `in_place`: one byte that goes on what is gathered, where it is gathered
@@ -40,7 +40,7 @@ mod macros;
 mod objects;
 mod opening;
 mod reader;
-mod stage;
+mod position;
 mod surroundings;
 mod tokens;
 mod whole;

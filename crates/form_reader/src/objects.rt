@@ -6,9 +6,9 @@ ghost use Rattle.lisp_reading.specs.Plans.{gives};
 ghost use Rattle.form_reader.specs.Surrounding.{setting};
 ghost use Rattle.lisp_reading.specs.Reading.{is_blank, token_found};
 ghost use Rattle.form_reader.specs.Frames.{plan_gives, next_item_gives};
-ghost use Rattle.form_reader.specs.Resuming.{Brings, Moves, stage_gives};
+ghost use Rattle.form_reader.specs.Resuming.{Brings, Moves, position_gives};
 ghost use Rattle.form_reader.specs.declared.frame.Frame.{Frame};
-ghost use Rattle.form_reader.specs.declared.stage.Stage.TheVariants.{Object as AtObject, Token as AtToken};
+ghost use Rattle.form_reader.specs.declared.position.Position.TheVariants.{Object as AtObject, Token as AtToken};
 ghost use Rattle.form_reader.specs.Ready.{lookahead, IsReady, IsReadyMove, IsReadyPass, IsEnd};
 
 use crate::attempt::{alone, begin_token, stands_alone};
@@ -16,7 +16,7 @@ use crate::close::close;
 use crate::deliver::{Delivered, deliver};
 use crate::frame::Frames;
 use crate::macros::Moved;
-use crate::stage::{BegunByte, BegunScan, Event, Stage};
+use crate::position::{BegunByte, BegunScan, Event, Position};
 use crate::surroundings::Surroundings;
 use lisp_object::refusal::FORM_TOO_LONG;
 use lisp_reading::{Found, TellError, Told, tell};
@@ -38,7 +38,7 @@ pub(crate) fn at_object<R: MacroFunctions>(
     requires nesting { length frames.old ≤ with.now.limits.nesting }
     ensures brings { let setting = setting R.functions with.now in
         (cs : List ℕ) → IfOk result (λ event. Brings setting frames.new (at + 1) cs event
-        (stage_gives setting frames.old AtObject at (c ∷ cs))) }
+        (position_gives setting frames.old AtObject at (c ∷ cs))) }
     ensures ready { IfOk result (IsReady with.now.limits (at + 1)) }
     ensures nesting { IfOk result (λ _. length frames.new ≤ with.now.limits.nesting) }
 {
@@ -78,7 +78,7 @@ pub(crate) fn after_token<R: MacroFunctions>(
         if at >= with.limits.text {
             return Ok(Event::Refused(FORM_TOO_LONG, at));
         }
-        return Ok(Event::Stage(Stage::Object));
+        return Ok(Event::Open(Position::Object));
     }
     at_object(with, frames, at, c)
 }
@@ -151,11 +151,11 @@ pub(crate) fn in_token<R: MacroFunctions>(
     requires within { at ≤ with.now.limits.text }
     ensures moves { let setting = setting R.functions with.now in
         (frames : List Frame) (cs : List ℕ) → IfOk result (λ moved. Moves setting frames at c cs moved
-        (stage_gives setting frames (AtToken scan) at (c ∷ cs))) }
+        (position_gives setting frames (AtToken scan) at (c ∷ cs))) }
     ensures ready { IfOk result (IsReadyMove with.now.limits at) }
 {
     match scan.byte(with.readtable, &with.limits, at, c)? {
-        BegunByte::More(scan) => Ok(Moved::Taken(Event::Stage(Stage::Token(scan)))),
+        BegunByte::More(scan) => Ok(Moved::Taken(Event::Open(Position::Token(scan)))),
         BegunByte::Ended(marks) => Ok(Moved::Before(token_end(with, marks, at)?)),
         BegunByte::Refused(code) => Ok(Moved::Taken(Event::Refused(code, at))),
     }

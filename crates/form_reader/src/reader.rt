@@ -7,7 +7,7 @@ use crate::change::{Change, take_byte};
 use crate::ending::{ReadOutcome, last_outcome};
 use crate::frame::Frames;
 use crate::in_place::{InPlace, in_place};
-use crate::stage::Stage;
+use crate::position::Position;
 use crate::surroundings::Surroundings;
 use lisp_object::Datum;
 use lisp_reading::Limits;
@@ -33,7 +33,7 @@ pub struct FormReader {
 #[derive(Drop)]
 pub enum ReaderState {
     /// In a form: where it is in the innermost call.
-    Open(Stage),
+    Open(Position),
     /// It refused the text, with this number, at this offset.
     Refused(u16, usize),
     /// It ran out of memory.
@@ -85,7 +85,7 @@ impl FormReader {
             start: 0,
             at: 0,
             frames: Frames::new(alloc),
-            state: ReaderState::Open(Stage::Object),
+            state: ReaderState::Open(Position::Object),
         }
     }
 
@@ -149,7 +149,7 @@ impl FormReader {
             macros,
         };
         match &mut self.state {
-            ReaderState::Open(stage) => match in_place(&with, &self.frames, stage, self.at, byte) {
+            ReaderState::Open(position) => match in_place(&with, &self.frames, position, self.at, byte) {
                 Ok(InPlace::Taken) => {
                     self.at += 1;
                     Ok(Advance::More)
@@ -203,8 +203,8 @@ impl FormReader {
     {
         // Until the byte has come to something: where that fails, the reader answers the same again.
         match mem::replace(&mut self.state, ReaderState::OutOfMemory) {
-            ReaderState::Open(stage) => {
-                let next = take_byte(with, &mut self.frames, stage, self.start, self.at, byte)?;
+            ReaderState::Open(position) => {
+                let next = take_byte(with, &mut self.frames, position, self.start, self.at, byte)?;
                 Ok(self.take(next))
             }
             ReaderState::Refused(..) => unreachable!(),
@@ -221,16 +221,16 @@ impl FormReader {
         ensures sound { IsSoundStep result }
     {
         match change {
-            Change::Goes(start, at, stage) => {
+            Change::Goes(start, at, position) => {
                 self.start = start;
                 self.at = at;
-                self.state = ReaderState::Open(stage);
+                self.state = ReaderState::Open(position);
                 Advance::More
             }
             Change::Form(x, start, end, next) => {
                 self.start = 0;
                 self.at = 0;
-                self.state = ReaderState::Open(Stage::Object);
+                self.state = ReaderState::Open(Position::Object);
                 Advance::Form {
                     datum: x.into_sound_datum(),
                     start,
@@ -278,7 +278,7 @@ impl FormReader {
             state,
         } = self;
         match state {
-            ReaderState::Open(stage) => {
+            ReaderState::Open(position) => {
                 let with = Surroundings {
                     alloc,
                     limits,
@@ -287,7 +287,7 @@ impl FormReader {
                     current,
                     macros,
                 };
-                last_outcome(&with, &mut frames, stage, start, at)
+                last_outcome(&with, &mut frames, position, start, at)
             }
             ReaderState::Refused(code, at) => Ok(ReadOutcome::Refused { code, at }),
             ReaderState::OutOfMemory => Err(AllocError),
