@@ -7,8 +7,8 @@ use Rattle.std_macros.specs.Values.{one as one_object}
 use Rattle.form_reader.specs.declared.complete.Completed.{Completed}
 use Rattle.form_reader.specs.declared.deliver.Delivered.{Delivered}
 use Rattle.form_reader.specs.declared.deliver.Delivered.TheVariants.{Done}
-use Rattle.form_reader.specs.declared.deliver.Taken.{Taken}
-use Rattle.form_reader.specs.declared.deliver.Taken.TheVariants.{Stays, Gives as TakenGives, Refused as TakenRefused}
+use Rattle.form_reader.specs.declared.deliver.Received.{Received}
+use Rattle.form_reader.specs.declared.deliver.Received.TheVariants.{Stays, Gives as ReceivedGives, Refused as ReceivedRefused}
 use Rattle.lisp_reading.specs.declared.found.Found.{Found}
 use Rattle.lisp_reading.specs.declared.found.Found.TheVariants.{Nothing as nothing, One as one, LoneDot as lone_dot, TheEnd as the_end}
 use Rattle.form_reader.specs.declared.frame.Frame.{Frame}
@@ -227,20 +227,20 @@ module _ (setting : Setting) (at : ℕ) (cs : List ℕ) where
       by (Some new) n = let never : Some (calls new) ≡ None = sym (ap (option_map calls) n) ∙ e in cc
 
   -- it waited for its one object
-  pub next_comes : (old frames : List Frame) (call : InvokedCall) (token : Bool) (x y : Object) (depth : ℕ) (done : Completed) (taken : Taken) → old ≡ record { call = call; part = InNext } ∷ frames
+  pub next_comes : (old frames : List Frame) (call : InvokedCall) (token : Bool) (x y : Object) (depth : ℕ) (done : Completed) (received : Received) → old ≡ record { call = call; part = InNext } ∷ frames
       → depth ≡ length frames → y ≡ x → completed setting depth call token token (one_object y) ≡ plan_of done
-      → Takes setting frames at cs taken (run setting.table setting.limits (given setting frames (plan_of done)) at cs)
-      → Takes setting frames at cs taken (found_in old (one token x))
-  next_comes old frames call token x y depth done taken is open_calls same comes takes =
+      → Takes setting frames at cs received (run setting.table setting.limits (given setting frames (plan_of done)) at cs)
+      → Takes setting frames at cs received (found_in old (one token x))
+  next_comes old frames call token x y depth done received is open_calls same comes takes =
       let whole : found_in old (one token x) ≡ run setting.table setting.limits (given setting frames (plan_of done)) at cs =
       ap (λ (fs : List Frame). found_in fs (one token x)) is ∙ one_in_next setting frames call at cs token x
       ∙ ap (λ (plan : Plan Found). run setting.table setting.limits (given setting frames plan) at cs)
       ((λ i. completed setting (sym open_calls i) call token token (one_object (sym same i))) ∙ comes) in
-      subst (λ (r : Read Found). Takes setting frames at cs taken r) (sym whole) takes
+      subst (λ (r : Read Found). Takes setting frames at cs received r) (sym whole) takes
 
-  pub found_dot : (frames after : List Frame) (found : Found) (taken : Taken) → found ≡ lone_dot → Takes setting after at cs taken (found_in frames lone_dot)
-      → Takes setting after at cs taken (found_in frames found)
-  found_dot frames after found taken e takes = subst (λ (f : Found). Takes setting after at cs taken (found_in frames f)) (sym e) takes
+  pub found_dot : (frames after : List Frame) (found : Found) (received : Received) → found ≡ lone_dot → Takes setting after at cs received (found_in frames lone_dot)
+      → Takes setting after at cs received (found_in frames found)
+  found_dot frames after found received e takes = subst (λ (f : Found). Takes setting after at cs received (found_in frames f)) (sym e) takes
 
 -- as many calls are open
 pub as_many : (frames after : List Frame) (found : Found) → calls_with frames found ≡ Some after → length after ≡ length frames
@@ -258,10 +258,10 @@ pub stays_open : (frames after : List Frame) (found : Found) (token : Bool) → 
 stays_open frames after found token e = let many : length after ≡ length frames = as_many frames after found e in omega (arith, many)
 
 -- the innermost ended
-pub fewer_open : (frames after : List Frame) (taken : Taken) → length after < length frames → Shortens frames after taken
+pub fewer_open : (frames after : List Frame) (received : Received) → length after < length frames → Shortens frames after received
 fewer_open frames after (Stays token) less = omega (arith, less)
-fewer_open frames after (TakenGives found) less = less
-fewer_open frames after (TakenRefused code offset) less = omega (arith, less)
+fewer_open frames after (ReceivedGives found) less = less
+fewer_open frames after (ReceivedRefused code offset) less = omega (arith, less)
 
 -- ---- call after call
 

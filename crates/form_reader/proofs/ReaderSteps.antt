@@ -26,7 +26,7 @@ use Rattle.form_reader.specs.Resuming.{position_gives}
 use Rattle.lisp_reading.specs.Setting.{Setting}
 use Rattle.lisp_reading.specs.Reading.{form, refused, reads}
 use Rattle.form_reader.specs.declared.in_place.InPlace.{InPlace}
-use Rattle.form_reader.specs.declared.in_place.InPlace.TheVariants.{Taken as InPlaceTaken, Passed as InPlacePassed, Left as InPlaceLeft, Refused as InPlaceRefused}
+use Rattle.form_reader.specs.declared.in_place.InPlace.TheVariants.{GoesOn as InPlaceGoesOn, Passed as InPlacePassed, Left as InPlaceLeft, Refused as InPlaceRefused}
 use Rattle.form_reader.specs.InPlace.{FeedsInPlace, IsReadyInPlace}
 use Rattle.form_reader.specs.Changing.{outcome_of, rest_of, ChangesTo, IsStanding, IsReadyChange, BeginsFrom}
 use Rattle.form_reader.specs.Reader.{fed, begun, MayGoOn, DecideNothing, IsNew, IsAfter, IsAfterIn, Steps, BeginsLater, IsSoundStep, Becomes}
@@ -118,7 +118,7 @@ module _ (setting : Setting) (old mid new : FormReader) (position : Position) (b
 
 -- a byte that is taken in its place, one that is left, and one that is refused there
 module _ (setting : Setting) (frames : List Frame) (start at c : ℕ) (old new : Position) (fed : InPlace) where
-  pub taken_there : (cs : List ℕ) → fed ≡ InPlaceTaken → FeedsInPlace setting frames at c cs old new fed
+  pub taken_there : (cs : List ℕ) → fed ≡ InPlaceGoesOn → FeedsInPlace setting frames at c cs old new fed
       → rest_of setting frames old start at (c ∷ cs) ≡ rest_of setting frames new start (at + 1) cs
   taken_there cs is feeds = ap (outcome_of setting start) (subst (λ (f : InPlace). FeedsInPlace setting frames at c cs old new f) is feeds)
 
@@ -133,7 +133,7 @@ module _ (setting : Setting) (frames : List Frame) (start at c : ℕ) (old new :
       → rest_of setting frames old start at (c ∷ cs) ≡ refused code (start + at)
   refused_there code cs is feeds = ap (outcome_of setting start) (subst (λ (f : InPlace). FeedsInPlace setting frames at c cs old new f) is feeds)
 
-  pub ready_there : (limits : Limits) → fed ≡ InPlaceTaken → IsReadyInPlace limits at new fed → IsStanding limits frames old at → IsStanding limits frames new (at + 1)
+  pub ready_there : (limits : Limits) → fed ≡ InPlaceGoesOn → IsReadyInPlace limits at new fed → IsStanding limits frames old at → IsStanding limits frames new (at + 1)
   ready_there limits is ready standing =
       let r = subst (λ (f : InPlace). IsReadyInPlace limits at new f) is ready in
       record { within = omega (arith, r.0); nesting = standing.nesting; levels = r.1 }

@@ -5,10 +5,10 @@ use Rattle.std.specs.declared.alloc.AllocError.{AllocError}
 use Rattle.lisp_reading.specs.declared.limits.Limits.{Limits}
 use Rattle.form_reader.specs.declared.position.Event.{Event}
 use Rattle.form_reader.specs.declared.position.Event.TheVariants.{Open as IsAt, Gives as IsGiven, Refused as IsRefused}
-use Rattle.form_reader.specs.declared.deliver.Taken.{Taken}
-use Rattle.form_reader.specs.declared.deliver.Taken.TheVariants.{Stays, Gives, Refused}
+use Rattle.form_reader.specs.declared.deliver.Received.{Received}
+use Rattle.form_reader.specs.declared.deliver.Received.TheVariants.{Stays, Gives, Refused}
 use Rattle.lisp_reading.specs.declared.found.Found.{Found}
-use Rattle.form_reader.specs.Ready.{space, lookahead, IsReady, IsEnd, IsTakenAt}
+use Rattle.form_reader.specs.Ready.{space, lookahead, IsReady, IsEnd, IsReceivedAt}
 
 -- a call that ends with a byte, and no token in it
 pub ended_ready : (limits : Limits) (most at : ℕ) (event : Event) → IsEnd most at event → most ≤ 0 → at ≤ limits.text → IsReady limits at event
@@ -43,12 +43,12 @@ or_space false false = omega arith
 
 -- ---- what one open call makes of it
 
-module _ (less most at : ℕ) (taken : Taken) where
-  pub stays_within : (token : Bool) → taken ≡ Stays token → IsTakenAt less at taken → less ≤ most → space token ≤ most
-  stays_within token e h le = let here : space token ≤ less = subst (λ (t : Taken). IsTakenAt less at t) e h in omega (arith, here, le)
+module _ (less most at : ℕ) (received : Received) where
+  pub stays_within : (token : Bool) → received ≡ Stays token → IsReceivedAt less at received → less ≤ most → space token ≤ most
+  stays_within token e h le = let here : space token ≤ less = subst (λ (t : Received). IsReceivedAt less at t) e h in omega (arith, here, le)
 
-  pub gives_within : (found : Found) → taken ≡ Gives found → IsTakenAt less at taken → less ≤ most → lookahead found ≤ most
-  gives_within found e h le = let here : lookahead found ≤ less = subst (λ (t : Taken). IsTakenAt less at t) e h in omega (arith, here, le)
+  pub gives_within : (found : Found) → received ≡ Gives found → IsReceivedAt less at received → less ≤ most → lookahead found ≤ most
+  gives_within found e h le = let here : lookahead found ≤ less = subst (λ (t : Received). IsReceivedAt less at t) e h in omega (arith, here, le)
 
-  pub refused_within : (code offset : ℕ) → taken ≡ Refused code offset → IsTakenAt less at taken → offset ≤ at
-  refused_within code offset e h = subst (λ (t : Taken). IsTakenAt less at t) e h
+  pub refused_within : (code offset : ℕ) → received ≡ Refused code offset → IsReceivedAt less at received → offset ≤ at
+  refused_within code offset e h = subst (λ (t : Received). IsReceivedAt less at t) e h

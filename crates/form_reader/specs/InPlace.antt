@@ -3,7 +3,7 @@ use Rattle.std.specs.Prelude.{ℕ, ◌≡◌, ◌+◌, ◌<◌, ◌&&◌, nat_lt
 use Rattle.form_reader.specs.Changing.{rest_of}
 use Rattle.form_reader.specs.declared.frame.Frame.{Frame}
 use Rattle.form_reader.specs.declared.in_place.InPlace.{InPlace}
-use Rattle.form_reader.specs.declared.in_place.InPlace.TheVariants.{Taken, Passed, Left, Refused}
+use Rattle.form_reader.specs.declared.in_place.InPlace.TheVariants.{GoesOn, Passed, Left, Refused}
 use Rattle.lisp_reading.specs.declared.limits.Limits.{Limits}
 use Rattle.form_reader.specs.declared.position.Position.{Position}
 use Rattle.form_reader.specs.declared.position.Position.TheVariants.{Object as AtObject, Token as AtToken}
@@ -18,7 +18,7 @@ use Rattle.form_reader.specs.Resuming.{IsPositionAt, position_gives}
 -- the byte at this offset is taken, and what is given is what the new position gives after it; or it is passed over, and what is
 -- read is what is read of a new attempt after it; or nothing has changed; or the byte is refused where it is
 abbrev pub FeedsInPlace : Setting → List Frame → ℕ → ℕ → List ℕ → Position → Position → InPlace → Type 0
-FeedsInPlace setting frames at c cs old new Taken = position_gives setting frames old at (c ∷ cs) ≡ position_gives setting frames new (at + 1) cs
+FeedsInPlace setting frames at c cs old new GoesOn = position_gives setting frames old at (c ∷ cs) ≡ position_gives setting frames new (at + 1) cs
 FeedsInPlace setting frames at c cs old new Passed =
     (start : ℕ) → rest_of setting frames old start at (c ∷ cs) ≡ rest_of setting frames new (start + (at + 1)) 0 cs
 FeedsInPlace setting frames at c cs old new Left = new ≡ old
@@ -45,7 +45,7 @@ Stays setting frames at c cs = position_gives setting frames AtObject at (c ∷ 
 
 -- where the reader may be after it
 abbrev pub IsReadyInPlace : Limits → ℕ → Position → InPlace → Type 0
-IsReadyInPlace limits at new Taken = (at < limits.text) × IsPositionAt (at + 1) new
+IsReadyInPlace limits at new GoesOn = (at < limits.text) × IsPositionAt (at + 1) new
 IsReadyInPlace limits at new Passed = IsPositionAt 0 new
 IsReadyInPlace limits at new Left = Unit {0}
 IsReadyInPlace limits at new (Refused number) = Unit {0}

@@ -4,15 +4,15 @@ use Rattle.form_reader.specs.declared.complete.Completed.{Completed}
 use Rattle.form_reader.specs.declared.complete.Completed.TheVariants.{Gives as CompletedGives, Refused as CompletedRefused}
 use Rattle.form_reader.specs.declared.deliver.Delivered.{Delivered}
 use Rattle.form_reader.specs.declared.deliver.Delivered.TheVariants.{Waits, Done, Refused as DeliveredRefused}
-use Rattle.form_reader.specs.declared.deliver.Taken.{Taken}
-use Rattle.form_reader.specs.declared.deliver.Taken.TheVariants.{Stays, Gives as TakenGives, Refused as TakenRefused}
+use Rattle.form_reader.specs.declared.deliver.Received.{Received}
+use Rattle.form_reader.specs.declared.deliver.Received.TheVariants.{Stays, Gives as ReceivedGives, Refused as ReceivedRefused}
 use Rattle.lisp_reading.specs.declared.found.Found.{Found}
 use Rattle.lisp_reading.specs.declared.found.Found.TheVariants.{Nothing as nothing, One as one, LoneDot as lone_dot, TheEnd as the_end}
 use Rattle.lisp_reading.specs.declared.limits.Limits.{Limits}
 use Rattle.form_reader.specs.declared.macros.Moved.{Moved}
-use Rattle.form_reader.specs.declared.macros.Moved.TheVariants.{Taken as IsTaken, Before as IsBefore}
+use Rattle.form_reader.specs.declared.macros.Moved.TheVariants.{After as AfterByte, Before as BeforeByte}
 use Rattle.form_reader.specs.declared.objects.Passed.{Passed}
-use Rattle.form_reader.specs.declared.objects.Passed.TheVariants.{Taken as PassedTaken, Done as PassedDone}
+use Rattle.form_reader.specs.declared.objects.Passed.TheVariants.{Brings as PassedBrings, Done as PassedDone}
 use Rattle.form_reader.specs.declared.position.Event.{Event}
 use Rattle.form_reader.specs.declared.position.Event.TheVariants.{Open as IsAt, Gives as IsGiven, Refused as IsRefused}
 use Rattle.form_reader.specs.Resuming.{IsPositionAt}
@@ -49,18 +49,18 @@ IsEnd most at (IsRefused number offset) = offset ≤ at
 
 -- of the byte at this offset
 abbrev pub IsReadyMove : Limits → ℕ → Moved → Type 0
-IsReadyMove limits at (IsTaken event) = IsReady limits (at + 1) event
-IsReadyMove limits at (IsBefore event) = IsEnd 1 at event
+IsReadyMove limits at (AfterByte event) = IsReady limits (at + 1) event
+IsReadyMove limits at (BeforeByte event) = IsEnd 1 at event
 
 abbrev pub IsReadyPass : Limits → ℕ → Passed → Type 0
-IsReadyPass limits at (PassedTaken event) = IsReady limits (at + 1) event
+IsReadyPass limits at (PassedBrings event) = IsReady limits (at + 1) event
 IsReadyPass limits at (PassedDone found) = lookahead found ≤ 1
 
 -- What open calls make of what is found at this offset: no more of the text matters to it.
-abbrev pub IsTakenAt : ℕ → ℕ → Taken → Type 0
-IsTakenAt most at (Stays token) = space token ≤ most
-IsTakenAt most at (TakenGives found) = lookahead found ≤ most
-IsTakenAt most at (TakenRefused number offset) = offset ≤ at
+abbrev pub IsReceivedAt : ℕ → ℕ → Received → Type 0
+IsReceivedAt most at (Stays token) = space token ≤ most
+IsReceivedAt most at (ReceivedGives found) = lookahead found ≤ most
+IsReceivedAt most at (ReceivedRefused number offset) = offset ≤ at
 
 abbrev pub IsDeliveredAt : ℕ → ℕ → Delivered → Type 0
 IsDeliveredAt most at (Waits token) = space token ≤ most

@@ -12,7 +12,7 @@ use Rattle.lisp_reading.specs.declared.way.Way.{Way}
 use Rattle.lisp_reading.specs.Calls.{InvokedCall, keep_of}
 use Rattle.form_reader.specs.Completing.{plan_of}
 use Rattle.form_reader.specs.declared.macros.Moved.{Moved}
-use Rattle.form_reader.specs.declared.macros.Moved.TheVariants.{Taken as IsTaken, Before as IsBefore}
+use Rattle.form_reader.specs.declared.macros.Moved.TheVariants.{After as AfterByte, Before as BeforeByte}
 use Rattle.lisp_reading.specs.Plans.{Plan, gives, then_plan, next_byte, Read, fault, run}
 use Rattle.lisp_reading.specs.Setting.{Setting}
 use Rattle.lisp_reading.specs.Reading.{text_to, line_after, block_after, dispatched, completed, gathered, called, token_found, attempt, inner}
@@ -65,8 +65,8 @@ Brings setting frames at cs (IsRefused number offset) read = read ≡ fault numb
 
 -- the same before the byte at this offset
 abbrev pub Moves : Setting → List Frame → ℕ → ℕ → List ℕ → Moved → Read Found → Type 0
-Moves setting frames at c cs (IsTaken event) read = Brings setting frames (at + 1) cs event read
-Moves setting frames at c cs (IsBefore event) read = Brings setting frames at (c ∷ cs) event read
+Moves setting frames at c cs (AfterByte event) read = Brings setting frames (at + 1) cs event read
+Moves setting frames at c cs (BeforeByte event) read = Brings setting frames at (c ∷ cs) event read
 
 -- a call begins in these open calls, after which there are those
 abbrev pub Begins : Setting → List Frame → List Frame → InvokedCall → ℕ → List ℕ → Event → Type 0

@@ -34,21 +34,21 @@ pub(crate) fn advance<R: MacroFunctions>(
 {
     let depth = frames.len();
     match position {
-        Position::Object => Ok(Moved::Taken(at_object(with, frames, at, c)?)),
+        Position::Object => Ok(Moved::After(at_object(with, frames, at, c)?)),
         Position::Token(scan) => in_token(with, scan, at, c),
         Position::CallToken(call, scan) => in_call_token(with, depth, call, scan, at, c),
         Position::Text(call, terminator, text) => {
-            Ok(Moved::Taken(in_text(with, depth, call, terminator, text, at, c)?))
+            Ok(Moved::After(in_text(with, depth, call, terminator, text, at, c)?))
         }
         Position::Escaped(call, terminator, text) => {
-            Ok(Moved::Taken(in_escaped(with, depth, call, terminator, text, at, c)?))
+            Ok(Moved::After(in_escaped(with, depth, call, terminator, text, at, c)?))
         }
-        Position::Line(call, text) => { Ok(Moved::Taken(in_line(with, depth, call, text, at, c)?)) }
+        Position::Line(call, text) => { Ok(Moved::After(in_line(with, depth, call, text, at, c)?)) }
         Position::Block(call, levels) => {
-            Ok(Moved::Taken(in_block(with, depth, call, levels, at, c)?))
+            Ok(Moved::After(in_block(with, depth, call, levels, at, c)?))
         }
         Position::Number(character, number) => {
-            Ok(Moved::Taken(in_number(with, frames, character, number, at, c)?))
+            Ok(Moved::After(in_number(with, frames, character, number, at, c)?))
         }
     }
 }

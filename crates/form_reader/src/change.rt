@@ -64,11 +64,11 @@ pub(crate) fn feed<R: MacroFunctions>(
     ensures nesting { IfOk result (λ _. length frames.new ≤ with.now.limits.nesting) }
 {
     match advance(with, frames, position, at, c)? {
-        Moved::Taken(event) => Ok(Passed::Taken(event)),
+        Moved::After(event) => Ok(Passed::Brings(event)),
         Moved::Before(event) => match event {
             Event::Open(_) => unreachable!(),
             Event::Gives(found) => after_found(with, frames, found, at, c),
-            Event::Refused(code, offset) => Ok(Passed::Taken(Event::Refused(code, offset))),
+            Event::Refused(code, offset) => Ok(Passed::Brings(Event::Refused(code, offset))),
         },
     }
 }
@@ -209,7 +209,7 @@ pub(crate) fn take_byte<R: MacroFunctions>(
         return change_of(with, frames, brought, start, at + 1);
     }
     match feed(with, frames, position, at, c)? {
-        Passed::Taken(event) => change_of(with, frames, event, start, at + 1),
+        Passed::Brings(event) => change_of(with, frames, event, start, at + 1),
         Passed::Done(found) => done_before(with, frames, found, start, at, c),
     }
 }

@@ -27,7 +27,7 @@ pub(crate) fn close<R: MacroFunctions>(
 ) -> Result<Event, AllocError>
     requires answers { R.answers with.now.macros.now }
     requires within { at ≤ with.now.limits.text }
-    requires taken { 0 < at }
+    requires some { 0 < at }
     ensures brings { let setting = setting R.functions with.now in
         (frames : List Frame) (cs : List ℕ) → depth ≡ length frames
         → IfOk result (λ event. Brings setting frames at cs event

@@ -21,7 +21,7 @@ use user_macros::MacroFunctions;
 #[derive(Clone, Copy)]
 pub enum InPlace {
     /// It is taken, and the reader goes on there.
-    Taken,
+    GoesOn,
     /// It is whitespace where nothing is open: an attempt begins after it.
     Passed,
     /// Something begins or ends at it. Nothing has changed.
@@ -52,7 +52,7 @@ pub(crate) fn in_place<R: MacroFunctions>(
     match position {
         Position::Object => begin_in_place(with, frames, position, at, c),
         Position::Token(scan) => match scan.feed(with.readtable, &with.limits, at, c)? {
-            LineByte::More => Ok(InPlace::Taken),
+            LineByte::More => Ok(InPlace::GoesOn),
             LineByte::Ended => Ok(InPlace::Left),
             LineByte::Refused(code) => Ok(InPlace::Refused(code)),
         },
@@ -82,7 +82,7 @@ fn begin_in_place<R: MacroFunctions>(
     match begun_at(with, frames, at, c)? {
         Some(scan) => {
             *position = Position::Token(scan);
-            Ok(InPlace::Taken)
+            Ok(InPlace::GoesOn)
         }
         None => Ok(discarded(with, frames, at, c)),
     }
@@ -137,7 +137,7 @@ fn discarded<R: MacroFunctions>(
     if frames.len() == 0 {
         return InPlace::Passed;
     }
-    InPlace::Taken
+    InPlace::GoesOn
 }
 
 /// Whether the byte `c` at `at`, where an object may begin, is whitespace that is discarded.

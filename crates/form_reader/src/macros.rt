@@ -26,7 +26,7 @@ use user_macros::MacroFunctions;
 /// What a byte brings: after it where it is taken, before it where it ended a token.
 #[derive(Drop)]
 pub enum Moved {
-    Taken(Event),
+    After(Event),
     Before(Event),
 }
 
@@ -79,12 +79,12 @@ pub(crate) fn in_call_token<R: MacroFunctions>(
     ensures ready { IfOk result (IsReadyMove with.now.limits at) }
 {
     match token_byte(with.readtable, &with.limits, &mut scan, at, c)? {
-        LineByte::More => Ok(Moved::Taken(Event::Open(Position::CallToken(call, scan)))),
+        LineByte::More => Ok(Moved::After(Event::Open(Position::CallToken(call, scan)))),
         LineByte::Ended => {
             let gathered = StdGathered::Marks(scan.into_marks());
             Ok(Moved::Before(ended(with, depth, &call, true, gathered, at)?))
         }
-        LineByte::Refused(code) => Ok(Moved::Taken(Event::Refused(code, at))),
+        LineByte::Refused(code) => Ok(Moved::After(Event::Refused(code, at))),
     }
 }
 

@@ -103,7 +103,7 @@ pub(crate) fn is_blank(syntax: Syntax) -> bool
 #[derive(Drop)]
 pub enum Passed {
     /// It is taken, and brings this.
-    Taken(Event),
+    Brings(Event),
     /// The outermost attempt came to this before it.
     Done(Found),
 }
@@ -130,13 +130,13 @@ pub(crate) fn after_found<R: MacroFunctions>(
     match deliver(with, frames, found, at)? {
         Delivered::Waits(token) => {
             if token {
-                Ok(Passed::Taken(after_token(with, frames, at, c)?))
+                Ok(Passed::Brings(after_token(with, frames, at, c)?))
             } else {
-                Ok(Passed::Taken(at_object(with, frames, at, c)?))
+                Ok(Passed::Brings(at_object(with, frames, at, c)?))
             }
         }
         Delivered::Done(found) => Ok(Passed::Done(found)),
-        Delivered::Refused(code, offset) => Ok(Passed::Taken(Event::Refused(code, offset))),
+        Delivered::Refused(code, offset) => Ok(Passed::Brings(Event::Refused(code, offset))),
     }
 }
 
@@ -155,9 +155,9 @@ pub(crate) fn in_token<R: MacroFunctions>(
     ensures ready { IfOk result (IsReadyMove with.now.limits at) }
 {
     match scan.byte(with.readtable, &with.limits, at, c)? {
-        BegunByte::More(scan) => Ok(Moved::Taken(Event::Open(Position::Token(scan)))),
+        BegunByte::More(scan) => Ok(Moved::After(Event::Open(Position::Token(scan)))),
         BegunByte::Ended(marks) => Ok(Moved::Before(token_end(with, marks, at)?)),
-        BegunByte::Refused(code) => Ok(Moved::Taken(Event::Refused(code, at))),
+        BegunByte::Refused(code) => Ok(Moved::After(Event::Refused(code, at))),
     }
 }
 

@@ -150,7 +150,7 @@ impl FormReader {
         };
         match &mut self.state {
             ReaderState::Open(position) => match in_place(&with, &self.frames, position, self.at, byte) {
-                Ok(InPlace::Taken) => {
+                Ok(InPlace::GoesOn) => {
                     self.at += 1;
                     Ok(Advance::More)
                 }

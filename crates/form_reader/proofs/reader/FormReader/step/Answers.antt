@@ -9,14 +9,14 @@ use Rattle.form_reader.proofs.ReaderSteps.{went_on, went_past, gave_up, taken_th
 use Rattle.form_reader.proofs.Standings.{standing_of}
 use Rattle.form_reader.proofs.reader.FormReader.step.Goals as goal
 
-pub returns-in-Ok-Taken-clause-steps : goal.returns-in-Ok-Taken-clause-steps
-returns-in-Ok-Taken-clause-steps g c = λ bytes after.
+pub returns-in-Ok-GoesOn-clause-steps : goal.returns-in-Ok-GoesOn-clause-steps
+returns-in-Ok-GoesOn-clause-steps g c = λ bytes after.
     let setting = setting_of c.args.self.now.limits c.args.readtable.now c.args.packages.now.0 c.args.current.now
     (g.R.MacroFunctions.functions c.args.macros.now) in
     went_on setting c.args.self.now c.args.self.now c.args.self.now c.in-Open.position bytes c.args.byte c.args.self.now.frames c.in_place.new.position
     (subst (λ (s : ReaderState). IsAfterIn setting c.args.self.now s bytes) c.in-Open.is after)
-    (λ cs. taken_there setting c.args.self.now.frames c.args.self.now.start c.args.self.now.at c.args.byte c.in-Open.position c.in_place.new.position c.in-Ok-Taken.field-0 cs c.in-Ok-Taken.field-0-is (c.in-Ok-Taken.ensures.feeds cs))
-    (ready_there setting c.args.self.now.frames c.args.self.now.start c.args.self.now.at c.args.byte c.in-Open.position c.in_place.new.position c.in-Ok-Taken.field-0 c.args.self.now.limits c.in-Ok-Taken.field-0-is c.in-Ok-Taken.ensures.ready
+    (λ cs. taken_there setting c.args.self.now.frames c.args.self.now.start c.args.self.now.at c.args.byte c.in-Open.position c.in_place.new.position c.in-Ok-GoesOn.field-0 cs c.in-Ok-GoesOn.field-0-is (c.in-Ok-GoesOn.ensures.feeds cs))
+    (ready_there setting c.args.self.now.frames c.args.self.now.start c.args.self.now.at c.args.byte c.in-Open.position c.in_place.new.position c.in-Ok-GoesOn.field-0 c.args.self.now.limits c.in-Ok-GoesOn.field-0-is c.in-Ok-GoesOn.ensures.ready
     (standing_of c.args.self.now.limits c.args.self.now.frames c.args.self.now.at c.args.self.now.state c.in-Open.position c.in-Open.is c.args.self.now.standing))
 
 pub returns-in-Ok-Passed-clause-steps : goal.returns-in-Ok-Passed-clause-steps
