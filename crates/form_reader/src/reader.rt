@@ -149,7 +149,13 @@ impl FormReader {
             macros,
         };
         match &mut self.state {
-            ReaderState::Open(position) => match in_place(&with, &self.frames, position, self.at, byte) {
+            ReaderState::Open(position) => match in_place(
+                &with,
+                &self.frames,
+                position,
+                self.at,
+                byte,
+            ) {
                 Ok(InPlace::GoesOn) => {
                     self.at += 1;
                     Ok(Advance::More)
