@@ -39,7 +39,8 @@ use Rattle.lisp_reading.proofs.Forms.{form_framed}
 use Rattle.form_reader.proofs.Opened.{given_fault, gathering_ends, gathering_fails}
 use Rattle.lisp_reading.proofs.Refusals.{refusal_stays}
 use Rattle.lisp_reading.proofs.Steps.{and_then, run_then}
-use Rattle.form_reader.proofs.TextEnds.{blames_byte, position_last, last_blames, last_refused}
+use Rattle.form_reader.proofs.PlanEnds.{blames_byte}
+use Rattle.form_reader.proofs.TextEnds.{position_last, last_blames, last_refused}
 use Rattle.lisp_reading.proofs.Turns.{attempt_ends, loop_is, text_guarded, line_guarded, block_guarded, next_item_guarded}
 
 -- ---- a byte that is no character
