@@ -1,3 +1,4 @@
+pub mod Answers
 pub mod Built
 pub mod Covered
 pub mod Lines

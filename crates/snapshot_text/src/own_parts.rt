@@ -8,8 +8,9 @@ ghost use Rattle.package_table.specs.Growth.{Grows};
 ghost use Rattle.plist_state.specs.Changes.{with_packages};
 ghost use Rattle.world_text.specs.Snapshot.{made_names};
 ghost use Rattle.snapshot_text.specs.Part.{IsPartOf};
-ghost use Rattle.snapshot_text.specs.Phases.{HasOwn, OrNoMemory};
+ghost use Rattle.snapshot_text.specs.Phases.{HasOwn};
 ghost use Rattle.snapshot_text.specs.Own.{IsOwnName, HasOwnName};
+ghost use Rattle.snapshot_text.specs.Answers.{OrNoMemory};
 
 use crate::error::BuildError;
 use crate::parts::name_in;

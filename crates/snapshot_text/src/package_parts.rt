@@ -1,13 +1,14 @@
 //! The packages of a world, made from the first object of a snapshot.
-ghost use Rattle.std.specs.Prelude.{◌≡◌, ◌≢◌, true, [], ◌∷◌, ◌++◌, IfOk, MatchResult};
+ghost use Rattle.std.specs.Prelude.{◌≡◌, ◌≢◌, true, [], ◌∷◌, ◌++◌, IfOk};
 ghost use Rattle.lisp_object.specs.Object.{text};
 ghost use Rattle.lisp_object.specs.Datum.{object_of, is_proper};
 ghost use Rattle.package_table.specs.Table.{Name, Table, common_lisp, keyword, IsPresent, IsExternal, IsSound, Uses};
 ghost use Rattle.package_table.specs.Growth.{Grows};
 ghost use Rattle.plist_state.specs.Changes.{with_packages};
 ghost use Rattle.snapshot_text.specs.Part.{IsPartOf};
-ghost use Rattle.snapshot_text.specs.Phases.{HasSymbols, HasExternals, HasUses, IsBegun, IsRowOf, AreRowsOf, Everywhere, OrNoMemory};
+ghost use Rattle.snapshot_text.specs.Phases.{HasSymbols, HasExternals, HasUses, IsBegun, IsRowOf, AreRowsOf, Everywhere};
 ghost use Rattle.world_text.specs.Snapshot.{imported_name, package_object, packages_object};
+ghost use Rattle.snapshot_text.specs.Answers.{Makes, OrNoMemory, Succeeds};
 
 use crate::error::BuildError;
 use crate::own_parts::make_own;
@@ -29,7 +30,7 @@ struct PackageParts<'a> {
 // The parts of a row.
 fn package_parts(row: &Datum) -> Result<PackageParts<'_>, BuildError>
     ensures { (s : Table) (p : Name) → is_proper row.now ≡ true → object_of row.now ≡ package_object s p
-        → MatchResult result (λ parts. IsRowOf s p parts) (λ _. ⊥) }
+        → Succeeds result (λ parts. IsRowOf s p parts) }
 {
     let [name, used, own, shown, imported] = items_in(row)? else {
         return Err(BuildError::Damaged);
@@ -56,7 +57,7 @@ fn push_parts<'a>(
 // The rows of all packages.
 fn rows_in(alloc: Global, packages: &Datum) -> Result<Vec<PackageParts<'_>>, BuildError>
     ensures { (s : Table) → is_proper packages.now ≡ true → object_of packages.now ≡ packages_object s
-        → MatchResult result (λ rows. AreRowsOf s rows.items) (λ e. e ≡ BuildError.OutOfMemory) }
+        → Makes result (λ rows. AreRowsOf s rows.items) }
 {
     let mut rows = Vec::new(alloc);
     for row in items_in(packages)? {
@@ -68,7 +69,7 @@ fn rows_in(alloc: Global, packages: &Datum) -> Result<Vec<PackageParts<'_>>, Bui
 // The name and the home of an import.
 fn import_parts(import: &Datum) -> Result<(&[u8], &[u8]), BuildError>
     ensures { (n h : Name) → is_proper import.now ≡ true → object_of import.now ≡ imported_name (n, h)
-        → MatchResult result (λ parts. (parts.0.now ≡ n) × (parts.1.now ≡ h)) (λ _. ⊥) }
+        → Succeeds result (λ parts. (parts.0.now ≡ n) × (parts.1.now ≡ h)) }
 {
     let [name, home] = items_in(import)? else {
         return Err(BuildError::Damaged);

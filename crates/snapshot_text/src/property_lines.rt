@@ -1,6 +1,6 @@
 //! The property lists of a world, made from the second line of a snapshot, row by row: no more than one row is in memory
 //! beside the world.
-ghost use Rattle.std.specs.Prelude.{◌≡◌, ◌≤◌, ◌<◌, ◌+◌, ℕ, List, ◌∷◌, ◌++◌, length, drop, IfOk, MatchResult};
+ghost use Rattle.std.specs.Prelude.{◌≡◌, ◌≤◌, ◌<◌, ◌+◌, ℕ, List, ◌∷◌, ◌++◌, length, drop, IfOk};
 ghost use Rattle.readtable_core.specs.Tables.{standard};
 ghost use Rattle.plist_state.specs.State.{WorldState};
 ghost use Rattle.plist_state.specs.Readers.{symbols_with_properties};
@@ -8,6 +8,7 @@ ghost use Rattle.plist_state.specs.Sound.{IsSound as IsSoundState};
 ghost use Rattle.snapshot_text.specs.Built.{with_packages_of, with_properties_of};
 ghost use Rattle.snapshot_text.specs.Rows.{IsUpTo, row_text, text_after};
 ghost use Rattle.world_text.specs.Snapshot.{line, properties_object};
+ghost use Rattle.snapshot_text.specs.Answers.{Makes};
 
 use crate::error::BuildError;
 use crate::lines::object_at;
@@ -30,7 +31,7 @@ fn read_row<R: MacroFunctions>(
     requires table { table.now ≡ standard }
     ensures row { (s : WorldState) (n : ℕ) (rest : List ℕ) → IsSoundState s → length bytes.now ≤ 4294967295 → n < length (symbols_with_properties s)
         → IsUpTo s n world.old.0 → drop at bytes.now ≡ row_text s n ++ (text_after s (n + 1) ++ rest)
-        → MatchResult result (λ next. IsUpTo s (n + 1) world.new.0 × (drop next bytes.now ≡ text_after s (n + 1) ++ rest)) (λ e. e ≡ BuildError.OutOfMemory) }
+        → Makes result (λ next. IsUpTo s (n + 1) world.new.0 × (drop next bytes.now ≡ text_after s (n + 1) ++ rest)) }
     ensures on { IfOk result (λ next. at ≤ next) }
 {
     let (row, next) = object_at(alloc, world, table, macros, bytes, at)?;
@@ -51,7 +52,7 @@ fn read_rows<R: MacroFunctions>(
     requires table { table.now ≡ standard }
     ensures { (s : WorldState) (rest : List ℕ) → IsSoundState s → length bytes.now ≤ 4294967295 → 0 < length (symbols_with_properties s)
         → world.old.0 ≡ with_packages_of s → drop at bytes.now ≡ row_text s 0 ++ (text_after s 1 ++ 10 ∷ rest)
-        → MatchResult result (λ next. (world.new.0 ≡ with_properties_of s) × (drop next bytes.now ≡ rest)) (λ e. e ≡ BuildError.OutOfMemory) }
+        → Makes result (λ next. (world.new.0 ≡ with_properties_of s) × (drop next bytes.now ≡ rest)) }
 {
     let mut next_row = at;
     'rows: loop {
@@ -80,7 +81,7 @@ pub(crate) fn read_properties<R: MacroFunctions>(
     requires table { table.now ≡ standard }
     ensures { (s : WorldState) (rest : List ℕ) → IsSoundState s → length bytes.now ≤ 4294967295
         → drop at bytes.now ≡ line s.packages (properties_object s) ++ rest → world.old.0 ≡ with_packages_of s
-        → MatchResult result (λ next. (world.new.0 ≡ with_properties_of s) × (drop next bytes.now ≡ rest)) (λ e. e ≡ BuildError.OutOfMemory) }
+        → Makes result (λ next. (world.new.0 ≡ with_properties_of s) × (drop next bytes.now ≡ rest)) }
 {
     let Some(byte) = bytes.get(at) else {
         return Err(BuildError::Damaged);

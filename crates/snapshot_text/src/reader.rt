@@ -1,11 +1,12 @@
 //! The world of a text.
-ghost use Rattle.std.specs.Prelude.{◌≡◌, ◌≤◌, ℕ, List, [], ◌++◌, true, length, drop, IfOk, IfErr, MatchResult};
+ghost use Rattle.std.specs.Prelude.{◌≡◌, ◌≤◌, ℕ, List, [], ◌++◌, true, length, drop, IfOk, IfErr};
 ghost use Rattle.readtable_core.specs.Tables.{standard};
 ghost use Rattle.plist_state.specs.State.{WorldState, initial};
 ghost use Rattle.snapshot_text.specs.Built.{with_packages_of, with_properties_of};
 ghost use Rattle.plist_state.specs.Sound.{IsSound as IsSoundState};
 ghost use Rattle.snapshot_text.specs.Covered.{are_covered, IsRefused};
 ghost use Rattle.world_text.specs.Snapshot.{packages_object, tables_object, line, snapshot};
+ghost use Rattle.snapshot_text.specs.Answers.{Makes, OrNoMemory};
 
 use crate::error::BuildError;
 use crate::lines::next_object;
@@ -35,7 +36,7 @@ fn read_packages<R: MacroFunctions>(
     requires table { table.now ≡ standard }
     ensures { (s : WorldState) (rest : List ℕ) → IsSoundState s → length bytes.now ≤ 4294967295
         → drop at bytes.now ≡ line s.packages (packages_object s.packages) ++ rest → world.old.0 ≡ initial
-        → MatchResult result (λ next. (world.new.0 ≡ with_packages_of s) × (drop next bytes.now ≡ rest)) (λ e. e ≡ BuildError.OutOfMemory) }
+        → Makes result (λ next. (world.new.0 ≡ with_packages_of s) × (drop next bytes.now ≡ rest)) }
 {
     world.soundness();
     let (packages, next) = next_object(alloc, world, table, macros, bytes, at)?;
@@ -56,7 +57,7 @@ fn read_tables<R: MacroFunctions>(
     requires table { table.now ≡ standard }
     ensures { (s : WorldState) (rest : List ℕ) → IsSoundState s → length bytes.now ≤ 4294967295
         → drop at bytes.now ≡ line s.packages (tables_object s) ++ rest → world.old.0 ≡ with_properties_of s
-        → MatchResult result (λ _. world.new.0 ≡ s) (λ e. e ≡ BuildError.OutOfMemory) }
+        → OrNoMemory (world.new.0 ≡ s) result }
 {
     let (tables, _) = next_object(alloc, world, table, macros, bytes, at)?;
     put_tables(world, &tables)?;
@@ -67,7 +68,7 @@ fn read_tables<R: MacroFunctions>(
 fn built<R: MacroFunctions>(alloc: Global, bytes: &[u8], macros: &R) -> Result<World, BuildError>
     requires { R.answers macros.now }
     ensures { (s : WorldState) → IsSoundState s → length bytes.now ≤ 4294967295 → snapshot s ≡ bytes.now
-        → MatchResult result (λ world. world.0 ≡ s) (λ e. e ≡ BuildError.OutOfMemory) }
+        → Makes result (λ world. world.0 ≡ s) }
 {
     let standard = Readtable::standard(alloc)?;
     let mut world = World::new(alloc)?;
