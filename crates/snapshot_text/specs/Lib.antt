@@ -7,3 +7,4 @@ pub mod Part
 pub mod Phases
 pub mod Refused
 pub mod Rows
+pub mod Texts

@@ -29,7 +29,8 @@ fn first_object<R: MacroFunctions>(
     requires answers { R.answers macros.now }
     requires table { table.now ≡ standard }
     ensures { (x : Object) (end next : ℕ)
-        → reads (setting_of snapshot_limits standard world.now.0.packages common_lisp_user (R.functions macros.now)) bytes.now ≡ form x 0 end next
+        → reads (setting_of snapshot_limits standard world.now.0.packages common_lisp_user
+        (R.functions macros.now)) bytes.now ≡ form x 0 end next
         → IsFirst x end result }
 {
     let packages = world.packages();
@@ -61,8 +62,10 @@ pub(crate) fn object_at<R: MacroFunctions>(
 ) -> Result<(Datum, usize), BuildError>
     requires answers { R.answers macros.now }
     requires table { table.now ≡ standard }
-    ensures read { (x : Object) (text rest : List ℕ) (next : ℕ) → length bytes.now ≤ 4294967295 → drop at bytes.now ≡ text ++ rest → 0 < length rest
-        → reads (setting_of snapshot_limits standard world.now.0.packages common_lisp_user (R.functions macros.now)) (text ++ rest) ≡ form x 0 (length text) next
+    ensures read { (x : Object) (text rest : List ℕ) (next : ℕ) → length bytes.now ≤ 4294967295
+        → drop at bytes.now ≡ text ++ rest → 0 < length rest
+        → reads (setting_of snapshot_limits standard world.now.0.packages common_lisp_user
+        (R.functions macros.now)) (text ++ rest) ≡ form x 0 (length text) next
         → IsNext x bytes.now rest result }
     ensures on { IfOk result (λ read. at ≤ read.1) }
 {
@@ -84,8 +87,10 @@ pub(crate) fn next_object<R: MacroFunctions>(
 ) -> Result<(Datum, usize), BuildError>
     requires answers { R.answers macros.now }
     requires table { table.now ≡ standard }
-    ensures { (packages : Table) (x : Object) (rest : List ℕ) → length bytes.now ≤ 4294967295 → drop at bytes.now ≡ line packages x ++ rest
-        → IsLineRead (setting_of snapshot_limits standard world.now.0.packages common_lisp_user (R.functions macros.now)) packages x rest
+    ensures { (packages : Table) (x : Object) (rest : List ℕ) → length bytes.now ≤ 4294967295
+        → drop at bytes.now ≡ line packages x ++ rest
+        → IsLineRead (setting_of snapshot_limits standard world.now.0.packages common_lisp_user
+        (R.functions macros.now)) packages x rest
         → IsNext x bytes.now rest result }
 {
     let (datum, end) = object_at(alloc, world, table, macros, bytes, at)?;

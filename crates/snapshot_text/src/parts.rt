@@ -12,7 +12,8 @@ use lisp_object::{Bytes, Datum};
 // The bytes of a text.
 pub(crate) fn text_in(datum: &Datum) -> Result<&Bytes, BuildError>
     ensures same { IfOk result (λ bytes. datum.now ≡ Datum.Text bytes.now) }
-    ensures read { is_proper datum.now ≡ true → (bytes : List ℕ) → object_of datum.now ≡ text bytes → Succeeds result (λ read. read.now ≡ bytes) }
+    ensures read { is_proper datum.now ≡ true → (bytes : List ℕ) → object_of datum.now ≡ text bytes
+        → Succeeds result (λ read. read.now ≡ bytes) }
 {
     match datum {
         Datum::Text(bytes) => Ok(bytes),
@@ -24,7 +25,8 @@ pub(crate) fn text_in(datum: &Datum) -> Result<&Bytes, BuildError>
 pub(crate) fn name_in(datum: &Datum) -> Result<&[u8], BuildError>
     ensures text { IfOk result (λ name. datum.now ≡ Datum.Text name.now) }
     ensures below { IfOk result (λ name. All (λ b. b < 128) name.now) }
-    ensures read { is_proper datum.now ≡ true → (bytes : List ℕ) → object_of datum.now ≡ text bytes → Succeeds result (λ name. name.now ≡ bytes) }
+    ensures read { is_proper datum.now ≡ true → (bytes : List ℕ) → object_of datum.now ≡ text bytes
+        → Succeeds result (λ name. name.now ≡ bytes) }
 {
     let bytes = text_in(datum)?;
     if !bytes.is_ascii() {
@@ -36,8 +38,10 @@ pub(crate) fn name_in(datum: &Datum) -> Result<&[u8], BuildError>
 // The items of a list that ends in NIL.
 pub(crate) fn items_in(datum: &Datum) -> Result<&[Datum], BuildError>
     ensures same { IfOk result (λ items. object_of datum.now ≡ list_of (map object_of items.now)) }
-    ensures read { is_proper datum.now ≡ true → (xs : List Object) → object_of datum.now ≡ list_of xs
-        → Succeeds result (λ items. (map object_of items.now ≡ xs) × (list_all is_proper items.now ≡ true)) }
+    ensures read { is_proper datum.now ≡ true → (xs : List Object)
+        → object_of datum.now ≡ list_of xs
+        → Succeeds result (λ items. (map object_of items.now ≡ xs)
+        × (list_all is_proper items.now ≡ true)) }
 {
     if datum.is_nil() {
         return Ok(&[]);
@@ -55,7 +59,8 @@ pub(crate) fn items_in(datum: &Datum) -> Result<&[Datum], BuildError>
 pub(crate) fn character_in(datum: &Datum) -> Result<u8, BuildError>
     ensures number { IfOk result (λ n. datum.now ≡ Datum.Integer (pos n)) }
     ensures below { IfOk result (λ n. n < 128) }
-    ensures read { is_proper datum.now ≡ true → (n : ℕ) → object_of datum.now ≡ number n → n < 128 → Succeeds result (λ read. read ≡ n) }
+    ensures read { is_proper datum.now ≡ true → (n : ℕ) → object_of datum.now ≡ number n → n < 128
+        → Succeeds result (λ read. read ≡ n) }
 {
     match datum {
         Datum::Integer(n) => match u8::try_from(*n) {

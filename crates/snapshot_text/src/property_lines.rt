@@ -29,9 +29,12 @@ fn read_row<R: MacroFunctions>(
 ) -> Result<usize, BuildError>
     requires answers { R.answers macros.now }
     requires table { table.now ≡ standard }
-    ensures row { (s : WorldState) (n : ℕ) (rest : List ℕ) → IsSoundState s → length bytes.now ≤ 4294967295 → n < length (symbols_with_properties s)
-        → IsUpTo s n world.old.0 → drop at bytes.now ≡ row_text s n ++ (text_after s (n + 1) ++ rest)
-        → Makes result (λ next. IsUpTo s (n + 1) world.new.0 × (drop next bytes.now ≡ text_after s (n + 1) ++ rest)) }
+    ensures row { (s : WorldState) (n : ℕ) (rest : List ℕ) → IsSoundState s
+        → length bytes.now ≤ 4294967295 → n < length (symbols_with_properties s)
+        → IsUpTo s n world.old.0
+        → drop at bytes.now ≡ row_text s n ++ (text_after s (n + 1) ++ rest)
+        → Makes result (λ next. IsUpTo s (n + 1) world.new.0
+        × (drop next bytes.now ≡ text_after s (n + 1) ++ rest)) }
     ensures on { IfOk result (λ next. at ≤ next) }
 {
     let (row, next) = object_at(alloc, world, table, macros, bytes, at)?;
@@ -50,9 +53,11 @@ fn read_rows<R: MacroFunctions>(
 ) -> Result<usize, BuildError>
     requires answers { R.answers macros.now }
     requires table { table.now ≡ standard }
-    ensures { (s : WorldState) (rest : List ℕ) → IsSoundState s → length bytes.now ≤ 4294967295 → 0 < length (symbols_with_properties s)
-        → world.old.0 ≡ with_packages_of s → drop at bytes.now ≡ row_text s 0 ++ (text_after s 1 ++ 10 ∷ rest)
-        → Makes result (λ next. (world.new.0 ≡ with_properties_of s) × (drop next bytes.now ≡ rest)) }
+    ensures { (s : WorldState) (rest : List ℕ) → IsSoundState s → length bytes.now ≤ 4294967295
+        → 0 < length (symbols_with_properties s) → world.old.0 ≡ with_packages_of s
+        → drop at bytes.now ≡ row_text s 0 ++ (text_after s 1 ++ 10 ∷ rest)
+        → Makes result (λ next. (world.new.0 ≡ with_properties_of s)
+        × (drop next bytes.now ≡ rest)) }
 {
     let mut next_row = at;
     'rows: loop {
@@ -80,8 +85,10 @@ pub(crate) fn read_properties<R: MacroFunctions>(
     requires answers { R.answers macros.now }
     requires table { table.now ≡ standard }
     ensures { (s : WorldState) (rest : List ℕ) → IsSoundState s → length bytes.now ≤ 4294967295
-        → drop at bytes.now ≡ line s.packages (properties_object s) ++ rest → world.old.0 ≡ with_packages_of s
-        → Makes result (λ next. (world.new.0 ≡ with_properties_of s) × (drop next bytes.now ≡ rest)) }
+        → drop at bytes.now ≡ line s.packages (properties_object s) ++ rest
+        → world.old.0 ≡ with_packages_of s
+        → Makes result (λ next. (world.new.0 ≡ with_properties_of s)
+        × (drop next bytes.now ≡ rest)) }
 {
     let Some(byte) = bytes.get(at) else {
         return Err(BuildError::Damaged);

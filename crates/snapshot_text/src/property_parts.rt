@@ -20,8 +20,8 @@ use std::alloc::Global;
 
 // An interned symbol.
 fn symbol_in(alloc: Global, datum: &Datum) -> Result<Symbol, BuildError>
-    ensures { is_proper datum.now ≡ true → (x : properties.Symbol) → object_of datum.now ≡ symbol_object x
-        → Makes result (λ symbol. symbol_of symbol ≡ x) }
+    ensures { is_proper datum.now ≡ true → (x : properties.Symbol)
+        → object_of datum.now ≡ symbol_object x → Makes result (λ symbol. symbol_of symbol ≡ x) }
 {
     match datum {
         Datum::Symbol { package, name } => {
@@ -39,10 +39,12 @@ fn put_one(
     indicator: &Datum,
     value: &Datum,
 ) -> Result<(), BuildError>
-    ensures { is_proper indicator.now ≡ true → is_proper value.now ≡ true
-        → (i : properties.Symbol) → object_of indicator.now ≡ symbol_object i
-        → IsSymbol world.old.0.packages (symbol_of symbol.now) → IsSymbol world.old.0.packages i → IsValue world.old.0.packages (object_of value.now)
-        → OrNoMemory (world.new.0 ≡ with_property world.old.0 (symbol_of symbol.now) i (object_of value.now)) result }
+    ensures { is_proper indicator.now ≡ true → is_proper value.now ≡ true → (i : properties.Symbol)
+        → object_of indicator.now ≡ symbol_object i
+        → IsSymbol world.old.0.packages (symbol_of symbol.now) → IsSymbol world.old.0.packages i
+        → IsValue world.old.0.packages (object_of value.now)
+        → OrNoMemory (world.new.0 ≡ with_property world.old.0 (symbol_of symbol.now) i
+        (object_of value.now)) result }
 {
     let indicator = symbol_in(alloc, indicator)?;
     let value = value.copy(alloc)?;
@@ -64,7 +66,8 @@ fn put_each(
     symbol: &Symbol,
     properties: &[Datum],
 ) -> Result<(), BuildError>
-    ensures { list_all is_proper properties.now ≡ true → (ps : Plist) → map object_of properties.now ≡ flat_map (λ p. symbol_object p.0 ∷ p.1 ∷ []) ps
+    ensures { list_all is_proper properties.now ≡ true → (ps : Plist)
+        → map object_of properties.now ≡ flat_map (λ p. symbol_object p.0 ∷ p.1 ∷ []) ps
         → IsSymbol world.old.0.packages (symbol_of symbol.now) → IsPlist world.old.0.packages ps
         → OrNoMemory (world.new.0 ≡ with_each world.old.0 (symbol_of symbol.now) ps) result }
 {
@@ -81,9 +84,11 @@ fn put_each(
 
 /// Sets the properties of a symbol that has none: its row is the symbol, and its indicators and values in turn.
 pub(crate) fn put_row(alloc: Global, world: &mut World, row: &Datum) -> Result<(), BuildError>
-    ensures { is_proper row.now ≡ true → (x : properties.Symbol) (ps : Plist) → object_of row.now ≡ plist_object x ps
-        → IsSymbol world.old.0.packages x → IsPlist world.old.0.packages ps → plist world.old.0 x ≡ []
-        → OrNoMemory (world.new.0 ≡ with_properties world.old.0 (with_list world.old.0.properties x ps)) result }
+    ensures { is_proper row.now ≡ true → (x : properties.Symbol) (ps : Plist)
+        → object_of row.now ≡ plist_object x ps → IsSymbol world.old.0.packages x
+        → IsPlist world.old.0.packages ps → plist world.old.0 x ≡ []
+        → OrNoMemory (world.new.0 ≡ with_properties world.old.0
+        (with_list world.old.0.properties x ps)) result }
 {
     let [symbol, properties @ ..] = items_in(row)? else {
         return Err(BuildError::Damaged);

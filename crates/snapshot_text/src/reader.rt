@@ -35,7 +35,8 @@ fn read_packages<R: MacroFunctions>(
     requires answers { R.answers macros.now }
     requires table { table.now ≡ standard }
     ensures { (s : WorldState) (rest : List ℕ) → IsSoundState s → length bytes.now ≤ 4294967295
-        → drop at bytes.now ≡ line s.packages (packages_object s.packages) ++ rest → world.old.0 ≡ initial
+        → drop at bytes.now ≡ line s.packages (packages_object s.packages) ++ rest
+        → world.old.0 ≡ initial
         → Makes result (λ next. (world.new.0 ≡ with_packages_of s) × (drop next bytes.now ≡ rest)) }
 {
     world.soundness();
@@ -56,8 +57,8 @@ fn read_tables<R: MacroFunctions>(
     requires answers { R.answers macros.now }
     requires table { table.now ≡ standard }
     ensures { (s : WorldState) (rest : List ℕ) → IsSoundState s → length bytes.now ≤ 4294967295
-        → drop at bytes.now ≡ line s.packages (tables_object s) ++ rest → world.old.0 ≡ with_properties_of s
-        → OrNoMemory (world.new.0 ≡ s) result }
+        → drop at bytes.now ≡ line s.packages (tables_object s) ++ rest
+        → world.old.0 ≡ with_properties_of s → OrNoMemory (world.new.0 ≡ s) result }
 {
     let (tables, _) = next_object(alloc, world, table, macros, bytes, at)?;
     put_tables(world, &tables)?;
@@ -67,8 +68,8 @@ fn read_tables<R: MacroFunctions>(
 // A world made from the three lines of a text. From the text of a sound state the state is made.
 fn built<R: MacroFunctions>(alloc: Global, bytes: &[u8], macros: &R) -> Result<World, BuildError>
     requires { R.answers macros.now }
-    ensures { (s : WorldState) → IsSoundState s → length bytes.now ≤ 4294967295 → snapshot s ≡ bytes.now
-        → Makes result (λ world. world.0 ≡ s) }
+    ensures { (s : WorldState) → IsSoundState s → length bytes.now ≤ 4294967295
+        → snapshot s ≡ bytes.now → Makes result (λ world. world.0 ≡ s) }
 {
     let standard = Readtable::standard(alloc)?;
     let mut world = World::new(alloc)?;
@@ -84,7 +85,8 @@ fn is_covered<R: MacroFunctions>(
     world: &World,
     macros: &R,
 ) -> Result<bool, AllocError>
-    ensures { IfOk result (λ covered. covered ≡ are_covered (R.functions macros.now).names world.now.0) }
+    ensures { IfOk result (λ covered. covered
+        ≡ are_covered (R.functions macros.now).names world.now.0) }
 {
     let first = Readtable::standard(alloc)?;
     let names = world.readtable_names(alloc)?;
@@ -110,9 +112,11 @@ pub fn read<R: MacroFunctions>(
 ) -> Result<World, SnapshotError>
     requires { R.answers macros.now }
     ensures text { IfOk result (λ world. snapshot world.0 ≡ bytes.now) }
-    ensures only { IfOk result (λ world. (s : WorldState) → IsSoundState s → snapshot s ≡ bytes.now → s ≡ world.0) }
+    ensures only { IfOk result (λ world. (s : WorldState) → IsSoundState s → snapshot s ≡ bytes.now
+        → s ≡ world.0) }
     ensures size { IfOk result (λ world. length bytes.now ≤ 4294967295) }
-    ensures covered { IfOk result (λ world. are_covered (R.functions macros.now).names world.0 ≡ true) }
+    ensures covered { IfOk result (λ world. are_covered (R.functions macros.now).names world.0
+        ≡ true) }
     ensures unmarked { IfOk result (λ world. world.1 ≡ []) }
     ensures refused { IfErr result (IsRefused (R.functions macros.now).names bytes.now) }
 {
