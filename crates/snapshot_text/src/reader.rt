@@ -12,6 +12,7 @@ use crate::error::BuildError;
 use crate::lines::next_object;
 use crate::package_parts::make_packages;
 use crate::property_lines::read_properties;
+use crate::source::Source;
 use crate::table_parts::put_tables;
 use crate::table_rows::table_named;
 use crate::{SnapshotError, write};
@@ -25,42 +26,39 @@ const MOST_BYTES: usize = 4_294_967_295;
 
 // Makes the packages of the line that begins at `at`, in a new world. Gives where the next line begins.
 fn read_packages<R: MacroFunctions>(
-    alloc: Global,
+    source: &Source<'_, R>,
     world: &mut World,
-    table: &Readtable,
-    macros: &R,
-    bytes: &[u8],
     at: usize,
 ) -> Result<usize, BuildError>
-    requires answers { R.answers macros.now }
-    requires table { table.now ≡ standard }
-    ensures { (s : WorldState) (rest : List ℕ) → IsSoundState s → length bytes.now ≤ 4294967295
-        → drop at bytes.now ≡ line s.packages (packages_object s.packages) ++ rest
+    requires answers { R.answers source.now.macros.now }
+    requires table { source.now.table.now ≡ standard }
+    ensures { (s : WorldState) (rest : List ℕ) → IsSoundState s
+        → length source.now.bytes.now ≤ 4294967295
+        → drop at source.now.bytes.now ≡ line s.packages (packages_object s.packages) ++ rest
         → world.old.0 ≡ initial
-        → Makes result (λ next. (world.new.0 ≡ with_packages_of s) × (drop next bytes.now ≡ rest)) }
+        → Makes result (λ next. (world.new.0 ≡ with_packages_of s)
+        × (drop next source.now.bytes.now ≡ rest)) }
 {
     world.soundness();
-    let (packages, next) = next_object(alloc, world, table, macros, bytes, at)?;
-    make_packages(alloc, world, &packages)?;
+    let (packages, next) = next_object(source, world, at)?;
+    make_packages(source.alloc, world, &packages)?;
     Ok(next)
 }
 
 // Makes the readtables of the line that begins at `at`, in a world that has the packages and the properties.
 fn read_tables<R: MacroFunctions>(
-    alloc: Global,
+    source: &Source<'_, R>,
     world: &mut World,
-    table: &Readtable,
-    macros: &R,
-    bytes: &[u8],
     at: usize,
 ) -> Result<(), BuildError>
-    requires answers { R.answers macros.now }
-    requires table { table.now ≡ standard }
-    ensures { (s : WorldState) (rest : List ℕ) → IsSoundState s → length bytes.now ≤ 4294967295
-        → drop at bytes.now ≡ line s.packages (tables_object s) ++ rest
+    requires answers { R.answers source.now.macros.now }
+    requires table { source.now.table.now ≡ standard }
+    ensures { (s : WorldState) (rest : List ℕ) → IsSoundState s
+        → length source.now.bytes.now ≤ 4294967295
+        → drop at source.now.bytes.now ≡ line s.packages (tables_object s) ++ rest
         → world.old.0 ≡ with_properties_of s → OrNoMemory (world.new.0 ≡ s) result }
 {
-    let (tables, _) = next_object(alloc, world, table, macros, bytes, at)?;
+    let (tables, _) = next_object(source, world, at)?;
     put_tables(world, &tables)?;
     Ok(())
 }
@@ -72,10 +70,16 @@ fn built<R: MacroFunctions>(alloc: Global, bytes: &[u8], macros: &R) -> Result<W
         → snapshot s ≡ bytes.now → Makes result (λ world. world.0 ≡ s) }
 {
     let standard = Readtable::standard(alloc)?;
+    let source = Source {
+        alloc,
+        table: &standard,
+        macros,
+        bytes,
+    };
     let mut world = World::new(alloc)?;
-    let at = read_packages(alloc, &mut world, &standard, macros, bytes, 0)?;
-    let at = read_properties(alloc, &mut world, &standard, macros, bytes, at)?;
-    read_tables(alloc, &mut world, &standard, macros, bytes, at)?;
+    let at = read_packages(&source, &mut world, 0)?;
+    let at = read_properties(&source, &mut world, at)?;
+    read_tables(&source, &mut world, at)?;
     Ok(world)
 }
 
