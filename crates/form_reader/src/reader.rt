@@ -148,14 +148,9 @@ impl FormReader {
             current,
             macros,
         };
+        let at = self.at;
         match &mut self.state {
-            ReaderState::Open(position) => match in_place(
-                &with,
-                &self.frames,
-                position,
-                self.at,
-                byte,
-            ) {
+            ReaderState::Open(position) => match in_place(&with, &self.frames, position, at, byte) {
                 Ok(InPlace::GoesOn) => {
                     self.at += 1;
                     Ok(Advance::More)

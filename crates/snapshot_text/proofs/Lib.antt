@@ -1,6 +1,3 @@
-pub mod Ranges
-pub mod RowsWritten
-pub mod ThreeLines
 pub mod ReadParts
 pub mod PartFinds
 pub mod PartOrder

@@ -20,7 +20,8 @@ use Rattle.plist_state.specs.Readers.{symbols_with_properties}
 use Rattle.plist_state.specs.Sound.{IsSound}
 use Rattle.snapshot_text.specs.Built.{with_properties_of}
 use Rattle.world_text.specs.Lines.{snapshot_limits}
-use Rattle.snapshot_text.specs.Rows.{symbol_at, row_of, row_text, text_after, IsUpTo}
+use Rattle.world_text.specs.Texts.{row_of}
+use Rattle.snapshot_text.specs.Rows.{symbol_at, row_text, text_after, IsUpTo}
 use Rattle.world_text.specs.Snapshot.{line, properties_object}
 use Rattle.world_text.specs.Tokens.{ends_with_token}
 use Rattle.world_text.proofs.Spelling.{met_text}

@@ -7,4 +7,3 @@ pub mod Part
 pub mod Phases
 pub mod Refused
 pub mod Rows
-pub mod Texts

@@ -3,24 +3,19 @@ use Rattle.std.specs.Prelude.{ℕ, ◌≡◌, cond, List, [], map, take, drop, s
 use Rattle.std.specs.List.{list_any}
 use Rattle.std.specs.Ordering.{eq_by_cmp}
 use Rattle.std.specs.FinMap as finite
-use Rattle.lisp_object.specs.Object.{Object, list_of}
+use Rattle.lisp_object.specs.Object.{list_of}
 use Rattle.package_table.specs.Table.{common_lisp_user}
 use Rattle.canon_printer.specs.Written.{written_rest}
 use Rattle.canon_printer.specs.Printed.{printed, printed_prefix}
 use Rattle.plist_state.specs.Properties.{Symbol, symbol_cmp}
 use Rattle.plist_state.specs.State.{WorldState}
-use Rattle.plist_state.specs.Changes.{plist}
 use Rattle.plist_state.specs.Readers.{symbols_with_properties}
-use Rattle.world_text.specs.Snapshot.{plist_object}
+use Rattle.world_text.specs.Texts.{row_of}
 use Rattle.snapshot_text.specs.Built.{with_properties, with_packages_of}
 
 -- the symbol of the row at an index
 abbrev pub symbol_at : WorldState → ℕ → Symbol
 symbol_at s n = slice_index_or (symbols_with_properties s) n ([], [])
-
--- the row of a symbol
-abbrev pub row_of : WorldState → Symbol → Object
-row_of s x = plist_object x (plist s x)
 
 -- the text of the row at an index
 abbrev pub row_text : WorldState → ℕ → List ℕ

@@ -8,18 +8,18 @@ ghost use Rattle.snapshot_text.specs.Covered.{are_covered, IsRefused};
 ghost use Rattle.world_text.specs.Snapshot.{packages_object, tables_object, line, snapshot};
 ghost use Rattle.snapshot_text.specs.Answers.{Makes, OrNoMemory};
 
+use crate::SnapshotError;
 use crate::error::BuildError;
 use crate::lines::next_object;
 use crate::package_parts::make_packages;
 use crate::property_lines::read_properties;
 use crate::source::Source;
 use crate::table_parts::put_tables;
-use crate::table_rows::table_named;
-use crate::{SnapshotError, write};
 use plist_state::World;
 use readtable_core::Readtable;
 use std::alloc::{AllocError, Global};
 use user_macros::MacroFunctions;
+use world_text::{table_named, write};
 
 // The most bytes in the text of a snapshot.
 const MOST_BYTES: usize = 4_294_967_295;

@@ -22,3 +22,6 @@ pub mod OneLine
 pub mod SameText
 pub mod WithinLimits
 pub mod LinesRead
+pub mod Ranges
+pub mod RowsWritten
+pub mod ThreeLines

@@ -1,3 +1,4 @@
 pub mod Snapshot
 pub mod Tokens
 pub mod Lines
+pub mod Texts

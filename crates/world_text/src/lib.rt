@@ -1,12 +1,24 @@
-//! The text of a world, and what reads it back.
+//! The text of a world: what it is, how it is written, and that it is read back.
 //!
 //! The text is three printed objects: the packages, the property lists and the readtables (`snapshot` of
-//! specs/Snapshot.antt). The law `one_text_one_state` says that it is the text of one sound state, and
-//! `snapshot_lines_are_read` that each of its lines is read. `printed_objects_read_back` is the law of any object: its printed
-//! text is read, under the standard readtable and in the same packages, as the same object. What it asks of the tokens in the
-//! text, specs/Tokens.antt says. This crate is definitions and laws alone; snapshot_text writes and reads the text.
+//! specs/Snapshot.antt), and `write` gives exactly this text. The law `one_text_one_state` says that it is the text of one sound
+//! state, and `snapshot_lines_are_read` that each of its lines is read. `printed_objects_read_back` is the law of any object: its
+//! printed text is read, under the standard readtable and in the same packages, as the same object. What it asks of the tokens in
+//! the text, specs/Tokens.antt says. snapshot_text reads the text.
+//!
+//! - `writer`: `write`; `package_rows`, `property_rows`: packages and property lists as text, `table_rows`: readtables as data;
+//!   `texts`: lists of texts; `printing`: data printed at the end of a text
+//! - `laws`: `printed_objects_read_back`, `one_text_one_state`, `snapshot_lines_are_read`
 #![tactic(auto)]
 
 mod laws;
+mod package_rows;
+mod printing;
+mod property_rows;
+mod table_rows;
+mod texts;
+mod writer;
 
 pub use laws::{one_text_one_state, printed_objects_read_back, snapshot_lines_are_read};
+pub use table_rows::table_named;
+pub use writer::write;

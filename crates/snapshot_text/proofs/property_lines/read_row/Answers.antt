@@ -1,6 +1,7 @@
 use Rattle.std.proofs.Common.{◌+◌, ◌++◌}
 use Rattle.plist_state.specs.Changes.{plist}
-use Rattle.snapshot_text.specs.Rows.{symbol_at, row_of, row_text, text_after}
+use Rattle.world_text.specs.Texts.{row_of}
+use Rattle.snapshot_text.specs.Rows.{symbol_at, row_text, text_after}
 use Rattle.snapshot_text.proofs.Gave.{refused_same}
 use Rattle.snapshot_text.proofs.NextLine.{text_fits}
 use Rattle.snapshot_text.proofs.PropertyLines.{more_after, row_read}

@@ -1,0 +1,248 @@
+//! The packages of a snapshot, as text.
+ghost use Rattle.std.specs.Prelude.{◌≡◌, [], ◌∷◌, ◌++◌, true, not, map, filter, bytes_eq, IfOk, OnOk};
+ghost use Rattle.std.specs.List.{list_all, flat_map};
+ghost use Rattle.lisp_object.specs.Object.{list_of};
+ghost use Rattle.lisp_object.specs.Datum.{object_of, is_proper};
+ghost use Rattle.lisp_object.specs.Ascii.{is_ascii};
+ghost use Rattle.package_table.specs.Table.{IsPackage, common_lisp, initial as initial_packages};
+ghost use Rattle.package_table.specs.Lookup.{is_present};
+ghost use Rattle.world_text.specs.Snapshot.{made_names, texts, imported_name, shown_names, package_object, packages_object};
+ghost use Rattle.package_table.specs.Readers.{used_names, own_names, imports};
+ghost use Rattle.world_text.specs.Texts.{later_text, object_text};
+
+use crate::printing::push_printed;
+use crate::texts::{imports_of, push_text, push_texts, texts_of};
+use lisp_object::{Bytes, Datum};
+use package_table::standardized::{COMMON_LISP, KEYWORD};
+use package_table::{PackageError, Packages};
+use std::alloc::{AllocError, Global};
+
+// A list that is refused only where memory runs out.
+fn listed<T>(list: Result<T, PackageError>) -> Result<T, AllocError>
+    ensures { IfOk result (λ x. list ≡ Ok x) }
+{
+    match list {
+        Ok(list) => Ok(list),
+        Err(_) => Err(AllocError),
+    }
+}
+
+// The names at home in a package.
+fn own<'a>(alloc: Global, packages: &'a Packages, owner: &[u8]) -> Result<Vec<&'a [u8]>, AllocError>
+    ensures { IfOk result (λ names. map (λ n. n.now) names.items
+        ≡ own_names packages.now.0 owner.now) }
+{
+    listed(packages.own_names(alloc, owner))
+}
+
+// The names that are not at home in the package from the first.
+fn made<'a>(
+    alloc: Global,
+    names: &[&'a [u8]],
+    first: &Packages,
+    owner: &[u8],
+) -> Result<Vec<&'a [u8]>, AllocError>
+    ensures { IfOk result (λ made. map (λ n. n.now) made.items
+        ≡ filter (λ n. not (is_present first.now.0 owner.now n)) (map (λ n. n.now) names.now)) }
+{
+    let mut made = Vec::with_capacity(alloc, names.len())?;
+    for name in names {
+        if !first.is_present(owner, name) {
+            made.push(*name)?;
+        }
+    }
+    Ok(made)
+}
+
+// The names but COMMON-LISP.
+fn but_common_lisp<'a>(alloc: Global, names: &'a [Bytes]) -> Result<Vec<&'a Bytes>, AllocError>
+    ensures { IfOk result (λ others. map (λ n. n.now) others.items
+        ≡ filter (λ n. not (bytes_eq n common_lisp)) names.now) }
+{
+    let mut others = Vec::new(alloc);
+    for name in names {
+        if name.as_slice() != COMMON_LISP {
+            others.push(name)?;
+        }
+    }
+    Ok(others)
+}
+
+// The names external in a package, but for KEYWORD.
+fn shown<'a>(
+    alloc: Global,
+    packages: &'a Packages,
+    owner: &[u8],
+) -> Result<Vec<&'a [u8]>, AllocError>
+    ensures { IfOk result (λ names. map (λ n. n.now) names.items
+        ≡ shown_names packages.now.0 owner.now) }
+{
+    if owner == KEYWORD {
+        Ok(Vec::new(alloc))
+    } else {
+        listed(packages.external_names(alloc, owner))
+    }
+}
+
+// The packages that a package uses.
+#[tactic(auto, using(crate::proofs::Ascii::used_names_ascii))]
+fn used_of(alloc: Global, packages: &Packages, owner: &[u8]) -> Result<Datum, AllocError>
+    ensures object { IfOk result (λ d. object_of d ≡ texts (used_names packages.now.0 owner.now)) }
+    ensures proper { IfOk result (λ d. is_proper d ≡ true) }
+    ensures there { IfOk result (λ _. IsPackage packages.now.0 owner.now) }
+{
+    packages.soundness();
+    let names = listed(packages.uses(alloc, owner))?;
+    texts_of(alloc, names.as_slice())
+}
+
+// Adds the names made at home in a package, after a space.
+fn push_own(
+    alloc: Global,
+    text: &mut Vec<u8>,
+    packages: &Packages,
+    first: &Packages,
+    owner: &[u8],
+) -> Result<(), AllocError>
+    requires { first.now.0 ≡ initial_packages }
+    ensures { OnOk result (text.new.items
+        ≡ text.old.items ++ later_text packages.now.0
+        (texts (made_names packages.now.0 owner.now))) }
+{
+    packages.soundness();
+    let names = own(alloc, packages, owner)?;
+    let made = made(alloc, names.as_slice(), first, owner)?;
+    push_texts(alloc, text, packages, made.as_slice())?;
+    Ok(())
+}
+
+// Adds the names external in a package, after a space.
+fn push_shown(
+    alloc: Global,
+    text: &mut Vec<u8>,
+    packages: &Packages,
+    owner: &[u8],
+) -> Result<(), AllocError>
+    ensures { OnOk result (text.new.items
+        ≡ text.old.items ++ later_text packages.now.0
+        (texts (shown_names packages.now.0 owner.now))) }
+{
+    packages.soundness();
+    let names = shown(alloc, packages, owner)?;
+    push_texts(alloc, text, packages, names.as_slice())?;
+    Ok(())
+}
+
+// The names that are present in a package from other homes.
+fn imported_of(alloc: Global, packages: &Packages, owner: &[u8]) -> Result<Datum, AllocError>
+    ensures object { IfOk result (λ d. object_of d
+        ≡ list_of (map imported_name (imports packages.now.0 owner.now))) }
+    ensures proper { IfOk result (λ d. is_proper d ≡ true) }
+{
+    packages.soundness();
+    let rows = listed(packages.imports(alloc, owner))?;
+    imports_of(alloc, rows.as_slice())
+}
+
+// Adds an object, after a space.
+fn push_after_space(
+    alloc: Global,
+    text: &mut Vec<u8>,
+    packages: &Packages,
+    datum: Datum,
+) -> Result<(), AllocError>
+    requires { is_proper datum ≡ true }
+    ensures { OnOk result (text.new.items
+        ≡ text.old.items ++ later_text packages.now.0 (object_of datum)) }
+{
+    text.push(b' ')?;
+    push_printed(alloc, text, datum, packages)
+}
+
+// Adds the lists of a package, each after a space: the packages that it uses, its own names, its external ones and its imports.
+fn push_lists(
+    alloc: Global,
+    text: &mut Vec<u8>,
+    packages: &Packages,
+    first: &Packages,
+    owner: &[u8],
+) -> Result<(), AllocError>
+    requires { first.now.0 ≡ initial_packages }
+    ensures { let t = packages.now.0 in let p = owner.now in OnOk result (text.new.items
+        ≡ text.old.items ++ flat_map (λ x. later_text t x) (texts (used_names t p)
+        ∷ texts (made_names t p) ∷ texts (shown_names t p)
+        ∷ list_of (map imported_name (imports t p)) ∷ [])) }
+{
+    let used = used_of(alloc, packages, owner)?;
+    push_after_space(alloc, text, packages, used)?;
+    push_own(alloc, text, packages, first, owner)?;
+    push_shown(alloc, text, packages, owner)?;
+    let imported = imported_of(alloc, packages, owner)?;
+    push_after_space(alloc, text, packages, imported)?;
+    Ok(())
+}
+
+// Adds a package: its name and its lists.
+fn push_package(
+    alloc: Global,
+    text: &mut Vec<u8>,
+    packages: &Packages,
+    first: &Packages,
+    owner: &Bytes,
+) -> Result<(), AllocError>
+    requires first { first.now.0 ≡ initial_packages }
+    requires name { list_all is_ascii owner.now ≡ true }
+    ensures { OnOk result (text.new.items
+        ≡ text.old.items ++ object_text packages.now.0
+        (package_object packages.now.0 owner.now)) }
+{
+    text.push(b'(')?;
+    push_text(alloc, text, packages, owner.as_slice())?;
+    push_lists(alloc, text, packages, first, owner.as_slice())?;
+    text.push(b')')?;
+    Ok(())
+}
+
+// Adds the packages of these names, each after a space.
+fn push_later(
+    alloc: Global,
+    text: &mut Vec<u8>,
+    packages: &Packages,
+    first: &Packages,
+    names: &[&Bytes],
+) -> Result<(), AllocError>
+    requires first { first.now.0 ≡ initial_packages }
+    requires names { list_all (λ n. list_all is_ascii n.now) names.now ≡ true }
+    ensures { OnOk result (text.new.items
+        ≡ text.old.items ++ flat_map (λ n. later_text packages.now.0
+        (package_object packages.now.0 n.now)) names.now) }
+{
+    for name in names {
+        text.push(b' ')?;
+        push_package(alloc, text, packages, first, name)?;
+    }
+    Ok(())
+}
+
+/// Adds the printed list of all packages but COMMON-LISP. One list of names is in memory at a time.
+pub(crate) fn push_packages(
+    alloc: Global,
+    text: &mut Vec<u8>,
+    packages: &Packages,
+) -> Result<(), AllocError>
+    ensures { OnOk result (text.new.items
+        ≡ text.old.items ++ object_text packages.now.0 (packages_object packages.now.0)) }
+{
+    packages.soundness();
+    let first = Packages::new(alloc)?;
+    let names = packages.names(alloc)?;
+    let others = but_common_lisp(alloc, names.as_slice())?;
+    let [one, later @ ..] = others.as_slice() else {
+        return push_printed(alloc, text, Datum::nil(alloc)?, packages);
+    };
+    text.push(b'(')?;
+    push_package(alloc, text, packages, &first, one)?;
+    push_later(alloc, text, packages, &first, later)?;
+    text.push(b')')?;
+    Ok(())
+}
