@@ -210,7 +210,10 @@ fn nothing_asked(command: &mut Command<'_>) -> Error
 }
 
 // What clap finds in the words.
-fn found_in<'a, S: AsStr>(program: &mut Command<'a>, words: &'a [S]) -> Result<ArgMatches<'a>, Error>
+fn found_in<'a, S: AsStr>(
+    program: &mut Command<'a>,
+    words: &'a [S],
+) -> Result<ArgMatches<'a>, Error>
     requires { app_of program.old ≡ command_line }
     ensures found { IfOk result (λ matches. subcommand_rows_of matches
         ≡ subcommand_of command_line (map S.text words.entry.now)) }
