@@ -5,8 +5,8 @@ use Rattle.std.specs.Char.{is_ascii_digit, is_ascii_uppercase}
 use Rattle.std.specs.Str.{byte}
 
 -- whether the character is one of these
-abbrev pub is_among : List ℕ → ℕ → Bool
-is_among characters c = list_any (λ d. d == c) characters
+abbrev pub is_one_of : List ℕ → ℕ → Bool
+is_one_of characters c = list_any (λ d. d == c) characters
 
 -- each character, with a backslash before those that pass the test (standard 2.1.4.6)
 abbrev pub escaped : (ℕ → Bool) → List ℕ → List ℕ
@@ -14,11 +14,11 @@ escaped test = flat_map (λ c. if test c then codes "\\" ++ c ∷ [] else c ∷ 
 
 -- what a plain name may begin with: a capital letter or one of these
 abbrev pub begins_plain : ℕ → Bool
-begins_plain c = is_ascii_uppercase c || is_among (codes "*!$<>=?%&_") c
+begins_plain c = is_ascii_uppercase c || is_one_of (codes "*!$<>=?%&_") c
 
 -- what may come after it
 abbrev pub goes_on_plain : ℕ → Bool
-goes_on_plain c = begins_plain c || is_ascii_digit c || is_among (codes "+-/") c
+goes_on_plain c = begins_plain c || is_ascii_digit c || is_one_of (codes "+-/") c
 
 -- a name that reads back as itself: it is no number, has no package marker, and no character in it changes
 abbrev pub is_plain : List ℕ → Bool

@@ -32,6 +32,7 @@ use Rattle.evaluator.specs.Operations.{action_of, is_ordinary, function_of}
 use Rattle.lisp_operators.specs.Evaluated.{Answers, done}
 use Rattle.evaluator.specs.Gathered.{all_done}
 use Rattle.evaluator.specs.Gathered.{arguments_of, parts, followed, subforms, gathered, refusal_of_place, is_case, IsHead, IsRefusal}
+use Rattle.evaluator.proofs.Places.{count_pairs}
 use Rattle.evaluator.proofs.Steps.{value_symbol, value_constant, value_uninterned, is_constant, followed_start}
 
 -- ---- atoms
@@ -57,10 +58,6 @@ head_at items (y ∷ ys) x same some is = ap (λ l. list_of (map object_of l)) (
 pub arguments_proper : (xs : List Datum) → is_proper_list (arguments_of (map object_of xs)) ≡ true
 arguments_proper [] = refl
 arguments_proper (x ∷ xs) = proper_pairs (map object_of xs)
-
-count_pairs : (xs : List Object) → count (pairs xs nil) ≡ length xs
-count_pairs [] = refl
-count_pairs (x ∷ xs) = let e : count (pairs xs nil) ≡ length xs = count_pairs xs in omega arith
 
 pub arguments_count : (xs : List Datum) → count (arguments_of (map object_of xs)) ≡ length xs - 1
 arguments_count [] = refl

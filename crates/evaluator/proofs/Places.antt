@@ -1,5 +1,6 @@
 -- Places, and lists by their items.
 --     standard_by_parts      a symbol of COMMON-LISP
+--     count_pairs      the number of the elements of a list
 --     proper_pair, some_items, first_proper      a list that ends in NIL, and its items
 --     dotted_place      a list that ends in another object is no place
 --     last_of      the last of the values of a sequence
@@ -33,7 +34,7 @@ standard_by_parts name (pair a b) = refl
 standard_by_parts name (vector xs) = refl
 
 -- ---- lists as pairs
-count_pairs : (xs : List Object) → count (pairs xs nil) ≡ length xs
+pub count_pairs : (xs : List Object) → count (pairs xs nil) ≡ length xs
 count_pairs [] = refl
 count_pairs (x ∷ xs) = let e : count (pairs xs nil) ≡ length xs = count_pairs xs in omega arith
 

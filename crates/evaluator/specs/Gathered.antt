@@ -9,14 +9,14 @@ use Rattle.lisp_object.specs.declared.refusal.TheConstants.{ARGUMENT_KIND}
 use Rattle.lisp_object.specs.Datum.{object_of}
 use Rattle.lisp_object.specs.declared.datum.Datum.{Datum}
 use Rattle.lisp_operators.specs.declared.evaluated.Evaluated.{Evaluated}
-use Rattle.lisp_operators.specs.Evaluated.{Answers, CarriesOut, done, objects}
+use Rattle.lisp_operators.specs.Evaluated.{Answers, done, objects}
 use Rattle.lisp_operators.specs.Evaluation.{Done}
 use Rattle.evaluator.specs.declared.values.Values.{Values}
 use Rattle.evaluator.specs.declared.operation.Operation.{Operation}
 use Rattle.evaluator.specs.declared.operation.Operation.TheVariants.{Setf, Incf, Push}
 use Rattle.lisp_operators.specs.Evaluation.{Evaluation, gives, also, and_then}
 use Rattle.evaluator.specs.Operators.{count, first}
-use Rattle.evaluator.specs.Operations.{action_of, function_of}
+use Rattle.evaluator.specs.Operations.{action_of}
 use Rattle.evaluator.specs.Value.{Parts, value, values, choice, values_at_place, values_before_place, action_value, place_refusal, get_place_refusal, is_case_place, rest}
 
 -- values that leave this state
@@ -45,16 +45,13 @@ parts names s arguments = record {
 abbrev pub operation_value : List Name → Operation → Object → WorldState → Evaluation Object
 operation_value names operation arguments s = action_value s (action_of names operation) arguments (parts names s arguments)
 
--- The value of a form is told, that of a form with this operator, and what an operator makes of values, each from the first of
--- two states to the second; and a value that leaves every state as it is.
+-- The value of a form is told, and that of a form with this operator, each from the first of two states to the second; and a
+-- value that leaves every state as it is.
 abbrev pub Evaluates : List Name → Object → WorldState → WorldState → Result Evaluated EvaluationError → Type 0
 Evaluates names x old new result = Answers done result new (value names old x)
 
 abbrev pub Operates : List Name → Operation → List Datum → WorldState → WorldState → Result Evaluated EvaluationError → Type 0
 Operates names operation items old new result = Answers done result new (operation_value names operation (arguments_in items) old)
-
-abbrev pub Performs : List Name → Operation → Bool → List Datum → WorldState → WorldState → Result Evaluated EvaluationError → Type 0
-Performs names operation is_case values old new result = CarriesOut (function_of names operation is_case) values old new result
 
 abbrev pub HasValue : Object → Result Evaluated EvaluationError → Type 0
 HasValue x result = (s : WorldState) → Answers done result s (gives x s)

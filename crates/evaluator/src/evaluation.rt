@@ -4,7 +4,7 @@ ghost use Rattle.lisp_object.specs.Object.{list_of};
 ghost use Rattle.lisp_object.specs.Datum.{object_of};
 ghost use Rattle.evaluator.specs.Value.{value, values_at_place, values_before_place, choice};
 ghost use Rattle.lisp_operators.specs.Readtables.{AreFunctionNames};
-ghost use Rattle.lisp_operators.specs.Evaluated.{IsArgument, Keeps, Answers, done, IsProperValue, AreArgumentsOf, objects};
+ghost use Rattle.lisp_operators.specs.Evaluated.{IsArgument, KeepsArguments, Answers, done, IsProperValue, AreArgumentsOf, objects};
 ghost use Rattle.evaluator.specs.Gathered.{all_done, arguments_in, Evaluates, Operates};
 ghost use Rattle.evaluator.specs.Operations.{IsCounted, is_ordinary};
 ghost use Rattle.evaluator.specs.Gathered.{followed, subforms, gathered};
@@ -22,7 +22,8 @@ use plist_state::World;
 use readtable_core::FnName;
 use std::alloc::Global;
 
-/// The value of a form. Where it is refused, or memory runs out, the world is as evaluation left it.
+/// The value of a form. Where it is refused, or memory runs out, what was carried out before stays, and the marks are as they
+/// were.
 #[cycle(evaluation)]
 pub fn evaluate(
     alloc: Global,
@@ -34,7 +35,7 @@ pub fn evaluate(
     requires form { IsArgument world.old.0.packages form.now }
     ensures gives { Evaluates names.now (object_of form.now) world.old.0 world.new.0 result }
     ensures value { IfOk result (λ e. IsArgument world.new.0.packages e.value) }
-    ensures kept { IfOk result (λ _. Keeps world.old.0.packages world.new.0.packages) }
+    ensures kept { IfOk result (λ _. KeepsArguments world.old.0.packages world.new.0.packages) }
     ensures marked { world.new.1 ≡ world.old.1 }
 {
     world.soundness();
@@ -86,7 +87,8 @@ fn list_form(
     requires some { 0 < length items.now }
     requires names { AreFunctionNames names.now }
     requires items { AreArgumentsOf world.old items.now }
-    ensures gives { Evaluates names.now (list_of (objects items.now)) world.old.0 world.new.0 result }
+    ensures gives { Evaluates names.now (list_of (objects items.now))
+        world.old.0 world.new.0 result }
     ensures proper { IfOk result IsProperValue }
     ensures marked { world.new.1 ≡ world.old.1 }
 {
@@ -239,7 +241,7 @@ fn subforms(
     ensures gives { Answers all_done result world.new.0
         (subforms names.now (objects values.values.items) values.wrote world.old.0 (object_of place.now)) }
     ensures values { IfOk result (λ v. AreArgumentsOf world.new v.values.items) }
-    ensures kept { IfOk result (λ _. Keeps world.old.0.packages world.new.0.packages) }
+    ensures kept { IfOk result (λ _. KeepsArguments world.old.0.packages world.new.0.packages) }
     ensures marked { world.new.1 ≡ world.old.1 }
 {
     match place {
@@ -271,7 +273,7 @@ fn extended(
     ensures gives { Answers all_done result world.new.0
         (followed names.now (objects values.values.items) values.wrote world.old.0 (list_of (objects (drop from forms.now)))) }
     ensures values { IfOk result (λ v. AreArgumentsOf world.new v.values.items) }
-    ensures kept { IfOk result (λ _. Keeps world.old.0.packages world.new.0.packages) }
+    ensures kept { IfOk result (λ _. KeepsArguments world.old.0.packages world.new.0.packages) }
     ensures marked { world.new.1 ≡ world.old.1 }
 {
     let mut values = values;

@@ -2,8 +2,8 @@
 //!
 //! `specs/` says what a form means: `value` gives what an object evaluates to in a state of the world, or the number of its
 //! refusal, and whether anything was written. `laws` proves what holds of every form. The function `evaluate` does with a
-//! `World` exactly what the definition says; where the form is refused, or memory runs out, it leaves the world as evaluation
-//! left it. The crate `form_eval` takes the world back then.
+//! `World` exactly what the definition says. Where the form is refused, or memory runs out, what was carried out before stays,
+//! and no clause says more of the world then but that its marks are as they were: the crate `form_eval` takes it back.
 //!
 //! - `evaluation`: the value of a form, by recursion on it
 //! - `operation`: what is at its head; `place`: the places of SETF, INCF and PUSH; `control`: the operators of control, and

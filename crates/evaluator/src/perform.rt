@@ -6,7 +6,6 @@ ghost use Rattle.lisp_operators.specs.Properties.{set};
 ghost use Rattle.lisp_operators.specs.Readtables.{set_case};
 ghost use Rattle.evaluator.specs.Operations.{function_of, set_either};
 ghost use Rattle.lisp_operators.specs.Evaluated.{Answers, done, IsProperValue, AreArgumentsOf, CarriesOut, objects};
-ghost use Rattle.evaluator.specs.Gathered.{Performs};
 
 use crate::control::{after, last};
 use crate::operation::Operation;
@@ -56,7 +55,8 @@ fn carry_out(
 ) -> Result<Evaluated, EvaluationError>
     requires names { AreFunctionNames names.now }
     requires values { AreArgumentsOf world.old values.items }
-    ensures gives { Performs names.now operation is_case values.items world.old.0 world.new.0 result }
+    ensures gives { CarriesOut (function_of names.now operation is_case) values.items
+        world.old.0 world.new.0 result }
     ensures proper { IfOk result IsProperValue }
     ensures marked { world.new.1 ≡ world.old.1 }
 {

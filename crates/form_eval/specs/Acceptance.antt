@@ -1,6 +1,5 @@
 -- A form as one transaction: its symbols are interned, and then it is evaluated.
-use Rattle.std.specs.Prelude.{Bool, false, List, [], ◌∷◌, ◌++◌, map, Result, Ok, Err}
-use Rattle.std.specs.Borrow.{Bor}
+use Rattle.std.specs.Prelude.{Bool, false, List, [], ◌∷◌, ◌++◌, Result, Ok, Err}
 use Rattle.lisp_object.specs.Object.{Object, symbol, pair, vector}
 use Rattle.package_table.specs.declared.error.PackageError.{PackageError}
 use Rattle.package_table.specs.Table.{Name, Table}
@@ -50,10 +49,3 @@ accept names s x = accepted names s (with_symbols s.packages (symbols x)) x
 -- a form as a transaction is answered what the definition says, from the first of two states to the second
 abbrev pub Transacts : List Name → Object → WorldState → WorldState → Result Evaluated EvaluationError → Type 0
 Transacts names x old new result = Answers done result new (accept names old x)
-
--- a symbol by its home and its name, and such symbols
-abbrev pub seen : Bor Name × Bor Name → Symbol
-seen p = (p.0.now, p.1.now)
-
-abbrev pub all_seen : List (Bor Name × Bor Name) → List Symbol
-all_seen ps = map seen ps

@@ -4,7 +4,8 @@ ghost use Rattle.std.specs.List.{flat_map};
 ghost use Rattle.std.specs.Option.{option_map_or};
 ghost use Rattle.lisp_object.specs.Object.{nil};
 ghost use Rattle.lisp_object.specs.Datum.{object_of};
-ghost use Rattle.form_eval.specs.Acceptance.{symbols, all_seen};
+ghost use Rattle.plist_state.specs.Readers.{borrowed_symbols};
+ghost use Rattle.form_eval.specs.Acceptance.{symbols};
 
 use lisp_object::{Boxed, Datum, Items};
 use package_table::standardized::COMMON_LISP;
@@ -16,7 +17,7 @@ pub(crate) fn symbols_of<'a>(
     alloc: Global,
     datum: &'a Datum,
 ) -> Result<Vec<(&'a [u8], &'a [u8])>, AllocError>
-    ensures { IfOk result (λ found. all_seen found.items ≡ symbols (object_of datum.now)) }
+    ensures { IfOk result (λ found. borrowed_symbols found.items ≡ symbols (object_of datum.now)) }
 {
     let mut found = Vec::new(alloc);
     add(&mut found, datum)?;
@@ -27,7 +28,8 @@ pub(crate) fn symbols_of<'a>(
 #[cycle(adding)]
 #[tactic(auto, using(crate::proofs::Collected::symbols_list, crate::proofs::Collected::symbols_vector))]
 fn add<'a>(found: &mut Vec<(&'a [u8], &'a [u8])>, datum: &'a Datum) -> Result<(), AllocError>
-    ensures { OnOk result (all_seen found.new.items ≡ all_seen found.old.items ++ symbols (object_of datum.now)) }
+    ensures { OnOk result (borrowed_symbols found.new.items
+        ≡ borrowed_symbols found.old.items ++ symbols (object_of datum.now)) }
 {
     match datum {
         Datum::Symbol { package, name } => {
@@ -56,8 +58,8 @@ fn add_all<'a>(
     found: &mut Vec<(&'a [u8], &'a [u8])>,
     items: &'a Items<Datum>,
 ) -> Result<(), AllocError>
-    ensures { OnOk result (all_seen found.new.items
-        ≡ all_seen found.old.items ++ flat_map (λ d. symbols (object_of d)) items.now) }
+    ensures { OnOk result (borrowed_symbols found.new.items
+        ≡ borrowed_symbols found.old.items ++ flat_map (λ d. symbols (object_of d)) items.now) }
 {
     let items = items.as_slice();
     for item in items {
@@ -72,8 +74,8 @@ fn add_end<'a>(
     found: &mut Vec<(&'a [u8], &'a [u8])>,
     tail: &'a Option<Boxed<Datum>>,
 ) -> Result<(), AllocError>
-    ensures { OnOk result (all_seen found.new.items
-        ≡ all_seen found.old.items ++ symbols (option_map_or object_of tail.now nil)) }
+    ensures { OnOk result (borrowed_symbols found.new.items
+        ≡ borrowed_symbols found.old.items ++ symbols (option_map_or object_of tail.now nil)) }
 {
     match tail {
         None => add_nil(found),
@@ -83,7 +85,8 @@ fn add_end<'a>(
 
 // These, and NIL.
 fn add_nil<'a>(found: &mut Vec<(&'a [u8], &'a [u8])>) -> Result<(), AllocError>
-    ensures { OnOk result (all_seen found.new.items ≡ all_seen found.old.items ++ symbols nil) }
+    ensures { OnOk result (borrowed_symbols found.new.items
+        ≡ borrowed_symbols found.old.items ++ symbols nil) }
 {
     found.push((COMMON_LISP, b"NIL"))?;
     Ok(())

@@ -12,14 +12,14 @@ use Rattle.token_scan.specs.Scans.{begun}
 use Rattle.lisp_reading.specs.declared.limits.Limits.{Limits}
 use Rattle.lisp_reading.specs.declared.found.Found.{Found}
 use Rattle.form_reader.specs.declared.frame.Frame.{Frame}
-use Rattle.form_reader.specs.declared.stage.Event.{Event}
+use Rattle.form_reader.specs.declared.position.Event.{Event}
 use Rattle.lisp_reading.specs.Plans.{Plan, refuses, takes, scans, then_plan, Read, fault, within, run}
 use Rattle.lisp_reading.specs.Setting.{Setting}
-use Rattle.lisp_reading.specs.Reading.{Piece, closed, at_place, or_closed, place_turn, stands_alone, alone, token_found, attempt_by, attempt}
+use Rattle.lisp_reading.specs.Reading.{Piece, closed, piece_of, or_closed, next_item_turn, stands_alone, alone, token_found, attempt_by, attempt}
 use Rattle.form_reader.specs.Feeding.{token_read}
-use Rattle.form_reader.specs.Frames.{close_of, close_of_frames, attempt_in, place_in, call_in, given, between, token_goes_on}
+use Rattle.form_reader.specs.Frames.{close_of, close_of_frames, attempt_in, next_item_in, call_in, given, between, token_goes_on}
 use Rattle.form_reader.specs.Resuming.{attempt_at, inner_at, Brings}
-use Rattle.lisp_reading.proofs.Turns.{loop_is, place_guarded}
+use Rattle.lisp_reading.proofs.Turns.{loop_is, next_item_guarded}
 use Rattle.form_reader.proofs.Opened.{then_moves, given_moves, given_fault, ends_in}
 use Rattle.form_reader.proofs.Beginnings.{token_begins, given_refused}
 
@@ -42,16 +42,16 @@ module _ {A : Type 0} (table : Table) (limits : Limits) (other : Plan A) (test :
 
 module _ (setting : Setting) (at c : ℕ) (cs : List ℕ) where
   abbrev placed : Frame → List Frame → Plan Piece
-  placed f fs = then_plan (attempt_in setting fs) (λ found. at_place setting.table (place_in setting f fs) found)
+  placed f fs = then_plan (attempt_in setting fs) (λ found. piece_of setting.table (next_item_in setting f fs) found)
 
   between_is : (f : Frame) (fs : List Frame) → at ≤ setting.limits.text
       → run setting.table setting.limits (between setting (f ∷ fs)) at (c ∷ cs)
       ≡ run setting.table setting.limits (given setting fs (then_plan (or_closed (close_of f.part) (placed f fs)) (λ p. call_in setting f fs p))) at (c ∷ cs)
   between_is f fs h =
-      given_moves setting fs _ _ at at (c ∷ cs) (c ∷ cs) (then_moves setting.table setting.limits (place_in setting f fs)
+      given_moves setting fs _ _ at at (c ∷ cs) (c ∷ cs) (then_moves setting.table setting.limits (next_item_in setting f fs)
       (or_closed (close_of f.part) (placed f fs)) (λ p. call_in setting f fs p) at at (c ∷ cs) (c ∷ cs)
-      (loop_is setting.table setting.limits (place_turn setting.table (close_of f.part) (attempt_in setting fs))
-      (place_guarded setting.table setting.limits (close_of f.part) (attempt_in setting fs) (ends_in setting fs)) tt at (c ∷ cs) h))
+      (loop_is setting.table setting.limits (next_item_turn setting.table (close_of f.part) (attempt_in setting fs))
+      (next_item_guarded setting.table setting.limits (close_of f.part) (attempt_in setting fs) (ends_in setting fs)) tt at (c ∷ cs) h))
 
   -- the closing character that is looked for ends the call
   pub closes : (f : Frame) (fs frames : List Frame) (close : ℕ) → frames ≡ f ∷ fs → close_of f.part ≡ Some close → (c == close) ≡ true → at < setting.limits.text
@@ -72,7 +72,7 @@ module _ (setting : Setting) (at c : ℕ) (cs : List ℕ) where
       let call = λ (p : Piece). call_in setting f fs p in
       ap (λ (frames : List Frame). run setting.table setting.limits (between setting frames) at (c ∷ cs)) is
       ∙ between_is f fs h
-      ∙ given_fault setting fs (then_plan (or_closed (close_of f.part) (placed f fs)) call) at (c ∷ cs) (record { code = FORM_TOO_LONG; at = at })
+      ∙ given_fault setting fs (then_plan (or_closed (close_of f.part) (placed f fs)) call) at (c ∷ cs) (record { number = FORM_TOO_LONG; at = at })
       (ap (λ (o : Option ℕ). run setting.table setting.limits (then_plan (or_closed o (placed f fs)) call) at (c ∷ cs)) e
       ∙ takes_over setting.table setting.limits (then_plan (placed f fs) call) (λ d. d == close) (λ d. call closed) at c cs le same)
 
@@ -118,7 +118,7 @@ module _ (setting : Setting) (at c : ℕ) (cs : List ℕ) where
       → run setting.table setting.limits (given setting frames (attempt_at setting (length frames))) at (c ∷ cs) ≡ fault FORM_TOO_LONG at
   attempt_over frames le over e =
       round_is frames le
-      ∙ given_fault setting frames _ at (c ∷ cs) (record { code = FORM_TOO_LONG; at = at })
+      ∙ given_fault setting frames _ at (c ∷ cs) (record { number = FORM_TOO_LONG; at = at })
       (takes_over setting.table setting.limits (scans false setting.limits.token (token_found setting)) (λ d. stands_alone (entry_at setting.table d).syntax)
       (λ d. alone setting (length frames) (inner_at setting (length frames)) d (entry_at setting.table d).syntax) at c cs over e)
 

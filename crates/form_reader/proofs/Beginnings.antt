@@ -12,13 +12,13 @@ use Rattle.form_reader.specs.declared.complete.Completed.TheVariants.{Refused}
 use Rattle.lisp_reading.specs.declared.found.Found.{Found}
 use Rattle.form_reader.specs.declared.frame.Frame.{Frame}
 use Rattle.form_reader.specs.declared.frame.Part.TheVariants.{Next as InNext, List as InList, Until as InUntil}
-use Rattle.form_reader.specs.declared.stage.Event.{Event}
+use Rattle.form_reader.specs.declared.position.Event.{Event}
 use Rattle.lisp_reading.specs.declared.way.Way.{Way}
 use Rattle.lisp_reading.specs.declared.way.Way.TheVariants.{Nothing, Next, List as AList, Until, Token, EscapedToken}
 use Rattle.lisp_reading.specs.Plans.{Plan, refuses, scans, Read, fault, limited, scanned, run}
 use Rattle.lisp_reading.specs.Calls.{InvokedCall}
 use Rattle.lisp_reading.specs.Setting.{Setting, way_in}
-use Rattle.lisp_reading.specs.Reading.{place, completed, gathered, gathered_by, called, attempt, inner}
+use Rattle.lisp_reading.specs.Reading.{next_item, completed, gathered, gathered_by, called, attempt, inner}
 use Rattle.form_reader.specs.Completing.{plan_of}
 use Rattle.form_reader.specs.Feeding.{token_read}
 use Rattle.form_reader.specs.Frames.{given, between, plan_gives, token_goes_on}
@@ -41,7 +41,7 @@ inner_shut setting n le =
 pub given_refused : (setting : Setting) (frames : List Frame) (at : ℕ) (cs : List ℕ) (code back : ℕ)
     → run setting.table setting.limits (given setting frames (refuses code back)) at cs ≡ fault code (at - back)
 unfolding run
-given_refused setting frames at cs code back = given_fault setting frames (refuses code back) at cs (record { code = code; at = at - back }) refl
+given_refused setting frames at cs code back = given_fault setting frames (refuses code back) at cs (record { number = code; at = at - back }) refl
 
 abbrev pub OpensWith : Setting → List Frame → InvokedCall → Way → Option (Plan Found) → ℕ → List ℕ → Read Found
 OpensWith setting frames call way may at cs = run setting.table setting.limits (given setting frames (gathered setting (length frames) may call way)) at cs
@@ -66,7 +66,7 @@ module _ (setting : Setting) (frames : List Frame) (call : InvokedCall) (at : �
 
   refused_given : (code back : ℕ) → run setting.table setting.limits (given setting frames (refuses code back)) at cs ≡ fault code (at - back)
   unfolding run
-  refused_given code back = given_fault setting frames (refuses code back) at cs (record { code = code; at = at - back }) refl
+  refused_given code back = given_fault setting frames (refuses code back) at cs (record { number = code; at = at - back }) refl
 
   pub next_deep : setting.limits.nesting ≤ length frames → OpensWith setting frames call Next (inner_at setting (length frames)) at cs ≡ fault TOO_DEEP (at - 1)
   next_deep le = ap (λ may. OpensWith setting frames call Next may at cs) (inner_shut setting (length frames) le) ∙ refused_given TOO_DEEP 1
@@ -117,14 +117,14 @@ module _ (setting : Setting) (frames : List Frame) (call : InvokedCall) (way : W
   abbrev opened_so : Way → Read Found
   opened_so w = OpensWith setting frames call w (inner_at setting (length frames)) at cs
 
-  pub next_deep_at : (place : ℕ) → way ≡ Next → setting.limits.nesting ≤ length frames → place ≡ at - 1 → opened_so way ≡ fault TOO_DEEP place
-  next_deep_at place e le p = ap opened_so e ∙ next_deep setting frames call at cs le ∙ ap (λ (n : ℕ). fault TOO_DEEP n) (sym p)
+  pub next_deep_at : (offset : ℕ) → way ≡ Next → setting.limits.nesting ≤ length frames → offset ≡ at - 1 → opened_so way ≡ fault TOO_DEEP offset
+  next_deep_at offset e le p = ap opened_so e ∙ next_deep setting frames call at cs le ∙ ap (λ (n : ℕ). fault TOO_DEEP n) (sym p)
 
-  pub list_deep_at : (place : ℕ) → way ≡ AList → setting.limits.nesting ≤ length frames → place ≡ at - 1 → opened_so way ≡ fault TOO_DEEP place
-  list_deep_at place e le p = ap opened_so e ∙ list_deep setting frames call at cs le ∙ ap (λ (n : ℕ). fault TOO_DEEP n) (sym p)
+  pub list_deep_at : (offset : ℕ) → way ≡ AList → setting.limits.nesting ≤ length frames → offset ≡ at - 1 → opened_so way ≡ fault TOO_DEEP offset
+  list_deep_at offset e le p = ap opened_so e ∙ list_deep setting frames call at cs le ∙ ap (λ (n : ℕ). fault TOO_DEEP n) (sym p)
 
-  pub until_deep_at : (place close : ℕ) → way ≡ Until close → setting.limits.nesting ≤ length frames → place ≡ at - 1 → opened_so way ≡ fault TOO_DEEP place
-  until_deep_at place close e le p = ap opened_so e ∙ until_deep setting frames call at cs close le ∙ ap (λ (n : ℕ). fault TOO_DEEP n) (sym p)
+  pub until_deep_at : (offset close : ℕ) → way ≡ Until close → setting.limits.nesting ≤ length frames → offset ≡ at - 1 → opened_so way ≡ fault TOO_DEEP offset
+  until_deep_at offset close e le p = ap opened_so e ∙ until_deep setting frames call at cs close le ∙ ap (λ (n : ℕ). fault TOO_DEEP n) (sym p)
 
   pub next_at : (after : List Frame) → way ≡ Next → length frames < setting.limits.nesting → after ≡ record { call = call; part = InNext } ∷ frames
       → opened_so way ≡ run setting.table setting.limits (between setting after) at cs
@@ -164,9 +164,9 @@ module _ (setting : Setting) (frames : List Frame) (call : InvokedCall) (way : W
       → IfOk result (λ event. Gathers setting frames frames call way at cs event)
   nothing_at result e brings = subst (λ (r : Read Found). IfOk result (λ event. Brings setting frames at cs event r)) (sym (ap opened_so e)) brings
 
-pub none_begins : (setting : Setting) (frames : List Frame) (call : InvokedCall) (at place : ℕ) (cs : List ℕ) → way_in setting call ≡ None → place ≡ at - 1
-    → run setting.table setting.limits (given setting frames (called setting (length frames) (inner_at setting (length frames)) call)) at cs ≡ fault OUT_OF_PROFILE place
-none_begins setting frames call at place cs e p =
+pub none_begins : (setting : Setting) (frames : List Frame) (call : InvokedCall) (at offset : ℕ) (cs : List ℕ) → way_in setting call ≡ None → offset ≡ at - 1
+    → run setting.table setting.limits (given setting frames (called setting (length frames) (inner_at setting (length frames)) call)) at cs ≡ fault OUT_OF_PROFILE offset
+none_begins setting frames call at offset cs e p =
     ap (λ (o : Option Way). run setting.table setting.limits (given setting frames (gathered_by setting (length frames) (inner_at setting (length frames)) call o)) at cs) e
     ∙ refused_is setting frames call at cs OUT_OF_PROFILE 1 ∙ ap (λ (n : ℕ). fault OUT_OF_PROFILE n) (sym p)
 
@@ -178,8 +178,8 @@ some_begins setting frames after call way at cs event e gathers =
     ap (λ (o : Option Way). run setting.table setting.limits (given setting frames (gathered_by setting (length frames) (inner_at setting (length frames)) call o)) at cs) e in
     subst (λ (r : Read Found). Brings setting after at cs event r) (sym same) gathers
 
-pub refusal_comes : (setting : Setting) (frames : List Frame) (completed : Completed) (code back at place : ℕ) (cs : List ℕ) → completed ≡ Refused code back → place ≡ at - back
-    → run setting.table setting.limits (given setting frames (plan_of completed)) at cs ≡ fault code place
-refusal_comes setting frames completed code back at place cs e p =
+pub refusal_comes : (setting : Setting) (frames : List Frame) (completed : Completed) (code back at offset : ℕ) (cs : List ℕ) → completed ≡ Refused code back → offset ≡ at - back
+    → run setting.table setting.limits (given setting frames (plan_of completed)) at cs ≡ fault code offset
+refusal_comes setting frames completed code back at offset cs e p =
     ap (λ (r : Completed). run setting.table setting.limits (given setting frames (plan_of r)) at cs) e
     ∙ given_refused setting frames at cs code back ∙ ap (λ (n : ℕ). fault code n) (sym p)

@@ -9,7 +9,7 @@ use Rattle.form_reader.specs.declared.bytes.LineByte.{LineByte}
 use Rattle.form_reader.specs.declared.bytes.LineByte.TheVariants.{Ended as LineEnded}
 use Rattle.lisp_reading.specs.declared.found.Found.{Found}
 use Rattle.form_reader.specs.declared.frame.Frame.{Frame}
-use Rattle.form_reader.specs.declared.stage.Event.{Event}
+use Rattle.form_reader.specs.declared.position.Event.{Event}
 use Rattle.lisp_reading.specs.declared.way.Function.{Function}
 use Rattle.lisp_reading.specs.Plans.{Plan, Read, fault, run}
 use Rattle.lisp_reading.specs.Calls.{InvokedCall}
@@ -24,8 +24,8 @@ module _ (setting : Setting) (frames : List Frame) (c at : ℕ) (cs : List ℕ) 
   abbrev macro_gives : Option (List ℕ) → Read Found
   macro_gives o = run setting.table setting.limits (given setting frames (macro_called setting (length frames) (inner_at setting (length frames)) c o)) at cs
 
-  pub none_called : (function : Option (List ℕ)) (place : ℕ) → function ≡ None → place ≡ at - 1 → macro_gives function ≡ fault OUT_OF_PROFILE place
-  none_called function place e p = ap macro_gives e ∙ given_refused setting frames at cs OUT_OF_PROFILE 1 ∙ ap (λ (n : ℕ). fault OUT_OF_PROFILE n) (sym p)
+  pub none_called : (function : Option (List ℕ)) (offset : ℕ) → function ≡ None → offset ≡ at - 1 → macro_gives function ≡ fault OUT_OF_PROFILE offset
+  none_called function offset e p = ap macro_gives e ∙ given_refused setting frames at cs OUT_OF_PROFILE 1 ∙ ap (λ (n : ℕ). fault OUT_OF_PROFILE n) (sym p)
 
   abbrev of_character : Function → InvokedCall
   of_character f = record { function = f; character = c; sub = None; number = None }

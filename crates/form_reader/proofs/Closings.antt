@@ -9,7 +9,7 @@ use Rattle.lisp_reading.specs.declared.found.Found.{Found}
 use Rattle.form_reader.specs.declared.frame.Frame.{Frame}
 use Rattle.form_reader.specs.declared.frame.Part.{Part}
 use Rattle.form_reader.specs.declared.frame.Part.TheVariants.{Next as InNext, List as InList, Until as InUntil, Dotted as InDotted, Tailed as InTailed}
-use Rattle.form_reader.specs.declared.stage.Event.{Event}
+use Rattle.form_reader.specs.declared.position.Event.{Event}
 use Rattle.lisp_reading.specs.Plans.{Plan, Read, then_plan, fault}
 use Rattle.lisp_reading.specs.Calls.{InvokedCall}
 use Rattle.lisp_reading.specs.Setting.{Setting}
@@ -29,8 +29,8 @@ module _ (setting : Setting) (frames : List Frame) (call : InvokedCall) (at : �
   pub next_closes : (part : Part) → part ≡ InNext → closing part ≡ fault DOT_CONTEXT at
   next_closes part e = ap closing e ∙ given_refused setting frames at cs DOT_CONTEXT 0 ∙ (let e : at - 0 ≡ at = omega arith in ap (λ (n : ℕ). fault DOT_CONTEXT n) e)
 
-  pub dotted_closes : (part : Part) (xs : List Object) (place : ℕ) → part ≡ InDotted xs → place ≡ at - 1 → closing part ≡ fault DOT_CONTEXT place
-  dotted_closes part xs place e p = ap closing e ∙ given_refused setting frames at cs DOT_CONTEXT 1 ∙ ap (λ (n : ℕ). fault DOT_CONTEXT n) (sym p)
+  pub dotted_closes : (part : Part) (xs : List Object) (offset : ℕ) → part ≡ InDotted xs → offset ≡ at - 1 → closing part ≡ fault DOT_CONTEXT offset
+  dotted_closes part xs offset e p = ap closing e ∙ given_refused setting frames at cs DOT_CONTEXT 1 ∙ ap (λ (n : ℕ). fault DOT_CONTEXT n) (sym p)
 
   list_gives : (xs : List Object) → closing (InList xs) ≡ completing (many xs)
   unfolding then_plan

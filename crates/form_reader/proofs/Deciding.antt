@@ -18,17 +18,17 @@ use Rattle.lisp_reading.specs.declared.found.Found.{Found}
 use Rattle.lisp_reading.specs.declared.found.Found.TheVariants.{Nothing as nothing, One as one}
 use Rattle.form_reader.specs.declared.frame.Frame.{Frame}
 use Rattle.lisp_reading.specs.declared.limits.Limits.{Limits}
-use Rattle.form_reader.specs.declared.stage.Stage.{Stage}
-use Rattle.form_reader.specs.declared.stage.Stage.TheVariants.{Object as AtObject, Token as AtToken, CallToken as AtCallToken, Text as AtText, Escaped as AtEscaped, Line as AtLine, Block as AtBlock, Number as AtNumber}
+use Rattle.form_reader.specs.declared.position.Position.{Position}
+use Rattle.form_reader.specs.declared.position.Position.TheVariants.{Object as AtObject, Token as AtToken, CallToken as AtCallToken, Text as AtText, Escaped as AtEscaped, Line as AtLine, Block as AtBlock, Number as AtNumber}
 use Rattle.lisp_reading.specs.declared.way.Keep.{Keep}
 use Rattle.lisp_reading.specs.Plans.{Plan, gives, refuses, takes, then_plan, character, next_byte, loop, Read, fault, within, run}
 use Rattle.lisp_reading.specs.Calls.{keep_of}
 use Rattle.lisp_reading.specs.Setting.{Setting}
 use Rattle.form_reader.specs.Feeding.{is_going, token_read, refused_number}
-use Rattle.form_reader.specs.Frames.{close_of, close_of_frames, place_in, call_in, given, between, token_goes_on}
+use Rattle.form_reader.specs.Frames.{close_of, close_of_frames, next_item_in, call_in, given, between, token_goes_on}
 use Rattle.lisp_reading.specs.Gathering.{text_turn, kept, line_turn, block_turn}
-use Rattle.lisp_reading.specs.Reading.{Piece, Outcome, form, empty, refused, at_place, closed, or_closed, place_turn, place, stands_alone, alone, inner, attempt, reads, number_after, sub_there, dispatched}
-use Rattle.form_reader.specs.Resuming.{IsStageAt, inner_at, stage_gives}
+use Rattle.lisp_reading.specs.Reading.{Piece, Outcome, form, empty, refused, piece_of, closed, or_closed, next_item_turn, next_item, stands_alone, alone, inner, attempt, reads, number_after, sub_there, dispatched}
+use Rattle.form_reader.specs.Resuming.{IsPositionAt, inner_at, position_gives}
 use Rattle.form_reader.specs.Reader.{MayGoOn, DecideNothing}
 use Rattle.form_reader.specs.Changing.{outcome_of, rest_of}
 use Rattle.form_reader.proofs.FedTokens.{cut, refused_cut}
@@ -39,8 +39,9 @@ use Rattle.lisp_reading.proofs.Forms.{form_framed}
 use Rattle.form_reader.proofs.Opened.{given_fault, gathering_ends, gathering_fails}
 use Rattle.lisp_reading.proofs.Refusals.{refusal_stays}
 use Rattle.lisp_reading.proofs.Steps.{and_then, run_then}
-use Rattle.form_reader.proofs.TextEnds.{blames_byte, stage_last, last_blames, last_refused}
-use Rattle.lisp_reading.proofs.Turns.{attempt_ends, loop_is, text_guarded, line_guarded, block_guarded, place_guarded}
+use Rattle.form_reader.proofs.PlanEnds.{blames_byte}
+use Rattle.form_reader.proofs.TextEnds.{position_last, last_blames, last_refused}
+use Rattle.lisp_reading.proofs.Turns.{attempt_ends, loop_is, text_guarded, line_guarded, block_guarded, next_item_guarded}
 
 -- ---- a byte that is no character
 
@@ -51,7 +52,7 @@ no_digit c beyond = and_false (nat_le 48 c) (nat_le c 57) (lt-leb c 57 (omega ar
     and_false true b e = e
     and_false false b e = refl
 
--- refused at this place, as a byte that is no character, or as one too many
+-- refused at this offset, as a byte that is no character, or as one too many
 abbrev Fails : {A : Type 0} → ℕ → Read A → Type 0
 Fails at r = (code : ℕ) × (r ≡ fault code at) × (blames_byte code ≡ true)
 
@@ -97,7 +98,7 @@ module _ (setting : Setting) (frames : List Frame) (at c : ℕ) where
   reading plan = run setting.table setting.limits plan at (c ∷ [])
 
   gathering : {A : Type 0} (plan : Plan A) (on : A → Plan Found) → Fails at (reading plan) → Fails at (reading (given setting frames (then_plan plan on)))
-  gathering plan on h = (h.0, gathering_fails setting frames plan on (record { code = h.0; at = at }) at (c ∷ []) h.1, h.2)
+  gathering plan on h = (h.0, gathering_fails setting frames plan on (record { number = h.0; at = at }) at (c ∷ []) h.1, h.2)
 
   -- ---- in a text, a line, a block and a number
 
@@ -127,7 +128,7 @@ module _ (setting : Setting) (frames : List Frame) (at c : ℕ) where
         let h : Fails at (reading sub) = next_fails setting.table setting.limits _ at c beyond in (
           h.0,
           gathering_ends setting frames (number_after setting number) (sub_there setting (length frames) (inner_at setting (length frames)) character) number at at (c ∷ []) (c ∷ []) (number_stops number)
-              ∙ given_fault setting frames sub at (c ∷ []) (record { code = h.0; at = at }) h.1,
+              ∙ given_fault setting frames sub at (c ∷ []) (record { number = h.0; at = at }) h.1,
           h.2,
         )
 
@@ -147,21 +148,21 @@ module _ (setting : Setting) (frames : List Frame) (at c : ℕ) where
       closed_fails None plan other h = h
       closed_fails (Some k) plan other h = (h.0, passed setting.table setting.limits plan (λ d. d == k) (λ d. gives closed) at c (ne_eqb c k (λ e. omega (arith, e, other))) ∙ h.1, h.2)
 
-      place_fails : (room : ℕ) (close : Option ℕ) → unwrap_or close 0 < c → Fails at (reading (place setting close (attempt setting room)))
-      place_fails room close other =
+      next_item_fails : (room : ℕ) (close : Option ℕ) → unwrap_or close 0 < c → Fails at (reading (next_item setting close (attempt setting room)))
+      next_item_fails room close other =
           let may = attempt setting room in
-          let again : Unit {0} → Plan Piece = λ u. place setting close may in
-          let turn = then_plan may (λ found. at_place setting.table (again tt) found) in
-          subst (Fails at) (sym (loop_is setting.table setting.limits (place_turn setting.table close may) (place_guarded setting.table setting.limits close may (attempt_ends setting _ _)) tt at (c ∷ []) le))
-          (closed_fails close turn other (then_fails may (λ found. at_place setting.table (again tt) found) (attempt_fails room)))
+          let again : Unit {0} → Plan Piece = λ u. next_item setting close may in
+          let turn = then_plan may (λ found. piece_of setting.table (again tt) found) in
+          subst (Fails at) (sym (loop_is setting.table setting.limits (next_item_turn setting.table close may) (next_item_guarded setting.table setting.limits close may (attempt_ends setting _ _)) tt at (c ∷ []) le))
+          (closed_fails close turn other (then_fails may (λ found. piece_of setting.table (again tt) found) (attempt_fails room)))
 
 -- where the innermost call looks for this character
 between_fails : (setting : Setting) (frames : List Frame) (at c : ℕ) → at ≤ setting.limits.text → IsAlien setting (close_of_frames frames) c
     → Fails at (run setting.table setting.limits (between setting frames) at (c ∷ []))
 between_fails setting [] at c le alien = attempt_fails setting [] at c le alien.beyond (alien_entry setting None c alien) setting.limits.nesting
 between_fails setting (f ∷ fs) at c le alien =
-    gathering setting fs at c (place_in setting f fs) (λ p. call_in setting f fs p)
-    (place_fails setting fs at c le alien.beyond (alien_entry setting (close_of f.part) c alien) (setting.limits.nesting - (length fs + 1)) (close_of f.part) alien.other)
+    gathering setting fs at c (next_item_in setting f fs) (λ p. call_in setting f fs p)
+    (next_item_fails setting fs at c le alien.beyond (alien_entry setting (close_of f.part) c alien) (setting.limits.nesting - (length fs + 1)) (close_of f.part) alien.other)
 
 -- ---- in a token
 
@@ -186,18 +187,18 @@ token_fails setting frames on scan at c going le beyond =
       elim (nat_lt at setting.limits.text) as (λ b. blames_byte (if b then INVALID_CHARACTER else FORM_TOO_LONG) ≡ true) [ true ↦ refl | false ↦ refl ],
     )
 
--- ---- at each stage
+-- ---- at each position
 
-stage_fails : (setting : Setting) (frames : List Frame) (stage : Stage) (at c : ℕ) → IsStageAt at stage → at ≤ setting.limits.text → IsAlien setting (close_of_frames frames) c
-    → Fails at (stage_gives setting frames stage at (c ∷ []))
-stage_fails setting frames AtObject at c stands le alien = between_fails setting frames at c le alien
-stage_fails setting frames (AtToken scan) at c stands le alien = token_fails setting frames _ scan at c stands le alien.beyond
-stage_fails setting frames (AtCallToken call scan) at c stands le alien = token_fails setting frames _ scan at c stands le alien.beyond
-stage_fails setting frames (AtText call terminator text) at c stands le alien = gathering setting frames at c _ _ (text_fails setting frames at c le alien.beyond terminator text)
-stage_fails setting frames (AtEscaped call terminator text) at c stands le alien = gathering setting frames at c _ _ (next_fails setting.table setting.limits _ at c alien.beyond)
-stage_fails setting frames (AtLine call text) at c stands le alien = gathering setting frames at c _ _ (line_fails setting frames at c le alien.beyond (keep_of call.function) text)
-stage_fails setting frames (AtBlock call levels) at c stands le alien = gathering setting frames at c _ _ (block_fails setting frames at c le alien.beyond levels)
-stage_fails setting frames (AtNumber character number) at c stands le alien = number_fails setting frames at c le alien.beyond character number
+position_fails : (setting : Setting) (frames : List Frame) (position : Position) (at c : ℕ) → IsPositionAt at position → at ≤ setting.limits.text → IsAlien setting (close_of_frames frames) c
+    → Fails at (position_gives setting frames position at (c ∷ []))
+position_fails setting frames AtObject at c stands le alien = between_fails setting frames at c le alien
+position_fails setting frames (AtToken scan) at c stands le alien = token_fails setting frames _ scan at c stands le alien.beyond
+position_fails setting frames (AtCallToken call scan) at c stands le alien = token_fails setting frames _ scan at c stands le alien.beyond
+position_fails setting frames (AtText call terminator text) at c stands le alien = gathering setting frames at c _ _ (text_fails setting frames at c le alien.beyond terminator text)
+position_fails setting frames (AtEscaped call terminator text) at c stands le alien = gathering setting frames at c _ _ (next_fails setting.table setting.limits _ at c alien.beyond)
+position_fails setting frames (AtLine call text) at c stands le alien = gathering setting frames at c _ _ (line_fails setting frames at c le alien.beyond (keep_of call.function) text)
+position_fails setting frames (AtBlock call levels) at c stands le alien = gathering setting frames at c _ _ (block_fails setting frames at c le alien.beyond levels)
+position_fails setting frames (AtNumber character number) at c stands le alien = number_fails setting frames at c le alien.beyond character number
 
 -- ---- where a reader waits for more
 
@@ -215,39 +216,39 @@ undecided setting bytes c code (form x start «end» last) e next =
     by false is =
         let framed = form_framed setting bytes x start «end» last e in
         omega (arith, framed.after, framed.inside, ltb-false «end» (length bytes) is)
-undecided setting bytes c code (refused number place) e next =
-    let h = refusal_stays setting bytes number place e in
-    by (nat_lt place (length bytes)) refl
+undecided setting bytes c code (refused number offset) e next =
+    let h = refusal_stays setting bytes number offset e in
+    by (nat_lt offset (length bytes)) refl
   where
-    by : (b : Bool) → nat_lt place (length bytes) ≡ b → place ≡ length bytes
+    by : (b : Bool) → nat_lt offset (length bytes) ≡ b → offset ≡ length bytes
     by true is =
-        let same : refused number place ≡ refused code (length bytes) = sym ((refusal_stays setting bytes number place e).1 (ltb-true place (length bytes) is) (c ∷ [])) ∙ next in
+        let same : refused number offset ≡ refused code (length bytes) = sym ((refusal_stays setting bytes number offset e).1 (ltb-true offset (length bytes) is) (c ∷ [])) ∙ next in
         cc
-    by false is = omega (arith, (refusal_stays setting bytes number place e).0, ltb-false place (length bytes) is)
+    by false is = omega (arith, (refusal_stays setting bytes number offset e).0, ltb-false offset (length bytes) is)
 
--- The byte that is no character is refused at its own place.
-next_refused : (setting : Setting) (frames : List Frame) (stage : Stage) (start at : ℕ) (bytes : List ℕ) → IsStageAt at stage → at ≤ setting.limits.text → start + at ≡ length bytes
-    → ((cs : List ℕ) → reads setting (bytes ++ cs) ≡ rest_of setting frames stage start at cs)
+-- The byte that is no character is refused at its own offset.
+next_refused : (setting : Setting) (frames : List Frame) (position : Position) (start at : ℕ) (bytes : List ℕ) → IsPositionAt at position → at ≤ setting.limits.text → start + at ≡ length bytes
+    → ((cs : List ℕ) → reads setting (bytes ++ cs) ≡ rest_of setting frames position start at cs)
     → (c : ℕ) × ((code : ℕ) × (reads setting (bytes ++ c ∷ []) ≡ refused code (length bytes)) × (blames_byte code ≡ true))
-next_refused setting frames stage start at bytes stands le count rest =
+next_refused setting frames position start at bytes stands le count rest =
     let c = 128 + length setting.table.entries + unwrap_or (close_of_frames frames) 0 + 1 in
-    let h = stage_fails setting frames stage at c stands le (record { beyond = omega arith; none = omega arith; other = omega arith }) in
+    let h = position_fails setting frames position at c stands le (record { beyond = omega arith; none = omega arith; other = omega arith }) in
     (c, (h.0, rest (c ∷ []) ∙ ap (outcome_of setting start) h.1 ∙ ap (λ (n : ℕ). refused h.0 n) count, h.2))
 
-pub decide_nothing : (setting : Setting) (frames : List Frame) (stage : Stage) (start at : ℕ) (bytes : List ℕ) → IsStageAt at stage → at ≤ setting.limits.text → start + at ≡ length bytes
-    → ((cs : List ℕ) → reads setting (bytes ++ cs) ≡ rest_of setting frames stage start at cs) → DecideNothing setting bytes
-decide_nothing setting frames stage start at bytes stands le count rest =
-    let next = next_refused setting frames stage start at bytes stands le count rest in
-    let last : reads setting bytes ≡ rest_of setting frames stage start at [] = sym (ap (reads setting) (append-nil bytes)) ∙ rest [] in
+pub decide_nothing : (setting : Setting) (frames : List Frame) (position : Position) (start at : ℕ) (bytes : List ℕ) → IsPositionAt at position → at ≤ setting.limits.text → start + at ≡ length bytes
+    → ((cs : List ℕ) → reads setting (bytes ++ cs) ≡ rest_of setting frames position start at cs) → DecideNothing setting bytes
+decide_nothing setting frames position start at bytes stands le count rest =
+    let next = next_refused setting frames position start at bytes stands le count rest in
+    let last : reads setting bytes ≡ rest_of setting frames position start at [] = sym (ap (reads setting) (append-nil bytes)) ∙ rest [] in
     let unlike : reads setting bytes ≡ refused next.1.0 (length bytes) → ⊥ = λ e.
     let blameless : blames_byte next.1.0 ≡ false =
-    last_refused (rest_of setting frames stage start at []) next.1.0 (length bytes) (sym last ∙ e)
-    (last_blames setting start (stage_gives setting frames stage at []) (stage_last setting frames at le stage stands)) in
+    last_refused (rest_of setting frames position start at []) next.1.0 (length bytes) (sym last ∙ e)
+    (last_blames setting start (position_gives setting frames position at []) (position_last setting frames at le position stands)) in
     false≢true (sym blameless ∙ next.1.2) in
     (next.0, (next.1.0, next.1.1, unlike))
 
-pub may_go_on : (setting : Setting) (frames : List Frame) (stage : Stage) (start at : ℕ) (bytes : List ℕ) → IsStageAt at stage → at ≤ setting.limits.text → start + at ≡ length bytes
-    → ((cs : List ℕ) → reads setting (bytes ++ cs) ≡ rest_of setting frames stage start at cs) → MayGoOn bytes (reads setting bytes)
-may_go_on setting frames stage start at bytes stands le count rest =
-    let next = next_refused setting frames stage start at bytes stands le count rest in
+pub may_go_on : (setting : Setting) (frames : List Frame) (position : Position) (start at : ℕ) (bytes : List ℕ) → IsPositionAt at position → at ≤ setting.limits.text → start + at ≡ length bytes
+    → ((cs : List ℕ) → reads setting (bytes ++ cs) ≡ rest_of setting frames position start at cs) → MayGoOn bytes (reads setting bytes)
+may_go_on setting frames position start at bytes stands le count rest =
+    let next = next_refused setting frames position start at bytes stands le count rest in
     undecided setting bytes next.0 next.1.0 (reads setting bytes) refl next.1.1

@@ -7,8 +7,8 @@ use Rattle.std_macros.specs.Values.{one as one_object}
 use Rattle.form_reader.specs.declared.complete.Completed.{Completed}
 use Rattle.form_reader.specs.declared.deliver.Delivered.{Delivered}
 use Rattle.form_reader.specs.declared.deliver.Delivered.TheVariants.{Done}
-use Rattle.form_reader.specs.declared.deliver.Taken.{Taken}
-use Rattle.form_reader.specs.declared.deliver.Taken.TheVariants.{Stays, Gives as TakenGives, Refused as TakenRefused}
+use Rattle.form_reader.specs.declared.deliver.Received.{Received}
+use Rattle.form_reader.specs.declared.deliver.Received.TheVariants.{Stays, Gives as ReceivedGives, Refused as ReceivedRefused}
 use Rattle.lisp_reading.specs.declared.found.Found.{Found}
 use Rattle.lisp_reading.specs.declared.found.Found.TheVariants.{Nothing as nothing, One as one, LoneDot as lone_dot, TheEnd as the_end}
 use Rattle.form_reader.specs.declared.frame.Frame.{Frame}
@@ -17,10 +17,10 @@ use Rattle.form_reader.specs.declared.frame.Part.TheVariants.{Next as InNext, Li
 use Rattle.lisp_reading.specs.Plans.{Plan, gives, refuses, then_plan, Read, fault, run}
 use Rattle.lisp_reading.specs.Calls.{InvokedCall}
 use Rattle.lisp_reading.specs.Setting.{Setting}
-use Rattle.lisp_reading.specs.Reading.{place, without_space, items_after, undotted, after_tail, list_end, completed}
+use Rattle.lisp_reading.specs.Reading.{next_item, without_space, items_after, undotted, after_tail, list_end, completed}
 use Rattle.form_reader.specs.Completing.{plan_of}
 use Rattle.form_reader.specs.Delivering.{Takes, Shortens, Delivers}
-use Rattle.form_reader.specs.Frames.{attempt_in, place_in, call_in, given, between, place_gives, with_object, with_dot, with_found, calls_with, is_next, is_waiting}
+use Rattle.form_reader.specs.Frames.{attempt_in, next_item_in, call_in, given, between, next_item_gives, with_object, with_dot, with_found, calls_with, is_next, is_waiting}
 use Rattle.form_reader.proofs.Opened.{space_given, list_is, until_is}
 use Rattle.lisp_reading.proofs.Turns.{space_same}
 use Rattle.form_reader.proofs.Beginnings.{given_refused}
@@ -46,7 +46,7 @@ module _ (setting : Setting) (frames : List Frame) (call : InvokedCall) (at : �
   pub nothing_stays : (token : Bool) (part : Part) → delivered part (nothing token) ≡ waiting token part
   unfolding given then_plan
   nothing_stays token part =
-      space_given setting frames token (place_in setting (framed_by call part) frames) (λ p. call_in setting (framed_by call part) frames p) at cs
+      space_given setting frames token (next_item_in setting (framed_by call part) frames) (λ p. call_in setting (framed_by call part) frames p) at cs
 
   -- the end of the input
   pub end_fails : (part : Part) → delivered part the_end ≡ fault END_OF_FILE at
@@ -98,10 +98,10 @@ module _ (setting : Setting) (frames : List Frame) (call : InvokedCall) (at : �
   pub one_in_dotted : (token : Bool) (xs : List Object) (x : Object) → delivered (InDotted xs) (one token x) ≡ waiting token (InTailed xs x)
   unfolding given then_plan
   one_in_dotted true xs x =
-      space_given setting frames true (place setting (Some 41) (attempt_in setting frames))
+      space_given setting frames true (next_item setting (Some 41) (attempt_in setting frames))
       (after_tail (λ m. completed setting (length frames) call false false m) xs x) at cs
   one_in_dotted false xs x =
-      space_given setting frames false (place setting (Some 41) (attempt_in setting frames))
+      space_given setting frames false (next_item setting (Some 41) (attempt_in setting frames))
       (after_tail (λ m. completed setting (length frames) call false false m) xs x) at cs
 
   pub one_in_list : (token : Bool) (xs ys : List Object) (x : Object) → at ≤ setting.limits.text → ys ≡ xs ++ x ∷ []
@@ -168,7 +168,7 @@ module _ (setting : Setting) (at : ℕ) (cs : List ℕ) where
   found_in frames found = run setting.table setting.limits (given setting frames (gives found)) at cs
 
   -- discarded text changes nothing
-  pub nothing_there : (frames : List Frame) (token : Bool) (found : Found) → found ≡ nothing token → 0 < length frames → found_in frames found ≡ place_gives setting token frames at cs
+  pub nothing_there : (frames : List Frame) (token : Bool) (found : Found) → found ≡ nothing token → 0 < length frames → found_in frames found ≡ next_item_gives setting token frames at cs
   nothing_there [] token found e some = absurd (omega (arith, some))
   nothing_there (f ∷ fs) token found e some = ap (found_in (f ∷ fs)) e ∙ nothing_stays setting fs f.call at cs token f.part
 
@@ -177,18 +177,18 @@ module _ (setting : Setting) (at : ℕ) (cs : List ℕ) where
   end_there (f ∷ fs) found e some = ap (found_in (f ∷ fs)) e ∙ end_fails setting fs f.call at cs f.part
 
   pub object_goes_on : (frames after : List Frame) (token : Bool) (x : Object) → at ≤ setting.limits.text → calls_with frames (one token x) ≡ Some after
-      → found_in frames (one token x) ≡ place_gives setting token after at cs
+      → found_in frames (one token x) ≡ next_item_gives setting token after at cs
   object_goes_on [] after token x h e = cc
   object_goes_on (f ∷ fs) after token x h e = by (with_object f.part x) refl
     where
       calls : Part → List Frame
       calls part = record { call = f.call; part = part } ∷ fs
 
-      by : (o : Option Part) → with_object f.part x ≡ o → found_in (f ∷ fs) (one token x) ≡ place_gives setting token after at cs
+      by : (o : Option Part) → with_object f.part x ≡ o → found_in (f ∷ fs) (one token x) ≡ next_item_gives setting token after at cs
       by None n = let never : None ≡ Some after = sym (ap (option_map calls) n) ∙ e in cc
       by (Some new) n =
           object_taken setting fs f.call at cs token x f.part new h n
-          ∙ ap (λ (gs : List Frame). place_gives setting token gs at cs) (some_same (calls new) after (sym (ap (option_map calls) n) ∙ e))
+          ∙ ap (λ (gs : List Frame). next_item_gives setting token gs at cs) (some_same (calls new) after (sym (ap (option_map calls) n) ∙ e))
 
   pub object_stops : (frames : List Frame) (token : Bool) (x : Object) → 0 < length frames → calls_with frames (one token x) ≡ None → is_waiting frames ≡ false
       → found_in frames (one token x) ≡ fault DOT_CONTEXT at
@@ -202,18 +202,18 @@ module _ (setting : Setting) (at : ℕ) (cs : List ℕ) where
       by None n = object_refused setting fs f.call at cs token x f.part n other
       by (Some new) n = let never : Some (calls new) ≡ None = sym (ap (option_map calls) n) ∙ e in cc
 
-  pub dot_goes_on : (frames after : List Frame) → calls_with frames lone_dot ≡ Some after → found_in frames lone_dot ≡ place_gives setting false after at cs
+  pub dot_goes_on : (frames after : List Frame) → calls_with frames lone_dot ≡ Some after → found_in frames lone_dot ≡ next_item_gives setting false after at cs
   dot_goes_on [] after e = cc
   dot_goes_on (f ∷ fs) after e = by (with_dot f.part) refl
     where
       calls : Part → List Frame
       calls part = record { call = f.call; part = part } ∷ fs
 
-      by : (o : Option Part) → with_dot f.part ≡ o → found_in (f ∷ fs) lone_dot ≡ place_gives setting false after at cs
+      by : (o : Option Part) → with_dot f.part ≡ o → found_in (f ∷ fs) lone_dot ≡ next_item_gives setting false after at cs
       by None n = let never : None ≡ Some after = sym (ap (option_map calls) n) ∙ e in cc
       by (Some new) n =
           dot_taken setting fs f.call at cs f.part new n
-          ∙ ap (λ (gs : List Frame). place_gives setting false gs at cs) (some_same (calls new) after (sym (ap (option_map calls) n) ∙ e))
+          ∙ ap (λ (gs : List Frame). next_item_gives setting false gs at cs) (some_same (calls new) after (sym (ap (option_map calls) n) ∙ e))
 
   pub dot_stops : (frames : List Frame) → 0 < length frames → calls_with frames lone_dot ≡ None → found_in frames lone_dot ≡ fault DOT_CONTEXT at
   dot_stops [] some e = absurd (omega (arith, some))
@@ -227,20 +227,20 @@ module _ (setting : Setting) (at : ℕ) (cs : List ℕ) where
       by (Some new) n = let never : Some (calls new) ≡ None = sym (ap (option_map calls) n) ∙ e in cc
 
   -- it waited for its one object
-  pub next_comes : (old frames : List Frame) (call : InvokedCall) (token : Bool) (x y : Object) (depth : ℕ) (done : Completed) (taken : Taken) → old ≡ record { call = call; part = InNext } ∷ frames
+  pub next_comes : (old frames : List Frame) (call : InvokedCall) (token : Bool) (x y : Object) (depth : ℕ) (done : Completed) (received : Received) → old ≡ record { call = call; part = InNext } ∷ frames
       → depth ≡ length frames → y ≡ x → completed setting depth call token token (one_object y) ≡ plan_of done
-      → Takes setting frames at cs taken (run setting.table setting.limits (given setting frames (plan_of done)) at cs)
-      → Takes setting frames at cs taken (found_in old (one token x))
-  next_comes old frames call token x y depth done taken is open_calls same comes takes =
+      → Takes setting frames at cs received (run setting.table setting.limits (given setting frames (plan_of done)) at cs)
+      → Takes setting frames at cs received (found_in old (one token x))
+  next_comes old frames call token x y depth done received is open_calls same comes takes =
       let whole : found_in old (one token x) ≡ run setting.table setting.limits (given setting frames (plan_of done)) at cs =
       ap (λ (fs : List Frame). found_in fs (one token x)) is ∙ one_in_next setting frames call at cs token x
       ∙ ap (λ (plan : Plan Found). run setting.table setting.limits (given setting frames plan) at cs)
       ((λ i. completed setting (sym open_calls i) call token token (one_object (sym same i))) ∙ comes) in
-      subst (λ (r : Read Found). Takes setting frames at cs taken r) (sym whole) takes
+      subst (λ (r : Read Found). Takes setting frames at cs received r) (sym whole) takes
 
-  pub found_dot : (frames after : List Frame) (found : Found) (taken : Taken) → found ≡ lone_dot → Takes setting after at cs taken (found_in frames lone_dot)
-      → Takes setting after at cs taken (found_in frames found)
-  found_dot frames after found taken e takes = subst (λ (f : Found). Takes setting after at cs taken (found_in frames f)) (sym e) takes
+  pub found_dot : (frames after : List Frame) (found : Found) (received : Received) → found ≡ lone_dot → Takes setting after at cs received (found_in frames lone_dot)
+      → Takes setting after at cs received (found_in frames found)
+  found_dot frames after found received e takes = subst (λ (f : Found). Takes setting after at cs received (found_in frames f)) (sym e) takes
 
 -- as many calls are open
 pub as_many : (frames after : List Frame) (found : Found) → calls_with frames found ≡ Some after → length after ≡ length frames
@@ -258,10 +258,10 @@ pub stays_open : (frames after : List Frame) (found : Found) (token : Bool) → 
 stays_open frames after found token e = let many : length after ≡ length frames = as_many frames after found e in omega (arith, many)
 
 -- the innermost ended
-pub fewer_open : (frames after : List Frame) (taken : Taken) → length after < length frames → Shortens frames after taken
+pub fewer_open : (frames after : List Frame) (received : Received) → length after < length frames → Shortens frames after received
 fewer_open frames after (Stays token) less = omega (arith, less)
-fewer_open frames after (TakenGives found) less = less
-fewer_open frames after (TakenRefused code place) less = omega (arith, less)
+fewer_open frames after (ReceivedGives found) less = less
+fewer_open frames after (ReceivedRefused code offset) less = omega (arith, less)
 
 -- ---- call after call
 

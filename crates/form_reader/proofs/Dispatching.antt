@@ -6,7 +6,7 @@ use Rattle.readtable_core.specs.Characters.{upper_case}
 use Rattle.readtable_core.specs.Tables.{dispatch_at}
 use Rattle.lisp_reading.specs.declared.found.Found.{Found}
 use Rattle.form_reader.specs.declared.frame.Frame.{Frame}
-use Rattle.form_reader.specs.declared.stage.Event.{Event}
+use Rattle.form_reader.specs.declared.position.Event.{Event}
 use Rattle.lisp_reading.specs.declared.way.Function.{Function}
 use Rattle.lisp_reading.specs.Plans.{Plan, Read, fault, run}
 use Rattle.lisp_reading.specs.Calls.{InvokedCall}
@@ -30,10 +30,10 @@ module _ (setting : Setting) (frames : List Frame) (character at c : ℕ) (numbe
       run setting.table setting.limits (given setting frames (sub_called setting (length frames) (inner_at setting (length frames)) character c number o)) (at + 1) cs
 
   pub sub_over : setting.limits.text ≤ at → sub_gives ≡ fault FORM_TOO_LONG at
-  sub_over g = given_fault setting frames _ at (c ∷ cs) (record { code = FORM_TOO_LONG; at = at }) (byte_over setting.table setting.limits sub_on at c cs g)
+  sub_over g = given_fault setting frames _ at (c ∷ cs) (record { number = FORM_TOO_LONG; at = at }) (byte_over setting.table setting.limits sub_on at c cs g)
 
   pub sub_invalid : at < setting.limits.text → 128 ≤ c → sub_gives ≡ fault INVALID_CHARACTER at
-  sub_invalid lt over = given_fault setting frames _ at (c ∷ cs) (record { code = INVALID_CHARACTER; at = at }) (byte_invalid setting.table setting.limits sub_on at c cs lt over)
+  sub_invalid lt over = given_fault setting frames _ at (c ∷ cs) (record { number = INVALID_CHARACTER; at = at }) (byte_invalid setting.table setting.limits sub_on at c cs lt over)
 
   sub_taken : at < setting.limits.text → c < 128 → sub_gives ≡ sub_found (dispatch_at setting.table character c)
   sub_taken lt ascii = given_moves setting frames _ (sub_on c) at (at + 1) (c ∷ cs) cs (byte_taken setting.table setting.limits sub_on at c cs lt ascii)

@@ -9,13 +9,13 @@ use Rattle.lisp_reading.specs.declared.found.Found.{Found}
 use Rattle.lisp_reading.specs.declared.found.Found.TheVariants.{Nothing as nothing, TheEnd as the_end}
 use Rattle.form_reader.specs.declared.frame.Frame.{Frame}
 use Rattle.lisp_reading.specs.declared.limits.Limits.{Limits}
-use Rattle.form_reader.specs.declared.stage.Event.{Event}
+use Rattle.form_reader.specs.declared.position.Event.{Event}
 use Rattle.lisp_reading.specs.declared.way.Keep.{Keep}
 use Rattle.form_reader.specs.declared.deliver.Delivered.{Delivered}
 use Rattle.form_reader.specs.declared.deliver.Delivered.TheVariants.{Waits}
 use Rattle.form_reader.specs.declared.ending.ReadOutcome.{ReadOutcome}
-use Rattle.form_reader.specs.declared.stage.Event.TheVariants.{Gives as IsGiven}
-use Rattle.form_reader.specs.declared.stage.Stage.{Stage}
+use Rattle.form_reader.specs.declared.position.Event.TheVariants.{Gives as IsGiven}
+use Rattle.form_reader.specs.declared.position.Position.{Position}
 use Rattle.form_reader.specs.declared.change.Settled.{Settled}
 use Rattle.form_reader.specs.declared.change.Settled.TheVariants.{Done as SettledDone}
 use Rattle.form_reader.specs.Delivering.{Delivers}
@@ -25,14 +25,14 @@ use Rattle.lisp_reading.specs.Setting.{Setting}
 use Rattle.lisp_reading.specs.Gathering.{text_turn, line_turn, block_turn, number_turn}
 use Rattle.lisp_reading.specs.Reading.{Piece, without_space, empty, sub_there, dispatched}
 use Rattle.form_reader.specs.Feeding.{token_read}
-use Rattle.form_reader.specs.Frames.{attempt_in, place_in, call_in, close_of, given, between, token_goes_on}
-use Rattle.form_reader.specs.Resuming.{inner_at, stage_gives, Brings}
+use Rattle.form_reader.specs.Frames.{attempt_in, next_item_in, call_in, close_of, given, between, token_goes_on}
+use Rattle.form_reader.specs.Resuming.{inner_at, position_gives, Brings}
 use Rattle.form_reader.specs.Ending.{TokenStops}
 use Rattle.form_reader.specs.Changing.{outcome_of, Settles}
 use Rattle.form_reader.proofs.Deliveries.{delivered}
 use Rattle.lisp_reading.proofs.Forms.{reads_is, the_end_there}
 use Rattle.lisp_reading.proofs.Steps.{and_then, run_then}
-use Rattle.lisp_reading.proofs.Turns.{loop_is, text_guarded, line_guarded, block_guarded, number_guarded, attempt_ends, place_at_end}
+use Rattle.lisp_reading.proofs.Turns.{loop_is, text_guarded, line_guarded, block_guarded, number_guarded, attempt_ends, next_item_at_end}
 use Rattle.form_reader.proofs.Opened.{given_fault, gathering_ends, gathering_fails}
 
 there : (at : ℕ) → at - 0 ≡ at
@@ -67,21 +67,21 @@ module _ (setting : Setting) (frames : List Frame) (at : ℕ) where
 
   pub text_fails : (terminator : ℕ) (text : List ℕ) (on : List ℕ → Plan Found) → at ≤ setting.limits.text
       → at_end (then_plan (loop setting.limits (text_turn setting.table terminator) text) on) ≡ fault END_OF_FILE at
-  text_fails terminator text on h = gathering_fails setting frames _ on (record { code = END_OF_FILE; at = at }) at [] (text_end setting.table setting.limits at terminator text h)
+  text_fails terminator text on h = gathering_fails setting frames _ on (record { number = END_OF_FILE; at = at }) at [] (text_end setting.table setting.limits at terminator text h)
 
   pub byte_fails : {A : Type 0} (next : ℕ → Plan A) (on : A → Plan Found) → at_end (then_plan (next_byte next) on) ≡ fault END_OF_FILE at
-  byte_fails next on = gathering_fails setting frames _ on (record { code = END_OF_FILE; at = at }) at [] (byte_end setting.table setting.limits at next)
+  byte_fails next on = gathering_fails setting frames _ on (record { number = END_OF_FILE; at = at }) at [] (byte_end setting.table setting.limits at next)
 
   pub block_fails : (levels : ℕ × ℕ) (on : Unit {0} → Plan Found) → at ≤ setting.limits.text
       → at_end (then_plan (loop setting.limits block_turn levels) on) ≡ fault END_OF_FILE at
-  block_fails levels on h = gathering_fails setting frames _ on (record { code = END_OF_FILE; at = at }) at [] (block_end setting.table setting.limits at levels h)
+  block_fails levels on h = gathering_fails setting frames _ on (record { number = END_OF_FILE; at = at }) at [] (block_end setting.table setting.limits at levels h)
 
   pub number_fails : (c : ℕ) (number : Option ℕ) → at ≤ setting.limits.text
       → at_end (dispatched setting (length frames) (inner_at setting (length frames)) c number) ≡ fault END_OF_FILE at
   number_fails c number h =
       gathering_ends setting frames (loop setting.limits number_turn number) (sub_there setting (length frames) (inner_at setting (length frames)) c) number at at [] []
       (number_end setting.table setting.limits at number h)
-      ∙ given_fault setting frames (sub_there setting (length frames) (inner_at setting (length frames)) c number) at [] (record { code = END_OF_FILE; at = at })
+      ∙ given_fault setting frames (sub_there setting (length frames) (inner_at setting (length frames)) c number) at [] (record { number = END_OF_FILE; at = at })
       (byte_end setting.table setting.limits at _)
 
   -- ---- a token
@@ -110,10 +110,10 @@ pub some_waits : (setting : Setting) (frames : List Frame) (at : ℕ) → at ≤
 some_waits setting [] at h never = absurd (never refl)
 some_waits setting (f ∷ fs) at h never =
     let call = λ (p : Piece). call_in setting f fs p in
-    let none : run setting.table setting.limits (place_in setting f fs) at [] ≡ fault END_OF_FILE at =
-    place_at_end setting.table setting.limits (close_of f.part) (attempt_in setting fs) at (attempt_ends setting _ _) h ∙ ap (λ (n : ℕ). fault END_OF_FILE n) (there at) in
-    given_fault setting fs (then_plan (place_in setting f fs) call) at [] (record { code = END_OF_FILE; at = at })
-    (run_then setting.table setting.limits (place_in setting f fs) call at [] ∙ ap (and_then setting.table setting.limits call) none)
+    let none : run setting.table setting.limits (next_item_in setting f fs) at [] ≡ fault END_OF_FILE at =
+    next_item_at_end setting.table setting.limits (close_of f.part) (attempt_in setting fs) at (attempt_ends setting _ _) h ∙ ap (λ (n : ℕ). fault END_OF_FILE n) (there at) in
+    given_fault setting fs (then_plan (next_item_in setting f fs) call) at [] (record { number = END_OF_FILE; at = at })
+    (run_then setting.table setting.limits (next_item_in setting f fs) call at [] ∙ ap (and_then setting.table setting.limits call) none)
 
 no_space : (setting : Setting) (frames : List Frame) (at : ℕ) (token : Bool)
     → run setting.table setting.limits (without_space setting.table token (between setting frames)) at [] ≡ run setting.table setting.limits (between setting frames) at []
@@ -129,10 +129,10 @@ nothing_last setting start at found token e =
     ∙ ap (λ (r : Read Found). outcome_of setting (start + at) r) (the_end_there setting)
 
 module _ (setting : Setting) (frames : List Frame) (at : ℕ) where
-  pub stage_last : (stage known : Stage) (result : Result Event AllocError) → stage ≡ known
-      → IfOk result (λ event. Brings setting frames at [] event (stage_gives setting frames known at []))
-      → IfOk result (λ event. Brings setting frames at [] event (stage_gives setting frames stage at []))
-  stage_last stage known result e h = subst (λ (s : Stage). IfOk result (λ event. Brings setting frames at [] event (stage_gives setting frames s at []))) (sym e) h
+  pub position_last : (position known : Position) (result : Result Event AllocError) → position ≡ known
+      → IfOk result (λ event. Brings setting frames at [] event (position_gives setting frames known at []))
+      → IfOk result (λ event. Brings setting frames at [] event (position_gives setting frames position at []))
+  position_last position known result e h = subst (λ (s : Position). IfOk result (λ event. Brings setting frames at [] event (position_gives setting frames s at []))) (sym e) h
 
   pub waits_last : (before : List Frame) (found : Found) (event : Event) (delivered : Delivered) (token : Bool) (settled : Settled) (read : Read Found) → event ≡ IsGiven found
       → Brings setting before at [] event read → delivered ≡ Waits token

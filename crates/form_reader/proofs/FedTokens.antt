@@ -35,7 +35,7 @@ token_ended_by : (table : Table) (limits : Limits) (old new : Scan) (at c : ℕ)
 token_ended_by table limits old new at c cs h e =
     let by : Bool → Read (List Mark) = λ b. elim b [
       | true ↦ Ok (new.marks, at, map (λ (x : TypedByte). x.byte) (typed_text table (c ∷ cs)))
-      | false ↦ Err (record { code = FORM_TOO_LONG; at = limits.text })
+      | false ↦ Err (record { number = FORM_TOO_LONG; at = limits.text })
     ] in
     ap (λ (r : Scanned). cut limits.text r) e ∙ ap by (le-leb at limits.text h)
     ∙ ap (λ (ds : List ℕ). Ok (new.marks, at, ds)) (bytes_typed table (c ∷ cs))
@@ -48,24 +48,24 @@ not_below limit TokenTooLong at h = le-ltb at limit (omega arith)
 
 cut_over : (limit at : ℕ) (r : Scanned) → limit < at → MatchResult r (λ t. at ≤ t.1) (λ e. at ≤ e.at) → cut limit r ≡ fault FORM_TOO_LONG limit
 cut_over limit at (Ok (marks, next, rest)) h le =
-    let by : Bool → Read (List Mark) = λ b. elim b [ true ↦ Ok (marks, next, map (λ (x : TypedByte). x.byte) rest) | false ↦ Err (record { code = FORM_TOO_LONG; at = limit }) ] in
+    let by : Bool → Read (List Mark) = λ b. elim b [ true ↦ Ok (marks, next, map (λ (x : TypedByte). x.byte) rest) | false ↦ Err (record { number = FORM_TOO_LONG; at = limit }) ] in
     ap by (lt-leb next limit (omega arith))
 cut_over limit at (Err f) h le =
     let by : Bool → Read (List Mark) = λ b. elim b [
-      | true ↦ Err (record { code = scan_refusal_number f.refusal; at = f.at })
-      | false ↦ Err (record { code = FORM_TOO_LONG; at = limit })
+      | true ↦ Err (record { number = scan_refusal_number f.refusal; at = f.at })
+      | false ↦ Err (record { number = FORM_TOO_LONG; at = limit })
     ] in
     ap by (not_below limit f.refusal f.at (omega arith))
 
 byte_cut : (limit at code : ℕ) → at ≤ limit
-    → ◌≡◌ {A = Read (List Mark)} (elim (nat_lt at limit) [ true ↦ Err (record { code = code; at = at }) | false ↦ Err (record { code = FORM_TOO_LONG; at = limit }) ])
+    → ◌≡◌ {A = Read (List Mark)} (elim (nat_lt at limit) [ true ↦ Err (record { number = code; at = at }) | false ↦ Err (record { number = FORM_TOO_LONG; at = limit }) ])
     (fault (if nat_lt at limit then code else FORM_TOO_LONG) at)
 byte_cut limit at code h =
     let by : (b : Bool) → nat_lt at limit ≡ b
-    → ◌≡◌ {A = Read (List Mark)} (elim b [ true ↦ Err (record { code = code; at = at }) | false ↦ Err (record { code = FORM_TOO_LONG; at = limit }) ])
+    → ◌≡◌ {A = Read (List Mark)} (elim b [ true ↦ Err (record { number = code; at = at }) | false ↦ Err (record { number = FORM_TOO_LONG; at = limit }) ])
     (fault (if b then code else FORM_TOO_LONG) at) =
     λ b. elim b as (λ b. nat_lt at limit ≡ b
-    → ◌≡◌ {A = Read (List Mark)} (elim b [ true ↦ Err (record { code = code; at = at }) | false ↦ Err (record { code = FORM_TOO_LONG; at = limit }) ])
+    → ◌≡◌ {A = Read (List Mark)} (elim b [ true ↦ Err (record { number = code; at = at }) | false ↦ Err (record { number = FORM_TOO_LONG; at = limit }) ])
     (fault (if b then code else FORM_TOO_LONG) at)) [
       | true ↦ λ e. refl
       | false ↦ λ e. let full : limit ≡ at = omega (arith, h, ltb-false at limit e) in ap (λ (n : ℕ). fault FORM_TOO_LONG n) full
@@ -74,7 +74,7 @@ byte_cut limit at code h =
 
 pub refused_cut : (limit : ℕ) (refusal : ScanRefusal) (at : ℕ) → at ≤ limit → cut limit (Err (record { refusal = refusal; at = at })) ≡ fault (refused_number limit refusal at) at
 refused_cut limit EndOfFile at h =
-    let by : Bool → Read (List Mark) = λ b. elim b [ true ↦ Err (record { code = 1; at = at }) | false ↦ Err (record { code = FORM_TOO_LONG; at = limit }) ] in
+    let by : Bool → Read (List Mark) = λ b. elim b [ true ↦ Err (record { number = 1; at = at }) | false ↦ Err (record { number = FORM_TOO_LONG; at = limit }) ] in
     ap by (le-leb at limit h)
 refused_cut limit InvalidCharacter at h = byte_cut limit at (scan_refusal_number InvalidCharacter) h
 refused_cut limit InvalidTrait at h = byte_cut limit at (scan_refusal_number InvalidTrait) h

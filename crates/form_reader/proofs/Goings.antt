@@ -3,7 +3,7 @@ use Rattle.std.proofs.Common.{◌≡◌, ℕ, ◌+◌, List, ◌∷◌, Result, 
 use Rattle.std.specs.declared.alloc.AllocError.{AllocError}
 use Rattle.lisp_reading.specs.declared.found.Found.{Found}
 use Rattle.form_reader.specs.declared.frame.Frame.{Frame}
-use Rattle.form_reader.specs.declared.stage.Event.{Event}
+use Rattle.form_reader.specs.declared.position.Event.{Event}
 use Rattle.lisp_reading.specs.Plans.{Plan, then_plan, Read, fault, run}
 use Rattle.lisp_reading.specs.Setting.{Setting}
 use Rattle.form_reader.specs.Frames.{plan_gives}
@@ -19,7 +19,7 @@ module _ {A : Type 0} (setting : Setting) (frames : List Frame) (p : Plan A) (on
   -- it is refused
   pub fails : (code : ℕ) → run setting.table setting.limits p at (c ∷ cs) ≡ fault code at
       → plan_gives setting frames (then_plan p on) at (c ∷ cs) ≡ fault code at
-  fails code e = gathering_fails setting frames p on (record { code = code; at = at }) at (c ∷ cs) e
+  fails code e = gathering_fails setting frames p on (record { number = code; at = at }) at (c ∷ cs) e
 
 -- it ends, and what is given goes on from what was gathered
 pub ends : {A : Type 0} (setting : Setting) (frames : List Frame) (p : Plan A) (on : A → Plan Found) (x y : A) (at to : ℕ) (cs ds : List ℕ) (result : Result Event AllocError)

@@ -20,6 +20,7 @@ pub mod Endings
 pub mod ReaderSteps
 pub mod Standings
 pub mod Between
+pub mod PlanEnds
 pub mod TextEnds
 pub mod Deciding
 pub mod Waiting

@@ -1,7 +1,7 @@
 -- Tokens that are objects: where they begin, and what they come to where they end.
 use Rattle.std.proofs.Common.{◌≡◌, ℕ, ◌+◌, ◌-◌, ◌<◌, ◌≤◌, Bool, true, false, List, [], ◌∷◌, length, Some, Result, Err, if◌then◌else◌, refl, sym, ap, subst, ◌∙◌, arith}
 use Rattle.std.specs.Prelude.{nat_lt, ◌==◌, IsFalse, IfOk, IfSome, Option}
-use Rattle.form_reader.specs.declared.stage.Stage.TheVariants.{Object as AtObject, Token as AtToken}
+use Rattle.form_reader.specs.declared.position.Position.TheVariants.{Object as AtObject, Token as AtToken}
 use Rattle.std.proofs.lemmas.Bool.{eq-eqb}
 use Rattle.std.specs.declared.alloc.AllocError.{AllocError}
 use Rattle.lisp_object.specs.declared.refusal.TheConstants.{FORM_TOO_LONG}
@@ -16,10 +16,10 @@ use Rattle.form_reader.specs.InPlace.{BeginsToken, Stays}
 use Rattle.lisp_reading.specs.declared.found.Found.{Found}
 use Rattle.form_reader.specs.declared.frame.Frame.{Frame}
 use Rattle.form_reader.specs.declared.macros.Moved.{Moved}
-use Rattle.form_reader.specs.declared.stage.Event.{Event}
-use Rattle.form_reader.specs.declared.stage.Stage.{Stage}
+use Rattle.form_reader.specs.declared.position.Event.{Event}
+use Rattle.form_reader.specs.declared.position.Position.{Position}
 use Rattle.lisp_reading.specs.declared.limits.Limits.{Limits}
-use Rattle.form_reader.specs.declared.stage.FirstByte.{FirstByte}
+use Rattle.form_reader.specs.declared.position.FirstByte.{FirstByte}
 use Rattle.lisp_reading.specs.declared.told.Told.{Told}
 use Rattle.form_reader.specs.Begun.{FirstFeeds}
 use Rattle.lisp_reading.specs.Plans.{Plan, Read, fault, run}
@@ -33,7 +33,7 @@ use Rattle.readtable_core.specs.declared.table.Case.{Case}
 use Rattle.lisp_reading.specs.Reading.{closed, is_whitespace, without_space, stands_alone, told_found, token_found}
 use Rattle.form_reader.specs.Feeding.{token_read}
 use Rattle.form_reader.specs.Frames.{close_of, close_of_frames, call_in, given, between, token_goes_on}
-use Rattle.form_reader.specs.Resuming.{attempt_at, stage_gives, Brings, Moves}
+use Rattle.form_reader.specs.Resuming.{attempt_at, position_gives, Brings, Moves}
 use Rattle.form_reader.proofs.Attempts.{closes, closes_over, attempts, attempt_token, alone_by, takes_is, takes_over, passes_is}
 use Rattle.form_reader.proofs.Deliveries.{nothing_stays}
 use Rattle.form_reader.proofs.Beginnings.{given_refused}
@@ -146,11 +146,11 @@ object_begins setting at c cs frames scan h le other alone same =
     attempts setting at c cs frames h other ∙ token_goes setting at c cs frames (token_read setting.table setting.limits scan (at + 1) cs) le alone same
 
 -- the same where it is known where the reader is, and that a token begins
-pub begun_there : (setting : Setting) (frames : List Frame) (at c : ℕ) (cs : List ℕ) (stage : Stage) (scan : Scan) (found : Option Scan) → stage ≡ AtObject
+pub begun_there : (setting : Setting) (frames : List Frame) (at c : ℕ) (cs : List ℕ) (position : Position) (scan : Scan) (found : Option Scan) → position ≡ AtObject
     → found ≡ Some scan → IfSome found (λ s. BeginsToken setting frames at c cs s)
-    → stage_gives setting frames stage at (c ∷ cs) ≡ stage_gives setting frames (AtToken scan) (at + 1) cs
-begun_there setting frames at c cs stage scan found is some begins =
-    ap (λ (s : Stage). stage_gives setting frames s at (c ∷ cs)) is
+    → position_gives setting frames position at (c ∷ cs) ≡ position_gives setting frames (AtToken scan) (at + 1) cs
+begun_there setting frames at c cs position scan found is some begins =
+    ap (λ (s : Position). position_gives setting frames s at (c ∷ cs)) is
     ∙ subst (λ (o : Option Scan). IfSome o (λ s. BeginsToken setting frames at c cs s)) some begins
 
 -- whitespace is discarded in an open call
@@ -163,8 +163,8 @@ blank_stays setting at c cs (f ∷ fs) lt le some other e =
     ∙ nothing_stays setting fs f.call (at + 1) cs false f.part
 
 -- the same where it is known where the reader is
-pub stage_moves : (setting : Setting) (frames : List Frame) (at c : ℕ) (cs : List ℕ) (stage known : Stage) (result : Result Moved AllocError) → stage ≡ known
-    → IfOk result (λ moved. Moves setting frames at c cs moved (stage_gives setting frames known at (c ∷ cs)))
-    → IfOk result (λ moved. Moves setting frames at c cs moved (stage_gives setting frames stage at (c ∷ cs)))
-stage_moves setting frames at c cs stage known result is moves =
-    subst (λ (s : Stage). IfOk result (λ moved. Moves setting frames at c cs moved (stage_gives setting frames s at (c ∷ cs)))) (sym is) moves
+pub position_moves : (setting : Setting) (frames : List Frame) (at c : ℕ) (cs : List ℕ) (position known : Position) (result : Result Moved AllocError) → position ≡ known
+    → IfOk result (λ moved. Moves setting frames at c cs moved (position_gives setting frames known at (c ∷ cs)))
+    → IfOk result (λ moved. Moves setting frames at c cs moved (position_gives setting frames position at (c ∷ cs)))
+position_moves setting frames at c cs position known result is moves =
+    subst (λ (s : Position). IfOk result (λ moved. Moves setting frames at c cs moved (position_gives setting frames s at (c ∷ cs)))) (sym is) moves

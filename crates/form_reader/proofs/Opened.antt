@@ -11,12 +11,12 @@ use Rattle.form_reader.specs.declared.frame.Part.TheVariants.{List as InList, Un
 use Rattle.lisp_reading.specs.Plans.{Plan, takes, then_plan, Fault, Read, within, run}
 use Rattle.lisp_reading.specs.Calls.{InvokedCall}
 use Rattle.lisp_reading.specs.Setting.{Setting}
-use Rattle.lisp_reading.specs.Reading.{Piece, is_whitespace, without_space, at_place, place, Items, items_step, items_turn, items_after, undotted, list_end, completed}
-use Rattle.form_reader.specs.Frames.{attempt_in, place_in, call_in, given, between}
+use Rattle.lisp_reading.specs.Reading.{Piece, is_whitespace, without_space, piece_of, next_item, Items, items_step, items_turn, items_after, undotted, list_end, completed}
+use Rattle.form_reader.specs.Frames.{attempt_in, next_item_in, call_in, given, between}
 use Rattle.lisp_reading.proofs.Steps.{and_then, run_then}
 use Rattle.lisp_reading.proofs.Turns.{Ends, attempt_ends, loop_is, items_guarded}
 
--- where two plans give the same, each at its place, so do these with the next plan after them
+-- where two plans give the same, each at its offset, so do these with the next plan after them
 pub then_moves : {A B : Type 0} (table : Table) (limits : Limits) (p q : Plan A) (next : A → Plan B) (at to : ℕ) (cs ds : List ℕ)
     → run table limits p at cs ≡ run table limits q to ds → run table limits (then_plan p next) at cs ≡ run table limits (then_plan q next) to ds
 then_moves table limits p q next at to cs ds e = run_then table limits p next at cs ∙ ap (and_then table limits next) e ∙ sym (run_then table limits q next to ds)
@@ -41,7 +41,7 @@ pub given_moves : (setting : Setting) (frames : List Frame) (p q : Plan Found) (
 unfolding given
 given_moves setting [] p q at to cs ds e = e
 given_moves setting (f ∷ fs) p q at to cs ds e =
-    let found = λ (x : Found). at_place setting.table (place_in setting f fs) x in
+    let found = λ (x : Found). piece_of setting.table (next_item_in setting f fs) x in
     let call = λ (x : Piece). call_in setting f fs x in
     given_moves setting fs (then_plan (then_plan p found) call) (then_plan (then_plan q found) call) at to cs ds
     (then_moves setting.table setting.limits (then_plan p found) (then_plan q found) call at to cs ds (then_moves setting.table setting.limits p q found at to cs ds e))
@@ -52,7 +52,7 @@ pub given_fault : (setting : Setting) (frames : List Frame) (p : Plan Found) (at
 unfolding given
 given_fault setting [] p at cs e h = h
 given_fault setting (f ∷ fs) p at cs e h =
-    let found = λ (x : Found). at_place setting.table (place_in setting f fs) x in
+    let found = λ (x : Found). piece_of setting.table (next_item_in setting f fs) x in
     let call = λ (x : Piece). call_in setting f fs x in
     given_fault setting fs (then_plan (then_plan p found) call) at cs e
     (run_then setting.table setting.limits (then_plan p found) call at cs ∙ ap (and_then setting.table setting.limits call)
@@ -88,12 +88,12 @@ gathering_fails setting frames p on f at cs e =
 items_are : (setting : Setting) (close : ℕ) (may : Plan Found) (last : Items → Plan Found) (xs : List Object) (at : ℕ) (cs : List ℕ)
     → Ends setting.table setting.limits may → at ≤ setting.limits.text
     → run setting.table setting.limits (then_plan (items_after setting close may xs) last) at cs
-    ≡ run setting.table setting.limits (then_plan (place setting (Some close) may)
+    ≡ run setting.table setting.limits (then_plan (next_item setting (Some close) may)
     (λ p. then_plan (items_step setting.table (items_after setting close may) xs p) last)) at cs
 items_are setting close may last xs at cs ends h =
     then_moves setting.table setting.limits (items_after setting close may xs) (items_turn setting close may (items_after setting close may) xs) last at at cs cs
     (loop_is setting.table setting.limits (items_turn setting close may) (items_guarded setting close may ends) xs at cs h)
-    ∙ then_twice setting.table setting.limits (place setting (Some close) may) (λ p. items_step setting.table (items_after setting close may) xs p) last at cs
+    ∙ then_twice setting.table setting.limits (next_item setting (Some close) may) (λ p. items_step setting.table (items_after setting close may) xs p) last at cs
 
 pub ends_in : (setting : Setting) (frames : List Frame) → Ends setting.table setting.limits (attempt_in setting frames)
 ends_in setting frames = attempt_ends setting _ _
@@ -140,7 +140,7 @@ takes_given_at {A = A} setting frames p test on at c cs b full e f =
     → run setting.table setting.limits (given setting frames (then_plan (takes p test (λ d. p)) on)) at (c ∷ cs) ≡ last b full) [
       | true ↦ elim full as (λ full. run setting.table setting.limits (then_plan (takes p test (λ d. p)) on) at (c ∷ cs) ≡ first true full
           → run setting.table setting.limits (given setting frames (then_plan (takes p test (λ d. p)) on)) at (c ∷ cs) ≡ last true full) [
-            | true ↦ λ e. given_fault setting frames (then_plan (takes p test (λ d. p)) on) at (c ∷ cs) (record { code = FORM_TOO_LONG; at = at }) e
+            | true ↦ λ e. given_fault setting frames (then_plan (takes p test (λ d. p)) on) at (c ∷ cs) (record { number = FORM_TOO_LONG; at = at }) e
             | false ↦ λ e. given_moves setting frames (then_plan (takes p test (λ d. p)) on) (then_plan p on) at (at + 1) (c ∷ cs) cs e
           ]
       | false ↦ λ e. given_moves setting frames (then_plan (takes p test (λ d. p)) on) (then_plan p on) at at (c ∷ cs) (c ∷ cs) e

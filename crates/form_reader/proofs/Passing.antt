@@ -6,9 +6,9 @@ use Rattle.form_reader.specs.declared.frame.Frame.{Frame}
 use Rattle.form_reader.specs.declared.macros.Moved.{Moved}
 use Rattle.form_reader.specs.declared.macros.Moved.TheVariants.{Before as IsBefore}
 use Rattle.form_reader.specs.declared.objects.Passed.{Passed}
-use Rattle.form_reader.specs.declared.objects.Passed.TheVariants.{Taken as PassedTaken}
-use Rattle.form_reader.specs.declared.stage.Event.{Event}
-use Rattle.form_reader.specs.declared.stage.Event.TheVariants.{Gives as IsGiven}
+use Rattle.form_reader.specs.declared.objects.Passed.TheVariants.{Brings as PassedBrings}
+use Rattle.form_reader.specs.declared.position.Event.{Event}
+use Rattle.form_reader.specs.declared.position.Event.TheVariants.{Gives as IsGiven}
 use Rattle.lisp_reading.specs.Plans.{gives, Read}
 use Rattle.lisp_reading.specs.Setting.{Setting}
 use Rattle.form_reader.specs.Delivering.{Passes}
@@ -25,6 +25,6 @@ before_passes setting after last at c cs moved event found read result e is move
     subst (λ (r : Read Found). IfOk result (λ passed. Passes setting last at c cs passed r)) (sym told) passes
 
 -- a byte that was taken
-pub taken_brings : (setting : Setting) (frames : List Frame) (at c : ℕ) (cs : List ℕ) (passed : Passed) (event : Event) (read : Read Found) → passed ≡ PassedTaken event
+pub taken_brings : (setting : Setting) (frames : List Frame) (at c : ℕ) (cs : List ℕ) (passed : Passed) (event : Event) (read : Read Found) → passed ≡ PassedBrings event
     → Passes setting frames at c cs passed read → Brings setting frames (at + 1) cs event read
 taken_brings setting frames at c cs passed event read e passes = subst (λ (p : Passed). Passes setting frames at c cs p read) e passes

@@ -11,8 +11,8 @@ use Rattle.form_reader.specs.declared.reader.ReaderState.{ReaderState}
 use Rattle.form_reader.specs.declared.reader.ReaderState.TheVariants.{Open, Refused, OutOfMemory}
 use Rattle.form_reader.specs.declared.reader.Advance.{Advance}
 use Rattle.form_reader.specs.declared.reader.Advance.TheVariants.{More as AdvanceMore, Form as AdvanceForm, Refused as AdvanceRefused}
-use Rattle.form_reader.specs.declared.stage.Stage.{Stage}
-use Rattle.form_reader.specs.declared.stage.Stage.TheVariants.{Object as AtObject}
+use Rattle.form_reader.specs.declared.position.Position.{Position}
+use Rattle.form_reader.specs.declared.position.Position.TheVariants.{Object as AtObject}
 use Rattle.form_reader.specs.declared.change.Change.{Change}
 use Rattle.form_reader.specs.declared.change.Change.TheVariants.{Goes, Form as ChangeForm, Refused as ChangeRefused}
 use Rattle.lisp_reading.specs.declared.found.Found.{Found}
@@ -22,11 +22,11 @@ use Rattle.std.specs.declared.alloc.AllocError.{AllocError}
 use Rattle.form_reader.specs.declared.objects.Passed.{Passed}
 use Rattle.form_reader.specs.declared.objects.Passed.TheVariants.{Done as PassedDone}
 use Rattle.form_reader.specs.Delivering.{Passes}
-use Rattle.form_reader.specs.Resuming.{stage_gives}
+use Rattle.form_reader.specs.Resuming.{position_gives}
 use Rattle.lisp_reading.specs.Setting.{Setting}
 use Rattle.lisp_reading.specs.Reading.{form, refused, reads}
 use Rattle.form_reader.specs.declared.in_place.InPlace.{InPlace}
-use Rattle.form_reader.specs.declared.in_place.InPlace.TheVariants.{Taken as InPlaceTaken, Passed as InPlacePassed, Left as InPlaceLeft, Refused as InPlaceRefused}
+use Rattle.form_reader.specs.declared.in_place.InPlace.TheVariants.{GoesOn as InPlaceGoesOn, Passed as InPlacePassed, Left as InPlaceLeft, Refused as InPlaceRefused}
 use Rattle.form_reader.specs.InPlace.{FeedsInPlace, IsReadyInPlace}
 use Rattle.form_reader.specs.Changing.{outcome_of, rest_of, ChangesTo, IsStanding, IsReadyChange, BeginsFrom}
 use Rattle.form_reader.specs.Reader.{fed, begun, MayGoOn, DecideNothing, IsNew, IsAfter, IsAfterIn, Steps, BeginsLater, IsSoundStep, Becomes}
@@ -43,16 +43,16 @@ new_after setting reader n =
     subst (λ (s : ReaderState). IsAfterIn setting reader s []) (sym n.state)
     (omega (arith, n.start, n.at), λ cs. new_rest setting reader.frames n.frames cs ∙ (λ i. rest_of setting reader.frames AtObject (sym n.start i) (sym n.at i) cs))
 
-module _ (setting : Setting) (old mid new : FormReader) (stage : Stage) (bytes : List ℕ) (byte : ℕ) (after : List Frame) where
+module _ (setting : Setting) (old mid new : FormReader) (position : Position) (bytes : List ℕ) (byte : ℕ) (after : List Frame) where
   abbrev fed_now : List ℕ
   fed_now = bytes ++ byte ∷ []
 
-  one_more : IsAfterIn setting old (Open stage) bytes → (cs : List ℕ) → reads setting (fed_now ++ cs) ≡ rest_of setting old.frames stage old.start old.at (byte ∷ cs)
+  one_more : IsAfterIn setting old (Open position) bytes → (cs : List ℕ) → reads setting (fed_now ++ cs) ≡ rest_of setting old.frames position old.start old.at (byte ∷ cs)
   one_more a cs = ap (reads setting) (append_assoc bytes (byte ∷ []) cs) ∙ a.1 (byte ∷ cs)
 
   -- it is taken, and what is read of the text after it is this
-  went_to : (next : Stage) (start at : ℕ) → start + at ≡ old.start + old.at + 1 → IsAfterIn setting old (Open stage) bytes
-      → ((cs : List ℕ) → rest_of setting old.frames stage old.start old.at (byte ∷ cs) ≡ rest_of setting old.frames next start at cs)
+  went_to : (next : Position) (start at : ℕ) → start + at ≡ old.start + old.at + 1 → IsAfterIn setting old (Open position) bytes
+      → ((cs : List ℕ) → rest_of setting old.frames position old.start old.at (byte ∷ cs) ≡ rest_of setting old.frames next start at cs)
       → IsStanding setting.limits old.frames next at
       → ((start + at ≡ length fed_now) × ((cs : List ℕ) → reads setting (fed_now ++ cs) ≡ rest_of setting old.frames next start at cs))
       × (start + at ≡ length fed_now) × MayGoOn fed_now (reads setting fed_now) × DecideNothing setting fed_now
@@ -62,34 +62,34 @@ module _ (setting : Setting) (old mid new : FormReader) (stage : Stage) (bytes :
       let rest : (cs : List ℕ) → reads setting (fed_now ++ cs) ≡ rest_of setting old.frames next start at cs = λ cs. one_more a cs ∙ same cs in (
         (count, rest),
         count,
-        may_go_on setting old.frames next start at fed_now ready.levels ready.place count rest,
-        decide_nothing setting old.frames next start at fed_now ready.levels ready.place count rest,
+        may_go_on setting old.frames next start at fed_now ready.levels ready.within count rest,
+        decide_nothing setting old.frames next start at fed_now ready.levels ready.within count rest,
       )
 
   -- it is taken where the reader is
-  pub went_on : (next : Stage) → IsAfterIn setting old (Open stage) bytes
-      → ((cs : List ℕ) → rest_of setting old.frames stage old.start old.at (byte ∷ cs) ≡ rest_of setting old.frames next old.start (old.at + 1) cs)
+  pub went_on : (next : Position) → IsAfterIn setting old (Open position) bytes
+      → ((cs : List ℕ) → rest_of setting old.frames position old.start old.at (byte ∷ cs) ≡ rest_of setting old.frames next old.start (old.at + 1) cs)
       → IsStanding setting.limits old.frames next (old.at + 1)
       → ((old.start + (old.at + 1) ≡ length fed_now) × ((cs : List ℕ) → reads setting (fed_now ++ cs) ≡ rest_of setting old.frames next old.start (old.at + 1) cs))
       × (old.start + (old.at + 1) ≡ length fed_now) × MayGoOn fed_now (reads setting fed_now) × DecideNothing setting fed_now
   went_on next a same ready = went_to next old.start (old.at + 1) (omega arith) a same ready
 
   -- it is passed over, where nothing is open
-  pub went_past : (next : Stage) → IsAfterIn setting old (Open stage) bytes
-      → ((cs : List ℕ) → rest_of setting old.frames stage old.start old.at (byte ∷ cs) ≡ rest_of setting old.frames next (old.start + (old.at + 1)) 0 cs)
+  pub went_past : (next : Position) → IsAfterIn setting old (Open position) bytes
+      → ((cs : List ℕ) → rest_of setting old.frames position old.start old.at (byte ∷ cs) ≡ rest_of setting old.frames next (old.start + (old.at + 1)) 0 cs)
       → IsStanding setting.limits old.frames next 0
       → ((old.start + (old.at + 1) + 0 ≡ length fed_now) × ((cs : List ℕ) → reads setting (fed_now ++ cs) ≡ rest_of setting old.frames next (old.start + (old.at + 1)) 0 cs))
       × (old.start + (old.at + 1) + 0 ≡ length fed_now) × MayGoOn fed_now (reads setting fed_now) × DecideNothing setting fed_now
   went_past next a same ready = went_to next (old.start + (old.at + 1)) 0 (omega arith) a same ready
 
   -- it is refused where the reader is
-  pub gave_up : (code place : ℕ) → IsAfterIn setting old (Open stage) bytes
-      → ((cs : List ℕ) → rest_of setting old.frames stage old.start old.at (byte ∷ cs) ≡ refused code place)
-      → (cs : List ℕ) → reads setting (fed_now ++ cs) ≡ refused code place
-  gave_up code place a same cs = one_more a cs ∙ same cs
+  pub gave_up : (code offset : ℕ) → IsAfterIn setting old (Open position) bytes
+      → ((cs : List ℕ) → rest_of setting old.frames position old.start old.at (byte ∷ cs) ≡ refused code offset)
+      → (cs : List ℕ) → reads setting (fed_now ++ cs) ≡ refused code offset
+  gave_up code offset a same cs = one_more a cs ∙ same cs
 
-  pub stepped : (change : Change) (step : Advance) → IsAfterIn setting old (Open stage) bytes
-      → ((cs : List ℕ) → ChangesTo setting after cs change (rest_of setting old.frames stage old.start old.at (byte ∷ cs)))
+  pub stepped : (change : Change) (step : Advance) → IsAfterIn setting old (Open position) bytes
+      → ((cs : List ℕ) → ChangesTo setting after cs change (rest_of setting old.frames position old.start old.at (byte ∷ cs)))
       → IsReadyChange setting.limits after (old.start + old.at + 1) change → Becomes change mid new step → mid.frames ≡ after → Steps setting new fed_now step
   stepped (Goes start at st) step a turns ready takes same =
       let many : length fed_now ≡ length bytes + 1 = length-append bytes (byte ∷ []) in
@@ -98,8 +98,8 @@ module _ (setting : Setting) (old mid new : FormReader) (stage : Stage) (bytes :
       subst (λ (s : Advance). Steps setting new fed_now s) (sym takes.0) (
         subst (λ (s : ReaderState). IsAfterIn setting new s fed_now) (sym takes.4) (omega (arith, many, takes.1, takes.2, ready.1, a.0), rest),
         omega (arith, many, takes.1, takes.2, ready.1, a.0),
-        may_go_on setting after st start at fed_now ready.0.levels ready.0.place (omega (arith, many, ready.1, a.0)) (λ cs. one_more a cs ∙ turns cs),
-        decide_nothing setting after st start at fed_now ready.0.levels ready.0.place (omega (arith, many, ready.1, a.0)) (λ cs. one_more a cs ∙ turns cs),
+        may_go_on setting after st start at fed_now ready.0.levels ready.0.within (omega (arith, many, ready.1, a.0)) (λ cs. one_more a cs ∙ turns cs),
+        decide_nothing setting after st start at fed_now ready.0.levels ready.0.within (omega (arith, many, ready.1, a.0)) (λ cs. one_more a cs ∙ turns cs),
       )
   stepped (ChangeForm x start «end» next) (AdvanceForm datum s e n) a turns ready takes same =
       let many : length fed_now ≡ length bytes + 1 = length-append bytes (byte ∷ []) in
@@ -112,13 +112,13 @@ module _ (setting : Setting) (old mid new : FormReader) (stage : Stage) (bytes :
         λ later. new_after later new new_form,
       )
   stepped (ChangeForm x start «end» next) AdvanceMore a turns ready takes same = absurd takes
-  stepped (ChangeForm x start «end» next) (AdvanceRefused code place) a turns ready takes same = absurd takes
-  stepped (ChangeRefused code place) step a turns ready takes same =
+  stepped (ChangeForm x start «end» next) (AdvanceRefused code offset) a turns ready takes same = absurd takes
+  stepped (ChangeRefused code offset) step a turns ready takes same =
       subst (λ (s : Advance). Steps setting new fed_now s) (sym takes.0) (λ cs. one_more a cs ∙ turns cs, takes.1)
 
 -- a byte that is taken in its place, one that is left, and one that is refused there
-module _ (setting : Setting) (frames : List Frame) (start at c : ℕ) (old new : Stage) (fed : InPlace) where
-  pub taken_there : (cs : List ℕ) → fed ≡ InPlaceTaken → FeedsInPlace setting frames at c cs old new fed
+module _ (setting : Setting) (frames : List Frame) (start at c : ℕ) (old new : Position) (fed : InPlace) where
+  pub taken_there : (cs : List ℕ) → fed ≡ InPlaceGoesOn → FeedsInPlace setting frames at c cs old new fed
       → rest_of setting frames old start at (c ∷ cs) ≡ rest_of setting frames new start (at + 1) cs
   taken_there cs is feeds = ap (outcome_of setting start) (subst (λ (f : InPlace). FeedsInPlace setting frames at c cs old new f) is feeds)
 
@@ -133,14 +133,14 @@ module _ (setting : Setting) (frames : List Frame) (start at c : ℕ) (old new :
       → rest_of setting frames old start at (c ∷ cs) ≡ refused code (start + at)
   refused_there code cs is feeds = ap (outcome_of setting start) (subst (λ (f : InPlace). FeedsInPlace setting frames at c cs old new f) is feeds)
 
-  pub ready_there : (limits : Limits) → fed ≡ InPlaceTaken → IsReadyInPlace limits at new fed → IsStanding limits frames old at → IsStanding limits frames new (at + 1)
+  pub ready_there : (limits : Limits) → fed ≡ InPlaceGoesOn → IsReadyInPlace limits at new fed → IsStanding limits frames old at → IsStanding limits frames new (at + 1)
   ready_there limits is ready standing =
       let r = subst (λ (f : InPlace). IsReadyInPlace limits at new f) is ready in
-      record { place = omega (arith, r.0); nesting = standing.nesting; levels = r.1 }
+      record { within = omega (arith, r.0); nesting = standing.nesting; levels = r.1 }
 
   pub ready_past : (limits : Limits) → fed ≡ InPlacePassed → IsReadyInPlace limits at new fed → IsStanding limits frames old at → IsStanding limits frames new 0
   ready_past limits is ready standing =
-      record { place = omega arith; nesting = standing.nesting; levels = subst (λ (f : InPlace). IsReadyInPlace limits at new f) is ready }
+      record { within = omega arith; nesting = standing.nesting; levels = subst (λ (f : InPlace). IsReadyInPlace limits at new f) is ready }
 
 -- at most one byte more was fed
 pub fed_taking : (mid new : FormReader) (after : List Frame) (limits : Limits) (count : ℕ) (change : Change) (step : Advance) → Becomes change mid new step → IsReadyChange limits after count change
@@ -148,8 +148,8 @@ pub fed_taking : (mid new : FormReader) (after : List Frame) (limits : Limits) (
 fed_taking mid new after limits count (Goes start at st) step takes ready many = omega (arith, takes.1, takes.2, ready.1)
 fed_taking mid new after limits count (ChangeForm x start «end» next) (AdvanceForm datum s e n) takes ready many = omega (arith, takes.5, takes.6, many)
 fed_taking mid new after limits count (ChangeForm x start «end» next) AdvanceMore takes ready many = absurd takes
-fed_taking mid new after limits count (ChangeForm x start «end» next) (AdvanceRefused code place) takes ready many = absurd takes
-fed_taking mid new after limits count (ChangeRefused code place) step takes ready many = omega (arith, takes.2, takes.3, many)
+fed_taking mid new after limits count (ChangeForm x start «end» next) (AdvanceRefused code offset) takes ready many = absurd takes
+fed_taking mid new after limits count (ChangeRefused code offset) step takes ready many = omega (arith, takes.2, takes.3, many)
 
 -- what is open after a change began no earlier
 pub begins_taking : (mid new : FormReader) (change : Change) (step : Advance) → Becomes change mid new step → BeginsFrom mid.start change → BeginsLater mid new step
@@ -157,8 +157,8 @@ begins_taking mid new (Goes start at st) step takes from =
     subst (λ (s : Advance). BeginsLater mid new s) (sym takes.0) (omega (arith, takes.1, from), omega (arith, takes.1))
 begins_taking mid new (ChangeForm x start «end» next) (AdvanceForm datum s e n) takes from = (omega (arith, takes.2, from), takes.5)
 begins_taking mid new (ChangeForm x start «end» next) AdvanceMore takes from = absurd takes
-begins_taking mid new (ChangeForm x start «end» next) (AdvanceRefused code place) takes from = absurd takes
-begins_taking mid new (ChangeRefused code place) step takes from = subst (λ (s : Advance). BeginsLater mid new s) (sym takes.0) takes.2
+begins_taking mid new (ChangeForm x start «end» next) (AdvanceRefused code offset) takes from = absurd takes
+begins_taking mid new (ChangeRefused code offset) step takes from = subst (λ (s : Advance). BeginsLater mid new s) (sym takes.0) takes.2
 
 -- a form begins where the attempt that is open began, or later
 begins_from : (setting : Setting) (start : ℕ) (r : Read Found) (x : Object) (from «end» next : ℕ) → outcome_of setting start r ≡ form x from «end» next → start ≤ from
@@ -175,17 +175,17 @@ pub begun_first : (setting : Setting) (reader : FormReader) (bytes more : List �
 begun_first setting reader bytes more x start «end» next after e = by reader.state after
   where
     by : (state : ReaderState) → IsAfterIn setting reader state bytes → begun reader ≤ start
-    by (Open stage) a =
-        begins_from setting reader.start (stage_gives setting reader.frames stage reader.at more) x start «end» next (sym (a.1 more) ∙ e)
-    by (Refused code place) a = let same : refused code place ≡ form x start «end» next = sym (a more) ∙ e in cc
+    by (Open position) a =
+        begins_from setting reader.start (position_gives setting reader.frames position reader.at more) x start «end» next (sym (a.1 more) ∙ e)
+    by (Refused code offset) a = let same : refused code offset ≡ form x start «end» next = sym (a more) ∙ e in cc
     by OutOfMemory a = absurd a
 
 -- ---- the end
 
-pub refused_finishes : (setting : Setting) (reader : FormReader) (bytes : List ℕ) (code place : ℕ) → reader.state ≡ Refused code place → IsAfter setting reader bytes
-    → reads setting bytes ≡ refused code place
-refused_finishes setting reader bytes code place e a =
-    let here : IsAfterIn setting reader (Refused code place) bytes = subst (λ (s : ReaderState). IsAfterIn setting reader s bytes) e a in
+pub refused_finishes : (setting : Setting) (reader : FormReader) (bytes : List ℕ) (code offset : ℕ) → reader.state ≡ Refused code offset → IsAfter setting reader bytes
+    → reads setting bytes ≡ refused code offset
+refused_finishes setting reader bytes code offset e a =
+    let here : IsAfterIn setting reader (Refused code offset) bytes = subst (λ (s : ReaderState). IsAfterIn setting reader s bytes) e a in
     sym (ap (reads setting) (append-nil bytes)) ∙ here []
 
 -- ---- a whole text, where a step decides it
@@ -211,11 +211,11 @@ module _ (under : Limits → Setting) (held handed : Limits) (old reader : FormR
       subst (λ (s : Advance). Steps (under handed) reader (front ++ byte ∷ []) s) e (under_limits limits after steps) in
       (ap (reads (under handed)) (whole_text same) ∙ told.0 (drop (k + 1) bytes), told.1, subst IsSoundStep e sound)
 
-  pub decided_refusal : (code place : ℕ) → step ≡ AdvanceRefused code place → held ≡ handed → IsAfter (under handed) old front
+  pub decided_refusal : (code offset : ℕ) → step ≡ AdvanceRefused code offset → held ≡ handed → IsAfter (under handed) old front
       → (IsAfter (under held) old front → Steps (under held) reader (front ++ byte ∷ []) step) → take (k + 1) bytes ≡ front ++ byte ∷ []
-      → reads (under handed) bytes ≡ refused code place
-  decided_refusal code place e limits after steps same =
-      let told : Steps (under handed) reader (front ++ byte ∷ []) (AdvanceRefused code place) =
+      → reads (under handed) bytes ≡ refused code offset
+  decided_refusal code offset e limits after steps same =
+      let told : Steps (under handed) reader (front ++ byte ∷ []) (AdvanceRefused code offset) =
       subst (λ (s : Advance). Steps (under handed) reader (front ++ byte ∷ []) s) e (under_limits limits after steps) in
       ap (reads (under handed)) (whole_text same) ∙ told.0 (drop (k + 1) bytes)
 

@@ -3,18 +3,18 @@ use Rattle.std.proofs.Common.{◌≡◌, ℕ, ◌≤◌, Bool, true, false, Resu
 use Rattle.std.specs.Prelude.{◌||◌}
 use Rattle.std.specs.declared.alloc.AllocError.{AllocError}
 use Rattle.lisp_reading.specs.declared.limits.Limits.{Limits}
-use Rattle.form_reader.specs.declared.stage.Event.{Event}
-use Rattle.form_reader.specs.declared.stage.Event.TheVariants.{Stage as IsAt, Gives as IsGiven, Refused as IsRefused}
-use Rattle.form_reader.specs.declared.deliver.Taken.{Taken}
-use Rattle.form_reader.specs.declared.deliver.Taken.TheVariants.{Stays, Gives, Refused}
+use Rattle.form_reader.specs.declared.position.Event.{Event}
+use Rattle.form_reader.specs.declared.position.Event.TheVariants.{Open as IsAt, Gives as IsGiven, Refused as IsRefused}
+use Rattle.form_reader.specs.declared.deliver.Received.{Received}
+use Rattle.form_reader.specs.declared.deliver.Received.TheVariants.{Stays, Gives, Refused}
 use Rattle.lisp_reading.specs.declared.found.Found.{Found}
-use Rattle.form_reader.specs.Ready.{space, lookahead, IsReady, IsEnd, IsTakenAt}
+use Rattle.form_reader.specs.Ready.{space, lookahead, IsReady, IsEnd, IsReceivedAt}
 
 -- a call that ends with a byte, and no token in it
 pub ended_ready : (limits : Limits) (most at : ℕ) (event : Event) → IsEnd most at event → most ≤ 0 → at ≤ limits.text → IsReady limits at event
-ended_ready limits most at (IsAt stage) h none le = absurd h
+ended_ready limits most at (IsAt position) h none le = absurd h
 ended_ready limits most at (IsGiven found) h none le = (le, omega (arith, h, none))
-ended_ready limits most at (IsRefused code place) h none le = h
+ended_ready limits most at (IsRefused code offset) h none le = h
 
 -- the same, where it may run out of memory
 pub all_ready : (limits : Limits) (at : ℕ) (result : Result Event AllocError) → IfOk result (IsEnd 0 at) → at ≤ limits.text → IfOk result (IsReady limits at)
@@ -22,9 +22,9 @@ all_ready limits at (Ok event) h le = ended_ready limits 0 at event h (omega ari
 all_ready limits at (Err e) h le = tt
 
 pub end_within : (less most at : ℕ) (event : Event) → IsEnd less at event → less ≤ most → IsEnd most at event
-end_within less most at (IsAt stage) h le = h
+end_within less most at (IsAt position) h le = h
 end_within less most at (IsGiven found) h le = omega (arith, h, le)
-end_within less most at (IsRefused code place) h le = h
+end_within less most at (IsRefused code offset) h le = h
 
 pub or_none : (a : Bool) → space (a || false) ≡ space a
 or_none true = refl
@@ -43,12 +43,12 @@ or_space false false = omega arith
 
 -- ---- what one open call makes of it
 
-module _ (less most at : ℕ) (taken : Taken) where
-  pub stays_within : (token : Bool) → taken ≡ Stays token → IsTakenAt less at taken → less ≤ most → space token ≤ most
-  stays_within token e h le = let here : space token ≤ less = subst (λ (t : Taken). IsTakenAt less at t) e h in omega (arith, here, le)
+module _ (less most at : ℕ) (received : Received) where
+  pub stays_within : (token : Bool) → received ≡ Stays token → IsReceivedAt less at received → less ≤ most → space token ≤ most
+  stays_within token e h le = let here : space token ≤ less = subst (λ (t : Received). IsReceivedAt less at t) e h in omega (arith, here, le)
 
-  pub gives_within : (found : Found) → taken ≡ Gives found → IsTakenAt less at taken → less ≤ most → lookahead found ≤ most
-  gives_within found e h le = let here : lookahead found ≤ less = subst (λ (t : Taken). IsTakenAt less at t) e h in omega (arith, here, le)
+  pub gives_within : (found : Found) → received ≡ Gives found → IsReceivedAt less at received → less ≤ most → lookahead found ≤ most
+  gives_within found e h le = let here : lookahead found ≤ less = subst (λ (t : Received). IsReceivedAt less at t) e h in omega (arith, here, le)
 
-  pub refused_within : (code place : ℕ) → taken ≡ Refused code place → IsTakenAt less at taken → place ≤ at
-  refused_within code place e h = subst (λ (t : Taken). IsTakenAt less at t) e h
+  pub refused_within : (code offset : ℕ) → received ≡ Refused code offset → IsReceivedAt less at received → offset ≤ at
+  refused_within code offset e h = subst (λ (t : Received). IsReceivedAt less at t) e h

@@ -7,8 +7,8 @@ use Rattle.readtable_core.specs.declared.characters.Syntax.TheVariants.{Whitespa
 use Rattle.readtable_core.specs.Tables.{entry_at}
 use Rattle.lisp_reading.specs.declared.found.Found.TheVariants.{Nothing as nothing}
 use Rattle.form_reader.specs.declared.frame.Frame.{Frame}
-use Rattle.form_reader.specs.declared.stage.Stage.{Stage}
-use Rattle.form_reader.specs.declared.stage.Stage.TheVariants.{Object as AtObject}
+use Rattle.form_reader.specs.declared.position.Position.{Position}
+use Rattle.form_reader.specs.declared.position.Position.TheVariants.{Object as AtObject}
 use Rattle.form_reader.specs.declared.in_place.InPlace.{InPlace}
 use Rattle.form_reader.specs.InPlace.{FeedsInPlace}
 use Rattle.lisp_reading.specs.Plans.{run}
@@ -97,6 +97,6 @@ none_open [] e = refl
 none_open (f ∷ fs) e = absurd (omega (arith, e))
 
 -- where it is known where the reader is
-pub discarded_there : (setting : Setting) (frames : List Frame) (at c : ℕ) (cs : List ℕ) (stage : Stage) (fed : InPlace) → stage ≡ AtObject
-    → FeedsInPlace setting frames at c cs AtObject AtObject fed → FeedsInPlace setting frames at c cs stage stage fed
-discarded_there setting frames at c cs stage fed e h = subst (λ (s : Stage). FeedsInPlace setting frames at c cs s s fed) (sym e) h
+pub discarded_there : (setting : Setting) (frames : List Frame) (at c : ℕ) (cs : List ℕ) (position : Position) (fed : InPlace) → position ≡ AtObject
+    → FeedsInPlace setting frames at c cs AtObject AtObject fed → FeedsInPlace setting frames at c cs position position fed
+discarded_there setting frames at c cs position fed e h = subst (λ (s : Position). FeedsInPlace setting frames at c cs s s fed) (sym e) h

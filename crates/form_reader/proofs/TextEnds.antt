@@ -1,12 +1,12 @@
 -- The end of a text blames no byte: what is refused there has another number than a byte that is no character, and than one
 -- too many.
-use Rattle.std.proofs.Common.{◌≡◌, ℕ, suc, ◌+◌, ◌≤◌, Bool, true, false, ◌||◌, List, [], ◌∷◌, ◌++◌, length, Option, Some, None, Result, Ok, Err, refl, sym, ap, subst, ◌∙◌, arith}
+use Rattle.std.proofs.Common.{◌≡◌, ℕ, ◌+◌, ◌≤◌, Bool, true, false, List, [], ◌∷◌, ◌++◌, length, Option, Some, None, Result, Ok, Err, refl, sym, ap, subst, ◌∙◌}
 use Rattle.std.specs.Prelude.{nat_le, ◌==◌, ◌&&◌, bytes_eq, if◌then◌else◌, IsTrue}
 use Rattle.std.specs.Option.{option_map_or}
 use Rattle.std.specs.Result.{IfErr}
 use Rattle.std.proofs.lemmas.Bool.{le-leb}
 use Rattle.lisp_object.specs.Object.{Object, object_depth}
-use Rattle.lisp_object.specs.declared.refusal.TheConstants.{END_OF_FILE, INVALID_CHARACTER, DOT_CONTEXT, MACRO_REFUSED, MACRO_ANSWER, FORM_TOO_LONG}
+use Rattle.lisp_object.specs.declared.refusal.TheConstants.{END_OF_FILE, DOT_CONTEXT, MACRO_REFUSED, MACRO_ANSWER, FORM_TOO_LONG}
 use Rattle.readtable_core.specs.Tables.{Table}
 use Rattle.package_table.specs.declared.error.PackageError.{PackageError}
 use Rattle.package_table.specs.declared.error.PackageError.TheVariants.{NoPackage, NotExternal, LockedPackage}
@@ -37,108 +37,26 @@ use Rattle.lisp_reading.specs.declared.found.Found.TheVariants.{Nothing as nothi
 use Rattle.form_reader.specs.declared.frame.Frame.{Frame}
 use Rattle.form_reader.specs.declared.frame.Part.{Part}
 use Rattle.form_reader.specs.declared.frame.Part.TheVariants.{Next as InNext, List as InList, Until as InUntil, Dotted as InDotted, Tailed as InTailed}
-use Rattle.lisp_reading.specs.declared.limits.Limits.{Limits}
-use Rattle.form_reader.specs.declared.stage.Stage.{Stage}
-use Rattle.form_reader.specs.declared.stage.Stage.TheVariants.{Object as AtObject, Token as AtToken, CallToken as AtCallToken, Text as AtText, Escaped as AtEscaped, Line as AtLine, Block as AtBlock, Number as AtNumber}
+use Rattle.form_reader.specs.declared.position.Position.{Position}
+use Rattle.form_reader.specs.declared.position.Position.TheVariants.{Object as AtObject, Token as AtToken, CallToken as AtCallToken, Text as AtText, Escaped as AtEscaped, Line as AtLine, Block as AtBlock, Number as AtNumber}
 use Rattle.lisp_reading.specs.declared.told.Told.{Told}
 use Rattle.lisp_reading.specs.declared.told.Told.TheVariants.{Object as told_object, Dot as dot_alone}
 use Rattle.lisp_reading.specs.declared.way.Function.{Function}
 use Rattle.lisp_reading.specs.declared.way.Function.TheVariants.{Standard as AStandard, User}
-use Rattle.lisp_reading.specs.Plans.{Plan, gives, refuses, takes, scans, then_plan, next_byte, character, loop_in, loop, Read, scanned, limited, run}
+use Rattle.lisp_reading.specs.Plans.{Plan, gives, refuses, then_plan, next_byte, Read, run}
 use Rattle.lisp_reading.specs.Calls.{InvokedCall, keep_of}
 use Rattle.lisp_reading.specs.Setting.{Setting, macro_call}
 use Rattle.lisp_reading.specs.Gathering.{text_turn, line_turn, block_turn, number_turn}
 use Rattle.lisp_reading.specs.Naming.{symbol_in, symbol_at, named, told_of, told}
 use Rattle.lisp_reading.specs.Answering.{may_be_answered}
 use Rattle.form_reader.specs.Feeding.{is_going}
-use Rattle.form_reader.specs.Frames.{place_in, part_gives, call_in, given, between, token_goes_on}
-use Rattle.lisp_reading.specs.Reading.{Piece, item, dot, closed, is_whitespace, without_space, at_place, or_closed, place_turn, place, Items, items_step, items_turn, items_after, undotted, after_tail, after_dot, list_end, bytes_back, finished, answered, completed_by, completed, text_to, line_after, block_after, number_after, sub_there, dispatched, told_found, token_found, attempt, Outcome, form, empty, refused}
-use Rattle.form_reader.specs.Resuming.{IsStageAt, inner_at, stage_gives}
+use Rattle.form_reader.specs.Frames.{next_item_in, part_gives, call_in, given, between, token_goes_on}
+use Rattle.lisp_reading.specs.Reading.{Piece, item, dot, closed, is_whitespace, without_space, piece_of, or_closed, next_item_turn, next_item, Items, items_step, items_turn, items_after, undotted, after_tail, after_dot, list_end, bytes_back, finished, answered, completed_by, completed, text_to, line_after, block_after, number_after, sub_there, dispatched, told_found, token_found, attempt, Outcome, form, empty, refused}
+use Rattle.form_reader.specs.Resuming.{IsPositionAt, inner_at, position_gives}
 use Rattle.form_reader.specs.Changing.{outcome_of}
 use Rattle.form_reader.proofs.FedTokens.{cut, refused_cut}
 use Rattle.lisp_reading.proofs.Forms.{reads_is, the_end_there}
-
--- the numbers of a byte that is no character, and of one too many
-abbrev pub blames_byte : ℕ → Bool
-blames_byte code = code == INVALID_CHARACTER || code == FORM_TOO_LONG
-
--- What a plan comes to at the end of a text: a value of this kind, or a refusal that blames no byte.
-unfoldable AtEnd : {A : Type 0} → (A → Type 0) → Plan A → Type 0
-AtEnd P (gives x) = P x
-AtEnd P (refuses code back) = blames_byte code ≡ false
-AtEnd P (takes other test on) = AtEnd P other
-AtEnd P (scans escaped limit on) = AtEnd P (on [])
-
-abbrev Whatever : {A : Type 0} → A → Type 0
-Whatever x = Unit {0}
-
-abbrev Never : {A : Type 0} → A → Type 0
-Never x = ⊥
-
--- ---- what such a plan gives
-
-abbrev pub LastRead : {A : Type 0} → (A → Type 0) → Read A → Type 0
-LastRead P (Ok (x, to, cs)) = P x × (cs ≡ [])
-LastRead P (Err e) = blames_byte e.code ≡ false
-
-module _ {A : Type 0} (P : A → Type 0) (table : Table) (limits : Limits) (at : ℕ) (le : at ≤ limits.text) where
-  abbrev goes_on : (List Mark → Plan A) → Read (List Mark) → Read A
-  goes_on on q = elim q [ Ok p ↦ run table limits (on p.0) p.1 p.2 | Err e ↦ Err e ]
-
-  scan_at_end : (escaped : Bool) (limit : ℕ) (on : List Mark → Plan A) → LastRead P (run table limits (on []) at [])
-      → LastRead P (goes_on on (limited limits.text (scanned escaped table limit at []) (λ p. p.1)))
-  unfolding outside
-  scan_at_end false limit on h =
-      let by : Bool → Read A = λ b. goes_on on (elim b [ true ↦ Ok ([], at, []) | false ↦ Err (record { code = FORM_TOO_LONG; at = limits.text }) ]) in
-      subst (LastRead P) (sym (ap by (le-leb at limits.text le))) h
-  scan_at_end true limit on h = subst (LastRead P) (sym (ap (goes_on on) (refused_cut limits.text EndOfFile at le))) refl
-
-  run_at_end : (plan : Plan A) → AtEnd P plan → LastRead P (run table limits plan at [])
-  unfolding run AtEnd
-  run_at_end (gives x) h = (h, refl)
-  run_at_end (refuses code back) h = h
-  run_at_end (takes other test on) h = run_at_end other h
-  run_at_end (scans escaped limit on) h = scan_at_end escaped limit on (run_at_end (on []) h)
-
--- ---- parts of plans
-
-gives_at_end : {A : Type 0} (P : A → Type 0) (x : A) → P x → AtEnd P (gives x)
-unfolding AtEnd
-gives_at_end P x h = h
-
-refuses_at_end : {A : Type 0} (P : A → Type 0) (code back : ℕ) → blames_byte code ≡ false → AtEnd P (refuses code back)
-unfolding AtEnd
-refuses_at_end P code back h = h
-
-takes_at_end : {A : Type 0} (P : A → Type 0) (other : Plan A) (test : ℕ → Bool) (on : ℕ → Plan A) → AtEnd P other → AtEnd P (takes other test on)
-unfolding AtEnd
-takes_at_end P other test on h = h
-
-then_at_end : {A B : Type 0} (P : A → Type 0) (Q : B → Type 0) (plan : Plan A) (next : A → Plan B) → AtEnd P plan → ((x : A) → P x → AtEnd Q (next x)) → AtEnd Q (then_plan plan next)
-unfolding then_plan AtEnd
-then_at_end P Q (gives x) next h all = all x h
-then_at_end P Q (refuses code back) next h all = h
-then_at_end P Q (takes other test on) next h all = then_at_end P Q other next h all
-then_at_end P Q (scans escaped limit on) next h all = then_at_end P Q (on []) next h all
-
-weaker : {A : Type 0} (plan : Plan A) → AtEnd Never plan → AtEnd Whatever plan
-unfolding AtEnd
-weaker (gives x) h = tt
-weaker (refuses code back) h = h
-weaker (takes other test on) h = weaker other h
-weaker (scans escaped limit on) h = weaker (on []) h
-
-never_then : {A B : Type 0} (Q : B → Type 0) (plan : Plan A) (next : A → Plan B) → AtEnd Never plan → AtEnd Q (then_plan plan next)
-never_then Q plan next h = then_at_end Never Q plan next h (λ x none. absurd none)
-
-loop_at_end : {S A : Type 0} (P : A → Type 0) (limits : Limits) (turn : (S → Plan A) → S → Plan A) (s : S) → ((more : S → Plan A) → AtEnd P (turn more s)) → AtEnd P (loop limits turn s)
-unfolding loop_in
-loop_at_end P limits turn s all =
-    let n : suc limits.text ≡ limits.text + 1 = omega arith in
-    subst (λ n. AtEnd P (loop_in turn n s)) n (all (λ t. loop_in turn limits.text t))
-
-next_byte_at_end : {A : Type 0} (P : A → Type 0) (on : ℕ → Plan A) → AtEnd P (next_byte on)
-next_byte_at_end P on = takes_at_end P (refuses END_OF_FILE 0) (λ c. true) (λ c. character on c) (refuses_at_end P END_OF_FILE 0 refl)
+use Rattle.form_reader.proofs.PlanEnds.{blames_byte, AtEnd, Whatever, Never, LastRead, gives_at_end, refuses_at_end, takes_at_end, then_at_end, weaker, never_then, loop_at_end, next_byte_at_end, run_at_end}
 
 -- ---- what a call gives
 
@@ -258,17 +176,17 @@ or_closed_at_end : (close : Option ℕ) (plan : Plan Piece) → AtEnd Never plan
 or_closed_at_end None plan h = h
 or_closed_at_end (Some close) plan h = takes_at_end Never plan (λ c. c == close) (λ c. gives closed) h
 
-place_at_end : (setting : Setting) (close : Option ℕ) (room : ℕ) → AtEnd Never (place setting close (attempt setting room))
-place_at_end setting close room =
-    loop_at_end Never setting.limits (place_turn setting.table close (attempt setting room)) tt
-    (λ more. or_closed_at_end close (then_plan (attempt setting room) (λ found. at_place setting.table (more tt) found))
-    (then_at_end (λ found. found ≡ the_end) Never (attempt setting room) (λ found. at_place setting.table (more tt) found) (attempt_at_end setting room)
-    (λ found is. subst (λ (f : Found). AtEnd Never (at_place setting.table (more tt) f)) (sym is) (refuses_at_end Never END_OF_FILE 0 refl))))
+next_item_at_end : (setting : Setting) (close : Option ℕ) (room : ℕ) → AtEnd Never (next_item setting close (attempt setting room))
+next_item_at_end setting close room =
+    loop_at_end Never setting.limits (next_item_turn setting.table close (attempt setting room)) tt
+    (λ more. or_closed_at_end close (then_plan (attempt setting room) (λ found. piece_of setting.table (more tt) found))
+    (then_at_end (λ found. found ≡ the_end) Never (attempt setting room) (λ found. piece_of setting.table (more tt) found) (attempt_at_end setting room)
+    (λ found is. subst (λ (f : Found). AtEnd Never (piece_of setting.table (more tt) f)) (sym is) (refuses_at_end Never END_OF_FILE 0 refl))))
 
 items_at_end : (setting : Setting) (close room : ℕ) (xs : List Object) → AtEnd Never (items_after setting close (attempt setting room) xs)
 items_at_end setting close room xs =
     loop_at_end Never setting.limits (items_turn setting close (attempt setting room)) xs
-    (λ more. never_then Never (place setting (Some close) (attempt setting room)) (λ p. items_step setting.table more xs p) (place_at_end setting (Some close) room))
+    (λ more. never_then Never (next_item setting (Some close) (attempt setting room)) (λ p. items_step setting.table more xs p) (next_item_at_end setting (Some close) room))
 
 -- ---- open calls
 
@@ -284,7 +202,7 @@ module _ (setting : Setting) (depth room : ℕ) (call : InvokedCall) where
   list_at_end (xs, true) = completed_at_end setting depth call false false (many xs)
   list_at_end ([], false) = refuses_at_end Whatever DOT_CONTEXT 0 refl
   list_at_end (x ∷ xs, false) =
-      never_then Whatever (place setting (Some 41) may) (after_dot setting may (λ m. completed setting depth call false false m) (x ∷ xs)) (place_at_end setting (Some 41) room)
+      never_then Whatever (next_item setting (Some 41) may) (after_dot setting may (λ m. completed setting depth call false false m) (x ∷ xs)) (next_item_at_end setting (Some 41) room)
 
   step_at_end : (close : ℕ) (xs : List Object) (p : Piece) → AtEnd Whatever (items_step setting.table (items_after setting close may) xs p)
   step_at_end close xs closed = gives_at_end Whatever (xs, true) tt
@@ -306,16 +224,16 @@ module _ (setting : Setting) (depth room : ℕ) (call : InvokedCall) where
   part_at_end (InDotted xs) closed = refuses_at_end Whatever DOT_CONTEXT 1 refl
   part_at_end (InDotted xs) dot = refuses_at_end Whatever DOT_CONTEXT 0 refl
   part_at_end (InDotted xs) (item token x) =
-      space_at_end Whatever setting.table token (then_plan (place setting (Some 41) may) (after_tail (λ m. completed setting depth call false false m) xs x))
-      (never_then Whatever (place setting (Some 41) may) (after_tail (λ m. completed setting depth call false false m) xs x) (place_at_end setting (Some 41) room))
+      space_at_end Whatever setting.table token (then_plan (next_item setting (Some 41) may) (after_tail (λ m. completed setting depth call false false m) xs x))
+      (never_then Whatever (next_item setting (Some 41) may) (after_tail (λ m. completed setting depth call false false m) xs x) (next_item_at_end setting (Some 41) room))
   part_at_end (InTailed xs tail) closed = completed_at_end setting depth call false false (dotted xs tail)
   part_at_end (InTailed xs tail) dot = refuses_at_end Whatever DOT_CONTEXT 0 refl
   part_at_end (InTailed xs tail) (item token x) = refuses_at_end Whatever DOT_CONTEXT 0 refl
 
 module _ (setting : Setting) where
-  found_at_end : (f : Frame) (fs : List Frame) (found : Found) → AtEnd Whatever (at_place setting.table (place_in setting f fs) found)
+  found_at_end : (f : Frame) (fs : List Frame) (found : Found) → AtEnd Whatever (piece_of setting.table (next_item_in setting f fs) found)
   found_at_end f fs (nothing token) =
-      space_at_end Whatever setting.table token (place_in setting f fs) (weaker (place_in setting f fs) (place_at_end setting _ _))
+      space_at_end Whatever setting.table token (next_item_in setting f fs) (weaker (next_item_in setting f fs) (next_item_at_end setting _ _))
   found_at_end f fs (one token x) = gives_at_end Whatever (item token x) tt
   found_at_end f fs lone_dot = gives_at_end Whatever dot tt
   found_at_end f fs the_end = refuses_at_end Whatever END_OF_FILE 0 refl
@@ -324,19 +242,19 @@ module _ (setting : Setting) where
   unfolding given
   given_at_end [] plan h = h
   given_at_end (f ∷ fs) plan h =
-      given_at_end fs (then_plan (then_plan plan (λ found. at_place setting.table (place_in setting f fs) found)) (λ p. call_in setting f fs p))
-      (then_at_end Whatever Whatever (then_plan plan (λ found. at_place setting.table (place_in setting f fs) found)) (λ p. call_in setting f fs p)
-      (then_at_end Whatever Whatever plan (λ found. at_place setting.table (place_in setting f fs) found) h (λ found none. found_at_end f fs found))
+      given_at_end fs (then_plan (then_plan plan (λ found. piece_of setting.table (next_item_in setting f fs) found)) (λ p. call_in setting f fs p))
+      (then_at_end Whatever Whatever (then_plan plan (λ found. piece_of setting.table (next_item_in setting f fs) found)) (λ p. call_in setting f fs p)
+      (then_at_end Whatever Whatever plan (λ found. piece_of setting.table (next_item_in setting f fs) found) h (λ found none. found_at_end f fs found))
       (λ p none. part_at_end setting (length fs) _ f.call f.part p))
 
   between_at_end : (frames : List Frame) → AtEnd Whatever (between setting frames)
   unfolding AtEnd
   between_at_end [] = tt
   between_at_end (f ∷ fs) =
-      given_at_end fs (then_plan (place_in setting f fs) (λ p. call_in setting f fs p))
-      (never_then Whatever (place_in setting f fs) (λ p. call_in setting f fs p) (place_at_end setting _ _))
+      given_at_end fs (then_plan (next_item_in setting f fs) (λ p. call_in setting f fs p))
+      (never_then Whatever (next_item_in setting f fs) (λ p. call_in setting f fs p) (next_item_at_end setting _ _))
 
-  -- ---- at each stage
+  -- ---- at each position
 
   module _ (frames : List Frame) (at : ℕ) (le : at ≤ setting.limits.text) where
     last : (plan : Plan Found) → AtEnd Whatever plan → LastRead Whatever (run setting.table setting.limits (given setting frames plan) at [])
@@ -349,7 +267,7 @@ module _ (setting : Setting) where
         → LastRead Whatever (token_goes_on setting frames on (cut setting.limits.text (with_front marks (from_stage stage left at []))))
     unfolding outside
     token_last on Outside marks left all going =
-        let by : Bool → Read Found = λ b. token_goes_on setting frames on (elim b [ true ↦ Ok (marks ++ [], at, []) | false ↦ Err (record { code = FORM_TOO_LONG; at = setting.limits.text }) ]) in
+        let by : Bool → Read Found = λ b. token_goes_on setting frames on (elim b [ true ↦ Ok (marks ++ [], at, []) | false ↦ Err (record { number = FORM_TOO_LONG; at = setting.limits.text }) ]) in
         subst (LastRead Whatever) (sym (ap by (le-leb at setting.limits.text le))) (last (on (marks ++ [])) (all (marks ++ [])))
     token_last on Inside marks left all going =
         subst (LastRead Whatever) (sym (ap (token_goes_on setting frames on) (refused_cut setting.limits.text EndOfFile at le))) refl
@@ -359,23 +277,23 @@ module _ (setting : Setting) where
         subst (LastRead Whatever) (sym (ap (token_goes_on setting frames on) (refused_cut setting.limits.text EndOfFile at le))) refl
     token_last on (ScanRefused refusal) marks left all going = cc
 
-    pub stage_last : (stage : Stage) → IsStageAt at stage → LastRead Whatever (stage_gives setting frames stage at [])
-    stage_last AtObject h = run_at_end Whatever setting.table setting.limits at le (between setting frames) (between_at_end frames)
-    stage_last (AtToken scan) h = token_last (token_found setting) scan.stage scan.marks scan.left (token_at_end setting) h
-    stage_last (AtCallToken call scan) h =
+    pub position_last : (position : Position) → IsPositionAt at position → LastRead Whatever (position_gives setting frames position at [])
+    position_last AtObject h = run_at_end Whatever setting.table setting.limits at le (between setting frames) (between_at_end frames)
+    position_last (AtToken scan) h = token_last (token_found setting) scan.stage scan.marks scan.left (token_at_end setting) h
+    position_last (AtCallToken call scan) h =
         token_last (λ marks. completed setting (length frames) call true false (marked marks)) scan.stage scan.marks scan.left
         (λ marks. completed_at_end setting (length frames) call true false (marked marks)) h
-    stage_last (AtText call terminator text) h =
+    position_last (AtText call terminator text) h =
         never (text_to setting terminator text) _ (loop_at_end Never setting.limits (text_turn setting.table terminator) text (λ more. next_byte_at_end Never _))
-    stage_last (AtEscaped call terminator text) h = never (next_byte (λ d. text_to setting terminator (text ++ d ∷ []))) _ (next_byte_at_end Never _)
-    stage_last (AtLine call text) h =
+    position_last (AtEscaped call terminator text) h = never (next_byte (λ d. text_to setting terminator (text ++ d ∷ []))) _ (next_byte_at_end Never _)
+    position_last (AtLine call text) h =
         last (then_plan (line_after setting (keep_of call.function) text) (λ cs. completed setting (length frames) call false false (letters cs)))
         (then_at_end Whatever Whatever (line_after setting (keep_of call.function) text) (λ cs. completed setting (length frames) call false false (letters cs))
         (loop_at_end Whatever setting.limits (line_turn (keep_of call.function)) text (λ more. takes_at_end Whatever (gives text) (λ c. true) _ (gives_at_end Whatever text tt)))
         (λ cs none. completed_at_end setting (length frames) call false false (letters cs)))
-    stage_last (AtBlock call levels) h =
+    position_last (AtBlock call levels) h =
         never (block_after setting levels) _ (loop_at_end Never setting.limits block_turn levels (λ more. next_byte_at_end Never _))
-    stage_last (AtNumber c argument) h =
+    position_last (AtNumber c argument) h =
         last (dispatched setting (length frames) (inner_at setting (length frames)) c argument)
         (then_at_end Whatever Whatever (number_after setting argument) (sub_there setting (length frames) (inner_at setting (length frames)) c)
         (loop_at_end Whatever setting.limits number_turn argument (λ more. takes_at_end Whatever (gives argument) _ _ (gives_at_end Whatever argument tt)))
@@ -386,7 +304,7 @@ module _ (setting : Setting) where
 abbrev Blames : Outcome → Type 0
 Blames (form x start «end» next) = Unit {0}
 Blames empty = Unit {0}
-Blames (refused code place) = blames_byte code ≡ false
+Blames (refused code offset) = blames_byte code ≡ false
 
 pub last_blames : (setting : Setting) (start : ℕ) (r : Read Found) → LastRead Whatever r → Blames (outcome_of setting start r)
 last_blames setting start (Ok (nothing token, at, cs)) h =
@@ -398,5 +316,5 @@ last_blames setting start (Ok (lone_dot, at, cs)) h = refl
 last_blames setting start (Ok (the_end, at, cs)) h = tt
 last_blames setting start (Err e) h = h
 
-pub last_refused : (o : Outcome) (code place : ℕ) → o ≡ refused code place → Blames o → blames_byte code ≡ false
-last_refused o code place e h = subst Blames e h
+pub last_refused : (o : Outcome) (code offset : ℕ) → o ≡ refused code offset → Blames o → blames_byte code ≡ false
+last_refused o code offset e h = subst Blames e h

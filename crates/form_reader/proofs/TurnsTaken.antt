@@ -4,7 +4,7 @@ use Rattle.lisp_reading.specs.declared.found.Found.{Found}
 use Rattle.lisp_reading.specs.declared.found.Found.TheVariants.{Nothing as nothing}
 use Rattle.form_reader.specs.declared.frame.Frame.{Frame}
 use Rattle.lisp_reading.specs.declared.limits.Limits.{Limits}
-use Rattle.form_reader.specs.declared.stage.Stage.TheVariants.{Object as AtObject}
+use Rattle.form_reader.specs.declared.position.Position.TheVariants.{Object as AtObject}
 use Rattle.form_reader.specs.declared.change.Settled.{Settled}
 use Rattle.form_reader.specs.declared.change.Settled.TheVariants.{Done as SettledDone}
 use Rattle.form_reader.specs.declared.change.Change.{Change}

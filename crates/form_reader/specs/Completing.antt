@@ -7,4 +7,4 @@ use Rattle.lisp_reading.specs.Plans.{Plan, gives, refuses}
 -- the plan that was found
 abbrev pub plan_of : Completed → Plan Found
 plan_of (Gives found) = gives found
-plan_of (Refused code back) = refuses code back
+plan_of (Refused number back) = refuses number back

@@ -4,9 +4,9 @@ use Rattle.readtable_core.specs.Tables.{Table}
 use Rattle.token_scan.specs.Scans.{Scan}
 use Rattle.token_scan.specs.declared.stage.Stage.TheVariants.{Outside}
 use Rattle.lisp_reading.specs.declared.limits.Limits.{Limits}
-use Rattle.form_reader.specs.declared.stage.Event.{Event}
-use Rattle.form_reader.specs.declared.stage.Event.TheVariants.{Stage as IsAt, Gives as IsGiven, Refused as IsRefused}
-use Rattle.form_reader.specs.declared.stage.Stage.TheVariants.{Object as AtObject}
+use Rattle.form_reader.specs.declared.position.Event.{Event}
+use Rattle.form_reader.specs.declared.position.Event.TheVariants.{Open as IsAt, Gives as IsGiven, Refused as IsRefused}
+use Rattle.form_reader.specs.declared.position.Position.TheVariants.{Object as AtObject}
 use Rattle.form_reader.specs.declared.change.Settled.{Settled}
 use Rattle.form_reader.specs.declared.change.Settled.TheVariants.{Open as SettledOpen, Done as SettledDone, Refused as SettledRefused}
 use Rattle.lisp_reading.specs.Plans.{fault}
@@ -15,16 +15,16 @@ use Rattle.form_reader.specs.Feeding.{token_read}
 -- it ends the token; or the token is refused
 abbrev pub TokenStops : Table → Limits → Scan → ℕ → Option ℕ → Type 0
 TokenStops table limits scan at None = (token_read table limits scan at [] ≡ Ok (scan.marks, at, [])) × (scan.stage ≡ Outside)
-TokenStops table limits scan at (Some code) = token_read table limits scan at [] ≡ fault code at
+TokenStops table limits scan at (Some number) = token_read table limits scan at [] ≡ fault number at
 
--- Only at a place where an object may begin is more waited for; a refusal is at no later place.
+-- Only where an object may begin is more waited for; a refusal is at no later offset.
 abbrev pub IsLastEvent : ℕ → Event → Type 0
-IsLastEvent at (IsAt stage) = stage ≡ AtObject
+IsLastEvent at (IsAt position) = position ≡ AtObject
 IsLastEvent at (IsGiven found) = Unit {0}
-IsLastEvent at (IsRefused code place) = place ≤ at
+IsLastEvent at (IsRefused number offset) = offset ≤ at
 
 -- no more is waited for
 abbrev pub IsLastSettled : ℕ → Settled → Type 0
-IsLastSettled at (SettledOpen stage) = ⊥
+IsLastSettled at (SettledOpen position) = ⊥
 IsLastSettled at (SettledDone found) = Unit {0}
-IsLastSettled at (SettledRefused code place) = place ≤ at
+IsLastSettled at (SettledRefused number offset) = offset ≤ at

@@ -24,30 +24,30 @@ TextFeeds table limits terminator text at cs TextMore read = read ≡ run table 
 TextFeeds table limits terminator text at cs TextEscape read =
     read ≡ run table limits (next_byte (λ d. loop limits (text_turn table terminator) (text ++ d ∷ []))) (at + 1) cs
 TextFeeds table limits terminator text at cs TextEnded read = read ≡ Ok (text, at + 1, cs)
-TextFeeds table limits terminator text at cs (TextRefused code) read = read ≡ fault code at
+TextFeeds table limits terminator text at cs (TextRefused number) read = read ≡ fault number at
 
 -- after an escape in a text, which has these characters then
 abbrev pub EscapeFeeds : Table → Limits → ℕ → List ℕ → ℕ → List ℕ → Option ℕ → Read (List ℕ) → Type 0
 EscapeFeeds table limits terminator text at cs None read = read ≡ run table limits (loop limits (text_turn table terminator) text) (at + 1) cs
-EscapeFeeds table limits terminator text at cs (Some code) read = read ≡ fault code at
+EscapeFeeds table limits terminator text at cs (Some number) read = read ≡ fault number at
 
 -- in a line
 abbrev pub LineFeeds : Table → Limits → Keep → List ℕ → ℕ → List ℕ → LineByte → Read (List ℕ) → Type 0
 LineFeeds table limits keep text at cs LineMore read = read ≡ run table limits (loop limits (line_turn keep) text) (at + 1) cs
 LineFeeds table limits keep text at cs LineEnded read = read ≡ Ok (text, at + 1, cs)
-LineFeeds table limits keep text at cs (LineRefused code) read = read ≡ fault code at
+LineFeeds table limits keep text at cs (LineRefused number) read = read ≡ fault number at
 
 -- in a block
 abbrev pub BlockFeeds : Table → Limits → ℕ × ℕ → ℕ → List ℕ → LineByte → Read (Unit {0}) → Type 0
 BlockFeeds table limits levels at cs LineMore read = read ≡ run table limits (loop limits block_turn levels) (at + 1) cs
 BlockFeeds table limits levels at cs LineEnded read = read ≡ Ok (tt, at + 1, cs)
-BlockFeeds table limits levels at cs (LineRefused code) read = read ≡ fault code at
+BlockFeeds table limits levels at cs (LineRefused number) read = read ≡ fault number at
 
 -- in the number of a dispatch call, before this byte: the byte that ends it is not taken
 abbrev pub NumberFeeds : Table → Limits → Option ℕ → ℕ → ℕ → List ℕ → LineByte → Read (Option ℕ) → Type 0
-NumberFeeds table limits number at c cs LineMore read = read ≡ run table limits (loop limits number_turn number) (at + 1) cs
-NumberFeeds table limits number at c cs LineEnded read = read ≡ Ok (number, at, c ∷ cs)
-NumberFeeds table limits number at c cs (LineRefused code) read = read ≡ fault code at
+NumberFeeds table limits argument at c cs LineMore read = read ≡ run table limits (loop limits number_turn argument) (at + 1) cs
+NumberFeeds table limits argument at c cs LineEnded read = read ≡ Ok (argument, at, c ∷ cs)
+NumberFeeds table limits argument at c cs (LineRefused number) read = read ≡ fault number at
 
 -- ---- in a token
 
@@ -64,9 +64,9 @@ token_read table limits scan at cs = limited limits.text (in_bytes (token_from s
 abbrev pub TokenFeeds : Table → Limits → Scan → ℕ → ℕ → List ℕ → LineByte → Read (List Mark) → Type 0
 TokenFeeds table limits scan at c cs LineMore read = read ≡ token_read table limits scan (at + 1) cs
 TokenFeeds table limits scan at c cs LineEnded read = read ≡ Ok (scan.marks, at, c ∷ cs)
-TokenFeeds table limits scan at c cs (LineRefused code) read = read ≡ fault code at
+TokenFeeds table limits scan at c cs (LineRefused number) read = read ≡ fault number at
 
--- the number of the refusal of a token at this place, which is not beyond the limit
+-- the number of the refusal of a token at this offset, which is not beyond the limit
 abbrev pub refused_number : ℕ → ScanRefusal → ℕ → ℕ
 refused_number limit EndOfFile at = END_OF_FILE
 refused_number limit InvalidCharacter at = if nat_lt at limit then INVALID_CHARACTER else FORM_TOO_LONG

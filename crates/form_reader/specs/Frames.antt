@@ -12,7 +12,7 @@ use Rattle.form_reader.specs.declared.frame.Part.TheVariants.{Next as InNext, Li
 use Rattle.lisp_reading.specs.Plans.{Plan, then_plan, Read, run}
 use Rattle.lisp_reading.specs.Calls.{InvokedCall}
 use Rattle.lisp_reading.specs.Setting.{Setting}
-use Rattle.lisp_reading.specs.Reading.{Piece, at_place, place, items_step, items_after, undotted, after_tail, after_dot, list_end, one_piece, completed, attempt, without_space}
+use Rattle.lisp_reading.specs.Reading.{Piece, piece_of, next_item, items_step, items_after, undotted, after_tail, after_dot, list_end, one_piece, completed, attempt, without_space}
 
 -- the closing character that is looked for
 abbrev pub close_of : Part → Option ℕ
@@ -92,8 +92,8 @@ part_gives setting depth attempt call (InTailed xs tail) p = after_tail (λ m. c
 abbrev pub attempt_in : Setting → List Frame → Plan Found
 attempt_in setting frames = attempt setting (setting.limits.nesting - (length frames + 1))
 
-abbrev pub place_in : Setting → Frame → List Frame → Plan Piece
-place_in setting f frames = place setting (close_of f.part) (attempt_in setting frames)
+abbrev pub next_item_in : Setting → Frame → List Frame → Plan Piece
+next_item_in setting f frames = next_item setting (close_of f.part) (attempt_in setting frames)
 
 abbrev pub call_in : Setting → Frame → List Frame → Piece → Plan Found
 call_in setting f frames p = part_gives setting (length frames) (attempt_in setting frames) f.call f.part p
@@ -102,12 +102,12 @@ call_in setting f frames p = part_gives setting (length frames) (attempt_in sett
 unfoldable pub given : Setting → List Frame → Plan Found → Plan Found
 given setting [] plan = plan
 given setting (f ∷ fs) plan =
-    given setting fs (then_plan (then_plan plan (λ found. at_place setting.table (place_in setting f fs) found)) (λ p. call_in setting f fs p))
+    given setting fs (then_plan (then_plan plan (λ found. piece_of setting.table (next_item_in setting f fs) found)) (λ p. call_in setting f fs p))
 
--- the same at a place where an object may begin
+-- the same where an object may begin
 abbrev pub between : Setting → List Frame → Plan Found
 between setting [] = attempt setting setting.limits.nesting
-between setting (f ∷ fs) = given setting fs (then_plan (place_in setting f fs) (λ p. call_in setting f fs p))
+between setting (f ∷ fs) = given setting fs (then_plan (next_item_in setting f fs) (λ p. call_in setting f fs p))
 
 -- ---- what is given on a text
 
@@ -115,9 +115,9 @@ between setting (f ∷ fs) = given setting fs (then_plan (place_in setting f fs)
 abbrev pub plan_gives : Setting → List Frame → Plan Found → ℕ → List ℕ → Read Found
 plan_gives setting frames plan at cs = run setting.table setting.limits (given setting frames plan) at cs
 
--- at a place where an object may begin: where a token ended before it, one whitespace character is discarded first
-abbrev pub place_gives : Setting → Bool → List Frame → ℕ → List ℕ → Read Found
-place_gives setting token frames at cs = run setting.table setting.limits (without_space setting.table token (between setting frames)) at cs
+-- where an object may begin: where a token ended before it, one whitespace character is discarded first
+abbrev pub next_item_gives : Setting → Bool → List Frame → ℕ → List ℕ → Read Found
+next_item_gives setting token frames at cs = run setting.table setting.limits (without_space setting.table token (between setting frames)) at cs
 
 -- ---- a token, whose bytes are not kept: what is given where it has come to this
 

@@ -3,8 +3,8 @@ use Rattle.std.specs.Prelude.{ℕ, ◌≡◌, ◌+◌, ◌≤◌, true, List, []
 use Rattle.lisp_object.specs.Object.{IsSound}
 use Rattle.lisp_object.specs.Datum.{object_of, is_proper}
 use Rattle.lisp_reading.specs.declared.limits.Limits.{Limits}
-use Rattle.form_reader.specs.declared.stage.Stage.{Stage}
-use Rattle.form_reader.specs.declared.stage.Stage.TheVariants.{Object as AtObject}
+use Rattle.form_reader.specs.declared.position.Position.{Position}
+use Rattle.form_reader.specs.declared.position.Position.TheVariants.{Object as AtObject}
 use Rattle.form_reader.specs.declared.reader.FormReader.{FormReader}
 use Rattle.form_reader.specs.declared.reader.ReaderState.{ReaderState}
 use Rattle.form_reader.specs.declared.reader.ReaderState.TheVariants.{Open, Refused, OutOfMemory}
@@ -30,13 +30,13 @@ fed reader = reader.start + reader.at
 abbrev pub begun : FormReader → ℕ
 begun reader = reader.start
 
--- it refused the text, with this number, at this place
+-- it refused the text, with this number, at this offset
 abbrev pub HasRefused : FormReader → ℕ → ℕ → Type 0
-HasRefused reader code place = reader.state ≡ Refused code place
+HasRefused reader number offset = reader.state ≡ Refused number offset
 
 -- it is in a form, or between forms
 abbrev pub IsOpen : FormReader → Type 0
-IsOpen reader = (stage : Stage) × (reader.state ≡ Open stage)
+IsOpen reader = (position : Position) × (reader.state ≡ Open position)
 
 -- it ran out of memory
 abbrev pub HasNoMemory : FormReader → Type 0
@@ -46,13 +46,13 @@ HasNoMemory reader = reader.state ≡ OutOfMemory
 abbrev pub MayGoOn : List ℕ → Outcome → Type 0
 MayGoOn text empty = Unit {0}
 MayGoOn text (form x start «end» next) = next ≡ length text
-MayGoOn text (refused code place) = place ≡ length text
+MayGoOn text (refused number offset) = offset ≡ length text
 
--- These bytes decide nothing alone: some byte after them is refused at its own place, and at the end of the text they are not
+-- These bytes decide nothing alone: some byte after them is refused at its own offset, and at the end of the text they are not
 -- refused so. Then no outcome is that of every text that begins with them: what they decide was answered before.
 abbrev pub DecideNothing : Setting → List ℕ → Type 0
 DecideNothing setting bytes =
-    (c : ℕ) × ((code : ℕ) × (reads setting (bytes ++ c ∷ []) ≡ refused code (length bytes)) × (reads setting bytes ≡ refused code (length bytes) → ⊥))
+    (c : ℕ) × ((number : ℕ) × (reads setting (bytes ++ c ∷ []) ≡ refused number (length bytes)) × (reads setting bytes ≡ refused number (length bytes) → ⊥))
 
 -- It was fed nothing.
 pub record IsNew (reader : FormReader) : Type 0 where
@@ -75,10 +75,10 @@ LeavesBetween new _ = Unit {0}
 -- The reader is after these bytes, in this setting: what is read of them, with any text after them, is what it stands for with
 -- this text. A reader that ran out of memory is after no bytes.
 abbrev pub IsAfterIn : Setting → FormReader → ReaderState → List ℕ → Type 0
-IsAfterIn setting reader (Open stage) bytes =
+IsAfterIn setting reader (Open position) bytes =
     (fed reader ≡ length bytes)
-    × ((cs : List ℕ) → reads setting (bytes ++ cs) ≡ rest_of setting reader.frames stage reader.start reader.at cs)
-IsAfterIn setting reader (Refused code place) bytes = (cs : List ℕ) → reads setting (bytes ++ cs) ≡ refused code place
+    × ((cs : List ℕ) → reads setting (bytes ++ cs) ≡ rest_of setting reader.frames position reader.start reader.at cs)
+IsAfterIn setting reader (Refused number offset) bytes = (cs : List ℕ) → reads setting (bytes ++ cs) ≡ refused number offset
 IsAfterIn setting reader OutOfMemory bytes = ⊥
 
 abbrev pub IsAfter : Setting → FormReader → List ℕ → Type 0
@@ -94,26 +94,26 @@ Steps setting reader bytes AdvanceMore =
 Steps setting reader bytes (AdvanceForm datum start «end» next) =
     ((cs : List ℕ) → reads setting (bytes ++ cs) ≡ form (object_of datum) start «end» next)
     × (is_proper datum ≡ true) × (next ≤ length bytes) × (length bytes ≤ next + 1) × IsNew reader × ((later : Setting) → IsAfter later reader [])
-Steps setting reader bytes (AdvanceRefused code place) =
-    ((cs : List ℕ) → reads setting (bytes ++ cs) ≡ refused code place) × HasRefused reader code place
+Steps setting reader bytes (AdvanceRefused number offset) =
+    ((cs : List ℕ) → reads setting (bytes ++ cs) ≡ refused number offset) × HasRefused reader number offset
 
 -- What was open began where what is open after a step began, or before: of a form, its object; after a form nothing is open.
 abbrev pub BeginsLater : FormReader → FormReader → Advance → Type 0
 BeginsLater old new AdvanceMore = (begun old ≤ begun new) × (begun new ≤ fed new)
 BeginsLater old new (AdvanceForm datum start «end» next) = (begun old ≤ start) × (begun new ≡ 0)
-BeginsLater old new (AdvanceRefused code place) = begun new ≡ begun old
+BeginsLater old new (AdvanceRefused number offset) = begun new ≡ begun old
 
 -- What is answered is the outcome, and the object of a form is sound.
 abbrev pub IsOutcome : ReadOutcome → Outcome → Type 0
 IsOutcome (ReadForm datum start «end» next) o = (o ≡ form (object_of datum) start «end» next) × (is_proper datum ≡ true) × IsSound (object_of datum)
 IsOutcome ReadEmpty o = o ≡ empty
-IsOutcome (ReadRefused code place) o = o ≡ refused code place
+IsOutcome (ReadRefused number offset) o = o ≡ refused number offset
 
 -- how many bytes it was fed after a step: one more, or as many as before where it refuses; after a form none
 abbrev pub Counts : FormReader → FormReader → Advance → Type 0
 Counts old new AdvanceMore = fed new ≡ fed old + 1
 Counts old new (AdvanceForm datum start «end» next) = fed new ≡ 0
-Counts old new (AdvanceRefused code place) = fed new ≡ fed old
+Counts old new (AdvanceRefused number offset) = fed new ≡ fed old
 
 -- of a form, the object is sound
 abbrev pub IsSoundStep : Advance → Type 0
@@ -122,11 +122,11 @@ IsSoundStep _ = Unit {0}
 
 -- what a change makes of a reader, and what is answered
 abbrev pub Becomes : Change → FormReader → FormReader → Advance → Type 0
-Becomes (Goes start at stage) old new step =
-    (step ≡ AdvanceMore) × (new.start ≡ start) × (new.at ≡ at) × (new.frames ≡ old.frames) × (new.state ≡ Open stage)
+Becomes (Goes start at position) old new step =
+    (step ≡ AdvanceMore) × (new.start ≡ start) × (new.at ≡ at) × (new.frames ≡ old.frames) × (new.state ≡ Open position)
 Becomes (ChangeForm x start «end» next) old new (AdvanceForm datum s e n) =
     (object_of datum ≡ x) × (is_proper datum ≡ true) × (s ≡ start) × (e ≡ «end») × (n ≡ next)
     × (new.start ≡ 0) × (new.at ≡ 0) × (new.frames ≡ old.frames) × (new.state ≡ Open AtObject)
 Becomes (ChangeForm x start «end» next) old new _ = ⊥
-Becomes (ChangeRefused code place) old new step =
-    (step ≡ AdvanceRefused code place) × (new.state ≡ Refused code place) × (new.start ≡ old.start) × (new.at ≡ old.at)
+Becomes (ChangeRefused number offset) old new step =
+    (step ≡ AdvanceRefused number offset) × (new.state ≡ Refused number offset) × (new.start ≡ old.start) × (new.at ≡ old.at)

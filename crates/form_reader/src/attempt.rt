@@ -1,4 +1,4 @@
-//! The byte at a place where an object may begin.
+//! The byte where an object may begin.
 ghost use Rattle.std.specs.Prelude.{◌≡◌, ◌≤◌, ◌<◌, ◌+◌, ◌^◌, ℕ, List, ◌∷◌, length, true, false, IfOk};
 ghost use Rattle.form_reader.specs.declared.frame.Frame.{Frame};
 ghost use Rattle.readtable_core.specs.Tables.{entry_at};
@@ -10,7 +10,7 @@ ghost use Rattle.form_reader.specs.Ready.{IsReady};
 
 use crate::frame::Frames;
 use crate::macros::begin_macro;
-use crate::stage::{Event, FirstByte, Stage, first_byte};
+use crate::position::{Event, FirstByte, Position, first_byte};
 use crate::surroundings::Surroundings;
 use lisp_object::refusal::{FORM_TOO_LONG, INVALID_CHARACTER};
 use lisp_reading::Found;
@@ -43,7 +43,7 @@ pub(crate) fn alone<R: MacroFunctions>(
     c: u8,
 ) -> Result<Event, AllocError>
     requires answers { R.answers with.now.macros.now }
-    requires place { at ≤ with.now.limits.text }
+    requires within { at ≤ with.now.limits.text }
     requires nesting { length frames.old ≤ with.now.limits.nesting }
     requires alone { stands_alone (entry_at with.now.readtable.now c).syntax ≡ true }
     ensures brings { let setting = setting R.functions with.now in
@@ -76,7 +76,7 @@ pub(crate) fn begin_token<R: MacroFunctions>(
     at: usize,
     c: u8,
 ) -> Result<Event, AllocError>
-    requires place { at ≤ with.now.limits.text }
+    requires within { at ≤ with.now.limits.text }
     requires begins { stands_alone (entry_at with.now.readtable.now c).syntax ≡ false }
     ensures brings { let setting = setting R.functions with.now in
         (frames : List Frame) (cs : List ℕ) → length frames ≤ with.now.limits.nesting
@@ -85,7 +85,7 @@ pub(crate) fn begin_token<R: MacroFunctions>(
     ensures ready { IfOk result (IsReady with.now.limits (at + 1)) }
 {
     match first_byte(with.alloc, with.readtable, &with.limits, at, c)? {
-        FirstByte::More(scan) => Ok(Event::Stage(Stage::Token(scan))),
+        FirstByte::More(scan) => Ok(Event::Open(Position::Token(scan))),
         FirstByte::Refused(code) => Ok(Event::Refused(code, at)),
     }
 }

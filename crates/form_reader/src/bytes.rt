@@ -139,7 +139,7 @@ pub(crate) fn block_byte(
     at: usize,
     c: u8,
 ) -> LineByte
-    requires place { at ≤ limits.now.text }
+    requires within { at ≤ limits.now.text }
     requires level { levels.old.0 ≤ at }
     ensures feeds { (cs : List ℕ) → BlockFeeds readtable.now limits.now levels.new at cs result
         (run readtable.now limits.now (loop limits.now block_turn levels.old) at (c ∷ cs)) }

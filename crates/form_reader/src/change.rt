@@ -7,7 +7,7 @@ ghost use Rattle.lisp_reading.specs.declared.limits.Limits.{Limits as Bounds};
 ghost use Rattle.lisp_reading.specs.Setting.{Setting};
 ghost use Rattle.form_reader.specs.Surrounding.{setting};
 ghost use Rattle.form_reader.specs.Delivering.{Passes};
-ghost use Rattle.form_reader.specs.Resuming.{Brings, stage_gives};
+ghost use Rattle.form_reader.specs.Resuming.{Brings, position_gives};
 ghost use Rattle.form_reader.specs.Ready.{lookahead, IsReady, IsReadyPass};
 ghost use Rattle.form_reader.specs.Changing.{outcome_of, rest_of, Settles, ChangesTo, IsStanding, IsReadySettled, IsReadyChange, BeginsFrom, BeginsAnew};
 
@@ -16,7 +16,7 @@ use crate::deliver::{Delivered, deliver};
 use crate::frame::Frames;
 use crate::macros::Moved;
 use crate::objects::{Passed, after_found, at_object, is_blank};
-use crate::stage::{Event, Stage};
+use crate::position::{Event, Position};
 use crate::surroundings::Surroundings;
 use lisp_object::refusal::DOT_CONTEXT;
 use lisp_reading::{Found, HeldObject};
@@ -27,10 +27,10 @@ use user_macros::MacroFunctions;
 #[derive(Drop)]
 pub enum Settled {
     /// More bytes are gathered.
-    Open(Stage),
+    Open(Position),
     /// The outermost attempt comes to this.
     Done(Found),
-    /// The number of a refusal, and its place.
+    /// The number of a refusal, and its offset.
     Refused(u16, usize),
 }
 
@@ -38,10 +38,10 @@ pub enum Settled {
 #[derive(Drop)]
 pub enum Change {
     /// More bytes decide: where the attempt began, how many bytes it has, and where the reader is in it.
-    Goes(usize, usize, Stage),
+    Goes(usize, usize, Position),
     /// A form: its object, its start, its end, and where the next form begins.
     Form(HeldObject, usize, usize, usize),
-    /// The number of a refusal, and its place.
+    /// The number of a refusal, and its offset.
     Refused(u16, usize),
 }
 
@@ -50,30 +50,30 @@ pub enum Change {
 pub(crate) fn feed<R: MacroFunctions>(
     with: &Surroundings<'_, R>,
     frames: &mut Frames,
-    stage: Stage,
+    position: Position,
     at: usize,
     c: u8,
 ) -> Result<Passed, AllocError>
     requires answers { R.answers with.now.macros.now }
-    requires standing { IsStanding with.now.limits frames.old stage at }
+    requires standing { IsStanding with.now.limits frames.old position at }
     requires count { at < 2 ^ 63 }
     ensures passes { let setting = setting R.functions with.now in
         (cs : List ℕ) → IfOk result (λ passed. Passes setting frames.new at c cs passed
-        (stage_gives setting frames.old stage at (c ∷ cs))) }
+        (position_gives setting frames.old position at (c ∷ cs))) }
     ensures ready { IfOk result (IsReadyPass with.now.limits at) }
     ensures nesting { IfOk result (λ _. length frames.new ≤ with.now.limits.nesting) }
 {
-    match advance(with, frames, stage, at, c)? {
-        Moved::Taken(event) => Ok(Passed::Taken(event)),
+    match advance(with, frames, position, at, c)? {
+        Moved::After(event) => Ok(Passed::Brings(event)),
         Moved::Before(event) => match event {
-            Event::Stage(_) => unreachable!(),
+            Event::Open(_) => unreachable!(),
             Event::Gives(found) => after_found(with, frames, found, at, c),
-            Event::Refused(code, place) => Ok(Passed::Taken(Event::Refused(code, place))),
+            Event::Refused(code, offset) => Ok(Passed::Brings(Event::Refused(code, offset))),
         },
     }
 }
 
-/// What the open calls make of what a byte brings, at the place `at` after it.
+/// What the open calls make of what a byte brings, at the offset `at` after it.
 #[inline(always)]
 fn settle<R: MacroFunctions>(
     with: &Surroundings<'_, R>,
@@ -90,17 +90,17 @@ fn settle<R: MacroFunctions>(
     ensures ready { IfOk result (IsReadySettled with.now.limits frames.new at) }
 {
     match event {
-        Event::Stage(stage) => Ok(Settled::Open(stage)),
+        Event::Open(position) => Ok(Settled::Open(position)),
         Event::Gives(found) => match deliver(with, frames, found, at)? {
-            Delivered::Waits(_) => Ok(Settled::Open(Stage::Object)),
+            Delivered::Waits(_) => Ok(Settled::Open(Position::Object)),
             Delivered::Done(found) => Ok(Settled::Done(found)),
-            Delivered::Refused(code, place) => Ok(Settled::Refused(code, place)),
+            Delivered::Refused(code, offset) => Ok(Settled::Refused(code, offset)),
         },
-        Event::Refused(code, place) => Ok(Settled::Refused(code, place)),
+        Event::Refused(code, offset) => Ok(Settled::Refused(code, offset)),
     }
 }
 
-/// What the attempt that began at `start` came to with the byte before the place `at` in it.
+/// What the attempt that began at `start` came to with the byte before the offset `at` in it.
 #[inline(always)]
 fn done_after(found: Found, start: usize, at: usize) -> Change
     requires found { lookahead found ≡ 0 }
@@ -113,14 +113,14 @@ fn done_after(found: Found, start: usize, at: usize) -> Change
     ensures anew { BeginsAnew [] result }
 {
     match found {
-        Found::Nothing(_) => Change::Goes(start + at, 0, Stage::Object),
+        Found::Nothing(_) => Change::Goes(start + at, 0, Position::Object),
         Found::One(_, x) => Change::Form(x, start, start + at, start + at),
         Found::LoneDot => unreachable!(),
         Found::TheEnd => unreachable!(),
     }
 }
 
-/// What the attempt that began at `start` comes to after what a byte brings, at the place `at` after it.
+/// What the attempt that began at `start` comes to after what a byte brings, at the offset `at` after it.
 #[inline(always)]
 fn change_of<R: MacroFunctions>(
     with: &Surroundings<'_, R>,
@@ -141,13 +141,13 @@ fn change_of<R: MacroFunctions>(
     ensures anew { 0 < at → IfOk result (BeginsAnew frames.new) }
 {
     match settle(with, frames, event, at)? {
-        Settled::Open(stage) => Ok(Change::Goes(start, at, stage)),
+        Settled::Open(position) => Ok(Change::Goes(start, at, position)),
         Settled::Done(found) => Ok(done_after(found, start, at)),
-        Settled::Refused(code, place) => Ok(Change::Refused(code, start + place)),
+        Settled::Refused(code, offset) => Ok(Change::Refused(code, start + offset)),
     }
 }
 
-/// What the attempt that began at `start` came to before the byte `c`, at the place `at` in it, with no open call.
+/// What the attempt that began at `start` came to before the byte `c`, at the offset `at` in it, with no open call.
 #[inline(always)]
 fn done_before<R: MacroFunctions>(
     with: &Surroundings<'_, R>,
@@ -189,27 +189,27 @@ fn done_before<R: MacroFunctions>(
 pub(crate) fn take_byte<R: MacroFunctions>(
     with: &Surroundings<'_, R>,
     frames: &mut Frames,
-    stage: Stage,
+    position: Position,
     start: usize,
     at: usize,
     c: u8,
 ) -> Result<Change, AllocError>
     requires answers { R.answers with.now.macros.now }
-    requires standing { IsStanding with.now.limits frames.old stage at }
+    requires standing { IsStanding with.now.limits frames.old position at }
     requires count { start + at < 2 ^ 63 }
     ensures turns { let setting = setting R.functions with.now in
         (cs : List ℕ) → IfOk result (λ change. ChangesTo setting frames.new cs change
-        (rest_of setting frames.old stage start at (c ∷ cs))) }
+        (rest_of setting frames.old position start at (c ∷ cs))) }
     ensures ready { IfOk result (IsReadyChange with.now.limits frames.new (start + at + 1)) }
     ensures begins { IfOk result (BeginsFrom start) }
     ensures anew { IfOk result (BeginsAnew frames.new) }
 {
-    if let Stage::Object = &stage {
+    if let Position::Object = &position {
         let brought = at_object(with, frames, at, c)?;
         return change_of(with, frames, brought, start, at + 1);
     }
-    match feed(with, frames, stage, at, c)? {
-        Passed::Taken(event) => change_of(with, frames, event, start, at + 1),
+    match feed(with, frames, position, at, c)? {
+        Passed::Brings(event) => change_of(with, frames, event, start, at + 1),
         Passed::Done(found) => done_before(with, frames, found, start, at, c),
     }
 }

@@ -9,7 +9,7 @@ ghost use Rattle.form_reader.specs.Ready.{IsReady};
 
 use crate::frame::{Frame, Part};
 use crate::opening::ended;
-use crate::stage::Event;
+use crate::position::Event;
 use crate::surroundings::Surroundings;
 use lisp_object::refusal::DOT_CONTEXT;
 use std::alloc::AllocError;
@@ -26,8 +26,8 @@ pub(crate) fn close<R: MacroFunctions>(
     at: usize,
 ) -> Result<Event, AllocError>
     requires answers { R.answers with.now.macros.now }
-    requires place { at ≤ with.now.limits.text }
-    requires taken { 0 < at }
+    requires within { at ≤ with.now.limits.text }
+    requires some { 0 < at }
     ensures brings { let setting = setting R.functions with.now in
         (frames : List Frame) (cs : List ℕ) → depth ≡ length frames
         → IfOk result (λ event. Brings setting frames at cs event

@@ -8,7 +8,7 @@ ghost use Rattle.lisp_reading.specs.Setting.{Setting};
 ghost use Rattle.form_reader.specs.Surrounding.{setting};
 ghost use Rattle.form_reader.specs.Frames.{plan_gives};
 ghost use Rattle.form_reader.specs.Delivering.{Takes, Shortens, Delivers};
-ghost use Rattle.form_reader.specs.Ready.{space, lookahead, completed_lookahead, IsTakenAt, IsDeliveredAt};
+ghost use Rattle.form_reader.specs.Ready.{space, lookahead, completed_lookahead, IsReceivedAt, IsDeliveredAt};
 
 use crate::complete::{Completed, complete};
 use crate::frame::Frames;
@@ -21,23 +21,23 @@ use user_macros::MacroFunctions;
 
 /// What the innermost open call makes of what is found in it.
 #[derive(Drop)]
-pub enum Taken {
+pub enum Received {
     /// It goes on as this call, after one whitespace character where there is one and a token ended.
     Stays(bool),
     /// It ends, and comes to this.
     Gives(Found),
-    /// The number of a refusal, and its place.
+    /// The number of a refusal, and its offset.
     Refused(u16, usize),
 }
 
 /// What all open calls make of what is found in the innermost.
 #[derive(Drop)]
 pub enum Delivered {
-    /// More is read at a place where an object may begin, after one whitespace character where there is one and a token ended.
+    /// More is read where an object may begin, after one whitespace character where there is one and a token ended.
     Waits(bool),
     /// The outermost attempt comes to this.
     Done(Found),
-    /// The number of a refusal, and its place.
+    /// The number of a refusal, and its offset.
     Refused(u16, usize),
 }
 
@@ -47,21 +47,21 @@ fn take<R: MacroFunctions>(
     frames: &mut Frames,
     found: Found,
     at: usize,
-) -> Result<Taken, AllocError>
+) -> Result<Received, AllocError>
     requires answers { R.answers with.now.macros.now }
-    requires place { at ≤ with.now.limits.text }
+    requires within { at ≤ with.now.limits.text }
     requires open { 0 < length frames.old }
     ensures takes { let setting = setting R.functions with.now in
-        (cs : List ℕ) → IfOk result (λ taken. Takes setting frames.new at cs taken
+        (cs : List ℕ) → IfOk result (λ received. Takes setting frames.new at cs received
         (plan_gives setting frames.old (gives found) at cs)) }
-    ensures leaves { IfOk result (IsTakenAt (lookahead found) at) }
+    ensures leaves { IfOk result (IsReceivedAt (lookahead found) at) }
     ensures shorter { IfOk result (Shortens frames.old frames.new) }
 {
     match found {
-        Found::Nothing(token) => Ok(Taken::Stays(token)),
+        Found::Nothing(token) => Ok(Received::Stays(token)),
         Found::One(token, x) => take_one(with, frames, token, x, at),
         Found::LoneDot => Ok(take_dot(frames, at)),
-        Found::TheEnd => Ok(Taken::Refused(END_OF_FILE, at)),
+        Found::TheEnd => Ok(Received::Refused(END_OF_FILE, at)),
     }
 }
 
@@ -72,58 +72,58 @@ fn take_one<R: MacroFunctions>(
     token: bool,
     x: HeldObject,
     at: usize,
-) -> Result<Taken, AllocError>
+) -> Result<Received, AllocError>
     requires answers { R.answers with.now.macros.now }
-    requires place { at ≤ with.now.limits.text }
+    requires within { at ≤ with.now.limits.text }
     requires open { 0 < length frames.old }
     ensures takes { let setting = setting R.functions with.now in
-        (cs : List ℕ) → IfOk result (λ taken. Takes setting frames.new at cs taken
+        (cs : List ℕ) → IfOk result (λ received. Takes setting frames.new at cs received
         (plan_gives setting frames.old (gives (one token x)) at cs)) }
-    ensures leaves { IfOk result (IsTakenAt (space token) at) }
+    ensures leaves { IfOk result (IsReceivedAt (space token) at) }
     ensures shorter { IfOk result (Shortens frames.old frames.new) }
 {
     match frames.pop_waiting() {
         Some(call) => {
             let depth = frames.len();
             let gathered = StdGathered::One(x.into_datum());
-            Ok(taken_of(complete(with, depth, &call, token, token, gathered)?, at))
+            Ok(received_of(complete(with, depth, &call, token, token, gathered)?, at))
         }
         None => {
             if frames.take_object(x)? {
-                Ok(Taken::Stays(token))
+                Ok(Received::Stays(token))
             } else {
-                Ok(Taken::Refused(DOT_CONTEXT, at))
+                Ok(Received::Refused(DOT_CONTEXT, at))
             }
         }
     }
 }
 
 /// What the innermost open call makes of a dot.
-fn take_dot(frames: &mut Frames, at: usize) -> Taken
+fn take_dot(frames: &mut Frames, at: usize) -> Received
     requires open { 0 < length frames.old }
     ensures takes { (setting : Setting) (cs : List ℕ) → at ≤ setting.limits.text
         → Takes setting frames.new at cs result
         (plan_gives setting frames.old (gives lone_dot) at cs) }
-    ensures leaves { IsTakenAt 1 at result }
+    ensures leaves { IsReceivedAt 1 at result }
     ensures shorter { Shortens frames.old frames.new result }
 {
     if frames.take_dot() {
-        Taken::Stays(false)
+        Received::Stays(false)
     } else {
-        Taken::Refused(DOT_CONTEXT, at)
+        Received::Refused(DOT_CONTEXT, at)
     }
 }
 
 /// What an open call that ends at `at` comes to.
-fn taken_of(completed: Completed, at: usize) -> Taken
+fn received_of(completed: Completed, at: usize) -> Received
     ensures takes { (setting : Setting) (frames : List Frame) (cs : List ℕ)
         → Takes setting frames at cs result
         (plan_gives setting frames (plan_of completed) at cs) }
-    ensures leaves { IsTakenAt (completed_lookahead completed) at result }
+    ensures leaves { IsReceivedAt (completed_lookahead completed) at result }
 {
     match completed {
-        Completed::Gives(found) => Taken::Gives(found),
-        Completed::Refused(code, back) => Taken::Refused(code, at.saturating_sub(back)),
+        Completed::Gives(found) => Received::Gives(found),
+        Completed::Refused(code, back) => Received::Refused(code, at.saturating_sub(back)),
     }
 }
 
@@ -135,7 +135,7 @@ pub(crate) fn deliver<R: MacroFunctions>(
     at: usize,
 ) -> Result<Delivered, AllocError>
     requires answers { R.answers with.now.macros.now }
-    requires place { at ≤ with.now.limits.text }
+    requires within { at ≤ with.now.limits.text }
     ensures delivers { let setting = setting R.functions with.now in
         (cs : List ℕ) → IfOk result (λ delivered. Delivers setting frames.new at cs delivered
         (plan_gives setting frames.old (gives found) at cs)) }
@@ -145,9 +145,9 @@ pub(crate) fn deliver<R: MacroFunctions>(
     let mut found = found;
     'calls: while frames.len() > 0 {
         match take(with, frames, found, at)? {
-            Taken::Stays(token) => return Ok(Delivered::Waits(token)),
-            Taken::Gives(next) => found = next,
-            Taken::Refused(code, place) => return Ok(Delivered::Refused(code, place)),
+            Received::Stays(token) => return Ok(Delivered::Waits(token)),
+            Received::Gives(next) => found = next,
+            Received::Refused(code, offset) => return Ok(Delivered::Refused(code, offset)),
         }
     }
     Ok(Delivered::Done(found))

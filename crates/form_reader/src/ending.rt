@@ -4,12 +4,12 @@ ghost use Rattle.readtable_core.specs.Tables.{Table};
 ghost use Rattle.form_reader.specs.declared.frame.Frame.{Frame};
 ghost use Rattle.lisp_reading.specs.Setting.{Setting};
 ghost use Rattle.form_reader.specs.Surrounding.{setting};
-ghost use Rattle.form_reader.specs.declared.stage.Stage.TheVariants.{Object as AtObject, Token as AtToken, CallToken as AtCallToken, Line as AtLine};
+ghost use Rattle.form_reader.specs.declared.position.Position.TheVariants.{Object as AtObject, Token as AtToken, CallToken as AtCallToken, Line as AtLine};
 ghost use Rattle.form_reader.specs.declared.ending.ReadOutcome.TheVariants.{Empty as IsEmpty};
 ghost use Rattle.lisp_reading.specs.declared.found.Found.TheVariants.{TheEnd as the_end};
-ghost use Rattle.form_reader.specs.declared.stage.Event.TheVariants.{Stage as IsAt};
+ghost use Rattle.form_reader.specs.declared.position.Event.TheVariants.{Open as IsAt};
 ghost use Rattle.form_reader.specs.declared.change.Settled.TheVariants.{Done as IsDone};
-ghost use Rattle.form_reader.specs.Resuming.{Brings, stage_gives};
+ghost use Rattle.form_reader.specs.Resuming.{Brings, position_gives};
 ghost use Rattle.form_reader.specs.Changing.{outcome_of, rest_of, Settles};
 ghost use Rattle.form_reader.specs.Ending.{TokenStops, IsLastEvent, IsLastSettled};
 ghost use Rattle.form_reader.specs.Reader.{IsOutcome};
@@ -19,7 +19,7 @@ use crate::deliver::{Delivered, deliver};
 use crate::frame::Frames;
 use crate::objects::token_end;
 use crate::opening::ended;
-use crate::stage::{BegunScan, Event, Stage};
+use crate::position::{BegunScan, Event, Position};
 use crate::surroundings::Surroundings;
 use crate::tokens::refused;
 use lisp_object::Datum;
@@ -43,7 +43,7 @@ pub enum ReadOutcome {
     },
     /// Only discarded text.
     Empty,
-    /// The number of a refusal, and its place.
+    /// The number of a refusal, and its offset.
     Refused {
         code: u16,
         at: usize,
@@ -68,10 +68,10 @@ fn last_token<R: MacroFunctions>(
     scan: BegunScan,
     at: usize,
 ) -> Result<Event, AllocError>
-    requires place { at ≤ with.now.limits.text }
+    requires within { at ≤ with.now.limits.text }
     ensures brings { let setting = setting R.functions with.now in
         (frames : List Frame) → IfOk result (λ event. Brings setting frames at [] event
-        (stage_gives setting frames (AtToken scan) at [])) }
+        (position_gives setting frames (AtToken scan) at [])) }
     ensures last { IfOk result (IsLastEvent at) }
 {
     let mut scan = scan.into_scan();
@@ -90,10 +90,10 @@ fn last_call_token<R: MacroFunctions>(
     at: usize,
 ) -> Result<Event, AllocError>
     requires answers { R.answers with.now.macros.now }
-    requires place { at ≤ with.now.limits.text }
+    requires within { at ≤ with.now.limits.text }
     ensures brings { let setting = setting R.functions with.now in
         (frames : List Frame) → depth ≡ length frames → IfOk result (λ event. Brings setting frames at [] event
-        (stage_gives setting frames (AtCallToken call scan) at [])) }
+        (position_gives setting frames (AtCallToken call scan) at [])) }
     ensures last { IfOk result (IsLastEvent at) }
 {
     match token_stop(&with.limits, &mut scan, at) {
@@ -114,41 +114,41 @@ fn last_line<R: MacroFunctions>(
     at: usize,
 ) -> Result<Event, AllocError>
     requires answers { R.answers with.now.macros.now }
-    requires place { at ≤ with.now.limits.text }
+    requires within { at ≤ with.now.limits.text }
     ensures brings { let setting = setting R.functions with.now in
         (frames : List Frame) → depth ≡ length frames
         → IfOk result (λ event. Brings setting frames at [] event
-        (stage_gives setting frames (AtLine call text) at [])) }
+        (position_gives setting frames (AtLine call text) at [])) }
     ensures last { IfOk result (IsLastEvent at) }
 {
     let gathered = StdGathered::Text(text.into_bytes());
     ended(with, depth, &call, false, gathered, at)
 }
 
-/// What the end of the text at `at` brings; the stage is left where an object may begin.
+/// What the end of the text at `at` brings; the position is left where an object may begin.
 fn last<R: MacroFunctions>(
     with: &Surroundings<'_, R>,
     depth: usize,
-    stage: Stage,
+    position: Position,
     at: usize,
 ) -> Result<Event, AllocError>
     requires answers { R.answers with.now.macros.now }
-    requires place { at ≤ with.now.limits.text }
+    requires within { at ≤ with.now.limits.text }
     ensures brings { let setting = setting R.functions with.now in
         (frames : List Frame) → depth ≡ length frames → IfOk result (λ event. Brings setting frames at [] event
-        (stage_gives setting frames stage at [])) }
+        (position_gives setting frames position at [])) }
     ensures last { IfOk result (IsLastEvent at) }
-    ensures object { stage ≡ AtObject → result ≡ Ok (IsAt AtObject) }
+    ensures object { position ≡ AtObject → result ≡ Ok (IsAt AtObject) }
 {
-    match stage {
-        Stage::Object => Ok(Event::Stage(Stage::Object)),
-        Stage::Token(scan) => last_token(with, scan, at),
-        Stage::CallToken(call, scan) => last_call_token(with, depth, call, scan, at),
-        Stage::Line(call, text) => last_line(with, depth, call, text, at),
-        Stage::Text(..) => Ok(Event::Refused(END_OF_FILE, at)),
-        Stage::Escaped(..) => Ok(Event::Refused(END_OF_FILE, at)),
-        Stage::Block(..) => Ok(Event::Refused(END_OF_FILE, at)),
-        Stage::Number(..) => Ok(Event::Refused(END_OF_FILE, at)),
+    match position {
+        Position::Object => Ok(Event::Open(Position::Object)),
+        Position::Token(scan) => last_token(with, scan, at),
+        Position::CallToken(call, scan) => last_call_token(with, depth, call, scan, at),
+        Position::Line(call, text) => last_line(with, depth, call, text, at),
+        Position::Text(..) => Ok(Event::Refused(END_OF_FILE, at)),
+        Position::Escaped(..) => Ok(Event::Refused(END_OF_FILE, at)),
+        Position::Block(..) => Ok(Event::Refused(END_OF_FILE, at)),
+        Position::Number(..) => Ok(Event::Refused(END_OF_FILE, at)),
     }
 }
 
@@ -156,7 +156,7 @@ fn last<R: MacroFunctions>(
 fn waited(calls: usize, at: usize) -> Settled
     ensures settles { (setting : Setting) (frames : List Frame) → calls ≡ length frames
         → at ≤ setting.limits.text
-        → Settles setting frames at [] result (stage_gives setting frames AtObject at []) }
+        → Settles setting frames at [] result (position_gives setting frames AtObject at []) }
     ensures last { IsLastSettled at result }
     ensures none { calls ≡ 0 → result ≡ IsDone the_end }
 {
@@ -170,29 +170,29 @@ fn waited(calls: usize, at: usize) -> Settled
 fn settle_last<R: MacroFunctions>(
     with: &Surroundings<'_, R>,
     frames: &mut Frames,
-    stage: Stage,
+    position: Position,
     at: usize,
 ) -> Result<Settled, AllocError>
     requires answers { R.answers with.now.macros.now }
-    requires place { at ≤ with.now.limits.text }
+    requires within { at ≤ with.now.limits.text }
     ensures settles { let setting = setting R.functions with.now in
         IfOk result (λ settled. Settles setting frames.new at [] settled
-        (stage_gives setting frames.old stage at [])) }
+        (position_gives setting frames.old position at [])) }
     ensures last { IfOk result (IsLastSettled at) }
-    ensures between { frames.old ≡ [] → stage ≡ AtObject → result ≡ Ok (IsDone the_end) }
+    ensures between { frames.old ≡ [] → position ≡ AtObject → result ≡ Ok (IsDone the_end) }
 {
-    match last(with, frames.len(), stage, at)? {
-        Event::Stage(_) => Ok(waited(frames.len(), at)),
+    match last(with, frames.len(), position, at)? {
+        Event::Open(_) => Ok(waited(frames.len(), at)),
         Event::Gives(found) => match deliver(with, frames, found, at)? {
             Delivered::Waits(_) => Ok(waited(frames.len(), at)),
             Delivered::Done(found) => Ok(Settled::Done(found)),
-            Delivered::Refused(code, place) => Ok(Settled::Refused(code, place)),
+            Delivered::Refused(code, offset) => Ok(Settled::Refused(code, offset)),
         },
-        Event::Refused(code, place) => Ok(Settled::Refused(code, place)),
+        Event::Refused(code, offset) => Ok(Settled::Refused(code, offset)),
     }
 }
 
-/// What the attempt that began at `start` came to at the end of the text, at the place `at` in it.
+/// What the attempt that began at `start` came to at the end of the text, at the offset `at` in it.
 fn done_last(found: Found, start: usize, at: usize) -> ReadOutcome
     requires count { start + at ≤ 2 ^ 63 }
     ensures outcome { (setting : Setting)
@@ -222,23 +222,23 @@ fn done_last(found: Found, start: usize, at: usize) -> ReadOutcome
 pub(crate) fn last_outcome<R: MacroFunctions>(
     with: &Surroundings<'_, R>,
     frames: &mut Frames,
-    stage: Stage,
+    position: Position,
     start: usize,
     at: usize,
 ) -> Result<ReadOutcome, AllocError>
     requires answers { R.answers with.now.macros.now }
-    requires place { at ≤ with.now.limits.text }
+    requires within { at ≤ with.now.limits.text }
     requires count { start + at ≤ 2 ^ 63 }
     ensures outcome { let setting = setting R.functions with.now in
-        IfOk result (λ outcome. IsOutcome outcome (rest_of setting frames.old stage start at [])) }
-    ensures between { frames.old ≡ [] → stage ≡ AtObject → result ≡ Ok IsEmpty }
+        IfOk result (λ outcome. IsOutcome outcome (rest_of setting frames.old position start at [])) }
+    ensures between { frames.old ≡ [] → position ≡ AtObject → result ≡ Ok IsEmpty }
 {
-    match settle_last(with, frames, stage, at)? {
+    match settle_last(with, frames, position, at)? {
         Settled::Open(_) => unreachable!(),
         Settled::Done(found) => Ok(done_last(found, start, at)),
-        Settled::Refused(code, place) => Ok(ReadOutcome::Refused {
+        Settled::Refused(code, offset) => Ok(ReadOutcome::Refused {
             code,
-            at: start + place,
+            at: start + offset,
         }),
     }
 }

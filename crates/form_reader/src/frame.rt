@@ -138,10 +138,10 @@ impl Frames {
 
     /// Hands an object to the innermost call: whether it takes it and goes on. A call that waits for its one object does not.
     pub(crate) fn take_object(&mut self, x: HeldObject) -> Result<bool, AllocError>
-        ensures takes { (token : Bool) → IfOk result (λ taken.
-            taken ≡ true → calls_with self.old (one token x) ≡ Some self.new) }
-        ensures refuses { (token : Bool) → IfOk result (λ taken.
-            taken ≡ false → (calls_with self.old (one token x) ≡ None) × (self.new ≡ self.old)) }
+        ensures takes { (token : Bool) → IfOk result (λ goes_on.
+            goes_on ≡ true → calls_with self.old (one token x) ≡ Some self.new) }
+        ensures refuses { (token : Bool) → IfOk result (λ goes_on.
+            goes_on ≡ false → (calls_with self.old (one token x) ≡ None) × (self.new ≡ self.old)) }
     {
         if let Some(frame) = self.frames.last_mut() {
             return frame.part.take_object(x);
@@ -174,10 +174,10 @@ impl Part {
 
     /// Takes an object: whether it goes on.
     fn take_object(&mut self, x: HeldObject) -> Result<bool, AllocError>
-        ensures takes { IfOk result (λ taken.
-            taken ≡ true → with_object self.old x ≡ Some self.new) }
-        ensures refuses { IfOk result (λ taken.
-            taken ≡ false → (with_object self.old x ≡ None) × (self.new ≡ self.old)) }
+        ensures takes { IfOk result (λ goes_on.
+            goes_on ≡ true → with_object self.old x ≡ Some self.new) }
+        ensures refuses { IfOk result (λ goes_on.
+            goes_on ≡ false → (with_object self.old x ≡ None) × (self.new ≡ self.old)) }
     {
         match self {
             Part::List(items) => {

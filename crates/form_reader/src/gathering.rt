@@ -2,13 +2,13 @@
 ghost use Rattle.std.specs.Prelude.{◌≡◌, ◌≤◌, ◌<◌, ◌+◌, ◌^◌, ℕ, List, ◌∷◌, length, IfOk};
 ghost use Rattle.form_reader.specs.declared.frame.Frame.{Frame};
 ghost use Rattle.form_reader.specs.Surrounding.{setting};
-ghost use Rattle.form_reader.specs.declared.stage.Stage.TheVariants.{Text as AtText, Escaped as AtEscaped, Line as AtLine, Block as AtBlock};
-ghost use Rattle.form_reader.specs.Resuming.{Brings, stage_gives};
+ghost use Rattle.form_reader.specs.declared.position.Position.TheVariants.{Text as AtText, Escaped as AtEscaped, Line as AtLine, Block as AtBlock};
+ghost use Rattle.form_reader.specs.Resuming.{Brings, position_gives};
 ghost use Rattle.form_reader.specs.Ready.{IsReady};
 
 use crate::bytes::{LineByte, TextByte, block_byte, escaped_byte, line_byte, text_byte};
 use crate::opening::ended;
-use crate::stage::{Event, Stage};
+use crate::position::{Event, Position};
 use crate::surroundings::Surroundings;
 use lisp_reading::{HeldText, Invoked};
 use std::alloc::AllocError;
@@ -27,17 +27,17 @@ pub(crate) fn in_text<R: MacroFunctions>(
     c: u8,
 ) -> Result<Event, AllocError>
     requires answers { R.answers with.now.macros.now }
-    requires place { at ≤ with.now.limits.text }
+    requires within { at ≤ with.now.limits.text }
     requires count { at < 2 ^ 63 }
     ensures brings { let setting = setting R.functions with.now in
         (frames : List Frame) (cs : List ℕ) → depth ≡ length frames
         → IfOk result (λ event. Brings setting frames (at + 1) cs event
-        (stage_gives setting frames (AtText call terminator text) at (c ∷ cs))) }
+        (position_gives setting frames (AtText call terminator text) at (c ∷ cs))) }
     ensures ready { IfOk result (IsReady with.now.limits (at + 1)) }
 {
     match text_byte(with.readtable, &with.limits, terminator, &mut text, at, c)? {
-        TextByte::More => Ok(Event::Stage(Stage::Text(call, terminator, text))),
-        TextByte::Escape => Ok(Event::Stage(Stage::Escaped(call, terminator, text))),
+        TextByte::More => Ok(Event::Open(Position::Text(call, terminator, text))),
+        TextByte::Escape => Ok(Event::Open(Position::Escaped(call, terminator, text))),
         TextByte::Ended => {
             let gathered = StdGathered::Text(text.into_bytes());
             ended(with, depth, &call, false, gathered, at + 1)
@@ -59,11 +59,11 @@ pub(crate) fn in_escaped<R: MacroFunctions>(
     ensures brings { let setting = setting R.functions with.now in
         (frames : List Frame) (cs : List ℕ) → depth ≡ length frames
         → IfOk result (λ event. Brings setting frames (at + 1) cs event
-        (stage_gives setting frames (AtEscaped call terminator text) at (c ∷ cs))) }
+        (position_gives setting frames (AtEscaped call terminator text) at (c ∷ cs))) }
     ensures ready { IfOk result (IsReady with.now.limits (at + 1)) }
 {
     match escaped_byte(with.readtable, &with.limits, terminator, &mut text, at, c)? {
-        None => Ok(Event::Stage(Stage::Text(call, terminator, text))),
+        None => Ok(Event::Open(Position::Text(call, terminator, text))),
         Some(code) => Ok(Event::Refused(code, at)),
     }
 }
@@ -79,17 +79,17 @@ pub(crate) fn in_line<R: MacroFunctions>(
     c: u8,
 ) -> Result<Event, AllocError>
     requires answers { R.answers with.now.macros.now }
-    requires place { at ≤ with.now.limits.text }
+    requires within { at ≤ with.now.limits.text }
     requires count { at < 2 ^ 63 }
     ensures brings { let setting = setting R.functions with.now in
         (frames : List Frame) (cs : List ℕ) → depth ≡ length frames
         → IfOk result (λ event. Brings setting frames (at + 1) cs event
-        (stage_gives setting frames (AtLine call text) at (c ∷ cs))) }
+        (position_gives setting frames (AtLine call text) at (c ∷ cs))) }
     ensures ready { IfOk result (IsReady with.now.limits (at + 1)) }
 {
     let keep = call.keep();
     match line_byte(with.readtable, &with.limits, keep, &mut text, at, c)? {
-        LineByte::More => Ok(Event::Stage(Stage::Line(call, text))),
+        LineByte::More => Ok(Event::Open(Position::Line(call, text))),
         LineByte::Ended => {
             let gathered = StdGathered::Text(text.into_bytes());
             ended(with, depth, &call, false, gathered, at + 1)
@@ -109,17 +109,17 @@ pub(crate) fn in_block<R: MacroFunctions>(
     c: u8,
 ) -> Result<Event, AllocError>
     requires answers { R.answers with.now.macros.now }
-    requires place { at ≤ with.now.limits.text }
+    requires within { at ≤ with.now.limits.text }
     requires count { at < 2 ^ 63 }
     requires level { levels.0 ≤ at }
     ensures brings { let setting = setting R.functions with.now in
         (frames : List Frame) (cs : List ℕ) → depth ≡ length frames
         → IfOk result (λ event. Brings setting frames (at + 1) cs event
-        (stage_gives setting frames (AtBlock call levels) at (c ∷ cs))) }
+        (position_gives setting frames (AtBlock call levels) at (c ∷ cs))) }
     ensures ready { IfOk result (IsReady with.now.limits (at + 1)) }
 {
     match block_byte(with.readtable, &with.limits, &mut levels, at, c) {
-        LineByte::More => Ok(Event::Stage(Stage::Block(call, levels))),
+        LineByte::More => Ok(Event::Open(Position::Block(call, levels))),
         LineByte::Ended => ended(with, depth, &call, false, StdGathered::Nothing, at + 1),
         LineByte::Refused(code) => Ok(Event::Refused(code, at)),
     }

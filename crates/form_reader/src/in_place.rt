@@ -2,7 +2,7 @@
 ghost use Rattle.std.specs.Prelude.{◌≡◌, ◌≤◌, ◌<◌, ◌+◌, ℕ, List, [], ◌∷◌, length, true, false, Ok, None, IfOk, IfSome, IsTrue};
 ghost use Rattle.form_reader.specs.Feeding.{is_going};
 ghost use Rattle.form_reader.specs.Surrounding.{setting};
-ghost use Rattle.form_reader.specs.declared.stage.Stage.TheVariants.{Object as AtObject};
+ghost use Rattle.form_reader.specs.declared.position.Position.TheVariants.{Object as AtObject};
 ghost use Rattle.form_reader.specs.InPlace.{is_space};
 ghost use Rattle.form_reader.specs.InPlace.{BeginsToken, FeedsInPlace, IsBegunAt, IsReadyInPlace, Stays};
 ghost use Rattle.form_reader.specs.declared.in_place.InPlace.TheVariants.{Passed as IsPassed};
@@ -12,7 +12,7 @@ use crate::attempt::stands_alone;
 use crate::bytes::LineByte;
 use crate::frame::Frames;
 use crate::objects::is_blank;
-use crate::stage::{BegunScan, FirstByte, Stage, first_byte};
+use crate::position::{BegunScan, FirstByte, Position, first_byte};
 use crate::surroundings::Surroundings;
 use std::alloc::AllocError;
 use user_macros::MacroFunctions;
@@ -21,7 +21,7 @@ use user_macros::MacroFunctions;
 #[derive(Clone, Copy)]
 pub enum InPlace {
     /// It is taken, and the reader goes on there.
-    Taken,
+    GoesOn,
     /// It is whitespace where nothing is open: an attempt begins after it.
     Passed,
     /// Something begins or ends at it. Nothing has changed.
@@ -30,29 +30,29 @@ pub enum InPlace {
     Refused(u16),
 }
 
-/// The byte `c` at `at`, where the reader is at `stage`: it is taken there if it begins a token or goes on one, or is whitespace
+/// The byte `c` at `at`, where the reader is at `position`: it is taken there if it begins a token or goes on one, or is whitespace
 /// that is discarded.
 #[inline(always)]
 pub(crate) fn in_place<R: MacroFunctions>(
     with: &Surroundings<'_, R>,
     frames: &Frames,
-    stage: &mut Stage,
+    position: &mut Position,
     at: usize,
     c: u8,
 ) -> Result<InPlace, AllocError>
-    requires place { at ≤ with.now.limits.text }
+    requires within { at ≤ with.now.limits.text }
     requires nesting { length frames.now ≤ with.now.limits.nesting }
     ensures feeds { let setting = setting R.functions with.now in
-        (cs : List ℕ) → IfOk result (FeedsInPlace setting frames.now at c cs stage.old stage.new) }
-    ensures ready { IfOk result (IsReadyInPlace with.now.limits at stage.new) }
+        (cs : List ℕ) → IfOk result (FeedsInPlace setting frames.now at c cs position.old position.new) }
+    ensures ready { IfOk result (IsReadyInPlace with.now.limits at position.new) }
     ensures passed { let setting = setting R.functions with.now in
-        frames.now ≡ [] → is_space setting frames.now stage.old at c ≡ true → (result ≡ Ok IsPassed) × (stage.new ≡ AtObject) }
-    ensures anew { result ≡ Ok IsPassed → (frames.now ≡ []) × (stage.new ≡ AtObject) }
+        frames.now ≡ [] → is_space setting frames.now position.old at c ≡ true → (result ≡ Ok IsPassed) × (position.new ≡ AtObject) }
+    ensures anew { result ≡ Ok IsPassed → (frames.now ≡ []) × (position.new ≡ AtObject) }
 {
-    match stage {
-        Stage::Object => begin_in_place(with, frames, stage, at, c),
-        Stage::Token(scan) => match scan.feed(with.readtable, &with.limits, at, c)? {
-            LineByte::More => Ok(InPlace::Taken),
+    match position {
+        Position::Object => begin_in_place(with, frames, position, at, c),
+        Position::Token(scan) => match scan.feed(with.readtable, &with.limits, at, c)? {
+            LineByte::More => Ok(InPlace::GoesOn),
             LineByte::Ended => Ok(InPlace::Left),
             LineByte::Refused(code) => Ok(InPlace::Refused(code)),
         },
@@ -65,24 +65,24 @@ pub(crate) fn in_place<R: MacroFunctions>(
 fn begin_in_place<R: MacroFunctions>(
     with: &Surroundings<'_, R>,
     frames: &Frames,
-    stage: &mut Stage,
+    position: &mut Position,
     at: usize,
     c: u8,
 ) -> Result<InPlace, AllocError>
-    requires place { at ≤ with.now.limits.text }
+    requires within { at ≤ with.now.limits.text }
     requires nesting { length frames.now ≤ with.now.limits.nesting }
-    requires object { stage.old ≡ AtObject }
+    requires object { position.old ≡ AtObject }
     ensures feeds { let setting = setting R.functions with.now in
-        (cs : List ℕ) → IfOk result (FeedsInPlace setting frames.now at c cs stage.old stage.new) }
-    ensures ready { IfOk result (IsReadyInPlace with.now.limits at stage.new) }
+        (cs : List ℕ) → IfOk result (FeedsInPlace setting frames.now at c cs position.old position.new) }
+    ensures ready { IfOk result (IsReadyInPlace with.now.limits at position.new) }
     ensures passed { let setting = setting R.functions with.now in
-        frames.now ≡ [] → is_space setting frames.now stage.old at c ≡ true → (result ≡ Ok IsPassed) × (stage.new ≡ AtObject) }
-    ensures anew { result ≡ Ok IsPassed → (frames.now ≡ []) × (stage.new ≡ AtObject) }
+        frames.now ≡ [] → is_space setting frames.now position.old at c ≡ true → (result ≡ Ok IsPassed) × (position.new ≡ AtObject) }
+    ensures anew { result ≡ Ok IsPassed → (frames.now ≡ []) × (position.new ≡ AtObject) }
 {
     match begun_at(with, frames, at, c)? {
         Some(scan) => {
-            *stage = Stage::Token(scan);
-            Ok(InPlace::Taken)
+            *position = Position::Token(scan);
+            Ok(InPlace::GoesOn)
         }
         None => Ok(discarded(with, frames, at, c)),
     }
@@ -96,7 +96,7 @@ fn begun_at<R: MacroFunctions>(
     at: usize,
     c: u8,
 ) -> Result<Option<BegunScan>, AllocError>
-    requires place { at ≤ with.now.limits.text }
+    requires within { at ≤ with.now.limits.text }
     requires nesting { length frames.now ≤ with.now.limits.nesting }
     ensures begins { let setting = setting R.functions with.now in
         (cs : List ℕ) → IfOk result (λ begun. IfSome begun (λ scan. BeginsToken setting frames.now at c cs scan)) }
@@ -137,7 +137,7 @@ fn discarded<R: MacroFunctions>(
     if frames.len() == 0 {
         return InPlace::Passed;
     }
-    InPlace::Taken
+    InPlace::GoesOn
 }
 
 /// Whether the byte `c` at `at`, where an object may begin, is whitespace that is discarded.

@@ -2,17 +2,17 @@
 //!
 //! What that is, `lisp_reading` defines, and has the laws of it. `FormReader` takes a text one byte at a time, and `read_one` a
 //! whole text. `step`, `finish` and `read_one` answer what the definition gives, out of memory aside: a form, with its object
-//! and its places; that the text is empty; or a refusal, with its number and its place. What `step` answers is so whatever bytes
-//! follow.
+//! and its offsets; that the text is empty; or a refusal, with its number and its offset. What `step` answers is so whatever
+//! bytes follow.
 //!
-//! - specs/Frames.antt, specs/Resuming.antt: what open calls stand for, and a place in the innermost, for a reader that takes
-//!   one byte at a time; specs/Feeding.antt, specs/Delivering.antt: what one byte, and what is found, are to them
+//! - specs/Frames.antt, specs/Resuming.antt: what open calls stand for, and where a reader is in the innermost;
+//!   specs/Feeding.antt, specs/Delivering.antt: what one byte, and what is found, are to them
 //! - specs/Ready.antt, specs/Standing.antt: what keeps such a reader going; specs/Changing.antt, specs/Ending.antt: what one byte,
 //!   and the end of the text, are to the outcome; specs/Reader.antt: what a reader is after, and what it answers
 //!
 //! - `reader`: `FormReader`, `Advance`; `whole`: `read_one`
 //! - `change`: one byte, wherever a reader is in a form; `ending`: the end of the text, `ReadOutcome`
-//! - `frame`, `stage`: open calls, and where a reader is in the innermost
+//! - `frame`, `position`: open calls, and where a reader is in the innermost
 //! - `known`: which data may be answered; `complete`: what a call gives
 //! - `advance`: one byte, wherever a reader is in its innermost call
 //! - `in_place`: one byte that goes on what is gathered, where it is gathered
@@ -39,8 +39,8 @@ mod laws;
 mod macros;
 mod objects;
 mod opening;
+mod position;
 mod reader;
-mod stage;
 mod surroundings;
 mod tokens;
 mod whole;

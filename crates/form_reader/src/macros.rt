@@ -5,15 +5,15 @@ ghost use Rattle.lisp_reading.specs.Setting.{function_of};
 ghost use Rattle.form_reader.specs.Surrounding.{setting};
 ghost use Rattle.lisp_reading.specs.Reading.{macro_called, sub_there};
 ghost use Rattle.form_reader.specs.Frames.{plan_gives};
-ghost use Rattle.form_reader.specs.Resuming.{inner_at, Brings, Moves, stage_gives};
+ghost use Rattle.form_reader.specs.Resuming.{inner_at, Brings, Moves, position_gives};
 ghost use Rattle.form_reader.specs.declared.frame.Frame.{Frame};
-ghost use Rattle.form_reader.specs.declared.stage.Stage.TheVariants.{CallToken as AtCallToken, Number as AtNumber};
+ghost use Rattle.form_reader.specs.declared.position.Position.TheVariants.{CallToken as AtCallToken, Number as AtNumber};
 ghost use Rattle.form_reader.specs.Ready.{IsReady, IsReadyMove};
 
 use crate::bytes::{LineByte, number_byte};
 use crate::frame::Frames;
 use crate::opening::{begin_call, ended};
-use crate::stage::{Event, Stage};
+use crate::position::{Event, Position};
 use crate::surroundings::Surroundings;
 use crate::tokens::token_byte;
 use lisp_object::refusal::{FORM_TOO_LONG, INVALID_CHARACTER, NO_DISPATCH, OUT_OF_PROFILE};
@@ -26,7 +26,7 @@ use user_macros::MacroFunctions;
 /// What a byte brings: after it where it is taken, before it where it ended a token.
 #[derive(Drop)]
 pub enum Moved {
-    Taken(Event),
+    After(Event),
     Before(Event),
 }
 
@@ -39,7 +39,7 @@ pub(crate) fn begin_macro<R: MacroFunctions>(
     at: usize,
 ) -> Result<Event, AllocError>
     requires answers { R.answers with.now.macros.now }
-    requires place { at ≤ with.now.limits.text }
+    requires within { at ≤ with.now.limits.text }
     requires character { c < 128 }
     requires nesting { length frames.old ≤ with.now.limits.nesting }
     ensures brings { let setting = setting R.functions with.now in
@@ -54,7 +54,7 @@ pub(crate) fn begin_macro<R: MacroFunctions>(
         Some(name) => {
             if name.is_dispatch() {
                 let character = HeldCharacter::new(c);
-                return Ok(Event::Stage(Stage::Number(character, HeldNumber::none())));
+                return Ok(Event::Open(Position::Number(character, HeldNumber::none())));
             }
             begin_call(with, frames, Invoked::of_macro(function_of(name), c), at)
         }
@@ -71,20 +71,20 @@ pub(crate) fn in_call_token<R: MacroFunctions>(
     c: u8,
 ) -> Result<Moved, AllocError>
     requires answers { R.answers with.now.macros.now }
-    requires place { at ≤ with.now.limits.text }
+    requires within { at ≤ with.now.limits.text }
     ensures moves { let setting = setting R.functions with.now in
         (frames : List Frame) (cs : List ℕ) → depth ≡ length frames
         → IfOk result (λ moved. Moves setting frames at c cs moved
-        (stage_gives setting frames (AtCallToken call scan) at (c ∷ cs))) }
+        (position_gives setting frames (AtCallToken call scan) at (c ∷ cs))) }
     ensures ready { IfOk result (IsReadyMove with.now.limits at) }
 {
     match token_byte(with.readtable, &with.limits, &mut scan, at, c)? {
-        LineByte::More => Ok(Moved::Taken(Event::Stage(Stage::CallToken(call, scan)))),
+        LineByte::More => Ok(Moved::After(Event::Open(Position::CallToken(call, scan)))),
         LineByte::Ended => {
             let gathered = StdGathered::Marks(scan.into_marks());
             Ok(Moved::Before(ended(with, depth, &call, true, gathered, at)?))
         }
-        LineByte::Refused(code) => Ok(Moved::Taken(Event::Refused(code, at))),
+        LineByte::Refused(code) => Ok(Moved::After(Event::Refused(code, at))),
     }
 }
 
@@ -98,16 +98,16 @@ pub(crate) fn in_number<R: MacroFunctions>(
     c: u8,
 ) -> Result<Event, AllocError>
     requires answers { R.answers with.now.macros.now }
-    requires place { at ≤ with.now.limits.text }
+    requires within { at ≤ with.now.limits.text }
     requires nesting { length frames.old ≤ with.now.limits.nesting }
     ensures brings { let setting = setting R.functions with.now in
         (cs : List ℕ) → IfOk result (λ event. Brings setting frames.new (at + 1) cs event
-        (stage_gives setting frames.old (AtNumber character number) at (c ∷ cs))) }
+        (position_gives setting frames.old (AtNumber character number) at (c ∷ cs))) }
     ensures ready { IfOk result (IsReady with.now.limits (at + 1)) }
     ensures nesting { IfOk result (λ _. length frames.new ≤ with.now.limits.nesting) }
 {
     match number_byte(with.readtable, &with.limits, &mut number, at, c) {
-        LineByte::More => Ok(Event::Stage(Stage::Number(character, number))),
+        LineByte::More => Ok(Event::Open(Position::Number(character, number))),
         LineByte::Ended => sub_byte(with, frames, character.get(), number, at, c),
         LineByte::Refused(code) => Ok(Event::Refused(code, at)),
     }
@@ -123,7 +123,7 @@ fn sub_byte<R: MacroFunctions>(
     c: u8,
 ) -> Result<Event, AllocError>
     requires answers { R.answers with.now.macros.now }
-    requires place { at ≤ with.now.limits.text }
+    requires within { at ≤ with.now.limits.text }
     requires character { character < 128 }
     requires nesting { length frames.old ≤ with.now.limits.nesting }
     ensures brings { let setting = setting R.functions with.now in

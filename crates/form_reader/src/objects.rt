@@ -1,14 +1,14 @@
-//! One byte at a place where an object may begin, after a token there, and in a token that is an object.
+//! One byte where an object may begin, after a token there, and in a token that is an object.
 ghost use Rattle.std.specs.Prelude.{◌≡◌, ◌≤◌, ◌<◌, ◌+◌, ◌^◌, ℕ, List, ◌∷◌, length, true, IfOk, IsTrue};
 ghost use Rattle.token_scan.specs.Marks.{are_ascii};
 ghost use Rattle.form_reader.specs.Delivering.{Passes};
 ghost use Rattle.lisp_reading.specs.Plans.{gives};
 ghost use Rattle.form_reader.specs.Surrounding.{setting};
 ghost use Rattle.lisp_reading.specs.Reading.{is_blank, token_found};
-ghost use Rattle.form_reader.specs.Frames.{plan_gives, place_gives};
-ghost use Rattle.form_reader.specs.Resuming.{Brings, Moves, stage_gives};
+ghost use Rattle.form_reader.specs.Frames.{plan_gives, next_item_gives};
+ghost use Rattle.form_reader.specs.Resuming.{Brings, Moves, position_gives};
 ghost use Rattle.form_reader.specs.declared.frame.Frame.{Frame};
-ghost use Rattle.form_reader.specs.declared.stage.Stage.TheVariants.{Object as AtObject, Token as AtToken};
+ghost use Rattle.form_reader.specs.declared.position.Position.TheVariants.{Object as AtObject, Token as AtToken};
 ghost use Rattle.form_reader.specs.Ready.{lookahead, IsReady, IsReadyMove, IsReadyPass, IsEnd};
 
 use crate::attempt::{alone, begin_token, stands_alone};
@@ -16,7 +16,7 @@ use crate::close::close;
 use crate::deliver::{Delivered, deliver};
 use crate::frame::Frames;
 use crate::macros::Moved;
-use crate::stage::{BegunByte, BegunScan, Event, Stage};
+use crate::position::{BegunByte, BegunScan, Event, Position};
 use crate::surroundings::Surroundings;
 use lisp_object::refusal::FORM_TOO_LONG;
 use lisp_reading::{Found, TellError, Told, tell};
@@ -34,11 +34,11 @@ pub(crate) fn at_object<R: MacroFunctions>(
     c: u8,
 ) -> Result<Event, AllocError>
     requires answers { R.answers with.now.macros.now }
-    requires place { at ≤ with.now.limits.text }
+    requires within { at ≤ with.now.limits.text }
     requires nesting { length frames.old ≤ with.now.limits.nesting }
     ensures brings { let setting = setting R.functions with.now in
         (cs : List ℕ) → IfOk result (λ event. Brings setting frames.new (at + 1) cs event
-        (stage_gives setting frames.old AtObject at (c ∷ cs))) }
+        (position_gives setting frames.old AtObject at (c ∷ cs))) }
     ensures ready { IfOk result (IsReady with.now.limits (at + 1)) }
     ensures nesting { IfOk result (λ _. length frames.new ≤ with.now.limits.nesting) }
 {
@@ -65,11 +65,11 @@ pub(crate) fn after_token<R: MacroFunctions>(
     c: u8,
 ) -> Result<Event, AllocError>
     requires answers { R.answers with.now.macros.now }
-    requires place { at ≤ with.now.limits.text }
+    requires within { at ≤ with.now.limits.text }
     requires nesting { length frames.old ≤ with.now.limits.nesting }
     ensures brings { let setting = setting R.functions with.now in
         (cs : List ℕ) → IfOk result (λ event. Brings setting frames.new (at + 1) cs event
-        (place_gives setting true frames.old at (c ∷ cs))) }
+        (next_item_gives setting true frames.old at (c ∷ cs))) }
     ensures ready { IfOk result (IsReady with.now.limits (at + 1)) }
     ensures nesting { IfOk result (λ _. length frames.new ≤ with.now.limits.nesting) }
 {
@@ -78,7 +78,7 @@ pub(crate) fn after_token<R: MacroFunctions>(
         if at >= with.limits.text {
             return Ok(Event::Refused(FORM_TOO_LONG, at));
         }
-        return Ok(Event::Stage(Stage::Object));
+        return Ok(Event::Open(Position::Object));
     }
     at_object(with, frames, at, c)
 }
@@ -103,7 +103,7 @@ pub(crate) fn is_blank(syntax: Syntax) -> bool
 #[derive(Drop)]
 pub enum Passed {
     /// It is taken, and brings this.
-    Taken(Event),
+    Brings(Event),
     /// The outermost attempt came to this before it.
     Done(Found),
 }
@@ -118,7 +118,7 @@ pub(crate) fn after_found<R: MacroFunctions>(
     c: u8,
 ) -> Result<Passed, AllocError>
     requires answers { R.answers with.now.macros.now }
-    requires place { at ≤ with.now.limits.text }
+    requires within { at ≤ with.now.limits.text }
     requires nesting { length frames.old ≤ with.now.limits.nesting }
     requires found { lookahead found ≤ 1 }
     ensures passes { let setting = setting R.functions with.now in
@@ -130,13 +130,13 @@ pub(crate) fn after_found<R: MacroFunctions>(
     match deliver(with, frames, found, at)? {
         Delivered::Waits(token) => {
             if token {
-                Ok(Passed::Taken(after_token(with, frames, at, c)?))
+                Ok(Passed::Brings(after_token(with, frames, at, c)?))
             } else {
-                Ok(Passed::Taken(at_object(with, frames, at, c)?))
+                Ok(Passed::Brings(at_object(with, frames, at, c)?))
             }
         }
         Delivered::Done(found) => Ok(Passed::Done(found)),
-        Delivered::Refused(code, place) => Ok(Passed::Taken(Event::Refused(code, place))),
+        Delivered::Refused(code, offset) => Ok(Passed::Brings(Event::Refused(code, offset))),
     }
 }
 
@@ -148,16 +148,16 @@ pub(crate) fn in_token<R: MacroFunctions>(
     at: usize,
     c: u8,
 ) -> Result<Moved, AllocError>
-    requires place { at ≤ with.now.limits.text }
+    requires within { at ≤ with.now.limits.text }
     ensures moves { let setting = setting R.functions with.now in
         (frames : List Frame) (cs : List ℕ) → IfOk result (λ moved. Moves setting frames at c cs moved
-        (stage_gives setting frames (AtToken scan) at (c ∷ cs))) }
+        (position_gives setting frames (AtToken scan) at (c ∷ cs))) }
     ensures ready { IfOk result (IsReadyMove with.now.limits at) }
 {
     match scan.byte(with.readtable, &with.limits, at, c)? {
-        BegunByte::More(scan) => Ok(Moved::Taken(Event::Stage(Stage::Token(scan)))),
+        BegunByte::More(scan) => Ok(Moved::After(Event::Open(Position::Token(scan)))),
         BegunByte::Ended(marks) => Ok(Moved::Before(token_end(with, marks, at)?)),
-        BegunByte::Refused(code) => Ok(Moved::Taken(Event::Refused(code, at))),
+        BegunByte::Refused(code) => Ok(Moved::After(Event::Refused(code, at))),
     }
 }
 

@@ -12,7 +12,7 @@ ghost use Rattle.std_macros.specs.Results.{view_gathered, IsProperGathered};
 
 use crate::complete::{Completed, complete};
 use crate::frame::{Frame, Frames, Part};
-use crate::stage::{Event, Stage};
+use crate::position::{Event, Position};
 use crate::surroundings::Surroundings;
 use lisp_object::refusal::{OUT_OF_PROFILE, TOO_DEEP};
 use lisp_reading::{
@@ -33,7 +33,7 @@ pub(crate) fn begin_call<R: MacroFunctions>(
     at: usize,
 ) -> Result<Event, AllocError>
     requires answers { R.answers with.now.macros.now }
-    requires place { at ≤ with.now.limits.text }
+    requires within { at ≤ with.now.limits.text }
     requires nesting { length frames.old ≤ with.now.limits.nesting }
     ensures begins { let setting = setting R.functions with.now in
         (cs : List ℕ) → IfOk result (λ event. Begins setting frames.new frames.old call at cs event) }
@@ -59,7 +59,7 @@ fn gather<R: MacroFunctions>(
     requires answers { R.answers with.now.macros.now }
     requires way { let setting = setting R.functions with.now in
         way_in setting call ≡ Some way }
-    requires place { at ≤ with.now.limits.text }
+    requires within { at ≤ with.now.limits.text }
     requires nesting { length frames.old ≤ with.now.limits.nesting }
     ensures gathers { let setting = setting R.functions with.now in
         (cs : List ℕ) → IfOk result (λ event. Gathers setting frames.new frames.old call way at cs event) }
@@ -73,20 +73,20 @@ fn gather<R: MacroFunctions>(
         Way::Until(_) => gather_objects(with, frames, call, way, at),
         Way::Text(close) => {
             let text = HeldText::new(with.alloc);
-            Ok(Event::Stage(Stage::Text(call, close, text)))
+            Ok(Event::Open(Position::Text(call, close, text)))
         }
         Way::Line(_) => {
             let text = HeldText::new(with.alloc);
-            Ok(Event::Stage(Stage::Line(call, text)))
+            Ok(Event::Open(Position::Line(call, text)))
         }
-        Way::Block => Ok(Event::Stage(Stage::Block(call, (0, 0)))),
+        Way::Block => Ok(Event::Open(Position::Block(call, (0, 0)))),
         Way::Token => {
             let scan = TokenScan::begin(with.alloc, with.limits.token);
-            Ok(Event::Stage(Stage::CallToken(call, scan)))
+            Ok(Event::Open(Position::CallToken(call, scan)))
         }
         Way::EscapedToken => {
             let scan = TokenScan::begin_escaped(with.alloc, with.limits.token);
-            Ok(Event::Stage(Stage::CallToken(call, scan)))
+            Ok(Event::Open(Position::CallToken(call, scan)))
         }
     }
 }
@@ -102,7 +102,7 @@ fn gather_objects<R: MacroFunctions>(
     at: usize,
 ) -> Result<Event, AllocError>
     requires objects { reads_objects way ≡ true }
-    requires place { at ≤ with.now.limits.text }
+    requires within { at ≤ with.now.limits.text }
     requires nesting { length frames.old ≤ with.now.limits.nesting }
     ensures gathers { let setting = setting R.functions with.now in
         (cs : List ℕ) → IfOk result (λ event. Gathers setting frames.new frames.old call way at cs event) }
@@ -117,7 +117,7 @@ fn gather_objects<R: MacroFunctions>(
             }
             let part = Part::Next;
             frames.push(Frame { call, part })?;
-            Ok(Event::Stage(Stage::Object))
+            Ok(Event::Open(Position::Object))
         }
         Way::List => {
             if deep {
@@ -125,7 +125,7 @@ fn gather_objects<R: MacroFunctions>(
             }
             let part = Part::List(HeldObjects::new(with.alloc));
             frames.push(Frame { call, part })?;
-            Ok(Event::Stage(Stage::Object))
+            Ok(Event::Open(Position::Object))
         }
         Way::Until(close) => {
             if deep {
@@ -133,7 +133,7 @@ fn gather_objects<R: MacroFunctions>(
             }
             let part = Part::Until(close, HeldObjects::new(with.alloc));
             frames.push(Frame { call, part })?;
-            Ok(Event::Stage(Stage::Object))
+            Ok(Event::Open(Position::Object))
         }
         Way::Nothing | Way::Text(_) | Way::Line(_) | Way::Block | Way::Token | Way::EscapedToken =>
             { unreachable!() }

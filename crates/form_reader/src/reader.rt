@@ -7,7 +7,7 @@ use crate::change::{Change, take_byte};
 use crate::ending::{ReadOutcome, last_outcome};
 use crate::frame::Frames;
 use crate::in_place::{InPlace, in_place};
-use crate::stage::Stage;
+use crate::position::Position;
 use crate::surroundings::Surroundings;
 use lisp_object::Datum;
 use lisp_reading::Limits;
@@ -33,8 +33,8 @@ pub struct FormReader {
 #[derive(Drop)]
 pub enum ReaderState {
     /// In a form: where it is in the innermost call.
-    Open(Stage),
-    /// It refused the text, with this number, at this place.
+    Open(Position),
+    /// It refused the text, with this number, at this offset.
     Refused(u16, usize),
     /// It ran out of memory.
     OutOfMemory,
@@ -52,7 +52,7 @@ pub enum Advance {
         end: usize,
         next: usize,
     },
-    /// The number of the refusal, and its place.
+    /// The number of the refusal, and its offset.
     Refused {
         code: u16,
         at: usize,
@@ -85,14 +85,14 @@ impl FormReader {
             start: 0,
             at: 0,
             frames: Frames::new(alloc),
-            state: ReaderState::Open(Stage::Object),
+            state: ReaderState::Open(Position::Object),
         }
     }
 
     /// Where the object, or the discarded call or text, that is now open began, as a number of bytes from the beginning of
     /// the text. A form that is read begins there or later, so the bytes before it need not be kept.
     pub fn begun(&self) -> usize
-        ensures place { result ≡ begun self.now }
+        ensures value { result ≡ begun self.now }
         ensures within { result ≤ fed self.now }
         ensures form { (setting : Setting) (bytes more : List ℕ) (x : Object) (start end next : ℕ)
             → IsAfter setting self.now bytes → reads setting (bytes ++ more) ≡ form x start end next → result ≤ start }
@@ -127,12 +127,12 @@ impl FormReader {
         ensures counts { IfOk result (Counts self.old self.new) }
         ensures begun { IfOk result (BeginsLater self.old self.new) }
         ensures sound { IfOk result IsSoundStep }
-        ensures refused { (code place : ℕ) → HasRefused self.old code place
-            → (result ≡ Ok (AdvanceRefused code place)) × HasRefused self.new code place }
+        ensures refused { (number offset : ℕ) → HasRefused self.old number offset
+            → (result ≡ Ok (AdvanceRefused number offset)) × HasRefused self.new number offset }
         ensures memory { OnErr result (HasNoMemory self.new) }
         ensures spent { HasNoMemory self.old → IsErr result }
-        ensures stays { (code place : ℕ)
-            → (HasRefused self.old code place → fed self.new ≡ fed self.old)
+        ensures stays { (number offset : ℕ)
+            → (HasRefused self.old number offset → fed self.new ≡ fed self.old)
             × (HasNoMemory self.old → fed self.new ≡ fed self.old) }
         ensures between { IsBetween self.old → is_whitespace readtable.now byte ≡ true
             → 0 < (limits_of self.old).text → (result ≡ Ok AdvanceMore) × IsBetween self.new }
@@ -149,8 +149,14 @@ impl FormReader {
             macros,
         };
         match &mut self.state {
-            ReaderState::Open(stage) => match in_place(&with, &self.frames, stage, self.at, byte) {
-                Ok(InPlace::Taken) => {
+            ReaderState::Open(position) => match in_place(
+                &with,
+                &self.frames,
+                position,
+                self.at,
+                byte,
+            ) {
+                Ok(InPlace::GoesOn) => {
                     self.at += 1;
                     Ok(Advance::More)
                 }
@@ -161,9 +167,9 @@ impl FormReader {
                 }
                 Ok(InPlace::Left) => self.leave(&with, byte),
                 Ok(InPlace::Refused(code)) => {
-                    let place = self.start + self.at;
-                    refuse(&mut self.state, code, place);
-                    Ok(Advance::Refused { code, at: place })
+                    let offset = self.start + self.at;
+                    refuse(&mut self.state, code, offset);
+                    Ok(Advance::Refused { code, at: offset })
                 }
                 Err(error) => {
                     run_out(&mut self.state);
@@ -203,8 +209,8 @@ impl FormReader {
     {
         // Until the byte has come to something: where that fails, the reader answers the same again.
         match mem::replace(&mut self.state, ReaderState::OutOfMemory) {
-            ReaderState::Open(stage) => {
-                let next = take_byte(with, &mut self.frames, stage, self.start, self.at, byte)?;
+            ReaderState::Open(position) => {
+                let next = take_byte(with, &mut self.frames, position, self.start, self.at, byte)?;
                 Ok(self.take(next))
             }
             ReaderState::Refused(..) => unreachable!(),
@@ -221,16 +227,16 @@ impl FormReader {
         ensures sound { IsSoundStep result }
     {
         match change {
-            Change::Goes(start, at, stage) => {
+            Change::Goes(start, at, position) => {
                 self.start = start;
                 self.at = at;
-                self.state = ReaderState::Open(stage);
+                self.state = ReaderState::Open(position);
                 Advance::More
             }
             Change::Form(x, start, end, next) => {
                 self.start = 0;
                 self.at = 0;
-                self.state = ReaderState::Open(Stage::Object);
+                self.state = ReaderState::Open(Position::Object);
                 Advance::Form {
                     datum: x.into_sound_datum(),
                     start,
@@ -257,8 +263,8 @@ impl FormReader {
         requires answers { R.answers macros.now }
         requires current { IsPackage packages.now.0 current.now }
         requires count { fed self ≤ 2 ^ 63 }
-        ensures refused { (code place : ℕ) → HasRefused self code place
-            → result ≡ Ok (ReadRefused code place) }
+        ensures refused { (number offset : ℕ) → HasRefused self number offset
+            → result ≡ Ok (ReadRefused number offset) }
         ensures spent { HasNoMemory self → IsErr result }
         ensures outcome { (bytes : List ℕ) → IsAfter
             (setting_of (limits_of self) readtable.now packages.now.0 current.now
@@ -278,7 +284,7 @@ impl FormReader {
             state,
         } = self;
         match state {
-            ReaderState::Open(stage) => {
+            ReaderState::Open(position) => {
                 let with = Surroundings {
                     alloc,
                     limits,
@@ -287,7 +293,7 @@ impl FormReader {
                     current,
                     macros,
                 };
-                last_outcome(&with, &mut frames, stage, start, at)
+                last_outcome(&with, &mut frames, position, start, at)
             }
             ReaderState::Refused(code, at) => Ok(ReadOutcome::Refused { code, at }),
             ReaderState::OutOfMemory => Err(AllocError),
@@ -297,10 +303,10 @@ impl FormReader {
 
 /// The reader refused the text here.
 #[inline(never)]
-fn refuse(state: &mut ReaderState, code: u16, place: usize)
-    ensures { state.new ≡ Refused code place }
+fn refuse(state: &mut ReaderState, number: u16, offset: usize)
+    ensures { state.new ≡ Refused number offset }
 {
-    *state = ReaderState::Refused(code, place);
+    *state = ReaderState::Refused(number, offset);
 }
 
 /// The reader ran out of memory.

@@ -1,4 +1,5 @@
 pub mod ArgumentLists
+mod CaseNames
 pub mod Shapes
 pub mod PropertyRows
 pub mod KindSteps

@@ -54,8 +54,8 @@ abbrev pub AreArgumentsOf : Worlds → List Datum → Type 0
 AreArgumentsOf w ds = All (IsArgument w.0.packages) ds
 
 -- what could be stored in the first can be stored in the second
-abbrev pub Keeps : Table → Table → Type 0
-Keeps u v = (d : Datum) → IsArgument u d → IsArgument v d
+abbrev pub KeepsArguments : Table → Table → Type 0
+KeepsArguments u v = (d : Datum) → IsArgument u d → IsArgument v d
 
 abbrev pub object_of_symbol : Symbol → Object
 object_of_symbol x = symbol x.0 x.1

@@ -62,7 +62,8 @@ pub(crate) fn two_and_rest(values: &[Datum]) -> Result<(&Datum, &Datum, &[Datum]
 pub(crate) fn three_and_rest(
     values: &[Datum],
 ) -> Result<(&Datum, &Datum, &Datum, &[Datum]), EvaluationError>
-    ensures value { AreAtLeast 3 (λ p. p.0.now ∷ p.1.now ∷ p.2.now ∷ p.3.now) values.now result }
+    ensures value { AreAtLeast 3 (λ p. p.0.now ∷ p.1.now ∷ p.2.now ∷ p.3.now)
+        values.now result }
     ensures arguments { WhereArguments values.now result
         (λ u p. IsArgument u p.0.now × IsArgument u p.1.now × IsArgument u p.2.now × All (IsArgument u) p.3.now) }
 {

@@ -52,7 +52,8 @@ pub(crate) fn export_all(
     symbols: &[Datum],
 ) -> Result<bool, PackageError>
     requires { AreProper symbols.now }
-    ensures gives { Makes result world.new.0.packages (after_exports world.old.0.packages owner.now (symbols_in symbols.now)) }
+    ensures gives { Makes result world.new.0.packages
+        (after_exports world.old.0.packages owner.now (symbols_in symbols.now)) }
     ensures rest { world.new ≡ (with_packages world.old.0 world.new.0.packages, world.old.1) }
 {
     let mut wrote = false;
@@ -74,7 +75,8 @@ pub(crate) fn import_all(
 ) -> Result<bool, PackageError>
     requires proper { AreProper symbols.now }
     requires there { All (λ d. IsSymbol world.old.0.packages (symbol_in d)) symbols.now }
-    ensures gives { Makes result world.new.0.packages (after_imports world.old.0.packages owner.now (symbols_in symbols.now)) }
+    ensures gives { Makes result world.new.0.packages
+        (after_imports world.old.0.packages owner.now (symbols_in symbols.now)) }
     ensures rest { world.new ≡ (with_packages world.old.0 world.new.0.packages, world.old.1) }
 {
     let mut wrote = false;
@@ -95,7 +97,8 @@ pub(crate) fn use_each(
     used: &[Datum],
 ) -> Result<bool, PackageError>
     requires { AreProper used.now }
-    ensures gives { Makes result world.new.0.packages (after_uses world.old.0.packages owner.now (packages_in used.now)) }
+    ensures gives { Makes result world.new.0.packages
+        (after_uses world.old.0.packages owner.now (packages_in used.now)) }
     ensures rest { world.new ≡ (with_packages world.old.0 world.new.0.packages, world.old.1) }
 {
     let mut wrote = false;

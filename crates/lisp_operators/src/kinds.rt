@@ -1,7 +1,7 @@
 //! The kinds of arguments, and what an argument of each stands for.
 ghost use Rattle.std.specs.Prelude.{◌≡◌, true};
 ghost use Rattle.lisp_object.specs.Datum.{object_of};
-ghost use Rattle.lisp_operators.specs.Kinds.{a_symbol, a_name, a_text, an_integer, a_character, a_keyword, a_source, a_case, case_named, is_true, is_pair};
+ghost use Rattle.lisp_operators.specs.Kinds.{a_symbol, a_name, a_text, an_integer, a_character, a_keyword, a_source, a_case, is_true, is_pair};
 ghost use Rattle.lisp_operators.specs.Evaluated.{IsOfKind, IsProper};
 
 use crate::EvaluationError;
@@ -120,31 +120,16 @@ pub(crate) fn source(datum: &Datum) -> Result<&[u8], EvaluationError>
     }
 }
 
-// The case of a keyword's name.
-fn case_named(name: &[u8]) -> Option<Case>
-    ensures { result ≡ case_named name.now }
-{
-    if name == Case::Upcase.name() {
-        return Some(Case::Upcase);
-    }
-    if name == Case::Downcase.name() {
-        return Some(Case::Downcase);
-    }
-    if name == Case::Preserve.name() {
-        return Some(Case::Preserve);
-    }
-    if name == Case::Invert.name() {
-        return Some(Case::Invert);
-    }
-    None
-}
-
 /// The case that a keyword names.
 pub(crate) fn case(datum: &Datum) -> Result<Case, EvaluationError>
     requires { IsProper datum.now }
     ensures { IsOfKind (λ x. x) result (a_case (object_of datum.now)) }
 {
-    case_named(keyword(datum)?).ok_or(Refused(ARGUMENT_KIND))
+    let name = keyword(datum)?;
+    match Case::from_name(name) {
+        Some(letters) => Ok(letters),
+        None => Err(Refused(ARGUMENT_KIND)),
+    }
 }
 
 /// Whether it is true: NIL is false.

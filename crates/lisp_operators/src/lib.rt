@@ -2,7 +2,8 @@
 //!
 //! `specs/` says what each gives in a state of the world: a value, the state after it and whether anything was written, or the
 //! number of its refusal. Each function does with a `World` what its definition says, or answers that memory ran out (`Answers`
-//! of specs/Evaluated.antt). Which form is a call of which operator, the crate `evaluator` says.
+//! of specs/Evaluated.antt). After a refusal or out of memory the world may have changed, but for its marks. Which form is a call
+//! of which operator, the crate `evaluator` says.
 //!
 //! - `properties`, `packages`, `package_lists`, `readtables`: the operators of each family
 //! - `error`, `evaluated`: what an operator gives, `EvaluationError` and `Evaluated`

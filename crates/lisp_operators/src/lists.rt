@@ -73,7 +73,8 @@ fn check_names(members: &[Datum]) -> Result<(), EvaluationError>
 /// The members of a list, or the one argument, where each is an interned symbol.
 pub(crate) fn symbols(datum: &Datum) -> Result<&[Datum], EvaluationError>
     requires { IsProper datum.now }
-    ensures value { IsOfKind (λ m. symbols_in m.now) result (one_or_each a_symbol (object_of datum.now)) }
+    ensures value { IsOfKind (λ m. symbols_in m.now) result
+        (one_or_each a_symbol (object_of datum.now)) }
     ensures proper { IfOk result (λ m. AreProper m.now) }
 {
     match members(datum) {
@@ -88,7 +89,8 @@ pub(crate) fn symbols(datum: &Datum) -> Result<&[Datum], EvaluationError>
 /// The members of a list, or the one argument, where each is a designator of a name.
 pub(crate) fn names(datum: &Datum) -> Result<&[Datum], EvaluationError>
     requires { IsProper datum.now }
-    ensures value { IsOfKind (λ m. names_in m.now) result (one_or_each a_name (object_of datum.now)) }
+    ensures value { IsOfKind (λ m. names_in m.now) result
+        (one_or_each a_name (object_of datum.now)) }
     ensures proper { IfOk result (λ m. AreProper m.now) }
 {
     match members(datum) {

@@ -36,7 +36,8 @@ fn changed(alloc: Global, made: Result<bool, PackageError>) -> Result<Evaluated,
 
 // The package of this name or nickname, where it is not locked.
 fn unlocked(alloc: Global, world: &World, name: &[u8]) -> Result<Vec<u8>, EvaluationError>
-    ensures unlocked { IsUnlocked (λ p. p.items) result (package_named world.now.0.packages name.now) }
+    ensures unlocked { IsUnlocked (λ p. p.items) result
+        (package_named world.now.0.packages name.now) }
     ensures there { IfOk result (λ p. IsPackage world.now.0.packages p.items) }
 {
     let package = package_named(world, name)?;
@@ -91,7 +92,8 @@ pub fn import(
 // That each of these names or nicknames is that of a package.
 fn check_packages(world: &World, names: &[Datum]) -> Result<(), EvaluationError>
     requires { AreProper names.now }
-    ensures { FoundOr NO_PACKAGE (λ _. packages_in names.now) result (packages_named world.now.0.packages (names_in names.now)) }
+    ensures { FoundOr NO_PACKAGE (λ _. packages_in names.now) result
+        (packages_named world.now.0.packages (names_in names.now)) }
 {
     for name in names {
         match package_named(world, lists::name_in(name)) {

@@ -76,7 +76,8 @@ fn store(
     requires symbol { IsSymbol world.old.0.packages (symbol_of symbol.now) }
     requires indicator { IsSymbol world.old.0.packages (symbol_of indicator) }
     requires value { IsArgument world.old.0.packages value }
-    ensures gives { Stores world.old.0 (symbol_of symbol.now) (symbol_of indicator) (object_of value) world.new.0 result }
+    ensures gives { Stores world.old.0 (symbol_of symbol.now) (symbol_of indicator)
+        (object_of value) world.new.0 result }
     ensures proper { IfOk result IsProperValue }
     ensures unchanged { IfErr result (λ _. world.new ≡ world.old) }
     ensures marked { world.new.1 ≡ world.old.1 }
@@ -204,7 +205,8 @@ pub fn increment(
 fn pushed(alloc: Global, value: &Datum, old: Option<&Datum>) -> Result<Datum, AllocError>
     requires value { IsProper value.now }
     requires old { IfSome old (λ d. is_proper d.now ≡ true) }
-    ensures value { IfOk result (λ d. object_of d ≡ pair (object_of value.now) (or_nil (option_map (λ d. object_of d.now) old.entry))) }
+    ensures value { IfOk result (λ d. object_of d
+        ≡ pair (object_of value.now) (or_nil (option_map (λ d. object_of d.now) old.entry))) }
     ensures proper { IfOk result IsProper }
 {
     let old = match old {

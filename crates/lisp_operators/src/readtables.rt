@@ -2,7 +2,6 @@
 ghost use Rattle.std.specs.Prelude.{◌≡◌, true, false, IfOk, Result};
 ghost use Rattle.std.specs.FinMap as finite;
 ghost use Rattle.lisp_object.specs.Datum.{object_of};
-ghost use Rattle.readtable_core.specs.Names.{is_among};
 ghost use Rattle.plist_state.specs.State.{WorldState};
 ghost use Rattle.plist_state.specs.declared.error.ReadtableError.{ReadtableError};
 ghost use Rattle.plist_state.specs.Changes.{writable, Gives as Tells};
@@ -65,18 +64,13 @@ fn is_function(names: &[FnName], function: FnName) -> bool
     if function.is_standard() {
         return true;
     }
-    is_among(names, function)
-}
-
-fn is_among(names: &[FnName], function: FnName) -> bool
-    ensures { result ≡ is_among names.now function }
-{
     names.iter().any(|name| *name == function)
 }
 
 // What a change of the readtables gives: T.
 fn changed(alloc: Global, made: Result<(), ReadtableError>) -> Result<Evaluated, EvaluationError>
-    ensures gives { (s later : WorldState) (said : Result WorldState ReadtableError) → Tells (λ _. later) made said → Answers done result later (after s t said) }
+    ensures gives { (s later : WorldState) (said : Result WorldState ReadtableError)
+        → Tells (λ _. later) made said → Answers done result later (after s t said) }
     ensures proper { IfOk result IsProperValue }
 {
     match made {

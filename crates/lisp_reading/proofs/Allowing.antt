@@ -1,15 +1,14 @@
 -- A form is no deeper than the nesting, and each predicate that allows what may be read holds of its atoms.
-use Rattle.std.proofs.Common.{◌≡◌, ℕ, zero, suc, ◌+◌, ◌-◌, ◌≤◌, ◌^◌, ◌/◌, ℤ, pos, Bool, true, false, List, [], ◌∷◌, ◌++◌, length, map, replicate, All, codes, bytes_eq, Option, Some, None, Result, Ok, Err, inl, refl, ap, subst, ◌∙◌, arith}
-use Rattle.std.specs.Prelude.{nat_lt, nat_le, not, ◌&&◌, ◌||◌, ◌==◌, if◌then◌else◌, option_map, unsigned_abs, int_div}
-use Rattle.std.specs.Option.{option_map_or, option_or, ok_or}
+use Rattle.std.proofs.Common.{◌≡◌, ℕ, zero, suc, ◌+◌, ◌-◌, ◌≤◌, ℤ, Bool, true, false, List, [], ◌∷◌, ◌++◌, length, map, replicate, All, codes, bytes_eq, Option, Some, None, Result, Ok, Err, inl, refl, ap, subst, ◌∙◌, arith}
+use Rattle.std.specs.Prelude.{nat_lt, nat_le, not, ◌&&◌, ◌==◌, if◌then◌else◌, option_map}
+use Rattle.std.specs.Option.{option_map_or}
 use Rattle.std.specs.List.{list_all, slice_split}
 use Rattle.std.specs.FinMap as finite
 use Rattle.std.specs.FinMap.{get-from_entries}
 use Rattle.std.proofs.lemmas.Bool.{and_parts, leb-true}
-use Rattle.std.proofs.lemmas.List.Elements.{All-nil, All-cons, All-head, All-tail, All-append, All-replicate}
+use Rattle.std.proofs.lemmas.List.Elements.{All-nil, All-cons, All-append, All-replicate}
 use Rattle.lisp_object.specs.Object as o
-use Rattle.lisp_object.specs.Object.{Object, nil, pairs, list_of, AllAtoms, object_depth, depth_along, object_size}
-use Rattle.lisp_object.specs.Quotient.{divided, gcd, quotient}
+use Rattle.lisp_object.specs.Object.{Object, nil, list_of, AllAtoms, object_depth, object_size}
 use Rattle.readtable_core.specs.Characters.{upper_case}
 use Rattle.readtable_core.specs.declared.table.Case.{Case}
 use Rattle.readtable_core.specs.declared.table.Case.TheVariants.{Upcase, Downcase, Preserve, Invert}
@@ -24,13 +23,13 @@ use Rattle.token_scan.specs.declared.mark.Mark.TheVariants.{Plain, Quoted, Bar}
 use Rattle.token_scan.specs.Marks.{characters, character_count}
 use Rattle.token_scan.proofs.Spelled.{plain_counts, quoted_counts, bar_counts}
 use Rattle.token_meaning.specs.declared.refusal.MeaningRefusal.{MeaningRefusal}
-use Rattle.token_meaning.specs.declared.refusal.MeaningRefusal.TheVariants.{NumberRange, ZeroDenominator, FloatToken, DotsOnly}
+use Rattle.token_meaning.specs.declared.refusal.MeaningRefusal.TheVariants.{DotsOnly}
 use Rattle.token_meaning.specs.declared.token.TokenName.{TokenName}
 use Rattle.token_meaning.specs.declared.token.TokenName.TheVariants.{Unqualified, Keyword, External, Internal}
 use Rattle.token_meaning.specs.Folding.{on_plain, lower_case, has_upper_case, has_lower_case, in_upper_case, in_lower_case, folded}
 use Rattle.token_meaning.specs.Meanings.{Meaning, dot, is_plain, number_or_name, name_of, dots_of, pattern, meaning_of, rational_of, is_package_marker}
-use Rattle.token_meaning.specs.Numbers.{integer_of, ratio_of, integer_form, decimal_form, ratio_form, float_form, is_float, rational_form, decimal_or_float_form, number_of, rational_number, is_slash, is_point}
-use Rattle.token_meaning.specs.Numerals.{is_empty, is_numeral, value, without_sign, is_negative, signed, is_in_range, cut}
+use Rattle.token_meaning.specs.Numbers.{number_of, rational_number, is_point}
+use Rattle.token_meaning.specs.Numerals.{without_sign, is_negative}
 use Rattle.std_macros.specs.declared.kind.Standard.{Standard}
 use Rattle.std_macros.specs.declared.kind.Standard.TheVariants.{List as AList, Close, Quote, Comment, String, Out, Char, Function as FunctionName, Vector, Uninterned, Block as ABlock, Binary, Octal, Hex, Radix}
 use Rattle.std_macros.specs.declared.refusal.StdRefusal.TheVariants.{VectorLength, UninternedToken}
@@ -46,51 +45,8 @@ use Rattle.lisp_reading.proofs.Forms.{first, stood}
 use Rattle.lisp_reading.proofs.Homes.{external_there}
 use Rattle.lisp_reading.proofs.Keeping.{Given, given_keeps}
 use Rattle.lisp_reading.proofs.Language.{FoundAt, MaterialAt, AreKept, found_more, outermost_keeps}
-
--- ---- depths of lists
-
-along_within : (x : Object) → depth_along x ≤ object_depth x
-along_within (o.pair a b) = omega arith
-along_within (o.vector xs) = omega arith
-along_within (o.integer n) = omega arith
-along_within (o.rational n d) = omega arith
-along_within (o.character c) = omega arith
-along_within (o.text bytes) = omega arith
-along_within (o.symbol home own) = omega arith
-along_within (o.uninterned own) = omega arith
-
-module _ (P : Object → Type 0) where
-  -- P holds of its atoms, and it is at most so deep
-  abbrev pub Within : ℕ → Object → Type 0
-  Within room x = (object_depth x ≤ room) × AllAtoms P x
-
-  -- the same as the end of a list
-  abbrev Along : ℕ → Object → Type 0
-  Along room x = (depth_along x ≤ room) × AllAtoms P x
-
-  pairs_along : (room : ℕ) (xs : List Object) (tail : Object) → All (Within room) xs → Along room tail → Along room (pairs xs tail)
-  pairs_along room [] tail all end = end
-  pairs_along room (x ∷ xs) tail all end =
-      let rest = pairs_along room xs tail (All-tail (Within room) x xs all) end in
-      let first = All-head (Within room) x xs all in
-      (omega (arith, rest.0, first.0), (first.1, rest.1))
-
-  pairs_within : (room : ℕ) (xs : List Object) (tail : Object) → All (Within room) xs → Within room tail → Within (suc room) (pairs xs tail)
-  pairs_within room [] tail all end = (omega (arith, end.0), end.1)
-  pairs_within room (x ∷ xs) tail all end =
-      let whole = pairs_along room (x ∷ xs) tail all (omega (arith, end.0, along_within tail), end.1) in
-      (omega (arith, whole.0), whole.1)
-
-  vector_within : (room : ℕ) (xs : List Object) → P nil → All (Within room) xs → Within (suc room) (o.vector (list_of xs))
-  vector_within room xs end all =
-      let whole = pairs_along room xs nil all (omega arith, end) in
-      (omega (arith, whole.0), whole.1)
-
-  last_within : (room : ℕ) (xs : List Object) (x : Object) → last_of xs ≡ Some x → All (Within room) xs → Within room x
-  unfolding last_of
-  last_within room [] x e all = absurd cc
-  last_within room (y ∷ []) x e all = let same : y ≡ x = cc in subst (Within room) same (All-head (Within room) y [] all)
-  last_within room (y ∷ z ∷ zs) x e all = last_within room (z ∷ zs) x e (All-tail (Within room) y (z ∷ zs) all)
+use Rattle.lisp_reading.proofs.NumericTokens.{IsNumber, Numeric, chosen_numeric, rational_numeric, number_numeric}
+use Rattle.lisp_reading.proofs.Depths.{Within, pairs_within, vector_within, last_within}
 
 -- ---- characters of names
 
@@ -118,74 +74,6 @@ folded_characters Invert marks =
         | true ↦ same_characters marks
       ]
     ]
-
--- ---- numbers
-
--- of the objects that a number may be, P holds
-abbrev OfNumber : (Object → Type 0) → Option (Result Object MeaningRefusal) → Type 0
-OfNumber P None = Unit {0}
-OfNumber P (Some (Ok x)) = P x
-OfNumber P (Some (Err refusal)) = Unit {0}
-
--- an integer or a ratio
-abbrev IsNumber : Object → Type 0
-IsNumber (o.integer n) = Unit {0}
-IsNumber (o.rational n d) = Unit {0}
-IsNumber _ = ⊥
-
--- a number, or nothing, or a refusal
-abbrev Numeric : Option (Result Object MeaningRefusal) → Type 0
-Numeric = OfNumber IsNumber
-
-chosen_numeric : (b : Bool) (v w : Option (Result Object MeaningRefusal)) → Numeric v → Numeric w → Numeric (if b then v else w)
-chosen_numeric true v w p q = p
-chosen_numeric false v w p q = q
-
-first_numeric : (v w : Option (Result Object MeaningRefusal)) → Numeric v → Numeric w → Numeric (option_or v w)
-first_numeric (Some r) w p q = p
-first_numeric None w p q = q
-
-integer_numeric : (negative : Bool) (size : ℕ) → Numeric (Some (integer_of negative size))
-integer_numeric negative size =
-    elim (is_in_range negative size) as (λ b. Numeric (Some (if b then Ok (o.integer (signed negative size)) else Err NumberRange))) [ true ↦ tt | false ↦ tt ]
-
-quotient_numeric : (n : ℤ) (d : ℕ) → Numeric (Some (ok_or (quotient n d) ZeroDenominator))
-quotient_numeric n d =
-    let g = gcd (unsigned_abs n) d in
-    elim (d == 0) as (λ b. Numeric (Some (ok_or (if b then None else Some (divided n d g)) ZeroDenominator))) [
-      | true ↦ tt
-      | false ↦ elim (d / g == 1) as (λ b. IsNumber (if b then o.integer (int_div n (pos g)) else o.rational (int_div n (pos g)) (d / g))) [ true ↦ tt | false ↦ tt ]
-    ]
-
-ratio_numeric : (negative : Bool) (n d : ℕ) → Numeric (Some (ratio_of negative n d))
-ratio_numeric negative n d =
-    elim (d == 0 || (is_in_range negative n && nat_lt d (2 ^ 128))) as (λ b. Numeric (Some (if b then ok_or (quotient (signed negative n) d) ZeroDenominator else Err NumberRange))) [
-      | true ↦ quotient_numeric (signed negative n) d
-      | false ↦ tt
-    ]
-
-decimal_numeric : (negative : Bool) (parts : Option (List ℕ × List ℕ)) → Numeric (decimal_form negative parts)
-decimal_numeric negative None = tt
-decimal_numeric negative (Some (whole, fraction)) =
-    chosen_numeric (is_numeral 10 whole && is_empty fraction) (Some (integer_of negative (value 10 whole))) None (integer_numeric negative (value 10 whole)) tt
-
-ratio_form_numeric : (base : ℕ) (negative : Bool) (parts : Option (List ℕ × List ℕ)) → Numeric (ratio_form base negative parts)
-ratio_form_numeric base negative None = tt
-ratio_form_numeric base negative (Some (n, d)) =
-    chosen_numeric (is_numeral base n && is_numeral base d) (Some (ratio_of negative (value base n) (value base d))) None (ratio_numeric negative (value base n) (value base d)) tt
-
-rational_numeric : (base : ℕ) (negative : Bool) (text : List ℕ) → Numeric (rational_form base negative text)
-rational_numeric base negative text =
-    first_numeric (integer_form base negative text) (ratio_form base negative (cut is_slash text))
-    (chosen_numeric (is_numeral base text) (Some (integer_of negative (value base text))) None (integer_numeric negative (value base text)) tt)
-    (ratio_form_numeric base negative (cut is_slash text))
-
-number_numeric : (base : ℕ) (text : List ℕ) → Numeric (number_of base text)
-number_numeric base text =
-    let body = without_sign text in
-    first_numeric (rational_form base (is_negative text) body) (decimal_or_float_form (is_negative text) body) (rational_numeric base (is_negative text) body)
-    (first_numeric (decimal_form (is_negative text) (cut is_point body)) (float_form body) (decimal_numeric (is_negative text) (cut is_point body))
-    (chosen_numeric (is_float body) (Some (Err FloatToken)) None tt tt))
 
 -- ---- symbols
 

@@ -14,7 +14,7 @@ use Rattle.lisp_reading.specs.Setting.{Setting}
 use Rattle.lisp_reading.specs.Reading.{attempt, form, reads}
 use Rattle.lisp_reading.proofs.Forms.{stood}
 
--- the place after what is given is at most the limit
+-- the offset after what is given is at most the limit
 abbrev pub EndsBelow : {A : Type 0} → ℕ → Result (A × ℕ × List ℕ) Fault → Type 0
 EndsBelow limit (Ok (x, at, cs)) = at ≤ limit
 EndsBelow limit (Err e) = Unit {0}
@@ -25,11 +25,11 @@ no_end limit false e f = tt
 
 limited_below : (limit : ℕ) (r : ScannedBytes) → EndsBelow limit (limited limit r (λ p. p.1))
 limited_below limit (Ok (marks, at, cs)) = go (nat_le at limit) refl where
-  go : (b : Bool) → nat_le at limit ≡ b → EndsBelow {A = List Mark} limit (elim b [ true ↦ Ok (marks, at, cs) | false ↦ Err (record { code = FORM_TOO_LONG; at = limit }) ])
+  go : (b : Bool) → nat_le at limit ≡ b → EndsBelow {A = List Mark} limit (elim b [ true ↦ Ok (marks, at, cs) | false ↦ Err (record { number = FORM_TOO_LONG; at = limit }) ])
   go true e = leb-true at limit e
   go false e = tt
 limited_below limit (Err e) =
-    no_end limit (stands_below limit e.refusal e.at) (record { code = scan_refusal_number e.refusal; at = e.at }) (record { code = FORM_TOO_LONG; at = limit })
+    no_end limit (stands_below limit e.refusal e.at) (record { number = scan_refusal_number e.refusal; at = e.at }) (record { number = FORM_TOO_LONG; at = limit })
 
 byte_below : {A : Type 0} (limit at : ℕ) (full : Bool) → nat_le limit at ≡ full → (r : Read A) → (at + 1 ≤ limit → EndsBelow limit r) → EndsBelow limit (within full at r)
 byte_below limit at true e r more = tt

@@ -34,7 +34,7 @@ use Rattle.lisp_reading.specs.Depending.{FindsSame}
 use Rattle.lisp_reading.specs.Naming.{symbol_at, symbol_in, named, told_of, told}
 use Rattle.lisp_reading.specs.Plans.{Plan, gives, refuses, takes, scans, then_plan, next_byte, run}
 use Rattle.lisp_reading.specs.Setting.{Setting, macro_call, way_by, way_in, function_of}
-use Rattle.lisp_reading.specs.Reading.{text_to, line_after, block_after, number_after, place, items_after, undotted, list_end, one_piece, answered, completed_by, completed, opened, gathered, gathered_by, called, sub_called, dispatched, macro_called, stands_alone, alone, told_found, token_found, attempt_by, inner, attempt, outcome, reads_in, reads}
+use Rattle.lisp_reading.specs.Reading.{text_to, line_after, block_after, number_after, next_item, items_after, undotted, list_end, one_piece, answered, completed_by, completed, opened, gathered, gathered_by, called, sub_called, dispatched, macro_called, stands_alone, alone, told_found, token_found, attempt_by, inner, attempt, outcome, reads_in, reads}
 
 -- ---- what a name stands for
 
@@ -115,7 +115,7 @@ module _ (setting : Setting) (packages : Packages) (same : FindsSame setting.pac
     gathered_same : (call : InvokedCall) (way : Way) → gathered other depth may call way ≡ gathered setting depth may call way
     gathered_same call Nothing = completed_same depth call false false no_material
     gathered_same call Next =
-        λ i. opened may (λ attempt. then_plan (place setting None attempt) (one_piece (λ token x. completed_same depth call token token (one_object x) i)))
+        λ i. opened may (λ attempt. then_plan (next_item setting None attempt) (one_piece (λ token x. completed_same depth call token token (one_object x) i)))
     gathered_same call AList =
         λ i. opened may (λ attempt. then_plan (items_after setting 41 attempt []) (list_end setting attempt (λ m. completed_same depth call false false m i)))
     gathered_same call (Until close) =

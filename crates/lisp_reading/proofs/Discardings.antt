@@ -27,7 +27,7 @@ use Rattle.lisp_reading.proofs.Refusals.{any}
 use Rattle.lisp_reading.proofs.Forms.{first, reads_is, the_end_there}
 use Rattle.lisp_reading.proofs.Keeping.{Given, given_keeps}
 use Rattle.lisp_reading.proofs.Language.{CallAt, call_more, outermost_calls}
-use Rattle.lisp_reading.proofs.Places.{Parts, parts}
+use Rattle.lisp_reading.proofs.Offsets.{Parts, parts}
 use Rattle.lisp_reading.proofs.Steps.{eats}
 
 -- ---- a token that begins with a byte that ends none has a mark
@@ -117,14 +117,14 @@ module _ (setting : Setting) where
   token_ends : (r : Scanned) → HasMarks r → IsEnd (step (limited setting.limits.text (in_bytes r) (λ p. p.1))) → ⊥
   token_ends (Ok ([], next, ds)) h e = h
   token_ends (Ok (m ∷ ms, next, ds)) h e =
-      elim (nat_le next setting.limits.text) as (λ b. IsEnd (step (elim b [ true ↦ Ok (m ∷ ms, next, bytes_of ds) | false ↦ Err (record { code = FORM_TOO_LONG; at = setting.limits.text }) ])) → ⊥) [
+      elim (nat_le next setting.limits.text) as (λ b. IsEnd (step (elim b [ true ↦ Ok (m ∷ ms, next, bytes_of ds) | false ↦ Err (record { number = FORM_TOO_LONG; at = setting.limits.text }) ])) → ⊥) [
         | true ↦ λ e. told_ends (told setting (m ∷ ms)) next (bytes_of ds) e
         | false ↦ λ e. e
       ] e
   token_ends (Err f) h e =
       elim (stands_below setting.limits.text f.refusal f.at) as (λ b. IsEnd (step (elim b [
-        | true ↦ Err (record { code = scan_refusal_number f.refusal; at = f.at })
-        | false ↦ Err (record { code = FORM_TOO_LONG; at = setting.limits.text })
+        | true ↦ Err (record { number = scan_refusal_number f.refusal; at = f.at })
+        | false ↦ Err (record { number = FORM_TOO_LONG; at = setting.limits.text })
       ])) → ⊥) [ true ↦ λ e. e | false ↦ λ e. e ] e
 
   within_ends : (full : Bool) (r : Read Found) → (IsEnd r → ⊥) → IsEnd (within full 0 r) → ⊥
@@ -163,7 +163,7 @@ module _ (setting : Setting) where
       let some : 0 < at = eats setting.table setting.limits (attempt setting setting.limits.nesting) 0 at whole cs (nothing_found token)
       (λ f. let never : Ok (the_end, 0, []) ≡ Ok (nothing_found token, at, []) = sym (the_end_there setting) ∙ f in subst IsEnd never tt) found in
       let total : length whole ≡ length p.taken + length cs = ap length p.split ∙ length-append p.taken cs in
-      more whole cs token at found (all (start + at) cs (omega (arith, some, p.place, total)) e)
+      more whole cs token at found (all (start + at) cs (omega (arith, some, p.offset, total)) e)
   turn_empty again start whole (Ok (one token x, at, cs)) found p all e = cc
   turn_empty again start whole (Ok (lone_dot, at, cs)) found p all e = cc
   turn_empty again start whole (Ok (the_end, at, cs)) found p all e = subst (IsDiscarded setting) (sym (only_end whole (subst IsEnd (sym found) tt))) nothing

@@ -14,10 +14,10 @@ use Rattle.lisp_reading.specs.declared.limits.Limits.{Limits}
 use Rattle.lisp_reading.specs.Plans.{Plan, gives, refuses, takes, scans, Read, within, stands_below, limited, scanned, run}
 use Rattle.lisp_reading.proofs.Following.{Follows, token_follows}
 use Rattle.lisp_reading.proofs.Keeping.{most_back, Keeps, few}
-use Rattle.lisp_reading.proofs.Places.{Parts, token_parts}
+use Rattle.lisp_reading.proofs.Offsets.{Parts, token_parts}
 use Rattle.lisp_reading.proofs.TokenFaults.{IsFrom, IsLonger, token_longer, token_from_here}
 
--- A refusal is at most so far before this place, and at the end at most; before the end it is that of each longer text.
+-- A refusal is at most so far before this offset, and at the end at most; before the end it is that of each longer text.
 abbrev pub Decided : {A : Type 0} → ℕ → ℕ → ℕ → (List ℕ → Read A) → Read A → Type 0
 Decided back at «end» longer (Ok t) = Unit {0}
 Decided back at «end» longer (Err e) = (at ≤ e.at + back) × (e.at ≤ «end») × (e.at < «end» → (more : List ℕ) → longer more ≡ Err e)
@@ -27,7 +27,7 @@ at_end : {A : Type 0} (most at to «end» : ℕ) (longer again : List ℕ → Re
 at_end most at to «end» longer again (Ok t) le e h = tt
 at_end most at to «end» longer again (Err f) le e h = (omega (arith, h.0, le), omega (arith, h.1, e), λ lt. absurd (omega (arith, lt, h.0, e)))
 
--- the same place, where as much of the text is left
+-- the same offset, where as much of the text is left
 goes_on : {A : Type 0} (back most at to «end» last : ℕ) (longer again : List ℕ → Read A) (r : Read A) → at + back ≤ to + most → last ≡ «end» → ((more : List ℕ) → longer more ≡ again more)
     → Decided back to last again r → Decided most at «end» longer r
 goes_on back most at to «end» last longer again (Ok t) le e same h = tt
@@ -64,15 +64,15 @@ module _ {A : Type 0} (table : Table) (limits : Limits) (on : List Mark → Plan
   cut r = step (limited limits.text r (λ p. p.1))
 
   abbrev too_long : Read A
-  too_long = Err (record { code = FORM_TOO_LONG; at = limits.text })
+  too_long = Err (record { number = FORM_TOO_LONG; at = limits.text })
 
   abbrev cut_end : Bool → List Mark → ℕ → List ℕ → Read A
-  cut_end b marks next cs = step (elim b [ true ↦ Ok (marks, next, cs) | false ↦ Err (record { code = FORM_TOO_LONG; at = limits.text }) ])
+  cut_end b marks next cs = step (elim b [ true ↦ Ok (marks, next, cs) | false ↦ Err (record { number = FORM_TOO_LONG; at = limits.text }) ])
 
   abbrev cut_fault : Bool → TokenFault → Read A
   cut_fault b f = step (elim b [
-    | true ↦ Err (record { code = scan_refusal_number f.refusal; at = f.at })
-    | false ↦ Err (record { code = FORM_TOO_LONG; at = limits.text })
+    | true ↦ Err (record { number = scan_refusal_number f.refusal; at = f.at })
+    | false ↦ Err (record { number = FORM_TOO_LONG; at = limits.text })
   ])
 
   -- what is beyond the limit is cut there
@@ -87,7 +87,7 @@ module _ {A : Type 0} (table : Table) (limits : Limits) (on : List Mark → Plan
       → Decided 0 next (next + length ds) (λ more. run table limits (on marks) next (ds ++ more)) (run table limits (on marks) next ds))
       → Decided most at (at + length cs) (λ more. cut (longer more)) (cut r)
   token_decided limit most at cs longer (Ok (marks, next, [])) le small here p beyond_end follows all =
-      let total : at + length cs ≡ next = omega (arith, p.place, ap length p.split, length-append p.taken []) in
+      let total : at + length cs ≡ next = omega (arith, p.offset, ap length p.split, length-append p.taken []) in
       let by : (b : Bool) → nat_le next limits.text ≡ b → Decided most at (at + length cs) (λ more. cut (longer more)) (cut_end b marks next []) =
       λ b. elim b as (λ b. nat_le next limits.text ≡ b → Decided most at (at + length cs) (λ more. cut (longer more)) (cut_end b marks next [])) [
         | true ↦ λ e. at_end most at next (at + length cs) (λ more. cut (longer more)) (λ more. run table limits (on marks) next more) (run table limits (on marks) next [])
@@ -98,7 +98,7 @@ module _ {A : Type 0} (table : Table) (limits : Limits) (on : List Mark → Plan
       ] in
       by (nat_le next limits.text) refl
   token_decided limit most at cs longer (Ok (marks, next, d ∷ ds)) le small here p beyond_end follows all =
-      let total : next + length (d ∷ ds) ≡ at + length cs = omega (arith, p.place, ap length p.split, length-append p.taken (d ∷ ds)) in
+      let total : next + length (d ∷ ds) ≡ at + length cs = omega (arith, p.offset, ap length p.split, length-append p.taken (d ∷ ds)) in
       let by : (b : Bool) → nat_le next limits.text ≡ b → Decided most at (at + length cs) (λ more. cut (longer more)) (cut_end b marks next (d ∷ ds)) =
       λ b. elim b as (λ b. nat_le next limits.text ≡ b → Decided most at (at + length cs) (λ more. cut (longer more)) (cut_end b marks next (d ∷ ds))) [
         | true ↦ λ e. goes_on 0 most at next (at + length cs) (next + length (d ∷ ds)) (λ more. cut (longer more)) (λ more. run table limits (on marks) next (d ∷ ds ++ more))

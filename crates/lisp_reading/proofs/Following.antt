@@ -15,7 +15,7 @@ use Rattle.lisp_reading.specs.declared.found.Found.{Found}
 use Rattle.lisp_reading.specs.declared.found.Found.TheVariants.{Nothing as nothing, One as one, LoneDot as lone_dot, TheEnd as the_end}
 use Rattle.lisp_reading.specs.Setting.{Setting}
 use Rattle.lisp_reading.specs.Reading.{attempt, is_whitespace, Outcome, form, empty, space_at, outcome, reads_in, reads_at, reads}
-use Rattle.lisp_reading.proofs.Places.{Parted, Parts, parts}
+use Rattle.lisp_reading.proofs.Offsets.{Parted, Parts, parts}
 use Rattle.lisp_reading.proofs.Forms.{first, the_end_there, reads_is, stood, drop_front, space_small}
 use Rattle.lisp_reading.proofs.Framing.{Framed, framed}
 
@@ -63,20 +63,20 @@ module _ {A : Type 0} (table : Table) (limits : Limits) (on : List Mark → Plan
   goes_follows : (longer r : ScannedBytes) → ((marks : List Mark) (next : ℕ) (ds : List ℕ) → Follows more (run table limits (on marks) next (ds ++ more)) (run table limits (on marks) next ds))
       → Follows more longer r → Follows more (step (cut longer)) (step (cut r))
   goes_follows longer (Ok (marks, next, [])) all h =
-      elim (nat_le next limits.text) as (λ b. Follows more (step (cut longer)) (step (elim b [ true ↦ Ok (marks, next, []) | false ↦ Err (record { code = FORM_TOO_LONG; at = limits.text }) ]))) [
+      elim (nat_le next limits.text) as (λ b. Follows more (step (cut longer)) (step (elim b [ true ↦ Ok (marks, next, []) | false ↦ Err (record { number = FORM_TOO_LONG; at = limits.text }) ]))) [
         | true ↦ empty_left more (step (cut longer)) (run table limits (on marks) next []) next (parts table limits (on marks) next [])
         | false ↦ tt
       ]
   goes_follows longer (Ok (marks, next, d ∷ ds)) all h =
-      let by : (b : Bool) → Follows more (step (elim b [ true ↦ Ok (marks, next, d ∷ ds ++ more) | false ↦ Err (record { code = FORM_TOO_LONG; at = limits.text }) ]))
-      (step (elim b [ true ↦ Ok (marks, next, d ∷ ds) | false ↦ Err (record { code = FORM_TOO_LONG; at = limits.text }) ])) =
-      λ b. elim b as (λ b. Follows more (step (elim b [ true ↦ Ok (marks, next, d ∷ ds ++ more) | false ↦ Err (record { code = FORM_TOO_LONG; at = limits.text }) ]))
-      (step (elim b [ true ↦ Ok (marks, next, d ∷ ds) | false ↦ Err (record { code = FORM_TOO_LONG; at = limits.text }) ]))) [ true ↦ all marks next (d ∷ ds) | false ↦ tt ] in
+      let by : (b : Bool) → Follows more (step (elim b [ true ↦ Ok (marks, next, d ∷ ds ++ more) | false ↦ Err (record { number = FORM_TOO_LONG; at = limits.text }) ]))
+      (step (elim b [ true ↦ Ok (marks, next, d ∷ ds) | false ↦ Err (record { number = FORM_TOO_LONG; at = limits.text }) ])) =
+      λ b. elim b as (λ b. Follows more (step (elim b [ true ↦ Ok (marks, next, d ∷ ds ++ more) | false ↦ Err (record { number = FORM_TOO_LONG; at = limits.text }) ]))
+      (step (elim b [ true ↦ Ok (marks, next, d ∷ ds) | false ↦ Err (record { number = FORM_TOO_LONG; at = limits.text }) ]))) [ true ↦ all marks next (d ∷ ds) | false ↦ tt ] in
       subst (λ (longer : ScannedBytes). Follows more (step (cut longer)) (step (cut (Ok (marks, next, d ∷ ds))))) (sym h) (by (nat_le next limits.text))
   goes_follows longer (Err e) all h =
       elim (stands_below limits.text e.refusal e.at) as (λ b. Follows more (step (cut longer)) (step (elim b [
-        | true ↦ Err (record { code = scan_refusal_number e.refusal; at = e.at })
-        | false ↦ Err (record { code = FORM_TOO_LONG; at = limits.text })
+        | true ↦ Err (record { number = scan_refusal_number e.refusal; at = e.at })
+        | false ↦ Err (record { number = FORM_TOO_LONG; at = limits.text })
       ]))) [ true ↦ tt | false ↦ tt ]
 
 -- ---- plans
@@ -121,11 +121,11 @@ module _ (setting : Setting) (x : Object) (from «end» next : ℕ) (more : List
   turn_follows again start whole (Ok (nothing token, at, [])) never all p h lt e = absurd (never (start + at) e)
   turn_follows again start whole (Ok (nothing token, at, d ∷ ds)) never all p h lt e =
       let total : length whole ≡ length p.taken + suc (length ds) = ap length p.split ∙ length-append p.taken (d ∷ ds) in
-      ap (outcome setting.table start (λ next cs. reads_at setting next cs)) h ∙ all (start + at) (d ∷ ds) e (omega (arith, lt, total, p.place))
+      ap (outcome setting.table start (λ next cs. reads_at setting next cs)) h ∙ all (start + at) (d ∷ ds) e (omega (arith, lt, total, p.offset))
   turn_follows again start whole (Ok (one token y, at, [])) never all p h lt e =
       let end_is : start + at ≡ «end» = cc in
       let total : length whole ≡ length p.taken + 0 = ap length p.split ∙ length-append p.taken [] in
-      absurd (omega (arith, lt, total, p.place, end_is))
+      absurd (omega (arith, lt, total, p.offset, end_is))
   turn_follows again start whole (Ok (one token y, at, d ∷ ds)) never all p h lt e =
       ap (outcome setting.table start (λ next cs. reads_at setting next cs)) h
       ∙ ap (λ (n : ℕ). form y start (start + at) (start + at + n)) (space_front setting.table token d (ds ++ more) ds) ∙ e
@@ -187,7 +187,7 @@ form_again setting whole more x start «end» next e lt =
     let start_is : start ≡ length s.front = omega (arith, s.start_is) in
     let here_is : drop start whole ≡ s.here = (λ i. drop (start_is i) (s.split i)) ∙ drop_front s.front s.here in
     (λ i. reads setting (take (count_is i) (here_is i) ++ more))
-    ∙ form_follows setting text more x 0 s.size (s.size + space_at setting.table s.is_token (take 1 s.rest)) here (omega (arith, total, p.place, kept.1))
+    ∙ form_follows setting text more x 0 s.size (s.size + space_at setting.table s.is_token (take 1 s.rest)) here (omega (arith, total, p.offset, kept.1))
     ∙ (λ i. form x 0 (size_is i) (next_is i))
 
 -- what is discarded with a form is one whitespace character, right after it
@@ -208,5 +208,5 @@ form_spaced setting text x start «end» next e lt =
     let p : Parted 0 s.here s.size s.rest = subst (λ (r : Read Found). Parts 0 s.here r) s.found (parts setting.table setting.limits (attempt setting setting.limits.nesting) 0 s.here) in
     let b = blank_rest setting.table s.is_token s.rest (omega (arith, lt, s.end_is, s.next_is)) in
     let whole : text ≡ (s.front ++ p.taken) ++ s.rest = s.split ∙ ap (λ (ds : List ℕ). s.front ++ ds) p.split ∙ sym (append_assoc s.front p.taken s.rest) in
-    let end_is : «end» ≡ length (s.front ++ p.taken) = omega (arith, s.end_is, s.start_is, p.place, length-append s.front p.taken) in
+    let end_is : «end» ≡ length (s.front ++ p.taken) = omega (arith, s.end_is, s.start_is, p.offset, length-append s.front p.taken) in
     (b.0, b.1, (λ i. drop (end_is i) (whole i)) ∙ drop_front (s.front ++ p.taken) s.rest ∙ b.2, b.3)

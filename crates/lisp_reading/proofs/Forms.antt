@@ -14,7 +14,7 @@ use Rattle.lisp_reading.specs.declared.found.Found.TheVariants.{Nothing as nothi
 use Rattle.lisp_reading.specs.Reading.{is_whitespace, token_found, attempt, Outcome, form, space_at, outcome, reads_in, reads_at, reads, IsFramed}
 use Rattle.lisp_reading.proofs.Framing.{Framed, framed}
 use Rattle.lisp_reading.proofs.Steps.{eats}
-use Rattle.lisp_reading.proofs.Places.{Parted, Parts, parts}
+use Rattle.lisp_reading.proofs.Offsets.{Parted, Parts, parts}
 
 abbrev pub first : Setting → List ℕ → Read Found
 first setting text = run setting.table setting.limits (attempt setting setting.limits.nesting) 0 text
@@ -38,7 +38,7 @@ stood_behind setting begun at whole cs x start «end» next p s = record {
   front = p.taken ++ s.front;
   here = s.here;
   split = p.split ∙ ap (λ (ds : List ℕ). p.taken ++ ds) s.split ∙ sym (append_assoc p.taken s.front s.here);
-  start_is = omega (arith, s.start_is, p.place, length-append p.taken s.front);
+  start_is = omega (arith, s.start_is, p.offset, length-append p.taken s.front);
   is_token = s.is_token;
   size = s.size;
   rest = s.rest;
@@ -101,7 +101,7 @@ the_end_there setting =
     let e : nat_le 0 setting.limits.text ≡ true = le-leb 0 setting.limits.text (omega arith) in
     let on : Read (List Mark) → Read Found =
     λ r. elim r [ Ok p ↦ run setting.table setting.limits (token_found setting p.0) p.1 p.2 | Err e ↦ Err e ] in
-    let cut : Bool → Read (List Mark) = λ b. elim b [ true ↦ Ok ([], 0, []) | false ↦ Err (record { code = FORM_TOO_LONG; at = setting.limits.text }) ] in
+    let cut : Bool → Read (List Mark) = λ b. elim b [ true ↦ Ok ([], 0, []) | false ↦ Err (record { number = FORM_TOO_LONG; at = setting.limits.text }) ] in
     ap (λ (b : Bool). on (cut b)) e
 
 abbrev count_of : Read Found → ℕ
@@ -152,7 +152,7 @@ form_framed setting whole x start «end» next e =
       some = omega (arith, some, s.end_is);
       after = omega (arith, s.end_is, s.next_is);
       one = omega (arith, s.end_is, s.next_is, space.0);
-      inside = omega (arith, s.next_is, start_is, total, part, p.place, space.1);
+      inside = omega (arith, s.next_is, start_is, total, part, p.offset, space.1);
       again = (λ i. reads setting (take (size_is i) (here_is i))) ∙ reads_alone setting (take s.size s.here) x s.is_token s.size alone
           ∙ (λ i. form x 0 (sym size_is i) (sym size_is i));
     }
@@ -165,7 +165,7 @@ outcome_same setting more again start whole (Ok (nothing token, at, cs)) found p
     let some : 0 < at = eats setting.table setting.limits (attempt setting setting.limits.nesting) 0 at whole cs (nothing token)
     (λ f. let never : 0 ≡ 1 = ap count_of (sym (the_end_there setting) ∙ f) in omega (arith, never)) found in
     let total : length whole ≡ length p.taken + length cs = ap length p.split ∙ length-append p.taken cs in
-    same (start + at) cs (omega (arith, some, p.place, total))
+    same (start + at) cs (omega (arith, some, p.offset, total))
 outcome_same setting more again start whole (Ok (one token x, at, cs)) found p same = refl
 outcome_same setting more again start whole (Ok (lone_dot, at, cs)) found p same = refl
 outcome_same setting more again start whole (Ok (the_end, at, cs)) found p same = refl

@@ -61,7 +61,7 @@ token_at : (table : Table) (scan : List ℕ → ScannedBytes) (at : ℕ) (text :
     → IfOk r (λ t. Stands table scan at text t.0 t.1 t.2) → Framed (λ k. scan (take k text)) at r
 token_at table scan at text (Ok (marks, next, rest)) st = (
   length st.taken,
-  sym st.place,
+  sym st.offset,
   λ m.
       ap (λ (ds : List ℕ). scan (take (length st.taken + m) ds)) st.split
       ∙ ap scan (take_after st.taken rest m)
@@ -89,8 +89,8 @@ limited_framed limit front at (Ok (marks, next, ds)) h =
     (λ m. ap (λ (r : Result (List Mark × ℕ × List ℕ) TokenFault). limited limit r (λ p. p.1)) (h.2 m))
 limited_framed limit front at (Err e) h =
     elim (stands_below limit e.refusal e.at) as (λ b. Framed (λ k. limited limit (front k) (λ p. p.1)) at (elim b [
-      | true ↦ Err (record { code = scan_refusal_number e.refusal; at = e.at })
-      | false ↦ Err (record { code = FORM_TOO_LONG; at = limit })
+      | true ↦ Err (record { number = scan_refusal_number e.refusal; at = e.at })
+      | false ↦ Err (record { number = FORM_TOO_LONG; at = limit })
     ])) [ true ↦ tt | false ↦ tt ]
 
 -- ---- plans

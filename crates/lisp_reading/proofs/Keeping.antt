@@ -1,4 +1,4 @@
--- What holds of all that a plan gives, and how far before a place it is refused.
+-- What holds of all that a plan gives, and how far before an offset it is refused.
 use Rattle.std.proofs.Common.{◌≡◌, ℕ, zero, suc, ◌+◌, ◌<◌, ◌≤◌, Bool, true, false, List, [], ◌∷◌, Ok, Err, IfOk, refl, arith}
 use Rattle.std.specs.Prelude.{nat_lt, nat_le}
 use Rattle.std.proofs.lemmas.Bool.{ltb-true}
@@ -13,13 +13,13 @@ use Rattle.token_meaning.specs.Results.{scan_refusal_number}
 use Rattle.lisp_reading.specs.declared.limits.Limits.{Limits}
 use Rattle.lisp_reading.specs.Plans.{Plan, gives, refuses, takes, scans, then_plan, character, next_byte, loop_in, Read, within, stands_below, limited, scanned, run}
 
--- how far before a place a refusal may be: at the byte that was just taken
+-- how far before an offset a refusal may be: at the byte that was just taken
 abbrev pub most_back : Bool → ℕ
 most_back true = 1
 most_back false = 0
 
 -- P holds of what the plan gives, where the test says whether a byte was just taken. Only at this byte is a refusal before the
--- present place.
+-- present offset.
 abbrev pub Keeps : {A : Type 0} → (Bool → A → Type 0) → Bool → Plan A → Type 0
 Keeps P taken (gives x) = P taken x
 Keeps P taken (refuses code back) = back ≤ most_back taken
@@ -94,14 +94,14 @@ module _ {A : Type 0} (P : Bool → A → Type 0) (table : Table) (limits : Limi
       → ((marks : List Mark) (next : ℕ) (ds : List ℕ) → character_count marks ≤ limit → Given P (run table limits (on marks) next ds))
       → Given P (step (limited limits.text r (λ p. p.1)))
   given_token limit (Ok (marks, next, ds)) small all =
-      elim (nat_le next limits.text) as (λ b. Given P (step (elim b [ true ↦ Ok (marks, next, ds) | false ↦ Err (record { code = FORM_TOO_LONG; at = limits.text }) ]))) [
+      elim (nat_le next limits.text) as (λ b. Given P (step (elim b [ true ↦ Ok (marks, next, ds) | false ↦ Err (record { number = FORM_TOO_LONG; at = limits.text }) ]))) [
         | true ↦ all marks next ds small
         | false ↦ tt
       ]
   given_token limit (Err e) small all =
       elim (stands_below limits.text e.refusal e.at) as (λ b. Given P (step (elim b [
-        | true ↦ Err (record { code = scan_refusal_number e.refusal; at = e.at })
-        | false ↦ Err (record { code = FORM_TOO_LONG; at = limits.text })
+        | true ↦ Err (record { number = scan_refusal_number e.refusal; at = e.at })
+        | false ↦ Err (record { number = FORM_TOO_LONG; at = limits.text })
       ]))) [ true ↦ tt | false ↦ tt ]
 
 pub given_keeps : {A : Type 0} (P : Bool → A → Type 0) → ((x : A) → P false x → P true x) → (table : Table) (limits : Limits) (plan : Plan A) (taken : Bool) (at : ℕ) (cs : List ℕ)

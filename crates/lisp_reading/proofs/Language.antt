@@ -1,7 +1,7 @@
 -- What holds of each object that is read, where it holds of what tokens mean, of what functions make, and of what may be
 -- answered; and that a refusal is at the last byte that was taken, or later.
 use Rattle.std.proofs.Common.{◌≡◌, ℕ, zero, suc, ◌+◌, ◌-◌, ◌≤◌, Bool, true, false, List, [], ◌∷◌, ◌++◌, All, Option, Some, None, Result, Ok, Err, refl, arith}
-use Rattle.std.specs.Prelude.{nat_le, ◌&&◌, ◌==◌}
+use Rattle.std.specs.Prelude.{nat_le, ◌&&◌}
 use Rattle.std.proofs.lemmas.Bool.{and_parts, leb-true}
 use Rattle.std.proofs.lemmas.List.Elements.{All-nil, All-push}
 use Rattle.lisp_object.specs.declared.refusal.TheConstants.{MACRO_ANSWER}
@@ -23,93 +23,17 @@ use Rattle.lisp_reading.specs.declared.told.Told.{Told}
 use Rattle.lisp_reading.specs.declared.told.Told.TheVariants.{Object as told_object, Dot as dot_alone}
 use Rattle.lisp_reading.specs.declared.way.Function.{Function}
 use Rattle.lisp_reading.specs.declared.way.Function.TheVariants.{Standard as AStandard, User}
-use Rattle.lisp_reading.specs.declared.way.Keep.{Keep}
 use Rattle.lisp_reading.specs.declared.way.Way.{Way}
 use Rattle.lisp_reading.specs.declared.way.Way.TheVariants.{Nothing, Next, List as AList, Until, Text, Line, Block, Token, EscapedToken}
 use Rattle.lisp_reading.specs.Answering.{may_be_answered}
 use Rattle.lisp_reading.specs.Calls.{InvokedCall}
-use Rattle.lisp_reading.specs.Gathering.{text_turn, is_escape, kept, line_turn, block_next, block_goes, block_turn, number_turn, next_digit}
 use Rattle.lisp_reading.specs.Naming.{told}
-use Rattle.lisp_reading.specs.Plans.{Plan, gives, refuses, then_plan, next_byte}
+use Rattle.lisp_reading.specs.Plans.{Plan, gives, refuses, then_plan}
 use Rattle.lisp_reading.specs.Setting.{Setting, macro_call, way_in, function_of}
-use Rattle.lisp_reading.specs.Reading.{text_to, line_after, block_after, number_after, Piece, item, dot, closed, without_space, at_place, or_closed, place_turn, place, Items, items_step, items_turn, items_after, undotted, after_tail, after_dot, list_end, one_piece, bytes_back, finished, answered, completed_by, completed, gathered, gathered_by, called, sub_called, sub_there, dispatched, macro_called, alone, told_found, token_found, attempt_by, inner, attempt}
-use Rattle.lisp_reading.proofs.Keeping.{most_back, Keeps, keeps_either, keeps_weaker, keeps_then, keeps_loop, keeps_character, keeps_next}
+use Rattle.lisp_reading.specs.Reading.{text_to, line_after, block_after, number_after, Piece, item, dot, closed, without_space, piece_of, or_closed, next_item_turn, next_item, Items, items_step, items_turn, items_after, undotted, after_tail, after_dot, list_end, one_piece, bytes_back, finished, answered, completed_by, completed, gathered, gathered_by, called, sub_called, sub_there, dispatched, macro_called, alone, told_found, token_found, attempt_by, inner, attempt}
+use Rattle.lisp_reading.proofs.Keeping.{most_back, Keeps, keeps_either, keeps_weaker, keeps_then, keeps_loop, keeps_next}
 use Rattle.lisp_reading.proofs.Backs.{back_of, StaysIn, way_stays}
-
--- ---- what is gathered, where it is no object
-
--- nothing is said of it
-abbrev Any : {A : Type 0} → Bool → A → Type 0
-Any taken x = Unit {0}
-
-text_keeps : (setting : Setting) (terminator : ℕ) (taken : Bool) (cs : List ℕ) → Keeps (Any {A = List ℕ}) taken (text_to setting terminator cs)
-text_keeps setting terminator taken cs =
-    keeps_either (Any {A = List ℕ}) (λ x h. tt) taken (text_to setting terminator cs)
-    (keeps_loop (Any {A = List ℕ}) (λ s. Unit {0}) (text_turn setting.table terminator)
-    (λ more all s i. keeps_next (Any {A = List ℕ}) false (λ c.
-    elim (c == terminator) [
-      | true ↦ gives s
-      | false ↦ elim (is_escape (entry_at setting.table c).syntax) [
-        | true ↦ next_byte (λ d. more (s ++ d ∷ []))
-        | false ↦ more (s ++ c ∷ [])
-      ]
-    ]) (λ c small.
-    elim (c == terminator) as (λ b. Keeps (Any {A = List ℕ}) true (elim b [
-      | true ↦ gives s
-      | false ↦ elim (is_escape (entry_at setting.table c).syntax) [
-        | true ↦ next_byte (λ d. more (s ++ d ∷ []))
-        | false ↦ more (s ++ c ∷ [])
-      ]
-    ])) [
-      | true ↦ tt
-      | false ↦ elim (is_escape (entry_at setting.table c).syntax) as (λ b. Keeps (Any {A = List ℕ}) true (elim b [
-        | true ↦ next_byte (λ d. more (s ++ d ∷ []))
-        | false ↦ more (s ++ c ∷ [])
-      ])) [
-        | true ↦ keeps_next (Any {A = List ℕ}) true (λ d. more (s ++ d ∷ [])) (λ d few. keeps_either (Any {A = List ℕ}) (λ x h. tt) true (more (s ++ d ∷ [])) (all (s ++ d ∷ []) tt))
-        | false ↦ keeps_either (Any {A = List ℕ}) (λ x h. tt) true (more (s ++ c ∷ [])) (all (s ++ c ∷ []) tt)
-      ]
-    ]))
-    (setting.limits.text + 1) cs tt)
-
-line_keeps : (setting : Setting) (keep : Keep) (taken : Bool) (cs : List ℕ) → Keeps (Any {A = List ℕ}) taken (line_after setting keep cs)
-line_keeps setting keep taken cs =
-    keeps_either (Any {A = List ℕ}) (λ x h. tt) taken (line_after setting keep cs)
-    (keeps_loop (Any {A = List ℕ}) (λ s. Unit {0}) (line_turn keep)
-    (λ more all s i. (
-      tt,
-      λ c. keeps_character (Any {A = List ℕ}) (λ c. elim (c == 10) [ true ↦ gives s | false ↦ more (kept keep s c) ]) c (λ small.
-          elim (c == 10) as (λ b. Keeps (Any {A = List ℕ}) true (elim b [ true ↦ gives s | false ↦ more (kept keep s c) ])) [
-            | true ↦ tt
-            | false ↦ keeps_either (Any {A = List ℕ}) (λ x h. tt) true (more (kept keep s c)) (all (kept keep s c) tt)
-          ]),
-    ))
-    (setting.limits.text + 1) cs tt)
-
-block_goes_keeps : (more : ℕ × ℕ → Plan (Unit {0})) (o : Option (ℕ × ℕ)) → ((s : ℕ × ℕ) → Keeps (Any {A = Unit {0}}) false (more s)) → Keeps (Any {A = Unit {0}}) true (block_goes more o)
-block_goes_keeps more None all = tt
-block_goes_keeps more (Some levels) all = keeps_either (Any {A = Unit {0}}) (λ x h. tt) true (more levels) (all levels)
-
-block_keeps : (setting : Setting) (taken : Bool) (levels : ℕ × ℕ) → Keeps (Any {A = Unit {0}}) taken (block_after setting levels)
-block_keeps setting taken levels =
-    keeps_either (Any {A = Unit {0}}) (λ x h. tt) taken (block_after setting levels)
-    (keeps_loop (Any {A = Unit {0}}) (λ s. Unit {0}) block_turn
-    (λ more all s i. keeps_next (Any {A = Unit {0}}) false (λ c. block_goes more (block_next s c)) (λ c small. block_goes_keeps more (block_next s c) (λ t. all t tt)))
-    (setting.limits.text + 1) levels tt)
-
-number_keeps : (setting : Setting) (taken : Bool) (number : Option ℕ) → Keeps (Any {A = Option ℕ}) taken (number_after setting number)
-number_keeps setting taken number =
-    keeps_either (Any {A = Option ℕ}) (λ x h. tt) taken (number_after setting number)
-    (keeps_loop (Any {A = Option ℕ}) (λ s. Unit {0}) number_turn
-    (λ more all s i. (
-      tt,
-      λ c.
-          elim (nat_le (next_digit s c) 999999) as (λ b. Keeps (Any {A = Option ℕ}) true (elim b [ true ↦ more (Some (next_digit s c)) | false ↦ refuses 15 1 ])) [
-            | true ↦ keeps_either (Any {A = Option ℕ}) (λ x h. tt) true (more (Some (next_digit s c))) (all (Some (next_digit s c)) tt)
-            | false ↦ omega arith
-          ],
-    ))
-    (setting.limits.text + 1) number tt)
+use Rattle.lisp_reading.proofs.TextsKept.{Any, text_keeps, line_keeps, block_keeps, number_keeps}
 
 -- ---- objects
 
@@ -187,30 +111,30 @@ module _ (setting : Setting) (V : ℕ → Object → Type 0) (laws : AreKept set
   space_keeps P false taken plan more h = keeps_either P more taken plan h
   space_keeps P true taken plan more h = (h, λ c. keeps_either P more true plan h)
 
-  -- ---- places
+  -- ---- what comes next
 
   piece_more : (room : ℕ) (p : Piece) → PieceAt V room false p → PieceAt V room true p
   piece_more room (item token x) h = h
   piece_more room dot h = h
   piece_more room closed h = refl
 
-  at_place_keeps : (room : ℕ) (again : Plan Piece) (taken : Bool) (found : Found) → Keeps (PieceAt V room) false again → FoundAt V room taken found
-      → Keeps (PieceAt V room) taken (at_place setting.table again found)
-  at_place_keeps room again taken (nothing token) h f = space_keeps (PieceAt V room) token taken again (piece_more room) h
-  at_place_keeps room again taken (one token x) h f = f
-  at_place_keeps room again taken lone_dot h f = tt
-  at_place_keeps room again taken the_end h f = omega arith
+  piece_of_keeps : (room : ℕ) (again : Plan Piece) (taken : Bool) (found : Found) → Keeps (PieceAt V room) false again → FoundAt V room taken found
+      → Keeps (PieceAt V room) taken (piece_of setting.table again found)
+  piece_of_keeps room again taken (nothing token) h f = space_keeps (PieceAt V room) token taken again (piece_more room) h
+  piece_of_keeps room again taken (one token x) h f = f
+  piece_of_keeps room again taken lone_dot h f = tt
+  piece_of_keeps room again taken the_end h f = omega arith
 
   closed_keeps : (room : ℕ) (close : Option ℕ) (plan : Plan Piece) → Keeps (PieceAt V room) false plan → Keeps (PieceAt V room) false (or_closed close plan)
   closed_keeps room None plan h = h
   closed_keeps room (Some c) plan h = (h, λ d. refl)
 
-  place_keeps : (room : ℕ) (close : Option ℕ) (may : Plan Found) → Keeps (FoundAt V room) false may → Keeps (PieceAt V room) false (place setting close may)
-  place_keeps room close may h =
-      keeps_loop (PieceAt V room) (λ s. Unit {0}) (place_turn setting.table close may)
-      (λ more all s i. closed_keeps room close (then_plan may (λ found. at_place setting.table (more tt) found))
-      (keeps_then (FoundAt V room) (PieceAt V room) false may (λ found. at_place setting.table (more tt) found) h
-      (λ taken found f. at_place_keeps room (more tt) taken found (all tt tt) f)))
+  next_item_keeps : (room : ℕ) (close : Option ℕ) (may : Plan Found) → Keeps (FoundAt V room) false may → Keeps (PieceAt V room) false (next_item setting close may)
+  next_item_keeps room close may h =
+      keeps_loop (PieceAt V room) (λ s. Unit {0}) (next_item_turn setting.table close may)
+      (λ more all s i. closed_keeps room close (then_plan may (λ found. piece_of setting.table (more tt) found))
+      (keeps_then (FoundAt V room) (PieceAt V room) false may (λ found. piece_of setting.table (more tt) found) h
+      (λ taken found f. piece_of_keeps room (more tt) taken found (all tt tt) f)))
       (setting.limits.text + 1) tt tt
 
   -- ---- objects up to the closing character
@@ -227,8 +151,8 @@ module _ (setting : Setting) (V : ℕ → Object → Type 0) (laws : AreKept set
       → Keeps (ItemsAt V room) false (items_after setting close may xs)
   items_keep room close may xs h all =
       keeps_loop (ItemsAt V room) (λ ys. All (V room) ys) (items_turn setting close may)
-      (λ more each ys i. keeps_then (PieceAt V room) (ItemsAt V room) false (place setting (Some close) may) (λ p. items_step setting.table more ys p)
-      (place_keeps room (Some close) may h) (λ taken p f. items_step_keeps room more ys taken p each i f))
+      (λ more each ys i. keeps_then (PieceAt V room) (ItemsAt V room) false (next_item setting (Some close) may) (λ p. items_step setting.table more ys p)
+      (next_item_keeps room (Some close) may h) (λ taken p f. items_step_keeps room more ys taken p each i f))
       (setting.limits.text + 1) xs all
 
   -- ---- what a call gives
@@ -264,7 +188,7 @@ module _ (setting : Setting) (V : ℕ → Object → Type 0) (laws : AreKept set
   completed_by_keeps room taken call (User name) token spaced material le back h =
       answered_keeps room taken token spaced (setting.answer name (macro_call call material)) le
 
-  -- after which nothing more is asked of the place
+  -- after which nothing more is asked of what comes next
   completed_keeps : (room : ℕ) (taken : Bool) (call : InvokedCall) (token spaced : Bool) (material : Material) → room ≤ setting.limits.nesting
       → StaysIn setting.table.letters call.number 0 call.function → MaterialAt V setting.limits.token room material
       → Keeps (CallAt V room) taken (completed setting (setting.limits.nesting - room) call token spaced material)
@@ -292,17 +216,17 @@ module _ (setting : Setting) (V : ℕ → Object → Type 0) (laws : AreKept set
     dot_keeps xs taken closed all p = elim taken as (λ t. t ≡ true → 1 ≤ most_back t) [ true ↦ λ e. omega arith | false ↦ λ e. absurd cc ] p
     dot_keeps xs taken dot all p = omega arith
     dot_keeps xs taken (item token x) all p =
-        space_keeps (CallAt V (suc room)) token taken (then_plan (place setting (Some 41) may) (after_tail on xs x))
+        space_keeps (CallAt V (suc room)) token taken (then_plan (next_item setting (Some 41) may) (after_tail on xs x))
         (call_more V (suc room))
-        (keeps_then (PieceAt V room) (CallAt V (suc room)) false (place setting (Some 41) may) (after_tail on xs x) (place_keeps room (Some 41) may attempts)
+        (keeps_then (PieceAt V room) (CallAt V (suc room)) false (next_item setting (Some 41) may) (after_tail on xs x) (next_item_keeps room (Some 41) may attempts)
         (λ t q f. tail_keeps (suc room) on xs x t q (pairs xs x all p)))
 
     list_end_keeps : (taken : Bool) (xs : List Object) (b : Bool) → All (V room) xs → Keeps (CallAt V (suc room)) taken (list_end setting may on (xs, b))
     list_end_keeps taken xs true all = lists xs all taken
     list_end_keeps taken [] false all = omega arith
     list_end_keeps taken (x ∷ xs) false all =
-        call_either (suc room) taken (then_plan (place setting (Some 41) may) (after_dot setting may on (x ∷ xs)))
-        (keeps_then (PieceAt V room) (CallAt V (suc room)) false (place setting (Some 41) may) (after_dot setting may on (x ∷ xs)) (place_keeps room (Some 41) may attempts)
+        call_either (suc room) taken (then_plan (next_item setting (Some 41) may) (after_dot setting may on (x ∷ xs)))
+        (keeps_then (PieceAt V room) (CallAt V (suc room)) false (next_item setting (Some 41) may) (after_dot setting may on (x ∷ xs)) (next_item_keeps room (Some 41) may attempts)
         (λ t p f. dot_keeps (x ∷ xs) t p all f))
 
   -- ---- calls, at their last byte
@@ -325,8 +249,8 @@ module _ (setting : Setting) (V : ℕ → Object → Type 0) (laws : AreKept set
   gathered_keeps zero (Some may) call (Until close) le h back = absurd h
   gathered_keeps (suc room) (Some may) call Next le h back =
       call_either (suc room) true (gathered setting (setting.limits.nesting - suc room) (Some may) call Next)
-      (keeps_then (PieceAt V room) (CallAt V (suc room)) false (place setting None may)
-      (one_piece (λ token x. completed setting (setting.limits.nesting - suc room) call token token (one_object x))) (place_keeps room None may h)
+      (keeps_then (PieceAt V room) (CallAt V (suc room)) false (next_item setting None may)
+      (one_piece (λ token x. completed setting (setting.limits.nesting - suc room) call token token (one_object x))) (next_item_keeps room None may h)
       (λ t p f. one_piece_keeps room (λ token x. completed setting (setting.limits.nesting - suc room) call token token (one_object x)) t p
       (λ token x v. completed_keeps (suc room) t call token token (one_object x) le back v) f))
   gathered_keeps (suc room) (Some may) call AList le h back =

@@ -1,6 +1,6 @@
 pub mod Homes
 pub mod Framing
-pub mod Places
+pub mod Offsets
 pub mod Steps
 pub mod Forms
 pub mod Turns
@@ -11,9 +11,13 @@ pub mod Following
 pub mod Bounded
 pub mod Keeping
 pub mod Backs
+pub mod TextsKept
 pub mod Language
+pub mod NumericTokens
+pub mod Depths
 pub mod Allowing
 pub mod Fittings
+pub mod NumberedPlans
 pub mod Numbers
 pub mod TokenFaults
 pub mod Faults

@@ -1,11 +1,11 @@
 -- A text is refused under a number of reading alone.
-use Rattle.std.proofs.Common.{◌≡◌, ℕ, zero, suc, ◌+◌, ◌-◌, ◌≤◌, Bool, true, false, List, [], ◌∷◌, ◌++◌, length, Option, Some, None, Result, Ok, Err, subst, arith}
-use Rattle.std.specs.Prelude.{nat_le, nat_lt, ◌==◌, ◌&&◌, bytes_eq, if◌then◌else◌}
+use Rattle.std.proofs.Common.{◌≡◌, ℕ, zero, suc, ◌+◌, ◌-◌, Bool, true, false, List, [], ◌∷◌, ◌++◌, length, Option, Some, None, Result, Ok, Err, subst, arith}
+use Rattle.std.specs.Prelude.{nat_le, ◌==◌, ◌&&◌, bytes_eq, if◌then◌else◌}
 use Rattle.std.specs.Option.{option_map_or}
 use Rattle.std.specs.Result.{IfErr}
 use Rattle.lisp_object.specs.Object.{Object, object_depth}
-use Rattle.lisp_object.specs.declared.refusal.TheConstants.{END_OF_FILE, INVALID_CHARACTER, DOT_CONTEXT, NO_DISPATCH, NUMERIC_ARGUMENT, MACRO_REFUSED, MACRO_ANSWER, TOO_DEEP, FORM_TOO_LONG, OUT_OF_PROFILE}
-use Rattle.readtable_core.specs.Characters.{is_digit, upper_case}
+use Rattle.lisp_object.specs.declared.refusal.TheConstants.{END_OF_FILE, INVALID_CHARACTER, DOT_CONTEXT, NO_DISPATCH, MACRO_REFUSED, MACRO_ANSWER, TOO_DEEP, OUT_OF_PROFILE}
+use Rattle.readtable_core.specs.Characters.{upper_case}
 use Rattle.readtable_core.specs.Names.{is_dispatch_name}
 use Rattle.readtable_core.specs.Tables.{Table, entry_at, dispatch_at}
 use Rattle.readtable_core.specs.declared.characters.Syntax.{Syntax}
@@ -17,16 +17,13 @@ use Rattle.package_table.specs.Lookup.{found, external_home}
 use Rattle.package_table.specs.Resolving.{Resolution, found_at, new_in, resolution, external_resolution, internal_resolution}
 use Rattle.package_table.specs.Table.{Name, Table as Packages, common_lisp, package_named}
 use Rattle.token_scan.specs.declared.mark.Mark.{Mark}
-use Rattle.token_scan.specs.declared.refusal.ScanRefusal.{ScanRefusal}
-use Rattle.token_scan.specs.declared.refusal.ScanRefusal.TheVariants.{EndOfFile, InvalidCharacter, InvalidTrait, TokenTooLong}
-use Rattle.token_scan.specs.Tokens.{TokenFault}
 use Rattle.token_meaning.specs.declared.refusal.MeaningRefusal.{MeaningRefusal}
 use Rattle.token_meaning.specs.declared.refusal.MeaningRefusal.TheVariants.{DotsOnly, FloatToken, NumberRange, ZeroDenominator, PackageMarkers}
 use Rattle.token_meaning.specs.declared.token.TokenName.{TokenName}
 use Rattle.token_meaning.specs.declared.token.TokenName.TheVariants.{Unqualified, Keyword, External, Internal}
 use Rattle.token_meaning.specs.Folding.{folded}
 use Rattle.token_meaning.specs.Meanings.{Meaning, number, dot as a_dot, name, meaning_of}
-use Rattle.token_meaning.specs.Results.{scan_refusal_number, meaning_refusal_number}
+use Rattle.token_meaning.specs.Results.{meaning_refusal_number}
 use Rattle.user_macros.specs.Calls.{MacroAnswer, value, no_value, improper, refused as answer_refused}
 use Rattle.std_macros.specs.declared.refusal.StdRefusal.{StdRefusal}
 use Rattle.std_macros.specs.declared.refusal.StdRefusal.TheVariants.{StrayClose, Rational, NumericArgument, CharacterName, RadixToken, VectorLength, UninternedToken, OutOfProfile}
@@ -34,161 +31,20 @@ use Rattle.std_macros.specs.Results.{std_refusal_number}
 use Rattle.std_macros.specs.Values.{Value, value_of, Material, nothing as no_material, one as one_object, many, dotted, letters, marked}
 use Rattle.lisp_reading.specs.declared.found.Found.{Found}
 use Rattle.lisp_reading.specs.declared.found.Found.TheVariants.{Nothing as nothing, One as one, LoneDot as lone_dot, TheEnd as the_end}
-use Rattle.lisp_reading.specs.declared.limits.Limits.{Limits}
 use Rattle.lisp_reading.specs.declared.told.Told.{Told}
 use Rattle.lisp_reading.specs.declared.told.Told.TheVariants.{Object as told_object, Dot as dot_alone}
 use Rattle.lisp_reading.specs.declared.way.Function.{Function}
 use Rattle.lisp_reading.specs.declared.way.Function.TheVariants.{Standard as AStandard, User}
-use Rattle.lisp_reading.specs.declared.way.Keep.{Keep}
 use Rattle.lisp_reading.specs.declared.way.Way.{Way}
 use Rattle.lisp_reading.specs.declared.way.Way.TheVariants.{Nothing, Next, List as AList, Until, Text, Line, Block, Token, EscapedToken}
-use Rattle.lisp_reading.specs.Plans.{Plan, gives, refuses, takes, scans, then_plan, character, next_byte, loop_in, loop, Fault, Read, within, stands_below, limited, scanned, run}
+use Rattle.lisp_reading.specs.Plans.{Plan, gives, refuses, scans, then_plan, character, Read, run}
 use Rattle.lisp_reading.specs.Calls.{InvokedCall}
 use Rattle.lisp_reading.specs.Setting.{Setting, macro_call, way_in, function_of}
-use Rattle.lisp_reading.specs.Gathering.{is_escape, text_turn, kept, line_turn, block_next, block_goes, block_turn, next_digit, number_turn}
+use Rattle.lisp_reading.specs.Gathering.{text_turn, line_turn, block_turn, number_turn}
 use Rattle.lisp_reading.specs.Naming.{symbol_in, symbol_at, named, told_of, told}
 use Rattle.lisp_reading.specs.Answering.{may_be_answered}
-use Rattle.lisp_reading.specs.Reading.{Piece, item, dot, closed, is_whitespace, without_space, at_place, or_closed, place_turn, place, Items, items_step, items_turn, items_after, undotted, after_tail, after_dot, list_end, one_piece, bytes_back, finished, answered, completed_by, completed, opened, gathered, gathered_by, called, sub_called, sub_there, dispatched, macro_called, stands_alone, alone, told_found, token_found, attempt_by, inner, attempt, Outcome, form, empty, refused, outcome, reads_in, reads, text_to, line_after, block_after, number_after}
-
-abbrev pub IsOfReading : ℕ → Type 0
-IsOfReading code = (END_OF_FILE ≤ code) × (code ≤ OUT_OF_PROFILE)
-
--- each refusal in the plan is of reading
-unfoldable Numbered : {A : Type 0} → Plan A → Type 0
-Numbered (gives x) = Unit {0}
-Numbered (refuses code back) = IsOfReading code
-Numbered (takes other test on) = Numbered other × ((c : ℕ) → Numbered (on c))
-Numbered (scans escaped limit on) = (marks : List Mark) → Numbered (on marks)
-
--- ---- what numbered plans give
-
-abbrev NumberedResult : {A : Type 0} → Result A Fault → Type 0
-NumberedResult r = IfErr r (λ e. IsOfReading e.code)
-
-within_numbered : {A : Type 0} (full : Bool) (at : ℕ) (r : Read A) → NumberedResult r → NumberedResult (within full at r)
-within_numbered true at r h = (omega arith, omega arith)
-within_numbered false at r h = h
-
-byte_numbered : {A : Type 0} (b full : Bool) (at : ℕ) (r s : Read A) → NumberedResult r → NumberedResult s
-    → NumberedResult (elim b [ true ↦ within full at r | false ↦ s ])
-byte_numbered true full at r s h g = within_numbered full at r h
-byte_numbered false full at r s h g = g
-
-scan_numbered : (refusal : ScanRefusal) → IsOfReading (scan_refusal_number refusal)
-scan_numbered EndOfFile = (omega arith, omega arith)
-scan_numbered InvalidCharacter = (omega arith, omega arith)
-scan_numbered InvalidTrait = (omega arith, omega arith)
-scan_numbered TokenTooLong = (omega arith, omega arith)
-
-cut_numbered : {A : Type 0} (b : Bool) (x : A) (limit : ℕ) → NumberedResult (elim b [ true ↦ Ok x | false ↦ Err (record { code = FORM_TOO_LONG; at = limit }) ])
-cut_numbered true x limit = tt
-cut_numbered false x limit = (omega arith, omega arith)
-
-fault_numbered : (A : Type 0) (b : Bool) (limit at : ℕ) (refusal : ScanRefusal)
-    → NumberedResult {A = A} (elim b [ true ↦ Err (record { code = scan_refusal_number refusal; at = at }) | false ↦ Err (record { code = FORM_TOO_LONG; at = limit }) ])
-fault_numbered A true limit at refusal = scan_numbered refusal
-fault_numbered A false limit at refusal = (omega arith, omega arith)
-
-limited_numbered : {A : Type 0} (limit : ℕ) (r : Result A TokenFault) (end_of : A → ℕ) → NumberedResult (limited limit r end_of)
-limited_numbered limit (Ok p) end_of = cut_numbered (nat_le (end_of p) limit) p limit
-limited_numbered limit (Err e) end_of = fault_numbered _ (stands_below limit e.refusal e.at) limit e.at e.refusal
-
-goes_on_numbered : {A : Type 0} (table : Table) (limits : Limits) (on : List Mark → Plan A) (r : Read (List Mark))
-    → ((marks : List Mark) (next : ℕ) (ds : List ℕ) → NumberedResult (run table limits (on marks) next ds)) → NumberedResult r
-    → NumberedResult (elim r [ Ok p ↦ run table limits (on p.0) p.1 p.2 | Err e ↦ Err e ])
-goes_on_numbered table limits on (Ok (marks, next, ds)) all h = all marks next ds
-goes_on_numbered table limits on (Err e) all h = h
-
-run_numbered : {A : Type 0} (table : Table) (limits : Limits) (plan : Plan A) (at : ℕ) (cs : List ℕ) → Numbered plan → NumberedResult (run table limits plan at cs)
-unfolding run Numbered
-run_numbered table limits (gives x) at cs h = tt
-run_numbered table limits (refuses code back) at cs h = h
-run_numbered table limits (takes other test on) at [] h = run_numbered table limits other at [] h.0
-run_numbered table limits (takes other test on) at (c ∷ cs) h =
-    byte_numbered (test c) (nat_le limits.text at) at (run table limits (on c) (at + 1) cs) (run table limits other at (c ∷ cs))
-    (run_numbered table limits (on c) (at + 1) cs (h.1 c)) (run_numbered table limits other at (c ∷ cs) h.0)
-run_numbered table limits (scans escaped limit on) at cs h =
-    goes_on_numbered table limits on (limited limits.text (scanned escaped table limit at cs) (λ p. p.1))
-    (λ marks next ds. run_numbered table limits (on marks) next ds (h marks)) (limited_numbered limits.text (scanned escaped table limit at cs) (λ p. p.1))
-
--- ---- parts of plans
-
-gives_numbered : {A : Type 0} (x : A) → Numbered (gives x)
-unfolding Numbered
-gives_numbered x = tt
-
-refuses_numbered : (A : Type 0) (code back : ℕ) → IsOfReading code → Numbered {A = A} (refuses code back)
-unfolding Numbered
-refuses_numbered A code back h = h
-
-takes_numbered : {A : Type 0} (other : Plan A) (test : ℕ → Bool) (on : ℕ → Plan A) → Numbered other → ((c : ℕ) → Numbered (on c)) → Numbered (takes other test on)
-unfolding Numbered
-takes_numbered other test on h all = (h, all)
-
-scans_numbered : {A : Type 0} (escaped : Bool) (limit : ℕ) (on : List Mark → Plan A) → ((marks : List Mark) → Numbered (on marks)) → Numbered (scans escaped limit on)
-unfolding Numbered
-scans_numbered escaped limit on all = all
-
-then_numbered : {A B : Type 0} (plan : Plan A) (next : A → Plan B) → Numbered plan → ((x : A) → Numbered (next x)) → Numbered (then_plan plan next)
-unfolding then_plan Numbered
-then_numbered (gives x) next h all = all x
-then_numbered (refuses code back) next h all = h
-then_numbered (takes other test on) next h all = (then_numbered other next h.0 all, λ c. then_numbered (on c) next (h.1 c) all)
-then_numbered (scans escaped limit on) next h all = λ marks. then_numbered (on marks) next (h marks) all
-
-if_numbered : {A : Type 0} (b : Bool) (p q : Plan A) → Numbered p → Numbered q → Numbered (elim b [ true ↦ p | false ↦ q ])
-if_numbered true p q h g = h
-if_numbered false p q h g = g
-
-character_numbered : {A : Type 0} (on : ℕ → Plan A) (c : ℕ) → Numbered (on c) → Numbered (character on c)
-character_numbered on c h =
-    if_numbered (nat_lt c 128) (on c) (refuses INVALID_CHARACTER 1) h (refuses_numbered _ INVALID_CHARACTER 1 (omega arith, omega arith))
-
-next_byte_numbered : {A : Type 0} (on : ℕ → Plan A) → ((c : ℕ) → Numbered (on c)) → Numbered (next_byte on)
-next_byte_numbered on all =
-    takes_numbered (refuses END_OF_FILE 0) (λ c. true) (λ c. character on c) (refuses_numbered _ END_OF_FILE 0 (omega arith, omega arith))
-    (λ c. character_numbered on c (all c))
-
--- ---- turns
-
--- A turn is numbered where what goes on after it is.
-abbrev NumberedTurn : {S A : Type 0} → ((S → Plan A) → S → Plan A) → Type 0
-NumberedTurn {S = S} {A = A} turn = (more : S → Plan A) → ((s : S) → Numbered (more s)) → (s : S) → Numbered (turn more s)
-
-loop_in_numbered : {S A : Type 0} (turn : (S → Plan A) → S → Plan A) → NumberedTurn turn → (n : ℕ) (s : S) → Numbered (loop_in turn n s)
-unfolding loop_in
-loop_in_numbered turn all zero s = refuses_numbered _ FORM_TOO_LONG 0 (omega arith, omega arith)
-loop_in_numbered turn all (suc n) s = all (λ t. loop_in turn n t) (λ t. loop_in_numbered turn all n t) s
-
-loop_numbered : {S A : Type 0} (limits : Limits) (turn : (S → Plan A) → S → Plan A) → NumberedTurn turn → (s : S) → Numbered (loop limits turn s)
-loop_numbered limits turn all s = loop_in_numbered turn all (limits.text + 1) s
-
-text_numbered : (table : Table) (terminator : ℕ) → NumberedTurn (text_turn table terminator)
-text_numbered table terminator more all cs =
-    next_byte_numbered _ (λ c. if_numbered (c == terminator) (gives cs) _ (gives_numbered cs)
-    (if_numbered (is_escape (entry_at table c).syntax) (next_byte (λ d. more (cs ++ d ∷ []))) (more (cs ++ c ∷ []))
-    (next_byte_numbered (λ d. more (cs ++ d ∷ [])) (λ d. all (cs ++ d ∷ []))) (all (cs ++ c ∷ []))))
-
-line_numbered : (keep : Keep) → NumberedTurn (line_turn keep)
-line_numbered keep more all cs =
-    let on : ℕ → Plan (List ℕ) = λ c. elim (c == 10) [ true ↦ gives cs | false ↦ more (kept keep cs c) ] in
-    takes_numbered (gives cs) (λ c. true) (character on) (gives_numbered cs)
-    (λ c. character_numbered on c (if_numbered (c == 10) (gives cs) (more (kept keep cs c)) (gives_numbered cs) (all (kept keep cs c))))
-
-goes_numbered : (more : ℕ × ℕ → Plan (Unit {0})) (next : Option (ℕ × ℕ)) → ((levels : ℕ × ℕ) → Numbered (more levels)) → Numbered (block_goes more next)
-goes_numbered more None all = gives_numbered tt
-goes_numbered more (Some levels) all = all levels
-
-block_numbered : NumberedTurn block_turn
-block_numbered more all levels =
-    next_byte_numbered (λ c. block_goes more (block_next levels c)) (λ c. goes_numbered more (block_next levels c) all)
-
-number_numbered : NumberedTurn number_turn
-number_numbered more all argument =
-    let on : ℕ → Plan (Option ℕ) = λ c. elim (nat_le (next_digit argument c) 999999) [ true ↦ more (Some (next_digit argument c)) | false ↦ refuses NUMERIC_ARGUMENT 1 ] in
-    takes_numbered (gives argument) is_digit on (gives_numbered argument)
-    (λ c. if_numbered (nat_le (next_digit argument c) 999999) (more (Some (next_digit argument c))) (refuses NUMERIC_ARGUMENT 1)
-    (all (Some (next_digit argument c))) (refuses_numbered _ NUMERIC_ARGUMENT 1 (omega arith, omega arith)))
+use Rattle.lisp_reading.specs.Reading.{Piece, item, dot, closed, is_whitespace, without_space, piece_of, or_closed, next_item_turn, next_item, Items, items_step, items_turn, items_after, undotted, after_tail, after_dot, list_end, one_piece, bytes_back, finished, answered, completed_by, completed, opened, gathered, gathered_by, called, sub_called, sub_there, dispatched, macro_called, stands_alone, alone, told_found, token_found, attempt_by, inner, attempt, Outcome, form, empty, refused, outcome, reads_in, reads, text_to, line_after, block_after, number_after}
+use Rattle.lisp_reading.proofs.NumberedPlans.{IsOfReading, Numbered, NumberedResult, run_numbered, gives_numbered, refuses_numbered, takes_numbered, scans_numbered, then_numbered, if_numbered, next_byte_numbered, loop_numbered, text_numbered, line_numbered, block_numbered, number_numbered}
 
 -- ---- what tokens mean
 
@@ -258,27 +114,27 @@ token_numbered setting (m ∷ ms) =
     told_found_numbered (told setting (m ∷ ms))
     (told_numbered setting.packages setting.current (meaning_of setting.base (folded setting.table.letters (m ∷ ms))))
 
--- ---- places and objects inside a call
+-- ---- what comes next, and objects, inside a call
 
 space_numbered : {A : Type 0} (table : Table) (token : Bool) (on : Plan A) → Numbered on → Numbered (without_space table token on)
 space_numbered table false on h = h
 space_numbered table true on h = takes_numbered on (is_whitespace table) (λ c. on) h (λ c. h)
 
-at_place_numbered : (table : Table) (again : Plan Piece) (found : Found) → Numbered again → Numbered (at_place table again found)
-at_place_numbered table again (nothing token) h = space_numbered table token again h
-at_place_numbered table again (one token x) h = gives_numbered (item token x)
-at_place_numbered table again lone_dot h = gives_numbered dot
-at_place_numbered table again the_end h = refuses_numbered _ END_OF_FILE 0 (omega arith, omega arith)
+piece_of_numbered : (table : Table) (again : Plan Piece) (found : Found) → Numbered again → Numbered (piece_of table again found)
+piece_of_numbered table again (nothing token) h = space_numbered table token again h
+piece_of_numbered table again (one token x) h = gives_numbered (item token x)
+piece_of_numbered table again lone_dot h = gives_numbered dot
+piece_of_numbered table again the_end h = refuses_numbered _ END_OF_FILE 0 (omega arith, omega arith)
 
 or_closed_numbered : (close : Option ℕ) (plan : Plan Piece) → Numbered plan → Numbered (or_closed close plan)
 or_closed_numbered None plan h = h
 or_closed_numbered (Some close) plan h = takes_numbered plan (λ c. c == close) (λ c. gives closed) h (λ c. gives_numbered closed)
 
-place_numbered : (setting : Setting) (close : Option ℕ) (attempt : Plan Found) → Numbered attempt → Numbered (place setting close attempt)
-place_numbered setting close attempt h =
-    loop_numbered setting.limits (place_turn setting.table close attempt)
-    (λ more all u. or_closed_numbered close (then_plan attempt (λ found. at_place setting.table (more tt) found))
-    (then_numbered attempt (λ found. at_place setting.table (more tt) found) h (λ found. at_place_numbered setting.table (more tt) found (all tt)))) tt
+next_item_numbered : (setting : Setting) (close : Option ℕ) (attempt : Plan Found) → Numbered attempt → Numbered (next_item setting close attempt)
+next_item_numbered setting close attempt h =
+    loop_numbered setting.limits (next_item_turn setting.table close attempt)
+    (λ more all u. or_closed_numbered close (then_plan attempt (λ found. piece_of setting.table (more tt) found))
+    (then_numbered attempt (λ found. piece_of setting.table (more tt) found) h (λ found. piece_of_numbered setting.table (more tt) found (all tt)))) tt
 
 items_step_numbered : (table : Table) (more : List Object → Plan Items) (xs : List Object) (p : Piece) → ((ys : List Object) → Numbered (more ys))
     → Numbered (items_step table more xs p)
@@ -289,8 +145,8 @@ items_step_numbered table more xs (item token x) all = space_numbered table toke
 items_numbered : (setting : Setting) (close : ℕ) (attempt : Plan Found) (xs : List Object) → Numbered attempt → Numbered (items_after setting close attempt xs)
 items_numbered setting close attempt xs h =
     loop_numbered setting.limits (items_turn setting close attempt)
-    (λ more all ys. then_numbered (place setting (Some close) attempt) (λ p. items_step setting.table more ys p)
-    (place_numbered setting (Some close) attempt h) (λ p. items_step_numbered setting.table more ys p all)) xs
+    (λ more all ys. then_numbered (next_item setting (Some close) attempt) (λ p. items_step setting.table more ys p)
+    (next_item_numbered setting (Some close) attempt h) (λ p. items_step_numbered setting.table more ys p all)) xs
 
 -- ---- what a call gives
 
@@ -349,15 +205,15 @@ after_dot_numbered : (setting : Setting) (attempt : Plan Found) (on : Material �
 after_dot_numbered setting attempt on xs closed h all = refuses_numbered _ DOT_CONTEXT 1 (omega arith, omega arith)
 after_dot_numbered setting attempt on xs dot h all = refuses_numbered _ DOT_CONTEXT 0 (omega arith, omega arith)
 after_dot_numbered setting attempt on xs (item token x) h all =
-    space_numbered setting.table token (then_plan (place setting (Some 41) attempt) (after_tail on xs x))
-    (then_numbered (place setting (Some 41) attempt) (after_tail on xs x) (place_numbered setting (Some 41) attempt h) (λ p. after_tail_numbered on xs x p all))
+    space_numbered setting.table token (then_plan (next_item setting (Some 41) attempt) (after_tail on xs x))
+    (then_numbered (next_item setting (Some 41) attempt) (after_tail on xs x) (next_item_numbered setting (Some 41) attempt h) (λ p. after_tail_numbered on xs x p all))
 
 list_end_numbered : (setting : Setting) (attempt : Plan Found) (on : Material → Plan Found) (items : Items) → Numbered attempt → ((m : Material) → Numbered (on m))
     → Numbered (list_end setting attempt on items)
 list_end_numbered setting attempt on (xs, true) h all = all (many xs)
 list_end_numbered setting attempt on ([], false) h all = refuses_numbered _ DOT_CONTEXT 0 (omega arith, omega arith)
 list_end_numbered setting attempt on (x ∷ xs, false) h all =
-    then_numbered (place setting (Some 41) attempt) (after_dot setting attempt on (x ∷ xs)) (place_numbered setting (Some 41) attempt h)
+    then_numbered (next_item setting (Some 41) attempt) (after_dot setting attempt on (x ∷ xs)) (next_item_numbered setting (Some 41) attempt h)
     (λ p. after_dot_numbered setting attempt on (x ∷ xs) p h all)
 
 abbrev NumberedInner : Option (Plan Found) → Type 0
@@ -373,8 +229,8 @@ module _ (setting : Setting) (depth : ℕ) (may : Option (Plan Found)) (numbered
   gathered_numbered : (call : InvokedCall) (way : Way) → Numbered (gathered setting depth may call way)
   gathered_numbered call Nothing = completed_numbered setting depth call false false no_material
   gathered_numbered call Next =
-      opened_numbered may _ numbered (λ attempt h. then_numbered (place setting None attempt)
-      (one_piece (λ token x. completed setting depth call token token (one_object x))) (place_numbered setting None attempt h)
+      opened_numbered may _ numbered (λ attempt h. then_numbered (next_item setting None attempt)
+      (one_piece (λ token x. completed setting depth call token token (one_object x))) (next_item_numbered setting None attempt h)
       (λ p. one_numbered (λ token x. completed setting depth call token token (one_object x)) p (λ token x. completed_numbered setting depth call token token (one_object x))))
   gathered_numbered call AList =
       opened_numbered may _ numbered (λ attempt h. then_numbered (items_after setting 41 attempt [])
@@ -454,7 +310,7 @@ attempt_numbered setting room = attempt_by_numbered setting (setting.limits.nest
 abbrev NumberedOutcome : Outcome → Type 0
 NumberedOutcome (form x start «end» next) = Unit {0}
 NumberedOutcome empty = Unit {0}
-NumberedOutcome (refused code place) = IsOfReading code
+NumberedOutcome (refused code offset) = IsOfReading code
 
 outcome_numbered : (table : Table) (start : ℕ) (more : ℕ → List ℕ → Outcome) (r : Read Found) → ((next : ℕ) (cs : List ℕ) → NumberedOutcome (more next cs))
     → NumberedResult r → NumberedOutcome (outcome table start more r)

@@ -63,7 +63,7 @@ token_below : {A : Type 0} (table : Table) (limits : Limits) (on : List Mark →
     → IsBelow limits.text (elim (limited limits.text r (λ p. p.1)) [ Ok p ↦ run table limits (on p.0) p.1 p.2 | Err e ↦ Err e ])
 token_below {A = A} table limits on (Ok (marks, next, ds)) at all =
     let step : Read (List Mark) → Read A = λ r. elim r [ Ok p ↦ run table limits (on p.0) p.1 p.2 | Err e ↦ Err e ] in
-    let cut : Bool → Read (List Mark) = λ b. elim b [ true ↦ Ok (marks, next, ds) | false ↦ Err (record { code = FORM_TOO_LONG; at = limits.text }) ] in
+    let cut : Bool → Read (List Mark) = λ b. elim b [ true ↦ Ok (marks, next, ds) | false ↦ Err (record { number = FORM_TOO_LONG; at = limits.text }) ] in
     let by : (b : Bool) → nat_le next limits.text ≡ b → IsBelow limits.text (step (cut b)) =
     λ b. elim b as (λ b. nat_le next limits.text ≡ b → IsBelow limits.text (step (cut b))) [
       | true ↦ λ e. all marks next ds (leb-true next limits.text e)
@@ -73,8 +73,8 @@ token_below {A = A} table limits on (Ok (marks, next, ds)) at all =
 token_below {A = A} table limits on (Err f) at all =
     let step : Read (List Mark) → Read A = λ r. elim r [ Ok p ↦ run table limits (on p.0) p.1 p.2 | Err e ↦ Err e ] in
     let cut : Bool → Read (List Mark) = λ b. elim b [
-      | true ↦ Err (record { code = scan_refusal_number f.refusal; at = f.at })
-      | false ↦ Err (record { code = FORM_TOO_LONG; at = limits.text })
+      | true ↦ Err (record { number = scan_refusal_number f.refusal; at = f.at })
+      | false ↦ Err (record { number = FORM_TOO_LONG; at = limits.text })
     ] in
     let by : (b : Bool) → IsBelow limits.text (step (cut b)) = λ b. elim b as (λ b. IsBelow limits.text (step (cut b))) [ true ↦ tt | false ↦ tt ] in
     by (stands_below limits.text f.refusal f.at)

@@ -1,5 +1,5 @@
 -- Where a token is refused before the end of a text, it is refused so whatever follows. Where it is refused at the end, or ends
--- there, nothing that follows is before this place.
+-- there, nothing that follows is before this offset.
 use Rattle.std.proofs.Common.{◌≡◌, ◌≤◌, ◌<◌, ◌+◌, ◌-◌, ◌==◌, ◌||◌, ℕ, Bool, true, false, if◌then◌else◌, List, [], ◌∷◌, ◌++◌, length, Ok, Err, MatchResult, IsTrue, refl, sym, ap, subst, arith}
 use Rattle.std.proofs.lemmas.List.{map-append, length-map}
 use Rattle.readtable_core.specs.declared.characters.Syntax.{Syntax}
@@ -19,7 +19,7 @@ use Rattle.token_scan.proofs.Forwards.{Forwards, forwards}
 use Rattle.token_scan.proofs.Steps.{outside_ends, outside_plain, outside_escape, outside_bar, outside_invalid, inside_between, inside_escape, inside_bar, inside_invalid}
 use Rattle.lisp_reading.specs.Plans.{scanned}
 
--- what a longer text gives, of one that ends at this place
+-- what a longer text gives, of one that ends at this offset
 abbrev Extends : ℕ → Scanned → Scanned → Type 0
 Extends «end» longer (Ok (marks, next, [])) = Forwards «end» longer
 Extends «end» longer (Ok (marks, next, x ∷ xs)) = Unit {0}
@@ -159,7 +159,7 @@ module _ (more : List TypedByte) where
 
 -- ---- in bytes
 
--- no place that it gives is before this one
+-- no offset that it gives is before this one
 abbrev pub IsFrom : ℕ → ScannedBytes → Type 0
 IsFrom at r = MatchResult r (λ t. at ≤ t.1) (λ e. at ≤ e.at)
 

@@ -15,7 +15,7 @@ use Rattle.lisp_reading.specs.Setting.{Setting}
 use Rattle.lisp_reading.specs.Gathering.{text_turn, is_escape, kept, line_turn, block_next, block_goes, block_turn, number_turn, next_digit}
 use Rattle.lisp_reading.specs.declared.found.Found.{Found}
 use Rattle.lisp_reading.specs.declared.found.Found.TheVariants.{Nothing as nothing, One as one, LoneDot as lone_dot, TheEnd as the_end}
-use Rattle.lisp_reading.specs.Reading.{Piece, item, dot, closed, is_whitespace, without_space, at_place, or_closed, place_turn, place, Items, items_step, items_turn, token_found, attempt_by, attempt}
+use Rattle.lisp_reading.specs.Reading.{Piece, item, dot, closed, is_whitespace, without_space, piece_of, or_closed, next_item_turn, next_item, Items, items_step, items_turn, token_found, attempt_by, attempt}
 use Rattle.lisp_reading.proofs.Steps.{and_then, run_then, IsBelow, below, eats}
 
 -- the same wherever at most the bytes of the limit were taken
@@ -138,7 +138,7 @@ space_same table limits true p q at cs h same =
     takes_same table limits (is_whitespace table) (λ c. p) (λ c. q) p q at cs (same at cs (omega arith) h)
     (λ c ds lt. same (at + 1) ds (omega arith) (omega arith))
 
--- ---- a place inside a call
+-- ---- what comes next inside a call
 
 -- at the end of the input an attempt gives the end
 pub record Ends (table : Table) (limits : Limits) (attempt : Plan Found) : Type 0 where
@@ -151,25 +151,25 @@ is_end (Ok (one token x, at, cs)) = 1
 is_end (Ok (lone_dot, at, cs)) = 1
 is_end (Err e) = 1
 
-place_turn_same : (table : Table) (limits : Limits) (attempt : Plan Found) (p q : Plan Piece) (at : ℕ) (cs : List ℕ) (r : Read Found)
+next_item_turn_same : (table : Table) (limits : Limits) (attempt : Plan Found) (p q : Plan Piece) (at : ℕ) (cs : List ℕ) (r : Read Found)
     → Ends table limits attempt → at ≤ limits.text → run table limits attempt at cs ≡ r → IsBelow limits.text r → Alike table limits (at + 1) p q
-    → and_then table limits (at_place table p) r ≡ and_then table limits (at_place table q) r
-place_turn_same table limits attempt p q at cs (Ok (nothing token, next, ds)) ends h e le same =
+    → and_then table limits (piece_of table p) r ≡ and_then table limits (piece_of table q) r
+next_item_turn_same table limits attempt p q at cs (Ok (nothing token, next, ds)) ends h e le same =
     let lt : at < next = eats table limits attempt at next cs ds (nothing token)
     (λ f. let no_end : 0 ≡ 1 = ap is_end (sym (ends.rest at h) ∙ f) in omega (arith, no_end)) e in
     space_same table limits token p q next ds le (λ at2 cs2 from le2. same at2 cs2 (omega arith) le2)
-place_turn_same table limits attempt p q at cs (Ok (one token x, next, ds)) ends h e le same = refl
-place_turn_same table limits attempt p q at cs (Ok (lone_dot, next, ds)) ends h e le same = refl
-place_turn_same table limits attempt p q at cs (Ok (the_end, next, ds)) ends h e le same = refl
-place_turn_same table limits attempt p q at cs (Err f) ends h e le same = refl
+next_item_turn_same table limits attempt p q at cs (Ok (one token x, next, ds)) ends h e le same = refl
+next_item_turn_same table limits attempt p q at cs (Ok (lone_dot, next, ds)) ends h e le same = refl
+next_item_turn_same table limits attempt p q at cs (Ok (the_end, next, ds)) ends h e le same = refl
+next_item_turn_same table limits attempt p q at cs (Err f) ends h e le same = refl
 
 behind_same : (table : Table) (limits : Limits) (attempt : Plan Found) (p q : Plan Piece) (at : ℕ) (cs : List ℕ)
     → Ends table limits attempt → at ≤ limits.text → Alike table limits (at + 1) p q
-    → run table limits (then_plan attempt (at_place table p)) at cs ≡ run table limits (then_plan attempt (at_place table q)) at cs
+    → run table limits (then_plan attempt (piece_of table p)) at cs ≡ run table limits (then_plan attempt (piece_of table q)) at cs
 behind_same table limits attempt p q at cs ends h same =
-    run_then table limits attempt (λ found. at_place table p found) at cs
-    ∙ place_turn_same table limits attempt p q at cs (run table limits attempt at cs) ends h refl (below table limits attempt at cs h) same
-    ∙ sym (run_then table limits attempt (at_place table q) at cs)
+    run_then table limits attempt (λ found. piece_of table p found) at cs
+    ∙ next_item_turn_same table limits attempt p q at cs (run table limits attempt at cs) ends h refl (below table limits attempt at cs h) same
+    ∙ sym (run_then table limits attempt (piece_of table q) at cs)
 
 closed_same : (table : Table) (limits : Limits) (close : Option ℕ) (p q : Plan Piece) (at : ℕ) (cs : List ℕ)
     → run table limits p at cs ≡ run table limits q at cs → run table limits (or_closed close p) at cs ≡ run table limits (or_closed close q) at cs
@@ -177,10 +177,10 @@ closed_same table limits None p q at cs e = e
 closed_same table limits (Some close) p q at cs e =
     takes_same table limits (λ c. c == close) (λ c. gives closed) (λ c. gives closed) p q at cs e (λ c ds lt. refl)
 
-pub place_guarded : (table : Table) (limits : Limits) (close : Option ℕ) (attempt : Plan Found) → Ends table limits attempt → Guarded table limits (place_turn table close attempt)
-place_guarded table limits close attempt ends = record {
+pub next_item_guarded : (table : Table) (limits : Limits) (close : Option ℕ) (attempt : Plan Found) → Ends table limits attempt → Guarded table limits (next_item_turn table close attempt)
+next_item_guarded table limits close attempt ends = record {
   rest = λ p q s at cs h same.
-      closed_same table limits close (then_plan attempt (λ found. at_place table (p tt) found)) (then_plan attempt (λ found. at_place table (q tt) found)) at cs
+      closed_same table limits close (then_plan attempt (λ found. piece_of table (p tt) found)) (then_plan attempt (λ found. piece_of table (q tt) found)) at cs
       (behind_same table limits attempt (p tt) (q tt) at cs ends h (same tt));
 }
 
@@ -192,23 +192,23 @@ attempt_ends setting depth may = record {
   rest = λ at h.
       let e : nat_le at setting.limits.text ≡ true = le-leb at setting.limits.text h in
       let on : Read (List Mark) → Read Found = λ r. elim r [ Ok p ↦ run setting.table setting.limits (token_found setting p.0) p.1 p.2 | Err e ↦ Err e ] in
-      let cut : Bool → Read (List Mark) = λ b. elim b [ true ↦ Ok ([], at, []) | false ↦ Err (record { code = FORM_TOO_LONG; at = setting.limits.text }) ] in
+      let cut : Bool → Read (List Mark) = λ b. elim b [ true ↦ Ok ([], at, []) | false ↦ Err (record { number = FORM_TOO_LONG; at = setting.limits.text }) ] in
       ap (λ (b : Bool). on (cut b)) e;
 }
 
 -- ---- items
 
 -- no piece is at the end of the input
-pub place_at_end : (table : Table) (limits : Limits) (close : Option ℕ) (attempt : Plan Found) (at : ℕ) → Ends table limits attempt → at ≤ limits.text
-    → run table limits (loop limits (place_turn table close attempt) tt) at [] ≡ fault END_OF_FILE (at - 0)
+pub next_item_at_end : (table : Table) (limits : Limits) (close : Option ℕ) (attempt : Plan Found) (at : ℕ) → Ends table limits attempt → at ≤ limits.text
+    → run table limits (loop limits (next_item_turn table close attempt) tt) at [] ≡ fault END_OF_FILE (at - 0)
 unfolding run
-place_at_end table limits close attempt at ends h =
-    let more = loop limits (place_turn table close attempt) in
-    let none : run table limits (then_plan attempt (λ found. at_place table (more tt) found)) at [] ≡ fault END_OF_FILE (at - 0) =
-    run_then table limits attempt (λ found. at_place table (more tt) found) at []
-    ∙ ap (and_then table limits (λ found. at_place table (more tt) found)) (ends.rest at h) in
-    loop_is table limits (place_turn table close attempt) (place_guarded table limits close attempt ends) tt at [] h
-    ∙ elim close as (λ close. run table limits (or_closed close (then_plan attempt (λ found. at_place table (more tt) found))) at [] ≡ fault END_OF_FILE (at - 0)) [ None ↦ none | Some c ↦ none ]
+next_item_at_end table limits close attempt at ends h =
+    let more = loop limits (next_item_turn table close attempt) in
+    let none : run table limits (then_plan attempt (λ found. piece_of table (more tt) found)) at [] ≡ fault END_OF_FILE (at - 0) =
+    run_then table limits attempt (λ found. piece_of table (more tt) found) at []
+    ∙ ap (and_then table limits (λ found. piece_of table (more tt) found)) (ends.rest at h) in
+    loop_is table limits (next_item_turn table close attempt) (next_item_guarded table limits close attempt ends) tt at [] h
+    ∙ elim close as (λ close. run table limits (or_closed close (then_plan attempt (λ found. piece_of table (more tt) found))) at [] ≡ fault END_OF_FILE (at - 0)) [ None ↦ none | Some c ↦ none ]
 
 abbrev is_fault : Read Piece → ℕ
 is_fault (Ok p) = 0
@@ -229,9 +229,9 @@ pub items_guarded : (setting : Setting) (close : ℕ) (attempt : Plan Found) →
     → Guarded setting.table setting.limits (items_turn setting close attempt)
 items_guarded setting close attempt ends = record {
   rest = λ p q xs at cs h same.
-      let plan = place setting (Some close) attempt in
+      let plan = next_item setting (Some close) attempt in
       run_then setting.table setting.limits plan (λ x. items_step setting.table p xs x) at cs
       ∙ items_step_same setting.table setting.limits plan p q xs at cs (run setting.table setting.limits plan at cs) h
-      (place_at_end setting.table setting.limits (Some close) attempt at ends h) refl (below setting.table setting.limits plan at cs h) same
+      (next_item_at_end setting.table setting.limits (Some close) attempt at ends h) refl (below setting.table setting.limits plan at cs h) same
       ∙ sym (run_then setting.table setting.limits plan (λ x. items_step setting.table q xs x) at cs);
 }

@@ -52,7 +52,7 @@ told setting marks = told_of setting.packages setting.current (meaning_of settin
 abbrev pub Tells : Result Told TellError → Result Told ℕ → Type 0
 Tells (Ok answer) meaning = meaning ≡ Ok answer
 Tells (Err OutOfMemory) meaning = Unit {0}
-Tells (Err (Refused code)) meaning = meaning ≡ Err code
+Tells (Err (Refused number)) meaning = meaning ≡ Err number
 
 abbrev pub view_resolved : Result Resolved PackageError → Result Resolution PackageError
 view_resolved (Ok r) = Ok (resolution_of r)

@@ -1,5 +1,5 @@
--- What reading does from a place on: a plan, which says of each next byte whether it is taken and what is done then. A plan
--- knows no text and no place. What it gives on a text is said once, by `run`.
+-- What reading does from an offset on: a plan, which says of each next byte whether it is taken and what is done then. A plan
+-- knows no text and no offset. What it gives on a text is said once, by `run`.
 use Rattle.std.specs.Prelude.{ℕ, ◌≡◌, ◌≤◌, zero, suc, ◌+◌, ◌-◌, nat_le, nat_lt, Bool, true, false, List, [], ◌∷◌, Result, Ok, Err}
 use Rattle.lisp_object.specs.declared.refusal.TheConstants.{END_OF_FILE, INVALID_CHARACTER, FORM_TOO_LONG}
 use Rattle.readtable_core.specs.Tables.{Table}
@@ -12,7 +12,7 @@ use Rattle.token_meaning.specs.Results.{scan_refusal_number}
 
 pub data Plan (A : Type 0) : Type 0 where
   gives : A → Plan A
-  -- the number of the refusal, and how many bytes its place lies before the present one
+  -- the number of the refusal, and how many bytes its offset lies before the present one
   refuses : ℕ → ℕ → Plan A
   -- A byte that passes the test is taken, and the last plan goes on with it. Before any other byte, and at the end of the
   -- input, the first plan goes on.
@@ -24,7 +24,7 @@ pub data Plan (A : Type 0) : Type 0 where
 -- one plan, and then another, which knows what the first gave
 unfoldable pub then_plan : {A B : Type 0} → Plan A → (A → Plan B) → Plan B
 then_plan (gives x) next = next x
-then_plan (refuses code back) next = refuses code back
+then_plan (refuses number back) next = refuses number back
 then_plan (takes other test on) next = takes (then_plan other next) test (λ c. then_plan (on c) next)
 then_plan (scans escaped limit on) next = scans escaped limit (λ marks. then_plan (on marks) next)
 
@@ -52,17 +52,17 @@ loop limits turn state = loop_in turn (limits.text + 1) state
 -- ---- what a plan gives on a text
 
 pub record Fault : Type 0 where
-  pub code : ℕ
+  pub number : ℕ
   pub at : ℕ
 
--- a value, the place after it and the rest of the text; or the first fault
+-- a value, the offset after it and the rest of the text; or the first fault
 abbrev pub Read : Type 0 → Type 0
 Read A = Result (A × ℕ × List ℕ) Fault
 
 abbrev pub fault : {A : Type 0} → ℕ → ℕ → Read A
-fault code at = Err (record { code = code; at = at })
+fault number at = Err (record { number = number; at = at })
 
--- the byte at this place may be taken
+-- the byte at this offset may be taken
 abbrev pub within : {A : Type 0} → Bool → ℕ → Read A → Read A
 within full at r = elim full [ true ↦ fault FORM_TOO_LONG at | false ↦ r ]
 
@@ -73,21 +73,21 @@ stands_below limit _ at = nat_lt at limit
 
 -- a token under the limit of the text
 abbrev pub limited : {A : Type 0} → ℕ → Result A TokenFault → (A → ℕ) → Result A Fault
-limited limit (Ok p) end_of = elim (nat_le (end_of p) limit) [ true ↦ Ok p | false ↦ Err (record { code = FORM_TOO_LONG; at = limit }) ]
+limited limit (Ok p) end_of = elim (nat_le (end_of p) limit) [ true ↦ Ok p | false ↦ Err (record { number = FORM_TOO_LONG; at = limit }) ]
 limited limit (Err e) end_of =
     elim (stands_below limit e.refusal e.at) [
-      | true ↦ Err (record { code = scan_refusal_number e.refusal; at = e.at })
-      | false ↦ Err (record { code = FORM_TOO_LONG; at = limit })
+      | true ↦ Err (record { number = scan_refusal_number e.refusal; at = e.at })
+      | false ↦ Err (record { number = FORM_TOO_LONG; at = limit })
     ]
 
 abbrev pub scanned : Bool → Table → ℕ → ℕ → List ℕ → ScannedBytes
 scanned false table limit at text = token_in table limit at text
 scanned true table limit at text = escaped_token_in table limit at text
 
--- Places count the bytes from the object's start.
+-- Offsets count the bytes from the object's start.
 unfoldable pub run : {A : Type 0} → Table → Limits → Plan A → ℕ → List ℕ → Read A
 run table limits (gives x) at text = Ok (x, at, text)
-run table limits (refuses code back) at text = fault code (at - back)
+run table limits (refuses number back) at text = fault number (at - back)
 run table limits (takes other test on) at [] = run table limits other at []
 run table limits (takes other test on) at (c ∷ cs) =
     elim (test c) [

@@ -42,9 +42,9 @@ block_after setting levels = loop setting.limits block_turn levels
 abbrev pub number_after : Setting → Option ℕ → Plan (Option ℕ)
 number_after setting number = loop setting.limits number_turn number
 
--- ---- what stands at a place
+-- ---- what comes next inside a call
 
--- What stands at a place inside a call, after discarded text.
+-- What comes next inside a call, after discarded text.
 pub data Piece : Type 0 where
   item : Bool → Object → Piece
   dot : Piece
@@ -63,24 +63,24 @@ abbrev pub without_space : {A : Type 0} → Table → Bool → Plan A → Plan A
 without_space table false on = on
 without_space table true on = takes on (is_whitespace table) (λ c. on)
 
--- ---- a place inside a call where an object may begin: after discarded text, an object, a dot or the closing character
+-- ---- what comes next inside a call: after discarded text, an object, a dot or the closing character
 
-abbrev pub at_place : Table → Plan Piece → Found → Plan Piece
-at_place table again (nothing token) = without_space table token again
-at_place table again (one token x) = gives (item token x)
-at_place table again lone_dot = gives dot
-at_place table again the_end = refuses END_OF_FILE 0
+abbrev pub piece_of : Table → Plan Piece → Found → Plan Piece
+piece_of table again (nothing token) = without_space table token again
+piece_of table again (one token x) = gives (item token x)
+piece_of table again lone_dot = gives dot
+piece_of table again the_end = refuses END_OF_FILE 0
 
 -- the closing character is looked for before its own syntax
 abbrev pub or_closed : Option ℕ → Plan Piece → Plan Piece
 or_closed None plan = plan
 or_closed (Some close) plan = takes plan (λ c. c == close) (λ c. gives closed)
 
-abbrev pub place_turn : Table → Option ℕ → Plan Found → (Unit {0} → Plan Piece) → Unit {0} → Plan Piece
-place_turn table close attempt more u = or_closed close (then_plan attempt (λ found. at_place table (more tt) found))
+abbrev pub next_item_turn : Table → Option ℕ → Plan Found → (Unit {0} → Plan Piece) → Unit {0} → Plan Piece
+next_item_turn table close attempt more u = or_closed close (then_plan attempt (λ found. piece_of table (more tt) found))
 
-abbrev pub place : Setting → Option ℕ → Plan Found → Plan Piece
-place setting close attempt = loop setting.limits (place_turn setting.table close attempt) tt
+abbrev pub next_item : Setting → Option ℕ → Plan Found → Plan Piece
+next_item setting close attempt = loop setting.limits (next_item_turn setting.table close attempt) tt
 
 -- ---- objects up to the closing character, or up to a dot
 
@@ -94,7 +94,7 @@ items_step table more xs dot = gives (xs, false)
 items_step table more xs (item token x) = without_space table token (more (xs ++ x ∷ []))
 
 abbrev pub items_turn : Setting → ℕ → Plan Found → (List Object → Plan Items) → List Object → Plan Items
-items_turn setting close attempt more xs = then_plan (place setting (Some close) attempt) (λ p. items_step setting.table more xs p)
+items_turn setting close attempt more xs = then_plan (next_item setting (Some close) attempt) (λ p. items_step setting.table more xs p)
 
 -- the objects after these
 abbrev pub items_after : Setting → ℕ → Plan Found → List Object → Plan Items
@@ -117,12 +117,12 @@ abbrev pub after_dot : Setting → Plan Found → (Material → Plan Found) → 
 after_dot setting attempt on xs closed = refuses DOT_CONTEXT 1
 after_dot setting attempt on xs dot = refuses DOT_CONTEXT 0
 after_dot setting attempt on xs (item token x) =
-    without_space setting.table token (then_plan (place setting (Some 41) attempt) (after_tail on xs x))
+    without_space setting.table token (then_plan (next_item setting (Some 41) attempt) (after_tail on xs x))
 
 abbrev pub list_end : Setting → Plan Found → (Material → Plan Found) → Items → Plan Found
 list_end setting attempt on (xs, true) = on (many xs)
 list_end setting attempt on ([], false) = refuses DOT_CONTEXT 0
-list_end setting attempt on (x ∷ xs, false) = then_plan (place setting (Some 41) attempt) (after_dot setting attempt on (x ∷ xs))
+list_end setting attempt on (x ∷ xs, false) = then_plan (next_item setting (Some 41) attempt) (after_dot setting attempt on (x ∷ xs))
 
 -- ---- one object
 
@@ -156,7 +156,7 @@ answered packages nesting depth token spaced (value x) =
     ]
 answered packages nesting depth token spaced no_value = gives (nothing spaced)
 answered packages nesting depth token spaced improper = refuses MACRO_ANSWER 0
-answered packages nesting depth token spaced (answer_refused code) = refuses MACRO_REFUSED 0
+answered packages nesting depth token spaced (answer_refused number) = refuses MACRO_REFUSED 0
 
 -- what the function gives for what was gathered
 abbrev pub completed_by : Setting → ℕ → InvokedCall → Function → Bool → Bool → Material → Plan Found
@@ -178,7 +178,7 @@ opened (Some attempt) on = on attempt
 abbrev pub gathered : Setting → ℕ → Option (Plan Found) → InvokedCall → Way → Plan Found
 gathered setting depth inner call Nothing = completed setting depth call false false no_material
 gathered setting depth inner call Next =
-    opened inner (λ attempt. then_plan (place setting None attempt)
+    opened inner (λ attempt. then_plan (next_item setting None attempt)
     (one_piece (λ token x. completed setting depth call token token (one_object x))))
 gathered setting depth inner call AList =
     opened inner (λ attempt. then_plan (items_after setting 41 attempt [])
@@ -251,7 +251,7 @@ alone setting depth inner c _ = refuses INVALID_CHARACTER 1
 abbrev pub told_found : Result Told ℕ → Plan Found
 told_found (Ok (told_object x)) = gives (one true x)
 told_found (Ok dot_alone) = gives lone_dot
-told_found (Err code) = refuses code 0
+told_found (Err number) = refuses number 0
 
 -- Where no other character stands a token begins. It is empty only at the end of the input.
 abbrev pub token_found : Setting → List Mark → Plan Found
@@ -278,7 +278,7 @@ pub data Outcome : Type 0 where
   -- its start, its end, and where the next form begins
   form : Object → ℕ → ℕ → ℕ → Outcome
   empty : Outcome
-  -- the number of the refusal, and its place
+  -- the number of the refusal, and its offset
   refused : ℕ → ℕ → Outcome
 
 -- how many bytes are discarded with an object: the one whitespace character that ended its token
@@ -293,9 +293,9 @@ outcome table start more (Ok (nothing token, at, cs)) = more (start + at) cs
 outcome table start more (Ok (one token x, at, cs)) = form x start (start + at) (start + at + space_at table token cs)
 outcome table start more (Ok (lone_dot, at, cs)) = refused DOT_CONTEXT (start + at)
 outcome table start more (Ok (the_end, at, cs)) = empty
-outcome table start more (Err e) = refused e.code (start + e.at)
+outcome table start more (Err e) = refused e.number (start + e.at)
 
--- of the text from this place on; the number bounds the turns
+-- of the text from this offset on; the number bounds the turns
 unfoldable pub reads_in : Setting → ℕ → ℕ → List ℕ → Outcome
 reads_in setting zero start text = empty
 reads_in setting (suc n) start text =

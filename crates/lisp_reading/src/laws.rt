@@ -11,7 +11,7 @@ ghost use Rattle.lisp_reading.specs.declared.way.Keep.{Keep};
 ghost use Rattle.lisp_reading.specs.Plans.{GiveSame, loop, run};
 ghost use Rattle.lisp_reading.specs.Setting.{Setting, setting_of};
 ghost use Rattle.lisp_reading.specs.Gathering.{text_turn, line_turn, block_turn, number_turn};
-ghost use Rattle.lisp_reading.specs.Reading.{is_whitespace, form, empty, refused, place_turn, place, items_turn, items_after, attempt, outcome, reads_at, reads, IsFramed};
+ghost use Rattle.lisp_reading.specs.Reading.{is_whitespace, form, empty, refused, next_item_turn, next_item, items_turn, items_after, attempt, outcome, reads_at, reads, IsFramed};
 ghost use Rattle.lisp_reading.specs.Depending.{FindsSame};
 ghost use Rattle.lisp_reading.specs.Discarding.{IsDiscarded};
 ghost use Rattle.lisp_reading.specs.Fitting.{IsFitting};
@@ -46,12 +46,13 @@ pub fn empty_texts_are_discarded()
 {}
 
 /// A refusal is at the end of the text at most, and one before the end is the same whatever follows the text. So a reader
-/// may give it as soon as the byte at its place is there.
+/// may give it as soon as the byte at its offset is there.
 pub fn refusals_are_decided()
-    ensures inside { (setting : Setting) (text : List ℕ) (code place : ℕ)
-        → reads setting text ≡ refused code place → place ≤ length text }
-    ensures decided { (setting : Setting) (text more : List ℕ) (code place : ℕ)
-        → reads setting text ≡ refused code place → place < length text → reads setting (text ++ more) ≡ refused code place }
+    ensures inside { (setting : Setting) (text : List ℕ) (number offset : ℕ)
+        → reads setting text ≡ refused number offset → offset ≤ length text }
+    ensures decided { (setting : Setting) (text more : List ℕ) (number offset : ℕ)
+        → reads setting text ≡ refused number offset → offset < length text
+        → reads setting (text ++ more) ≡ refused number offset }
 {}
 
 /// A form with which a byte more was discarded is read again from its own bytes and this one, whatever follows them; and the
@@ -59,10 +60,12 @@ pub fn refusals_are_decided()
 pub fn spaced_forms_are_framed()
     ensures again { (setting : Setting) (text more : List ℕ) (x : Object) (start end next : ℕ)
         → reads setting text ≡ form x start end next → end < next
-        → reads setting (take (next - start) (drop start text) ++ more) ≡ form x 0 (end - start) (next - start) }
+        → reads setting (take (next - start) (drop start text) ++ more)
+        ≡ form x 0 (end - start) (next - start) }
     ensures space { (setting : Setting) (text : List ℕ) (x : Object) (start end next : ℕ)
         → reads setting text ≡ form x start end next → end < next
-        → (c : ℕ) × (rest : List ℕ) × (drop end text ≡ c ∷ rest) × (is_whitespace setting.table c ≡ true) }
+        → (c : ℕ) × (rest : List ℕ) × (drop end text ≡ c ∷ rest)
+        × (is_whitespace setting.table c ≡ true) }
 {}
 
 /// A form that was read in sound packages has a depth of at most 100, and its symbols fit the packages: what the home of a
@@ -83,40 +86,49 @@ pub fn only_what_is_found_matters()
         → reads (record setting { packages = packages }) text ≡ reads setting text }
 {}
 
-/// What is read is what the next byte says, and then what is read after it: before a form, at a place inside a call,
+/// What is read is what the next byte says, and then what is read after it: before a form, before the next item of a call,
 /// among objects, in a text, a line, a block and a number. No number of turns is in it.
 pub fn reading_goes_on()
     ensures form { (setting : Setting) (start : ℕ) (text : List ℕ) → reads_at setting start text
         ≡ outcome setting.table start (λ next cs. reads_at setting next cs)
         (run setting.table setting.limits (attempt setting setting.limits.nesting) 0 text) }
-    ensures place { (setting : Setting) (room : ℕ) (close : Option ℕ) → GiveSame setting.table setting.limits
-        (place setting close (attempt setting room))
-        (place_turn setting.table close (attempt setting room) (λ u. place setting close (attempt setting room)) tt) }
-    ensures items { (setting : Setting) (room close : ℕ) (xs : List Object) → GiveSame setting.table setting.limits
+    ensures next_item { (setting : Setting) (room : ℕ) (close : Option ℕ)
+        → GiveSame setting.table setting.limits (next_item setting close (attempt setting room))
+        (next_item_turn setting.table close (attempt setting room)
+        (λ u. next_item setting close (attempt setting room)) tt) }
+    ensures items { (setting : Setting) (room close : ℕ) (xs : List Object)
+        → GiveSame setting.table setting.limits
         (items_after setting close (attempt setting room) xs)
-        (items_turn setting close (attempt setting room) (items_after setting close (attempt setting room)) xs) }
-    ensures text { (setting : Setting) (terminator : ℕ) (text : List ℕ) → GiveSame setting.table setting.limits
+        (items_turn setting close (attempt setting room)
+        (items_after setting close (attempt setting room)) xs) }
+    ensures text { (setting : Setting) (terminator : ℕ) (text : List ℕ)
+        → GiveSame setting.table setting.limits
         (loop setting.limits (text_turn setting.table terminator) text)
-        (text_turn setting.table terminator (loop setting.limits (text_turn setting.table terminator)) text) }
-    ensures line { (setting : Setting) (keep : Keep) (text : List ℕ) → GiveSame setting.table setting.limits
-        (loop setting.limits (line_turn keep) text) (line_turn keep (loop setting.limits (line_turn keep)) text) }
-    ensures block { (setting : Setting) (levels : ℕ × ℕ) → GiveSame setting.table setting.limits
-        (loop setting.limits block_turn levels) (block_turn (loop setting.limits block_turn) levels) }
-    ensures number { (setting : Setting) (number : Option ℕ) → GiveSame setting.table setting.limits
-        (loop setting.limits number_turn number) (number_turn (loop setting.limits number_turn) number) }
+        (text_turn setting.table terminator
+        (loop setting.limits (text_turn setting.table terminator)) text) }
+    ensures line { (setting : Setting) (keep : Keep) (text : List ℕ)
+        → GiveSame setting.table setting.limits (loop setting.limits (line_turn keep) text)
+        (line_turn keep (loop setting.limits (line_turn keep)) text) }
+    ensures block { (setting : Setting) (levels : ℕ × ℕ)
+        → GiveSame setting.table setting.limits (loop setting.limits block_turn levels)
+        (block_turn (loop setting.limits block_turn) levels) }
+    ensures number { (setting : Setting) (number : Option ℕ)
+        → GiveSame setting.table setting.limits (loop setting.limits number_turn number)
+        (number_turn (loop setting.limits number_turn) number) }
 {}
 
 /// A text is refused under a number of reading alone, 1 to 25, whatever the functions of users answer.
 pub fn refusals_are_of_reading()
-    ensures { (setting : Setting) (text : List ℕ) (code place : ℕ)
-        → reads setting text ≡ refused code place → (END_OF_FILE ≤ code) × (code ≤ OUT_OF_PROFILE) }
+    ensures { (setting : Setting) (text : List ℕ) (number offset : ℕ)
+        → reads setting text ≡ refused number offset
+        → (END_OF_FILE ≤ number) × (number ≤ OUT_OF_PROFILE) }
 {}
 
 /// What is read depends on the registered functions only through their names: where two registries have the same names, the
 /// setting is the same. So where each function of a meaning is registered, a text is read under all its names.
 pub fn only_registered_names_matter()
-    ensures { (limits : Limits) (table : Table) (packages : Packages) (current : Name) (functions : Functions)
-        (names : List (List ℕ))
+    ensures { (limits : Limits) (table : Table) (packages : Packages) (current : Name)
+        (functions : Functions) (names : List (List ℕ))
         → ((name : List ℕ) → IsTrue (is_among functions.names name) → IsTrue (is_among names name))
         → ((name : List ℕ) → IsTrue (is_among names name) → IsTrue (is_among functions.names name))
         → setting_of limits table packages current (named_among names functions)

@@ -1,9 +1,9 @@
 //! What reading is (standard 2.2 to 2.4): which object a text begins with.
 //!
 //! Reading is defined as a plan: a tree that says of each next byte whether it is taken and what is done then. `run` of
-//! specs/Plans.antt says what a plan gives on a text, and alone knows places and the limit of the text. The definition is
+//! specs/Plans.antt says what a plan gives on a text, and alone knows offsets and the limit of the text. The definition is
 //! `reads` of specs/Reading.antt, which says of a text that it begins with a form (its object, its start, its end, and where
-//! the next form begins), that it is empty, or that it is refused, with a number and a place. It rests on a `Setting`
+//! the next form begins), that it is empty, or that it is refused, with a number and an offset. It rests on a `Setting`
 //! (specs/Setting.antt): the limits, the readtable, the packages and the current one, and what the registered functions of
 //! users gather and answer.
 //!

@@ -24,7 +24,7 @@ use Rattle.plist_state.specs.declared.note.Note.TheVariants.{Made, Changed}
 use Rattle.plist_state.specs.State.{Readtables, standard_name}
 use Rattle.plist_state.specs.Shown.{NumberedRest}
 use Rattle.plist_state.specs.Undoing.{table_before, tables_before, undone}
-use Rattle.plist_state.specs.Journal.{IsNoted, IsTableChange, Continues}
+use Rattle.plist_state.specs.Journal.{IsNoted, IsTableChange, IsEntryNote, Continues}
 use Rattle.plist_state.proofs.Notes.{continues_noted, continues_same}
 use Rattle.plist_state.specs.Changes.{writable, put_changed, with_changed, changed, Refused}
 use Rattle.plist_state.proofs.Orders.{name_total, name_exact, name_tied, one_name}
@@ -125,13 +125,12 @@ module _ (tables later : List (Vec ℕ × Table)) (n : Name) (t w : Table)
 -- a change of a character of a readtable, written through `get_mut` and noted with what was there
 pub entry_noted : (ms ks ns : List (List Note)) → ks ≡ ms → (note : Note) → ((t u : NumberedRest) → IsNoted note → undone note u ≡ t → Continues ks t ns u)
     → (tables later : List (Vec ℕ × Table)) (n : Name) (t w : Table) → Some t ≡ lookup (at n) tables → later ≡ set_value (at n) tables w
-    → (name : Vec ℕ) → name.items ≡ n → (c : ℕ) (before e : CharacterEntry) → c < 128 → note ≡ Changed name (Character c before)
-    → ((x : Table) → finite.get (shown tables) n ≡ Some x → before ≡ entry_at x c) → w ≡ with_entry t c e
+    → (c : ℕ) (e : CharacterEntry) → c < 128 → IsEntryNote (shown tables) n c note → w ≡ with_entry t c e
     → (r : NumberedRest) → Continues ms (record r { readtables = shown tables }) ns (record r { readtables = shown later })
-entry_noted ms ks ns same note pushed tables later n t w there holds name named c before e below is was made r =
+entry_noted ms ks ns same note pushed tables later n t w there holds c e below of made r =
     let got : finite.get (shown tables) n ≡ Some t = got_table n tables ∙ sym there in
-    let back : with_entry w c before ≡ t = (λ i. with_entry (made i) c (was t got i)) ∙ put_back t c e in
-    change_noted ms ks ns same note pushed (shown tables) (shown later) n w (put_there tables later n t w there holds) name named t got (Character c before) below is back r
+    let back : with_entry w c of.entry ≡ t = (λ i. with_entry (made i) c (of.was t got i)) ∙ put_back t c e in
+    change_noted ms ks ns same note pushed (shown tables) (shown later) n w (put_there tables later n t w there holds) of.name of.named t got (Character c of.entry) below of.noted back r
 
 -- ---- a change that is taken back
 module _ (tables : List (Vec ℕ × Table)) (n : Name) (change : TableChange) where

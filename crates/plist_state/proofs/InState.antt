@@ -2,19 +2,22 @@
 --     state_listed      one list is changed
 --     world_listed, world_same_err      the world after a change of a list, or after none
 --     row_seen, none_seen      what is seen of a symbol
---     packages_kept, packages_rest, packages_unchanged      the world with other packages, in which no symbol is lost and each keeps its number
-use Rattle.std.proofs.Common.{◌≡◌, ℕ, List, [], None, Some, Result, Ok, Err, sym, ap, subst, ◌∙◌}
-use Rattle.std.specs.Prelude.{OnOk, OnErr, IfErr}
+--     packages_kept, packages_rest, packages_unchanged, packages_changed      the world with other packages, in which no symbol is lost and each keeps its number
+use Rattle.std.proofs.Common.{◌≡◌, ℕ, Bool, List, [], None, Some, Result, Ok, Err, refl, sym, ap, subst, ◌∙◌}
+use Rattle.std.specs.Prelude.{OnOk, OnErr, IfOk, IfErr}
 use Rattle.package_table.specs.Table as packages
-use Rattle.package_table.specs.Table.{symbol_count}
+use Rattle.package_table.specs.declared.error.PackageError.{PackageError}
+use Rattle.package_table.specs.Table.{Table, symbol_count}
+use Rattle.package_table.specs.Changes.{Gives, RunsOutOnlyIf, Yields}
 use Rattle.package_table.specs.Numbers.{Numbered, Tables, numbered, number_of}
 use Rattle.package_table.specs.Numbering.{IsNumbered, Keeps}
-use Rattle.package_table.specs.Growth.{Grows}
+use Rattle.package_table.specs.Growth.{Grows, Tells}
 use Rattle.plist_state.specs.declared.note.Note.{Note}
 use Rattle.plist_state.specs.declared.world.World.TheInside.{Inside}
 use Rattle.plist_state.specs.Properties.{Symbol, Plist, Properties, list_at, with_list}
 use Rattle.plist_state.specs.State.{WorldState, Worlds}
 use Rattle.plist_state.specs.Changes.{plist, with_packages}
+use Rattle.plist_state.specs.PackageCalls.{ChangesPackages}
 use Rattle.plist_state.specs.Lists.{row_of, with_row, lists}
 use Rattle.plist_state.specs.Shown.{NumberedRest, rest_of}
 use Rattle.plist_state.specs.Undoing.{rests_at}
@@ -95,3 +98,20 @@ module _ (a : Inside) (ts : Tables) (grows : Grows a.packages.0 ts.0) (keeps : K
 pub packages_unchanged : {A E : Type 0} (res : Result A E) (a : Inside) (ts : Tables) → IfErr res (λ _. ts ≡ a.packages) → (w : Worlds) → worlds_of a ≡ w → IfErr res (λ _. worlds_of (record a { packages = ts }) ≡ w)
 packages_unchanged (Ok x) a ts same w seen = tt
 packages_unchanged (Err e) a ts same w seen = ap (λ (ts : Tables). worlds_of (record a { packages = ts })) same ∙ seen
+
+-- what a call of the packages answers, of the world
+pub packages_changed : (a : Inside) (ts : Tables) → Grows a.packages.0 ts.0 → Keeps (numbered a.packages) (numbered ts) → IsNumbered (numbered ts) (symbol_count ts.0) → ts.1.marked ≡ a.packages.1.marked → IsKept a
+    → (res : Result Bool PackageError) (after : Table → Result Table PackageError) (changes : Table → Bool)
+    → Gives (λ _. ts.0) res (after a.packages.0) → Yields res (changes a.packages.0) → IfErr res (RunsOutOnlyIf (changes a.packages.0)) → IfOk res (λ changed. Tells changed a.packages.0 ts.0) → IfErr res (λ _. ts ≡ a.packages)
+    → (w : Worlds) → worlds_of a ≡ w → ChangesPackages w (worlds_of (record a { packages = ts })) res (after w.0.packages) (changes w.0.packages)
+packages_changed a ts grows keeps counted marked kept res after changes gives changed memory exactly unchanged w seen =
+    subst (λ (v : Worlds). ChangesPackages v (worlds_of (record a { packages = ts })) res (after v.0.packages) (changes v.0.packages)) seen
+    (record {
+      gives = gives;
+      changed = changed;
+      memory = memory;
+      exactly = exactly;
+      rest = packages_rest a ts grows keeps counted marked kept (worlds_of a) refl;
+      grows = grows;
+      unchanged = packages_unchanged res a ts unchanged (worlds_of a) refl;
+    })

@@ -1,5 +1,5 @@
 pub mod Orders
-pub mod Places
+pub mod Indices
 pub mod Lists
 pub mod ListRows
 pub mod ByName

@@ -183,14 +183,14 @@ module _ (before : List (Vec Note)) (m : Vec Note) (ms : List (Vec Note)) (split
       (left.0, subst (λ r. IsJournal (marks_of before) r rows) (sym undoes) left.1)
 
 module _ (before : List (List Note)) (u : NumberedRest) (all rest : List NumberedRest) (mark : ℕ) (is : all ≡ rests_at before u ++ u ∷ rest) (here : length before ≡ mark) where
-  place : length (rests_at before u) ≡ mark
-  place = length-rests before u ∙ here
+  index_is : length (rests_at before u) ≡ mark
+  index_is = length-rests before u ∙ here
 
   past_marks : rests_at before u ≡ take mark all
-  past_marks = sym (ap (λ k. take k all) (sym place) ∙ ap (take (length (rests_at before u))) is ∙ take_seam (rests_at before u) (u ∷ rest))
+  past_marks = sym (ap (λ k. take k all) (sym index_is) ∙ ap (take (length (rests_at before u))) is ∙ take_seam (rests_at before u) (u ∷ rest))
 
   at_mark : slice_get all mark ≡ Some u
-  at_mark = ap (slice_get all) (sym place) ∙ ap (λ xs. slice_get xs (length (rests_at before u))) is ∙ get_seam (rests_at before u) u rest
+  at_mark = ap (slice_get all) (sym index_is) ∙ ap (λ xs. slice_get xs (length (rests_at before u))) is ∙ get_seam (rests_at before u) u rest
 
 -- the mark that was to be gone back to
 module _ (before : List (Vec Note)) (m : Vec Note) (ms : List (Vec Note)) (split : ms ≡ before ++ m ∷ []) (t u : NumberedRest) (undoes : u ≡ all_undone m.items t)

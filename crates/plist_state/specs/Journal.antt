@@ -1,7 +1,10 @@
 -- What contracts see of the journal, and what holds of it.
-use Rattle.std.specs.Prelude.{◌≡◌, ℕ, ◌<◌, ◌≤◌, List, [], ◌∷◌, length, map}
+use Rattle.std.specs.Prelude.{◌≡◌, ℕ, ◌<◌, ◌≤◌, Some, List, [], ◌∷◌, length, map}
+use Rattle.std.specs.FinMap as finite
 use Rattle.std.specs.Global.{Vec}
 use Rattle.std.specs.Vec.{vec_len, vec_capacity}
+use Rattle.readtable_core.specs.Tables.{CharacterEntry, Table, entry_at}
+use Rattle.package_table.specs.Table.{Name}
 use Rattle.plist_state.specs.declared.note.TableChange.{TableChange}
 use Rattle.plist_state.specs.declared.note.TableChange.TheVariants.{Over, Letters, Character}
 use Rattle.plist_state.specs.declared.note.Note.{Note}
@@ -27,6 +30,14 @@ abbrev pub IsTableChange : TableChange → Type 0
 IsTableChange (Over before) = Unit {0}
 IsTableChange (Letters letters) = Unit {0}
 IsTableChange (Character c entry) = c < 128
+
+-- the note of what is at a character of the readtable of this name
+pub record IsEntryNote (m : Readtables) (n : Name) (c : ℕ) (note : Note) : Type 0 where
+  pub name : Vec ℕ
+  pub entry : CharacterEntry
+  pub named : name.items ≡ n
+  pub noted : note ≡ Changed name (Character c entry)
+  pub was : (t : Table) → finite.get m n ≡ Some t → entry ≡ entry_at t c
 
 -- what was overwritten can be put back
 abbrev pub IsNoted : Note → Type 0

@@ -14,9 +14,9 @@ abbrev pub IsProperRows : Rows → Type 0
 IsProperRows rows = (i : ℕ) → IfSome (row_at rows i) IsProperRow
 
 abbrev pub IsProperChange : PropertyChange → Type 0
-IsProperChange (Set place value) = is_proper value ≡ true
+IsProperChange (Set index value) = is_proper value ≡ true
 IsProperChange Added = Unit {0}
-IsProperChange (Removed place property) = is_proper property.value ≡ true
+IsProperChange (Removed index property) = is_proper property.value ≡ true
 
 -- the rows of one hold what those of the other held, in as much memory
 pub record IsWider (rows later : Rows) : Type 0 where

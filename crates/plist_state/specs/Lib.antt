@@ -3,6 +3,7 @@ pub mod State
 pub mod Lists
 pub mod Codes
 pub mod Changes
+pub mod PackageCalls
 pub mod Readers
 pub mod Refused
 pub mod Sound

@@ -6,9 +6,12 @@ use Rattle.package_table.specs.Table.{Name}
 use Rattle.plist_state.specs.Properties.{Symbol}
 use Rattle.plist_state.specs.State.{WorldState}
 
--- symbols as a world has them
-abbrev pub symbols_of : List (Bor Name × Bor Name) → List Symbol
-symbols_of symbols = map (λ s. (s.0.now, s.1.now)) symbols
+-- a symbol whose home and name are borrowed, and such symbols
+abbrev pub borrowed_symbol : Bor Name × Bor Name → Symbol
+borrowed_symbol s = (s.0.now, s.1.now)
+
+abbrev pub borrowed_symbols : List (Bor Name × Bor Name) → List Symbol
+borrowed_symbols symbols = map borrowed_symbol symbols
 
 -- the names of the readtables, sorted by their bytes
 abbrev pub readtable_names : WorldState → List Name

@@ -18,13 +18,13 @@ use Rattle.plist_state.specs.Lists.{row_of, with_row}
 use Rattle.plist_state.specs.State.{Readtables}
 use Rattle.plist_state.specs.Shown.{property_of, NumberedRest}
 
--- with the value at a place, if there is such a place
+-- with the value at an index, if the list reaches so far
 abbrev pub with_value_at : Plist → ℕ → Object → Plist
 with_value_at [] k x = []
 with_value_at (p ∷ ps) zero x = (p.0, x) ∷ ps
 with_value_at (p ∷ ps) (suc k) x = p ∷ with_value_at ps k x
 
--- with the property before the one at a place, or last where there is no such place
+-- with the property before the one at an index, or last where the list does not reach so far
 abbrev pub with_inserted : Plist → ℕ → Symbol × Object → Plist
 with_inserted [] k p = p ∷ []
 with_inserted (q ∷ ps) zero p = p ∷ q ∷ ps
@@ -32,9 +32,9 @@ with_inserted (q ∷ ps) (suc k) p = q ∷ with_inserted ps k p
 
 -- the list before the change
 abbrev pub list_before : PropertyChange → Plist → Plist
-list_before (Set place value) ps = with_value_at ps place (object_of value)
+list_before (Set index value) ps = with_value_at ps index (object_of value)
 list_before Added ps = take (length ps - 1) ps
-list_before (Removed place property) ps = with_inserted ps place (property_of property)
+list_before (Removed index property) ps = with_inserted ps index (property_of property)
 
 -- the change leads back from the later list to the one before
 abbrev pub GoesBack : Plist → Plist → PropertyChange → Type 0

@@ -1,6 +1,6 @@
 //! The world: packages, the property lists of symbols, readtables by name, and which package and which readtable are current.
 //!
-//! Contracts see a world as the pair of its state (`State` of `specs/State.antt`) and the list of the states that were
+//! Contracts see a world as the pair of its state (`WorldState` of `specs/State.antt`) and the list of the states that were
 //! marked. A state has the packages, a finite map from symbols to their property lists, of which none is empty, a finite map
 //! from names to readtables, and the two current names. `IsSound` (specs/Sound.antt) says what holds of each state, and
 //! `World::soundness` gives it. What each call makes of a state, or why it refuses, is a definition of specs/Changes.antt, or
@@ -26,7 +26,7 @@
 //! - `symbol`, `property`: `Symbol`, `Property`
 //! - `error`: `ReadtableError`
 //! - `stored`: what a world keeps besides its packages, over `rows` (property lists by number) and `tables` (readtables by
-//!   name)
+//!   name; `copies`: those that are copied)
 //!
 //! Proofs of crates above may cite these lemmas; they keep their names. On soundness (proofs/Soundness.antt):
 //! `sound_packages`, `sound_put`, `sound_removed`, `sound_in_package`, `sound_in_readtable`, `sound_table`, `symbol_from`,
@@ -37,6 +37,7 @@
 //! `length_marked`, `marked_push`, `marked_take`, `marked_get`.
 #![tactic(auto)]
 
+mod copies;
 mod error;
 mod journal;
 mod marks;

@@ -8,23 +8,23 @@ use crate::undo::undo_to;
 use std::alloc::AllocError;
 
 impl World {
-    /// Marks the state as it is, so that `back_to` can go back to it, and gives the place of the mark. Nothing is copied: from
-    /// then on each call that writes notes what it overwrites.
+    /// Marks the state as it is, so that `back_to` can go back to it, and gives its index among the marks. Nothing is
+    /// copied: from then on each call that writes notes what it overwrites.
     ///
     /// # Errors
     /// `AllocError` where memory runs out. Nothing has changed then.
     pub fn mark(&mut self) -> Result<usize, AllocError>
-        ensures ok { IfOk result (λ place. (place ≡ length self.old.1)
+        ensures ok { IfOk result (λ mark. (mark ≡ length self.old.1)
             × (self.new ≡ (self.old.0, self.old.1 ++ self.old.0 ∷ []))) }
         ensures err { IfErr result (λ _. self.new ≡ self.old) }
     {
         self.marks.reserve(1)?;
-        let place = self.packages.mark()?;
+        let mark = self.packages.mark()?;
         self.marks.push_reserved(Vec::new(self.alloc));
-        Ok(place)
+        Ok(mark)
     }
 
-    /// How many marks there are; their places are the numbers below. Takes no memory.
+    /// How many marks there are; their indices are the numbers below that. Takes no memory.
     pub fn mark_count(&self) -> usize
         ensures { result ≡ length self.now.1 }
     {

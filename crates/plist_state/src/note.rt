@@ -6,12 +6,12 @@ use readtable_core::{Case, CharacterSlot, Readtable};
 /// What has changed in a property list.
 #[derive(Drop)]
 pub(crate) enum PropertyChange {
-    /// The value at a place was set; before, this one was there.
-    Set { place: usize, value: Datum },
+    /// The value at an index was set; before, this one was there.
+    Set { index: usize, value: Datum },
     /// A property was added at the end.
     Added,
-    /// This property was taken out of its place.
-    Removed { place: usize, property: Property },
+    /// This property was taken out, which stood at an index.
+    Removed { index: usize, property: Property },
 }
 
 /// What has changed in a readtable.

@@ -2,9 +2,10 @@
 ghost use Rattle.std.specs.Prelude.{◌≡◌, ◌<◌, All, Some, IfErr, IfOk};
 ghost use Rattle.package_table.specs.Table.{IsPresent};
 ghost use Rattle.package_table.specs.Lookup.{found};
-ghost use Rattle.package_table.specs.Changes.{after_make, after_intern, after_export, after_import, after_use, intern_changes, export_changes, import_changes, use_changes, Gives, RunsOutOnlyIf, Yields};
+ghost use Rattle.package_table.specs.Changes.{after_make, after_intern, after_export, after_import, after_use, intern_changes, export_changes, import_changes, use_changes, Gives};
 ghost use Rattle.package_table.specs.Growth.{Grows, Tells, IsSameBut};
 ghost use Rattle.plist_state.specs.Changes.{with_packages, after_in_package};
+ghost use Rattle.plist_state.specs.PackageCalls.{ChangesPackages};
 
 use crate::World;
 use crate::journal::{push_note, reserve_named};
@@ -63,16 +64,9 @@ impl World {
     /// # Errors
     /// Those of `Packages::export`. Nothing has changed then.
     pub fn export(&mut self, owner: &[u8], home: &[u8], name: &[u8]) -> Result<bool, PackageError>
-        ensures gives { Gives (λ _. self.new.0.packages) result
-            (after_export self.old.0.packages owner.now home.now name.now) }
-        ensures changed { Yields result (export_changes self.old.0.packages owner.now name.now) }
-        ensures memory { IfErr result
-            (RunsOutOnlyIf (export_changes self.old.0.packages owner.now name.now)) }
-        ensures exactly { IfOk result
-            (λ changed. Tells changed self.old.0.packages self.new.0.packages) }
-        ensures rest { self.new ≡ (with_packages self.old.0 self.new.0.packages, self.old.1) }
-        ensures grows { Grows self.old.0.packages self.new.0.packages }
-        ensures unchanged { IfErr result (λ _. self.new ≡ self.old) }
+        ensures { ChangesPackages self.old self.new result
+            (after_export self.old.0.packages owner.now home.now name.now)
+            (export_changes self.old.0.packages owner.now name.now) }
     {
         let result = self.packages.export(owner, home, name);
         self.packages.soundness();
@@ -87,16 +81,9 @@ impl World {
     /// Those of `Packages::import`. Nothing has changed then.
     pub fn import(&mut self, owner: &[u8], home: &[u8], name: &[u8]) -> Result<bool, PackageError>
         requires { IsPresent self.old.0.packages home.now name.now home.now }
-        ensures gives { Gives (λ _. self.new.0.packages) result
-            (after_import self.old.0.packages owner.now home.now name.now) }
-        ensures changed { Yields result (import_changes self.old.0.packages owner.now name.now) }
-        ensures memory { IfErr result
-            (RunsOutOnlyIf (import_changes self.old.0.packages owner.now name.now)) }
-        ensures exactly { IfOk result
-            (λ changed. Tells changed self.old.0.packages self.new.0.packages) }
-        ensures rest { self.new ≡ (with_packages self.old.0 self.new.0.packages, self.old.1) }
-        ensures grows { Grows self.old.0.packages self.new.0.packages }
-        ensures unchanged { IfErr result (λ _. self.new ≡ self.old) }
+        ensures { ChangesPackages self.old self.new result
+            (after_import self.old.0.packages owner.now home.now name.now)
+            (import_changes self.old.0.packages owner.now name.now) }
     {
         let result = self.packages.import(owner, home, name);
         self.packages.soundness();
@@ -110,16 +97,9 @@ impl World {
     /// # Errors
     /// Those of `Packages::use_package`. Nothing has changed then.
     pub fn use_package(&mut self, owner: &[u8], used: &[u8]) -> Result<bool, PackageError>
-        ensures gives { Gives (λ _. self.new.0.packages) result
-            (after_use self.old.0.packages owner.now used.now) }
-        ensures changed { Yields result (use_changes self.old.0.packages owner.now used.now) }
-        ensures memory { IfErr result
-            (RunsOutOnlyIf (use_changes self.old.0.packages owner.now used.now)) }
-        ensures exactly { IfOk result
-            (λ changed. Tells changed self.old.0.packages self.new.0.packages) }
-        ensures rest { self.new ≡ (with_packages self.old.0 self.new.0.packages, self.old.1) }
-        ensures grows { Grows self.old.0.packages self.new.0.packages }
-        ensures unchanged { IfErr result (λ _. self.new ≡ self.old) }
+        ensures { ChangesPackages self.old self.new result
+            (after_use self.old.0.packages owner.now used.now)
+            (use_changes self.old.0.packages owner.now used.now) }
     {
         let result = self.packages.use_package(owner, used);
         self.packages.soundness();

@@ -4,7 +4,7 @@ ghost use Rattle.std.specs.FinMap as finite;
 ghost use Rattle.package_table.specs.Numbers.{numbered};
 ghost use Rattle.package_table.specs.Readers.{own_names};
 ghost use Rattle.plist_state.specs.Lists.{list_of, lists};
-ghost use Rattle.plist_state.specs.Readers.{readtable_names, symbols_of, symbols_with_properties};
+ghost use Rattle.plist_state.specs.Readers.{readtable_names, borrowed_symbols, symbols_with_properties};
 ghost use Rattle.plist_state.specs.Shown.{lists_of, readtables_of};
 
 use crate::numbers::number_of;
@@ -49,7 +49,7 @@ fn push_owners<'a>(
     home: &'a [u8],
     symbols: &mut Vec<(&'a [u8], &'a [u8])>,
 ) -> Result<(), AllocError>
-    ensures { OnOk result (symbols_of symbols.new.items ≡ symbols_of symbols.old.items
+    ensures { OnOk result (borrowed_symbols symbols.new.items ≡ borrowed_symbols symbols.old.items
         ++ filter (λ x. is_some (list_of (numbered packages.now) (lists_of rows.now) x)) (map (λ n. (home.now, n)) (own_names packages.now.0 home.now))) }
 {
     let Ok(names) = packages.own_names(alloc, home) else {
@@ -69,7 +69,7 @@ fn owners<'a>(
     packages: &'a Packages,
     rows: &BTreeMap<u32, Vec<Property>>,
 ) -> Result<Vec<(&'a [u8], &'a [u8])>, AllocError>
-    ensures { IfOk result (λ symbols. symbols_of symbols.items
+    ensures { IfOk result (λ symbols. borrowed_symbols symbols.items
         ≡ finite.keys (lists (numbered packages.now) (lists_of rows.now))) }
 {
     let mut symbols = Vec::new(alloc);
@@ -81,7 +81,7 @@ fn owners<'a>(
 
 // The homes and the names of symbols.
 fn copies(alloc: Global, symbols: &[(&[u8], &[u8])]) -> Result<Items<(Bytes, Bytes)>, AllocError>
-    ensures { IfOk result (λ copies. copies ≡ symbols_of symbols.now) }
+    ensures { IfOk result (λ copies. copies ≡ borrowed_symbols symbols.now) }
 {
     let mut copies = Items::new(alloc);
     for (home, name) in symbols {
@@ -110,7 +110,7 @@ impl World {
     /// The same symbols in the same order, each as the world has its home and its name: no name is copied.
     pub fn owners(&self, alloc: Global) -> Result<Vec<(&[u8], &[u8])>, AllocError>
         ensures { IfOk result
-            (λ symbols. symbols_of symbols.items ≡ symbols_with_properties self.now.0) }
+            (λ symbols. borrowed_symbols symbols.items ≡ symbols_with_properties self.now.0) }
     {
         owners(alloc, &self.packages, &self.stored.properties)
     }

@@ -5,6 +5,7 @@ ghost use Rattle.package_table.specs.Table.{keyword};
 ghost use Rattle.plist_state.specs.Changes.{with_case, with_macro, with_dispatching, with_dispatch, with_syntax, with_copy, in_state, after_in_readtable, Gives};
 ghost use Rattle.plist_state.specs.Sound.{IsSymbol};
 
+use crate::copies::copy;
 use crate::journal::{push_note, reserve_named};
 use crate::note::Note;
 use crate::{ReadtableError, World, tables};
@@ -191,7 +192,7 @@ impl World {
         ensures marked { self.new.1 ≡ self.old.1 }
         ensures unchanged { IfErr result (λ _. self.new ≡ self.old) }
     {
-        tables::copy(
+        copy(
             self.alloc,
             &mut self.stored.readtables,
             &mut self.marks,

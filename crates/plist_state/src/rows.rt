@@ -25,8 +25,8 @@ fn is_same(a: &Symbol, b: &Symbol) -> bool
     matches!(a.cmp(b), Ordering::Equal)
 }
 
-// The place of the indicator in a row.
-fn place_of(row: &[Property], indicator: &Symbol) -> Option<usize>
+// The index of the indicator in a row.
+fn index_of(row: &[Property], indicator: &Symbol) -> Option<usize>
     ensures { result
         ≡ position (λ p. same_symbol (symbol_of indicator.now) (symbol_of p.indicator)) row.now }
 {
@@ -68,8 +68,8 @@ pub(crate) fn value<'a>(
     ensures proper { IfSome result (λ d. is_proper d.now ≡ true) }
 {
     let row = row(rows, number);
-    match place_of(row, indicator) {
-        Some(place) => Some(&row[place].value),
+    match index_of(row, indicator) {
+        Some(index) => Some(&row[index].value),
         None => None,
     }
 }
@@ -89,10 +89,10 @@ fn write(
     ensures room { vec_capacity row.old ≤ vec_capacity row.new }
     ensures err { OnErr result (row.new.items ≡ row.old.items) }
 {
-    match place_of(row.as_slice(), &indicator) {
-        Some(place) => {
-            let value = mem::replace(&mut row[place].value, value);
-            Ok(PropertyChange::Set { place, value })
+    match index_of(row.as_slice(), &indicator) {
+        Some(index) => {
+            let value = mem::replace(&mut row[index].value, value);
+            Ok(PropertyChange::Set { index, value })
         }
         None => {
             row.push(Property { indicator, value })?;
@@ -112,10 +112,10 @@ fn cut(row: &mut Vec<Property>, indicator: &Symbol) -> Option<PropertyChange>
     ensures former { IsProperRow row.old → IfSome result IsProperChange }
     ensures room { vec_capacity row.old ≤ vec_capacity row.new }
 {
-    match place_of(row.as_slice(), indicator) {
-        Some(place) => {
-            let property = row.remove(place);
-            Some(PropertyChange::Removed { place, property })
+    match index_of(row.as_slice(), indicator) {
+        Some(index) => {
+            let property = row.remove(index);
+            Some(PropertyChange::Removed { index, property })
         }
         None => None,
     }
@@ -130,17 +130,17 @@ fn revert(row: &mut Vec<Property>, change: PropertyChange)
     ensures room { vec_capacity row.old ≤ vec_capacity row.new }
 {
     match change {
-        PropertyChange::Set { place, value } => {
-            if place < row.len() {
-                row[place].value = value;
+        PropertyChange::Set { index, value } => {
+            if index < row.len() {
+                row[index].value = value;
             }
         }
         PropertyChange::Added => {
             let _added = row.pop();
         }
-        PropertyChange::Removed { place, property } => {
-            let place = place.min(row.len());
-            if let Err(_) = row.insert(place, property) {
+        PropertyChange::Removed { index, property } => {
+            let index = index.min(row.len());
+            if let Err(_) = row.insert(index, property) {
                 unreachable!()
             }
         }

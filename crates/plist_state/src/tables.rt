@@ -1,17 +1,17 @@
 //! Readtables by their names: look-ups, single changes, and how each is taken back. A change that is made is noted.
-ghost use Rattle.std.specs.Prelude.{ℕ, ◌≡◌, ◌≢◌, ◌<◌, Ok, Err, Some, None, IsTrue, IsFalse, IfOk, IfErr, MatchResult, OnOk, OnErr, IsOk};
-ghost use Rattle.std.specs.Option.{option_map, option_map_or};
+ghost use Rattle.std.specs.Prelude.{◌≡◌, ◌≢◌, ◌<◌, Ok, Err, Some, None, IsTrue, IsFalse, IfOk, IfErr, MatchResult, OnOk, IsOk};
+ghost use Rattle.std.specs.Option.{option_map};
 ghost use Rattle.std.specs.FinMap as finite;
 ghost use Rattle.readtable_core.specs.Names.{is_dispatch_name};
 ghost use Rattle.readtable_core.specs.Tables.{Table, entry_at};
 ghost use Rattle.readtable_core.specs.Changes.{with_entry, dispatch_refusal};
 ghost use Rattle.plist_state.specs.declared.error.ReadtableError.TheVariants.{OutOfMemory};
-ghost use Rattle.plist_state.specs.declared.note.TableChange.TheVariants.{Over, Character};
-ghost use Rattle.plist_state.specs.declared.note.Note.TheVariants.{Made, Changed};
-ghost use Rattle.plist_state.specs.Changes.{writable, with_case, with_macro, with_dispatching, with_dispatch, with_syntax, with_copy, refused_as, Gives};
+ghost use Rattle.plist_state.specs.declared.note.TableChange.TheVariants.{Character};
+ghost use Rattle.plist_state.specs.declared.note.Note.TheVariants.{Changed};
+ghost use Rattle.plist_state.specs.Changes.{writable, with_case, with_macro, with_dispatching, with_dispatch, with_syntax, refused_as, Gives};
 ghost use Rattle.plist_state.specs.Shown.{readtables_of};
 ghost use Rattle.plist_state.specs.Undoing.{table_before, tables_before};
-ghost use Rattle.plist_state.specs.Journal.{marks_of, IsTableChange, ContinuesTables};
+ghost use Rattle.plist_state.specs.Journal.{marks_of, has_room, IsTableChange, IsEntryNote, ContinuesTables};
 
 use crate::ReadtableError;
 use crate::journal::{push_note, reserve_named};
@@ -103,6 +103,25 @@ fn was_at(name: Vec<u8>, c: u8, entry: CharacterSlot) -> Note
     Note::Changed { name, change }
 }
 
+// The note of what is at a character of the readtable of this name, which is there. The newest mark has room for it.
+fn entry_note(
+    alloc: Global,
+    tables: &BTreeMap<Vec<u8>, Readtable>,
+    marks: &mut Vec<Vec<Note>>,
+    name: &[u8],
+    c: u8,
+) -> Result<Note, AllocError>
+    requires character { c < 128 }
+    requires there { IsTrue (finite.contains_key (readtables_of tables.now) name.now) }
+    ensures note { IfOk result (IsEntryNote (readtables_of tables.now) name.now c) }
+    ensures same { marks_of marks.new.items ≡ marks_of marks.old.items }
+    ensures room { OnOk result (has_room marks.new.items) }
+{
+    let entry = copy_entry(alloc, tables, name, c)?;
+    let noted = reserve_named(alloc, marks, name)?;
+    Ok(was_at(noted, c, entry))
+}
+
 /// Sets the case of a readtable.
 pub(crate) fn set_case(
     alloc: Global,
@@ -153,13 +172,12 @@ pub(crate) fn set_macro(
         (marks_of marks.new.items) (readtables_of tables.new) }
 {
     check_writable(tables, name)?;
-    let entry = copy_entry(alloc, tables, name, c)?;
-    let noted = reserve_named(alloc, marks, name)?;
+    let note = entry_note(alloc, tables, marks, name, c)?;
     let Some(table) = tables.get_mut(name) else {
         unreachable!()
     };
     table.set_macro(c, function, non_terminating);
-    push_note(marks, was_at(noted, c, entry));
+    push_note(marks, note);
     Ok(())
 }
 
@@ -180,15 +198,14 @@ pub(crate) fn make_dispatch(
         (marks_of marks.new.items) (readtables_of tables.new) }
 {
     check_writable(tables, name)?;
-    let entry = copy_entry(alloc, tables, name, c)?;
-    let noted = reserve_named(alloc, marks, name)?;
+    let note = entry_note(alloc, tables, marks, name, c)?;
     let Some(table) = tables.get_mut(name) else {
         unreachable!()
     };
     if let Err(_) = table.make_dispatch(c, non_terminating) {
         return Err(ReadtableError::OutOfMemory);
     }
-    push_note(marks, was_at(noted, c, entry));
+    push_note(marks, note);
     Ok(())
 }
 
@@ -213,15 +230,14 @@ pub(crate) fn set_dispatch(
 {
     check_writable(tables, name)?;
     check_dispatch(tables, name, c, sub)?;
-    let entry = copy_entry(alloc, tables, name, c)?;
-    let noted = reserve_named(alloc, marks, name)?;
+    let note = entry_note(alloc, tables, marks, name, c)?;
     let Some(table) = tables.get_mut(name) else {
         unreachable!()
     };
     if let Err(_) = table.set_dispatch(c, sub, function) {
         unreachable!()
     }
-    push_note(marks, was_at(noted, c, entry));
+    push_note(marks, note);
     Ok(())
 }
 
@@ -273,93 +289,6 @@ pub(crate) fn set_syntax(
     let before = put_entry(tables, to, c, entry);
     push_note(marks, was_at(noted, c, before));
     Ok(())
-}
-
-/// Makes a readtable that is a copy of another, or writes it over.
-pub(crate) fn copy(
-    alloc: Global,
-    tables: &mut BTreeMap<Vec<u8>, Readtable>,
-    marks: &mut Vec<Vec<Note>>,
-    from: &[u8],
-    to: &[u8],
-) -> Result<(), ReadtableError>
-    ensures gives { Gives (λ _. readtables_of tables.new) result
-        (with_copy (readtables_of tables.old) from.now to.now) }
-    ensures unchanged { IfErr result (λ _. readtables_of tables.new ≡ readtables_of tables.old) }
-    ensures marked { ContinuesTables (marks_of marks.old.items) (readtables_of tables.old)
-        (marks_of marks.new.items) (readtables_of tables.new) }
-{
-    check_copy(tables, from, to)?;
-    let copied = match table(tables, from) {
-        Some(other) => other.copy(alloc)?,
-        None => unreachable!(),
-    };
-    let noted = reserve_named(alloc, marks, to)?;
-    let to = Vec::from_slice(alloc, to)?;
-    let before = put_table(tables, to, copied)?;
-    push_note(marks, was_table(noted, before));
-    Ok(())
-}
-
-// Puts a readtable at a name, and gives what was there.
-fn put_table(
-    tables: &mut BTreeMap<Vec<u8>, Readtable>,
-    name: Vec<u8>,
-    table: Readtable,
-) -> Result<Option<Readtable>, ReadtableError>
-    ensures ok { OnOk result
-        (readtables_of tables.new ≡ finite.insert (readtables_of tables.old) name.items table) }
-    ensures before { IfOk result
-        (λ before. before ≡ finite.get (readtables_of tables.old) name.items) }
-    ensures err { IfErr result
-        (λ e. (e ≡ OutOfMemory) × (readtables_of tables.new ≡ readtables_of tables.old)) }
-{
-    match tables.insert(name, table) {
-        Ok(before) => Ok(before),
-        Err(_) => Err(ReadtableError::OutOfMemory),
-    }
-}
-
-// The note that this was the readtable of this name, or that there was none.
-fn was_table(name: Vec<u8>, before: Option<Readtable>) -> Note
-    ensures { result ≡ option_map_or (λ t. Changed name (Over t)) before (Made name) }
-{
-    match before {
-        Some(table) => Note::Changed {
-            name,
-            change: TableChange::Over(table),
-        },
-        None => Note::Made(name),
-    }
-}
-
-// The first reason to refuse a copy.
-fn check_copy(
-    tables: &BTreeMap<Vec<u8>, Readtable>,
-    from: &[u8],
-    to: &[u8],
-) -> Result<(), ReadtableError>
-    ensures { let m = readtables_of tables.now in
-        MatchResult result (λ _. IsOk (with_copy m from.now to.now))
-        (λ e. (with_copy m from.now to.now ≡ Err e) × (e ≢ OutOfMemory)) }
-{
-    if table(tables, from).is_none() {
-        return Err(ReadtableError::NoReadtable);
-    }
-    if to == STANDARD {
-        return Err(ReadtableError::StandardReadtable);
-    }
-    if table(tables, to).is_none() && count(tables) >= MAX_READTABLES {
-        return Err(ReadtableError::Limit);
-    }
-    Ok(())
-}
-
-// The number of readtables.
-fn count(tables: &BTreeMap<Vec<u8>, Readtable>) -> usize
-    ensures { result ≡ finite.len (readtables_of tables.now) }
-{
-    tables.len()
 }
 
 // Takes a change of a readtable back.

@@ -25,7 +25,7 @@ pub struct World {
     pub(crate) alloc: Global,
     pub(crate) packages: Packages,
     pub(crate) stored: Stored,
-    // What changed in the rest since each mark, up to the next one. The packages have marks of their own at the same places.
+    // What changed in the rest since each mark, up to the next one. The packages have marks of their own, as many.
     pub(crate) marks: Vec<Vec<Note>>,
 }
 

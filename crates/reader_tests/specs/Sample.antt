@@ -21,14 +21,14 @@ abbrev pub is_in_range : ℤ → Bool
 is_in_range (pos n) = nat_lt n (2 ^ 127)
 is_in_range (negsuc n) = nat_lt n (2 ^ 127)
 
-abbrev pub scaled : Option ℕ → Material → MacroAnswer
-scaled (Some n) (one (integer i)) = if is_in_range (i *ℤ pos n) then value (integer (i *ℤ pos n)) else refused 2
-scaled _ _ = refused 2
+abbrev pub scale_answer : Option ℕ → Material → MacroAnswer
+scale_answer (Some n) (one (integer i)) = if is_in_range (i *ℤ pos n) then value (integer (i *ℤ pos n)) else refused 2
+scale_answer _ _ = refused 2
 
 abbrev pub sample_answer : List ℕ → MacroCall → MacroAnswer
 sample_answer name call =
     if same_name (codes "CLOSE") name then refused 1
-    else (if same_name (codes "SCALE") name then scaled call.number call.gathered
+    else (if same_name (codes "SCALE") name then scale_answer call.number call.gathered
     else no_value)
 
 -- the three functions

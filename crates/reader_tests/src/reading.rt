@@ -1,4 +1,4 @@
-//! Rows: forms, empty texts and refusals with their places, a byte at a time, and the laws.
+//! Rows: forms, empty texts and refusals with their offsets, a byte at a time, and the laws.
 ghost use Rattle.package_table.specs.Table.{IsPackage};
 
 mod calls;
@@ -67,7 +67,7 @@ pub fn read(rt: &HostRuntime, text: &[u8]) -> Result<ReadOutcome, Fail> {
     Ok(outcome)
 }
 
-// The number and the place of a refusal.
+// The number and the offset of a refusal.
 fn refused(rt: &HostRuntime, text: &[u8]) -> Result<(usize, usize), Fail> {
     match read(rt, text)? {
         ReadOutcome::Refused { code, at } => Ok((usize::from(code), at)),
@@ -101,7 +101,7 @@ fn number(row: &str) -> (usize, &str) {
     (word.parse().unwrap_or(usize::MAX), rest)
 }
 
-// A number, a place, and the text that is refused so.
+// A number, an offset, and the text that is refused so.
 const REFUSED: &str = "\
 1,2,(A
 1,2,\"A
@@ -151,8 +151,8 @@ const REFUSED: &str = "\
 fn texts_that_are_refused(rt: HostRuntime) -> Result<(), Fail> {
     for row in REFUSED.split('\n') {
         let (code, rest) = number(row);
-        let (place, text) = number(rest);
-        assert!(rt; refused(&rt, text.as_bytes())? == (code, place), "{row}");
+        let (offset, text) = number(rest);
+        assert!(rt; refused(&rt, text.as_bytes())? == (code, offset), "{row}");
     }
     assert!(rt; refused(&rt, b"A\xC3")? == (2, 1));
     assert!(rt; refused(&rt, b"1.5\xC3")? == (2, 3));
@@ -194,7 +194,7 @@ enum Told {
     Nothing,
     // the start and the end of a form, and where the next begins
     Form(usize, usize, usize),
-    // the number and the place of a refusal
+    // the number and the offset of a refusal
     Refused(u16, usize),
 }
 

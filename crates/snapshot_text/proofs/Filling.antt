@@ -1,4 +1,4 @@
--- A list that is made from another one, place by place: the places that differ are set, in order.
+-- A list that is made from another one, place by place: the indices that differ are set, in order.
 use Rattle.std.proofs.Common.{◌≡◌, ℕ, inl, inr, zero, suc, ◌+◌, ◌≤◌, ◌<◌, List, [], ◌∷◌, length, drop, get_or, set, Option, Some, None, refl, sym, ap, ◌∙◌, arith, add-one, drop-cons, length-set, get_or-set_same, get_or-set_other}
 use Rattle.std.specs.List.{range_with_len}
 use Rattle.std.specs.Option.{option_map_or}
@@ -6,7 +6,7 @@ use Rattle.std.proofs.lemmas.Bool.Decides.{eqb_tells}
 use Rattle.std.proofs.lemmas.List.{ext_get_or}
 
 module _ {X : Type 0} where
-  -- the places that differ, and what they are to have
+  -- the indices that differ, and what they are to have
   abbrev pub updates : (ℕ → Option X) → List ℕ → List (ℕ × X)
   updates f [] = []
   updates f (i ∷ is) = option_map_or (λ x. (i, x) ∷ updates f is) (f i) (updates f is)

@@ -1,4 +1,4 @@
--- The keys of a finite map up to a place: no key stands twice, so the next one is not among them.
+-- The keys of a finite map up to an index: no key stands twice, so the next one is not among them.
 use Rattle.std.proofs.Common.{◌≡◌, ℕ, zero, suc, ◌<◌, Bool, true, false, List, [], ◌∷◌, length, map, filter, take, get_or, refl, ap, ◌∙◌, arith, T}
 use Rattle.std.specs.Prelude.{◌||◌, if◌then◌else◌}
 use Rattle.std.specs.declared.cmp.Ordering.{Ordering}
@@ -71,7 +71,7 @@ module _ {K : Type 0} (R : K → K → Ordering) where
   absent_at k (x ∷ ks) zero d few absent = (neither (eq_by_cmp R k x) (list_any (eq_by_cmp R k) ks) absent).0
   absent_at k (x ∷ ks) (suc n) d few absent = absent_at k ks n d (omega arith) (neither (eq_by_cmp R k x) (list_any (eq_by_cmp R k) ks) absent).1
 
-  -- the key at a place is none of those before
+  -- the key at an index is none of those before
   pub next_is_new : IsTotalOrder R → (ks : List K) (n : ℕ) (d : K) → AreApart ks → n < length ks → list_any (eq_by_cmp R (get_or ks n d)) (take n ks) ≡ false
   next_is_new o [] n d apart few = absurd (omega arith)
   next_is_new o (k ∷ ks) zero d apart few = refl
@@ -80,10 +80,10 @@ module _ {K : Type 0} (R : K → K → Ordering) where
       ((eq_by_cmp_equiv o).symm (get_or ks n d) k ∙ absent_at k ks n d (omega arith) apart.0) (next_is_new o ks n d apart.1 (omega arith))
 
   -- and it is one of all
-  pub at_place : IsTotalOrder R → (ks : List K) (n : ℕ) (d : K) → n < length ks → list_any (eq_by_cmp R (get_or ks n d)) ks ≡ true
-  at_place o [] n d few = absurd (omega arith)
-  at_place o (k ∷ ks) zero d few = ap (λ b. b || list_any (eq_by_cmp R k) ks) ((eq_by_cmp_equiv o).refl k)
-  at_place o (k ∷ ks) (suc n) d few = or_true (eq_by_cmp R (get_or ks n d) k) _ (at_place o ks n d (omega arith))
+  pub at_index : IsTotalOrder R → (ks : List K) (n : ℕ) (d : K) → n < length ks → list_any (eq_by_cmp R (get_or ks n d)) ks ≡ true
+  at_index o [] n d few = absurd (omega arith)
+  at_index o (k ∷ ks) zero d few = ap (λ b. b || list_any (eq_by_cmp R k) ks) ((eq_by_cmp_equiv o).refl k)
+  at_index o (k ∷ ks) (suc n) d few = or_true (eq_by_cmp R (get_or ks n d) k) _ (at_index o ks n d (omega arith))
     where
       or_true : (a b : Bool) → b ≡ true → (a || b) ≡ true
       or_true true b e = refl

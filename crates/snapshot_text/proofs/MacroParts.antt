@@ -140,7 +140,7 @@ first_filling s n t c e b pairs now sound is named proper objects made = record 
     set_to None x e = absurd cc
     set_to (Some f) x e = let same : Some f ≡ x = cc in sym same
 
--- the pair at a place is a function that may be set at a sub-character, in a readtable that may be written
+-- the pair at an index is a function that may be set at a sub-character, in a readtable that may be written
 pub record IsPair (s : WorldState) (n : Name) (t : Table) (c : ℕ) (e : CharacterEntry) (pairs : List Datum) (k : ℕ) (now : WorldState) (pair : Datum) : Type 0 where
   pub proper : is_proper pair ≡ true
   pub sub : ℕ

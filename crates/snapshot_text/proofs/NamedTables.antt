@@ -22,7 +22,7 @@ use Rattle.plist_state.specs.Sound.{IsSound, IsNamed, IsSymbol}
 use Rattle.plist_state.proofs.Orders.{name_total, name_exact, one_name, name_tied}
 use Rattle.world_text.specs.Snapshot.{readtable_object, table_named}
 use Rattle.snapshot_text.specs.Built.{with_table, with_properties_of, with_readtables_of, CanBeMade}
-use Rattle.snapshot_text.proofs.KeysSoFar.{at_place}
+use Rattle.snapshot_text.proofs.KeysSoFar.{at_index}
 use Rattle.snapshot_text.proofs.ReadParts.{item_at, item_count}
 
 abbrev eq : Name → Name → Bool
@@ -203,7 +203,7 @@ first_naming s sound rows now is proper objects = record {
   standard = ap (λ (x : WorldState). finite.get x.readtables standard_name) is ∙ first_standard;
 }
 
--- the row at a place may be put
+-- the row at an index may be put
 pub record IsTableRow (s : WorldState) (rows : List Datum) (k : ℕ) (now : WorldState) (row : Datum) : Type 0 where
   pub proper : is_proper row ≡ true
   pub name : Name
@@ -225,7 +225,7 @@ table_row_at s sound rows k now row so_far few is =
     let passes : other_name n ≡ true = passed_at other_name (readtable_names s) k [] among in
     let other : bytes_eq n standard_name ≡ false = turned (bytes_eq n standard_name) passes in
     let there : IsTrue (finite.contains_key s.readtables n) =
-    contains_key-keys s.readtables n ∙ first_of (list_any (eq n) (readtable_names s)) (other_name n) (sym (any_filtered other_name n (readtable_names s)) ∙ at_place name_cmp name_total ns k [] among) in
+    contains_key-keys s.readtables n ∙ first_of (list_any (eq n) (readtable_names s)) (other_name n) (sym (any_filtered other_name n (readtable_names s)) ∙ at_index name_cmp name_total ns k [] among) in
     let same : s.packages ≡ now.packages = sym (ap (λ (x : WorldState). x.packages) so_far.is) in
     let next : put_named (finite.insert now.readtables n t) s (drop (k + 1) ns) ≡ s.readtables =
     ap (λ j. put_named now.readtables s (n ∷ drop j ns)) (add-one k) ∙ ap (put_named now.readtables s) (sym (drop-cons ns k [] among)) ∙ so_far.left in

@@ -15,11 +15,11 @@ use Rattle.snapshot_text.specs.Lines.{IsNext}
 pub rest_is : (bytes : List ℕ) (at : ℕ) → at ≤ length bytes → slice_range bytes at (length bytes) ≡ drop at bytes
 rest_is bytes at h = sym (drop_split bytes at (length bytes) h ∙ ap (λ xs. slice_range bytes at (length bytes) ++ xs) (drop-length bytes) ∙ append-nil (slice_range bytes at (length bytes)))
 
--- how long the parts of what stands at a place are
+-- how long the parts of what stands at an offset are
 both_lengths : (bytes text rest : List ℕ) (at : ℕ) → drop at bytes ≡ text ++ rest → length bytes - at ≡ length text + length rest
 both_lengths bytes text rest at e = sym (length-drop at bytes) ∙ ap length e ∙ length-append text rest
 
--- where something stands at a place, the place is within
+-- where something stands at an offset, the offset is within
 pub text_within : (bytes text rest : List ℕ) (at : ℕ) → drop at bytes ≡ text ++ rest → 0 < length rest → at < length bytes
 text_within bytes text rest at e more =
     let cut = both_lengths bytes text rest at e in
@@ -33,14 +33,14 @@ after_text bytes text rest at next within fits e next_is =
     ap (λ n. drop n bytes) is ∙ sym (drop-drop (length text) at bytes) ∙ ap (drop (length text)) e ∙ drop-append_seam text rest
 
 -- what stands after a byte
-pub byte_place : (bytes rest : List ℕ) (at c : ℕ) → drop at bytes ≡ c ∷ rest → at < length bytes
-byte_place bytes rest at c e =
+pub byte_within : (bytes rest : List ℕ) (at c : ℕ) → drop at bytes ≡ c ∷ rest → at < length bytes
+byte_within bytes rest at c e =
     let cut = both_lengths bytes (c ∷ []) rest at e in
     omega arith
 
 pub after_byte : (bytes rest : List ℕ) (at c next : ℕ) → length bytes ≤ 4294967295 → drop at bytes ≡ c ∷ rest → next ≡ min (at + 1) 18446744073709551615 → drop next bytes ≡ rest
 after_byte bytes rest at c next fits e next_is =
-    let within : at < length bytes = byte_place bytes rest at c e in
+    let within : at < length bytes = byte_within bytes rest at c e in
     after_text bytes (c ∷ []) rest at next (omega arith) fits e next_is
 
 pub byte_is : (bytes rest : List ℕ) (at c d : ℕ) → drop at bytes ≡ c ∷ rest → get_or bytes at d ≡ c

@@ -28,7 +28,7 @@ use Rattle.world_text.proofs.Whole.{object_read_back}
 use Rattle.world_text.proofs.WithinLimits.{tokens_short, plist_depth}
 use Rattle.world_text.proofs.PlainObjects.{no_prefix}
 use Rattle.world_text.proofs.OneLine.{good_symbols, row_good}
-use Rattle.snapshot_text.proofs.NextLine.{after_text, byte_place, after_byte, byte_is}
+use Rattle.snapshot_text.proofs.NextLine.{after_text, byte_within, after_byte, byte_is}
 use Rattle.snapshot_text.proofs.PropertyParts.{key_at, at_last}
 use Rattle.user_macros.specs.Functions.{Functions}
 
@@ -48,7 +48,7 @@ module _ (prefix : Name → Name → List ℕ) (f : Symbol → Object) where
 pub more_after : (s : WorldState) (n : ℕ) (rest : List ℕ) → 0 < length (text_after s n ++ rest)
 more_after s n rest = some_text (printed_prefix s.packages common_lisp_user) (row_of s) (drop n (symbols_with_properties s)) rest
 
--- where there is a row at the place, and where there is none
+-- where there is a row at the index, and where there is none
 pub row_after : (s : WorldState) (n : ℕ) → n < length (symbols_with_properties s) → text_after s n ≡ 32 ∷ (row_text s n ++ text_after s (n + 1))
 row_after s n few =
     ap (λ xs. written_rest (printed_prefix s.packages common_lisp_user) (list_of (map (row_of s) xs))) (drop_more (symbols_with_properties s) n ([], []) few)
@@ -96,7 +96,7 @@ module _ (functions : Functions) where
 
 -- ---- while the rows are read
 
--- A row begins at this place, after which the others follow up to the end of the line, and the world has those before it.
+-- A row begins at this offset, after which the others follow up to the end of the line, and the world has those before it.
 pub record IsAtRow (s : WorldState) (bytes rest : List ℕ) (at : ℕ) (now : WorldState) : Type 0 where
   pub done : ℕ
   pub few : done < length (symbols_with_properties s)
@@ -109,7 +109,7 @@ pub next_row : (s : WorldState) (bytes rest : List ℕ) (end next : ℕ) (now : 
 next_row s bytes rest end next now n fits so_far few e is =
     let here : drop end bytes ≡ 32 ∷ (row_text s n ++ (text_after s (n + 1) ++ 10 ∷ rest)) =
     e ∙ ap (λ t. t ++ 10 ∷ rest) (row_after s n few) ∙ ap (λ t. 32 ∷ t) (append_assoc (row_text s n) (text_after s (n + 1)) (10 ∷ rest)) in
-    let within : end < length bytes = byte_place bytes (row_text s n ++ (text_after s (n + 1) ++ 10 ∷ rest)) end 32 here in
+    let within : end < length bytes = byte_within bytes (row_text s n ++ (text_after s (n + 1) ++ 10 ∷ rest)) end 32 here in
     record {
       done = n;
       few = few;
@@ -135,7 +135,7 @@ after_row s bytes rest end now n fits so_far within e =
     elim (eq-or-lt_of_le {n = n} {m = length (symbols_with_properties s)} within) [
       | inl all ↦
           let here : drop end bytes ≡ 41 ∷ 10 ∷ rest = e ∙ ap (λ t. t ++ 10 ∷ rest) (none_after s n (omega arith)) in
-          let there : end < length bytes = byte_place bytes (10 ∷ rest) end 41 here in
+          let there : end < length bytes = byte_within bytes (10 ∷ rest) end 41 here in
           inr record {
             there = there;
             byte = byte_is bytes (10 ∷ rest) end 41 0 here;
@@ -145,7 +145,7 @@ after_row s bytes rest end now n fits so_far within e =
       | inr few ↦
           let here : drop end bytes ≡ 32 ∷ ((row_text s n ++ text_after s (n + 1)) ++ 10 ∷ rest) = e ∙ ap (λ t. t ++ 10 ∷ rest) (row_after s n few) in
           inl record {
-            there = byte_place bytes ((row_text s n ++ text_after s (n + 1)) ++ 10 ∷ rest) end 32 here;
+            there = byte_within bytes ((row_text s n ++ text_after s (n + 1)) ++ 10 ∷ rest) end 32 here;
             byte = byte_is bytes ((row_text s n ++ text_after s (n + 1)) ++ 10 ∷ rest) end 32 0 here;
             row = λ next is. next_row s bytes rest end next now n fits so_far few e is;
           }
@@ -173,7 +173,7 @@ line_begins s sound bytes rest at fits e =
     elim (eq-or-lt_of_le {n = 0} {m = length (symbols_with_properties s)} (omega arith)) [
       | inl none ↦
           let here : drop at bytes ≡ 78 ∷ 73 ∷ 76 ∷ 10 ∷ rest = e ∙ ap (λ t. t ++ rest) (no_rows_line s sound (sym none)) in
-          let there : at < length bytes = byte_place bytes (73 ∷ 76 ∷ 10 ∷ rest) at 78 here in
+          let there : at < length bytes = byte_within bytes (73 ∷ 76 ∷ 10 ∷ rest) at 78 here in
           inl record {
             there = there;
             byte = byte_is bytes (73 ∷ 76 ∷ 10 ∷ rest) at 78 0 here;
@@ -185,7 +185,7 @@ line_begins s sound bytes rest at fits e =
           e ∙ ap (λ t. t ++ rest) (rows_line s some)
           ∙ ap (λ t. 40 ∷ t) (append_assoc (row_text s 0 ++ text_after s 1) (10 ∷ []) rest ∙ append_assoc (row_text s 0) (text_after s 1) (10 ∷ rest)) in
           inr record {
-            there = byte_place bytes (row_text s 0 ++ (text_after s 1 ++ 10 ∷ rest)) at 40 here;
+            there = byte_within bytes (row_text s 0 ++ (text_after s 1 ++ 10 ∷ rest)) at 40 here;
             byte = byte_is bytes (row_text s 0 ++ (text_after s 1 ++ 10 ∷ rest)) at 40 0 here;
             some = some;
             text = λ next is. after_byte bytes (row_text s 0 ++ (text_after s 1 ++ 10 ∷ rest)) at 40 next fits here is;

@@ -25,7 +25,7 @@ use Rattle.plist_state.proofs.Lists.{kept, get-with_list, list-with_list, with_l
 use Rattle.world_text.specs.Snapshot.{symbol_object}
 use Rattle.snapshot_text.specs.Built.{with_properties, with_each, with_packages_of, with_properties_of}
 use Rattle.snapshot_text.specs.Rows.{symbol_at, IsUpTo}
-use Rattle.snapshot_text.proofs.KeysSoFar.{keys_apart, next_is_new, at_place}
+use Rattle.snapshot_text.proofs.KeysSoFar.{keys_apart, next_is_new, at_index}
 
 -- ---- the properties of one symbol
 abbrev pub flat : Plist → List Object
@@ -189,7 +189,7 @@ at_first s now is = record {
   lists = λ q. ap (λ (w : WorldState). finite.get w.properties q) is ∙ get-empty symbol_cmp q;
 }
 
--- the row at a place may be put
+-- the row at an index may be put
 pub record IsRow (s now : WorldState) (n : ℕ) : Type 0 where
   pub key : IsTrue (finite.contains_key s.properties (symbol_at s n))
   pub there : IsSymbol now.packages (symbol_at s n)
@@ -203,10 +203,10 @@ has_list s x there =
       | Some ps ↦ λ e. refl
     ] there
 
--- the symbol of the row at a place has properties
+-- the symbol of the row at an index has properties
 pub key_at : (s : WorldState) (n : ℕ) → n < length (symbols_with_properties s) → IsTrue (finite.contains_key s.properties (symbol_at s n))
 key_at s n few =
-    contains_key-keys s.properties (symbol_at s n) ∙ at_place symbol_cmp symbol_total (symbols_with_properties s) n none few
+    contains_key-keys s.properties (symbol_at s n) ∙ at_index symbol_cmp symbol_total (symbols_with_properties s) n none few
 
 pub row_at : (s : WorldState) → IsSound s → (n : ℕ) (now : WorldState) → IsUpTo s n now → n < length (symbols_with_properties s) → IsRow s now n
 row_at s sound n now so_far few =

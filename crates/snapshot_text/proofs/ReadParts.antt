@@ -69,7 +69,7 @@ first_item (b ∷ later) a y ys e proper is_a =
     } in
     subst (IsFirstOf y ys a) (sym (ap (λ n. take n later) (all_but_one (length later)) ∙ take-length later)) found
 
--- an item at a place
+-- an item at an index
 pub item_at : (items : List Datum) (n : ℕ) (a : Datum) (ys : List Object) → map object_of items ≡ ys → list_all is_proper items ≡ true
     → n < length items → a ≡ get_or items n a → (is_proper a ≡ true) × (object_of a ≡ get_or ys n (object_of a))
 item_at items n a ys e proper few is = (

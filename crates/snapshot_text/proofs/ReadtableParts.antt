@@ -113,7 +113,7 @@ first_making s n t rows named w proper objects = record {
       (λ q x some. of_update (differs t q) (entry_at t q) x some);
 }
 
--- the entry at a place may be put
+-- the entry at an index may be put
 pub record IsEntryRow (s : WorldState) (n : Name) (t : Table) (rows : List Datum) (k : ℕ) (now : WorldState) (row : Datum) : Type 0 where
   pub proper : is_proper row ≡ true
   pub character : ℕ

@@ -58,7 +58,7 @@ dispatched_is p t c sub f may dispatching =
 pub upper_same : (p : packages.Table) (sub : ℕ) (f : Name) → IsSubFunction p sub f → upper_case sub ≡ sub
 upper_same p sub f may = ap (λ b. if b then sub - 32 else sub) (neither (is_lower_case sub) (is_digit sub) may.upper).0
 
--- a readtable written twice, and a place in it
+-- a readtable written twice, and an index in it
 pub table_twice : (s : WorldState) (n : Name) (t u : Table) → with_table (with_table s n t) n u ≡ with_table s n u
 table_twice s n t u = ap (λ (m : Readtables). record s { readtables = m }) (same_map name_total name_exact _ _ (λ q.
     get-insert name_total (finite.insert s.readtables n t) n u q ∙ ap (cond (eq_by_cmp name_cmp q n) (Some u)) (get-insert name_total s.readtables n t q)

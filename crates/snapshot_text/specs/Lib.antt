@@ -1,3 +1,4 @@
+pub mod Answers
 pub mod Built
 pub mod Covered
 pub mod Lines
@@ -6,3 +7,4 @@ pub mod Part
 pub mod Phases
 pub mod Refused
 pub mod Rows
+pub mod Texts

@@ -5,8 +5,18 @@ use Rattle.lisp_object.specs.Datum.{object_of, is_proper}
 use Rattle.lisp_object.specs.Object.{Object}
 use Rattle.snapshot_text.specs.declared.error.BuildError.{BuildError}
 use Rattle.snapshot_text.specs.declared.error.BuildError.TheVariants.{OutOfMemory}
+use Rattle.readtable_core.specs.Tables.{standard}
+use Rattle.package_table.specs.Table.{common_lisp_user}
+use Rattle.user_macros.specs.Functions.{Functions}
+use Rattle.plist_state.specs.State.{WorldState}
+use Rattle.lisp_reading.specs.Setting.{Setting, setting_of}
+use Rattle.world_text.specs.Lines.{snapshot_limits}
 
--- What was read is this object, which ends at this place; or memory ran out.
+-- under what a line is read in a world: the limits of a snapshot, the standard readtable, and COMMON-LISP-USER
+abbrev pub line_setting : WorldState → Functions → Setting
+line_setting now functions = setting_of snapshot_limits standard now.packages common_lisp_user functions
+
+-- What was read is this object, which ends at this offset; or memory ran out.
 abbrev pub IsFirst : Object → ℕ → Result (Datum × ℕ) BuildError → Type 0
 IsFirst x end (Ok read) = (object_of read.0 ≡ x) × (is_proper read.0 ≡ true) × (read.1 ≡ end)
 IsFirst x end (Err e) = e ≡ OutOfMemory

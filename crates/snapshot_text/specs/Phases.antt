@@ -1,13 +1,11 @@
 -- What is there, phase by phase, while the packages of a world are made from those of a snapshot: first all packages with the
 -- symbols at home in them, then what they import, what is external and what they use.
-use Rattle.std.specs.Prelude.{◌≡◌, ◌<◌, ℕ, true, not, List, [], map, filter, length, bytes_eq, slice_index_or, MatchResult, Result}
+use Rattle.std.specs.Prelude.{◌≡◌, ◌<◌, ℕ, true, not, List, [], map, filter, length, bytes_eq, slice_index_or}
 use Rattle.std.specs.List.{list_all}
 use Rattle.lisp_object.specs.Object.{text}
 use Rattle.lisp_object.specs.Datum.{object_of, is_proper}
 use Rattle.package_table.specs.Table.{Name, Table, common_lisp, IsPackage, IsPresent, IsExternal, Uses, IsSound}
 use Rattle.package_table.specs.Readers.{package_names, used_names, imports}
-use Rattle.snapshot_text.specs.declared.error.BuildError.{BuildError}
-use Rattle.snapshot_text.specs.declared.error.BuildError.TheVariants.{OutOfMemory}
 use Rattle.snapshot_text.specs.declared.package_parts.PackageParts.{PackageParts}
 use Rattle.world_text.specs.Snapshot.{made_names, shown_names, imported_name}
 use Rattle.snapshot_text.specs.Part.{IsPartOf}
@@ -64,7 +62,3 @@ AreRowsOf s rows = AreFirstRows s (length (other_packages s)) rows
 -- of each package of s
 abbrev pub Everywhere : Table → (Name → Type 0) → Type 0
 Everywhere s P = (p : Name) → IsPackage s p → P p
-
--- it is so, or memory ran out
-abbrev pub OrNoMemory : {A : Type 0} → Type 0 → Result A BuildError → Type 0
-OrNoMemory P result = MatchResult result (λ _. P) (λ e. e ≡ OutOfMemory)

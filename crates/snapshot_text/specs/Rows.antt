@@ -14,7 +14,7 @@ use Rattle.plist_state.specs.Readers.{symbols_with_properties}
 use Rattle.world_text.specs.Snapshot.{plist_object}
 use Rattle.snapshot_text.specs.Built.{with_properties, with_packages_of}
 
--- the symbol of the row at a place
+-- the symbol of the row at an index
 abbrev pub symbol_at : WorldState → ℕ → Symbol
 symbol_at s n = slice_index_or (symbols_with_properties s) n ([], [])
 
@@ -22,15 +22,15 @@ symbol_at s n = slice_index_or (symbols_with_properties s) n ([], [])
 abbrev pub row_of : WorldState → Symbol → Object
 row_of s x = plist_object x (plist s x)
 
--- the text of the row at a place
+-- the text of the row at an index
 abbrev pub row_text : WorldState → ℕ → List ℕ
 row_text s n = printed s.packages common_lisp_user (row_of s (symbol_at s n))
 
--- the text from the end of the row before a place to the parenthesis that closes the rows: each row after a space
+-- the text from the end of the row before an index to the parenthesis that closes the rows: each row after a space
 abbrev pub text_after : WorldState → ℕ → List ℕ
 text_after s n = written_rest (printed_prefix s.packages common_lisp_user) (list_of (map (row_of s) (drop n (symbols_with_properties s))))
 
--- The world has the packages of s and, of its property lists, those in the rows before a place.
+-- The world has the packages of s and, of its property lists, those in the rows before an index.
 pub record IsUpTo (s : WorldState) (n : ℕ) (now : WorldState) : Type 0 where
   pub rest : now ≡ with_properties (with_packages_of s) now.properties
   pub lists : (q : Symbol) → finite.get now.properties q

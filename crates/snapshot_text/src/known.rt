@@ -27,7 +27,8 @@ pub(crate) fn is_there(packages: &Packages, symbol: &Symbol) -> bool
 pub(crate) fn is_value(packages: &Packages, datum: &Datum) -> bool
     ensures proper { IsTrue result → is_proper datum.now ≡ true }
     ensures value { IsTrue result → IsValue packages.now.0 (object_of datum.now) }
-    ensures all { is_proper datum.now ≡ true → IsValue packages.now.0 (object_of datum.now) → IsTrue result }
+    ensures all { is_proper datum.now ≡ true → IsValue packages.now.0 (object_of datum.now)
+        → IsTrue result }
 {
     packages.soundness();
     datum.is_proper() && datum.depth() <= DEEPEST && are_known(packages, datum)
@@ -70,7 +71,8 @@ fn each_known(packages: &Packages, items: &Items<Datum>) -> bool
 #[cycle(known)]
 fn end_known(packages: &Packages, tail: &Option<Boxed<Datum>>) -> bool
     requires { IsSound packages.now.0 }
-    ensures { IsTrue result ↔ AllAtoms (IsKnown packages.now.0) (unwrap_or (option_map object_of tail.now) nil) }
+    ensures { IsTrue result ↔ AllAtoms (IsKnown packages.now.0)
+        (unwrap_or (option_map object_of tail.now) nil) }
 {
     match tail {
         None => true,

@@ -5,12 +5,12 @@
 //! missing, or says why not: what it refuses is the text of no sound state, or of one that names a missing function, but where
 //! memory runs out (specs/Covered.antt). The law `one_text_one_state` says that no other sound state has that text.
 //! `printed_objects_read_back` is the law that the printed text of an object is read, under the standard readtable and in the
-//! same packages, as the same object. What it asks of the tokens in the text, specs/Tokens.antt says.
+//! same packages, as the same object. What it asks of the tokens in the text, specs/Tokens.antt of world_text says.
 //!
 //! - `writer`: `write`; `package_rows`, `property_rows`: packages and property lists as text, `table_rows`: readtables as data;
 //!   `texts`: lists of texts; `printing`: data printed at the end of a text
-//! - `reader`: `read`; `lines`: the objects of a text, one at a time; `property_lines`: the line of property lists, of which
-//!   one row is in memory at a time
+//! - `reader`: `read`; `source`: what it reads from; `lines`: the objects of a text, one at a time; `property_lines`: the line
+//!   of property lists, of which one row is in memory at a time
 //! - `package_parts` (over `own_parts`), `property_parts`, `table_parts`: a world made from data, by its own calls; `parts`:
 //!   texts, lists and numbers in data; `known`: which data may be stored
 //! - `error`: `SnapshotError`
@@ -28,6 +28,7 @@ mod property_lines;
 mod property_parts;
 mod property_rows;
 mod reader;
+mod source;
 mod table_parts;
 mod table_rows;
 mod texts;

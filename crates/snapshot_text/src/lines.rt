@@ -2,46 +2,42 @@
 ghost use Rattle.std.specs.Prelude.{◌≡◌, ◌≤◌, ◌<◌, ℕ, List, ◌++◌, length, drop, IfOk};
 ghost use Rattle.lisp_object.specs.Object.{Object};
 ghost use Rattle.readtable_core.specs.Tables.{standard};
-ghost use Rattle.package_table.specs.Table.{Table, common_lisp_user};
-ghost use Rattle.lisp_reading.specs.Setting.{setting_of};
+ghost use Rattle.package_table.specs.Table.{Table};
 ghost use Rattle.lisp_reading.specs.Reading.{form, reads};
-ghost use Rattle.world_text.specs.Lines.{snapshot_limits, IsLineRead};
-ghost use Rattle.snapshot_text.specs.Lines.{IsFirst, IsNext};
+ghost use Rattle.world_text.specs.Lines.{IsLineRead};
+ghost use Rattle.snapshot_text.specs.Lines.{IsFirst, IsNext, line_setting};
 ghost use Rattle.world_text.specs.Snapshot.{line};
 
 use crate::error::BuildError;
+use crate::source::Source;
 use form_reader::{Limits, ReadOutcome, read_one};
 use lisp_object::Datum;
 use package_table::standardized::COMMON_LISP_USER;
 use plist_state::World;
-use readtable_core::Readtable;
-use std::alloc::Global;
 use user_macros::MacroFunctions;
 
-// The object with which a text begins, and its end.
+// The object with which a part of the text begins, and its end there.
 fn first_object<R: MacroFunctions>(
-    alloc: Global,
+    source: &Source<'_, R>,
     world: &World,
-    table: &Readtable,
-    macros: &R,
     bytes: &[u8],
 ) -> Result<(Datum, usize), BuildError>
-    requires answers { R.answers macros.now }
-    requires table { table.now ≡ standard }
-    ensures { (x : Object) (end next : ℕ)
-        → reads (setting_of snapshot_limits standard world.now.0.packages common_lisp_user (R.functions macros.now)) bytes.now ≡ form x 0 end next
+    requires answers { R.answers source.now.macros.now }
+    requires table { source.now.table.now ≡ standard }
+    ensures { let setting = line_setting world.now.0 (R.functions source.now.macros.now) in
+        (x : Object) (end next : ℕ) → reads setting bytes.now ≡ form x 0 end next
         → IsFirst x end result }
 {
     let packages = world.packages();
     packages.soundness();
     let limits = Limits::snapshot();
     match read_one(
-        alloc,
+        source.alloc,
         limits,
-        table,
+        source.table,
         packages,
         COMMON_LISP_USER,
-        macros,
+        source.macros,
         bytes,
     )? {
         ReadOutcome::Form { datum, end, .. } => Ok((datum, end)),
@@ -52,42 +48,39 @@ fn first_object<R: MacroFunctions>(
 
 /// The object that begins at `at`, where more follows, and its end.
 pub(crate) fn object_at<R: MacroFunctions>(
-    alloc: Global,
+    source: &Source<'_, R>,
     world: &World,
-    table: &Readtable,
-    macros: &R,
-    bytes: &[u8],
     at: usize,
 ) -> Result<(Datum, usize), BuildError>
-    requires answers { R.answers macros.now }
-    requires table { table.now ≡ standard }
-    ensures read { (x : Object) (text rest : List ℕ) (next : ℕ) → length bytes.now ≤ 4294967295 → drop at bytes.now ≡ text ++ rest → 0 < length rest
-        → reads (setting_of snapshot_limits standard world.now.0.packages common_lisp_user (R.functions macros.now)) (text ++ rest) ≡ form x 0 (length text) next
-        → IsNext x bytes.now rest result }
+    requires answers { R.answers source.now.macros.now }
+    requires table { source.now.table.now ≡ standard }
+    ensures read { let setting = line_setting world.now.0 (R.functions source.now.macros.now) in
+        (x : Object) (text rest : List ℕ) (next : ℕ) → length source.now.bytes.now ≤ 4294967295
+        → drop at source.now.bytes.now ≡ text ++ rest → 0 < length rest
+        → reads setting (text ++ rest) ≡ form x 0 (length text) next
+        → IsNext x source.now.bytes.now rest result }
     ensures on { IfOk result (λ read. at ≤ read.1) }
 {
-    let Some(rest) = bytes.get(at..) else {
+    let Some(rest) = source.bytes.get(at..) else {
         return Err(BuildError::Damaged);
     };
-    let (datum, end) = first_object(alloc, world, table, macros, rest)?;
+    let (datum, end) = first_object(source, world, rest)?;
     Ok((datum, at.saturating_add(end)))
 }
 
 /// The object of the line that begins at `at`, and where the next line begins.
 pub(crate) fn next_object<R: MacroFunctions>(
-    alloc: Global,
+    source: &Source<'_, R>,
     world: &World,
-    table: &Readtable,
-    macros: &R,
-    bytes: &[u8],
     at: usize,
 ) -> Result<(Datum, usize), BuildError>
-    requires answers { R.answers macros.now }
-    requires table { table.now ≡ standard }
-    ensures { (packages : Table) (x : Object) (rest : List ℕ) → length bytes.now ≤ 4294967295 → drop at bytes.now ≡ line packages x ++ rest
-        → IsLineRead (setting_of snapshot_limits standard world.now.0.packages common_lisp_user (R.functions macros.now)) packages x rest
-        → IsNext x bytes.now rest result }
+    requires answers { R.answers source.now.macros.now }
+    requires table { source.now.table.now ≡ standard }
+    ensures { let setting = line_setting world.now.0 (R.functions source.now.macros.now) in
+        (packages : Table) (x : Object) (rest : List ℕ) → length source.now.bytes.now ≤ 4294967295
+        → drop at source.now.bytes.now ≡ line packages x ++ rest
+        → IsLineRead setting packages x rest → IsNext x source.now.bytes.now rest result }
 {
-    let (datum, end) = object_at(alloc, world, table, macros, bytes, at)?;
+    let (datum, end) = object_at(source, world, at)?;
     Ok((datum, end.saturating_add(1)))
 }

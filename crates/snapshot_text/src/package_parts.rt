@@ -1,13 +1,14 @@
 //! The packages of a world, made from the first object of a snapshot.
-ghost use Rattle.std.specs.Prelude.{◌≡◌, ◌≢◌, true, [], ◌∷◌, ◌++◌, IfOk, MatchResult};
+ghost use Rattle.std.specs.Prelude.{◌≡◌, ◌≢◌, true, [], ◌∷◌, ◌++◌, IfOk};
 ghost use Rattle.lisp_object.specs.Object.{text};
 ghost use Rattle.lisp_object.specs.Datum.{object_of, is_proper};
 ghost use Rattle.package_table.specs.Table.{Name, Table, common_lisp, keyword, IsPresent, IsExternal, IsSound, Uses};
 ghost use Rattle.package_table.specs.Growth.{Grows};
 ghost use Rattle.plist_state.specs.Changes.{with_packages};
 ghost use Rattle.snapshot_text.specs.Part.{IsPartOf};
-ghost use Rattle.snapshot_text.specs.Phases.{HasSymbols, HasExternals, HasUses, IsBegun, IsRowOf, AreRowsOf, Everywhere, OrNoMemory};
+ghost use Rattle.snapshot_text.specs.Phases.{HasSymbols, HasExternals, HasUses, IsBegun, IsRowOf, AreRowsOf, Everywhere};
 ghost use Rattle.world_text.specs.Snapshot.{imported_name, package_object, packages_object};
+ghost use Rattle.snapshot_text.specs.Answers.{Makes, OrNoMemory, Succeeds};
 
 use crate::error::BuildError;
 use crate::own_parts::make_own;
@@ -28,8 +29,8 @@ struct PackageParts<'a> {
 
 // The parts of a row.
 fn package_parts(row: &Datum) -> Result<PackageParts<'_>, BuildError>
-    ensures { (s : Table) (p : Name) → is_proper row.now ≡ true → object_of row.now ≡ package_object s p
-        → MatchResult result (λ parts. IsRowOf s p parts) (λ _. ⊥) }
+    ensures { (s : Table) (p : Name) → is_proper row.now ≡ true
+        → object_of row.now ≡ package_object s p → Succeeds result (λ parts. IsRowOf s p parts) }
 {
     let [name, used, own, shown, imported] = items_in(row)? else {
         return Err(BuildError::Damaged);
@@ -55,8 +56,9 @@ fn push_parts<'a>(
 
 // The rows of all packages.
 fn rows_in(alloc: Global, packages: &Datum) -> Result<Vec<PackageParts<'_>>, BuildError>
-    ensures { (s : Table) → is_proper packages.now ≡ true → object_of packages.now ≡ packages_object s
-        → MatchResult result (λ rows. AreRowsOf s rows.items) (λ e. e ≡ BuildError.OutOfMemory) }
+    ensures { (s : Table) → is_proper packages.now ≡ true
+        → object_of packages.now ≡ packages_object s
+        → Makes result (λ rows. AreRowsOf s rows.items) }
 {
     let mut rows = Vec::new(alloc);
     for row in items_in(packages)? {
@@ -67,8 +69,9 @@ fn rows_in(alloc: Global, packages: &Datum) -> Result<Vec<PackageParts<'_>>, Bui
 
 // The name and the home of an import.
 fn import_parts(import: &Datum) -> Result<(&[u8], &[u8]), BuildError>
-    ensures { (n h : Name) → is_proper import.now ≡ true → object_of import.now ≡ imported_name (n, h)
-        → MatchResult result (λ parts. (parts.0.now ≡ n) × (parts.1.now ≡ h)) (λ _. ⊥) }
+    ensures { (n h : Name) → is_proper import.now ≡ true
+        → object_of import.now ≡ imported_name (n, h)
+        → Succeeds result (λ parts. (parts.0.now ≡ n) × (parts.1.now ≡ h)) }
 {
     let [name, home] = items_in(import)? else {
         return Err(BuildError::Damaged);
@@ -78,9 +81,11 @@ fn import_parts(import: &Datum) -> Result<(&[u8], &[u8]), BuildError>
 
 // Imports a symbol, which is given by its name and its home.
 fn import_one(world: &mut World, owner: &[u8], import: &Datum) -> Result<(), BuildError>
-    ensures made { (s : Table) (p n h : Name) → IsBegun world.old.0.packages s → owner.now ≡ p → p ≢ common_lisp
-        → is_proper import.now ≡ true → object_of import.now ≡ imported_name (n, h) → IsPresent s p n h → h ≢ p
-        → OrNoMemory (IsPartOf world.new.0.packages s × IsPresent world.new.0.packages p n h) result }
+    ensures made { (s : Table) (p n h : Name) → IsBegun world.old.0.packages s → owner.now ≡ p
+        → p ≢ common_lisp → is_proper import.now ≡ true
+        → object_of import.now ≡ imported_name (n, h) → IsPresent s p n h → h ≢ p
+        → OrNoMemory (IsPartOf world.new.0.packages s
+        × IsPresent world.new.0.packages p n h) result }
     ensures grows { Grows world.old.0.packages world.new.0.packages }
     ensures rest { world.new ≡ (with_packages world.old.0 world.new.0.packages, world.old.1) }
 {
@@ -94,8 +99,10 @@ fn import_one(world: &mut World, owner: &[u8], import: &Datum) -> Result<(), Bui
 
 // Imports what a package has from other homes.
 fn import_each(world: &mut World, row: &PackageParts<'_>) -> Result<(), BuildError>
-    ensures made { (s : Table) (p : Name) → IsBegun world.old.0.packages s → IsRowOf s p row.now → p ≢ common_lisp
-        → OrNoMemory (IsPartOf world.new.0.packages s × HasSymbols world.new.0.packages s p) result }
+    ensures made { (s : Table) (p : Name) → IsBegun world.old.0.packages s → IsRowOf s p row.now
+        → p ≢ common_lisp
+        → OrNoMemory (IsPartOf world.new.0.packages s
+        × HasSymbols world.new.0.packages s p) result }
     ensures grows { Grows world.old.0.packages world.new.0.packages }
     ensures rest { world.new ≡ (with_packages world.old.0 world.new.0.packages, world.old.1) }
 {
@@ -108,10 +115,11 @@ fn import_each(world: &mut World, row: &PackageParts<'_>) -> Result<(), BuildErr
 
 // Makes the symbol that a package has by this name external.
 fn export_one(world: &mut World, owner: &[u8], name: &Datum) -> Result<(), BuildError>
-    ensures made { (s : Table) (p n : Name) → IsBegun world.old.0.packages s → HasSymbols world.old.0.packages s p
-        → owner.now ≡ p → p ≢ common_lisp → p ≢ keyword
+    ensures made { (s : Table) (p n : Name) → IsBegun world.old.0.packages s
+        → HasSymbols world.old.0.packages s p → owner.now ≡ p → p ≢ common_lisp → p ≢ keyword
         → is_proper name.now ≡ true → object_of name.now ≡ text n → IsExternal s p n
-        → OrNoMemory (IsPartOf world.new.0.packages s × IsExternal world.new.0.packages p n) result }
+        → OrNoMemory (IsPartOf world.new.0.packages s
+        × IsExternal world.new.0.packages p n) result }
     ensures grows { Grows world.old.0.packages world.new.0.packages }
     ensures rest { world.new ≡ (with_packages world.old.0 world.new.0.packages, world.old.1) }
 {
@@ -124,8 +132,10 @@ fn export_one(world: &mut World, owner: &[u8], name: &Datum) -> Result<(), Build
 
 // Makes the symbols that a package has by these names external.
 fn export_each(world: &mut World, row: &PackageParts<'_>) -> Result<(), BuildError>
-    ensures made { (s : Table) (p : Name) → IsBegun world.old.0.packages s → HasSymbols world.old.0.packages s p → IsRowOf s p row.now
-        → p ≢ common_lisp → OrNoMemory (IsPartOf world.new.0.packages s × HasExternals world.new.0.packages s p) result }
+    ensures made { (s : Table) (p : Name) → IsBegun world.old.0.packages s
+        → HasSymbols world.old.0.packages s p → IsRowOf s p row.now → p ≢ common_lisp
+        → OrNoMemory (IsPartOf world.new.0.packages s
+        × HasExternals world.new.0.packages s p) result }
     ensures grows { Grows world.old.0.packages world.new.0.packages }
     ensures rest { world.new ≡ (with_packages world.old.0 world.new.0.packages, world.old.1) }
 {
@@ -139,8 +149,8 @@ fn export_each(world: &mut World, row: &PackageParts<'_>) -> Result<(), BuildErr
 
 // Makes a package use another.
 fn use_one(world: &mut World, owner: &[u8], used: &Datum) -> Result<(), BuildError>
-    ensures made { (s : Table) (p q : Name) → IsBegun world.old.0.packages s → owner.now ≡ p → p ≢ common_lisp
-        → is_proper used.now ≡ true → object_of used.now ≡ text q → Uses s p q
+    ensures made { (s : Table) (p q : Name) → IsBegun world.old.0.packages s → owner.now ≡ p
+        → p ≢ common_lisp → is_proper used.now ≡ true → object_of used.now ≡ text q → Uses s p q
         → OrNoMemory (IsPartOf world.new.0.packages s × Uses world.new.0.packages p q) result }
     ensures grows { Grows world.old.0.packages world.new.0.packages }
     ensures rest { world.new ≡ (with_packages world.old.0 world.new.0.packages, world.old.1) }
@@ -153,7 +163,8 @@ fn use_one(world: &mut World, owner: &[u8], used: &Datum) -> Result<(), BuildErr
 
 // Makes a package use those that it is to use.
 fn use_each(world: &mut World, row: &PackageParts<'_>) -> Result<(), BuildError>
-    ensures made { (s : Table) (p : Name) → IsBegun world.old.0.packages s → IsRowOf s p row.now → p ≢ common_lisp
+    ensures made { (s : Table) (p : Name) → IsBegun world.old.0.packages s → IsRowOf s p row.now
+        → p ≢ common_lisp
         → OrNoMemory (IsPartOf world.new.0.packages s × HasUses world.new.0.packages s p) result }
     ensures grows { Grows world.old.0.packages world.new.0.packages }
     ensures rest { world.new ≡ (with_packages world.old.0 world.new.0.packages, world.old.1) }
@@ -181,7 +192,8 @@ fn make_all(world: &mut World, rows: &[PackageParts<'_>]) -> Result<(), BuildErr
 
 fn import_all(world: &mut World, rows: &[PackageParts<'_>]) -> Result<(), BuildError>
     ensures made { (s : Table) → IsBegun world.old.0.packages s → AreRowsOf s rows.now
-        → OrNoMemory (IsBegun world.new.0.packages s × Everywhere s (HasSymbols world.new.0.packages s)) result }
+        → OrNoMemory (IsBegun world.new.0.packages s
+        × Everywhere s (HasSymbols world.new.0.packages s)) result }
     ensures grows { Grows world.old.0.packages world.new.0.packages }
     ensures rest { world.new ≡ (with_packages world.old.0 world.new.0.packages, world.old.1) }
 {
@@ -193,8 +205,10 @@ fn import_all(world: &mut World, rows: &[PackageParts<'_>]) -> Result<(), BuildE
 }
 
 fn export_all(world: &mut World, rows: &[PackageParts<'_>]) -> Result<(), BuildError>
-    ensures made { (s : Table) → IsBegun world.old.0.packages s → Everywhere s (HasSymbols world.old.0.packages s) → AreRowsOf s rows.now
-        → OrNoMemory (IsBegun world.new.0.packages s × Everywhere s (HasExternals world.new.0.packages s)) result }
+    ensures made { (s : Table) → IsBegun world.old.0.packages s
+        → Everywhere s (HasSymbols world.old.0.packages s) → AreRowsOf s rows.now
+        → OrNoMemory (IsBegun world.new.0.packages s
+        × Everywhere s (HasExternals world.new.0.packages s)) result }
     ensures grows { Grows world.old.0.packages world.new.0.packages }
     ensures rest { world.new ≡ (with_packages world.old.0 world.new.0.packages, world.old.1) }
 {
@@ -207,7 +221,8 @@ fn export_all(world: &mut World, rows: &[PackageParts<'_>]) -> Result<(), BuildE
 
 fn use_all(world: &mut World, rows: &[PackageParts<'_>]) -> Result<(), BuildError>
     ensures made { (s : Table) → IsBegun world.old.0.packages s → AreRowsOf s rows.now
-        → OrNoMemory (IsBegun world.new.0.packages s × Everywhere s (HasUses world.new.0.packages s)) result }
+        → OrNoMemory (IsBegun world.new.0.packages s
+        × Everywhere s (HasUses world.new.0.packages s)) result }
     ensures grows { Grows world.old.0.packages world.new.0.packages }
     ensures rest { world.new ≡ (with_packages world.old.0 world.new.0.packages, world.old.1) }
 {
@@ -225,8 +240,9 @@ pub(crate) fn make_packages(
     world: &mut World,
     packages: &Datum,
 ) -> Result<(), BuildError>
-    ensures made { (s : Table) → IsSound s → IsPartOf world.old.0.packages s → is_proper packages.now ≡ true
-        → object_of packages.now ≡ packages_object s → OrNoMemory (world.new.0.packages ≡ s) result }
+    ensures made { (s : Table) → IsSound s → IsPartOf world.old.0.packages s
+        → is_proper packages.now ≡ true → object_of packages.now ≡ packages_object s
+        → OrNoMemory (world.new.0.packages ≡ s) result }
     ensures rest { world.new ≡ (with_packages world.old.0 world.new.0.packages, world.old.1) }
 {
     let rows = rows_in(alloc, packages)?;

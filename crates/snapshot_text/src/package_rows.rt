@@ -1,14 +1,14 @@
 //! The packages of a snapshot, as text.
-ghost use Rattle.std.specs.Prelude.{◌≡◌, [], ◌∷◌, ◌++◌, codes, true, not, map, filter, bytes_eq, IfOk, OnOk};
+ghost use Rattle.std.specs.Prelude.{◌≡◌, [], ◌∷◌, ◌++◌, true, not, map, filter, bytes_eq, IfOk, OnOk};
 ghost use Rattle.std.specs.List.{list_all, flat_map};
 ghost use Rattle.lisp_object.specs.Object.{list_of};
 ghost use Rattle.lisp_object.specs.Datum.{object_of, is_proper};
 ghost use Rattle.lisp_object.specs.Ascii.{is_ascii};
-ghost use Rattle.package_table.specs.Table.{IsPackage, common_lisp, common_lisp_user, initial as initial_packages};
+ghost use Rattle.package_table.specs.Table.{IsPackage, common_lisp, initial as initial_packages};
 ghost use Rattle.package_table.specs.Lookup.{is_present};
-ghost use Rattle.canon_printer.specs.Printed.{printed};
 ghost use Rattle.world_text.specs.Snapshot.{made_names, texts, imported_name, shown_names, package_object, packages_object};
 ghost use Rattle.package_table.specs.Readers.{used_names, own_names, imports};
+ghost use Rattle.snapshot_text.specs.Texts.{later_text, object_text};
 
 use crate::printing::push_printed;
 use crate::texts::{imports_of, push_text, push_texts, texts_of};
@@ -29,7 +29,8 @@ fn listed<T>(list: Result<T, PackageError>) -> Result<T, AllocError>
 
 // The names at home in a package.
 fn own<'a>(alloc: Global, packages: &'a Packages, owner: &[u8]) -> Result<Vec<&'a [u8]>, AllocError>
-    ensures { IfOk result (λ names. map (λ n. n.now) names.items ≡ own_names packages.now.0 owner.now) }
+    ensures { IfOk result (λ names. map (λ n. n.now) names.items
+        ≡ own_names packages.now.0 owner.now) }
 {
     listed(packages.own_names(alloc, owner))
 }
@@ -55,7 +56,8 @@ fn made<'a>(
 
 // The names but COMMON-LISP.
 fn but_common_lisp<'a>(alloc: Global, names: &'a [Bytes]) -> Result<Vec<&'a Bytes>, AllocError>
-    ensures { IfOk result (λ others. map (λ n. n.now) others.items ≡ filter (λ n. not (bytes_eq n common_lisp)) names.now) }
+    ensures { IfOk result (λ others. map (λ n. n.now) others.items
+        ≡ filter (λ n. not (bytes_eq n common_lisp)) names.now) }
 {
     let mut others = Vec::new(alloc);
     for name in names {
@@ -72,7 +74,8 @@ fn shown<'a>(
     packages: &'a Packages,
     owner: &[u8],
 ) -> Result<Vec<&'a [u8]>, AllocError>
-    ensures { IfOk result (λ names. map (λ n. n.now) names.items ≡ shown_names packages.now.0 owner.now) }
+    ensures { IfOk result (λ names. map (λ n. n.now) names.items
+        ≡ shown_names packages.now.0 owner.now) }
 {
     if owner == KEYWORD {
         Ok(Vec::new(alloc))
@@ -103,7 +106,8 @@ fn push_own(
 ) -> Result<(), AllocError>
     requires { first.now.0 ≡ initial_packages }
     ensures { OnOk result (text.new.items
-        ≡ text.old.items ++ (codes " " ++ printed packages.now.0 common_lisp_user (texts (made_names packages.now.0 owner.now)))) }
+        ≡ text.old.items ++ later_text packages.now.0
+        (texts (made_names packages.now.0 owner.now))) }
 {
     packages.soundness();
     let names = own(alloc, packages, owner)?;
@@ -120,7 +124,8 @@ fn push_shown(
     owner: &[u8],
 ) -> Result<(), AllocError>
     ensures { OnOk result (text.new.items
-        ≡ text.old.items ++ (codes " " ++ printed packages.now.0 common_lisp_user (texts (shown_names packages.now.0 owner.now)))) }
+        ≡ text.old.items ++ later_text packages.now.0
+        (texts (shown_names packages.now.0 owner.now))) }
 {
     packages.soundness();
     let names = shown(alloc, packages, owner)?;
@@ -130,7 +135,8 @@ fn push_shown(
 
 // The names that are present in a package from other homes.
 fn imported_of(alloc: Global, packages: &Packages, owner: &[u8]) -> Result<Datum, AllocError>
-    ensures object { IfOk result (λ d. object_of d ≡ list_of (map imported_name (imports packages.now.0 owner.now))) }
+    ensures object { IfOk result (λ d. object_of d
+        ≡ list_of (map imported_name (imports packages.now.0 owner.now))) }
     ensures proper { IfOk result (λ d. is_proper d ≡ true) }
 {
     packages.soundness();
@@ -146,7 +152,8 @@ fn push_after_space(
     datum: Datum,
 ) -> Result<(), AllocError>
     requires { is_proper datum ≡ true }
-    ensures { OnOk result (text.new.items ≡ text.old.items ++ (codes " " ++ printed packages.now.0 common_lisp_user (object_of datum))) }
+    ensures { OnOk result (text.new.items
+        ≡ text.old.items ++ later_text packages.now.0 (object_of datum)) }
 {
     text.push(b' ')?;
     push_printed(alloc, text, datum, packages)
@@ -161,9 +168,10 @@ fn push_lists(
     owner: &[u8],
 ) -> Result<(), AllocError>
     requires { first.now.0 ≡ initial_packages }
-    ensures { let t = packages.now.0 in let p = owner.now in OnOk result (text.new.items ≡ text.old.items
-        ++ flat_map (λ x. codes " " ++ printed t common_lisp_user x)
-        (texts (used_names t p) ∷ texts (made_names t p) ∷ texts (shown_names t p) ∷ list_of (map imported_name (imports t p)) ∷ [])) }
+    ensures { let t = packages.now.0 in let p = owner.now in OnOk result (text.new.items
+        ≡ text.old.items ++ flat_map (λ x. later_text t x) (texts (used_names t p)
+        ∷ texts (made_names t p) ∷ texts (shown_names t p)
+        ∷ list_of (map imported_name (imports t p)) ∷ [])) }
 {
     let used = used_of(alloc, packages, owner)?;
     push_after_space(alloc, text, packages, used)?;
@@ -184,7 +192,9 @@ fn push_package(
 ) -> Result<(), AllocError>
     requires first { first.now.0 ≡ initial_packages }
     requires name { list_all is_ascii owner.now ≡ true }
-    ensures { OnOk result (text.new.items ≡ text.old.items ++ printed packages.now.0 common_lisp_user (package_object packages.now.0 owner.now)) }
+    ensures { OnOk result (text.new.items
+        ≡ text.old.items ++ object_text packages.now.0
+        (package_object packages.now.0 owner.now)) }
 {
     text.push(b'(')?;
     push_text(alloc, text, packages, owner.as_slice())?;
@@ -204,7 +214,8 @@ fn push_later(
     requires first { first.now.0 ≡ initial_packages }
     requires names { list_all (λ n. list_all is_ascii n.now) names.now ≡ true }
     ensures { OnOk result (text.new.items
-        ≡ text.old.items ++ flat_map (λ n. codes " " ++ printed packages.now.0 common_lisp_user (package_object packages.now.0 n.now)) names.now) }
+        ≡ text.old.items ++ flat_map (λ n. later_text packages.now.0
+        (package_object packages.now.0 n.now)) names.now) }
 {
     for name in names {
         text.push(b' ')?;
@@ -219,7 +230,8 @@ pub(crate) fn push_packages(
     text: &mut Vec<u8>,
     packages: &Packages,
 ) -> Result<(), AllocError>
-    ensures { OnOk result (text.new.items ≡ text.old.items ++ printed packages.now.0 common_lisp_user (packages_object packages.now.0)) }
+    ensures { OnOk result (text.new.items
+        ≡ text.old.items ++ object_text packages.now.0 (packages_object packages.now.0)) }
 {
     packages.soundness();
     let first = Packages::new(alloc)?;

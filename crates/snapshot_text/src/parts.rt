@@ -1,9 +1,10 @@
 //! The parts of the objects of a snapshot: texts, lists and numbers.
-ghost use Rattle.std.specs.Prelude.{◌≡◌, ◌<◌, ℕ, List, true, All, map, pos, IfOk, MatchResult};
+ghost use Rattle.std.specs.Prelude.{◌≡◌, ◌<◌, ℕ, List, true, All, map, pos, IfOk};
 ghost use Rattle.std.specs.List.{list_all};
 ghost use Rattle.lisp_object.specs.Object.{Object, text, list_of};
 ghost use Rattle.lisp_object.specs.Datum.{object_of, is_proper};
 ghost use Rattle.world_text.specs.Snapshot.{number};
+ghost use Rattle.snapshot_text.specs.Answers.{Succeeds};
 
 use crate::error::BuildError;
 use lisp_object::{Bytes, Datum};
@@ -11,7 +12,8 @@ use lisp_object::{Bytes, Datum};
 // The bytes of a text.
 pub(crate) fn text_in(datum: &Datum) -> Result<&Bytes, BuildError>
     ensures same { IfOk result (λ bytes. datum.now ≡ Datum.Text bytes.now) }
-    ensures read { is_proper datum.now ≡ true → (bytes : List ℕ) → object_of datum.now ≡ text bytes → MatchResult result (λ read. read.now ≡ bytes) (λ _. ⊥) }
+    ensures read { is_proper datum.now ≡ true → (bytes : List ℕ) → object_of datum.now ≡ text bytes
+        → Succeeds result (λ read. read.now ≡ bytes) }
 {
     match datum {
         Datum::Text(bytes) => Ok(bytes),
@@ -23,7 +25,8 @@ pub(crate) fn text_in(datum: &Datum) -> Result<&Bytes, BuildError>
 pub(crate) fn name_in(datum: &Datum) -> Result<&[u8], BuildError>
     ensures text { IfOk result (λ name. datum.now ≡ Datum.Text name.now) }
     ensures below { IfOk result (λ name. All (λ b. b < 128) name.now) }
-    ensures read { is_proper datum.now ≡ true → (bytes : List ℕ) → object_of datum.now ≡ text bytes → MatchResult result (λ name. name.now ≡ bytes) (λ _. ⊥) }
+    ensures read { is_proper datum.now ≡ true → (bytes : List ℕ) → object_of datum.now ≡ text bytes
+        → Succeeds result (λ name. name.now ≡ bytes) }
 {
     let bytes = text_in(datum)?;
     if !bytes.is_ascii() {
@@ -35,8 +38,10 @@ pub(crate) fn name_in(datum: &Datum) -> Result<&[u8], BuildError>
 // The items of a list that ends in NIL.
 pub(crate) fn items_in(datum: &Datum) -> Result<&[Datum], BuildError>
     ensures same { IfOk result (λ items. object_of datum.now ≡ list_of (map object_of items.now)) }
-    ensures read { is_proper datum.now ≡ true → (xs : List Object) → object_of datum.now ≡ list_of xs
-        → MatchResult result (λ items. (map object_of items.now ≡ xs) × (list_all is_proper items.now ≡ true)) (λ _. ⊥) }
+    ensures read { is_proper datum.now ≡ true → (xs : List Object)
+        → object_of datum.now ≡ list_of xs
+        → Succeeds result (λ items. (map object_of items.now ≡ xs)
+        × (list_all is_proper items.now ≡ true)) }
 {
     if datum.is_nil() {
         return Ok(&[]);
@@ -54,7 +59,8 @@ pub(crate) fn items_in(datum: &Datum) -> Result<&[Datum], BuildError>
 pub(crate) fn character_in(datum: &Datum) -> Result<u8, BuildError>
     ensures number { IfOk result (λ n. datum.now ≡ Datum.Integer (pos n)) }
     ensures below { IfOk result (λ n. n < 128) }
-    ensures read { is_proper datum.now ≡ true → (n : ℕ) → object_of datum.now ≡ number n → n < 128 → MatchResult result (λ read. read ≡ n) (λ _. ⊥) }
+    ensures read { is_proper datum.now ≡ true → (n : ℕ) → object_of datum.now ≡ number n → n < 128
+        → Succeeds result (λ read. read ≡ n) }
 {
     match datum {
         Datum::Integer(n) => match u8::try_from(*n) {

@@ -1,8 +1,7 @@
 //! Printed objects, added to a text.
 ghost use Rattle.std.specs.Prelude.{◌≡◌, ◌++◌, true, OnOk};
 ghost use Rattle.lisp_object.specs.Datum.{object_of, is_proper};
-ghost use Rattle.package_table.specs.Table.{common_lisp_user};
-ghost use Rattle.canon_printer.specs.Printed.{printed};
+ghost use Rattle.snapshot_text.specs.Texts.{object_text};
 
 use canon_printer::print;
 use lisp_object::Datum;
@@ -18,7 +17,8 @@ pub(crate) fn push_printed(
     packages: &Packages,
 ) -> Result<(), AllocError>
     requires { is_proper datum ≡ true }
-    ensures { OnOk result (text.new.items ≡ text.old.items ++ printed packages.now.0 common_lisp_user (object_of datum)) }
+    ensures { OnOk result (text.new.items
+        ≡ text.old.items ++ object_text packages.now.0 (object_of datum)) }
 {
     packages.soundness();
     let printed = print(alloc, &datum, packages, COMMON_LISP_USER)?;

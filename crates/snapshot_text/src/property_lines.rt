@@ -1,6 +1,6 @@
 //! The property lists of a world, made from the second line of a snapshot, row by row: no more than one row is in memory
 //! beside the world.
-ghost use Rattle.std.specs.Prelude.{◌≡◌, ◌≤◌, ◌<◌, ◌+◌, ℕ, List, ◌∷◌, ◌++◌, length, drop, IfOk, MatchResult};
+ghost use Rattle.std.specs.Prelude.{◌≡◌, ◌≤◌, ◌<◌, ◌+◌, ℕ, List, ◌∷◌, ◌++◌, length, drop, IfOk};
 ghost use Rattle.readtable_core.specs.Tables.{standard};
 ghost use Rattle.plist_state.specs.State.{WorldState};
 ghost use Rattle.plist_state.specs.Readers.{symbols_with_properties};
@@ -8,85 +8,85 @@ ghost use Rattle.plist_state.specs.Sound.{IsSound as IsSoundState};
 ghost use Rattle.snapshot_text.specs.Built.{with_packages_of, with_properties_of};
 ghost use Rattle.snapshot_text.specs.Rows.{IsUpTo, row_text, text_after};
 ghost use Rattle.world_text.specs.Snapshot.{line, properties_object};
+ghost use Rattle.snapshot_text.specs.Answers.{Makes};
 
 use crate::error::BuildError;
 use crate::lines::object_at;
 use crate::property_parts::put_row;
+use crate::source::Source;
 use plist_state::World;
-use readtable_core::Readtable;
-use std::alloc::Global;
 use user_macros::MacroFunctions;
 
 // Puts the row of property lists that begins at `at`. Gives its end.
 fn read_row<R: MacroFunctions>(
-    alloc: Global,
+    source: &Source<'_, R>,
     world: &mut World,
-    table: &Readtable,
-    macros: &R,
-    bytes: &[u8],
     at: usize,
 ) -> Result<usize, BuildError>
-    requires answers { R.answers macros.now }
-    requires table { table.now ≡ standard }
-    ensures row { (s : WorldState) (n : ℕ) (rest : List ℕ) → IsSoundState s → length bytes.now ≤ 4294967295 → n < length (symbols_with_properties s)
-        → IsUpTo s n world.old.0 → drop at bytes.now ≡ row_text s n ++ (text_after s (n + 1) ++ rest)
-        → MatchResult result (λ next. IsUpTo s (n + 1) world.new.0 × (drop next bytes.now ≡ text_after s (n + 1) ++ rest)) (λ e. e ≡ BuildError.OutOfMemory) }
+    requires answers { R.answers source.now.macros.now }
+    requires table { source.now.table.now ≡ standard }
+    ensures row { (s : WorldState) (n : ℕ) (rest : List ℕ) → IsSoundState s
+        → length source.now.bytes.now ≤ 4294967295 → n < length (symbols_with_properties s)
+        → IsUpTo s n world.old.0
+        → drop at source.now.bytes.now ≡ row_text s n ++ (text_after s (n + 1) ++ rest)
+        → Makes result (λ next. IsUpTo s (n + 1) world.new.0
+        × (drop next source.now.bytes.now ≡ text_after s (n + 1) ++ rest)) }
     ensures on { IfOk result (λ next. at ≤ next) }
 {
-    let (row, next) = object_at(alloc, world, table, macros, bytes, at)?;
-    put_row(alloc, world, &row)?;
+    let (row, next) = object_at(source, world, at)?;
+    put_row(source.alloc, world, &row)?;
     Ok(next)
 }
 
 // Puts the rows of which the first begins at `at`. Gives where the next line begins.
 fn read_rows<R: MacroFunctions>(
-    alloc: Global,
+    source: &Source<'_, R>,
     world: &mut World,
-    table: &Readtable,
-    macros: &R,
-    bytes: &[u8],
     at: usize,
 ) -> Result<usize, BuildError>
-    requires answers { R.answers macros.now }
-    requires table { table.now ≡ standard }
-    ensures { (s : WorldState) (rest : List ℕ) → IsSoundState s → length bytes.now ≤ 4294967295 → 0 < length (symbols_with_properties s)
-        → world.old.0 ≡ with_packages_of s → drop at bytes.now ≡ row_text s 0 ++ (text_after s 1 ++ 10 ∷ rest)
-        → MatchResult result (λ next. (world.new.0 ≡ with_properties_of s) × (drop next bytes.now ≡ rest)) (λ e. e ≡ BuildError.OutOfMemory) }
+    requires answers { R.answers source.now.macros.now }
+    requires table { source.now.table.now ≡ standard }
+    ensures { (s : WorldState) (rest : List ℕ) → IsSoundState s
+        → length source.now.bytes.now ≤ 4294967295 → 0 < length (symbols_with_properties s)
+        → world.old.0 ≡ with_packages_of s
+        → drop at source.now.bytes.now ≡ row_text s 0 ++ (text_after s 1 ++ 10 ∷ rest)
+        → Makes result (λ next. (world.new.0 ≡ with_properties_of s)
+        × (drop next source.now.bytes.now ≡ rest)) }
 {
-    let mut place = at;
+    let mut next_row = at;
     'rows: loop {
-        let end = read_row(alloc, world, table, macros, bytes, place)?;
-        let Some(byte) = bytes.get(end) else {
+        let end = read_row(source, world, next_row)?;
+        let Some(byte) = source.bytes.get(end) else {
             return Err(BuildError::Damaged);
         };
         if *byte == b')' {
             return Ok(end.saturating_add(2));
         }
-        place = end + 1;
+        next_row = end + 1;
     }
 }
 
 /// Sets the properties of the line that begins at `at`, in a world that has the packages. Gives where the next line begins.
 /// The line is NIL, or a list of rows.
 pub(crate) fn read_properties<R: MacroFunctions>(
-    alloc: Global,
+    source: &Source<'_, R>,
     world: &mut World,
-    table: &Readtable,
-    macros: &R,
-    bytes: &[u8],
     at: usize,
 ) -> Result<usize, BuildError>
-    requires answers { R.answers macros.now }
-    requires table { table.now ≡ standard }
-    ensures { (s : WorldState) (rest : List ℕ) → IsSoundState s → length bytes.now ≤ 4294967295
-        → drop at bytes.now ≡ line s.packages (properties_object s) ++ rest → world.old.0 ≡ with_packages_of s
-        → MatchResult result (λ next. (world.new.0 ≡ with_properties_of s) × (drop next bytes.now ≡ rest)) (λ e. e ≡ BuildError.OutOfMemory) }
+    requires answers { R.answers source.now.macros.now }
+    requires table { source.now.table.now ≡ standard }
+    ensures { (s : WorldState) (rest : List ℕ) → IsSoundState s
+        → length source.now.bytes.now ≤ 4294967295
+        → drop at source.now.bytes.now ≡ line s.packages (properties_object s) ++ rest
+        → world.old.0 ≡ with_packages_of s
+        → Makes result (λ next. (world.new.0 ≡ with_properties_of s)
+        × (drop next source.now.bytes.now ≡ rest)) }
 {
-    let Some(byte) = bytes.get(at) else {
+    let Some(byte) = source.bytes.get(at) else {
         return Err(BuildError::Damaged);
     };
     if *byte == b'(' {
-        read_rows(alloc, world, table, macros, bytes, at.saturating_add(1))
+        read_rows(source, world, at.saturating_add(1))
     } else {
         Ok(at.saturating_add(4))
     }

@@ -1,5 +1,5 @@
 //! The property lists of a world, made from the rows of the second object of a snapshot.
-ghost use Rattle.std.specs.Prelude.{◌≡◌, ◌∷◌, [], true, map, MatchResult};
+ghost use Rattle.std.specs.Prelude.{◌≡◌, ◌∷◌, [], true, map};
 ghost use Rattle.std.specs.List.{list_all, flat_map};
 ghost use Rattle.lisp_object.specs.Datum.{object_of, is_proper};
 ghost use Rattle.plist_state.specs.Properties as properties;
@@ -9,6 +9,7 @@ ghost use Rattle.plist_state.specs.Shown.{symbol_of};
 ghost use Rattle.plist_state.specs.Sound.{IsSymbol, IsValue, IsPlist};
 ghost use Rattle.world_text.specs.Snapshot.{symbol_object, plist_object};
 ghost use Rattle.snapshot_text.specs.Built.{with_properties, with_each};
+ghost use Rattle.snapshot_text.specs.Answers.{Makes, OrNoMemory};
 
 use crate::error::BuildError;
 use crate::known::{is_there, is_value};
@@ -19,8 +20,8 @@ use std::alloc::Global;
 
 // An interned symbol.
 fn symbol_in(alloc: Global, datum: &Datum) -> Result<Symbol, BuildError>
-    ensures { is_proper datum.now ≡ true → (x : properties.Symbol) → object_of datum.now ≡ symbol_object x
-        → MatchResult result (λ symbol. symbol_of symbol ≡ x) (λ e. e ≡ BuildError.OutOfMemory) }
+    ensures { is_proper datum.now ≡ true → (x : properties.Symbol)
+        → object_of datum.now ≡ symbol_object x → Makes result (λ symbol. symbol_of symbol ≡ x) }
 {
     match datum {
         Datum::Symbol { package, name } => {
@@ -38,10 +39,12 @@ fn put_one(
     indicator: &Datum,
     value: &Datum,
 ) -> Result<(), BuildError>
-    ensures { is_proper indicator.now ≡ true → is_proper value.now ≡ true
-        → (i : properties.Symbol) → object_of indicator.now ≡ symbol_object i
-        → IsSymbol world.old.0.packages (symbol_of symbol.now) → IsSymbol world.old.0.packages i → IsValue world.old.0.packages (object_of value.now)
-        → MatchResult result (λ _. world.new.0 ≡ with_property world.old.0 (symbol_of symbol.now) i (object_of value.now)) (λ e. e ≡ BuildError.OutOfMemory) }
+    ensures { is_proper indicator.now ≡ true → is_proper value.now ≡ true → (i : properties.Symbol)
+        → object_of indicator.now ≡ symbol_object i
+        → IsSymbol world.old.0.packages (symbol_of symbol.now) → IsSymbol world.old.0.packages i
+        → IsValue world.old.0.packages (object_of value.now)
+        → OrNoMemory (world.new.0 ≡ with_property world.old.0 (symbol_of symbol.now) i
+        (object_of value.now)) result }
 {
     let indicator = symbol_in(alloc, indicator)?;
     let value = value.copy(alloc)?;
@@ -63,9 +66,10 @@ fn put_each(
     symbol: &Symbol,
     properties: &[Datum],
 ) -> Result<(), BuildError>
-    ensures { list_all is_proper properties.now ≡ true → (ps : Plist) → map object_of properties.now ≡ flat_map (λ p. symbol_object p.0 ∷ p.1 ∷ []) ps
+    ensures { list_all is_proper properties.now ≡ true → (ps : Plist)
+        → map object_of properties.now ≡ flat_map (λ p. symbol_object p.0 ∷ p.1 ∷ []) ps
         → IsSymbol world.old.0.packages (symbol_of symbol.now) → IsPlist world.old.0.packages ps
-        → MatchResult result (λ _. world.new.0 ≡ with_each world.old.0 (symbol_of symbol.now) ps) (λ e. e ≡ BuildError.OutOfMemory) }
+        → OrNoMemory (world.new.0 ≡ with_each world.old.0 (symbol_of symbol.now) ps) result }
 {
     let mut rest = properties;
     while let [indicator, value, later @ ..] = rest {
@@ -80,9 +84,11 @@ fn put_each(
 
 /// Sets the properties of a symbol that has none: its row is the symbol, and its indicators and values in turn.
 pub(crate) fn put_row(alloc: Global, world: &mut World, row: &Datum) -> Result<(), BuildError>
-    ensures { is_proper row.now ≡ true → (x : properties.Symbol) (ps : Plist) → object_of row.now ≡ plist_object x ps
-        → IsSymbol world.old.0.packages x → IsPlist world.old.0.packages ps → plist world.old.0 x ≡ []
-        → MatchResult result (λ _. world.new.0 ≡ with_properties world.old.0 (with_list world.old.0.properties x ps)) (λ e. e ≡ BuildError.OutOfMemory) }
+    ensures { is_proper row.now ≡ true → (x : properties.Symbol) (ps : Plist)
+        → object_of row.now ≡ plist_object x ps → IsSymbol world.old.0.packages x
+        → IsPlist world.old.0.packages ps → plist world.old.0 x ≡ []
+        → OrNoMemory (world.new.0 ≡ with_properties world.old.0
+        (with_list world.old.0.properties x ps)) result }
 {
     let [symbol, properties @ ..] = items_in(row)? else {
         return Err(BuildError::Damaged);

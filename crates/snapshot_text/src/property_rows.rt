@@ -1,13 +1,12 @@
 //! The property lists of a snapshot: each as data, and all as text.
-ghost use Rattle.std.specs.Prelude.{◌≡◌, ◌∷◌, [], ◌++◌, ◌&&◌, true, map, codes, All, IfOk, OnOk};
+ghost use Rattle.std.specs.Prelude.{◌≡◌, ◌∷◌, [], ◌++◌, ◌&&◌, true, map, All, IfOk, OnOk};
 ghost use Rattle.std.specs.List.{list_all, flat_map};
 ghost use Rattle.lisp_object.specs.Datum.{object_of, is_proper};
 ghost use Rattle.lisp_object.specs.Ascii.{is_ascii};
-ghost use Rattle.package_table.specs.Table.{common_lisp_user};
-ghost use Rattle.canon_printer.specs.Printed.{printed};
-ghost use Rattle.plist_state.specs.Changes.{plist};
 ghost use Rattle.plist_state.specs.Shown.{property_of};
 ghost use Rattle.world_text.specs.Snapshot.{symbol_object, plist_object, properties_object};
+ghost use Rattle.snapshot_text.specs.Rows.{row_of};
+ghost use Rattle.snapshot_text.specs.Texts.{later_text, object_text};
 
 use crate::printing::push_printed;
 use lisp_object::{Bytes, Datum};
@@ -33,7 +32,8 @@ fn plist_datum(
     ensures object { IfOk result
         (λ d. object_of d ≡ plist_object (home.now, name.now) (map property_of properties.now)) }
     ensures proper { list_all is_ascii home.now && list_all is_ascii name.now ≡ true
-        → list_all (λ p. list_all is_ascii (property_of p).0.0 && list_all is_ascii (property_of p).0.1) properties.now ≡ true
+        → list_all (λ p. list_all is_ascii (property_of p).0.0 && list_all is_ascii
+        (property_of p).0.1) properties.now ≡ true
         → All (λ p. is_proper p.value ≡ true) properties.now
         → IfOk result (λ d. is_proper d ≡ true) }
 {
@@ -49,8 +49,9 @@ fn plist_datum(
 
 // A symbol and its property list.
 fn row_of(alloc: Global, world: &World, home: &[u8], name: &[u8]) -> Result<Datum, AllocError>
-    ensures object { IfOk result (λ d. object_of d ≡ plist_object (home.now, name.now) (plist world.now.0 (home.now, name.now))) }
-    ensures proper { list_all is_ascii home.now && list_all is_ascii name.now ≡ true → IfOk result (λ d. is_proper d ≡ true) }
+    ensures object { IfOk result (λ d. object_of d ≡ row_of world.now.0 (home.now, name.now)) }
+    ensures proper { list_all is_ascii home.now && list_all is_ascii name.now ≡ true
+        → IfOk result (λ d. is_proper d ≡ true) }
 {
     world.soundness();
     plist_datum(alloc, home, name, world.plist_of(home, name))
@@ -64,8 +65,9 @@ fn push_row(
     symbol: &(&[u8], &[u8]),
 ) -> Result<(), AllocError>
     requires { list_all is_ascii symbol.now.0.now && list_all is_ascii symbol.now.1.now ≡ true }
-    ensures { OnOk result (text.new.items ≡ text.old.items
-        ++ printed world.now.0.packages common_lisp_user (plist_object (symbol.now.0.now, symbol.now.1.now) (plist world.now.0 (symbol.now.0.now, symbol.now.1.now)))) }
+    ensures { OnOk result (text.new.items
+        ≡ text.old.items ++ object_text world.now.0.packages
+        (row_of world.now.0 (symbol.now.0.now, symbol.now.1.now))) }
 {
     let (home, name) = symbol;
     let row = row_of(alloc, world, home, name)?;
@@ -79,9 +81,11 @@ fn push_others(
     world: &World,
     symbols: &[(&[u8], &[u8])],
 ) -> Result<(), AllocError>
-    requires { list_all (λ s. list_all is_ascii s.0.now && list_all is_ascii s.1.now) symbols.now ≡ true }
-    ensures { OnOk result (text.new.items ≡ text.old.items
-        ++ flat_map (λ s. codes " " ++ printed world.now.0.packages common_lisp_user (plist_object (s.0.now, s.1.now) (plist world.now.0 (s.0.now, s.1.now)))) symbols.now) }
+    requires { list_all (λ s. list_all is_ascii s.0.now && list_all is_ascii s.1.now) symbols.now
+        ≡ true }
+    ensures { OnOk result (text.new.items
+        ≡ text.old.items ++ flat_map (λ s. later_text world.now.0.packages
+        (row_of world.now.0 (s.0.now, s.1.now))) symbols.now) }
 {
     for symbol in symbols {
         text.push(b' ')?;
@@ -96,7 +100,8 @@ pub(crate) fn push_properties(
     text: &mut Vec<u8>,
     world: &World,
 ) -> Result<(), AllocError>
-    ensures { OnOk result (text.new.items ≡ text.old.items ++ printed world.now.0.packages common_lisp_user (properties_object world.now.0)) }
+    ensures { OnOk result (text.new.items
+        ≡ text.old.items ++ object_text world.now.0.packages (properties_object world.now.0)) }
 {
     world.soundness();
     let symbols = world.owners(alloc)?;

@@ -1,16 +1,18 @@
 //! The world of a text.
-ghost use Rattle.std.specs.Prelude.{◌≡◌, ◌≤◌, ℕ, List, [], ◌++◌, true, length, drop, IfOk, IfErr, MatchResult};
+ghost use Rattle.std.specs.Prelude.{◌≡◌, ◌≤◌, ℕ, List, [], ◌++◌, true, length, drop, IfOk, IfErr};
 ghost use Rattle.readtable_core.specs.Tables.{standard};
 ghost use Rattle.plist_state.specs.State.{WorldState, initial};
 ghost use Rattle.snapshot_text.specs.Built.{with_packages_of, with_properties_of};
 ghost use Rattle.plist_state.specs.Sound.{IsSound as IsSoundState};
 ghost use Rattle.snapshot_text.specs.Covered.{are_covered, IsRefused};
 ghost use Rattle.world_text.specs.Snapshot.{packages_object, tables_object, line, snapshot};
+ghost use Rattle.snapshot_text.specs.Answers.{Makes, OrNoMemory};
 
 use crate::error::BuildError;
 use crate::lines::next_object;
 use crate::package_parts::make_packages;
 use crate::property_lines::read_properties;
+use crate::source::Source;
 use crate::table_parts::put_tables;
 use crate::table_rows::table_named;
 use crate::{SnapshotError, write};
@@ -24,41 +26,39 @@ const MOST_BYTES: usize = 4_294_967_295;
 
 // Makes the packages of the line that begins at `at`, in a new world. Gives where the next line begins.
 fn read_packages<R: MacroFunctions>(
-    alloc: Global,
+    source: &Source<'_, R>,
     world: &mut World,
-    table: &Readtable,
-    macros: &R,
-    bytes: &[u8],
     at: usize,
 ) -> Result<usize, BuildError>
-    requires answers { R.answers macros.now }
-    requires table { table.now ≡ standard }
-    ensures { (s : WorldState) (rest : List ℕ) → IsSoundState s → length bytes.now ≤ 4294967295
-        → drop at bytes.now ≡ line s.packages (packages_object s.packages) ++ rest → world.old.0 ≡ initial
-        → MatchResult result (λ next. (world.new.0 ≡ with_packages_of s) × (drop next bytes.now ≡ rest)) (λ e. e ≡ BuildError.OutOfMemory) }
+    requires answers { R.answers source.now.macros.now }
+    requires table { source.now.table.now ≡ standard }
+    ensures { (s : WorldState) (rest : List ℕ) → IsSoundState s
+        → length source.now.bytes.now ≤ 4294967295
+        → drop at source.now.bytes.now ≡ line s.packages (packages_object s.packages) ++ rest
+        → world.old.0 ≡ initial
+        → Makes result (λ next. (world.new.0 ≡ with_packages_of s)
+        × (drop next source.now.bytes.now ≡ rest)) }
 {
     world.soundness();
-    let (packages, next) = next_object(alloc, world, table, macros, bytes, at)?;
-    make_packages(alloc, world, &packages)?;
+    let (packages, next) = next_object(source, world, at)?;
+    make_packages(source.alloc, world, &packages)?;
     Ok(next)
 }
 
 // Makes the readtables of the line that begins at `at`, in a world that has the packages and the properties.
 fn read_tables<R: MacroFunctions>(
-    alloc: Global,
+    source: &Source<'_, R>,
     world: &mut World,
-    table: &Readtable,
-    macros: &R,
-    bytes: &[u8],
     at: usize,
 ) -> Result<(), BuildError>
-    requires answers { R.answers macros.now }
-    requires table { table.now ≡ standard }
-    ensures { (s : WorldState) (rest : List ℕ) → IsSoundState s → length bytes.now ≤ 4294967295
-        → drop at bytes.now ≡ line s.packages (tables_object s) ++ rest → world.old.0 ≡ with_properties_of s
-        → MatchResult result (λ _. world.new.0 ≡ s) (λ e. e ≡ BuildError.OutOfMemory) }
+    requires answers { R.answers source.now.macros.now }
+    requires table { source.now.table.now ≡ standard }
+    ensures { (s : WorldState) (rest : List ℕ) → IsSoundState s
+        → length source.now.bytes.now ≤ 4294967295
+        → drop at source.now.bytes.now ≡ line s.packages (tables_object s) ++ rest
+        → world.old.0 ≡ with_properties_of s → OrNoMemory (world.new.0 ≡ s) result }
 {
-    let (tables, _) = next_object(alloc, world, table, macros, bytes, at)?;
+    let (tables, _) = next_object(source, world, at)?;
     put_tables(world, &tables)?;
     Ok(())
 }
@@ -66,14 +66,20 @@ fn read_tables<R: MacroFunctions>(
 // A world made from the three lines of a text. From the text of a sound state the state is made.
 fn built<R: MacroFunctions>(alloc: Global, bytes: &[u8], macros: &R) -> Result<World, BuildError>
     requires { R.answers macros.now }
-    ensures { (s : WorldState) → IsSoundState s → length bytes.now ≤ 4294967295 → snapshot s ≡ bytes.now
-        → MatchResult result (λ world. world.0 ≡ s) (λ e. e ≡ BuildError.OutOfMemory) }
+    ensures { (s : WorldState) → IsSoundState s → length bytes.now ≤ 4294967295
+        → snapshot s ≡ bytes.now → Makes result (λ world. world.0 ≡ s) }
 {
     let standard = Readtable::standard(alloc)?;
+    let source = Source {
+        alloc,
+        table: &standard,
+        macros,
+        bytes,
+    };
     let mut world = World::new(alloc)?;
-    let at = read_packages(alloc, &mut world, &standard, macros, bytes, 0)?;
-    let at = read_properties(alloc, &mut world, &standard, macros, bytes, at)?;
-    read_tables(alloc, &mut world, &standard, macros, bytes, at)?;
+    let at = read_packages(&source, &mut world, 0)?;
+    let at = read_properties(&source, &mut world, at)?;
+    read_tables(&source, &mut world, at)?;
     Ok(world)
 }
 
@@ -83,7 +89,8 @@ fn is_covered<R: MacroFunctions>(
     world: &World,
     macros: &R,
 ) -> Result<bool, AllocError>
-    ensures { IfOk result (λ covered. covered ≡ are_covered (R.functions macros.now).names world.now.0) }
+    ensures { IfOk result (λ covered. covered
+        ≡ are_covered (R.functions macros.now).names world.now.0) }
 {
     let first = Readtable::standard(alloc)?;
     let names = world.readtable_names(alloc)?;
@@ -109,9 +116,11 @@ pub fn read<R: MacroFunctions>(
 ) -> Result<World, SnapshotError>
     requires { R.answers macros.now }
     ensures text { IfOk result (λ world. snapshot world.0 ≡ bytes.now) }
-    ensures only { IfOk result (λ world. (s : WorldState) → IsSoundState s → snapshot s ≡ bytes.now → s ≡ world.0) }
+    ensures only { IfOk result (λ world. (s : WorldState) → IsSoundState s → snapshot s ≡ bytes.now
+        → s ≡ world.0) }
     ensures size { IfOk result (λ world. length bytes.now ≤ 4294967295) }
-    ensures covered { IfOk result (λ world. are_covered (R.functions macros.now).names world.0 ≡ true) }
+    ensures covered { IfOk result (λ world. are_covered (R.functions macros.now).names world.0
+        ≡ true) }
     ensures unmarked { IfOk result (λ world. world.1 ≡ []) }
     ensures refused { IfErr result (IsRefused (R.functions macros.now).names bytes.now) }
 {

@@ -1,5 +1,5 @@
 //! The readtables of a world, made from the third object of a snapshot.
-ghost use Rattle.std.specs.Prelude.{◌≡◌, ◌<◌, ℕ, List, [], ◌∷◌, true, unwrap_or, IsTrue, IsFalse, MatchResult};
+ghost use Rattle.std.specs.Prelude.{◌≡◌, ◌<◌, ℕ, List, [], ◌∷◌, true, unwrap_or, IfOk, IsTrue, IsFalse};
 ghost use Rattle.lisp_object.specs.Object.{text, list_of};
 ghost use Rattle.lisp_object.specs.Datum.{object_of, is_proper};
 ghost use Rattle.readtable_core.specs.declared.table.Case.{Case};
@@ -14,6 +14,7 @@ ghost use Rattle.plist_state.specs.State.{WorldState};
 ghost use Rattle.plist_state.specs.Sound.{IsSymbol, IsNamed, IsSound as IsSoundState};
 ghost use Rattle.world_text.specs.Snapshot.{number, dispatch_objects, entry_object, entry_objects, readtable_object, readtables_object, tables_object};
 ghost use Rattle.snapshot_text.specs.Built.{with_table, with_properties_of, with_readtables_of, CanBeMade, IsWritable, IsSubFunction, IsNamedEntry};
+ghost use Rattle.snapshot_text.specs.Answers.{OrNoMemory, Succeeds};
 
 use crate::error::BuildError;
 use crate::parts::{character_in, items_in, text_in};
@@ -26,31 +27,47 @@ use readtable_core::{Case, FnName, Syntax};
 fn may_be_set(world: &World, function: FnName) -> bool
     ensures other { IsTrue result → IsFalse (is_dispatch_name function) }
     ensures keyword { IsTrue result → IsSymbol world.now.0.packages (keyword, function) }
-    ensures all { IsFalse (is_dispatch_name function) → IsSymbol world.now.0.packages (keyword, function) → IsTrue result }
+    ensures all { IsFalse (is_dispatch_name function)
+        → IsSymbol world.now.0.packages (keyword, function) → IsTrue result }
 {
     !function.is_dispatch() && world.packages().is_symbol(KEYWORD, function.as_bytes())
 }
 
 // The name of a function.
 fn function_in(datum: &Datum) -> Result<FnName, BuildError>
-    ensures { is_proper datum.now ≡ true → (f : List ℕ) → object_of datum.now ≡ text f → IsTrue (is_function_name f)
-        → MatchResult result (λ function. function ≡ f) (λ _. ⊥) }
+    ensures { is_proper datum.now ≡ true → (f : List ℕ) → object_of datum.now ≡ text f
+        → IsTrue (is_function_name f) → Succeeds result (λ function. function ≡ f) }
 {
     FnName::new(text_in(datum)?.as_slice()).ok_or(BuildError::Damaged)
 }
 
-// Sets the function of a sub-character, which are given as a pair.
-fn put_sub_character(world: &mut World, table: &[u8], c: u8, pair: &Datum) -> Result<(), BuildError>
-    requires { c < 128 }
-    ensures { is_proper pair.now ≡ true → (t : readtable.Table) (sub : ℕ) (f : List ℕ) → object_of pair.now ≡ list_of (number sub ∷ text f ∷ [])
-        → IsSubFunction world.old.0.packages sub f → IsWritable world.old.0.readtables table.now t → is_dispatching (entry_at t c) ≡ true
-        → MatchResult result (λ _. world.new.0 ≡ with_table world.old.0 table.now (with_entry t c (with_function (entry_at t c) sub f))) (λ e. e ≡ BuildError.OutOfMemory) }
+// The sub-character and the function of a pair.
+fn pair_in(pair: &Datum) -> Result<(u8, FnName), BuildError>
+    ensures character { IfOk result (λ parts. parts.0 < 128) }
+    ensures read { is_proper pair.now ≡ true → (sub : ℕ) (f : List ℕ)
+        → object_of pair.now ≡ list_of (number sub ∷ text f ∷ []) → sub < 128
+        → IsTrue (is_function_name f)
+        → Succeeds result (λ parts. (parts.0 ≡ sub) × (parts.1 ≡ f)) }
 {
     let [sub, function] = items_in(pair)? else {
         return Err(BuildError::Damaged);
     };
     let sub = character_in(sub)?;
     let function = function_in(function)?;
+    Ok((sub, function))
+}
+
+// Sets the function of a sub-character, which are given as a pair.
+fn put_sub_character(world: &mut World, table: &[u8], c: u8, pair: &Datum) -> Result<(), BuildError>
+    requires { c < 128 }
+    ensures { is_proper pair.now ≡ true → (t : readtable.Table) (sub : ℕ) (f : List ℕ)
+        → object_of pair.now ≡ list_of (number sub ∷ text f ∷ [])
+        → IsSubFunction world.old.0.packages sub f → IsWritable world.old.0.readtables table.now t
+        → is_dispatching (entry_at t c) ≡ true
+        → OrNoMemory (world.new.0 ≡ with_table world.old.0 table.now
+        (with_entry t c (with_function (entry_at t c) sub f))) result }
+{
+    let (sub, function) = pair_in(pair)?;
     if !may_be_set(world, function) {
         return Err(BuildError::Damaged);
     }
@@ -68,10 +85,13 @@ fn put_macro(
     dispatch: &Datum,
 ) -> Result<(), BuildError>
     requires { c < 128 }
-    ensures { is_proper function.now ≡ true → is_proper dispatch.now ≡ true → (t : readtable.Table) (e : CharacterEntry)
-        → object_of function.now ≡ text (unwrap_or e.function []) → object_of dispatch.now ≡ list_of (dispatch_objects e)
-        → e.syntax ≡ macro_syntax non_terminating → IsNamedEntry world.old.0.packages e → IsWritable world.old.0.readtables table.now t
-        → MatchResult result (λ _. world.new.0 ≡ with_table world.old.0 table.now (with_entry t c e)) (λ e. e ≡ BuildError.OutOfMemory) }
+    ensures { is_proper function.now ≡ true → is_proper dispatch.now ≡ true
+        → (t : readtable.Table) (e : CharacterEntry)
+        → object_of function.now ≡ text (unwrap_or e.function [])
+        → object_of dispatch.now ≡ list_of (dispatch_objects e)
+        → e.syntax ≡ macro_syntax non_terminating → IsNamedEntry world.old.0.packages e
+        → IsWritable world.old.0.readtables table.now t
+        → OrNoMemory (world.new.0 ≡ with_table world.old.0 table.now (with_entry t c e)) result }
 {
     let function = function_in(function)?;
     if !function.is_dispatch() {
@@ -93,7 +113,8 @@ fn put_standard(world: &mut World, table: &[u8], c: u8, from: u8) -> Result<(), 
     requires c { c < 128 }
     requires from { from < 128 }
     ensures { (t : readtable.Table) → IsWritable world.old.0.readtables table.now t
-        → MatchResult result (λ _. world.new.0 ≡ with_table world.old.0 table.now (with_entry t c (entry_at readtable.standard from))) (λ e. e ≡ BuildError.OutOfMemory) }
+        → OrNoMemory (world.new.0 ≡ with_table world.old.0 table.now
+        (with_entry t c (entry_at readtable.standard from))) result }
 {
     world.set_syntax_from_char(table, c, STANDARD, from)?;
     Ok(())
@@ -109,10 +130,12 @@ fn put_typed(
     dispatch: &Datum,
 ) -> Result<(), BuildError>
     requires { c < 128 }
-    ensures { is_proper function.now ≡ true → is_proper dispatch.now ≡ true → (t : readtable.Table) (e : CharacterEntry)
-        → object_of function.now ≡ text (unwrap_or e.function []) → object_of dispatch.now ≡ list_of (dispatch_objects e)
-        → e.syntax ≡ syntax → IsNamedEntry world.old.0.packages e → IsWritable world.old.0.readtables table.now t
-        → MatchResult result (λ _. world.new.0 ≡ with_table world.old.0 table.now (with_entry t c e)) (λ e. e ≡ BuildError.OutOfMemory) }
+    ensures { is_proper function.now ≡ true → is_proper dispatch.now ≡ true
+        → (t : readtable.Table) (e : CharacterEntry)
+        → object_of function.now ≡ text (unwrap_or e.function [])
+        → object_of dispatch.now ≡ list_of (dispatch_objects e) → e.syntax ≡ syntax
+        → IsNamedEntry world.old.0.packages e → IsWritable world.old.0.readtables table.now t
+        → OrNoMemory (world.new.0 ≡ with_table world.old.0 table.now (with_entry t c e)) result }
 {
     match syntax {
         Syntax::Whitespace => put_standard(world, table, c, b' '),
@@ -127,9 +150,10 @@ fn put_typed(
 
 // Sets the entry of a character: its code, its syntax type, its function and its dispatch table.
 fn put_entry(world: &mut World, table: &[u8], entry: &Datum) -> Result<(), BuildError>
-    ensures { is_proper entry.now ≡ true → (t : readtable.Table) (c : ℕ) (e : CharacterEntry) → object_of entry.now ≡ entry_object c e → c < 128
-        → IsNamedEntry world.old.0.packages e → IsWritable world.old.0.readtables table.now t
-        → MatchResult result (λ _. world.new.0 ≡ with_table world.old.0 table.now (with_entry t c e)) (λ e. e ≡ BuildError.OutOfMemory) }
+    ensures { is_proper entry.now ≡ true → (t : readtable.Table) (c : ℕ) (e : CharacterEntry)
+        → object_of entry.now ≡ entry_object c e → c < 128 → IsNamedEntry world.old.0.packages e
+        → IsWritable world.old.0.readtables table.now t
+        → OrNoMemory (world.new.0 ≡ with_table world.old.0 table.now (with_entry t c e)) result }
 {
     let [c, syntax, function, dispatch] = items_in(entry)? else {
         return Err(BuildError::Damaged);
@@ -144,8 +168,10 @@ fn put_entry(world: &mut World, table: &[u8], entry: &Datum) -> Result<(), Build
 // Makes a readtable of this case, with the entries of the standard one.
 fn make_readtable(world: &mut World, name: &[u8], letters: &Datum) -> Result<(), BuildError>
     ensures { is_proper letters.now ≡ true → (k : Case) → object_of letters.now ≡ text (case_name k)
-        → IsSymbol world.old.0.packages (keyword, name.now) → CanBeMade world.old.0.readtables name.now
-        → MatchResult result (λ _. world.new.0 ≡ with_table world.old.0 name.now (record readtable.standard { letters = k })) (λ e. e ≡ BuildError.OutOfMemory) }
+        → IsSymbol world.old.0.packages (keyword, name.now)
+        → CanBeMade world.old.0.readtables name.now
+        → OrNoMemory (world.new.0 ≡ with_table world.old.0 name.now
+        (record readtable.standard { letters = k })) result }
 {
     let Some(letters) = Case::from_name(text_in(letters)?.as_slice()) else {
         return Err(BuildError::Damaged);
@@ -160,9 +186,11 @@ fn make_readtable(world: &mut World, name: &[u8], letters: &Datum) -> Result<(),
 
 // Sets the entries that are not as in the standard readtable.
 fn put_entries(world: &mut World, name: &[u8], entries: &Datum) -> Result<(), BuildError>
-    ensures { is_proper entries.now ≡ true → (t : readtable.Table) → object_of entries.now ≡ list_of (entry_objects t)
-        → IsNamed world.old.0.packages t → IsWritable world.old.0.readtables name.now (record readtable.standard { letters = t.letters })
-        → MatchResult result (λ _. world.new.0 ≡ with_table world.old.0 name.now t) (λ e. e ≡ BuildError.OutOfMemory) }
+    ensures { is_proper entries.now ≡ true → (t : readtable.Table)
+        → object_of entries.now ≡ list_of (entry_objects t) → IsNamed world.old.0.packages t
+        → IsWritable world.old.0.readtables name.now
+        (record readtable.standard { letters = t.letters })
+        → OrNoMemory (world.new.0 ≡ with_table world.old.0 name.now t) result }
 {
     for entry in items_in(entries)? {
         put_entry(world, name, entry)?;
@@ -172,9 +200,10 @@ fn put_entries(world: &mut World, name: &[u8], entries: &Datum) -> Result<(), Bu
 
 // Makes a readtable: its name, its case, and the entries that are not as in the standard one.
 fn put_readtable(world: &mut World, row: &Datum) -> Result<(), BuildError>
-    ensures { is_proper row.now ≡ true → (name : Name) (t : readtable.Table) → object_of row.now ≡ readtable_object name t
-        → IsNamed world.old.0.packages t → IsSymbol world.old.0.packages (keyword, name) → CanBeMade world.old.0.readtables name
-        → MatchResult result (λ _. world.new.0 ≡ with_table world.old.0 name t) (λ e. e ≡ BuildError.OutOfMemory) }
+    ensures { is_proper row.now ≡ true → (name : Name) (t : readtable.Table)
+        → object_of row.now ≡ readtable_object name t → IsNamed world.old.0.packages t
+        → IsSymbol world.old.0.packages (keyword, name) → CanBeMade world.old.0.readtables name
+        → OrNoMemory (world.new.0 ≡ with_table world.old.0 name t) result }
 {
     let [name, letters, entries] = items_in(row)? else {
         return Err(BuildError::Damaged);
@@ -186,9 +215,9 @@ fn put_readtable(world: &mut World, row: &Datum) -> Result<(), BuildError>
 
 // Makes the readtables of the third object of a snapshot.
 fn put_readtables(world: &mut World, readtables: &Datum) -> Result<(), BuildError>
-    ensures { (s : WorldState) → IsSoundState s → is_proper readtables.now ≡ true → object_of readtables.now ≡ readtables_object s
-        → world.old.0 ≡ with_properties_of s
-        → MatchResult result (λ _. world.new.0 ≡ with_readtables_of s) (λ e. e ≡ BuildError.OutOfMemory) }
+    ensures { (s : WorldState) → IsSoundState s → is_proper readtables.now ≡ true
+        → object_of readtables.now ≡ readtables_object s → world.old.0 ≡ with_properties_of s
+        → OrNoMemory (world.new.0 ≡ with_readtables_of s) result }
 {
     for row in items_in(readtables)? {
         put_readtable(world, row)?;
@@ -198,9 +227,10 @@ fn put_readtables(world: &mut World, readtables: &Datum) -> Result<(), BuildErro
 
 // Sets what is current, in a world that has its packages and readtables.
 fn put_current(world: &mut World, home: &Datum, table: &Datum) -> Result<(), BuildError>
-    ensures { (s : WorldState) → IsSoundState s → is_proper home.now ≡ true → object_of home.now ≡ text s.current_package
-        → is_proper table.now ≡ true → object_of table.now ≡ text s.current_readtable → world.old.0 ≡ with_readtables_of s
-        → MatchResult result (λ _. world.new.0 ≡ s) (λ e. e ≡ BuildError.OutOfMemory) }
+    ensures { (s : WorldState) → IsSoundState s → is_proper home.now ≡ true
+        → object_of home.now ≡ text s.current_package → is_proper table.now ≡ true
+        → object_of table.now ≡ text s.current_readtable → world.old.0 ≡ with_readtables_of s
+        → OrNoMemory (world.new.0 ≡ s) result }
 {
     world.set_current_package(text_in(home)?.as_slice())?;
     world.set_current_readtable(text_in(table)?.as_slice())?;
@@ -209,9 +239,9 @@ fn put_current(world: &mut World, home: &Datum, table: &Datum) -> Result<(), Bui
 
 /// Makes the readtables of the third object of a snapshot, and what is current, in a world that has its packages.
 pub(crate) fn put_tables(world: &mut World, tables: &Datum) -> Result<(), BuildError>
-    ensures { (s : WorldState) → IsSoundState s → is_proper tables.now ≡ true → object_of tables.now ≡ tables_object s
-        → world.old.0 ≡ with_properties_of s
-        → MatchResult result (λ _. world.new.0 ≡ s) (λ e. e ≡ BuildError.OutOfMemory) }
+    ensures { (s : WorldState) → IsSoundState s → is_proper tables.now ≡ true
+        → object_of tables.now ≡ tables_object s → world.old.0 ≡ with_properties_of s
+        → OrNoMemory (world.new.0 ≡ s) result }
 {
     let [package, readtable, readtables] = items_in(tables)? else {
         return Err(BuildError::Damaged);

@@ -69,8 +69,10 @@ fn push_pair(
     sub: u8,
     function: Option<FnName>,
 ) -> Result<(), AllocError>
-    ensures objects { OnOk result (map object_of pairs.new.items ≡ map object_of pairs.old.items ++ dispatch_object function sub) }
-    ensures proper { list_all is_proper pairs.old.items ≡ true → OnOk result (list_all is_proper pairs.new.items ≡ true) }
+    ensures objects { OnOk result (map object_of pairs.new.items
+        ≡ map object_of pairs.old.items ++ dispatch_object function sub) }
+    ensures proper { list_all is_proper pairs.old.items ≡ true
+        → OnOk result (list_all is_proper pairs.new.items ≡ true) }
 {
     match function {
         Some(function) => {
@@ -85,7 +87,8 @@ fn push_pair(
 #[tactic(auto, using(crate::proofs::Ranges::flat_map_more))]
 fn pairs_below(alloc: Global, entry: &CharacterSlot, count: u8) -> Result<Vec<Datum>, AllocError>
     ensures objects { IfOk result (λ pairs. map object_of pairs.items
-        ≡ flat_map (λ sub. dispatch_object (get_or entry.now.dispatch sub None) sub) (range_with_len 0 count)) }
+        ≡ flat_map (λ sub. dispatch_object (get_or entry.now.dispatch sub None) sub)
+        (range_with_len 0 count)) }
     ensures proper { IfOk result (λ pairs. list_all is_proper pairs.items ≡ true) }
 {
     let mut pairs = Vec::new(alloc);
@@ -97,7 +100,8 @@ fn pairs_below(alloc: Global, entry: &CharacterSlot, count: u8) -> Result<Vec<Da
 
 // The sub-characters that have a function, in their order.
 fn dispatch_rows(alloc: Global, entry: &CharacterSlot) -> Result<Vec<Datum>, AllocError>
-    ensures objects { IfOk result (λ pairs. map object_of pairs.items ≡ dispatch_objects entry.now) }
+    ensures objects { IfOk result (λ pairs. map object_of pairs.items
+        ≡ dispatch_objects entry.now) }
     ensures proper { IfOk result (λ pairs. list_all is_proper pairs.items ≡ true) }
 {
     pairs_below(alloc, entry, 128)
@@ -136,9 +140,11 @@ fn push_entry(
     c: u8,
 ) -> Result<(), AllocError>
     requires { c < 128 }
-    ensures objects { OnOk result (map object_of rows.new.items ≡ map object_of rows.old.items
-        ++ map (λ c. entry_object c (entry_at table.now c)) (filter (λ c. not (same_entry (entry_at table.now c) (entry_at first.now c))) (c ∷ []))) }
-    ensures proper { list_all is_proper rows.old.items ≡ true → OnOk result (list_all is_proper rows.new.items ≡ true) }
+    ensures objects { OnOk result (map object_of rows.new.items
+        ≡ map object_of rows.old.items ++ map (λ c. entry_object c (entry_at table.now c))
+        (filter (λ c. not (same_entry (entry_at table.now c) (entry_at first.now c))) (c ∷ []))) }
+    ensures proper { list_all is_proper rows.old.items ≡ true
+        → OnOk result (list_all is_proper rows.new.items ≡ true) }
 {
     if !table.same_entry(first, c) {
         rows.push(entry_of(alloc, c, entry_here(table, c))?)?;
@@ -156,7 +162,9 @@ fn entries_below(
 ) -> Result<Vec<Datum>, AllocError>
     requires { count ≤ 128 }
     ensures objects { IfOk result (λ rows. map object_of rows.items
-        ≡ map (λ c. entry_object c (entry_at table.now c)) (filter (λ c. not (same_entry (entry_at table.now c) (entry_at first.now c))) (range_with_len 0 count))) }
+        ≡ map (λ c. entry_object c (entry_at table.now c))
+        (filter (λ c. not (same_entry (entry_at table.now c) (entry_at first.now c)))
+        (range_with_len 0 count))) }
     ensures proper { IfOk result (λ rows. list_all is_proper rows.items ≡ true) }
 {
     let mut rows = Vec::new(alloc);
@@ -223,8 +231,10 @@ pub(crate) fn table_named<'a>(world: &'a World, first: &'a Readtable, name: &[u8
 // The readtables of these names, but for the standard one.
 fn readtable_rows(alloc: Global, world: &World, names: &[Bytes]) -> Result<Vec<Datum>, AllocError>
     ensures objects { IfOk result (λ rows. map object_of rows.items
-        ≡ map (λ n. readtable_object n (table_named world.now.0 n)) (filter (λ n. not (bytes_eq n standard_name)) names.now)) }
-    ensures proper { list_all (λ name. list_all is_ascii name) names.now ≡ true → IfOk result (λ rows. list_all is_proper rows.items ≡ true) }
+        ≡ map (λ n. readtable_object n (table_named world.now.0 n))
+        (filter (λ n. not (bytes_eq n standard_name)) names.now)) }
+    ensures proper { list_all (λ name. list_all is_ascii name) names.now ≡ true
+        → IfOk result (λ rows. list_all is_proper rows.items ≡ true) }
 {
     let first = Readtable::standard(alloc)?;
     let mut rows = Vec::new(alloc);

@@ -1,13 +1,12 @@
 //! Lists of texts, as data and as text.
-ghost use Rattle.std.specs.Prelude.{◌≡◌, ◌&&◌, true, [], ◌∷◌, ◌++◌, codes, map, IfOk, OnOk};
+ghost use Rattle.std.specs.Prelude.{◌≡◌, ◌&&◌, true, [], ◌∷◌, ◌++◌, map, IfOk, OnOk};
 ghost use Rattle.std.specs.List.{list_all, flat_map};
 ghost use Rattle.lisp_object.specs.Object as object;
 ghost use Rattle.lisp_object.specs.Object.{list_of};
 ghost use Rattle.lisp_object.specs.Datum.{object_of, is_proper};
 ghost use Rattle.lisp_object.specs.Ascii.{is_ascii};
-ghost use Rattle.package_table.specs.Table.{common_lisp_user};
-ghost use Rattle.canon_printer.specs.Printed.{printed};
 ghost use Rattle.world_text.specs.Snapshot.{texts, imported_name};
+ghost use Rattle.snapshot_text.specs.Texts.{later_text, object_text};
 
 use crate::printing::push_printed;
 use lisp_object::{Bytes, Datum};
@@ -29,8 +28,10 @@ pub(crate) fn list_of_three(
     b: Datum,
     c: Datum,
 ) -> Result<Datum, AllocError>
-    ensures object { IfOk result (λ d. object_of d ≡ list_of (object_of a ∷ object_of b ∷ object_of c ∷ [])) }
-    ensures proper { is_proper a && (is_proper b && is_proper c) ≡ true → IfOk result (λ d. is_proper d ≡ true) }
+    ensures object { IfOk result (λ d. object_of d
+        ≡ list_of (object_of a ∷ object_of b ∷ object_of c ∷ [])) }
+    ensures proper { is_proper a && (is_proper b && is_proper c) ≡ true
+        → IfOk result (λ d. is_proper d ≡ true) }
 {
     let mut items = Vec::new(alloc);
     items.push(a)?;
@@ -42,7 +43,8 @@ pub(crate) fn list_of_three(
 // A list of these names, as texts.
 pub(crate) fn texts_of(alloc: Global, names: &[Bytes]) -> Result<Datum, AllocError>
     ensures object { IfOk result (λ d. object_of d ≡ texts names.now) }
-    ensures proper { list_all (λ name. list_all is_ascii name) names.now ≡ true → IfOk result (λ d. is_proper d ≡ true) }
+    ensures proper { list_all (λ name. list_all is_ascii name) names.now ≡ true
+        → IfOk result (λ d. is_proper d ≡ true) }
 {
     let mut items = Vec::new(alloc);
     for name in names {
@@ -54,7 +56,8 @@ pub(crate) fn texts_of(alloc: Global, names: &[Bytes]) -> Result<Datum, AllocErr
 // A name and a home, as texts.
 fn import_of(alloc: Global, name: &Bytes, home: &Bytes) -> Result<Datum, AllocError>
     ensures object { IfOk result (λ d. object_of d ≡ imported_name (name.now, home.now)) }
-    ensures proper { list_all is_ascii name.now && list_all is_ascii home.now ≡ true → IfOk result (λ d. is_proper d ≡ true) }
+    ensures proper { list_all is_ascii name.now && list_all is_ascii home.now ≡ true
+        → IfOk result (λ d. is_proper d ≡ true) }
 {
     let mut items = Vec::new(alloc);
     items.push(Datum::Text(name.copy(alloc)?))?;
@@ -65,7 +68,8 @@ fn import_of(alloc: Global, name: &Bytes, home: &Bytes) -> Result<Datum, AllocEr
 // A list of names, each with its home.
 pub(crate) fn imports_of(alloc: Global, imports: &[(Bytes, Bytes)]) -> Result<Datum, AllocError>
     ensures object { IfOk result (λ d. object_of d ≡ list_of (map imported_name imports.now)) }
-    ensures proper { list_all (λ r. list_all is_ascii r.0 && list_all is_ascii r.1) imports.now ≡ true
+    ensures proper { list_all (λ r. list_all is_ascii r.0 && list_all is_ascii r.1) imports.now
+        ≡ true
         → IfOk result (λ d. is_proper d ≡ true) }
 {
     let mut items = Vec::new(alloc);
@@ -83,7 +87,8 @@ pub(crate) fn push_text(
     name: &[u8],
 ) -> Result<(), AllocError>
     requires { list_all is_ascii name.now ≡ true }
-    ensures { OnOk result (text.new.items ≡ text.old.items ++ printed packages.now.0 common_lisp_user (object.text name.now)) }
+    ensures { OnOk result (text.new.items
+        ≡ text.old.items ++ object_text packages.now.0 (object.text name.now)) }
 {
     let datum = text_of(alloc, name)?;
     push_printed(alloc, text, datum, packages)
@@ -98,7 +103,8 @@ fn push_later(
 ) -> Result<(), AllocError>
     requires { list_all (λ n. list_all is_ascii n.now) names.now ≡ true }
     ensures { OnOk result (text.new.items
-        ≡ text.old.items ++ flat_map (λ n. codes " " ++ printed packages.now.0 common_lisp_user (object.text n.now)) names.now) }
+        ≡ text.old.items ++ flat_map (λ n. later_text packages.now.0
+        (object.text n.now)) names.now) }
 {
     for name in names {
         text.push(b' ')?;
@@ -115,7 +121,8 @@ pub(crate) fn push_texts(
     names: &[&[u8]],
 ) -> Result<(), AllocError>
     requires { list_all (λ n. list_all is_ascii n.now) names.now ≡ true }
-    ensures { OnOk result (text.new.items ≡ text.old.items ++ (codes " " ++ printed packages.now.0 common_lisp_user (texts (map (λ n. n.now) names.now)))) }
+    ensures { OnOk result (text.new.items
+        ≡ text.old.items ++ later_text packages.now.0 (texts (map (λ n. n.now) names.now))) }
 {
     text.push(b' ')?;
     let [first, others @ ..] = names else {

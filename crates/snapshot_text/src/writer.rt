@@ -28,7 +28,8 @@ fn push_line(
     packages: &Packages,
 ) -> Result<(), AllocError>
     requires { is_proper datum ≡ true }
-    ensures { OnOk result (text.new.items ≡ text.old.items ++ line packages.now.0 (object_of datum)) }
+    ensures { OnOk result (text.new.items
+        ≡ text.old.items ++ line packages.now.0 (object_of datum)) }
 {
     push_printed(alloc, text, datum, packages)?;
     end_line(text)
@@ -40,7 +41,8 @@ fn push_package_line(
     text: &mut Vec<u8>,
     packages: &Packages,
 ) -> Result<(), AllocError>
-    ensures { OnOk result (text.new.items ≡ text.old.items ++ line packages.now.0 (packages_object packages.now.0)) }
+    ensures { OnOk result (text.new.items
+        ≡ text.old.items ++ line packages.now.0 (packages_object packages.now.0)) }
 {
     push_packages(alloc, text, packages)?;
     end_line(text)
@@ -48,7 +50,8 @@ fn push_package_line(
 
 // Adds the line of the property lists.
 fn push_property_line(alloc: Global, text: &mut Vec<u8>, world: &World) -> Result<(), AllocError>
-    ensures { OnOk result (text.new.items ≡ text.old.items ++ line world.now.0.packages (properties_object world.now.0)) }
+    ensures { OnOk result (text.new.items
+        ≡ text.old.items ++ line world.now.0.packages (properties_object world.now.0)) }
 {
     push_properties(alloc, text, world)?;
     end_line(text)

@@ -8,7 +8,7 @@ use Rattle.std.proofs.lemmas.List.Folds.{list_all-append}
 use Rattle.lisp_object.specs.Object.{Object}
 use Rattle.token_meaning.specs.declared.refusal.MeaningRefusal.{MeaningRefusal}
 use Rattle.token_meaning.specs.declared.refusal.MeaningRefusal.TheVariants.{FloatToken}
-use Rattle.token_meaning.specs.Numerals.{is_digit, is_empty, are_digits, is_numeral, value, without_sign, cut}
+use Rattle.token_meaning.specs.Numerals.{is_digit_in, is_empty, are_digits, is_numeral, value, without_sign, cut}
 use Rattle.token_meaning.specs.Numbers.{is_point, is_exponent_marker, integer_of, decimal_form, is_pointed, is_mantissa, is_scaled, is_float, decimal_or_float_form}
 use Rattle.token_meaning.specs.Leading.{begins_with_digit, IsLeading, after_code, is_exponent}
 use Rattle.token_meaning.proofs.Parts.{cut_with, cut_without, cut_past, onto_front}
@@ -20,8 +20,8 @@ no_point ds e = none_among 10 is_point (λ c f. point_no_digit 10 c (lit≤ tt) 
 no_marker : (ds : List ℕ) → are_digits 10 ds ≡ true → list_any is_exponent_marker ds ≡ false
 no_marker ds e = none_among 10 is_exponent_marker marker_no_digit ds e
 
-not_all : (xs : List ℕ) (c : ℕ) (ys : List ℕ) → is_digit 10 c ≡ false → are_digits 10 (xs ++ c ∷ ys) ≡ false
-not_all xs c ys e = list_all-append (is_digit 10) xs (c ∷ ys) ∙ and_right (are_digits 10 xs) _ (and_left (is_digit 10 c) _ e)
+not_all : (xs : List ℕ) (c : ℕ) (ys : List ℕ) → is_digit_in 10 c ≡ false → are_digits 10 (xs ++ c ∷ ys) ≡ false
+not_all xs c ys e = list_all-append (is_digit_in 10) xs (c ∷ ys) ∙ and_right (are_digits 10 xs) _ (and_left (is_digit_in 10 c) _ e)
 
 all_of : (b : Bool) (ds : List ℕ) → are_digits 10 ds ≡ true → (are_digits 10 ds && b) ≡ b
 all_of b ds e = rw e refl
@@ -29,33 +29,33 @@ all_of b ds e = rw e refl
 -- what comes after the digits is no digit and no point
 abbrev pub IsApart : List ℕ → Type 0
 IsApart [] = Unit {0}
-IsApart (c ∷ cs) = (is_digit 10 c ≡ false) × (is_point c ≡ false)
+IsApart (c ∷ cs) = (is_digit_in 10 c ≡ false) × (is_point c ≡ false)
 
 -- ---- without a point after the digits
 
 -- what is cut at a point further on has no digit before it
-far_point : (ds : List ℕ) (c : ℕ) (o : Option (List ℕ × List ℕ)) → is_digit 10 c ≡ false → is_pointed (option_map (onto_front ds c) o) ≡ false
+far_point : (ds : List ℕ) (c : ℕ) (o : Option (List ℕ × List ℕ)) → is_digit_in 10 c ≡ false → is_pointed (option_map (onto_front ds c) o) ≡ false
 far_point ds c None e = refl
 far_point ds c (Some parts) e = and_left _ _ (not_all ds c parts.0 e)
 
-far_decimal : (negative : Bool) (ds : List ℕ) (c : ℕ) (o : Option (List ℕ × List ℕ)) → is_digit 10 c ≡ false → decimal_form negative (option_map (onto_front ds c) o) ≡ None
+far_decimal : (negative : Bool) (ds : List ℕ) (c : ℕ) (o : Option (List ℕ × List ℕ)) → is_digit_in 10 c ≡ false → decimal_form negative (option_map (onto_front ds c) o) ≡ None
 far_decimal negative ds c None e = refl
 far_decimal negative ds c (Some parts) e =
     let none : (is_numeral 10 (ds ++ c ∷ parts.0) && is_empty parts.1) ≡ false = and_left _ _ (mixed 10 ds c parts.0 e) in
     rw none refl
 
-far_mantissa : (ds : List ℕ) (c : ℕ) (xs : List ℕ) (o : Option (List ℕ × List ℕ)) → is_digit 10 c ≡ false
+far_mantissa : (ds : List ℕ) (c : ℕ) (xs : List ℕ) (o : Option (List ℕ × List ℕ)) → is_digit_in 10 c ≡ false
     → is_mantissa (ds ++ c ∷ xs) (option_map (onto_front ds c) o) ≡ false
 far_mantissa ds c xs None e = mixed 10 ds c xs e
 far_mantissa ds c xs (Some parts) e = and_left _ _ (and_left _ _ (not_all ds c parts.0 e))
 
-far_scaled : (ds : List ℕ) (c : ℕ) (o : Option (List ℕ × List ℕ)) → are_digits 10 ds ≡ true → is_digit 10 c ≡ false → is_point c ≡ false
+far_scaled : (ds : List ℕ) (c : ℕ) (o : Option (List ℕ × List ℕ)) → are_digits 10 ds ≡ true → is_digit_in 10 c ≡ false → is_point c ≡ false
     → is_scaled (option_map (onto_front ds c) o) ≡ false
 far_scaled ds c None are e point = refl
 far_scaled ds c (Some parts) are e point =
     and_left _ _ (ap (is_mantissa (ds ++ c ∷ parts.0)) (cut_past is_point ds c parts.0 (no_point ds are) point) ∙ far_mantissa ds c parts.0 (cut is_point parts.0) e)
 
-scaled_at : (ds : List ℕ) (c : ℕ) (cs : List ℕ) (b : Bool) → are_digits 10 ds ≡ true → is_digit 10 c ≡ false → is_point c ≡ false → is_exponent_marker c ≡ b
+scaled_at : (ds : List ℕ) (c : ℕ) (cs : List ℕ) (b : Bool) → are_digits 10 ds ≡ true → is_digit_in 10 c ≡ false → is_point c ≡ false → is_exponent_marker c ≡ b
     → is_scaled (cut is_exponent_marker (ds ++ c ∷ cs)) ≡ (not (is_empty ds) && (b && is_numeral 10 (without_sign cs)))
 scaled_at ds c cs true are e point marker =
     ap is_scaled (cut_with is_exponent_marker ds c cs (no_marker ds are) marker)
@@ -95,14 +95,14 @@ pointed_at ds fs (c ∷ rest) are fraction ends =
     ap is_pointed (cut_with is_point ds 46 (fs ++ c ∷ rest) (no_point ds are) refl) ∙ all_of (is_numeral 10 (fs ++ c ∷ rest)) ds are
     ∙ mixed 10 fs c rest ends ∙ sym (and_right (not (is_empty fs)) false refl)
 
-far_fraction : (ds fs : List ℕ) (c : ℕ) (o : Option (List ℕ × List ℕ)) → are_digits 10 ds ≡ true → is_digit 10 c ≡ false
+far_fraction : (ds fs : List ℕ) (c : ℕ) (o : Option (List ℕ × List ℕ)) → are_digits 10 ds ≡ true → is_digit_in 10 c ≡ false
     → is_scaled (option_map (onto_front ds 46) (option_map (onto_front fs c) o)) ≡ false
 far_fraction ds fs c None are e = refl
 far_fraction ds fs c (Some parts) are e =
     and_left _ _ (ap (is_mantissa (ds ++ 46 ∷ (fs ++ c ∷ parts.0))) (cut_with is_point ds 46 (fs ++ c ∷ parts.0) (no_point ds are) refl)
     ∙ and_left _ _ (and_right (are_digits 10 ds) _ (not_all fs c parts.0 e)))
 
-behind_fraction : (ds fs : List ℕ) (c : ℕ) (cs : List ℕ) (b : Bool) → are_digits 10 ds ≡ true → are_digits 10 fs ≡ true → is_digit 10 c ≡ false → is_exponent_marker c ≡ b
+behind_fraction : (ds fs : List ℕ) (c : ℕ) (cs : List ℕ) (b : Bool) → are_digits 10 ds ≡ true → are_digits 10 fs ≡ true → is_digit_in 10 c ≡ false → is_exponent_marker c ≡ b
     → is_scaled (option_map (onto_front ds 46) (cut is_exponent_marker (fs ++ c ∷ cs))) ≡ (not (is_empty ds && is_empty fs) && (b && is_numeral 10 (without_sign cs)))
 behind_fraction ds fs c cs true are fraction e marker =
     ap (λ o. is_scaled (option_map (onto_front ds 46) o)) (cut_with is_exponent_marker fs c cs (no_marker fs fraction) marker)

@@ -5,7 +5,7 @@ use Rattle.std.specs.Char.{digit_value}
 use Rattle.std.proofs.Math.Nat.{pow-suc, pow-zero}
 use Rattle.std.proofs.lemmas.Bool.{lt-ltb, and_from, and_right}
 use Rattle.std.proofs.lemmas.List.Folds.{list_all-append}
-use Rattle.token_meaning.specs.Numerals.{is_digit, is_empty, are_digits, is_numeral, value}
+use Rattle.token_meaning.specs.Numerals.{is_digit_in, is_empty, are_digits, is_numeral, value}
 use Rattle.token_meaning.specs.Results.{IsWorth}
 use Rattle.token_meaning.specs.Leading.{Leads, begins_with_digit, IsFirstDigit, IsLeading}
 use Rattle.token_meaning.proofs.Digits.{mixed}
@@ -37,7 +37,7 @@ one_more base text [] more some size next digit h first grows = absurd first
 one_more base text (c ∷ rest) more some size next digit h first grows = record {
   digits = h.digits ++ c ∷ [];
   split = h.split ∙ sym (append_assoc h.digits (c ∷ []) rest) ∙ ap (λ (xs : List ℕ). (h.digits ++ c ∷ []) ++ xs) first.2;
-  are = list_all-append (is_digit base) h.digits (c ∷ []) ∙ and_from _ _ h.are (and_from _ _ (lt-ltb _ _ first.0) refl);
+  are = list_all-append (is_digit_in base) h.digits (c ∷ []) ∙ and_from _ _ h.are (and_from _ _ (lt-ltb _ _ first.0) refl);
   there = some_more h.digits c;
   worth = subst (λ (n : ℕ). IsWorth next n)
       (ap (λ (n : ℕ). value base h.digits * base + n) first.1 ∙ sym (value_more base h.digits c)) (grows (value base h.digits) h.worth);

@@ -6,7 +6,7 @@ use Rattle.std.specs.Option.{option_map, option_or}
 use Rattle.std.proofs.lemmas.Bool.{and_from, and_left, and_right, eqb-true}
 use Rattle.lisp_object.specs.Object.{Object}
 use Rattle.token_meaning.specs.declared.refusal.MeaningRefusal.{MeaningRefusal}
-use Rattle.token_meaning.specs.Numerals.{is_digit, is_empty, are_digits, is_numeral, value, cut}
+use Rattle.token_meaning.specs.Numerals.{is_digit_in, is_empty, are_digits, is_numeral, value, cut}
 use Rattle.token_meaning.specs.Numbers.{is_slash, integer_of, ratio_of, integer_form, ratio_form, rational_form}
 use Rattle.token_meaning.specs.Leading.{IsLeading, after_code}
 use Rattle.token_meaning.proofs.Parts.{cut_with, cut_without, cut_past, onto_front}
@@ -32,14 +32,14 @@ no_slash base ds top e = none_among base is_slash (λ c f. slash_no_digit base c
 -- ---- digits, and a text that does not go on as a rational
 
 -- the part before the slash holds what is no digit
-far_slash : (base : ℕ) (negative : Bool) (ds : List ℕ) (c : ℕ) (o : Option (List ℕ × List ℕ)) → is_digit base c ≡ false
+far_slash : (base : ℕ) (negative : Bool) (ds : List ℕ) (c : ℕ) (o : Option (List ℕ × List ℕ)) → is_digit_in base c ≡ false
     → ratio_form base negative (option_map (onto_front ds c) o) ≡ None
 far_slash base negative ds c None e = refl
 far_slash base negative ds c (Some parts) e =
     passed_over (is_numeral base (ds ++ c ∷ parts.0) && is_numeral base parts.1) (ratio_of negative (value base (ds ++ c ∷ parts.0)) (value base parts.1))
     (and_left _ _ (mixed base ds c parts.0 e))
 
-no_ratio : (base : ℕ) (negative : Bool) (ds : List ℕ) (c : ℕ) (cs : List ℕ) → base ≤ 36 → are_digits base ds ≡ true → is_digit base c ≡ false
+no_ratio : (base : ℕ) (negative : Bool) (ds : List ℕ) (c : ℕ) (cs : List ℕ) → base ≤ 36 → are_digits base ds ≡ true → is_digit_in base c ≡ false
     → (b : Bool) → is_slash c ≡ b → (b && not (is_empty ds)) ≡ false → ratio_form base negative (cut is_slash (ds ++ c ∷ cs)) ≡ None
 no_ratio base negative ds c cs top are e false slash none =
     ap (ratio_form base negative) (cut_past is_slash ds c cs (no_slash base ds top are) slash) ∙ far_slash base negative ds c (cut is_slash cs) e
@@ -47,7 +47,7 @@ no_ratio base negative ds c cs top are e true slash none =
     ap (ratio_form base negative) (cut_with is_slash ds c cs (no_slash base ds top are) slash)
     ∙ passed_over (is_numeral base ds && is_numeral base cs) (ratio_of negative (value base ds) (value base cs)) (and_left _ _ (and_left _ _ none))
 
-no_rational : (base : ℕ) (negative : Bool) (ds : List ℕ) (c : ℕ) (cs : List ℕ) → base ≤ 36 → are_digits base ds ≡ true → is_digit base c ≡ false
+no_rational : (base : ℕ) (negative : Bool) (ds : List ℕ) (c : ℕ) (cs : List ℕ) → base ≤ 36 → are_digits base ds ≡ true → is_digit_in base c ≡ false
     → (is_slash c && not (is_empty ds)) ≡ false → rational_form base negative (ds ++ c ∷ cs) ≡ None
 no_rational base negative ds c cs top are e none =
     neither _ _ (passed_over (is_numeral base (ds ++ c ∷ cs)) (integer_of negative (value base (ds ++ c ∷ cs))) (mixed base ds c cs e))

@@ -3,7 +3,7 @@ use Rattle.std.specs.Prelude.{◌≡◌, ◌<◌, ℕ, Bool, true, false, not, �
 use Rattle.std.specs.Char.{digit_value}
 use Rattle.token_scan.specs.declared.mark.Mark.{Mark}
 use Rattle.token_scan.specs.declared.mark.Mark.TheVariants.{Plain, Quoted, Bar}
-use Rattle.token_meaning.specs.Numerals.{is_digit, is_empty, are_digits, is_numeral, value, without_sign}
+use Rattle.token_meaning.specs.Numerals.{is_digit_in, is_empty, are_digits, is_numeral, value, without_sign}
 use Rattle.token_meaning.specs.Numbers.{is_point, is_exponent_marker}
 use Rattle.token_meaning.specs.Results.{IsWorth}
 
@@ -31,7 +31,7 @@ pub record Leads (base : ℕ) (text : List ℕ) (some : Bool) (size : Option ℕ
 
 abbrev pub begins_with_digit : ℕ → List ℕ → Bool
 begins_with_digit base [] = false
-begins_with_digit base (c ∷ cs) = is_digit base c
+begins_with_digit base (c ∷ cs) = is_digit_in base c
 
 -- the first is a digit, and this comes after it
 abbrev pub IsFirstDigit : ℕ → List ℕ → ℕ → List ℕ → Type 0

@@ -5,15 +5,15 @@ use Rattle.std.specs.Option.{option_map}
 use Rattle.std.specs.Char.{digit_value}
 
 -- 0 to 9, then the letters of either case, worth 10 to 35, as far as the base goes
-abbrev pub is_digit : ℕ → ℕ → Bool
-is_digit base c = nat_lt (digit_value c) base
+abbrev pub is_digit_in : ℕ → ℕ → Bool
+is_digit_in base c = nat_lt (digit_value c) base
 
 abbrev pub is_empty : {X : Type 0} → List X → Bool
 is_empty [] = true
 is_empty (x ∷ xs) = false
 
 abbrev pub are_digits : ℕ → List ℕ → Bool
-are_digits base text = list_all (is_digit base) text
+are_digits base text = list_all (is_digit_in base) text
 
 -- one digit or more, and nothing else
 abbrev pub is_numeral : ℕ → List ℕ → Bool

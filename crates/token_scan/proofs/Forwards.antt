@@ -1,4 +1,4 @@
--- No place that a token gives is before its first byte, and a token that has begun has a mark.
+-- No offset that a token gives is before its first byte, and a token that has begun has a mark.
 use Rattle.std.proofs.Common.{◌≡◌, ◌≤◌, ◌<◌, length, not, ◌+◌, ◌-◌, ◌==◌, ◌||◌, ℕ, Bool, true, false, if◌then◌else◌, List, [], ◌∷◌, Ok, Err, MatchResult, IsTrue, refl, ap, arith}
 use Rattle.readtable_core.specs.declared.characters.Syntax.{Syntax}
 use Rattle.readtable_core.specs.declared.characters.Syntax.TheVariants.{Whitespace, Constituent, TerminatingMacro, NonTerminatingMacro, SingleEscape, MultipleEscape, Invalid}

@@ -30,9 +30,9 @@ pub bar_counts : (marks : List Mark) → character_count (Bar ∷ marks) ≡ cha
 bar_counts marks = sum_by-cons _ Bar marks ∙ (let h : 0 + character_count marks ≡ character_count marks = omega arith in h)
 
 -- one more mark in front
-more : (mark : Mark) (marks : List Mark) (rest : List TypedByte) (there place : ℕ) (r : Scanned)
-    → r ≡ Ok (marks, there, rest) → there ≡ place → with_front (mark ∷ []) r ≡ Ok (mark ∷ marks, place, rest)
-more mark marks rest there place r e p = ap (with_front (mark ∷ [])) e ∙ (λ i. Ok (mark ∷ marks, p i, rest))
+more : (mark : Mark) (marks : List Mark) (rest : List TypedByte) (there offset : ℕ) (r : Scanned)
+    → r ≡ Ok (marks, there, rest) → there ≡ offset → with_front (mark ∷ []) r ≡ Ok (mark ∷ marks, offset, rest)
+more mark marks rest there offset r e p = ap (with_front (mark ∷ [])) e ∙ (λ i. Ok (mark ∷ marks, p i, rest))
 
 pub escape_at : (bars : Bool) (escape x : TypedByte) (xs : List TypedByte) (left at : ℕ) → kind escape ≡ SingleEscape
     → from_bars bars left at (escape ∷ x ∷ xs) ≡ escaped x left (at + 1) (λ left. from_bars bars left (at + 1 + 1) xs)

@@ -28,17 +28,17 @@ put_after : (spells next : List TypedByte → List Mark → Type 0) (mark : Mark
     → ((taken : List TypedByte) (marks : List Mark) → next taken marks → spells (front ++ taken) (mark ∷ marks))
     → ((marks : List Mark) → character_count marks ≤ room → character_count (mark ∷ marks) ≤ left)
     → SplitsBy next room there xs r → SplitsBy spells left at (front ++ xs) (with_front (mark ∷ []) r)
-put_after spells next mark front left room at there xs (Ok (marks, «end», rest)) place spell count s = record {
+put_after spells next mark front left room at there xs (Ok (marks, «end», rest)) offset spell count s = record {
   taken = front ++ s.taken;
   split = ap (λ (ys : List TypedByte). front ++ ys) s.split ∙ sym (append_assoc front s.taken rest);
   spelled = spell s.taken marks s.spelled;
   fits = count marks s.fits;
   ends = s.ends;
-  place = omega (arith, s.place, place, length-append front s.taken);
+  offset = omega (arith, s.offset, offset, length-append front s.taken);
 }
-put_after spells next mark front left room at there xs (Err e) place spell count s = tt
+put_after spells next mark front left room at there xs (Err e) offset spell count s = tt
 
--- what holds of the text after a byte, in whichever place
+-- what holds of the text after a byte, in whichever offset
 abbrev pub After : List TypedByte → Type 0
 After xs = (bars : Bool) (left at : ℕ) → SplitsBy (Spells bars) left at xs (from_bars bars left at xs)
 
@@ -55,7 +55,7 @@ nothing_left false left at = record {
   spelled = nothing;
   fits = omega arith;
   ends = refl;
-  place = omega arith;
+  offset = omega arith;
 }
 nothing_left true left at = tt
 
@@ -109,7 +109,7 @@ ends_splits : (x : TypedByte) (xs : List TypedByte) (left at : ℕ) → IsTrue (
     → SplitsBy (Spells false) left at (x ∷ xs) (outside left at (x ∷ xs))
 ends_splits x xs left at e =
     subst (λ (r : Scanned). SplitsBy (Spells false) left at (x ∷ xs) r) (sym (outside_ends x xs left at e))
-    (record { taken = []; split = refl; spelled = nothing; fits = omega arith; ends = e; place = omega arith })
+    (record { taken = []; split = refl; spelled = nothing; fits = omega arith; ends = e; offset = omega arith })
 
 byte_splits : (x : TypedByte) (xs : List TypedByte) → After xs → AfterEscape xs → After (x ∷ xs)
 byte_splits x xs after escape bars left at = by_kind (kind x) bars refl

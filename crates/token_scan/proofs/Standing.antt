@@ -63,10 +63,10 @@ stands spells scanned table limit at text (Ok (marks, «end», rest)) gives s =
     record {
       taken = bytes s.taken;
       split = sym (bytes_typed table text) ∙ ap bytes s.split ∙ map-append _ s.taken rest;
-      place = s.place ∙ ap (λ (n : ℕ). at + n) (sym (length-map s.taken _));
+      offset = s.offset ∙ ap (λ (n : ℕ). at + n) (sym (length-map s.taken _));
       ends = subst (λ (xs : List TypedByte). IsTrue (may_end xs)) (sym both.of_rest) s.ends;
       again = λ other ends. given_again spells scanned table limit at s.taken marks other gives both.of_front s.spelled s.fits ends
-          ∙ (λ i. Ok (marks, sym s.place i, other));
+          ∙ (λ i. Ok (marks, sym s.offset i, other));
     }
 stands spells scanned table limit at text (Err e) gives s = tt
 

@@ -33,7 +33,7 @@ from_stage EscapedOutside left at text = escaped_outside left at text
 from_stage EscapedInside left at text = escaped_inside left at text
 from_stage (Refused refusal) left at text = fault refusal at
 
--- what the token gives if this text follows, from this place on
+-- what the token gives if this text follows, from this offset on
 abbrev pub token_from : Scan → ℕ → List TypedByte → Scanned
 token_from scan at text = with_front scan.marks (from_stage scan.stage scan.left at text)
 

@@ -60,7 +60,7 @@ pub record Splits (spells : List TypedByte → List Mark → Type 0) (limit at :
   pub spelled : spells taken marks
   pub fits : character_count marks ≤ limit
   pub ends : IsTrue (may_end rest)
-  pub place : «end» ≡ at + length taken
+  pub offset : «end» ≡ at + length taken
 
 -- A text of bytes under a readtable splits, and the bytes taken give the same token before each text where one may end.
 -- `scanned` is what a text gives as a token.
@@ -68,6 +68,6 @@ pub record Stands (table : Table) (scanned : List ℕ → ScannedBytes) (at : �
     (marks : List Mark) («end» : ℕ) (rest : List ℕ) : Type 0 where
   pub taken : List ℕ
   pub split : text ≡ taken ++ rest
-  pub place : «end» ≡ at + length taken
+  pub offset : «end» ≡ at + length taken
   pub ends : IsTrue (may_end (typed_text table rest))
   pub again : (other : List ℕ) → IsTrue (may_end (typed_text table other)) → scanned (taken ++ other) ≡ Ok (marks, «end», other)

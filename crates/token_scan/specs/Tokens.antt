@@ -31,7 +31,7 @@ pub record TokenFault : Type 0 where
   pub refusal : ScanRefusal
   pub at : ℕ
 
--- The marks of the token, the place after it and the rest of the text, or the first fault. Places count the bytes.
+-- The marks of the token, the offset after it and the rest of the text, or the first fault. Offsets count the bytes.
 abbrev pub Scanned : Type 0
 Scanned = Result (List Mark × ℕ × List TypedByte) TokenFault
 
@@ -43,7 +43,7 @@ abbrev pub with_front : List Mark → Scanned → Scanned
 with_front front (Ok (marks, at, rest)) = Ok (front ++ marks, at, rest)
 with_front front (Err e) = Err e
 
--- a character at this place, where so many may still come
+-- a character at this offset, where so many may still come
 abbrev pub one_more : ℕ → ℕ → (ℕ → Scanned) → Scanned
 one_more left at more = if left == 0 then fault TokenTooLong at else more (left - 1)
 
@@ -60,7 +60,7 @@ abbrev pub escaped : TypedByte → ℕ → ℕ → (ℕ → Scanned) → Scanned
 escaped x left at more =
     if is_character x then one_more left at (λ left. quoted x.byte (more left)) else fault InvalidCharacter at
 
--- What a token gives from this place of a text on, where so many characters may still come. A byte that ends the token is
+-- What a token gives from this offset of a text on, where so many characters may still come. A byte that ends the token is
 -- not taken.
 unfoldable mutual
   -- outside multiple escapes (step 8)
@@ -100,7 +100,7 @@ unfoldable mutual
   escaped_inside left at [] = fault EndOfFile at
   escaped_inside left at (x ∷ xs) = escaped x left at (λ left. inside left (at + 1) xs)
 
--- the token that begins at this place, of at most so many characters: bars and escapes are not counted
+-- the token that begins at this offset, of at most so many characters: bars and escapes are not counted
 abbrev pub token : ℕ → ℕ → List TypedByte → Scanned
 token limit at text = outside limit at text
 
@@ -117,7 +117,7 @@ typed table c = met (entry_at table c).syntax c
 abbrev pub typed_text : Table → List ℕ → List TypedByte
 typed_text table text = map (typed table) text
 
--- the marks, the place after the token and the rest of the bytes, or the first fault
+-- the marks, the offset after the token and the rest of the bytes, or the first fault
 abbrev pub ScannedBytes : Type 0
 ScannedBytes = Result (List Mark × ℕ × List ℕ) TokenFault
 

@@ -11,7 +11,7 @@ ghost use Rattle.token_scan.specs.Scans.{Scan, has_begun, token_from};
 /// What holds of every token (standard 2.2). A text that gives a token splits into the bytes that spell its marks, in
 /// whole, and the rest, which is empty or begins with a byte that ends a token; and each such text gives that token. Under
 /// a readtable the bytes taken give the same token by themselves and before each byte that ends one. The characters are
-/// below 128. No place that a token gives is before its first byte. A token that has begun has a mark where it may end. For
+/// below 128. No offset that a token gives is before its first byte. A token that has begun has a mark where it may end. For
 /// proofs: it does nothing.
 pub fn token_laws()
     ensures splits { (limit at : ℕ) (text : List TypedByte) →

@@ -288,9 +288,9 @@ fn is_another(alloc: Global, altered: &[u8]) -> Result<Option<bool>, Fail> {
 }
 
 // A text with one byte altered in this way.
-fn altered_at(alloc: Global, text: &[u8], place: usize, bits: u8) -> Result<Vec<u8>, AllocError> {
+fn altered_at(alloc: Global, text: &[u8], offset: usize, bits: u8) -> Result<Vec<u8>, AllocError> {
     let mut altered = Vec::from_slice(alloc, text)?;
-    if let Some(byte) = altered.get_mut(place) {
+    if let Some(byte) = altered.get_mut(offset) {
         *byte ^= bits;
     }
     Ok(altered)
@@ -300,8 +300,8 @@ fn altered_at(alloc: Global, text: &[u8], place: usize, bits: u8) -> Result<Vec<
 // world.
 fn read_altered(alloc: Global, text: &[u8], bits: u8) -> Result<Option<usize>, Fail> {
     let mut count = 0usize;
-    for place in 0..text.len() {
-        let altered = altered_at(alloc, text, place, bits)?;
+    for offset in 0..text.len() {
+        let altered = altered_at(alloc, text, offset, bits)?;
         match is_another(alloc, altered.as_slice())? {
             Some(true) => count = count.saturating_add(1),
             Some(false) => {}

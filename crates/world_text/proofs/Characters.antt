@@ -7,7 +7,7 @@ use Rattle.readtable_core.specs.declared.characters.Syntax.{Syntax}
 use Rattle.readtable_core.specs.declared.characters.Syntax.TheVariants.{Constituent}
 use Rattle.readtable_core.specs.Characters.{standard_syntax, has_invalid_trait, upper_case}
 use Rattle.token_scan.specs.Spelling.{is_plain, ends_tokens}
-use Rattle.token_meaning.specs.Numerals.{is_digit, is_sign}
+use Rattle.token_meaning.specs.Numerals.{is_digit_in, is_sign}
 use Rattle.token_meaning.specs.Numbers.{is_point, is_slash}
 use Rattle.canon_printer.specs.Names.{begins_plain, goes_on_plain, is_escaped_in_bars}
 
@@ -29,10 +29,10 @@ is_kept c = is_bare c && upper_case c == c
 
 -- a number may begin with it
 abbrev pub begins_number : ℕ → Bool
-begins_number c = is_digit 10 c || (is_sign c || is_point c)
+begins_number c = is_digit_in 10 c || (is_sign c || is_point c)
 
 abbrev pub in_number : ℕ → Bool
-in_number c = is_digit 10 c || (c == 45 || is_slash c)
+in_number c = is_digit_in 10 c || (c == 45 || is_slash c)
 
 implied : (a b : Bool) → (not a || b) ≡ true → a ≡ true → b ≡ true
 implied true b e f = e
@@ -60,7 +60,7 @@ pub kept_in_bars : (c : ℕ) → c < 128 → not (is_escaped_in_bars c) ≡ true
 kept_in_bars = by_table (λ c. not (is_escaped_in_bars c)) (λ c. is_plain (standard_syntax c) || ends_tokens (standard_syntax c)) refl
 
 -- a digit, a minus sign and a slash are below 128, and no point
-digit_below : (c : ℕ) → 128 ≤ c → is_digit 10 c ≡ false
+digit_below : (c : ℕ) → 128 ≤ c → is_digit_in 10 c ≡ false
 digit_below c h = grind (arith, common_steps)
 
 pub in_number_below : (c : ℕ) → in_number c ≡ true → c < 128

@@ -14,11 +14,11 @@ use Rattle.lisp_reading.specs.declared.found.Found.{Found}
 use Rattle.lisp_reading.specs.declared.found.Found.TheVariants.{Nothing as nothing, One as one, LoneDot as lone_dot}
 use Rattle.lisp_reading.specs.Plans.{Plan, gives, then_plan, Read, run}
 use Rattle.lisp_reading.specs.Setting.{Setting}
-use Rattle.lisp_reading.specs.Reading.{Piece, item, dot, closed, without_space, is_whitespace, at_place, or_closed, place_turn, place, Items, items_step, items_turn, items_after, undotted, after_tail, after_dot, list_end, finished, attempt}
+use Rattle.lisp_reading.specs.Reading.{Piece, item, dot, closed, without_space, is_whitespace, piece_of, or_closed, next_item_turn, next_item, Items, items_step, items_turn, items_after, undotted, after_tail, after_dot, list_end, finished, attempt}
 use Rattle.form_reader.proofs.Attempts.{takes_is, passes_is}
 use Rattle.form_reader.proofs.Opened.{then_moves}
 use Rattle.lisp_reading.proofs.Steps.{and_then, run_then}
-use Rattle.lisp_reading.proofs.Turns.{attempt_ends, loop_is, place_guarded, items_guarded}
+use Rattle.lisp_reading.proofs.Turns.{attempt_ends, loop_is, next_item_guarded, items_guarded}
 use Rattle.world_text.proofs.Begun.{under, begun, space_begun}
 use Rattle.user_macros.specs.Functions.{Functions}
 
@@ -41,51 +41,51 @@ module _ (limits : Limits) (packages : Packages) (current : Name) (functions : F
   items d xs = items_after s 41 (attempt s d) xs
 
   abbrev piece : ℕ → Plan Piece
-  piece d = place s (Some 41) (attempt s d)
+  piece d = next_item s (Some 41) (attempt s d)
 
   -- ---- one turn
 
   -- an attempt, where the closing parenthesis was not found
   abbrev attempt_piece : ℕ → Plan Piece
-  attempt_piece d = then_plan (attempt s d) (λ found. at_place standard (piece d) found)
+  attempt_piece d = then_plan (attempt s d) (λ found. piece_of standard (piece d) found)
 
-  place_is : (d at : ℕ) (cs : List ℕ) → at ≤ limits.text
-      → run standard limits (piece d) at cs ≡ run standard limits (or_closed (Some 41) (then_plan (attempt s d) (λ found. at_place standard (piece d) found))) at cs
-  place_is d at cs h =
-      loop_is standard limits (place_turn standard (Some 41) (attempt s d)) (place_guarded standard limits (Some 41) (attempt s d) (attempt_ends s _ _)) tt at cs h
+  next_item_is : (d at : ℕ) (cs : List ℕ) → at ≤ limits.text
+      → run standard limits (piece d) at cs ≡ run standard limits (or_closed (Some 41) (then_plan (attempt s d) (λ found. piece_of standard (piece d) found))) at cs
+  next_item_is d at cs h =
+      loop_is standard limits (next_item_turn standard (Some 41) (attempt s d)) (next_item_guarded standard limits (Some 41) (attempt s d) (attempt_ends s _ _)) tt at cs h
 
   items_is : (d : ℕ) (xs : List Object) (at : ℕ) (cs : List ℕ) → at ≤ limits.text
       → run standard limits (items d xs) at cs ≡ run standard limits (then_plan (piece d) (λ p. items_step standard (items d) xs p)) at cs
   items_is d xs at cs h =
       loop_is standard limits (items_turn s 41 (attempt s d)) (items_guarded s 41 (attempt s d) (attempt_ends s _ _)) xs at cs h
 
-  -- ---- a place
+  -- ---- what comes next
 
   closed_here : (d at : ℕ) (cs : List ℕ) → at < limits.text → run standard limits (piece d) at (41 ∷ cs) ≡ Ok (closed, at + 1, cs)
   unfolding run
-  closed_here d at cs fits = place_is d at (41 ∷ cs) (omega arith) ∙ takes_is standard limits (attempt_piece d) (λ c. c == 41) (λ c. gives closed) at 41 cs fits refl
+  closed_here d at cs fits = next_item_is d at (41 ∷ cs) (omega arith) ∙ takes_is standard limits (attempt_piece d) (λ c. c == 41) (λ c. gives closed) at 41 cs fits refl
 
   attempted_here : (d at : ℕ) (text : List ℕ) → at ≤ limits.text → is_open text ≡ true
-      → run standard limits (piece d) at text ≡ and_then standard limits (λ found. at_place standard (piece d) found) (attempted d at text)
+      → run standard limits (piece d) at text ≡ and_then standard limits (λ found. piece_of standard (piece d) found) (attempted d at text)
   attempted_here d at [] h opens = absurd cc
   attempted_here d at (c ∷ cs) h opens =
-      place_is d at (c ∷ cs) h
+      next_item_is d at (c ∷ cs) h
       ∙ passes_is standard limits (attempt_piece d) (λ c. c == 41) (λ c. gives closed) at c cs (not-true _ opens)
-      ∙ run_then standard limits (attempt s d) (λ found. at_place standard (piece d) found) at (c ∷ cs)
+      ∙ run_then standard limits (attempt s d) (λ found. piece_of standard (piece d) found) at (c ∷ cs)
 
   space_here : (d at : ℕ) (cs : List ℕ) → at < limits.text → run standard limits (piece d) at (32 ∷ cs) ≡ run standard limits (piece d) (at + 1) cs
   space_here d at cs fits =
-      attempted_here d at (32 ∷ cs) (omega arith) refl ∙ ap (and_then standard limits (λ found. at_place standard (piece d) found)) (at_space d at cs fits)
+      attempted_here d at (32 ∷ cs) (omega arith) refl ∙ ap (and_then standard limits (λ found. piece_of standard (piece d) found)) (at_space d at cs fits)
 
   item_here : (d at : ℕ) (text : List ℕ) (token : Bool) (x : Object) (next : ℕ) (rest : List ℕ) → at ≤ limits.text → is_open text ≡ true
       → attempted d at text ≡ Ok (one token x, next, rest) → run standard limits (piece d) at text ≡ Ok (item token x, next, rest)
   unfolding run
-  item_here d at text token x next rest h opens e = attempted_here d at text h opens ∙ ap (and_then standard limits (λ found. at_place standard (piece d) found)) e
+  item_here d at text token x next rest h opens e = attempted_here d at text h opens ∙ ap (and_then standard limits (λ found. piece_of standard (piece d) found)) e
 
   dot_here : (d at : ℕ) (cs : List ℕ) (next : ℕ) (rest : List ℕ) → at ≤ limits.text
       → attempted d at (46 ∷ cs) ≡ Ok (lone_dot, next, rest) → run standard limits (piece d) at (46 ∷ cs) ≡ Ok (dot, next, rest)
   unfolding run
-  dot_here d at cs next rest h e = attempted_here d at (46 ∷ cs) h refl ∙ ap (and_then standard limits (λ found. at_place standard (piece d) found)) e
+  dot_here d at cs next rest h e = attempted_here d at (46 ∷ cs) h refl ∙ ap (and_then standard limits (λ found. piece_of standard (piece d) found)) e
 
   -- ---- objects in a row
 

@@ -10,7 +10,7 @@ use Rattle.token_scan.specs.declared.mark.Mark.TheVariants.{Plain, Quoted, Bar}
 use Rattle.token_meaning.specs.declared.refusal.MeaningRefusal.{MeaningRefusal}
 use Rattle.token_meaning.specs.declared.token.TokenName.TheVariants.{Unqualified, Keyword, External, Internal}
 use Rattle.token_scan.specs.Marks.{characters}
-use Rattle.token_meaning.specs.Numerals.{is_digit, is_sign, is_numeral, are_digits, is_empty}
+use Rattle.token_meaning.specs.Numerals.{is_digit_in, is_sign, is_numeral, are_digits, is_empty}
 use Rattle.token_meaning.specs.Numbers.{is_point, number_of}
 use Rattle.token_meaning.specs.Grammar.{Sign, absent, plus, minus, spelled, IsNumber}
 use Rattle.token_meaning.specs.Folding.{in_upper_case}
@@ -37,15 +37,15 @@ signed_begins minus body e = refl
 
 numeral_begins : (ds more : List ℕ) → is_numeral 10 ds ≡ true → begins (ds ++ more) ≡ true
 numeral_begins [] more e = absurd cc
-numeral_begins (d ∷ ds) more e = or_left (is_digit 10 d) _ (and_parts (is_digit 10 d) (are_digits 10 ds) e).0
+numeral_begins (d ∷ ds) more e = or_left (is_digit_in 10 d) _ (and_parts (is_digit_in 10 d) (are_digits 10 ds) e).0
 
 bare_numeral_begins : (ds : List ℕ) → is_numeral 10 ds ≡ true → begins ds ≡ true
 bare_numeral_begins [] e = absurd cc
-bare_numeral_begins (d ∷ ds) e = or_left (is_digit 10 d) _ (and_parts (is_digit 10 d) (are_digits 10 ds) e).0
+bare_numeral_begins (d ∷ ds) e = or_left (is_digit_in 10 d) _ (and_parts (is_digit_in 10 d) (are_digits 10 ds) e).0
 
 point_begins : (ds more : List ℕ) → are_digits 10 ds ≡ true → begins (ds ++ 46 ∷ more) ≡ true
 point_begins [] more e = refl
-point_begins (d ∷ ds) more e = or_left (is_digit 10 d) _ (and_parts (is_digit 10 d) (are_digits 10 ds) e).0
+point_begins (d ∷ ds) more e = or_left (is_digit_in 10 d) _ (and_parts (is_digit_in 10 d) (are_digits 10 ds) e).0
 
 number_begins : (text : List ℕ) (given : Result Object MeaningRefusal) → IsNumber 10 text given → begins text ≡ true
 number_begins text given (inl (negative, size, inl h, is)) = ap begins h.parts ∙ signed_begins h.sign h.digits (bare_numeral_begins h.digits h.numeral)
@@ -79,7 +79,7 @@ by_mark (Quoted c) ms e = refl
 by_mark Bar ms e = refl
 by_mark (Plain c) ms e =
     let fails : begins_number c ≡ false = not-true _ e in
-    let later = (or_parts (is_digit 10 c) _ fails).1 in
+    let later = (or_parts (is_digit_in 10 c) _ fails).1 in
     let no_point : is_point c ≡ false = (or_parts (is_sign c) (is_point c) later).1 in
     let none : number_of 10 (c ∷ characters ms) ≡ None = no_number (c ∷ characters ms) fails in
     elim (list_all is_plain_mark ms)

@@ -17,7 +17,7 @@ use Rattle.lisp_object.specs.Object.{Object, integer, rational}
 use Rattle.lisp_object.specs.Lowest.{IsLowest}
 use Rattle.lisp_object.specs.Quotient.{quotient}
 use Rattle.lisp_object.proofs.Quotients.{lowest_stays}
-use Rattle.token_meaning.specs.Numerals.{is_digit, is_numeral, are_digits, is_empty, value, signed, is_in_range}
+use Rattle.token_meaning.specs.Numerals.{is_digit_in, is_numeral, are_digits, is_empty, value, signed, is_in_range}
 use Rattle.token_meaning.specs.Numbers.{is_point, ratio_of, number_of}
 use Rattle.token_meaning.specs.Grammar.{Sign, absent, minus, IsDigits, IsRatio}
 use Rattle.token_meaning.proofs.Spelled.{digits_given, ratio_given}
@@ -140,8 +140,8 @@ ratio_is_given n d fits small is =
 digits_in_number : (ds : List ℕ) → are_digits 10 ds ≡ true → list_all in_number ds ≡ true
 digits_in_number [] e = refl
 digits_in_number (d ∷ ds) e =
-    let both = and_parts (is_digit 10 d) (are_digits 10 ds) e in
-    and_from _ _ (or_left (is_digit 10 d) _ both.0) (digits_in_number ds both.1)
+    let both = and_parts (is_digit_in 10 d) (are_digits 10 ds) e in
+    and_from _ _ (or_left (is_digit_in 10 d) _ both.0) (digits_in_number ds both.1)
 
 decimal_in_number : (n : ℕ) → n < 2 ^ 128 → list_all in_number (decimal n) ≡ true
 decimal_in_number n h = digits_in_number (decimal n) (and_parts _ (are_digits 10 (decimal n)) (decimal_numeral n h)).1

@@ -53,8 +53,8 @@ text_read limits got (c ∷ cs) rest at ascii fits =
     let below = first c cs ascii in
     let plan = λ (got : List ℕ). loop limits (text_turn standard 34) got in
     let text : Bool → List ℕ = λ b. (if b then codes "\\" ++ c ∷ [] else c ∷ []) ++ more in
-    let later : (place : ℕ) → place + length more < limits.text → run standard limits (plan (got ++ c ∷ [])) place (more ++ 34 ∷ rest) ≡ Ok (got ++ c ∷ cs, place + length more + 1, rest)
-    = λ place room. text_read limits (got ++ c ∷ []) cs rest place (others c cs ascii) room ∙ ap (λ (s : List ℕ). Ok (s, place + length more + 1, rest)) (append_assoc got (c ∷ []) cs) in
+    let later : (offset : ℕ) → offset + length more < limits.text → run standard limits (plan (got ++ c ∷ [])) offset (more ++ 34 ∷ rest) ≡ Ok (got ++ c ∷ cs, offset + length more + 1, rest)
+    = λ offset room. text_read limits (got ++ c ∷ []) cs rest offset (others c cs ascii) room ∙ ap (λ (s : List ℕ). Ok (s, offset + length more + 1, rest)) (append_assoc got (c ∷ []) cs) in
     elim (is_escaped_in_text c)
     as (λ b. is_escaped_in_text c ≡ b → at + length (text b) < limits.text → run standard limits (plan got) at (text b ++ 34 ∷ rest) ≡ Ok (got ++ c ∷ cs, at + length (text b) + 1, rest)) [
       | true ↦ λ _ room.

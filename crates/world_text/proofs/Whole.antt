@@ -93,9 +93,9 @@ module _ (limits : Limits) (packages : Packages) (current : Name) (functions : F
   Attempted x text = (d at : ℕ) (rest : List ℕ) → object_depth x ≤ d → at + length text ≤ limits.text → may_end (met_text rest) ≡ true
       → attempted d at (text ++ rest) ≡ Ok (one (ends_with_token x) x, at + length text, rest)
 
-  -- the place may be written in another way
-  placed : (token : Bool) (x : Object) (there place : ℕ) (rest : List ℕ) (r : Read Found) → r ≡ Ok (one token x, there, rest) → there ≡ place → r ≡ Ok (one token x, place, rest)
-  placed token x there place rest r e p = e ∙ (λ i. Ok (one token x, p i, rest))
+  -- the offset may be written in another way
+  placed : (token : Bool) (x : Object) (there offset : ℕ) (rest : List ℕ) (r : Read Found) → r ≡ Ok (one token x, there, rest) → there ≡ offset → r ≡ Ok (one token x, offset, rest)
+  placed token x there offset rest r e p = e ∙ (λ i. Ok (one token x, p i, rest))
 
   -- ---- atoms
 
@@ -113,7 +113,7 @@ module _ (limits : Limits) (packages : Packages) (current : Name) (functions : F
   character_good c below few d at rest deep fits ends =
       let name = character_name c in
       let next : ℕ = at + 1 + 1 + length name in
-      let place : next ≡ at + length (35 ∷ 92 ∷ name) = omega arith in
+      let offset : next ≡ at + length (35 ∷ 92 ∷ name) = omega arith in
       let is : character_of (characters (character_marks name)) ≡ given (o.character c) =
       ap character_of (marks_are name) ∙ character_is name ∙ ap character_or_refused (character_found c below) in
       placed true (o.character c) next (at + length (35 ∷ 92 ∷ name)) rest _
@@ -121,7 +121,7 @@ module _ (limits : Limits) (packages : Packages) (current : Name) (functions : F
       ∙ scan_is standard limits true limits.token (λ marks. completed s (limits.nesting - d) (sub_call limits packages current functions 92 Char) true false (marked marks)) (at + 1 + 1) (name ++ rest) (character_marks name) next rest
       (character_read c limits.token (at + 1 + 1) rest below few ends) (omega arith)
       ∙ ap (λ (v : Value). run standard limits (finished true v) next rest) is)
-      place
+      offset
 
   own_value : (marks : List Mark) → is_own_name marks ≡ true → (own : List ℕ) → characters (in_upper_case marks) ≡ own → uninterned_of Upcase marks ≡ given (o.uninterned own)
   own_value marks e own same = rw e (ap (λ (n : List ℕ). given (o.uninterned n)) same)
@@ -136,7 +136,7 @@ module _ (limits : Limits) (packages : Packages) (current : Name) (functions : F
       let text = printed_name own in
       let marks = name_marks own in
       let next : ℕ = at + 1 + 1 + length text in
-      let place : next ≡ at + length (35 ∷ 58 ∷ text) = omega arith in
+      let offset : next ≡ at + length (35 ∷ 58 ∷ text) = omega arith in
       let count : character_count marks ≤ limits.token = omega (arith, name_count own) in
       let read = uninterned_read own limits.token (at + 1 + 1) rest ascii count ends in
       placed true (o.uninterned own) next (at + length (35 ∷ 58 ∷ text)) rest _
@@ -144,7 +144,7 @@ module _ (limits : Limits) (packages : Packages) (current : Name) (functions : F
       ∙ scan_is standard limits false limits.token (λ marks. completed s (limits.nesting - d) (sub_call limits packages current functions 58 Uninterned) true false (marked marks)) (at + 1 + 1) (text ++ rest) marks next rest
       read.0 (omega arith)
       ∙ ap (λ (v : Value). run standard limits (finished true v) next rest) (own_value marks (own_name marks (not_empty marks (is_name own ascii).starts) read.1) own read.2))
-      place
+      offset
 
   text_good : (bytes : List ℕ) → IsAscii bytes → Attempted (o.text bytes) (printed_text bytes)
   unfolding run

@@ -25,12 +25,14 @@ ghost use Rattle.user_macros.specs.Functions.{Functions};
 /// the limits, whatever functions are registered. Where the text ends with a token, one whitespace character after it is
 /// discarded with it.
 pub fn printed_objects_read_back()
-    ensures { (limits : Limits) (packages : Packages) (current : Name) (functions : Functions) (x : Object) (rest : List ℕ)
+    ensures { (limits : Limits) (packages : Packages) (current : Name) (functions : Functions)
+        (x : Object) (rest : List ℕ)
         → IsSound packages → IsSoundObject x → HasAllSymbols packages x
         → object_depth x ≤ limits.nesting → length (printed packages current x) ≤ limits.text
         → 0 < limits.token → AreTokensWithin packages current limits.token x
         → IsTrue (may_end (typed_text standard rest))
-        → reads (setting_of limits standard packages current functions) (printed packages current x ++ rest)
+        → reads (setting_of limits standard packages current functions)
+        (printed packages current x ++ rest)
         ≡ form x 0 (length (printed packages current x))
         (length (printed packages current x) + space_at standard (ends_with_token x) rest) }
 {}
@@ -38,19 +40,24 @@ pub fn printed_objects_read_back()
 /// A text is that of one sound state at most: what a snapshot does not say, a state does not have. So a world that `read`
 /// gives is the one whose text the bytes are.
 pub fn one_text_one_state()
-    ensures { (s t : WorldState) → IsSoundState s → IsSoundState t → snapshot s ≡ snapshot t → s ≡ t }
+    ensures { (s t : WorldState) → IsSoundState s → IsSoundState t → snapshot s ≡ snapshot t
+        → s ≡ t }
 {}
 
 /// The lines of the text of a sound state are read, under the limits of a snapshot: each as the object that it is of, up to
 /// its newline and whatever follows. The first is read with any packages, and the others with those of the state.
 pub fn snapshot_lines_are_read()
-    ensures packages { (s : WorldState) (first : Packages) (functions : Functions) (rest : List ℕ) → IsSoundState s → IsSound first
+    ensures packages { (s : WorldState) (first : Packages) (functions : Functions) (rest : List ℕ)
+        → IsSoundState s → IsSound first
         → length (printed s.packages common_lisp_user (packages_object s.packages)) ≤ 4294967295
-        → IsLineRead (setting_of snapshot_limits standard first common_lisp_user functions) s.packages (packages_object s.packages) rest }
+        → IsLineRead (setting_of snapshot_limits standard first common_lisp_user functions)
+        s.packages (packages_object s.packages) rest }
     ensures properties { (s : WorldState) (functions : Functions) (rest : List ℕ) → IsSoundState s
         → length (printed s.packages common_lisp_user (properties_object s)) ≤ 4294967295
-        → IsLineRead (setting_of snapshot_limits standard s.packages common_lisp_user functions) s.packages (properties_object s) rest }
+        → IsLineRead (setting_of snapshot_limits standard s.packages common_lisp_user functions)
+        s.packages (properties_object s) rest }
     ensures tables { (s : WorldState) (functions : Functions) (rest : List ℕ) → IsSoundState s
         → length (printed s.packages common_lisp_user (tables_object s)) ≤ 4294967295
-        → IsLineRead (setting_of snapshot_limits standard s.packages common_lisp_user functions) s.packages (tables_object s) rest }
+        → IsLineRead (setting_of snapshot_limits standard s.packages common_lisp_user functions)
+        s.packages (tables_object s) rest }
 {}

@@ -2,7 +2,7 @@
 ghost use Rattle.std.specs.Prelude.{◌≡◌};
 ghost use Rattle.user_macros.specs.Calls.{answer_of, call_of};
 ghost use Rattle.user_macros.specs.Sound.{IsSoundCall};
-ghost use Rattle.reader_tests.specs.Sample.{sample_functions, sample_names, scaled};
+ghost use Rattle.reader_tests.specs.Sample.{sample_functions, sample_names, scale_answer};
 
 use lisp_object::Datum;
 use readtable_core::FnName;
@@ -50,7 +50,7 @@ impl Meaning for Sample {
 #[tactic(auto, using(lisp_object::proofs::Objects::object_laws))]
 pub fn scale(call: &Call) -> Answer
     requires { IsSoundCall call.now }
-    ensures { answer_of result ≡ scaled call.now.number (call_of call.now).gathered }
+    ensures { answer_of result ≡ scale_answer call.now.number (call_of call.now).gathered }
 {
     let Some(number) = call.number else {
         return Answer::Refused(2);

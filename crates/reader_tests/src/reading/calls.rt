@@ -109,7 +109,7 @@ fn ways_of_gathering_characters(rt: HostRuntime) -> Result<(), Fail> {
     Ok(())
 }
 
-// The number and the place of a refusal; 0 and where the next form begins, of a form.
+// The number and the offset of a refusal; 0 and where the next form begins, of a form.
 fn refusal(outcome: &ReadOutcome) -> (usize, usize) {
     match outcome {
         ReadOutcome::Form { next, .. } => (0, *next),
@@ -160,7 +160,7 @@ fn symbols_and_their_homes(rt: HostRuntime) -> Result<(), Fail> {
     Ok(())
 }
 
-// A number or 0, a place, what is before the lists, how many lists are in one another, and what is in the innermost.
+// A number or 0, an offset, what is before the lists, how many lists are in one another, and what is in the innermost.
 const AT_A_LIMIT: &str = "\
 0,198,!,98,A
 21,200,!,99,A
@@ -175,7 +175,7 @@ fn answers_at_a_limit(rt: HostRuntime) -> Result<(), Fail> {
     let wrap = name_of(b"WRAP");
     for row in AT_A_LIMIT.split('\n') {
         let (code, rest) = number(row);
-        let (place, rest) = number(rest);
+        let (offset, rest) = number(rest);
         let (front, rest) = field(rest);
         let (depth, object) = number(rest);
         let closed = repeated(&rt, object.as_bytes(), b")", depth, b"")?;
@@ -187,7 +187,7 @@ fn answers_at_a_limit(rt: HostRuntime) -> Result<(), Fail> {
             { wrapped(alloc, call) },
         )?;
         assert!(rt;
-            refusal(&read_with(&rt, wrap, function, text.as_slice())?) == (code, place),
+            refusal(&read_with(&rt, wrap, function, text.as_slice())?) == (code, offset),
             "{row}"
         );
     }

@@ -32,7 +32,7 @@ fn text_of(rt: &HostRuntime, row: &str) -> Result<Vec<u8>, Fail> {
     )
 }
 
-// A number, a place, and a text that is refused so.
+// A number, an offset, and a text that is refused so.
 const PAST_A_LIMIT: &str = "\
 22,100,,(,101,
 1,100,,(,100,
@@ -47,9 +47,9 @@ const PAST_A_LIMIT: &str = "\
 fn texts_past_a_limit(rt: HostRuntime) -> Result<(), Fail> {
     for row in PAST_A_LIMIT.split('\n') {
         let (code, rest) = number(row);
-        let (place, rest) = number(rest);
+        let (offset, rest) = number(rest);
         let text = text_of(&rt, rest)?;
-        assert!(rt; refused(&rt, text.as_slice())? == (code, place), "{row}");
+        assert!(rt; refused(&rt, text.as_slice())? == (code, offset), "{row}");
     }
     Ok(())
 }

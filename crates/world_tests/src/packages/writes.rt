@@ -218,7 +218,7 @@ fn imports_of_r(alloc: Global, packages: &Packages) -> bool {
 
 // A name of five letters, another for each number below 16^5.
 fn name_of(number: u64) -> [u8; 5] {
-    let letter = |place: u64| b'A' + ((number >> place) & 15) as u8;
+    let letter = |shift: u64| b'A' + ((number >> shift) & 15) as u8;
     [letter(16), letter(12), letter(8), letter(4), letter(0)]
 }
 

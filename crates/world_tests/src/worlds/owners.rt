@@ -66,8 +66,8 @@ const OWNERS: [(&[u8], &[u8]); 5] = [
 
 // Whether each symbol has the number that was put at it.
 fn have_their_own(world: &World) -> bool {
-    PUT.iter().enumerate().all(|(place, (home, name))| {
-        matches!(world.plist_of(home, name), [property] if super::is_number(Some(property.value()), place as i128))
+    PUT.iter().enumerate().all(|(index, (home, name))| {
+        matches!(world.plist_of(home, name), [property] if super::is_number(Some(property.value()), index as i128))
     })
 }
 
@@ -76,8 +76,8 @@ fn symbols_that_have_properties_are_in_order(rt: HostRuntime) -> Result<(), Fail
     let alloc = rt.alloc();
     let mut world = world_of(alloc)?;
     assert!(rt; are_owners(alloc, &world, &[]));
-    for (place, (home, name)) in PUT.iter().enumerate() {
-        assert!(rt; put_at(alloc, &mut world, home, name, place as i128).is_some());
+    for (index, (home, name)) in PUT.iter().enumerate() {
+        assert!(rt; put_at(alloc, &mut world, home, name, index as i128).is_some());
     }
     assert!(rt; are_owners(alloc, &world, &OWNERS) && have_their_own(&world));
     // a symbol without properties, and names of no symbol

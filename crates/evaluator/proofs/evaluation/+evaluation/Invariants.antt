@@ -2,7 +2,7 @@ use Rattle.std.proofs.Common.{◌≡◌, All, map, drop}
 use Rattle.lisp_object.specs.Object.{list_of}
 use Rattle.lisp_object.specs.Datum.{object_of}
 use Rattle.evaluator.specs.Gathered.{followed}
-use Rattle.lisp_operators.specs.Evaluated.{IsArgument, Keeps}
+use Rattle.lisp_operators.specs.Evaluated.{IsArgument, KeepsArguments}
 use Rattle.evaluator.proofs.evaluation.+evaluation.Given as goal
 
 abbrev pub invariant-extended-loop-i : goal.invariant-extended-loop-i
@@ -11,6 +11,6 @@ invariant-extended-loop-i l = record {
       ≡ followed l.names (map object_of l.values.values.items) l.values.wrote l.world.0 (list_of (map object_of (drop l.i l.forms)));
   values : All (IsArgument l.world.0.packages) l.values.values.items;
   forms : All (IsArgument l.world.0.packages) l.forms;
-  kept : Keeps l.fn.world.0.packages l.world.0.packages;
+  kept : KeepsArguments l.fn.world.0.packages l.world.0.packages;
   marked : l.world.1 ≡ l.fn.world.1;
 }

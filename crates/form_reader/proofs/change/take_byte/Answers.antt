@@ -15,7 +15,7 @@ returns-in-Done-clause-turns g c = λ cs.
     let setting = setting g.R.MacroFunctions.functions c.args.with.now in
     done_outcome setting c.feed.new.frames _ c.args.start c.args.at c.args.c cs _ c.in-Done.found _ c.done_before.result c.in-Done.is (c.in_ok-event.ensures.passes cs) (c.done_before.ensures.turns cs)
 
-pub returns-in-Taken-clause-turns : goal.returns-in-Taken-clause-turns
-returns-in-Taken-clause-turns g c = λ cs.
+pub returns-in-Brings-clause-turns : goal.returns-in-Brings-clause-turns
+returns-in-Brings-clause-turns g c = λ cs.
     let setting = setting g.R.MacroFunctions.functions c.args.with.now in
-    c.change_of-in-Taken.ensures.turns cs _ (taken_brings setting c.feed.new.frames c.args.at c.args.c cs c.in_ok-event.field-0 c.in-Taken.event _ c.in-Taken.is (c.in_ok-event.ensures.passes cs))
+    c.change_of-in-Brings.ensures.turns cs _ (taken_brings setting c.feed.new.frames c.args.at c.args.c cs c.in_ok-event.field-0 c.in-Brings.event _ c.in-Brings.is (c.in_ok-event.ensures.passes cs))

@@ -10,7 +10,7 @@ returns-in-Nothing-clause-takes g c = λ cs.
 pub returns-in-LoneDot-clause-takes : goal.returns-in-LoneDot-clause-takes
 returns-in-LoneDot-clause-takes g c = λ cs.
     let setting = setting g.R.MacroFunctions.functions c.args.with.now in
-    found_dot setting c.args.at cs c.args.frames.now c.take_dot.new.frames c.args.found c.take_dot.result c.in-LoneDot.is (c.take_dot.ensures.takes setting cs c.requires.place)
+    found_dot setting c.args.at cs c.args.frames.now c.take_dot.new.frames c.args.found c.take_dot.result c.in-LoneDot.is (c.take_dot.ensures.takes setting cs c.requires.within)
 
 pub returns-in-TheEnd-clause-takes : goal.returns-in-TheEnd-clause-takes
 returns-in-TheEnd-clause-takes g c = λ cs.

@@ -9,13 +9,13 @@ use Rattle.form_reader.proofs.deliver.take_one.Goals as goal
 pub returns-in_ok-complete-in-Some-clause-takes : goal.returns-in_ok-complete-in-Some-clause-takes
 returns-in_ok-complete-in-Some-clause-takes g c = λ cs.
     let setting = setting g.R.MacroFunctions.functions c.args.with.now in
-    next_comes setting c.args.at cs c.args.frames.now c.pop_waiting.new.self c.in-Some.call c.args.token c.args.x _ c.len-depth.result c.in_ok-complete-in-Some.field-0 c.taken_of.result
-    c.in-Some.ensures c.len-depth.ensures c.into_datum.ensures.object c.in_ok-complete-in-Some.ensures.gives (c.taken_of.ensures.takes setting c.pop_waiting.new.self cs)
+    next_comes setting c.args.at cs c.args.frames.now c.pop_waiting.new.self c.in-Some.call c.args.token c.args.x _ c.len-depth.result c.in_ok-complete-in-Some.field-0 c.received_of.result
+    c.in-Some.ensures c.len-depth.ensures c.into_datum.ensures.object c.in_ok-complete-in-Some.ensures.gives (c.received_of.ensures.takes setting c.pop_waiting.new.self cs)
 
 pub returns-then-branch-clause-takes : goal.returns-then-branch-clause-takes
 returns-then-branch-clause-takes g c = λ cs.
     let setting = setting g.R.MacroFunctions.functions c.args.with.now in
-    object_goes_on setting c.args.at cs c.args.frames.now c.take_object.new.self c.args.token c.args.x c.requires.place
+    object_goes_on setting c.args.at cs c.args.frames.now c.take_object.new.self c.args.token c.args.x c.requires.within
     (ap (λ (fs : List Frame). calls_with fs (one c.args.token c.args.x)) (sym c.in-None.ensures.0) ∙ c.in_ok-take_object-in-None.ensures.takes c.args.token c.if-branch.true)
 
 pub returns-else-branch-clause-takes : goal.returns-else-branch-clause-takes

@@ -20,8 +20,8 @@ returns-in_ok-push-in-Next-clause-gathers g c = λ cs.
 
 pub returns-in_ok-push-in-List-clause-gathers : goal.returns-in_ok-push-in-List-clause-gathers
 returns-in_ok-push-in-List-clause-gathers g c = λ cs.
-    list_at _ c.args.frames.now c.args.call c.args.way c.args.at cs _ c.new.result c.in-List.is (omega (arith, c.len.ensures, c.if-deep-2.false)) c.requires.place c.new.ensures c.in_ok-push-in-List.ensures
+    list_at _ c.args.frames.now c.args.call c.args.way c.args.at cs _ c.new.result c.in-List.is (omega (arith, c.len.ensures, c.if-deep-2.false)) c.requires.within c.new.ensures c.in_ok-push-in-List.ensures
 
 pub returns-in_ok-push-in-Until-clause-gathers : goal.returns-in_ok-push-in-Until-clause-gathers
 returns-in_ok-push-in-Until-clause-gathers g c = λ cs.
-    until_at _ c.args.frames.now c.args.call c.args.way c.args.at cs _ c.in-Until.close c.new-in-Until.result c.in-Until.is (omega (arith, c.len.ensures, c.if-deep-3.false)) c.requires.place c.new-in-Until.ensures c.in_ok-push-in-Until.ensures
+    until_at _ c.args.frames.now c.args.call c.args.way c.args.at cs _ c.in-Until.close c.new-in-Until.result c.in-Until.is (omega (arith, c.len.ensures, c.if-deep-3.false)) c.requires.within c.new-in-Until.ensures c.in_ok-push-in-Until.ensures

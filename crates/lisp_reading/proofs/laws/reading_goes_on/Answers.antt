@@ -1,16 +1,16 @@
 use Rattle.lisp_reading.specs.Gathering.{text_turn, line_turn, block_turn, number_turn}
-use Rattle.lisp_reading.specs.Reading.{place_turn, items_turn, attempt}
+use Rattle.lisp_reading.specs.Reading.{next_item_turn, items_turn, attempt}
 use Rattle.lisp_reading.proofs.Forms.{reads_is}
-use Rattle.lisp_reading.proofs.Turns.{attempt_ends, loop_is, text_guarded, line_guarded, block_guarded, number_guarded, place_guarded, items_guarded}
+use Rattle.lisp_reading.proofs.Turns.{attempt_ends, loop_is, text_guarded, line_guarded, block_guarded, number_guarded, next_item_guarded, items_guarded}
 use Rattle.lisp_reading.proofs.laws.reading_goes_on.Goals as goal
 
 pub returns-clause-form : goal.returns-clause-form
 returns-clause-form c = reads_is
 
-pub returns-clause-place : goal.returns-clause-place
-returns-clause-place c setting room close at cs h =
-    loop_is setting.table setting.limits (place_turn setting.table close (attempt setting room))
-    (place_guarded setting.table setting.limits close (attempt setting room) (attempt_ends setting _ _)) tt at cs h
+pub returns-clause-next_item : goal.returns-clause-next_item
+returns-clause-next_item c setting room close at cs h =
+    loop_is setting.table setting.limits (next_item_turn setting.table close (attempt setting room))
+    (next_item_guarded setting.table setting.limits close (attempt setting room) (attempt_ends setting _ _)) tt at cs h
 
 pub returns-clause-items : goal.returns-clause-items
 returns-clause-items c setting room close xs at cs h =

@@ -3,6 +3,6 @@ use Rattle.lisp_reading.proofs.laws.refusals_are_decided.Goals as goal
 
 pub returns : goal.returns
 returns c = record {
-  inside = λ setting text code place e. (refusal_stays setting text code place e).0;
-  decided = λ setting text more code place e lt. (refusal_stays setting text code place e).1 lt more;
+  inside = λ setting text code offset e. (refusal_stays setting text code offset e).0;
+  decided = λ setting text more code offset e lt. (refusal_stays setting text code offset e).1 lt more;
 }

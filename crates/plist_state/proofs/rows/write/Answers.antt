@@ -4,7 +4,7 @@ use Rattle.lisp_object.specs.Datum.{object_of}
 use Rattle.std.specs.List.{position}
 use Rattle.plist_state.specs.Shown.{symbol_of, property_of, plist_of}
 use Rattle.plist_state.specs.Undoing.{with_value_at}
-use Rattle.plist_state.proofs.Places.{has, first_at, absent, shown-set, with_value_at-same, with_value_at-twice}
+use Rattle.plist_state.proofs.Indices.{has, first_at, absent, shown-set, with_value_at-same, with_value_at-twice}
 use Rattle.plist_state.proofs.rows.write.Goals as goal
 
 pub returns-in_ok-push-in-None-clause-ok : goal.returns-in_ok-push-in-None-clause-ok
@@ -18,15 +18,15 @@ returns-in_ok-push-in-None-clause-ok c =
 pub returns-in-Some-clause-ok : goal.returns-in-Some-clause-ok
 returns-in-Some-clause-ok c =
     let items = c.args.row.now.items in
-    shown-set items c.in-Some.place c.index_mut.result.now c.replace-value.new.dest c.index_mut.ensures.value
-    ∙ ap (λ v. with_value_at (plist_of c.args.row.now) c.in-Some.place (object_of v)) c.replace-value.ensures.after
-    ∙ sym ((first_at items (symbol_of c.args.indicator) c.in-Some.place (ap (position (has (symbol_of c.args.indicator))) (sym c.as_slice.ensures.value) ∙ sym c.in-Some.ensures)).written (object_of c.args.value))
+    shown-set items c.in-Some.index c.index_mut.result.now c.replace-value.new.dest c.index_mut.ensures.value
+    ∙ ap (λ v. with_value_at (plist_of c.args.row.now) c.in-Some.index (object_of v)) c.replace-value.ensures.after
+    ∙ sym ((first_at items (symbol_of c.args.indicator) c.in-Some.index (ap (position (has (symbol_of c.args.indicator))) (sym c.as_slice.ensures.value) ∙ sym c.in-Some.ensures)).written (object_of c.args.value))
 
 pub returns-in-Some-clause-back : goal.returns-in-Some-clause-back
 returns-in-Some-clause-back c =
     let items = c.args.row.now.items in
-    let place = c.in-Some.place in
-    ap (λ l. with_value_at l place (object_of c.replace-value.result)) (shown-set items place c.index_mut.result.now c.replace-value.new.dest c.index_mut.ensures.value)
-    ∙ with_value_at-twice (plist_of c.args.row.now) place (object_of c.replace-value.new.dest) (object_of c.replace-value.result)
-    ∙ ap (λ v. with_value_at (plist_of c.args.row.now) place (object_of v)) c.replace-value.ensures.value
-    ∙ with_value_at-same items place c.index_mut.result.now c.index_mut.ensures.value
+    let index = c.in-Some.index in
+    ap (λ l. with_value_at l index (object_of c.replace-value.result)) (shown-set items index c.index_mut.result.now c.replace-value.new.dest c.index_mut.ensures.value)
+    ∙ with_value_at-twice (plist_of c.args.row.now) index (object_of c.replace-value.new.dest) (object_of c.replace-value.result)
+    ∙ ap (λ v. with_value_at (plist_of c.args.row.now) index (object_of v)) c.replace-value.ensures.value
+    ∙ with_value_at-same items index c.index_mut.result.now c.index_mut.ensures.value

@@ -24,12 +24,12 @@ returns-in-Err-clause-gives c =
 
 pub returns-clause-marked : goal.returns-clause-marked
 returns-clause-marked c =
-    entry_noted (marks_of c.args.marks.now.items) _ (marks_of c.push_note.new.marks.items) c.in_ok-noted.ensures.same c.was_at.result c.push_note.ensures
+    entry_noted (marks_of c.args.marks.now.items) _ (marks_of c.push_note.new.marks.items) c.in_ok-note.ensures.same c.in_ok-note.note c.push_note.ensures
     c.args.tables.now.entries _ c.args.name.now c.in-Some.table.now c.make_dispatch.new.self c.in-Some.ensures.value (c.get_mut.follows.holds c.make_dispatch.new.self).0
-    c.in_ok-noted.noted c.in_ok-noted.ensures.name c.args.c c.in_ok-entry.entry (dispatching_entry c.args.non_terminating) c.requires c.was_at.ensures c.in_ok-entry.ensures
+    c.args.c (dispatching_entry c.args.non_terminating) c.requires c.in_ok-note.ensures.note
     c.in_default-make_dispatch.ensures
 
 pub returns-in-Err-clause-marked : goal.returns-in-Err-clause-marked
 returns-in-Err-clause-marked c =
-    tables_same (marks_of c.args.marks.now.items) _ (readtables_of c.args.tables.now) _ c.in_ok-noted.ensures.same
+    tables_same (marks_of c.args.marks.now.items) _ (readtables_of c.args.tables.now) _ c.in_ok-note.ensures.same
     (same_there c.args.tables.now.entries _ c.args.name.now c.in-Some.table.now c.make_dispatch.new.self c.in-Some.ensures.value (c.get_mut.follows.holds c.make_dispatch.new.self).0 c.in-Err.ensures)

@@ -27,7 +27,7 @@ unreachable-requires-in-Err c =
 
 pub returns-clause-marked : goal.returns-clause-marked
 returns-clause-marked c =
-    entry_noted (marks_of c.args.marks.now.items) _ (marks_of c.push_note.new.marks.items) c.in_ok-noted.ensures.same c.was_at.result c.push_note.ensures
+    entry_noted (marks_of c.args.marks.now.items) _ (marks_of c.push_note.new.marks.items) c.in_ok-note.ensures.same c.in_ok-note.note c.push_note.ensures
     c.args.tables.now.entries _ c.args.name.now c.in-Some.table.now c.set_dispatch.new.self c.in-Some.ensures.value (c.get_mut.follows.holds c.set_dispatch.new.self).0
-    c.in_ok-noted.noted c.in_ok-noted.ensures.name c.args.c c.in_ok-entry.entry (with_function (entry_at c.in-Some.table.now c.args.c) c.args.sub c.args.function) c.requires.character c.was_at.ensures c.in_ok-entry.ensures
+    c.args.c (with_function (entry_at c.in-Some.table.now c.args.c) c.args.sub c.args.function) c.requires.character c.in_ok-note.ensures.note
     c.in_default-set_dispatch.ensures.after

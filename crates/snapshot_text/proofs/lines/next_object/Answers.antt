@@ -9,7 +9,7 @@ pub returns-in_err-datum : goal.returns-in_err-datum
 returns-in_err-datum g c = λ packages x rest fits at read.
     let text = printed packages common_lisp_user x in
     let apart = append_assoc text (10 ∷ []) rest in
-    next_refused x c.args.bytes.now rest c.in_err-datum.field-0.0 (c.in_err-datum.ensures.read x text (10 ∷ rest) read.0 fits (at ∙ apart) (omega arith) (ap (reads _) (sym apart) ∙ read.1)) c.from_residual.result c.from_residual.ensures.1
+    next_refused x c.args.source.now.bytes.now rest c.in_err-datum.field-0.0 (c.in_err-datum.ensures.read x text (10 ∷ rest) read.0 fits (at ∙ apart) (omega arith) (ap (reads _) (sym apart) ∙ read.1)) c.from_residual.result c.from_residual.ensures.1
 
 pub returns : goal.returns
 returns g c = λ packages x rest fits at read.
@@ -18,5 +18,5 @@ returns g c = λ packages x rest fits at read.
     let first = c.in_ok-datum.ensures.read x text (10 ∷ rest) read.0 fits (at ∙ apart) (omega arith) (ap (reads _) (sym apart) ∙ read.1) in (
       first.0,
       first.1,
-      after_byte c.args.bytes.now rest c.in_ok-datum.end 10 c.saturating_add.result fits first.2 c.saturating_add.ensures,
+      after_byte c.args.source.now.bytes.now rest c.in_ok-datum.end 10 c.saturating_add.result fits first.2 c.saturating_add.ensures,
     )

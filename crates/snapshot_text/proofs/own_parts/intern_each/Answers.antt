@@ -10,7 +10,7 @@ use Rattle.plist_state.specs.State.{Worlds}
 use Rattle.plist_state.specs.Changes.{with_packages}
 use Rattle.snapshot_text.specs.declared.error.BuildError.{BuildError}
 use Rattle.snapshot_text.specs.declared.error.BuildError.TheVariants.{OutOfMemory}
-use Rattle.snapshot_text.specs.Phases.{OrNoMemory}
+use Rattle.snapshot_text.specs.Answers.{OrNoMemory}
 use Rattle.snapshot_text.specs.Own.{IsOwnName, HasOwnName}
 use Rattle.snapshot_text.proofs.own_parts.intern_each.Goals as goal
 

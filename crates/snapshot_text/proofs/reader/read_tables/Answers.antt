@@ -8,20 +8,20 @@ use Rattle.snapshot_text.proofs.reader.read_tables.Goals as goal
 
 pub returns-in_err-tables : goal.returns-in_err-tables
 returns-in_err-tables g c = λ s rest sound fits at old.
-    let short = line_fits c.args.bytes.now (printed s.packages common_lisp_user (tables_object s)) rest c.args.at fits at in
+    let short = line_fits c.args.source.now.bytes.now (printed s.packages common_lisp_user (tables_object s)) rest c.args.at fits at in
     refused_same _ c.in_err-tables.field-0.0
     (c.in_err-tables.ensures s.packages (tables_object s) rest fits at (third_line _ s sound c.args.world.now.0 old short rest))
     c.from_residual.result c.from_residual.ensures.1
 
 pub returns-in_err-put_tables : goal.returns-in_err-put_tables
 returns-in_err-put_tables g c = λ s rest sound fits at old.
-    let short = line_fits c.args.bytes.now (printed s.packages common_lisp_user (tables_object s)) rest c.args.at fits at in
+    let short = line_fits c.args.source.now.bytes.now (printed s.packages common_lisp_user (tables_object s)) rest c.args.at fits at in
     let read = c.in_ok-tables.ensures s.packages (tables_object s) rest fits at (third_line _ s sound c.args.world.now.0 old short rest) in
     refused_same _ c.in_err-put_tables.field-0.0 (c.in_err-put_tables.ensures s sound read.1 read.0 old)
     c.from_residual-in_err-put_tables.result c.from_residual-in_err-put_tables.ensures.1
 
 pub returns : goal.returns
 returns g c = λ s rest sound fits at old.
-    let short = line_fits c.args.bytes.now (printed s.packages common_lisp_user (tables_object s)) rest c.args.at fits at in
+    let short = line_fits c.args.source.now.bytes.now (printed s.packages common_lisp_user (tables_object s)) rest c.args.at fits at in
     let read = c.in_ok-tables.ensures s.packages (tables_object s) rest fits at (third_line _ s sound c.args.world.now.0 old short rest) in
     c.in_ok-put_tables.ensures s sound read.1 read.0 old

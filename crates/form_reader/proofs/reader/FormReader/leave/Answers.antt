@@ -10,7 +10,7 @@ use Rattle.form_reader.proofs.reader.FormReader.leave.Goals as goal
 pub returns-clause-steps : goal.returns-clause-steps
 returns-clause-steps g c = λ bytes after.
     let setting = setting g.R.MacroFunctions.functions c.args.with.now in
-    stepped setting c.args.self.now _ c.take.new.self c.in-Open.stage bytes c.args.byte c.take_byte.new.frames c.in_ok-next-in-Open.next c.take.result
+    stepped setting c.args.self.now _ c.take.new.self c.in-Open.position bytes c.args.byte c.take_byte.new.frames c.in_ok-next-in-Open.next c.take.result
     (subst (λ (s : ReaderState). IsAfterIn setting c.args.self.now s bytes) (sym c.replace.ensures.value ∙ c.in-Open.is) after)
     c.in_ok-next-in-Open.ensures.turns c.in_ok-next-in-Open.ensures.ready c.take.ensures.takes refl
 

@@ -9,49 +9,49 @@ use Rattle.form_reader.proofs.ReaderSteps.{went_on, went_past, gave_up, taken_th
 use Rattle.form_reader.proofs.Standings.{standing_of}
 use Rattle.form_reader.proofs.reader.FormReader.step.Goals as goal
 
-pub returns-in-Ok-Taken-clause-steps : goal.returns-in-Ok-Taken-clause-steps
-returns-in-Ok-Taken-clause-steps g c = λ bytes after.
+pub returns-in-Ok-GoesOn-clause-steps : goal.returns-in-Ok-GoesOn-clause-steps
+returns-in-Ok-GoesOn-clause-steps g c = λ bytes after.
     let setting = setting_of c.args.self.now.limits c.args.readtable.now c.args.packages.now.0 c.args.current.now
     (g.R.MacroFunctions.functions c.args.macros.now) in
-    went_on setting c.args.self.now c.args.self.now c.args.self.now c.in-Open.stage bytes c.args.byte c.args.self.now.frames c.in_place.new.stage
+    went_on setting c.args.self.now c.args.self.now c.args.self.now c.in-Open.position bytes c.args.byte c.args.self.now.frames c.in_place.new.position
     (subst (λ (s : ReaderState). IsAfterIn setting c.args.self.now s bytes) c.in-Open.is after)
-    (λ cs. taken_there setting c.args.self.now.frames c.args.self.now.start c.args.self.now.at c.args.byte c.in-Open.stage c.in_place.new.stage c.in-Ok-Taken.field-0 cs c.in-Ok-Taken.field-0-is (c.in-Ok-Taken.ensures.feeds cs))
-    (ready_there setting c.args.self.now.frames c.args.self.now.start c.args.self.now.at c.args.byte c.in-Open.stage c.in_place.new.stage c.in-Ok-Taken.field-0 c.args.self.now.limits c.in-Ok-Taken.field-0-is c.in-Ok-Taken.ensures.ready
-    (standing_of c.args.self.now.limits c.args.self.now.frames c.args.self.now.at c.args.self.now.state c.in-Open.stage c.in-Open.is c.args.self.now.standing))
+    (λ cs. taken_there setting c.args.self.now.frames c.args.self.now.start c.args.self.now.at c.args.byte c.in-Open.position c.in_place.new.position c.in-Ok-GoesOn.field-0 cs c.in-Ok-GoesOn.field-0-is (c.in-Ok-GoesOn.ensures.feeds cs))
+    (ready_there setting c.args.self.now.frames c.args.self.now.start c.args.self.now.at c.args.byte c.in-Open.position c.in_place.new.position c.in-Ok-GoesOn.field-0 c.args.self.now.limits c.in-Ok-GoesOn.field-0-is c.in-Ok-GoesOn.ensures.ready
+    (standing_of c.args.self.now.limits c.args.self.now.frames c.args.self.now.at c.args.self.now.state c.in-Open.position c.in-Open.is c.args.self.now.standing))
 
 pub returns-in-Ok-Passed-clause-steps : goal.returns-in-Ok-Passed-clause-steps
 returns-in-Ok-Passed-clause-steps g c = λ bytes after.
     let setting = setting_of c.args.self.now.limits c.args.readtable.now c.args.packages.now.0 c.args.current.now
     (g.R.MacroFunctions.functions c.args.macros.now) in
-    went_past setting c.args.self.now c.args.self.now c.args.self.now c.in-Open.stage bytes c.args.byte c.args.self.now.frames c.in_place.new.stage
+    went_past setting c.args.self.now c.args.self.now c.args.self.now c.in-Open.position bytes c.args.byte c.args.self.now.frames c.in_place.new.position
     (subst (λ (s : ReaderState). IsAfterIn setting c.args.self.now s bytes) c.in-Open.is after)
-    (λ cs. passed_there setting c.args.self.now.frames c.args.self.now.start c.args.self.now.at c.args.byte c.in-Open.stage c.in_place.new.stage c.in-Ok-Passed.field-0 cs c.in-Ok-Passed.field-0-is (c.in-Ok-Passed.ensures.feeds cs))
-    (ready_past setting c.args.self.now.frames c.args.self.now.start c.args.self.now.at c.args.byte c.in-Open.stage c.in_place.new.stage c.in-Ok-Passed.field-0 c.args.self.now.limits c.in-Ok-Passed.field-0-is c.in-Ok-Passed.ensures.ready
-    (standing_of c.args.self.now.limits c.args.self.now.frames c.args.self.now.at c.args.self.now.state c.in-Open.stage c.in-Open.is c.args.self.now.standing))
+    (λ cs. passed_there setting c.args.self.now.frames c.args.self.now.start c.args.self.now.at c.args.byte c.in-Open.position c.in_place.new.position c.in-Ok-Passed.field-0 cs c.in-Ok-Passed.field-0-is (c.in-Ok-Passed.ensures.feeds cs))
+    (ready_past setting c.args.self.now.frames c.args.self.now.start c.args.self.now.at c.args.byte c.in-Open.position c.in_place.new.position c.in-Ok-Passed.field-0 c.args.self.now.limits c.in-Ok-Passed.field-0-is c.in-Ok-Passed.ensures.ready
+    (standing_of c.args.self.now.limits c.args.self.now.frames c.args.self.now.at c.args.self.now.state c.in-Open.position c.in-Open.is c.args.self.now.standing))
 
 pub returns-in-Ok-Refused-clause-steps : goal.returns-in-Ok-Refused-clause-steps
 returns-in-Ok-Refused-clause-steps g c = λ bytes after.
     let setting = setting_of c.args.self.now.limits c.args.readtable.now c.args.packages.now.0 c.args.current.now
     (g.R.MacroFunctions.functions c.args.macros.now) in (
-      gave_up setting c.args.self.now c.args.self.now c.args.self.now c.in-Open.stage bytes c.args.byte c.args.self.now.frames c.in-Ok-Refused.code (c.args.self.now.start + c.args.self.now.at)
+      gave_up setting c.args.self.now c.args.self.now c.args.self.now c.in-Open.position bytes c.args.byte c.args.self.now.frames c.in-Ok-Refused.code (c.args.self.now.start + c.args.self.now.at)
           (subst (λ (s : ReaderState). IsAfterIn setting c.args.self.now s bytes) c.in-Open.is after)
-          (λ cs. refused_there setting c.args.self.now.frames c.args.self.now.start c.args.self.now.at c.args.byte c.in-Open.stage c.in_place.new.stage c.in-Ok-Refused.field-0 c.in-Ok-Refused.code cs c.in-Ok-Refused.field-0-is (c.in-Ok-Refused.ensures.feeds cs)),
+          (λ cs. refused_there setting c.args.self.now.frames c.args.self.now.start c.args.self.now.at c.args.byte c.in-Open.position c.in_place.new.position c.in-Ok-Refused.field-0 c.in-Ok-Refused.code cs c.in-Ok-Refused.field-0-is (c.in-Ok-Refused.ensures.feeds cs)),
       c.refuse.ensures,
     )
 
 pub leave-requires-clause-open : goal.leave-requires-clause-open
-leave-requires-clause-open g c = (c.in_place.new.stage, refl)
+leave-requires-clause-open g c = (c.in_place.new.position, refl)
 
 pub invariant_of-self-in-Ok-Left : goal.invariant_of-self-in-Ok-Left
 invariant_of-self-in-Ok-Left g c =
     let setting = setting_of c.args.self.now.limits c.args.readtable.now c.args.packages.now.0 c.args.current.now
     (g.R.MacroFunctions.functions c.args.macros.now) in
-    let stays = left_there setting c.args.self.now.frames c.args.self.now.start c.args.self.now.at c.args.byte c.in-Open.stage c.in_place.new.stage c.in-Ok-Left.field-0 [] c.in-Ok-Left.field-0-is (c.in-Ok-Left.ensures.feeds []) in
+    let stays = left_there setting c.args.self.now.frames c.args.self.now.start c.args.self.now.at c.args.byte c.in-Open.position c.in_place.new.position c.in-Ok-Left.field-0 [] c.in-Ok-Left.field-0-is (c.in-Ok-Left.ensures.feeds []) in
     record { standing = subst (λ (s : ReaderState). IsTrue (is_standing c.args.self.now.limits c.args.self.now.frames c.args.self.now.at s)) (c.in-Open.is ∙ ap Open (sym stays)) c.args.self.now.standing }
 
 pub returns-in-Ok-Left-clause-steps : goal.returns-in-Ok-Left-clause-steps
 returns-in-Ok-Left-clause-steps g c = λ bytes after.
     let setting = setting_of c.args.self.now.limits c.args.readtable.now c.args.packages.now.0 c.args.current.now
     (g.R.MacroFunctions.functions c.args.macros.now) in
-    let stays = left_there setting c.args.self.now.frames c.args.self.now.start c.args.self.now.at c.args.byte c.in-Open.stage c.in_place.new.stage c.in-Ok-Left.field-0 [] c.in-Ok-Left.field-0-is (c.in-Ok-Left.ensures.feeds []) in
+    let stays = left_there setting c.args.self.now.frames c.args.self.now.start c.args.self.now.at c.args.byte c.in-Open.position c.in_place.new.position c.in-Ok-Left.field-0 [] c.in-Ok-Left.field-0-is (c.in-Ok-Left.ensures.feeds []) in
     c.leave.ensures.steps bytes (subst (λ (s : ReaderState). IsAfterIn setting c.args.self.now s bytes) (c.in-Open.is ∙ ap Open (sym stays)) after)

@@ -1,4 +1,5 @@
-use Rattle.plist_state.proofs.InState.{packages_kept, packages_rest, packages_unchanged}
+use Rattle.package_table.specs.Changes.{after_import, import_changes}
+use Rattle.plist_state.proofs.InState.{packages_kept, packages_changed}
 use Rattle.plist_state.proofs.world.World.import.Goals as goal
 
 pub invariant_of-self : goal.invariant_of-self
@@ -6,10 +7,9 @@ invariant_of-self c =
     let e = c.import-result.ensures in
     packages_kept c.self.inside c.import-result.new.self e.grows e.numbers c.numbering.ensures e.marked c.self.invariant c.soundness.ensures
 
-pub returns-clause-rest : goal.returns-clause-rest
-returns-clause-rest c =
+pub returns : goal.returns
+returns c =
     let e = c.import-result.ensures in
-    packages_rest c.self.inside c.import-result.new.self e.grows e.numbers c.numbering.ensures e.marked c.self.invariant c.args.self.now c.self.view_is
-
-pub returns-clause-unchanged : goal.returns-clause-unchanged
-returns-clause-unchanged c = packages_unchanged c.import-result.result c.self.inside c.import-result.new.self c.import-result.ensures.unchanged c.args.self.now c.self.view_is
+    packages_changed c.self.inside c.import-result.new.self e.grows e.numbers c.numbering.ensures e.marked c.self.invariant
+    c.import-result.result (λ t. after_import t c.args.owner.now c.args.home.now c.args.name.now) (λ t. import_changes t c.args.owner.now c.args.name.now)
+    e.gives e.changed e.memory e.exactly e.unchanged c.args.self.now c.self.view_is

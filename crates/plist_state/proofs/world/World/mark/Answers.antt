@@ -21,7 +21,7 @@ invariant_of-self-2 c =
     let ms : List (List Note) = marks_of a.marks.items in
     let r : NumberedRest = rest_of a.stored in
     let rows : Rows = a.stored.properties.entries in
-    let changed : c.mark.new.self ≡ with_mark a.packages = c.in_ok-place.ensures.ok.1 in
+    let changed : c.mark.new.self ≡ with_mark a.packages = c.in_ok-mark.ensures.ok.1 in
     let items : marks_of c.push_reserved.new.self.items ≡ ms ++ [] ∷ [] =
     ap marks_of (c.push_reserved.ensures.items ∙ ap (λ xs. xs ++ c.new.result ∷ []) c.in_ok-reserve.ensures.items) ∙ map_push notes_of a.marks.items c.new.result ∙ ap (λ n. ms ++ n ∷ []) c.new.ensures.items in
     record {
@@ -40,7 +40,7 @@ returns-clause-ok c =
     let ms : List (List Note) = marks_of a.marks.items in
     let r : NumberedRest = rest_of a.stored in
     let ss : List WorldState = marked_states ts (rests_at ms r) in
-    let changed : c.mark.new.self ≡ with_mark a.packages = c.in_ok-place.ensures.ok.1 in
+    let changed : c.mark.new.self ≡ with_mark a.packages = c.in_ok-mark.ensures.ok.1 in
     let items : marks_of c.push_reserved.new.self.items ≡ ms ++ [] ∷ [] =
     ap marks_of (c.push_reserved.ensures.items ∙ ap (λ xs. xs ++ c.new.result ∷ []) c.in_ok-reserve.ensures.items) ∙ map_push notes_of a.marks.items c.new.result ∙ ap (λ n. ms ++ n ∷ []) c.new.ensures.items in
     let states : marked_states (ts ++ t ∷ []) (rests_at (ms ++ [] ∷ []) r) ≡ ss ++ state_in t r ∷ [] = states_push ts ms r a.stored.properties.entries c.self.invariant.marked t in
@@ -48,6 +48,6 @@ returns-clause-ok c =
     λ i. (state_in (numbered (changed i)) r, marked_states (changed i).1.marked (rests_at (items i) r)) in
     let then : ◌≡◌ {A = Worlds} (state_in t r, marked_states (ts ++ t ∷ []) (rests_at (ms ++ [] ∷ []) r)) (state_in t r, ss ++ state_in t r ∷ []) =
     λ i. (state_in t r, states i) in (
-      c.in_ok-place.ensures.ok.0 ∙ c.self.invariant.marked.as_many ∙ sym (states_many ts ms r a.stored.properties.entries c.self.invariant.marked) ∙ ap (λ (w : Worlds). length w.1) c.self.view_is,
+      c.in_ok-mark.ensures.ok.0 ∙ c.self.invariant.marked.as_many ∙ sym (states_many ts ms r a.stored.properties.entries c.self.invariant.marked) ∙ ap (λ (w : Worlds). length w.1) c.self.view_is,
       now ∙ then ∙ ap (λ (w : Worlds). (w.0, w.1 ++ w.0 ∷ [])) c.self.view_is,
     )

@@ -6,12 +6,12 @@ use Rattle.lisp_object.specs.Datum.{object_of, is_proper}
 use Rattle.lisp_object.proofs.Restored.{from_integer}
 use Rattle.user_macros.specs.Calls.{one, refused}
 use Rattle.user_macros.specs.Sound.{IsProperMaterial}
-use Rattle.reader_tests.specs.Sample.{scaled}
+use Rattle.reader_tests.specs.Sample.{scale_answer}
 use Rattle.reader_tests.proofs.macros.sample.scale.Goals as goal
 
 -- what is no integer is not scaled
 by_object : (d : Datum) (n : ℕ) → is_proper d ≡ true → ((i : ℤ) → d ≡ Datum.Integer i → ⊥) → (o : Object) → object_of d ≡ o
-    → refused 2 ≡ scaled (Some n) (one o)
+    → refused 2 ≡ scale_answer (Some n) (one o)
 by_object d n proper other (integer i) e = absurd (other i (from_integer d i proper e))
 by_object d n proper other (rational a b) e = refl
 by_object d n proper other (character c) e = refl

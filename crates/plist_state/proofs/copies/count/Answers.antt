@@ -3,7 +3,7 @@ use Rattle.std.proofs.lemmas.List.{length-map}
 use Rattle.std.specs.FinMap as finite
 use Rattle.package_table.proofs.Seen.{entries-as_map}
 use Rattle.plist_state.specs.Shown.{readtables_of}
-use Rattle.plist_state.proofs.tables.count.Goals as goal
+use Rattle.plist_state.proofs.copies.count.Goals as goal
 
 pub returns : goal.returns
 returns c =

@@ -1,6 +1,6 @@
 use Rattle.std.proofs.Common.{arith}
 use Rattle.form_reader.proofs.Beginnings.{refusal_comes}
-use Rattle.form_reader.proofs.deliver.taken_of.Goals as goal
+use Rattle.form_reader.proofs.deliver.received_of.Goals as goal
 
 pub returns-in-Refused-clause-takes : goal.returns-in-Refused-clause-takes
 returns-in-Refused-clause-takes c = λ setting frames cs.

@@ -1,4 +1,4 @@
--- The place of an indicator in a row of properties, and a write there.
+-- The index of an indicator in a row of properties, and a write there.
 use Rattle.std.proofs.Common.{◌≡◌, ℕ, zero, suc, ◌+◌, ◌<◌, Bool, true, false, cond, None, Some, unwrap_or, List, [], ◌∷◌, ◌++◌, map, length, get_or, set, ◌≤◌, refl, sym, ap, subst, ◌∙◌, arith}
 use Rattle.std.specs.List.{position, position_from, insert, remove}
 use Rattle.std.specs.Prelude.{min}
@@ -18,7 +18,7 @@ has i p = same_symbol i (symbol_of p.indicator)
 abbrev pub shown : List Property → Plist
 shown items = map property_of items
 
--- the indicator stands at place k, and nowhere before
+-- the indicator stands at index k, and nowhere before
 pub record IsFirstAt (items : List Property) (i : Symbol) (k : ℕ) : Type 0 where
   pub within : k < length items
   pub written : (x : Object) → with_value (shown items) i x ≡ with_value_at (shown items) k x
@@ -81,7 +81,7 @@ first_at items i k is =
 pub absent : (items : List Property) (i : Symbol) → position (has i) items ≡ None → IsAbsent items i
 absent items i is = absent_from items i 0 (sym (position_from-zero (has i) items) ∙ is)
 
--- a value is set at place k, where p stands
+-- a value is set at index k, where p stands
 pub shown-set : (items : List Property) (k : ℕ) (p : Property) (v : Datum) → p ≡ get_or items k p → shown (set items k (record { indicator = p.indicator; value = v })) ≡ with_value_at (shown items) k (object_of v)
 shown-set [] k p v e = refl
 shown-set (q ∷ qs) zero p v e = ap (λ (t : Property). (symbol_of t.indicator, object_of v) ∷ shown qs) e
@@ -93,13 +93,13 @@ with_value_at-same [] k p e = refl
 with_value_at-same (q ∷ qs) zero p e = ap (λ (t : Property). (symbol_of q.indicator, object_of t.value) ∷ shown qs) e
 with_value_at-same (q ∷ qs) (suc k) p e = ap (λ ps. property_of q ∷ ps) (with_value_at-same qs k p e)
 
--- of two values that are set at one place the second stands
+-- of two values that are set at one index the second stands
 pub with_value_at-twice : (ps : Plist) (k : ℕ) (x y : Object) → with_value_at (with_value_at ps k x) k y ≡ with_value_at ps k y
 with_value_at-twice [] k x y = refl
 with_value_at-twice (p ∷ ps) zero x y = refl
 with_value_at-twice (p ∷ ps) (suc k) x y = ap (λ qs. p ∷ qs) (with_value_at-twice ps k x y)
 
--- a place past the end
+-- an index past the end
 pub with_value_at-past : (ps : Plist) (k : ℕ) (x : Object) → length ps ≤ k → with_value_at ps k x ≡ ps
 with_value_at-past [] k x h = refl
 with_value_at-past (p ∷ ps) zero x h = absurd (omega arith)
@@ -112,7 +112,7 @@ inserted-removed (q ∷ []) zero p h e = ap (λ (t : Property). property_of t �
 inserted-removed (q ∷ r ∷ qs) zero p h e = ap (λ (t : Property). property_of t ∷ property_of r ∷ shown qs) e
 inserted-removed (q ∷ qs) (suc k) p h e = ap (λ ps. property_of q ∷ ps) (inserted-removed qs k p (omega arith) e)
 
--- a property, put at a place or at the end
+-- a property, put at an index or at the end
 pub shown-insert : (items : List Property) (k j : ℕ) (p : Property) → j ≡ min k (length items) → shown (insert items j p) ≡ with_inserted (shown items) k (property_of p)
 shown-insert [] k zero p e = refl
 shown-insert [] k (suc j) p e = absurd (omega (arith, e))

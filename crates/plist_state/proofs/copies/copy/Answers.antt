@@ -3,7 +3,7 @@ use Rattle.std.proofs.Common.{ap, ◌∙◌}
 use Rattle.std.specs.FinMap as finite
 use Rattle.plist_state.specs.Journal.{marks_of}
 use Rattle.plist_state.proofs.ByName.{copy_noted}
-use Rattle.plist_state.proofs.tables.copy.Goals as goal
+use Rattle.plist_state.proofs.copies.copy.Goals as goal
 
 pub returns-clause-marked : goal.returns-clause-marked
 returns-clause-marked c =

@@ -6,8 +6,8 @@ ghost use Rattle.token_scan.specs.Scans.{Scan, begun, has_begun};
 ghost use Rattle.form_reader.specs.Feeding.{TokenFeeds, is_going, token_read};
 ghost use Rattle.form_reader.specs.declared.bytes.LineByte.TheVariants.{Ended as LineEnded, More as LineMore};
 ghost use Rattle.form_reader.specs.Begun.{BegunFeeds, FirstFeeds, IsBegunByte};
-ghost use Rattle.form_reader.specs.declared.stage.BegunByte.TheVariants.{More as BegunMore};
-ghost use Rattle.form_reader.specs.declared.stage.FirstByte.TheVariants.{More as FirstMore};
+ghost use Rattle.form_reader.specs.declared.position.BegunByte.TheVariants.{More as BegunMore};
+ghost use Rattle.form_reader.specs.declared.position.FirstByte.TheVariants.{More as FirstMore};
 
 use crate::bytes::LineByte;
 use crate::tokens::token_byte;
@@ -62,7 +62,7 @@ pub(crate) fn first_byte(
     at: usize,
     c: u8,
 ) -> Result<FirstByte, AllocError>
-    requires place { at ≤ limits.now.text }
+    requires within { at ≤ limits.now.text }
     requires begins { IsFalse (ends_tokens (kind (typed readtable.now c))) }
     ensures feeds { (cs : List ℕ) → IfOk result (λ fed.
         FirstFeeds readtable.now limits.now at cs fed (token_read readtable.now limits.now (begun limits.now.token) at (c ∷ cs))) }
@@ -132,8 +132,8 @@ impl BegunScan {
 
 /// Where a reader is in its innermost call.
 #[derive(Drop)]
-pub enum Stage {
-    /// At a place where an object may begin.
+pub enum Position {
+    /// Where an object may begin.
     Object,
     /// In a token that is an object.
     Token(BegunScan),
@@ -155,9 +155,9 @@ pub enum Stage {
 #[derive(Drop)]
 pub enum Event {
     /// More bytes are gathered.
-    Stage(Stage),
+    Open(Position),
     /// The innermost attempt comes to this.
     Gives(Found),
-    /// The number of a refusal, and its place.
+    /// The number of a refusal, and its offset.
     Refused(u16, usize),
 }

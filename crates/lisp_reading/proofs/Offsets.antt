@@ -14,7 +14,7 @@ use Rattle.lisp_reading.specs.declared.limits.Limits.{Limits}
 pub record Parted (at : ℕ) (whole : List ℕ) (next : ℕ) (rest : List ℕ) : Type 0 where
   pub taken : List ℕ
   pub split : whole ≡ taken ++ rest
-  pub place : next ≡ at + length taken
+  pub offset : next ≡ at + length taken
 
 abbrev pub Parts : {A E : Type 0} → ℕ → List ℕ → Result (A × ℕ × List ℕ) E → Type 0
 Parts at whole (Ok (x, next, rest)) = Parted at whole next rest
@@ -25,7 +25,7 @@ parts_behind : {A E : Type 0} (at next : ℕ) (whole middle : List ℕ) (r : Res
 parts_behind at next whole middle (Ok (x, last, rest)) p q = record {
   taken = p.taken ++ q.taken;
   split = p.split ∙ ap (λ (ds : List ℕ). p.taken ++ ds) q.split ∙ sym (append_assoc p.taken q.taken rest);
-  place = omega (arith, p.place, q.place, length-append p.taken q.taken);
+  offset = omega (arith, p.offset, q.offset, length-append p.taken q.taken);
 }
 parts_behind at next whole middle (Err e) p q = tt
 
@@ -36,12 +36,12 @@ parts_within false at there whole r h = h
 byte_parts : {A : Type 0} (b full : Bool) (at c : ℕ) (cs : List ℕ) (r s : Read A) → Parts (at + 1) cs r → Parts at (c ∷ cs) s
     → Parts at (c ∷ cs) (elim b [ true ↦ within full at r | false ↦ s ])
 byte_parts true full at c cs r s h g =
-    parts_within full at at (c ∷ cs) r (parts_behind at (at + 1) (c ∷ cs) cs r (record { taken = c ∷ []; split = refl; place = refl }) h)
+    parts_within full at at (c ∷ cs) r (parts_behind at (at + 1) (c ∷ cs) cs r (record { taken = c ∷ []; split = refl; offset = refl }) h)
 byte_parts false full at c cs r s h g = g
 
 token_at : (table : Table) (scan : List ℕ → ScannedBytes) (at : ℕ) (text : List ℕ) (r : ScannedBytes)
     → IfOk r (λ t. Stands table scan at text t.0 t.1 t.2) → Parts at text r
-token_at table scan at text (Ok (marks, next, rest)) st = record { taken = st.taken; split = st.split; place = st.place }
+token_at table scan at text (Ok (marks, next, rest)) st = record { taken = st.taken; split = st.split; offset = st.offset }
 token_at table scan at text (Err e) st = tt
 
 pub token_parts : (escaped : Bool) (table : Table) (limit at : ℕ) (text : List ℕ) → Parts at text (scanned escaped table limit at text)
@@ -57,8 +57,8 @@ limited_parts : (limit at : ℕ) (whole : List ℕ) (r : Result (List Mark × �
 limited_parts limit at whole (Ok (marks, next, ds)) h = cut_parts (nat_le next limit) at next whole ds marks _ h
 limited_parts limit at whole (Err e) h =
     elim (stands_below limit e.refusal e.at) as (λ b. Parts {A = List Mark} {E = Fault} at whole (elim b [
-      | true ↦ Err (record { code = scan_refusal_number e.refusal; at = e.at })
-      | false ↦ Err (record { code = FORM_TOO_LONG; at = limit })
+      | true ↦ Err (record { number = scan_refusal_number e.refusal; at = e.at })
+      | false ↦ Err (record { number = FORM_TOO_LONG; at = limit })
     ])) [ true ↦ tt | false ↦ tt ]
 
 goes_on_parts : {A : Type 0} (table : Table) (limits : Limits) (on : List Mark → Plan A) (at : ℕ) (whole : List ℕ) (r : Read (List Mark))
@@ -69,7 +69,7 @@ goes_on_parts table limits on at whole (Err e) all h = tt
 
 pub parts : {A : Type 0} (table : Table) (limits : Limits) (plan : Plan A) (at : ℕ) (cs : List ℕ) → Parts at cs (run table limits plan at cs)
 unfolding run
-parts table limits (gives x) at cs = record { taken = []; split = refl; place = omega arith }
+parts table limits (gives x) at cs = record { taken = []; split = refl; offset = omega arith }
 parts table limits (refuses code back) at cs = tt
 parts table limits (takes other test on) at [] = parts table limits other at []
 parts table limits (takes other test on) at (c ∷ cs) =
