@@ -1,6 +1,6 @@
 // The command line.
-ghost use Rattle.std.specs.Prelude.{◌≡◌, ◌⊎◌, Some, true, false, map, option_and_then, option_map, IfOk, IfErr};
-ghost use Rattle.clap.specs.Words.{FailsBy, Text, app_of, fault_of, found_of, kind_of, rows_of, rule_of, subcommand_of, subcommand_rows_of, takes, with_subcommand};
+ghost use Rattle.std.specs.Prelude.{◌≡◌, ◌⊎◌, Some, false, map, option_and_then, option_map, IfOk, IfErr};
+ghost use Rattle.clap.specs.Words.{FailsBy, Text, app_of, fault_of, found_of, kind_of, rows_of, rule_of, subcommand_of, subcommand_rows_of, with_subcommand};
 ghost use Rattle.clap.specs.declared.builder.command.Command.TheViews.{out-Command as fields_of};
 ghost use Rattle.clap.specs.declared.error.kind.ErrorKind.TheVariants.{MissingRequiredArgument, OutOfMemory};
 ghost use Rattle.store_commands.specs.declared.words.Task.{Task};
@@ -217,8 +217,6 @@ fn found_in<'a, S: AsStr>(
     requires { app_of program.old ≡ command_line }
     ensures found { IfOk result (λ matches. subcommand_rows_of matches
         ≡ subcommand_of command_line (map S.text words.entry.now)) }
-    ensures passes { IfErr result (λ e. takes command_line (map S.text words.entry.now) ≡ true
-        → kind_of e ≡ OutOfMemory) }
     ensures faults { FailsBy (fault_of command_line (map S.text words.entry.now)) result }
 {
     program.try_get_matches_from_mut(words)

@@ -2,7 +2,7 @@ use Rattle.std.proofs.Common.{rules, ◌≡◌, ◌∙◌, ap, sym, map, Option,
 use Rattle.clap.specs.Words.{Text, kind_of}
 use Rattle.store_commands.specs.CommandLine.{asked_of}
 use Rattle.store_commands.specs.declared.words.Task.{Task}
-use Rattle.store_commands.proofs.CommandLineLaws.{fault_of_clap, fault_of_none, no_faults, right_line}
+use Rattle.store_commands.proofs.CommandLineLaws.{fault_of_clap, fault_of_none, no_faults, only_memory, right_line}
 use Rattle.store_commands.proofs.words.asked_in.Goals as goal
 
 pub returns-in-Some-clause-asked : goal.returns-in-Some-clause-asked
@@ -25,7 +25,7 @@ returns-in-Ok-clause-taken g c = λ folder task asks.
     absurd (search rules)
 
 pub returns-clause-taken : goal.returns-clause-taken
-returns-clause-taken g c = λ folder task asks. c.in-Err.ensures.passes (right_line _ folder task asks).taken
+returns-clause-taken g c = λ folder task asks. only_memory (map g.S.AsStr.text c.args.words.now) folder task (kind_of c.in-Err.error) asks c.in-Err.ensures.faults
 
 pub returns-clause-faults : goal.returns-clause-faults
 returns-clause-faults g c = fault_of_clap (map g.S.AsStr.text c.args.words.now) (kind_of c.in-Err.error) c.in-Err.ensures.faults
