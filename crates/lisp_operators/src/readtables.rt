@@ -2,6 +2,7 @@
 ghost use Rattle.std.specs.Prelude.{◌≡◌, true, false, IfOk, Result};
 ghost use Rattle.std.specs.FinMap as finite;
 ghost use Rattle.lisp_object.specs.Datum.{object_of};
+ghost use Rattle.readtable_core.specs.Names.{is_among};
 ghost use Rattle.plist_state.specs.State.{WorldState};
 ghost use Rattle.plist_state.specs.declared.error.ReadtableError.{ReadtableError};
 ghost use Rattle.plist_state.specs.Changes.{writable, Gives as Tells};
@@ -64,6 +65,12 @@ fn is_function(names: &[FnName], function: FnName) -> bool
     if function.is_standard() {
         return true;
     }
+    is_among(names, function)
+}
+
+fn is_among(names: &[FnName], function: FnName) -> bool
+    ensures { result ≡ is_among names.now function }
+{
     names.iter().any(|name| *name == function)
 }
 
