@@ -1,9 +1,9 @@
 -- What is kept by numbers means these packages by names. A number is the position of a name, a package or a symbol in its list.
-use Rattle.std.specs.Prelude.{◌+◌, ℕ, Bool, ◌||◌, nat_lt, is_some, List, [], ◌∷◌, position, Option, Some, option_map}
+use Rattle.std.specs.Prelude.{◌+◌, ℕ, Bool, ◌||◌, nat_lt, is_some, List, [], ◌∷◌, position, if◌then◌else◌, Option, Some, None, option_map, option_and_then}
 use Rattle.std.specs.Option.{option_or}
 use Rattle.std.specs.List.{cons_option}
 use Rattle.std.specs.FinMap as finite
-use Rattle.package_sets.specs.Kept.{Kept, import_of, name_at, pair_at, pair_eq}
+use Rattle.package_sets.specs.Kept.{Kept, import_of, name_at, pair_at, pair_eq, positions_of}
 use Rattle.package_table.specs.Table.{Name, name_cmp, Present, Package, Table}
 use Rattle.package_table.specs.Numbers.{Numbers, Numbered}
 
@@ -27,6 +27,22 @@ module _ (k : Kept) where
   -- the symbol i, as it is present in p
   abbrev pub present_in : ℕ → ℕ → Present
   present_in p i = record { home = name_at k.packages (pair_at k.symbols i).0; external = is_shown_in p i }
+
+  -- the name of the home of the symbol i
+  abbrev pub home_in : ℕ → Name
+  home_in i = name_at k.packages (pair_at k.symbols i).0
+
+  -- the number of the symbol that is external in q by the name j, and the first of those of these uses
+  abbrev pub shown_number : ℕ → ℕ → Option ℕ
+  shown_number q j = option_and_then (λ i. if is_shown_in q i then Some i else None) (number_in q j)
+
+  unfoldable pub first_shown : ℕ → List ℕ → Option ℕ
+  first_shown j [] = None
+  first_shown j (x ∷ xs) = option_or (shown_number (pair_at k.uses x).1 j) (first_shown j xs)
+
+  -- the number of the symbol that p finds by the name j
+  abbrev pub found_number : ℕ → ℕ → Option ℕ
+  found_number p j = option_or (number_in p j) (first_shown j (positions_of p k.uses))
 
   -- what the package p has, and the numbers of its symbols
   abbrev pub package_in : ℕ → Package
