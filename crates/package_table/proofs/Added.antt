@@ -19,7 +19,7 @@ use Rattle.package_table.proofs.Mapped.{position_push, named, got_at, same, put,
 use Rattle.package_table.proofs.Meant.{IsKnown, known, unknown, same_pair, other_pair, all_at, pair_there, entry_put}
 
 -- a list of pairs with one more: at another pair it has what it had
-other_push : (ps : List (ℕ × ℕ)) (a b : ℕ × ℕ) → pair_eq a b ≡ false → position (pair_eq a) (ps ++ b ∷ []) ≡ position (pair_eq a) ps
+pub other_push : (ps : List (ℕ × ℕ)) (a b : ℕ × ℕ) → pair_eq a b ≡ false → position (pair_eq a) (ps ++ b ∷ []) ≡ position (pair_eq a) ps
 other_push ps a b differ =
     position_push (pair_eq a) ps b
     ∙ ap (λ c. option_or (position (pair_eq a) ps) (cond c (Some (length ps)) None)) differ
@@ -54,7 +54,7 @@ module _ (k : Kept) (good : IsGood k) (N : Name) (new : position (bytes_eq N) k.
   abbrev named_k : Kept
   named_k = record k { names = k.names ++ N ∷ [] }
 
-  no_number : (p : ℕ) → number_in k p (length k.names) ≡ None
+  pub no_number : (p : ℕ) → number_in k p (length k.names) ≡ None
   no_number p = unknown k good p (length k.names) (λ i is. (let less : length k.names < length k.names = is.name in absurd (omega (arith, less))))
 
   pub name_added : numbered_of (record k { names = k.names ++ N ∷ [] }) ≡ numbered_of k
@@ -123,11 +123,7 @@ module _ (k : Kept) (good : IsGood k) (ns : List Name) (distinct : IsDistinct by
       number_new
 
 -- ---- an import
-module _ (k : Kept) (good : IsGood k) (P N : Name) (p i : ℕ) (here : position (bytes_eq P) k.packages ≡ Some p) (less : i < length k.symbols)
-    (there : position (bytes_eq N) k.names ≡ Some (pair_at k.symbols i).1) (none : number_in k p (pair_at k.symbols i).1 ≡ None) where
-  abbrev name : ℕ
-  name = (pair_at k.symbols i).1
-
+module _ (k : Kept) (good : IsGood k) (p i : ℕ) where
   import_stays : (q m : ℕ) → (q ≢ p) ⊎ (m ≢ (pair_at k.symbols i).1) → import_of (with_import k p i) q m ≡ import_of k q m
   import_stays q m apart =
       ap (option_map (λ x. get_or (k.imported ++ i ∷ []) x 0)) (other_push k.imports (q, m) (p, (pair_at k.symbols i).1) (other_pair (q, m) (p, (pair_at k.symbols i).1) apart))
@@ -142,6 +138,9 @@ module _ (k : Kept) (good : IsGood k) (P N : Name) (p i : ℕ) (here : position 
   pub import_stays_number : (q m : ℕ) → (q ≢ p) ⊎ (m ≢ (pair_at k.symbols i).1) → number_in (with_import k p i) q m ≡ number_in k q m
   import_stays_number q m apart = ap (option_or (position (pair_eq (q, m)) k.symbols)) (import_stays q m apart)
 
+
+module _ (k : Kept) (good : IsGood k) (P N : Name) (p i : ℕ) (here : position (bytes_eq P) k.packages ≡ Some p) (less : i < length k.symbols)
+    (there : position (bytes_eq N) k.names ≡ Some (pair_at k.symbols i).1) (none : number_in k p (pair_at k.symbols i).1 ≡ None) where
   pub import_new_number : number_in (with_import k p i) p (pair_at k.symbols i).1 ≡ Some i
   import_new_number =
       let parts = parts_none (position (pair_eq (p, (pair_at k.symbols i).1)) k.symbols) (import_of k p (pair_at k.symbols i).1) none in
@@ -154,8 +153,8 @@ module _ (k : Kept) (good : IsGood k) (P N : Name) (p i : ℕ) (here : position 
   unfolding numbered_of
   import_added = entry_put k good.distinct.names good.distinct.packages P N p (pair_at k.symbols i).1 here there (present_in k p i) i
       (number_in (with_import k p i)) (present_in (with_import k p i))
-      (λ q m apart. ap (option_map (present_in k q)) (import_stays_number q m apart))
-      import_stays_number
+      (λ q m apart. ap (option_map (present_in k q)) (import_stays_number k good p i q m apart))
+      (import_stays_number k good p i)
       (ap (option_map (present_in k p)) import_new_number)
       import_new_number
 

@@ -1,0 +1,22 @@
+-- What every call keeps that adds to the kept lists.
+use Rattle.std.specs.Prelude.{◌≡◌, ℕ, List, position, bytes_eq, Some}
+use Rattle.package_sets.specs.declared.sizes.Sizes.{Sizes}
+use Rattle.package_sets.specs.Kept.{Kept, cut, pair_at, pair_eq}
+use Rattle.package_sets.specs.AtMost.{IsAtMost}
+use Rattle.package_table.specs.Table.{Name, common_lisp, keyword}
+use Rattle.package_table.specs.Meaning.{number_in}
+
+-- COMMON-LISP and KEYWORD are the packages 0 and 1, and what a package has as external it has by its name.
+pub record IsPlaced (k : Kept) : Type 0 where
+  pub lisp_first : position (bytes_eq common_lisp) k.packages ≡ Some 0
+  pub keyword_second : position (bytes_eq keyword) k.packages ≡ Some 1
+  pub shown : (p i x : ℕ) → position (pair_eq (p, i)) k.externals ≡ Some x → number_in k p (pair_at k.symbols i).1 ≡ Some i
+
+-- packages, names and symbols keep their numbers, and what was kept earlier is still to be had by a cut
+pub record Adds (k u : Kept) : Type 0 where
+  pub packages : (P : Name) (p : ℕ) → position (bytes_eq P) k.packages ≡ Some p → position (bytes_eq P) u.packages ≡ Some p
+  pub names : (N : Name) (j : ℕ) → position (bytes_eq N) k.names ≡ Some j → position (bytes_eq N) u.names ≡ Some j
+  pub numbers : (p j i : ℕ) → number_in k p j ≡ Some i → number_in u p j ≡ Some i
+  pub placed : IsPlaced k → IsPlaced u
+  pub fits : (n : Sizes) → IsAtMost n k → IsAtMost n u
+  pub cuts : (n : Sizes) → IsAtMost n k → cut n u ≡ cut n k
