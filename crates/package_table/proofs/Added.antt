@@ -33,11 +33,11 @@ new_push : (ps : List (ℕ × ℕ)) (a : ℕ × ℕ) → position (pair_eq a) ps
 new_push ps a none = position_push (pair_eq a) ps a ∙ (λ i. option_or (none i) (cond (same_pair a i) (Some (length ps)) None))
 
 -- neither at home nor imported
-parts_none : (o q : Option ℕ) → option_or o q ≡ None → (o ≡ None) × (q ≡ None)
+pub parts_none : (o q : Option ℕ) → option_or o q ≡ None → (o ≡ None) × (q ≡ None)
 parts_none None q none = (refl, none)
 parts_none (Some x) q none = absurd (none_some x (sym none))
 
-map_none : {A B : Type 0} (f : A → B) (o : Option A) → option_map f o ≡ None → o ≡ None
+pub map_none : {A B : Type 0} (f : A → B) (o : Option A) → option_map f o ≡ None → o ≡ None
 map_none f None none = refl
 map_none f (Some x) none = absurd (none_some (f x) (sym none))
 

@@ -22,7 +22,7 @@ use Rattle.package_table.proofs.Names.{same_some, none_some}
 use Rattle.package_table.proofs.Frames.{equal_names, equal_itself}
 use Rattle.package_table.proofs.Mapped.{position_push, named, none_any, distinct_push}
 use Rattle.package_table.proofs.Meant.{known, one_pair, same_pair, other_pair, pair_there}
-use Rattle.package_table.proofs.Added.{name_added, symbol_added, import_added, external_added, import_stays_number, no_number, other_push}
+use Rattle.package_table.proofs.Added.{name_added, symbol_added, import_added, external_added, import_stays_number, no_number, other_push, parts_none, map_none}
 
 -- ---- positions in a longer list
 stays_push : {X : Type 0} (test : X → Bool) (xs : List X) (y : X) (i : ℕ) → position test xs ≡ Some i → position test (xs ++ y ∷ []) ≡ Some i
@@ -84,6 +84,7 @@ package_adds k P = record {
     lisp_first = stays_push (bytes_eq common_lisp) k.packages P 0 placed.lisp_first;
     keyword_second = stays_push (bytes_eq keyword) k.packages P 1 placed.keyword_second;
     shown = placed.shown;
+    apart = placed.apart;
   };
   fits = λ n fits. record { names = fits.names; packages = longer k.packages P n.packages fits.packages; symbols = fits.symbols; imports = fits.imports; externals = fits.externals; uses = fits.uses };
   cuts = λ n fits i. record (cut n k) { packages = take-append-le n.packages k.packages (P ∷ []) fits.packages i };
@@ -100,6 +101,11 @@ place_of q m p j =
             | false ↦ λ apart. inr (inl (λ (same : q ≡ p). false≢true (sym apart ∙ (Decides-eqb q p).1 same)))
           ] refl
     ] refl
+
+-- where a package has nothing by a name, it imports nothing by it
+imports_none : (k : Kept) (p j : ℕ) → number_in k p j ≡ None → position (pair_eq (p, j)) k.imports ≡ None
+imports_none k p j none =
+    map_none (λ i. get_or k.imported i 0) (position (pair_eq (p, j)) k.imports) (parts_none (position (pair_eq (p, j)) k.symbols) (import_of k p j) none).1
 
 -- a number more, at a place that had none
 module _ (k u : Kept) (p j : ℕ) (none : number_in k p j ≡ None) (stays : (q m : ℕ) → (q ≢ p) ⊎ (m ≢ j) → number_in u q m ≡ number_in k q m) where
@@ -168,6 +174,11 @@ module _ (k : Kept) (good : IsGood k) (p : ℕ) (N : Name) (none : symbol_named 
             let fits : i < length k.symbols = (pair_there (length k.packages) (length k.symbols) k.externals good.within.externals (q, i) x at).3 in
             ap (λ (s : ℕ × ℕ). number_in then q s.1) (get_or_append_left k.symbols ((p, name_number k.names N) ∷ []) (0, 0) i fits)
             ∙ numbers_stay_kept q (pair_at k.symbols i).1 i (placed.shown q i x at);
+        apart = λ q m x at.
+            elim (place_of q m p (name_number k.names N)) [
+              | inl (same, alike) ↦ absurd (none_some x (sym (imports_none k p (name_number k.names N) is.unused) ∙ (λ t. position (pair_eq (sym same t, sym alike t)) k.imports) ∙ at))
+              | inr apart ↦ other_push k.symbols (q, m) (p, name_number k.names N) (other_pair (q, m) (p, name_number k.names N) apart) ∙ placed.apart q m x at
+            ];
       };
       fits = λ n fits. record { names = is.fits n.names fits.names; packages = fits.packages; symbols = longer k.symbols (p, name_number k.names N) n.symbols fits.symbols; imports = fits.imports; externals = fits.externals; uses = fits.uses };
       cuts = λ n fits i. record (cut n k) { names = is.cut_same n.names fits.names i; symbols = take-append-le n.symbols k.symbols ((p, name_number k.names N) ∷ []) fits.symbols i };
@@ -195,6 +206,11 @@ module _ (k : Kept) (good : IsGood k) (p i : ℕ) (none : number_in k p (pair_at
       lisp_first = placed.lisp_first;
       keyword_second = placed.keyword_second;
       shown = λ q x y at. import_kept q (pair_at k.symbols x).1 x (placed.shown q x y at);
+      apart = λ q m x at.
+          elim (place_of q m p (pair_at k.symbols i).1) [
+            | inl (same, alike) ↦ (λ t. position (pair_eq (same t, alike t)) k.symbols) ∙ (parts_none (position (pair_eq (p, (pair_at k.symbols i).1)) k.symbols) (import_of k p (pair_at k.symbols i).1) none).0
+            | inr apart ↦ placed.apart q m x (sym (other_push k.imports (q, m) (p, (pair_at k.symbols i).1) (other_pair (q, m) (p, (pair_at k.symbols i).1) apart)) ∙ at)
+          ];
     };
     fits = λ n fits. record { names = fits.names; packages = fits.packages; symbols = fits.symbols; imports = longer k.imports (p, (pair_at k.symbols i).1) n.imports fits.imports; externals = fits.externals; uses = fits.uses };
     cuts = λ n fits t. record (cut n k) {
@@ -220,6 +236,7 @@ module _ (k : Kept) (good : IsGood k) (p j i : ℕ) (is : number_in k p j ≡ So
                 subst (λ (a : ℕ × ℕ). number_in k a.0 (pair_at k.symbols a.1).1 ≡ Some a.1) (sym one) (ap (number_in k p) (known k good p j i is).named_so ∙ is)
             | false ↦ λ differ. placed.shown q x y (sym (other_push k.externals (q, x) (p, i) differ) ∙ at)
           ] refl;
+      apart = placed.apart;
     };
     fits = λ n fits. record { names = fits.names; packages = fits.packages; symbols = fits.symbols; imports = fits.imports; externals = longer k.externals (p, i) n.externals fits.externals; uses = fits.uses };
     cuts = λ n fits t. record (cut n k) { externals = take-append-le n.externals k.externals ((p, i) ∷ []) fits.externals t };
@@ -230,7 +247,7 @@ use_adds k p q = record {
   packages = λ Q q seen. seen;
   names = λ M m seen. seen;
   numbers = λ q m x seen. seen;
-  placed = λ placed. record { lisp_first = placed.lisp_first; keyword_second = placed.keyword_second; shown = placed.shown };
+  placed = λ placed. record { lisp_first = placed.lisp_first; keyword_second = placed.keyword_second; shown = placed.shown; apart = placed.apart };
   fits = λ n fits. record { names = fits.names; packages = fits.packages; symbols = fits.symbols; imports = fits.imports; externals = fits.externals; uses = longer k.uses (p, q) n.uses fits.uses };
   cuts = λ n fits t. record (cut n k) { uses = take-append-le n.uses k.uses ((p, q) ∷ []) fits.uses t };
 }

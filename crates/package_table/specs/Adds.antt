@@ -1,16 +1,18 @@
 -- What every call keeps that adds to the kept lists.
-use Rattle.std.specs.Prelude.{◌≡◌, ℕ, List, position, bytes_eq, Some}
+use Rattle.std.specs.Prelude.{◌≡◌, ℕ, List, position, bytes_eq, Some, None}
 use Rattle.package_sets.specs.declared.sizes.Sizes.{Sizes}
 use Rattle.package_sets.specs.Kept.{Kept, cut, pair_at, pair_eq}
 use Rattle.package_sets.specs.AtMost.{IsAtMost}
 use Rattle.package_table.specs.Table.{Name, common_lisp, keyword}
 use Rattle.package_table.specs.Meaning.{number_in}
 
--- COMMON-LISP and KEYWORD are the packages 0 and 1, and what a package has as external it has by its name.
+-- COMMON-LISP and KEYWORD are the packages 0 and 1; what a package has as external it has by its name; and nothing is imported
+-- by a name of which there is a symbol at home.
 pub record IsPlaced (k : Kept) : Type 0 where
   pub lisp_first : position (bytes_eq common_lisp) k.packages ≡ Some 0
   pub keyword_second : position (bytes_eq keyword) k.packages ≡ Some 1
   pub shown : (p i x : ℕ) → position (pair_eq (p, i)) k.externals ≡ Some x → number_in k p (pair_at k.symbols i).1 ≡ Some i
+  pub apart : (p j x : ℕ) → position (pair_eq (p, j)) k.imports ≡ Some x → position (pair_eq (p, j)) k.symbols ≡ None
 
 -- packages, names and symbols keep their numbers, and what was kept earlier is still to be had by a cut
 pub record Adds (k u : Kept) : Type 0 where
