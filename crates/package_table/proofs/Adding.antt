@@ -47,7 +47,7 @@ none_length test (x ∷ xs) none =
       | false ↦ λ rest. ap (λ n. 1 + n) (none_length test xs rest) ∙ one-add (length xs)
     ] none
 
-none_position : {X : Type 0} (test : X → Bool) (xs : List X) → list_any test xs ≡ false → position test xs ≡ None
+pub none_position : {X : Type 0} (test : X → Bool) (xs : List X) → list_any test xs ≡ false → position test xs ≡ None
 none_position test xs none =
     (λ i. cond (nat_lt (none_length test xs none i) (length xs)) (Some (none_length test xs none i)) None) ∙ ap (λ b. cond b (Some (length xs)) None) (itself (length xs))
   where

@@ -110,7 +110,7 @@ module _ (k : Kept) (good : IsGood k) where
         ∙ sym (ap is_some (entry_there k good P p here N j there))
 
     -- a symbol that is imported has another home
-    other_home : (i : ℕ) → position (pair_eq (p, j)) k.symbols ≡ None → number_in k p j ≡ Some i → bytes_eq (home_in k i) P ≡ false
+    pub other_home : (i : ℕ) → position (pair_eq (p, j)) k.symbols ≡ None → number_in k p j ≡ Some i → bytes_eq (home_in k i) P ≡ false
     other_home i none is =
         let at = known k good p j i is in
         elim (bytes_eq (home_in k i) P) as (λ b. bytes_eq (home_in k i) P ≡ b → b ≡ false) [
@@ -123,7 +123,7 @@ module _ (k : Kept) (good : IsGood k) where
         ] refl
 
     -- a symbol at home has it as its home
-    own_home : (i : ℕ) → position (pair_eq (p, j)) k.symbols ≡ Some i → home_in k i ≡ P
+    pub own_home : (i : ℕ) → position (pair_eq (p, j)) k.symbols ≡ Some i → home_in k i ≡ P
     own_home i is =
         let at = pair_there (length k.packages) (length k.names) k.symbols good.within.symbols (p, j) i is in
         ap (λ (s : ℕ × ℕ). name_at k.packages s.0) (sym at.1) ∙ sym (named P k.packages p here).1

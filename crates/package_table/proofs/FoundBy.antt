@@ -21,7 +21,7 @@ use Rattle.package_table.proofs.Mapped.{position_cons, named, none_any}
 use Rattle.package_table.proofs.Meant.{one_pair, same_pair, all_at, package_at, package_none, entry_there, entry_none, uses_there, uses_none, known}
 
 -- ---- positions
-any_at : {X : Type 0} (test : X → Bool) (xs : List X) (i : ℕ) (d : X) → i < length xs → test (get_or xs i d) ≡ true → list_any test xs ≡ true
+pub any_at : {X : Type 0} (test : X → Bool) (xs : List X) (i : ℕ) (d : X) → i < length xs → test (get_or xs i d) ≡ true → list_any test xs ≡ true
 any_at test [] i d less passes = absurd (omega (arith, less))
 any_at test (x ∷ xs) zero d less passes = ap (λ b. b || list_any test xs) passes
 any_at test (x ∷ xs) (suc i) d less passes = or_right (test x) (list_any test xs) (any_at test xs i d (omega (arith, less)) passes)

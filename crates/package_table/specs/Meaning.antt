@@ -1,6 +1,6 @@
 -- What is kept by numbers means these packages by names. A number is the position of a name, a package or a symbol in its list.
-use Rattle.std.specs.Prelude.{◌+◌, ℕ, Bool, ◌||◌, nat_lt, is_some, List, [], ◌∷◌, position, if◌then◌else◌, Option, Some, None, option_map, option_and_then}
-use Rattle.std.specs.Option.{option_or}
+use Rattle.std.specs.Prelude.{◌+◌, ℕ, Bool, false, not, ◌||◌, nat_lt, bytes_eq, is_some, List, [], ◌∷◌, position, if◌then◌else◌, Option, Some, None, option_map, option_and_then}
+use Rattle.std.specs.Option.{option_or, option_map_or}
 use Rattle.std.specs.List.{cons_option}
 use Rattle.std.specs.FinMap as finite
 use Rattle.package_sets.specs.Kept.{Kept, import_of, name_at, pair_at, pair_eq, positions_of}
@@ -43,6 +43,21 @@ module _ (k : Kept) where
   -- the number of the symbol that p finds by the name j
   abbrev pub found_number : ℕ → ℕ → Option ℕ
   found_number p j = option_or (number_in p j) (first_shown j (positions_of p k.uses))
+
+  -- the name of the symbol i
+  abbrev pub symbol_name : ℕ → Name
+  symbol_name i = name_at k.names (pair_at k.symbols i).1
+
+  -- where the external symbols of q are, and the symbol of such a place: of the packages 0 and 1 these are the symbols at home
+  abbrev pub shown_positions : ℕ → List ℕ
+  shown_positions q = if nat_lt q 2 then positions_of q k.symbols else positions_of q k.externals
+
+  abbrev pub shown_symbol : ℕ → ℕ → ℕ
+  shown_symbol q x = if nat_lt q 2 then x else (pair_at k.externals x).1
+
+  -- p finds another symbol by the name of the symbol i
+  abbrev pub finds_another : ℕ → ℕ → Bool
+  finds_another p i = option_map_or (λ o. not (bytes_eq (home_in o) (home_in i))) (found_number p (pair_at k.symbols i).1) false
 
   -- what the package p has, and the numbers of its symbols
   abbrev pub package_in : ℕ → Package
