@@ -211,7 +211,7 @@ module _ (k : Kept) (good : IsGood k) where
         let shown = shows k q j i first.2 in
         inr (Q, uses_by P Q p q taken.0 here found_q taken.1, shown_by Q N q j found_q there i shown.0 shown.1, present_by Q N q j found_q there i shown.0)
 
-    finds_number : (i : ℕ) → found_number k p j ≡ Some i → Finds (numbered_of k).0 P N (home_in k i)
+    pub finds_number : (i : ℕ) → found_number k p j ≡ Some i → Finds (numbered_of k).0 P N (home_in k i)
     finds_number i is =
         elim (number_in k p j) as (λ o. number_in k p j ≡ o → option_or o (first_shown k j (positions_of p k.uses)) ≡ Some i → Finds (numbered_of k).0 P N (home_in k i)) [
           | Some x ↦ λ own same. inl (present_by P N p j here there i (own ∙ same))
