@@ -111,7 +111,7 @@ module _ (k : Kept) where
   pub is_shown_number : (q j i : ℕ) → number_in k q j ≡ Some i → is_shown_in k q i ≡ true → shown_number k q j ≡ Some i
   is_shown_number q j i is shown = ap (option_and_then (λ i. cond (is_shown_in k q i) (Some i) None)) is ∙ ap (λ b. cond b (Some i) None) shown
 
-  first_is : (j : ℕ) (xs : List ℕ) (i : ℕ) → first_shown k j xs ≡ Some i → (x : ℕ) × (list_any (nat_eq x) xs ≡ true) × (shown_number k (pair_at k.uses x).1 j ≡ Some i)
+  pub first_is : (j : ℕ) (xs : List ℕ) (i : ℕ) → first_shown k j xs ≡ Some i → (x : ℕ) × (list_any (nat_eq x) xs ≡ true) × (shown_number k (pair_at k.uses x).1 j ≡ Some i)
   unfolding first_shown
   first_is j [] i none = absurd (none_some i none)
   first_is j (x ∷ xs) i is =

@@ -345,3 +345,24 @@ packages_listed k good result moved sorted =
           | true ↦ λ some. sym (ap is_some (Rattle.package_table.proofs.Adding.any_position (bytes_eq n) k.packages some))
           | false ↦ λ none. sym (ap is_some (Rattle.package_table.proofs.Adding.none_position (bytes_eq n) k.packages none))
         ] refl
+
+-- ---- imported names with their homes
+
+pairs_read : (test : Name × Present → Bool) (get : Name → Option Present) (es : List (Name × Present)) → T (is_sorted name_cmp es) → ((n : Name) (e : Present) → find name_cmp n es ≡ Some e → get n ≡ Some e)
+    → map {B = Name × Name} (λ s. (s.0, s.1.home)) (filter test es) ≡ map {B = Name × Name} (λ n. (n, option_map_or (λ e. e.home) (get n) [])) (map (λ s. s.0) (filter test es))
+pairs_read test get [] sorted finds = refl
+pairs_read test get (e ∷ es) sorted finds =
+    let rest = pairs_read test get es (second_of_both _ _ sorted) (λ n x there. finds n x (found_past e es (first_of_both _ _ sorted) n x there)) in
+    let here : get e.0 ≡ Some e.1 = finds e.0 e.1 (ap (λ b. cond b (Some e.1) (find name_cmp e.0 es)) (same_tied e.0)) in
+    elim (test e) as (λ b. map {B = Name × Name} (λ s. (s.0, s.1.home)) (cond b (e ∷ filter test es) (filter test es)) ≡ map {B = Name × Name} (λ n. (n, option_map_or (λ e. e.home) (get n) [])) (map (λ s. s.0) (cond b (e ∷ filter test es) (filter test es)))) [
+      | true ↦ λ i. (e.0, option_map_or (λ (e : Present). e.home) (sym here i) []) ∷ rest i
+      | false ↦ rest
+    ]
+
+pub imported_pairs : (t : Table) (p : Name) → imports t p ≡ map {B = Name × Name} (λ n. (n, option_map_or (λ e. e.home) (entry_at t p n) [])) (map (λ s. s.0) (filter (λ s. not (bytes_eq s.1.home p)) (present t p)))
+imported_pairs t p =
+    elim (finite.get t p) as (λ o. map {B = Name × Name} (λ (s : Name × Present). (s.0, s.1.home)) (filter (λ s. not (bytes_eq s.1.home p)) (option_map_or (λ (h : Package). finite.entries h.symbols) o []))
+    ≡ map {B = Name × Name} (λ n. (n, option_map_or (λ (e : Present). e.home) (option_and_then (λ (h : Package). finite.get h.symbols n) o) [])) (map (λ (s : Name × Present). s.0) (filter (λ s. not (bytes_eq s.1.home p)) (option_map_or (λ (h : Package). finite.entries h.symbols) o [])))) [
+      | None ↦ refl
+      | Some h ↦ pairs_read (λ s. not (bytes_eq s.1.home p)) (finite.get h.symbols) (finite.entries h.symbols) (finite.entries_sorted h.symbols) (λ n e is. finite.get-entries h.symbols n ∙ is)
+    ]
