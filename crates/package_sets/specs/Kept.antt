@@ -1,5 +1,5 @@
 -- What is kept of the packages: lists that only grow, in which the position of a thing is its number.
-use Rattle.std.specs.Prelude.{◌≡◌, ℕ, ◌+◌, Bool, ◌&&◌, nat_eq, List, [], ◌∷◌, length, take, get_or, position, if◌then◌else◌, Option, option_map, refl}
+use Rattle.std.specs.Prelude.{◌≡◌, ℕ, ◌+◌, ◌≤◌, Bool, ◌&&◌, nat_eq, List, [], ◌∷◌, length, take, get_or, position, if◌then◌else◌, Option, option_map, refl}
 use Rattle.std.specs.Coded.{Coded, code_by, coded×, coded_ℕ, coded_list}
 use Rattle.package_sets.specs.declared.sizes.Sizes.{Sizes}
 
@@ -26,15 +26,30 @@ pub record Kept : Type 0 where
 
 abbrev pub Stored : Type 0
 Stored =
-    List Name × List Name × List (ℕ × ℕ) × List (ℕ × ℕ) × List ℕ × List (ℕ × ℕ) × List (ℕ × ℕ)
+    List Name × (List Name × (List (ℕ × ℕ) × (List (ℕ × ℕ) × (List ℕ × (List (ℕ × ℕ) × List (ℕ × ℕ))))))
+
+abbrev pub stored_code : Coded Stored
+stored_code =
+    coded× (coded_list name_code)
+    (coded× (coded_list name_code)
+    (coded× pairs_code (coded× pairs_code (coded× (coded_list coded_ℕ) (coded× pairs_code pairs_code)))))
+
+abbrev pub stored : Kept → Stored
+stored k = (k.names, (k.packages, (k.symbols, (k.imports, (k.imported, (k.externals, k.uses))))))
+
+abbrev pub restored : Stored → Kept
+restored p = record {
+  names = p.0;
+  packages = p.1.0;
+  symbols = p.1.1.0;
+  imports = p.1.1.1.0;
+  imported = p.1.1.1.1.0;
+  externals = p.1.1.1.1.1.0;
+  uses = p.1.1.1.1.1.1;
+}
 
 abbrev pub kept_code : Coded Kept
-kept_code =
-    code_by Stored
-    (coded× (coded_list name_code) (coded_list name_code) pairs_code pairs_code (coded_list coded_ℕ) pairs_code pairs_code)
-    (λ k. (k.names, k.packages, k.symbols, k.imports, k.imported, k.externals, k.uses))
-    (λ p. record { names = p.0; packages = p.1; symbols = p.2; imports = p.3; imported = p.4; externals = p.5; uses = p.6 })
-    (λ _. refl)
+kept_code = code_by Stored stored_code stored restored (λ _. refl)
 
 -- the name of a number
 abbrev pub name_at : List Name → ℕ → Name
@@ -61,6 +76,15 @@ sizes_of k = record {
   externals = length k.externals;
   uses = length k.uses;
 }
+
+-- each of n is at most that of m
+pub record AreUpTo (n m : Sizes) : Type 0 where
+  pub names : n.names ≤ m.names
+  pub packages : n.packages ≤ m.packages
+  pub symbols : n.symbols ≤ m.symbols
+  pub imports : n.imports ≤ m.imports
+  pub externals : n.externals ≤ m.externals
+  pub uses : n.uses ≤ m.uses
 
 -- what was kept when the lists had these lengths
 abbrev pub cut : Sizes → Kept → Kept

@@ -1,5 +1,5 @@
 //! Each pair once, numbered by its position, and the positions of the pairs of each first number.
-ghost use Rattle.std.specs.Prelude.{◌≡◌, ◌-◌, ◌<◌, ◌++◌, ◌∷◌, [], nat_eq, length, take, position, None, IfOk, OnOk, OnErr, if◌then◌else◌};
+ghost use Rattle.std.specs.Prelude.{◌≡◌, ℕ, ◌-◌, ◌<◌, ◌++◌, ◌∷◌, [], nat_eq, length, take, position, None, IfOk, OnOk, OnErr, if◌then◌else◌};
 ghost use Rattle.package_sets.specs.Kept.{pair_at, pair_eq, positions_of};
 ghost use Rattle.package_sets.specs.Good.{AreDistinctPairs};
 ghost use Rattle.package_sets.specs.Groups.{group_at, pair_of};
