@@ -11,13 +11,12 @@ use Rattle.std.specs.Option.{option_or}
 use Rattle.std.specs.List.{list_any, position_or_len, IsDistinct}
 use Rattle.package_sets.specs.declared.sizes.Sizes.{Sizes}
 use Rattle.package_sets.specs.Kept.{Kept, cut, import_of, name_at, pair_at, pair_eq}
-use Rattle.package_sets.specs.AtMost.{IsAtMost}
 use Rattle.package_sets.specs.Good.{IsGood}
 use Rattle.package_sets.specs.Changes.{with_external, with_import, with_name, with_package, with_symbol, with_use, symbol_named, number_in as name_number}
 use Rattle.package_table.specs.Table.{Name, Present, common_lisp, keyword, is_locked}
 use Rattle.package_table.specs.Numbers.{Numbered, with_numbered}
 use Rattle.package_table.specs.Meaning.{number_in, is_shown_in, present_in, home_in, numbered_of}
-use Rattle.package_table.specs.Adds.{IsPlaced, Adds}
+use Rattle.package_table.specs.Adds.{IsPlaced, Adds, IsAtMost}
 use Rattle.package_table.proofs.Names.{same_some, none_some}
 use Rattle.package_table.proofs.Frames.{equal_names, equal_itself}
 use Rattle.package_table.proofs.Mapped.{position_push, named, none_any, distinct_push}

@@ -2,7 +2,6 @@
 use Rattle.std.specs.Prelude.{◌≡◌, ℕ, List, position, bytes_eq, Some, None}
 use Rattle.package_sets.specs.declared.sizes.Sizes.{Sizes}
 use Rattle.package_sets.specs.Kept.{Kept, cut, pair_at, pair_eq}
-use Rattle.package_sets.specs.AtMost.{IsAtMost}
 use Rattle.package_table.specs.Table.{Name, common_lisp, keyword}
 use Rattle.package_table.specs.Meaning.{number_in}
 
@@ -14,6 +13,15 @@ pub record IsPlaced (k : Kept) : Type 0 where
   pub shown : (p i x : ℕ) → position (pair_eq (p, i)) k.externals ≡ Some x → number_in k p (pair_at k.symbols i).1 ≡ Some i
   pub apart : (p j x : ℕ) → position (pair_eq (p, j)) k.imports ≡ Some x → position (pair_eq (p, j)) k.symbols ≡ None
 
+-- the kept lists are at least that long
+pub record IsAtMost (n : Sizes) (k : Kept) : Type 0 where
+  pub names : n.names ≤ length k.names
+  pub packages : n.packages ≤ length k.packages
+  pub symbols : n.symbols ≤ length k.symbols
+  pub imports : n.imports ≤ length k.imports
+  pub externals : n.externals ≤ length k.externals
+  pub uses : n.uses ≤ length k.uses
+
 -- packages, names and symbols keep their numbers, and what was kept earlier is still to be had by a cut
 pub record Adds (k u : Kept) : Type 0 where
   pub packages : (P : Name) (p : ℕ) → position (bytes_eq P) k.packages ≡ Some p → position (bytes_eq P) u.packages ≡ Some p
@@ -22,3 +30,15 @@ pub record Adds (k u : Kept) : Type 0 where
   pub placed : IsPlaced k → IsPlaced u
   pub fits : (n : Sizes) → IsAtMost n k → IsAtMost n u
   pub cuts : (n : Sizes) → IsAtMost n k → cut n u ≡ cut n k
+
+-- the same where no symbol is made
+abbrev pub AddsNoSymbol : Kept → Kept → Type 0
+AddsNoSymbol k u = Adds k u × (length u.symbols ≡ length k.symbols)
+
+-- nothing is kept but packages
+pub record HasNothing (k : Kept) : Type 0 where
+  pub names : k.names ≡ []
+  pub symbols : k.symbols ≡ []
+  pub imports : k.imports ≡ []
+  pub externals : k.externals ≡ []
+  pub uses : k.uses ≡ []

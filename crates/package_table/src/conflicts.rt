@@ -1,5 +1,5 @@
 //! Whether a package finds another symbol than a given one by its name.
-ghost use Rattle.std.specs.Prelude.{◌≡◌, ◌<◌, length};
+ghost use Rattle.std.specs.Prelude.{◌≡◌, ◌<◌, false, nat_lt, length};
 ghost use Rattle.package_sets.specs.Kept.{name_at};
 ghost use Rattle.package_table.specs.Table.{IsJoined, IsSound};
 ghost use Rattle.package_table.specs.Reached.{reaches, share_user};
@@ -121,7 +121,7 @@ pub(crate) fn shown_positions(sets: &PackageSets, owner: u32) -> &[u32]
 
 /// The symbol of such a place.
 pub(crate) fn shown_symbol(sets: &PackageSets, owner: u32, position: u32) -> u32
-    requires { position < length sets.now.externals }
+    requires { nat_lt owner 2 ≡ false → position < length sets.now.externals }
     ensures { result ≡ shown_symbol sets.now owner position }
 {
     if owner < LOCKED_PACKAGES {
