@@ -1,10 +1,10 @@
 -- What a package finds by a name, by numbers.
 --     position_of, position_some      the position of a name that is kept, and that there is one
 --     external_by, found_by, found_no_package, found_no_name      the look-ups by names
-use Rattle.std.proofs.Common.{◌≡◌, ◌≢◌, ◌⊎◌, ◌+◌, ◌<◌, ◌≤◌, ℕ, zero, suc, Bool, true, false, cond, ◌&&◌, ◌||◌, nat_eq, is_some, List, [], ◌∷◌, ◌++◌, length, get_or, position, Option, None, Some, option_map, option_and_then, bytes_eq, refl, sym, ap, subst, ◌∙◌, inl, inr, append_assoc, arith}
+use Rattle.std.proofs.Common.{◌≡◌, ◌≢◌, ◌⊎◌, ◌+◌, ◌<◌, ◌≤◌, ℕ, zero, suc, Bool, true, false, cond, ◌&&◌, ◌||◌, nat_eq, is_some, List, [], ◌∷◌, ◌++◌, length, get_or, drop, position, Option, None, Some, option_map, option_and_then, bytes_eq, refl, sym, ap, subst, ◌∙◌, inl, inr, append_assoc, arith}
 use Rattle.std.proofs.lemmas.Bool.{false≢true, or_right}
 use Rattle.std.proofs.lemmas.Bool.Decides.{Decides-eqb}
-use Rattle.std.proofs.lemmas.List.{get_or_at, length_push, length-append}
+use Rattle.std.proofs.lemmas.List.{get_or_at, length_push, length-append, drop_more, drop_all}
 use Rattle.std.proofs.lemmas.List.Quantifiers.{position-Some}
 use Rattle.std.specs.Option.{option_or, option_map_or}
 use Rattle.std.specs.List.{IsDistinct, AllByRecursion, list_any}
@@ -132,6 +132,34 @@ module _ (k : Kept) where
               | false ↦ λ _ rest. first_none j ys later x rest
             ] refl among
       ] refl none
+
+or_some : (o p : Option ℕ) → is_some o ≡ true → option_or o p ≡ o
+or_some None p none = absurd (false≢true none)
+or_some (Some i) p some = refl
+
+or_none : (o p : Option ℕ) → is_some o ≡ false → option_or o p ≡ p
+or_none None p none = refl
+or_none (Some i) p some = absurd (false≢true (sym some))
+
+-- the uses from a place on
+module _ (k : Kept) (j : ℕ) (xs : List ℕ) (i : ℕ) where
+  first_step : i < length xs → first_shown k j (drop i xs) ≡ option_or (shown_number k (pair_at k.uses (get_or xs i 0)).1 j) (first_shown k j (drop (i + 1) xs))
+  unfolding first_shown
+  first_step less = ap (first_shown k j) (drop_more xs i 0 less)
+
+  pub first_hit : (q : ℕ) (o : Option ℕ) → i < length xs → q ≡ (pair_at k.uses (get_or xs i 0)).1 → o ≡ shown_number k q j → is_some o ≡ true → o ≡ first_shown k j (drop i xs)
+  first_hit q o less at is some =
+      sym (or_some o (first_shown k j (drop (i + 1) xs)) some)
+      ∙ ap (λ r. option_or r (first_shown k j (drop (i + 1) xs))) (is ∙ ap (λ q. shown_number k q j) at) ∙ sym (first_step less)
+
+  pub first_missed : (q : ℕ) (o : Option ℕ) → i < length xs → q ≡ (pair_at k.uses (get_or xs i 0)).1 → o ≡ shown_number k q j → is_some o ≡ false → first_shown k j (drop (i + 1) xs) ≡ first_shown k j (drop i xs)
+  first_missed q o less at is none =
+      sym (or_none o (first_shown k j (drop (i + 1) xs)) none)
+      ∙ ap (λ r. option_or r (first_shown k j (drop (i + 1) xs))) (is ∙ ap (λ q. shown_number k q j) at) ∙ sym (first_step less)
+
+  pub first_end : length xs ≤ i → None ≡ first_shown k j (drop i xs)
+  unfolding first_shown
+  first_end past = sym (ap (first_shown k j) (drop_all i xs past))
 
 -- ---- the look-ups by names
 module _ (k : Kept) (good : IsGood k) where

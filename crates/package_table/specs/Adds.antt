@@ -1,5 +1,5 @@
 -- What every call keeps that adds to the kept lists.
-use Rattle.std.specs.Prelude.{◌≡◌, ℕ, List, position, bytes_eq, Some, None}
+use Rattle.std.specs.Prelude.{◌≡◌, ◌≤◌, ℕ, [], length, position, bytes_eq, Some, None}
 use Rattle.package_sets.specs.declared.sizes.Sizes.{Sizes}
 use Rattle.package_sets.specs.Kept.{Kept, cut, pair_at, pair_eq}
 use Rattle.package_table.specs.Table.{Name, common_lisp, keyword}
