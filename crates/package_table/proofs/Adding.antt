@@ -6,11 +6,11 @@
 use Rattle.std.proofs.Common.{◌≡◌, ◌≢◌, ◌⊎◌, ◌+◌, ◌<◌, ◌≤◌, ℕ, suc, Bool, true, false, cond, not, ◌||◌, nat_eq, nat_lt, nat_le, is_some, List, [], ◌∷◌, ◌++◌, length, take, get_or, position, Option, None, Some, option_map, option_and_then, bytes_eq, refl, sym, ap, subst, ◌∙◌, inl, inr, one-add, arith}
 use Rattle.std.proofs.lemmas.Bool.{false≢true}
 use Rattle.std.proofs.lemmas.Bool.Decides.{Decides-eqb}
-use Rattle.std.proofs.lemmas.List.{get_or_append_left, length_push, take-append-le}
+use Rattle.std.proofs.lemmas.List.{get_or_append_left, length_push, take-append-le, take_all}
 use Rattle.std.specs.Option.{option_or}
 use Rattle.std.specs.List.{list_any, position_or_len, IsDistinct}
 use Rattle.package_sets.specs.declared.sizes.Sizes.{Sizes}
-use Rattle.package_sets.specs.Kept.{Kept, cut, import_of, name_at, pair_at, pair_eq}
+use Rattle.package_sets.specs.Kept.{Kept, cut, import_of, name_at, pair_at, pair_eq, sizes_of}
 use Rattle.package_sets.specs.Good.{IsGood}
 use Rattle.package_sets.specs.Changes.{with_external, with_import, with_name, with_package, with_symbol, with_use, symbol_named, number_in as name_number}
 use Rattle.package_table.specs.Table.{Name, Present, common_lisp, keyword, is_locked}
@@ -64,6 +64,25 @@ adds_same k = record {
   cuts = λ n _. refl;
 }
 
+-- the lists cut to their lengths
+pub cut_all : (k : Kept) → IsGood k → cut (sizes_of k) k ≡ k
+cut_all k good = λ i. record {
+  names = take_all (length k.names) k.names (omega arith) i;
+  packages = take_all (length k.packages) k.packages (omega arith) i;
+  symbols = take_all (length k.symbols) k.symbols (omega arith) i;
+  imports = take_all (length k.imports) k.imports (omega arith) i;
+  imported = take_all (length k.imports) k.imported (let many = good.as_many in omega (arith, many)) i;
+  externals = take_all (length k.externals) k.externals (omega arith) i;
+  uses = take_all (length k.uses) k.uses (omega arith) i;
+}
+
+pub at_most_all : (k : Kept) → IsAtMost (sizes_of k) k
+at_most_all k = record { names = omega arith; packages = omega arith; symbols = omega arith; imports = omega arith; externals = omega arith; uses = omega arith }
+
+-- what was there before is had again
+pub cut_back : (k u : Kept) → IsGood k → Adds k u → cut (sizes_of k) u ≡ k
+cut_back k u good adds = adds.cuts (sizes_of k) (at_most_all k) ∙ cut_all k good
+
 pub adds_both : (k u v : Kept) → Adds k u → Adds u v → Adds k v
 adds_both k u v one two = record {
   packages = λ P p is. two.packages P p (one.packages P p is);
@@ -102,7 +121,7 @@ place_of q m p j =
     ] refl
 
 -- where a package has nothing by a name, it imports nothing by it
-imports_none : (k : Kept) (p j : ℕ) → number_in k p j ≡ None → position (pair_eq (p, j)) k.imports ≡ None
+pub imports_none : (k : Kept) (p j : ℕ) → number_in k p j ≡ None → position (pair_eq (p, j)) k.imports ≡ None
 imports_none k p j none =
     map_none (λ i. get_or k.imported i 0) (position (pair_eq (p, j)) k.imports) (parts_none (position (pair_eq (p, j)) k.symbols) (import_of k p j) none).1
 

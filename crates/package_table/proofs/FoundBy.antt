@@ -133,7 +133,7 @@ module _ (k : Kept) where
             ] refl among
       ] refl none
 
-or_some : (o p : Option ℕ) → is_some o ≡ true → option_or o p ≡ o
+pub or_some : (o p : Option ℕ) → is_some o ≡ true → option_or o p ≡ o
 or_some None p none = absurd (false≢true none)
 or_some (Some i) p some = refl
 

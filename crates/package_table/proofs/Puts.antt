@@ -10,21 +10,22 @@ use Rattle.std.specs.FinMap as finite
 use Rattle.package_sets.specs.Kept.{Kept, import_of, name_at, pair_at, pair_eq, positions_of}
 use Rattle.package_sets.specs.Good.{IsGood}
 use Rattle.package_sets.specs.Changes.{symbol_named, with_external, with_import, with_symbol, with_use}
-use Rattle.package_table.specs.Table.{Name, name_cmp, Present, Package, Table, entry_at, with_package, with_entry, common_lisp, keyword, is_locked, IsJoined}
+use Rattle.package_table.specs.Table.{Name, name_cmp, Present, Package, Table, entry_at, with_package, with_entry, common_lisp, keyword, is_locked, IsJoined, IsPresent}
 use Rattle.package_table.specs.Lookup.{found, is_present, is_external}
 use Rattle.package_table.specs.Changes.{finds_this}
 use Rattle.package_table.specs.Numbers.{Numbered, with_numbered}
 use Rattle.package_table.specs.Meaning.{number_in, is_shown_in, present_in, home_in, found_number, first_shown, shown_number, numbered_of}
 use Rattle.package_table.specs.Adds.{IsPlaced, Adds}
 use Rattle.package_table.proofs.Names.{name_total, name_exact, same_some, none_some}
-use Rattle.package_table.proofs.Frames.{equal_names, get_inserted}
+use Rattle.package_table.proofs.Frames.{equal_names, equal_itself, get_inserted}
 use Rattle.package_table.proofs.Found.{found_none}
 use Rattle.package_table.proofs.KeptSound.{no_entry}
 use Rattle.package_table.proofs.Meant.{IsKnown, known, entry_there}
 use Rattle.package_table.proofs.Added.{import_added, external_added, import_new_number, map_none, parts_none}
 use Rattle.package_table.proofs.Adding.{keyword_number, locked_number, hidden_new, symbol_made, symbol_adds, import_adds, external_adds, adds_both}
 use Rattle.package_table.proofs.FoundBy.{found_by, first_is, shows}
-use Rattle.package_table.proofs.ByName.{own_home}
+use Rattle.package_table.proofs.ByName.{own_home, symbol_by}
+use Rattle.package_table.proofs.Mapped.{named}
 
 -- ---- an entry in place of another
 insert_twice : {X : Type 0} (m : finite.FinMap name_cmp X) (k : Name) (v w : X) → finite.insert (finite.insert m k v) k w ≡ finite.insert m k w
@@ -48,6 +49,29 @@ entry_twice t p n e f =
           ∙ insert_twice t p (record h { symbols = finite.insert h.symbols n e }) (record h { symbols = finite.insert (finite.insert h.symbols n e) n f })
           ∙ (λ i. finite.insert t p (record h { symbols = insert_twice h.symbols n e f i }))
     ] refl
+
+-- the number of a symbol that is present at home
+pub at_home_number : (k : Kept) → IsGood k → (H N : Name) (h j : ℕ) → position (bytes_eq H) k.packages ≡ Some h → position (bytes_eq N) k.names ≡ Some j → IsPresent (numbered_of k).0 H N H
+    → (i : ℕ) × (position (pair_eq (h, j)) k.symbols ≡ Some i)
+at_home_number k good H N h j home there present =
+    some (position (pair_eq (h, j)) k.symbols) (symbol_by k good H N h j home there ∙ at_home (entry_at (numbered_of k).0 H N) present)
+  where
+    at_home : (o : Option Present) → option_map (λ (e : Present). e.home) o ≡ Some H → option_map_or (λ (e : Present). bytes_eq e.home H) o false ≡ true
+    at_home None none = absurd (none_some H none)
+    at_home (Some e) is = ap (λ n. bytes_eq n H) (same_some e.home H is) ∙ equal_itself H
+
+    some : (o : Option ℕ) → is_some o ≡ true → (i : ℕ) × (o ≡ Some i)
+    some None none = absurd (false≢true none)
+    some (Some i) _ = (i, refl)
+
+-- two packages of different names have different numbers
+pub apart_numbers : (k : Kept) (P Q : Name) (p q : ℕ) → position (bytes_eq P) k.packages ≡ Some p → position (bytes_eq Q) k.packages ≡ Some q → bytes_eq P Q ≡ false → p ≡ q → ⊥
+apart_numbers k P Q p q here there differ same =
+    false≢true (sym differ ∙ ap (λ n. bytes_eq n Q) ((named P k.packages p here).1 ∙ ap (name_at k.packages) same ∙ sym (named Q k.packages q there).1) ∙ equal_itself Q)
+
+pub none_of : {A : Type 0} (o : Option A) → is_some o ≡ false → o ≡ None
+none_of None none = refl
+none_of (Some x) some = absurd (false≢true (sym some))
 
 module _ (k : Kept) (good : IsGood k) (P N : Name) (p : ℕ) (here : position (bytes_eq P) k.packages ≡ Some p) where
   -- no entry, no number

@@ -1,6 +1,6 @@
 //! Whether a package finds another symbol than a given one by its name.
-ghost use Rattle.std.specs.Prelude.{◌≡◌, ◌<◌, false, nat_lt, length};
-ghost use Rattle.package_sets.specs.Kept.{name_at};
+ghost use Rattle.std.specs.Prelude.{◌≡◌, ◌<◌, ◌&&◌, false, nat_lt, is_some, length, position};
+ghost use Rattle.package_sets.specs.Kept.{name_at, pair_eq};
 ghost use Rattle.package_table.specs.Table.{IsJoined, IsSound};
 ghost use Rattle.package_table.specs.Reached.{reaches, share_user};
 ghost use Rattle.package_table.specs.Changes.{finds_this, finds_other, user_finds_other, finds_other_than_shown};
@@ -33,7 +33,15 @@ pub(crate) fn finds_other(sets: &PackageSets, owner: &[u8], home: &[u8], name: &
     }
 }
 
-// Whether a package uses both.
+// Whether a package uses both others.
+fn uses_both(sets: &PackageSets, user: u32, owner: u32, other: u32) -> bool
+    ensures { let uses = sets.now.uses in
+        result ≡ (is_some (position (pair_eq (user, owner)) uses) && is_some (position (pair_eq (user, other)) uses)) }
+{
+    sets.is_used(user, owner) && sets.is_used(user, other)
+}
+
+// Whether there is a package that uses both.
 fn share_user(sets: &PackageSets, owner: u32, other: u32) -> bool
     requires owner { owner < length sets.now.packages }
     requires other { other < length sets.now.packages }
@@ -42,7 +50,7 @@ fn share_user(sets: &PackageSets, owner: u32, other: u32) -> bool
 {
     sets.goodness();
     for user in 0..sets.package_count() {
-        if sets.is_used(user, owner) && sets.is_used(user, other) {
+        if uses_both(sets, user, owner, other) {
             return true;
         }
     }

@@ -77,7 +77,8 @@ pub(crate) fn put_import(
     let Some(symbol) = sets.find_symbol(home, name) else {
         unreachable!()
     };
-    sets.import(owner, symbol)
+    sets.import(owner, symbol)?;
+    Ok(())
 }
 
 // Makes a package import a symbol, which is external there then.
@@ -130,9 +131,11 @@ pub(crate) fn put_external(
         unreachable!()
     };
     if number_in(sets, owner, name).is_some() {
-        return sets.show(owner, symbol);
+        sets.show(owner, symbol)?;
+        return Ok(());
     }
-    import_and_show(sets, owner, symbol)
+    import_and_show(sets, owner, symbol)?;
+    Ok(())
 }
 
 /// Makes the package `owner`, which exists, use another, which it does not use yet.
@@ -153,5 +156,6 @@ pub(crate) fn put_use(sets: &mut PackageSets, owner: &[u8], used: &[u8]) -> Resu
     let Some(used) = sets.find_package(used) else {
         unreachable!()
     };
-    sets.use_package(owner, used)
+    sets.use_package(owner, used)?;
+    Ok(())
 }
