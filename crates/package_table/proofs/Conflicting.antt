@@ -86,6 +86,19 @@ module _ (k : Kept) (good : IsGood k) where
           (symbols_by r j j_in ∙ ap (option_map (present_in k r)) is)
           ∙ ap (λ b. not (bytes_eq (home_in k i) h) && (b || (is_shown_in k r i && share_user (numbered_of k).0 (name_at k.packages p) (name_at k.packages r)))) (sym (uses_number r p p_in))
 
+      pub reaches_same : bytes_eq (home_in k i) h ≡ true → reaches (numbered_of k).0 (name_at k.packages p) h (name_at k.names j) (name_at k.packages r, package_in k r) ≡ false
+      reaches_same same =
+          reaches_by ∙ ap (λ b. not b && (is_some (position (pair_eq (r, p)) k.uses) || (is_shown_in k r i && share_user (numbered_of k).0 (name_at k.packages p) (name_at k.packages r)))) same
+
+      pub reaches_using : bytes_eq (home_in k i) h ≡ false → is_some (position (pair_eq (r, p)) k.uses) ≡ true → reaches (numbered_of k).0 (name_at k.packages p) h (name_at k.names j) (name_at k.packages r, package_in k r) ≡ true
+      reaches_using differs used =
+          reaches_by ∙ (λ t. not (differs t) && (used t || (is_shown_in k r i && share_user (numbered_of k).0 (name_at k.packages p) (name_at k.packages r))))
+
+      pub reaches_sharing : (b : Bool) → bytes_eq (home_in k i) h ≡ false → is_some (position (pair_eq (r, p)) k.uses) ≡ false → is_shown_in k r i ≡ b
+          → reaches (numbered_of k).0 (name_at k.packages p) h (name_at k.names j) (name_at k.packages r, package_in k r) ≡ (b && share_user (numbered_of k).0 (name_at k.packages p) (name_at k.packages r))
+      reaches_sharing b differs unused shown_so =
+          reaches_by ∙ (λ t. not (differs t) && (unused t || (shown_so t && share_user (numbered_of k).0 (name_at k.packages p) (name_at k.packages r))))
+
   -- no user, or no symbol by the name
   pub users_none : IsSound (numbered_of k).0 → (P H N : Name) → (position (bytes_eq P) k.packages ≡ None → user_finds_other (numbered_of k).0 P H N ≡ false) × (position (bytes_eq N) k.names ≡ None → user_finds_other (numbered_of k).0 P H N ≡ false)
   users_none sound P H N = (

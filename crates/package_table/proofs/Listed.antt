@@ -2,10 +2,10 @@
 --     sorted_is      a sorted list with the same names
 --     kept_rise, kept_among      the names of the entries that pass a test: they rise, and which they are
 --     keys_rise      all names
-use Rattle.std.proofs.Common.{◌≡◌, ◌+◌, ◌<◌, ℕ, Bool, true, false, cond, ◌&&◌, ◌||◌, nat_eq, List, [], ◌∷◌, map, length, Option, None, Some, is_some, bytes_eq, refl, sym, ap, subst, ◌∙◌, IsPermutation, IsSorted, filter, T, arith}
+use Rattle.std.proofs.Common.{◌≡◌, ◌+◌, ◌<◌, ◌≤◌, drop, get_or, ℕ, Bool, true, false, cond, ◌&&◌, ◌||◌, nat_eq, List, [], ◌∷◌, map, length, Option, None, Some, is_some, bytes_eq, refl, sym, ap, subst, ◌∙◌, IsPermutation, IsSorted, filter, T, arith}
 use Rattle.std.proofs.lemmas.Bool.{false≢true, or_right}
 use Rattle.std.proofs.lemmas.Bool.Decides.{Decides-eqb}
-use Rattle.std.proofs.lemmas.List.{length-map, get_or-map}
+use Rattle.std.proofs.lemmas.List.{drop_more, drop_all}
 use Rattle.std.specs.declared.cmp.Ordering.{Ordering}
 use Rattle.std.specs.declared.cmp.Ordering.TheVariants.{Less, Equal, Greater}
 use Rattle.std.specs.Ordering.{is_lt, is_eq, eq_by_cmp}
@@ -170,3 +170,17 @@ module _ (P : ℕ → Type 0) (f : ℕ → Name) (injective : (x y : ℕ) → P 
   unfolding IsDistinct
   distinct_mapped [] distinct all = tt
   distinct_mapped (x ∷ xs) distinct all = (apart_mapped x all.0 xs distinct.0 all.1, distinct_mapped xs distinct.1 all.1)
+
+-- a test of what is left of a list
+module _ (test : ℕ → Bool) (xs : List ℕ) (i : ℕ) where
+  any_step : i < length xs → list_any test (drop i xs) ≡ (test (get_or xs i 0) || list_any test (drop (i + 1) xs))
+  any_step less = ap (list_any test) (drop_more xs i 0 less)
+
+  pub any_hit : i < length xs → test (get_or xs i 0) ≡ true → list_any test (drop i xs) ≡ true
+  any_hit less passes = any_step less ∙ ap (λ b. b || list_any test (drop (i + 1) xs)) passes
+
+  pub any_missed : i < length xs → test (get_or xs i 0) ≡ false → list_any test (drop (i + 1) xs) ≡ list_any test (drop i xs)
+  any_missed less fails = sym (any_step less ∙ ap (λ b. b || list_any test (drop (i + 1) xs)) fails)
+
+  pub any_end : length xs ≤ i → list_any test (drop i xs) ≡ false
+  any_end past = ap (list_any test) (drop_all i xs past)

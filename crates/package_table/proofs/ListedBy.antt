@@ -89,6 +89,24 @@ among_positions ps distinct f s i is n m within =
     let same : have.0 ≡ i = same_some have.0 i (sym (ap (λ p. position (pair_eq p) ps) (sym have.2) ∙ position_exact ps distinct have.0 fits.0) ∙ is) in
     subst (λ x. list_any (nat_eq x) (positions_of f ps) ≡ true) same have.1
 
+-- the places of a package's own symbols, imports, uses and external symbols are within
+pub place_fits : (f : ℕ) (ps : List (ℕ × ℕ)) (i : ℕ) → i < length (positions_of f ps) → get_or (positions_of f ps) i 0 < length ps
+place_fits f ps i less = (all_at (λ x. (x < length ps) × ((pair_at ps x).0 ≡ f)) (positions_of f ps) (positions_read f ps [] ps 0 refl refl) i 0 less).0
+
+pub shown_place_fits : (k : Kept) (q i : ℕ) → i < length (shown_positions k q) → nat_lt q 2 ≡ false → get_or (shown_positions k q) i 0 < length k.externals
+shown_place_fits k q i =
+    elim (nat_lt q 2) as (λ b. i < length (cond b (positions_of q k.symbols) (positions_of q k.externals)) → b ≡ false → get_or (cond b (positions_of q k.symbols) (positions_of q k.externals)) i 0 < length k.externals) [
+      | true ↦ λ _ low. absurd (false≢true (sym low))
+      | false ↦ λ less _. place_fits q k.externals i less
+    ]
+
+pub shown_symbol_fits : (k : Kept) → IsGood k → (q i : ℕ) → i < length (shown_positions k q) → shown_symbol k q (get_or (shown_positions k q) i 0) < length k.symbols
+shown_symbol_fits k good q i =
+    elim (nat_lt q 2) as (λ b. i < length (cond b (positions_of q k.symbols) (positions_of q k.externals)) → cond b (get_or (cond b (positions_of q k.symbols) (positions_of q k.externals)) i 0) (pair_at k.externals (get_or (cond b (positions_of q k.symbols) (positions_of q k.externals)) i 0)).1 < length k.symbols) [
+      | true ↦ λ less. place_fits q k.symbols i less
+      | false ↦ λ less. (all_at (λ (p : ℕ × ℕ). (p.0 < length k.packages) × (p.1 < length k.symbols)) k.externals good.within.externals (get_or (positions_of q k.externals) i 0) (0, 0) (place_fits q k.externals i less)).1
+    ]
+
 module _ (k : Kept) (good : IsGood k) (placed : IsPlaced k) (sound : IsSound (numbered_of k).0) (Q : Name) (q : ℕ) (here : position (bytes_eq Q) k.packages ≡ Some q) where
   -- ---- a locked package
   lisp_home : (N h : Name) → IsPresent (numbered_of k).0 common_lisp N h → h ≡ common_lisp

@@ -23,7 +23,7 @@ use Rattle.package_table.proofs.KeptSound.{no_entry}
 use Rattle.package_table.proofs.Meant.{IsKnown, known, entry_there}
 use Rattle.package_table.proofs.Added.{import_added, external_added, import_new_number, map_none, parts_none}
 use Rattle.package_table.proofs.Adding.{keyword_number, locked_number, hidden_new, symbol_made, symbol_adds, import_adds, external_adds, adds_both}
-use Rattle.package_table.proofs.FoundBy.{found_by, first_is, shows}
+use Rattle.package_table.proofs.FoundBy.{found_by, first_is, or_some, shows}
 use Rattle.package_table.proofs.ByName.{own_home, symbol_by}
 use Rattle.package_table.proofs.Mapped.{named}
 
@@ -72,6 +72,22 @@ apart_numbers k P Q p q here there differ same =
 pub none_of : {A : Type 0} (o : Option A) → is_some o ≡ false → o ≡ None
 none_of None none = refl
 none_of (Some x) some = absurd (false≢true (sym some))
+
+-- what is found is what is there, where something is there
+pub own_of : (k : Kept) (p j i : ℕ) → found_number k p j ≡ Some i → is_some (number_in k p j) ≡ true → number_in k p j ≡ Some i
+own_of k p j i is some = sym (or_some (number_in k p j) (first_shown k j (positions_of p k.uses)) some) ∙ is
+
+-- a symbol that is found has the name
+pub found_known : (k : Kept) → IsGood k → (p j i : ℕ) → found_number k p j ≡ Some i → (i < length k.symbols) × ((pair_at k.symbols i).1 ≡ j)
+found_known k good p j i is =
+    elim (number_in k p j) as (λ o. number_in k p j ≡ o → option_or o (first_shown k j (positions_of p k.uses)) ≡ Some i → (i < length k.symbols) × ((pair_at k.symbols i).1 ≡ j)) [
+      | Some x ↦ λ own same. let at = known k good p j i (own ∙ same) in (at.symbol, at.named_so)
+      | None ↦ λ _ later.
+          let first = first_is k j (positions_of p k.uses) i later in
+          let shown = shows k (pair_at k.uses first.0).1 j i first.2 in
+          let at = known k good (pair_at k.uses first.0).1 j i shown.0 in
+          (at.symbol, at.named_so)
+    ] refl is
 
 module _ (k : Kept) (good : IsGood k) (P N : Name) (p : ℕ) (here : position (bytes_eq P) k.packages ≡ Some p) where
   -- no entry, no number
@@ -123,15 +139,7 @@ module _ (k : Kept) (good : IsGood k) (P N : Name) (p : ℕ) (here : position (b
   -- ---- a symbol that is found
   module _ (j : ℕ) (there : position (bytes_eq N) k.names ≡ Some j) where
     pub this_known : (i : ℕ) → found_number k p j ≡ Some i → (i < length k.symbols) × ((pair_at k.symbols i).1 ≡ j)
-    this_known i is =
-        elim (number_in k p j) as (λ o. number_in k p j ≡ o → option_or o (first_shown k j (positions_of p k.uses)) ≡ Some i → (i < length k.symbols) × ((pair_at k.symbols i).1 ≡ j)) [
-          | Some x ↦ λ own same. let at = known k good p j i (own ∙ same) in (at.symbol, at.named_so)
-          | None ↦ λ _ later.
-              let first = first_is k j (positions_of p k.uses) i later in
-              let shown = shows k (pair_at k.uses first.0).1 j i first.2 in
-              let at = known k good (pair_at k.uses first.0).1 j i shown.0 in
-              (at.symbol, at.named_so)
-        ] refl is
+    this_known = found_known k good p j
 
     pub this_found : IsJoined (numbered_of k).0 → (H : Name) → finds_this (numbered_of k).0 P H N ≡ true → (i : ℕ) × (found_number k p j ≡ Some i) × (home_in k i ≡ H)
     this_found joined H finds =
@@ -139,6 +147,11 @@ module _ (k : Kept) (good : IsGood k) (P N : Name) (p : ℕ) (here : position (b
           | None ↦ λ _ none. absurd (false≢true none)
           | Some i ↦ λ is same. (i, is, equal_names (home_in k i) H same)
         ] refl (ap (λ o. option_map_or (λ g. bytes_eq g H) o false) (found_by k good P N p j here there joined) ∙ finds)
+
+    pub this_home : IsJoined (numbered_of k).0 → (H : Name) → finds_this (numbered_of k).0 P H N ≡ true → (i : ℕ) → found_number k p j ≡ Some i → home_in k i ≡ H
+    this_home joined H finds i is =
+        let found_it = this_found joined H finds in
+        ap (home_in k) (same_some i found_it.0 (sym is ∙ found_it.1)) ∙ found_it.2
 
     -- it is present in p
     pub shown_present : (i : ℕ) (H : Name) → number_in k p j ≡ Some i → home_in k i ≡ H → numbered_of (with_external k p i) ≡ with_numbered (numbered_of k) P N (record { home = H; external = true }) i

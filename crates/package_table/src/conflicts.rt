@@ -1,7 +1,7 @@
 //! Whether a package finds another symbol than a given one by its name.
 ghost use Rattle.std.specs.Prelude.{◌≡◌, ◌<◌, ◌&&◌, false, nat_lt, is_some, length, position};
 ghost use Rattle.package_sets.specs.Kept.{name_at, pair_eq};
-ghost use Rattle.package_table.specs.Table.{IsJoined, IsSound};
+ghost use Rattle.package_table.specs.Table.{IsJoined, IsPackage, IsSound};
 ghost use Rattle.package_table.specs.Reached.{reaches, share_user};
 ghost use Rattle.package_table.specs.Changes.{finds_this, finds_other, user_finds_other, finds_other_than_shown};
 ghost use Rattle.package_table.specs.Meaning.{finds_another, numbered_of, package_in, shown_positions, shown_symbol};
@@ -141,16 +141,18 @@ pub(crate) fn shown_symbol(sets: &PackageSets, owner: u32, position: u32) -> u32
 
 /// Whether `owner` finds another symbol by the name of one that is external in `used`. Looks at the external symbols alone.
 pub(crate) fn finds_other_than_shown(sets: &PackageSets, owner: &[u8], used: &[u8]) -> bool
+    requires owner { IsPackage (numbered_of sets.now).0 owner.now }
+    requires used { IsPackage (numbered_of sets.now).0 used.now }
     requires sound { IsSound (numbered_of sets.now).0 }
     requires placed { IsPlaced sets.now }
     ensures { result ≡ finds_other_than_shown (numbered_of sets.now).0 owner.now used.now }
 {
     sets.goodness();
     let Some(owner) = sets.find_package(owner) else {
-        return false;
+        unreachable!()
     };
     let Some(used) = sets.find_package(used) else {
-        return false;
+        unreachable!()
     };
     for position in shown_positions(sets, used) {
         if finds_another(sets, owner, shown_symbol(sets, used, *position)) {
