@@ -1,7 +1,6 @@
 -- The groups of pairs: the positions of those that begin with one number, where a pair is added last or taken away.
 use Rattle.std.proofs.Common.{◌≡◌, ◌+◌, ◌-◌, ◌<◌, ◌≤◌, ℕ, suc, Bool, true, false, cond, nat_eq, nat_lt, List, [], ◌∷◌, ◌++◌, map, length, take, set, get_or, refl, sym, ap, ◌∙◌, zero-add, add-zero, true≢false, arith}
 use Rattle.std.specs.Global.{Vec}
-use Rattle.std.specs.Vec.{vec_len}
 use Rattle.std.proofs.Math.Seq.{take-append_seam}
 use Rattle.std.proofs.lemmas.List.{length-map, length_push, map-set, get_or-map, get_or-set_same, get_or-set_other, get_or_past}
 use Rattle.std.proofs.lemmas.Bool.Decides.{Decides-eqb}

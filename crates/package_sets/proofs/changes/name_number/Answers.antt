@@ -1,8 +1,7 @@
-use Rattle.std.proofs.Common.{◌≡◌, ◌++◌, ◌∷◌, [], ℕ, Bool, true, false, cond, List, None, Some, is_some, refl, sym, ap, ◌∙◌, true≢false}
+use Rattle.std.proofs.Common.{◌≡◌, ◌++◌, ◌∷◌, [], ℕ, Bool, true, false, cond, List, Some, is_some, refl, sym, ap, ◌∙◌, true≢false}
 use Rattle.std.specs.Prelude.{bytes_eq, position}
 use Rattle.std.specs.List.{list_any}
 use Rattle.package_sets.specs.Kept.{Name}
-use Rattle.package_sets.specs.Changes.{with_name, number_in}
 use Rattle.package_sets.proofs.Places.{any_none, none_any, none_is_length}
 use Rattle.package_sets.proofs.changes.name_number.Goals as goal
 

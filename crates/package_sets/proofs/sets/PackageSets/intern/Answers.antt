@@ -1,4 +1,4 @@
-use Rattle.std.proofs.Common.{◌≡◌, ◌<◌, ◌++◌, ◌∷◌, [], ℕ, List, length, position, None, sym, ap, subst, ◌∙◌}
+use Rattle.std.proofs.Common.{◌≡◌, ◌<◌, ◌++◌, ◌∷◌, [], ℕ, length, position, sym, ap, subst, ◌∙◌}
 use Rattle.package_sets.specs.Kept.{Kept, pair_eq}
 use Rattle.package_sets.specs.Good.{IsGood}
 use Rattle.package_sets.specs.Changes.{symbol_named, number_in, with_name}

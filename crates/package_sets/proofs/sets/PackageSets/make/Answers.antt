@@ -1,4 +1,4 @@
-use Rattle.std.proofs.Common.{◌≡◌, List, position, None, sym, ap, subst, ◌∙◌}
+use Rattle.std.proofs.Common.{List, position, sym, ap, subst, ◌∙◌}
 use Rattle.std.specs.Prelude.{bytes_eq}
 use Rattle.package_sets.specs.Kept.{Kept, Name}
 use Rattle.package_sets.specs.Good.{IsGood}
