@@ -3,15 +3,13 @@
 --     cut_cut      what goes first does not matter
 --     cut_package, cut_symbol, cut_import, cut_external, cut_use      what was added later goes
 --     up_to_itself, up_to_all, up_to_package ..      that lengths are at most those of now
-use Rattle.std.proofs.Common.{◌≡◌, ◌+◌, ◌<◌, ◌≤◌, ℕ, Bool, true, false, cond, List, [], ◌∷◌, ◌++◌, length, take, refl, sym, ap, subst, ◌∙◌, arith}
+use Rattle.std.proofs.Common.{◌≡◌, ◌≤◌, ℕ, Bool, true, false, cond, [], ◌∷◌, ◌++◌, length, take, refl, arith}
 use Rattle.std.specs.Prelude.{bytes_eq}
 use Rattle.std.specs.List.{list_any}
 use Rattle.std.proofs.lemmas.List.{length_push, take_all, take-take, take-append-le}
 use Rattle.package_sets.specs.declared.sizes.Sizes.{Sizes}
 use Rattle.package_sets.specs.Kept.{Kept, Name, cut, sizes_of, pair_at, AreUpTo}
-use Rattle.package_sets.specs.Good.{IsGood}
 use Rattle.package_sets.specs.Changes.{with_name, number_in, with_package, with_symbol, with_import, with_external, with_use}
-use Rattle.package_sets.proofs.Growing.{Named, named}
 
 pub cut_itself : (k : Kept) → length k.imported ≡ length k.imports → cut (sizes_of k) k ≡ k
 cut_itself k as_many = λ i. record {

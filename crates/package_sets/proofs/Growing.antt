@@ -1,20 +1,30 @@
 -- What is kept stays good where something is added.
-use Rattle.std.proofs.Common.{◌≡◌, ◌+◌, ◌-◌, ◌<◌, ◌≤◌, ◌&&◌, ◌||◌, ℕ, suc, Bool, true, false, cond, nat_eq, nat_lt, List, [], ◌∷◌, ◌++◌, length, take, get_or, position, Option, None, Some, refl, sym, ap, subst, ◌∙◌, true≢false, arith}
+use Rattle.std.proofs.Common.{◌≡◌, ◌+◌, ◌<◌, ◌≤◌, ◌&&◌, ◌||◌, ℕ, Bool, true, false, cond, nat_eq, nat_lt, List, [], ◌∷◌, ◌++◌, length, take, get_or, position, None, refl, sym, ap, subst, ◌∙◌, arith}
 use Rattle.std.specs.Prelude.{bytes_eq, option_and_then}
-use Rattle.std.specs.List.{IsDistinct, AllByRecursion, list_any, position_or_len}
+use Rattle.std.specs.List.{IsDistinct, list_any}
 use Rattle.std.specs.Cmp.{IsEquivalence, and_equiv, on_equiv, nat_eq_equiv}
 use Rattle.std.specs.Cmp.Lexicographic.{nat_list_eq_equiv}
 use Rattle.std.proofs.lemmas.List.{length_push, get_or_append_left, get_or_push, take_all}
 use Rattle.std.proofs.Math.Seq.{take-append_seam}
 use Rattle.std.proofs.lemmas.Map.Keys.{IsDistinct-push}
-use Rattle.std.proofs.lemmas.Bool.Decides.{Decides-eqb}
-use Rattle.package_sets.specs.Kept.{Kept, Name, pair_at, pair_eq}
+use Rattle.package_sets.specs.Kept.{Kept, Name, nothing, pair_at, pair_eq}
 use Rattle.package_sets.specs.Good.{AreDistinctNames, AreDistinctPairs, AreWithin, IsGood, IsNamed}
 use Rattle.package_sets.specs.Changes.{with_name, number_in, symbol_named, with_package, with_symbol, with_import, with_external, with_use}
 use Rattle.package_sets.proofs.Places.{none_any, any_none, any_some, any_is_within, none_is_length, all_at, all_push, all_weaker}
 
 pub pair_equiv : IsEquivalence pair_eq
 pair_equiv = and_equiv (on_equiv (λ (p : ℕ × ℕ). p.0) nat_eq_equiv) (on_equiv (λ (p : ℕ × ℕ). p.1) nat_eq_equiv)
+
+pub good_nothing : IsGood nothing
+unfolding IsDistinct
+good_nothing = record {
+  distinct = record { names = tt; packages = tt; symbols = tt; imports = tt; externals = tt; uses = tt };
+  within = record { symbols = tt; imports = tt; imported = tt; externals = tt; uses = tt };
+  as_many = refl;
+  named = λ i within. absurd (omega (arith, within));
+  apart = tt;
+  few_names = omega arith;
+}
 
 pub names_push : (ns : List Name) (n : Name) → AreDistinctNames ns → position (bytes_eq n) ns ≡ None → AreDistinctNames (ns ++ n ∷ [])
 names_push ns n distinct none = IsDistinct-push nat_list_eq_equiv ns n distinct (none_any (bytes_eq n) ns none)

@@ -4,7 +4,7 @@
 --     position_at      the place where a thing is
 --     all_at, all_push, all_weaker      what holds of each thing of a list
 --     copied      copies of vectors
-use Rattle.std.proofs.Common.{◌≡◌, ◌+◌, ◌<◌, ◌≤◌, ℕ, zero, suc, Bool, true, false, cond, not, ◌||◌, nat_lt, List, [], ◌∷◌, ◌++◌, map, length, get_or, position, Option, None, Some, is_some, refl, sym, ap, ◌∙◌, true≢false, arith}
+use Rattle.std.proofs.Common.{◌≡◌, ◌+◌, ◌<◌, ◌≤◌, ℕ, zero, suc, Bool, true, false, cond, not, ◌||◌, nat_lt, List, [], ◌∷◌, ◌++◌, map, length, get_or, position, None, Some, is_some, refl, sym, ap, ◌∙◌, true≢false, arith}
 use Rattle.std.specs.Global.{Vec}
 use Rattle.std.specs.Vec.{vec_len}
 use Rattle.std.specs.List.{position_or_len, list_any, IsDistinct, AllByRecursion, AllZip, each_same}

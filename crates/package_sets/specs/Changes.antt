@@ -1,5 +1,5 @@
 -- What each call adds to what is kept.
-use Rattle.std.specs.Prelude.{ℕ, ◌++◌, List, [], ◌∷◌, length, position, bytes_eq, if◌then◌else◌, Option, option_and_then}
+use Rattle.std.specs.Prelude.{ℕ, ◌++◌, List, [], ◌∷◌, position, bytes_eq, if◌then◌else◌, Option, option_and_then}
 use Rattle.std.specs.List.{list_any, position_or_len}
 use Rattle.package_sets.specs.Kept.{Kept, Name, pair_at, pair_eq}
 

@@ -1,5 +1,5 @@
 -- What is kept of the packages: lists that only grow, in which the position of a thing is its number.
-use Rattle.std.specs.Prelude.{◌≡◌, ℕ, ◌+◌, ◌≤◌, Bool, ◌&&◌, nat_eq, List, [], ◌∷◌, length, take, get_or, position, if◌then◌else◌, Option, option_map, refl}
+use Rattle.std.specs.Prelude.{ℕ, ◌+◌, ◌≤◌, Bool, ◌&&◌, nat_eq, List, [], ◌∷◌, length, take, get_or, position, if◌then◌else◌, Option, option_map, refl}
 use Rattle.std.specs.Coded.{Coded, code_by, coded×, coded_ℕ, coded_list}
 use Rattle.package_sets.specs.declared.sizes.Sizes.{Sizes}
 
@@ -50,6 +50,18 @@ restored p = record {
 
 abbrev pub kept_code : Coded Kept
 kept_code = code_by Stored stored_code stored restored (λ _. refl)
+
+-- no packages and nothing else
+abbrev pub nothing : Kept
+nothing = record {
+  names = [];
+  packages = [];
+  symbols = [];
+  imports = [];
+  imported = [];
+  externals = [];
+  uses = [];
+}
 
 -- the name of a number
 abbrev pub name_at : List Name → ℕ → Name

@@ -75,7 +75,8 @@ impl PackageSets {
         ensures ok { OnOk result (self.new ≡ with_external self.old owner symbol) }
         ensures err { OnErr result (self.new ≡ self.old) }
     {
-        self.externals.push(self.alloc, owner, symbol)
+        self.externals.push(self.alloc, owner, symbol)?;
+        Ok(())
     }
 
     /// Makes a package use another, which it does not.
@@ -87,6 +88,7 @@ impl PackageSets {
         ensures ok { OnOk result (self.new ≡ with_use self.old owner used) }
         ensures err { OnErr result (self.new ≡ self.old) }
     {
-        self.uses.push(self.alloc, owner, used)
+        self.uses.push(self.alloc, owner, used)?;
+        Ok(())
     }
 }

@@ -1,8 +1,8 @@
 //! Each pair once, numbered by its position, and the positions of the pairs of each first number.
-ghost use Rattle.std.specs.Prelude.{◌≡◌, ℕ, ◌-◌, ◌<◌, ◌++◌, ◌∷◌, [], nat_eq, length, take, position, None, IfOk, OnOk, OnErr, if◌then◌else◌};
+ghost use Rattle.std.specs.Prelude.{◌≡◌, ◌-◌, ◌<◌, ◌++◌, ◌∷◌, [], length, take, position, None, IfOk, OnOk, OnErr};
 ghost use Rattle.package_sets.specs.Kept.{pair_at, pair_eq, positions_of};
 ghost use Rattle.package_sets.specs.Good.{AreDistinctPairs};
-ghost use Rattle.package_sets.specs.Groups.{group_at, pair_of};
+ghost use Rattle.package_sets.specs.Groups.{pair_of, HaveSameGroups, IsNoted};
 
 use crate::{Pair, Seed};
 use indexmap::IndexSet;
@@ -39,9 +39,8 @@ fn note(
     first: usize,
     position: u32,
 ) -> Result<(), AllocError>
-    ensures ok { OnOk result ((f : ℕ) → group_at groups.new.items f
-        ≡ (if nat_eq first f then group_at groups.old.items f ++ position ∷ [] else group_at groups.old.items f)) }
-    ensures err { OnErr result ((f : ℕ) → group_at groups.new.items f ≡ group_at groups.old.items f) }
+    ensures ok { OnOk result (IsNoted first position groups.old.items groups.new.items) }
+    ensures err { OnErr result (HaveSameGroups groups.old.items groups.new.items) }
 {
     while groups.len() <= first {
         groups.push(Vec::new(alloc))?;
@@ -53,7 +52,7 @@ fn note(
 
 // The same groups, on their own memory.
 fn copy_groups(groups: &Vec<Vec<u32>>) -> Result<Vec<Vec<u32>>, AllocError>
-    ensures { IfOk result (λ copied. (f : ℕ) → group_at copied.items f ≡ group_at groups.now.items f) }
+    ensures { IfOk result (λ copied. HaveSameGroups groups.now.items copied.items) }
 {
     groups.clone()
 }

@@ -1,6 +1,6 @@
 //! What is kept of the packages.
-ghost use Rattle.std.specs.Prelude.{◌≡◌, [], IfOk};
-ghost use Rattle.package_sets.specs.Kept.{cut, sizes_of};
+ghost use Rattle.std.specs.Prelude.{◌≡◌, IfOk};
+ghost use Rattle.package_sets.specs.Kept.{cut, nothing, sizes_of};
 ghost use Rattle.package_sets.specs.Good.{IsGood};
 
 use crate::{Names, Pairs, Seed, Sizes};
@@ -38,13 +38,7 @@ impl Model for PackageSets {
 impl PackageSets {
     /// No packages. They keep `alloc` for later changes, and hash by `seed`.
     pub fn new(alloc: Global, seed: Seed) -> PackageSets
-        ensures names { result.names ≡ [] }
-        ensures packages { result.packages ≡ [] }
-        ensures symbols { result.symbols ≡ [] }
-        ensures imports { result.imports ≡ [] }
-        ensures imported { result.imported ≡ [] }
-        ensures externals { result.externals ≡ [] }
-        ensures uses { result.uses ≡ [] }
+        ensures { result ≡ nothing }
     {
         PackageSets {
             alloc,

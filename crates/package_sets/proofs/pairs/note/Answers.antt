@@ -1,4 +1,4 @@
-use Rattle.std.proofs.Common.{◌≡◌, ◌+◌, ◌<◌, ◌++◌, ◌∷◌, [], ℕ, Bool, true, false, cond, nat_eq, List, sym, ap, refl, ◌∙◌, length, arith, Result, Ok, Err}
+use Rattle.std.proofs.Common.{◌≡◌, ◌<◌, ◌++◌, ◌∷◌, [], ℕ, Bool, true, false, cond, nat_eq, List, ap, refl, ◌∙◌, length, arith, Result, Ok, Err}
 use Rattle.std.specs.Prelude.{OnErr}
 use Rattle.package_sets.specs.Groups.{group_at}
 use Rattle.package_sets.proofs.Positions.{group_changed}

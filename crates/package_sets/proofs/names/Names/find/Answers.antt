@@ -1,4 +1,4 @@
-use Rattle.std.proofs.Common.{◌≡◌, sym, ap, ◌∙◌, position}
+use Rattle.std.proofs.Common.{sym, ap, ◌∙◌, position}
 use Rattle.std.specs.Prelude.{bytes_eq}
 use Rattle.package_sets.proofs.Places.{position-map}
 use Rattle.package_sets.proofs.names.Names.find.Goals as goal

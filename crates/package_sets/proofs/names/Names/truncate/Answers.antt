@@ -1,4 +1,4 @@
-use Rattle.std.proofs.Common.{◌≡◌, sym, ap, ◌∙◌, map, take}
+use Rattle.std.proofs.Common.{sym, ap, ◌∙◌, map, take}
 use Rattle.std.proofs.lemmas.List.{take-map}
 use Rattle.package_sets.proofs.names.Names.truncate.Goals as goal
 

@@ -1,6 +1,5 @@
-use Rattle.std.proofs.Common.{◌≡◌, ◌+◌, ◌-◌, ◌<◌, ◌++◌, ◌∷◌, [], ℕ, List, sym, ap, subst, ◌∙◌, map, length, take, arith}
-use Rattle.std.proofs.lemmas.List.{map-append, length-map, length_push}
-use Rattle.package_sets.specs.declared.pair.Pair.{Pair}
+use Rattle.std.proofs.Common.{◌≡◌, ◌-◌, ◌++◌, ◌∷◌, [], ℕ, ap, subst, ◌∙◌, map, length, take, arith}
+use Rattle.std.proofs.lemmas.List.{map-append, length_push}
 use Rattle.package_sets.specs.Groups.{pair_of, IsGrouped}
 use Rattle.package_sets.proofs.Positions.{last_there, grouped_pop, group_changed}
 use Rattle.package_sets.proofs.pairs.Pairs.pop.Goals as goal

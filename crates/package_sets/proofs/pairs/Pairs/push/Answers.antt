@@ -1,4 +1,4 @@
-use Rattle.std.proofs.Common.{◌≡◌, ◌+◌, ◌<◌, ◌++◌, ◌∷◌, [], ℕ, List, cond, nat_eq, sym, ap, subst, ◌∙◌, map, length, position, arith, if◌then◌else◌}
+use Rattle.std.proofs.Common.{◌≡◌, ◌++◌, ◌∷◌, [], ℕ, List, cond, nat_eq, sym, ap, subst, ◌∙◌, map, length, position, arith, if◌then◌else◌}
 use Rattle.std.specs.Prelude.{None}
 use Rattle.std.specs.List.{list_any}
 use Rattle.std.proofs.lemmas.List.{map-append, length-map, length_push}
@@ -28,7 +28,7 @@ invariant_of-self-2 c =
     record {
       few = omega (arith, ap length read, length_push (map pair_of ks) (pair_of pair), number, c.if-len.false);
       grouped = subst (IsGrouped c.note.new.groups.items) (sym read) (grouped_push gs c.note.new.groups.items (map pair_of ks) (pair_of pair) c.self.invariant.grouped
-      (λ f. c.in_ok-note.ensures.ok f ∙ ap (λ n. cond (nat_eq c.args.first f) (group_at gs f ++ n ∷ []) (group_at gs f)) number));
+          (λ f. c.in_ok-note.ensures.ok f ∙ ap (λ n. cond (nat_eq c.args.first f) (group_at gs f ++ n ∷ []) (group_at gs f)) number));
     }
 
 pub returns-clause-ok : goal.returns-clause-ok

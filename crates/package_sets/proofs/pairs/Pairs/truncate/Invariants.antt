@@ -1,4 +1,4 @@
-use Rattle.std.proofs.Common.{◌≡◌, ◌-◌, ◌≤◌, ℕ, List, length, take, min}
+use Rattle.std.proofs.Common.{◌≡◌, ◌≤◌, ℕ, List, length, take, min}
 use Rattle.package_sets.proofs.pairs.Pairs.truncate.Given as goal
 
 -- the pairs are the first of those that there were, and none of those that stay is gone
