@@ -43,7 +43,7 @@ module _ (k : Kept) (good : IsGood k) where
         | Some p ↦ λ _. (p, refl)
       ] (package_some P ∙ there)
 
-  no_package_entry : (P N : Name) → position (bytes_eq P) k.packages ≡ None → entry_at (numbered_of k).0 P N ≡ None
+  pub no_package_entry : (P N : Name) → position (bytes_eq P) k.packages ≡ None → entry_at (numbered_of k).0 P N ≡ None
   no_package_entry P N none = ap (option_and_then (λ (h : Package). finite.get h.symbols N)) (package_none k good P none)
 
   -- ---- entries

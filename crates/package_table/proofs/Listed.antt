@@ -2,10 +2,10 @@
 --     sorted_is      a sorted list with the same names
 --     kept_rise, kept_among      the names of the entries that pass a test: they rise, and which they are
 --     keys_rise      all names
-use Rattle.std.proofs.Common.{◌≡◌, ◌+◌, ◌<◌, ◌≤◌, drop, get_or, ℕ, Bool, true, false, cond, ◌&&◌, ◌||◌, nat_eq, List, [], ◌∷◌, map, length, Option, None, Some, is_some, bytes_eq, refl, sym, ap, subst, ◌∙◌, IsPermutation, IsSorted, filter, T, arith}
+use Rattle.std.proofs.Common.{◌≡◌, ◌+◌, ◌<◌, ◌≤◌, drop, get_or, ℕ, Bool, true, false, cond, ◌&&◌, ◌||◌, nat_eq, List, [], ◌∷◌, map, length, Option, None, Some, is_some, bytes_eq, refl, sym, ap, subst, ◌∙◌, IsPermutation, IsSorted, filter, T, Bor, arith}
 use Rattle.std.proofs.lemmas.Bool.{false≢true, or_right}
 use Rattle.std.proofs.lemmas.Bool.Decides.{Decides-eqb}
-use Rattle.std.proofs.lemmas.List.{drop_more, drop_all}
+use Rattle.std.proofs.lemmas.List.{length-map, get_or-map, drop_more, drop_all}
 use Rattle.std.specs.declared.cmp.Ordering.{Ordering}
 use Rattle.std.specs.declared.cmp.Ordering.TheVariants.{Less, Equal, Greater}
 use Rattle.std.specs.Ordering.{is_lt, is_eq, eq_by_cmp}
@@ -18,7 +18,7 @@ use Rattle.std.specs.FinMap as finite
 use Rattle.std.specs.FinMap.{is_sorted, contains_key-keys}
 use Rattle.std.specs.FinMap.Entries.{find, below_all}
 use Rattle.std.proofs.lemmas.List.Kept.{IsStrictlySortedBy-dedup}
-use Rattle.std.proofs.lemmas.List.Sorted.{list_any-IsPermutation}
+use Rattle.std.proofs.lemmas.List.Sorted.{list_any-IsPermutation, IsPermutation-map}
 use Rattle.std.proofs.lemmas.Map.Keys.{IsDistinct-IsPermutation}
 use Rattle.std.proofs.lemmas.Map.Lookups.{btree_set_from_contains}
 use Rattle.package_table.specs.Table.{Name, name_cmp}
@@ -184,3 +184,17 @@ module _ (test : ℕ → Bool) (xs : List ℕ) (i : ℕ) where
 
   pub any_end : length xs ≤ i → list_any test (drop i xs) ≡ false
   any_end past = ap (list_any test) (drop_all i xs past)
+
+-- names that are sorted where they are kept
+sorted_read : (xs : List (Bor Name)) → IsSorted (λ x y. name_cmp x.now y.now) xs → IsSorted name_cmp (map (λ n. n.now) xs)
+sorted_read [] sorted k d low high = absurd (omega (arith, high))
+sorted_read (x ∷ xs) sorted k d low high =
+    let size = length-map (x ∷ xs) (λ (n : Bor Name). n.now) in
+    let next : k + 1 < length (x ∷ xs) = omega (arith, high, size) in
+    let here : k < length (x ∷ xs) = omega (arith, next) in
+    (λ i. is_lt (name_cmp (get_or-map (λ (n : Bor Name). n.now) (x ∷ xs) (k + 1) x d next i) (get_or-map (λ (n : Bor Name). n.now) (x ∷ xs) k x d here i))) ∙ sorted k x low next
+
+pub sorted_names : (xs ys : List (Bor Name)) (collected : List Name) → map (λ n. n.now) xs ≡ collected → IsPermutation xs ys → IsSorted (λ x y. name_cmp x.now y.now) ys
+    → IsPermutation collected (map (λ n. n.now) ys) × IsSorted name_cmp (map (λ n. n.now) ys)
+sorted_names xs ys collected is moved sorted =
+    (subst (λ (ns : List Name). IsPermutation ns (map (λ n. n.now) ys)) is (IsPermutation-map (λ (n : Bor Name). n.now) xs ys moved), sorted_read ys sorted)

@@ -90,6 +90,13 @@ among_positions ps distinct f s i is n m within =
     subst (λ x. list_any (nat_eq x) (positions_of f ps) ≡ true) same have.1
 
 -- the places of a package's own symbols, imports, uses and external symbols are within
+pub all_places : (f : ℕ) (ps : List (ℕ × ℕ)) → AllByRecursion (λ x. x < length ps) (positions_of f ps)
+all_places f ps = first_parts (positions_of f ps) (positions_read f ps [] ps 0 refl refl)
+  where
+    first_parts : (xs : List ℕ) → AllByRecursion (λ x. (x < length ps) × ((pair_at ps x).0 ≡ f)) xs → AllByRecursion (λ x. x < length ps) xs
+    first_parts [] all = tt
+    first_parts (x ∷ xs) all = (all.0.0, first_parts xs all.1)
+
 pub place_fits : (f : ℕ) (ps : List (ℕ × ℕ)) (i : ℕ) → i < length (positions_of f ps) → get_or (positions_of f ps) i 0 < length ps
 place_fits f ps i less = (all_at (λ x. (x < length ps) × ((pair_at ps x).0 ≡ f)) (positions_of f ps) (positions_read f ps [] ps 0 refl refl) i 0 less).0
 
