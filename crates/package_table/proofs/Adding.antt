@@ -54,8 +54,9 @@ none_position test xs none =
     itself n = grind arith
 
 -- ---- each thing that is added
-pub adds_same : (k : Kept) → Adds k k
-adds_same k = record {
+pub adds_same : (k : Kept) → IsGood k → Adds k k
+adds_same k good = record {
+  good = good;
   packages = λ P p is. is;
   names = λ N j is. is;
   numbers = λ p j i is. is;
@@ -85,6 +86,7 @@ cut_back k u good adds = adds.cuts (sizes_of k) (at_most_all k) ∙ cut_all k go
 
 pub adds_both : (k u v : Kept) → Adds k u → Adds u v → Adds k v
 adds_both k u v one two = record {
+  good = two.good;
   packages = λ P p is. two.packages P p (one.packages P p is);
   names = λ N j is. two.names N j (one.names N j is);
   numbers = λ p j i is. two.numbers p j i (one.numbers p j i is);
@@ -93,8 +95,9 @@ adds_both k u v one two = record {
   cuts = λ n fits. two.cuts n (one.fits n fits) ∙ one.cuts n fits;
 }
 
-pub package_adds : (k : Kept) (P : Name) → Adds k (with_package k P)
-package_adds k P = record {
+pub package_adds : (k : Kept) (P : Name) → IsGood (with_package k P) → Adds k (with_package k P)
+package_adds k P good = record {
+  good = good;
   packages = λ Q q is. stays_push (bytes_eq Q) k.packages P q is;
   names = λ N j is. is;
   numbers = λ p j i is. is;
@@ -180,8 +183,9 @@ module _ (k : Kept) (good : IsGood k) (p : ℕ) (N : Name) (none : symbol_named 
     numbers_stay_kept : (q m i : ℕ) → number_in k q m ≡ Some i → number_in (record k { names = ns; symbols = k.symbols ++ (p, name_number k.names N) ∷ [] }) q m ≡ Some i
     numbers_stay_kept = numbers_kept k then p (name_number k.names N) is.unused numbers_same
 
-    pub adds_symbol : Adds k (record k { names = ns; symbols = k.symbols ++ (p, name_number k.names N) ∷ [] })
-    adds_symbol = record {
+    pub adds_symbol : IsGood (record k { names = ns; symbols = k.symbols ++ (p, name_number k.names N) ∷ [] }) → Adds k (record k { names = ns; symbols = k.symbols ++ (p, name_number k.names N) ∷ [] })
+    adds_symbol good_then = record {
+      good = good_then;
       packages = λ Q q seen. seen;
       names = is.kept;
       numbers = numbers_stay_kept;
@@ -202,7 +206,7 @@ module _ (k : Kept) (good : IsGood k) (p : ℕ) (N : Name) (none : symbol_named 
       cuts = λ n fits i. record (cut n k) { names = is.cut_same n.names fits.names i; symbols = take-append-le n.symbols k.symbols ((p, name_number k.names N) ∷ []) fits.symbols i };
     }
 
-  pub symbol_adds : Adds k (with_symbol k p N)
+  pub symbol_adds : IsGood (with_symbol k p N) → Adds k (with_symbol k p N)
   symbol_adds = adds_symbol (with_name k.names N) name_of
 
   pub symbol_made : (P : Name) → position (bytes_eq P) k.packages ≡ Some p → numbered_of (with_symbol k p N) ≡ with_numbered (numbered_of k) P N (record { home = P; external = nat_lt p 2 }) (length k.symbols)
@@ -215,8 +219,9 @@ module _ (k : Kept) (good : IsGood k) (p i : ℕ) (none : number_in k p (pair_at
   import_kept : (q m x : ℕ) → number_in k q m ≡ Some x → number_in (with_import k p i) q m ≡ Some x
   import_kept = numbers_kept k (with_import k p i) p (pair_at k.symbols i).1 none (import_stays_number k good p i)
 
-  pub import_adds : Adds k (with_import k p i)
-  import_adds = record {
+  pub import_adds : IsGood (with_import k p i) → Adds k (with_import k p i)
+  import_adds good_then = record {
+    good = good_then;
     packages = λ Q q seen. seen;
     names = λ M m seen. seen;
     numbers = import_kept;
@@ -239,8 +244,9 @@ module _ (k : Kept) (good : IsGood k) (p i : ℕ) (none : number_in k p (pair_at
 
 -- ---- what becomes external
 module _ (k : Kept) (good : IsGood k) (p j i : ℕ) (is : number_in k p j ≡ Some i) where
-  pub external_adds : Adds k (with_external k p i)
-  external_adds = record {
+  pub external_adds : IsGood (with_external k p i) → Adds k (with_external k p i)
+  external_adds good_then = record {
+    good = good_then;
     packages = λ Q q seen. seen;
     names = λ M m seen. seen;
     numbers = λ q m x seen. seen;
@@ -260,8 +266,9 @@ module _ (k : Kept) (good : IsGood k) (p j i : ℕ) (is : number_in k p j ≡ So
     cuts = λ n fits t. record (cut n k) { externals = take-append-le n.externals k.externals ((p, i) ∷ []) fits.externals t };
   }
 
-pub use_adds : (k : Kept) (p q : ℕ) → Adds k (with_use k p q)
-use_adds k p q = record {
+pub use_adds : (k : Kept) (p q : ℕ) → IsGood (with_use k p q) → Adds k (with_use k p q)
+use_adds k p q good = record {
+  good = good;
   packages = λ Q q seen. seen;
   names = λ M m seen. seen;
   numbers = λ q m x seen. seen;

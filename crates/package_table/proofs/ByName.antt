@@ -17,7 +17,7 @@ use Rattle.package_table.specs.Meaning.{number_in, is_shown_in, present_in, pack
 use Rattle.package_table.specs.Adds.{Adds}
 use Rattle.package_table.proofs.Names.{same_some, none_some}
 use Rattle.package_table.proofs.Frames.{equal_names, equal_itself}
-use Rattle.package_table.proofs.Mapped.{named}
+use Rattle.package_table.proofs.Mapped.{named, count_by}
 use Rattle.package_table.proofs.Meant.{known, unknown, same_pair, pair_there, all_at, package_at, package_none, entry_there, number_there, uses_there, uses_none}
 use Rattle.package_table.proofs.FoundBy.{nothing_by, position_of, position_some}
 
@@ -28,6 +28,10 @@ module _ (k : Kept) (good : IsGood k) where
         | None ↦ λ none. sym (ap is_some (package_none k good P none))
         | Some p ↦ λ here. sym (ap is_some (package_at k good P p here))
       ] refl
+
+  pub package_count : finite.len (numbered_of k).0 ≡ length k.packages
+  unfolding numbered_of
+  package_count = count_by k.packages (package_in k) good.distinct.packages
 
   pub package_absent : (P : Name) → finite.get (numbered_of k).0 P ≡ None → position (bytes_eq P) k.packages ≡ None
   package_absent P none =

@@ -1,7 +1,7 @@
 -- Finite maps that are given by the positions of names.
 --     got      what is at a name
 --     same, put, more, more_put      where another function gives the same, or something else at one name, or there is a name more
-use Rattle.std.proofs.Common.{◌≡◌, ◌≢◌, ◌+◌, ◌<◌, ℕ, suc, Bool, true, false, cond, not, ◌||◌, nat_lt, List, [], ◌∷◌, ◌++◌, length, get_or, position, Option, None, Some, option_map, option_and_then, bytes_eq, refl, sym, ap, subst, ◌∙◌, one-add, arith}
+use Rattle.std.proofs.Common.{◌≡◌, ◌≢◌, ◌+◌, ◌<◌, ℕ, suc, Bool, true, false, cond, not, ◌||◌, nat_lt, List, [], ◌∷◌, ◌++◌, length, get_or, position, Option, None, Some, option_map, option_and_then, bytes_eq, refl, sym, ap, subst, ◌∙◌, is_some, one-add, add-one, arith}
 use Rattle.std.proofs.lemmas.Bool.{false≢true}
 use Rattle.std.specs.Option.{option_or}
 use Rattle.std.specs.List.{position_or_len, IsDistinct, AllByRecursion, cons_option, list_any}
@@ -185,3 +185,13 @@ none_by {X = X} ns = ap finite.from_entries (none_among ns)
     none_among : (ns : List Name) → entries_by {X = X} ns (λ _. None) ≡ []
     none_among [] = refl
     none_among (n ∷ ns) = none_among ns
+
+-- as many as there are names, where each has something
+pub count_by : {X : Type 0} (ns : List Name) (f : ℕ → X) → IsDistinct bytes_eq ns → finite.len (map_by ns (λ i. Some (f i))) ≡ length ns
+unfolding map_by IsDistinct entries_by
+count_by {X = X} [] f distinct = finite.len-empty name_cmp X
+count_by (n ∷ ns) f distinct =
+    finite.len-insert name_total (finite.from_entries (entries_by ns (λ i. Some (f (1 + i))))) n (f 0)
+    ∙ ap (λ o. cond (is_some o) (finite.len (finite.from_entries {R = name_cmp} (entries_by ns (λ i. Some (f (1 + i)))))) (finite.len (finite.from_entries {R = name_cmp} (entries_by ns (λ i. Some (f (1 + i))))) + 1))
+    (finite.get-from_entries name_total (entries_by ns (λ i. Some (f (1 + i)))) n ∙ absent n ns (λ i. Some (f (1 + i))) distinct.0)
+    ∙ ap (λ c. c + 1) (count_by ns (λ i. f (1 + i)) distinct.1) ∙ add-one (length ns)

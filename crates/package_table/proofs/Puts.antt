@@ -111,7 +111,7 @@ module _ (k : Kept) (good : IsGood k) (P N : Name) (p : ℕ) (here : position (b
         symbol_made k good p N unnamed nothing_there P here
         ∙ ap (λ b. with_numbered (numbered_of k) P N (record { home = P; external = b }) (length k.symbols)) (keyword_number k placed P p here open_to)
 
-    pub interned_adds : Adds k (with_symbol k p N)
+    pub interned_adds : IsGood (with_symbol k p N) → Adds k (with_symbol k p N)
     interned_adds = symbol_adds k good p N unnamed nothing_there
 
   -- ---- a symbol of another home
@@ -133,7 +133,7 @@ module _ (k : Kept) (good : IsGood k) (P N : Name) (p : ℕ) (here : position (b
         import_added k good P N p i here known_symbol.symbol (there ∙ ap Some (sym known_symbol.named_so)) unimported
         ∙ (λ t. with_numbered (numbered_of k) P N (record { home = own_home k good H N h j home there i is t; external = hidden_new k placed p i (locked_number k placed P p here ∙ open_to) unimported t }) i)
 
-    pub imported_adds : Adds k (with_import k p i)
+    pub imported_adds : IsGood (with_import k p i) → Adds k (with_import k p i)
     imported_adds = import_adds k good p i unimported
 
   -- ---- a symbol that is found
@@ -172,8 +172,8 @@ module _ (k : Kept) (good : IsGood k) (P N : Name) (p : ℕ) (here : position (b
           ∙ entry_twice (numbered_of k).0 P N (present_in k p i) (record { home = home_in k i; external = true })
           ∙ ap (λ h. with_entry (numbered_of k).0 P N (record { home = h; external = true })) home
 
-      pub inherited_adds : Adds k (with_external (with_import k p i) p i)
-      inherited_adds = adds_both k (with_import k p i) (with_external (with_import k p i) p i) (import_adds k good p i then_none) (external_adds (with_import k p i) good_then p (pair_at k.symbols i).1 i then_number)
+      pub inherited_adds : IsGood (with_external (with_import k p i) p i) → Adds k (with_external (with_import k p i) p i)
+      inherited_adds good_after = adds_both k (with_import k p i) (with_external (with_import k p i) p i) (import_adds k good p i then_none good_then) (external_adds (with_import k p i) good_then p (pair_at k.symbols i).1 i then_number good_after)
 
 -- what is not external is not kept as external
 pub not_external : (k : Kept) → IsGood k → (P N : Name) (p j i : ℕ) → position (bytes_eq P) k.packages ≡ Some p → position (bytes_eq N) k.names ≡ Some j → number_in k p j ≡ Some i

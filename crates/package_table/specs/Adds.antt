@@ -2,6 +2,7 @@
 use Rattle.std.specs.Prelude.{◌≡◌, ◌≤◌, ℕ, [], length, position, bytes_eq, Some, None}
 use Rattle.package_sets.specs.declared.sizes.Sizes.{Sizes}
 use Rattle.package_sets.specs.Kept.{Kept, cut, pair_at, pair_eq}
+use Rattle.package_sets.specs.Good.{IsGood}
 use Rattle.package_table.specs.Table.{Name, common_lisp, keyword}
 use Rattle.package_table.specs.Meaning.{number_in}
 
@@ -22,8 +23,9 @@ pub record IsAtMost (n : Sizes) (k : Kept) : Type 0 where
   pub externals : n.externals ≤ length k.externals
   pub uses : n.uses ≤ length k.uses
 
--- packages, names and symbols keep their numbers, and what was kept earlier is still to be had by a cut
+-- What is kept is good, packages, names and symbols keep their numbers, and what was kept earlier is still to be had by a cut
 pub record Adds (k u : Kept) : Type 0 where
+  pub good : IsGood u
   pub packages : (P : Name) (p : ℕ) → position (bytes_eq P) k.packages ≡ Some p → position (bytes_eq P) u.packages ≡ Some p
   pub names : (N : Name) (j : ℕ) → position (bytes_eq N) k.names ≡ Some j → position (bytes_eq N) u.names ≡ Some j
   pub numbers : (p j i : ℕ) → number_in k p j ≡ Some i → number_in u p j ≡ Some i

@@ -20,6 +20,7 @@ tables_of a = ((numbered_of a.sets).0, record { numbers = (numbered_of a.sets).1
 
 -- sound packages, whose symbols are counted
 pub record IsState (k : Kept) : Type 0 where
+  pub good : IsGood k
   pub sound : IsSound (numbered_of k).0
   pub counted : length k.symbols ≡ symbol_count (numbered_of k).0
   pub placed : IsPlaced k
@@ -27,7 +28,6 @@ pub record IsState (k : Kept) : Type 0 where
 -- what was kept then can be had by a cut, and was such a state
 pub record IsMark (k : Kept) (n : Sizes) : Type 0 where
   pub fits : IsAtMost n k
-  pub good : IsGood (cut n k)
   pub state : IsState (cut n k)
 
 -- no more was kept at the first mark than at the second

@@ -4,10 +4,11 @@ ghost use Rattle.std.specs.FinMap as finite;
 ghost use Rattle.package_sets.specs.Kept.{pair_at, positions_of};
 ghost use Rattle.package_table.specs.Table.{IsJoined};
 ghost use Rattle.package_table.specs.Lookup.{external_home, found, is_present, is_symbol, is_used};
+ghost use Rattle.package_table.specs.Changes.{is_full_of_packages};
 ghost use Rattle.package_table.specs.Numbers.{number_of};
 ghost use Rattle.package_table.specs.Meaning.{first_shown, found_number, home_in, is_shown_in, number_in, numbered_of, shown_number, symbol_name};
 
-use crate::limits::LOCKED_PACKAGES;
+use crate::limits::{LOCKED_PACKAGES, MAX_PACKAGES};
 use package_sets::PackageSets;
 
 /// The number of the symbol that a package has by a name: the one at home in it, and else the one that it imports.
@@ -99,6 +100,14 @@ pub(crate) fn has_package(sets: &PackageSets, owner: &[u8]) -> bool
 {
     sets.goodness();
     sets.find_package(owner).is_some()
+}
+
+/// Whether there are as many packages as there may be.
+pub(crate) fn is_full_of_packages(sets: &PackageSets) -> bool
+    ensures { result ≡ is_full_of_packages (numbered_of sets.now).0 }
+{
+    sets.goodness();
+    sets.package_count() as usize >= MAX_PACKAGES
 }
 
 /// Whether a symbol is present in `owner` by this name.

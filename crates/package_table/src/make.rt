@@ -9,7 +9,8 @@ ghost use Rattle.package_table.specs.Meaning.{numbered_of};
 ghost use Rattle.package_table.specs.Adds.{AddsNoSymbol, IsPlaced};
 
 use crate::find::package_name;
-use crate::limits::{MAX_PACKAGE_NAME, MAX_PACKAGES};
+use crate::limits::MAX_PACKAGE_NAME;
+use crate::look_ups::is_full_of_packages;
 use crate::put::put_package;
 use crate::{PackageError, Packages};
 use package_sets::PackageSets;
@@ -19,14 +20,13 @@ fn make_refusal(sets: &PackageSets, name: &[u8]) -> Result<(), PackageError>
     ensures { let t = (numbered_of sets.now).0 in
         Gives (λ _. with_new_package t name.now) result (after_make t name.now) }
 {
-    sets.goodness();
     if name.is_empty() {
         return Err(PackageError::EmptyName);
     }
     if package_name(sets, name).is_some() {
         return Err(PackageError::PackageExists);
     }
-    if sets.package_count() as usize >= MAX_PACKAGES || name.len() > MAX_PACKAGE_NAME {
+    if is_full_of_packages(sets) || name.len() > MAX_PACKAGE_NAME {
         return Err(PackageError::Limit);
     }
     Ok(())

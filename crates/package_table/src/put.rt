@@ -24,6 +24,7 @@ pub(crate) fn put_package(sets: &mut PackageSets, name: &[u8]) -> Result<(), All
 {
     sets.goodness();
     sets.make(name)?;
+    sets.goodness();
     Ok(())
 }
 
@@ -44,6 +45,7 @@ pub(crate) fn put_new(sets: &mut PackageSets, owner: &[u8], name: &[u8]) -> Resu
         unreachable!()
     };
     sets.intern(owner, name)?;
+    sets.goodness();
     Ok(())
 }
 
@@ -78,6 +80,7 @@ pub(crate) fn put_import(
         unreachable!()
     };
     sets.import(owner, symbol)?;
+    sets.goodness();
     Ok(())
 }
 
@@ -132,9 +135,11 @@ pub(crate) fn put_external(
     };
     if number_in(sets, owner, name).is_some() {
         sets.show(owner, symbol)?;
+        sets.goodness();
         return Ok(());
     }
     import_and_show(sets, owner, symbol)?;
+    sets.goodness();
     Ok(())
 }
 
@@ -157,5 +162,6 @@ pub(crate) fn put_use(sets: &mut PackageSets, owner: &[u8], used: &[u8]) -> Resu
         unreachable!()
     };
     sets.use_package(owner, used)?;
+    sets.goodness();
     Ok(())
 }

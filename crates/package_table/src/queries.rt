@@ -7,8 +7,8 @@ ghost use Rattle.package_table.specs.Changes.{is_full_of_packages, is_full_of_sy
 ghost use Rattle.package_table.specs.Lookup.{is_external, is_present, is_symbol, is_used};
 
 use crate::Packages;
-use crate::limits::{MAX_PACKAGES, MAX_SYMBOLS};
-use crate::look_ups::{external_home, has_package, is_present, is_symbol, is_used, number_of};
+use crate::limits::MAX_SYMBOLS;
+use crate::look_ups::{external_home, has_package, is_full_of_packages, is_present, is_symbol, is_used, number_of};
 
 impl Packages {
     /// Whether a package has the name `owner`.
@@ -38,7 +38,7 @@ impl Packages {
     pub fn is_full_of_packages(&self) -> bool
         ensures { result ≡ is_full_of_packages self.now.0 }
     {
-        self.sets.package_count() as usize >= MAX_PACKAGES
+        is_full_of_packages(&self.sets)
     }
 
     /// Whether there are 1,000,000 symbols, so that `intern` refuses a new one.

@@ -37,7 +37,7 @@ returns-then-is_some-clause-ok c =
 
 pub returns-then-is_some-clause-adds : goal.returns-then-is_some-clause-adds
 returns-then-is_some-clause-adds c =
-    subst (AddsNoSymbol c.args.sets.now) (sym c.in_ok-show.ensures.ok) (external_adds c.args.sets.now c.goodness.ensures c.in-Some.owner c.in-Some-find_name.name c.in-Some-found_number.symbol (own_of c.args.sets.now c.in-Some.owner c.in-Some-find_name.name c.in-Some-found_number.symbol (sym c.in-Some-found_number.ensures) (sym (ap is_some c.number_in.ensures) ∙ sym c.is_some.ensures ∙ c.if-is_some.true)), refl)
+    subst (AddsNoSymbol c.args.sets.now) (sym c.in_ok-show.ensures.ok) (external_adds c.args.sets.now c.goodness.ensures c.in-Some.owner c.in-Some-find_name.name c.in-Some-found_number.symbol (own_of c.args.sets.now c.in-Some.owner c.in-Some-find_name.name c.in-Some-found_number.symbol (sym c.in-Some-found_number.ensures) (sym (ap is_some c.number_in.ensures) ∙ sym c.is_some.ensures ∙ c.if-is_some.true)) (subst IsGood c.in_ok-show.ensures.ok c.goodness-then-is_some.ensures), refl)
 
 pub import_and_show-requires-clause-symbol : goal.import_and_show-requires-clause-symbol
 import_and_show-requires-clause-symbol c = (this_known c.args.sets.now c.goodness.ensures c.args.owner.now c.args.name.now c.in-Some.owner (sym c.in-Some.ensures) c.in-Some-find_name.name (sym c.in-Some-find_name.ensures) c.in-Some-found_number.symbol (sym c.in-Some-found_number.ensures)).0
@@ -54,4 +54,4 @@ returns-clause-ok c =
 pub returns-clause-adds : goal.returns-clause-adds
 returns-clause-adds c =
     let at = this_known c.args.sets.now c.goodness.ensures c.args.owner.now c.args.name.now c.in-Some.owner (sym c.in-Some.ensures) c.in-Some-find_name.name (sym c.in-Some-find_name.ensures) c.in-Some-found_number.symbol (sym c.in-Some-found_number.ensures) in
-    subst (AddsNoSymbol c.args.sets.now) (sym c.in_ok-import_and_show.ensures.ok) (inherited_adds c.args.sets.now c.goodness.ensures c.args.owner.now c.args.name.now c.in-Some.owner (sym c.in-Some.ensures) c.in-Some-find_name.name (sym c.in-Some-find_name.ensures) c.in-Some-found_number.symbol at.0 at.1 (none_of (number_in c.args.sets.now c.in-Some.owner c.in-Some-find_name.name) (sym (ap is_some c.number_in.ensures) ∙ sym c.is_some.ensures ∙ c.if-is_some.false)) c.in_ok-import_and_show.ensures.good, refl)
+    subst (AddsNoSymbol c.args.sets.now) (sym c.in_ok-import_and_show.ensures.ok) (inherited_adds c.args.sets.now c.goodness.ensures c.args.owner.now c.args.name.now c.in-Some.owner (sym c.in-Some.ensures) c.in-Some-find_name.name (sym c.in-Some-find_name.ensures) c.in-Some-found_number.symbol at.0 at.1 (none_of (number_in c.args.sets.now c.in-Some.owner c.in-Some-find_name.name) (sym (ap is_some c.number_in.ensures) ∙ sym c.is_some.ensures ∙ c.if-is_some.false)) c.in_ok-import_and_show.ensures.good (subst IsGood c.in_ok-import_and_show.ensures.ok c.goodness-2.ensures), refl)

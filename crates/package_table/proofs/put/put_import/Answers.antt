@@ -1,5 +1,6 @@
 use Rattle.std.proofs.Common.{◌∙◌, refl, sym, ap, subst}
 use Rattle.package_sets.specs.Kept.{Kept, pair_at}
+use Rattle.package_sets.specs.Good.{IsGood}
 use Rattle.package_table.specs.Numbers.{Numbered}
 use Rattle.package_table.specs.Meaning.{numbered_of}
 use Rattle.package_table.specs.Adds.{AddsNoSymbol}
@@ -36,4 +37,4 @@ returns-clause-ok c =
 pub returns-clause-adds : goal.returns-clause-adds
 returns-clause-adds c =
     subst (AddsNoSymbol c.args.sets.now) (sym c.in_ok-import.ensures.ok)
-    (imported_adds c.args.sets.now c.goodness.ensures c.args.owner.now c.args.name.now c.in-Some.owner (sym c.in-Some.ensures) c.args.home.now c.in-Some-find_package.home c.in-Some-find_name.name c.in-Some-find_symbol.symbol (sym c.in-Some-find_package.ensures) (sym c.in-Some-find_name.ensures) (sym c.in-Some-find_symbol.ensures) c.requires.fresh, refl)
+    (imported_adds c.args.sets.now c.goodness.ensures c.args.owner.now c.args.name.now c.in-Some.owner (sym c.in-Some.ensures) c.args.home.now c.in-Some-find_package.home c.in-Some-find_name.name c.in-Some-find_symbol.symbol (sym c.in-Some-find_package.ensures) (sym c.in-Some-find_name.ensures) (sym c.in-Some-find_symbol.ensures) c.requires.fresh (subst IsGood c.in_ok-import.ensures.ok c.goodness-2.ensures), refl)

@@ -1,5 +1,6 @@
 use Rattle.std.proofs.Common.{◌∙◌, sym, ap, subst}
 use Rattle.package_sets.specs.Kept.{Kept}
+use Rattle.package_sets.specs.Good.{IsGood}
 use Rattle.package_table.specs.Numbers.{Numbered}
 use Rattle.package_table.specs.Meaning.{numbered_of}
 use Rattle.package_table.specs.Adds.{Adds}
@@ -20,4 +21,4 @@ returns-clause-ok c =
     ∙ ap (λ (s : Numbered). s.0) (interned c.args.sets.now c.goodness.ensures c.args.owner.now c.args.name.now c.in-Some.owner (sym c.in-Some.ensures) c.requires.fresh c.requires.placed c.requires.unlocked)
 
 pub returns-clause-adds : goal.returns-clause-adds
-returns-clause-adds c = subst (Adds c.args.sets.now) (sym c.in_ok-intern.ensures.ok) (interned_adds c.args.sets.now c.goodness.ensures c.args.owner.now c.args.name.now c.in-Some.owner (sym c.in-Some.ensures) c.requires.fresh)
+returns-clause-adds c = subst (Adds c.args.sets.now) (sym c.in_ok-intern.ensures.ok) (interned_adds c.args.sets.now c.goodness.ensures c.args.owner.now c.args.name.now c.in-Some.owner (sym c.in-Some.ensures) c.requires.fresh (subst IsGood c.in_ok-intern.ensures.ok c.goodness-2.ensures))

@@ -1,5 +1,6 @@
 use Rattle.std.proofs.Common.{◌∙◌, refl, sym, ap, subst}
 use Rattle.package_sets.specs.Kept.{Kept}
+use Rattle.package_sets.specs.Good.{IsGood}
 use Rattle.package_table.specs.Numbers.{Numbered}
 use Rattle.package_table.specs.Meaning.{numbered_of}
 use Rattle.package_table.specs.Adds.{AddsNoSymbol}
@@ -17,4 +18,4 @@ returns-clause-ok c =
     ∙ ap (λ (s : Numbered). s.0) (package_added c.args.sets.now c.goodness.ensures c.args.name.now (package_absent c.args.sets.now c.goodness.ensures c.args.name.now c.requires))
 
 pub returns-clause-adds : goal.returns-clause-adds
-returns-clause-adds c = subst (AddsNoSymbol c.args.sets.now) (sym c.in_ok-make.ensures.ok) (package_adds c.args.sets.now c.args.name.now, refl)
+returns-clause-adds c = subst (AddsNoSymbol c.args.sets.now) (sym c.in_ok-make.ensures.ok) (package_adds c.args.sets.now c.args.name.now (subst IsGood c.in_ok-make.ensures.ok c.goodness-2.ensures), refl)

@@ -1,5 +1,6 @@
 use Rattle.std.proofs.Common.{◌∙◌, refl, sym, ap, subst}
 use Rattle.package_sets.specs.Kept.{Kept, pair_eq}
+use Rattle.package_sets.specs.Good.{IsGood}
 use Rattle.package_table.specs.Numbers.{Numbered}
 use Rattle.package_table.specs.Meaning.{numbered_of}
 use Rattle.package_table.specs.Adds.{AddsNoSymbol}
@@ -30,4 +31,4 @@ returns-clause-ok c =
     (none_of _ (used_is c.args.sets.now c.goodness.ensures c.args.owner.now c.args.used.now c.in-Some.owner c.in-Some-find_package.used (sym c.in-Some.ensures) (sym c.in-Some-find_package.ensures) ∙ c.requires.unused)))
 
 pub returns-clause-adds : goal.returns-clause-adds
-returns-clause-adds c = subst (AddsNoSymbol c.args.sets.now) (sym c.in_ok-use_package.ensures.ok) (use_adds c.args.sets.now c.in-Some.owner c.in-Some-find_package.used, refl)
+returns-clause-adds c = subst (AddsNoSymbol c.args.sets.now) (sym c.in_ok-use_package.ensures.ok) (use_adds c.args.sets.now c.in-Some.owner c.in-Some-find_package.used (subst IsGood c.in_ok-use_package.ensures.ok c.goodness-2.ensures), refl)
