@@ -4,6 +4,7 @@ pub mod Alone
 pub mod Asked
 pub mod ByName
 pub mod CallRows
+pub mod Calls
 pub mod Conflicting
 pub mod Counting
 pub mod First

@@ -57,6 +57,7 @@ fn export_symbol(
     ensures unchanged { IfErr result (λ _. sets.new ≡ sets.old) }
     ensures adds { IfOk result (λ _. AddsNoSymbol sets.old sets.new) }
 {
+    sets.goodness();
     if !export_refusal(sets, owner, home, name)? {
         return Ok(false);
     }

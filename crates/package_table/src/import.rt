@@ -55,6 +55,7 @@ fn import_symbol(
     ensures unchanged { IfErr result (λ _. sets.new ≡ sets.old) }
     ensures adds { IfOk result (λ _. AddsNoSymbol sets.old sets.new) }
 {
+    sets.goodness();
     if !import_refusal(sets, owner, home, name)? {
         return Ok(false);
     }

@@ -42,6 +42,7 @@ fn intern_symbol(
     ensures adds { IfOk result (λ _. Adds sets.old sets.new) }
     ensures counted { length sets.new.symbols ≡ symbol_count (numbered_of sets.new).0 }
 {
+    sets.goodness();
     if !has_package(sets, owner) {
         return Err(PackageError::NoSuchPackage);
     }

@@ -53,6 +53,7 @@ fn use_other(
     ensures unchanged { IfErr result (λ _. sets.new ≡ sets.old) }
     ensures adds { IfOk result (λ _. AddsNoSymbol sets.old sets.new) }
 {
+    sets.goodness();
     if !use_refusal(sets, owner, used)? {
         return Ok(false);
     }

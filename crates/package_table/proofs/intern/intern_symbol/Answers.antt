@@ -1,0 +1,14 @@
+use Rattle.std.proofs.Common.{◌+◌, ◌∙◌, sym, ap}
+use Rattle.package_table.specs.Table.{Table, symbol_count}
+use Rattle.package_table.proofs.KeptChanges.{counted_new}
+use Rattle.package_table.proofs.Adding.{adds_same}
+use Rattle.package_table.proofs.intern.intern_symbol.Goals as goal
+
+pub returns-clause-counted : goal.returns-clause-counted
+returns-clause-counted c =
+    c.in_ok-put_new.ensures.count ∙ ap (λ k. k + 1) c.requires.counted
+    ∙ sym (ap symbol_count c.in_ok-put_new.ensures.ok
+    ∙ counted_new _ c.args.owner.now c.args.name.now (sym c.if-not-has_package.ensures) (sym c.in_default.ensures))
+
+pub returns-in-Some-clause-adds : goal.returns-in-Some-clause-adds
+returns-in-Some-clause-adds c = adds_same c.args.sets.now c.goodness.ensures
