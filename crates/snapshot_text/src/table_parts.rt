@@ -1,5 +1,5 @@
 //! The readtables of a world, made from the third object of a snapshot.
-ghost use Rattle.std.specs.Prelude.{◌≡◌, ◌<◌, ℕ, List, [], ◌∷◌, true, unwrap_or, IfOk, IsTrue, IsFalse};
+ghost use Rattle.std.specs.Prelude.{◌≡◌, ◌<◌, ℕ, List, [], ◌∷◌, true, unwrap_or, IsTrue, IsFalse};
 ghost use Rattle.lisp_object.specs.Object.{text, list_of};
 ghost use Rattle.lisp_object.specs.Datum.{object_of, is_proper};
 ghost use Rattle.readtable_core.specs.declared.table.Case.{Case};
@@ -41,22 +41,6 @@ fn function_in(datum: &Datum) -> Result<FnName, BuildError>
     FnName::new(text_in(datum)?.as_slice()).ok_or(BuildError::Damaged)
 }
 
-// The sub-character and the function of a pair.
-fn pair_in(pair: &Datum) -> Result<(u8, FnName), BuildError>
-    ensures character { IfOk result (λ parts. parts.0 < 128) }
-    ensures read { is_proper pair.now ≡ true → (sub : ℕ) (f : List ℕ)
-        → object_of pair.now ≡ list_of (number sub ∷ text f ∷ []) → sub < 128
-        → IsTrue (is_function_name f)
-        → Succeeds result (λ parts. (parts.0 ≡ sub) × (parts.1 ≡ f)) }
-{
-    let [sub, function] = items_in(pair)? else {
-        return Err(BuildError::Damaged);
-    };
-    let sub = character_in(sub)?;
-    let function = function_in(function)?;
-    Ok((sub, function))
-}
-
 // Sets the function of a sub-character, which are given as a pair.
 fn put_sub_character(world: &mut World, table: &[u8], c: u8, pair: &Datum) -> Result<(), BuildError>
     requires { c < 128 }
@@ -67,7 +51,11 @@ fn put_sub_character(world: &mut World, table: &[u8], c: u8, pair: &Datum) -> Re
         → OrNoMemory (world.new.0 ≡ with_table world.old.0 table.now
         (with_entry t c (with_function (entry_at t c) sub f))) result }
 {
-    let (sub, function) = pair_in(pair)?;
+    let [sub, function] = items_in(pair)? else {
+        return Err(BuildError::Damaged);
+    };
+    let sub = character_in(sub)?;
+    let function = function_in(function)?;
     if !may_be_set(world, function) {
         return Err(BuildError::Damaged);
     }
