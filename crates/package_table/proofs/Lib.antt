@@ -19,6 +19,7 @@ pub mod KeptSound
 pub mod Listed
 pub mod ListedBy
 pub mod Mapped
+pub mod Marking
 pub mod Meant
 pub mod Names
 pub mod Numbered
