@@ -1,11 +1,11 @@
 -- What clap makes of the words of a command.
-use Rattle.std.proofs.Common.{if◌then◌else◌, ◌≡◌, ◌≢◌, ◌==◌, ◌∙◌, ◌⊎◌, ◌<◌, ◌≤◌, ◌++◌, ◌^◌, ◌-◌, ℕ, List, [], ◌∷◌, None, Some, codes, true, false, refl, rules, ap, sym, subst, inl, inr, arith}
+use Rattle.std.proofs.Common.{if◌then◌else◌, ◌≡◌, ◌≢◌, ◌==◌, ◌∙◌, ◌&&◌, ◌⊎◌, ◌<◌, ◌≤◌, ◌++◌, ◌^◌, ◌-◌, ℕ, List, [], ◌∷◌, None, Some, codes, true, false, refl, rules, ap, sym, subst, inl, inr, arith}
 use Rattle.std.proofs.lemmas.Str.Parse.{digit_from_value}
 use Rattle.std.specs.Str.Parse.{IsNumeral, digits_value, without_leading_plus}
 use Rattle.clap.specs.ValueTests.{is_unsigned_in}
 use Rattle.clap.specs.declared.builder.value_parser.ValueParser.TheVariants.{Unsigned}
 use Rattle.clap.specs.Kinds.{Kinds, or_else}
-use Rattle.clap.specs.Words.{IsAmong, Text, fault_of, is_simple, is_simple_and_free}
+use Rattle.clap.specs.Words.{IsAmong, Text, fault_of, is_simple, is_simple_and_free, takes}
 use Rattle.clap.specs.declared.error.kind.ErrorKind.{ErrorKind}
 use Rattle.clap.specs.declared.error.kind.ErrorKind.TheVariants.{MissingRequiredArgument, OutOfMemory, ValueValidation}
 use Rattle.clap.proofs.OnLiterals.{clap_on_literals}
@@ -25,8 +25,9 @@ pub free_line : is_simple_and_free command_line ≡ true
 unfolding clap_on_literals
 free_line = refl
 
--- no mistake is in the words, and they ask for this
+-- the words are taken, no mistake is in them, and they ask for this
 pub record IsRight (words : List Text) (folder : Text) (task : Task) : Type 0 where
+  pub taken : takes command_line words ≡ true
   pub faultless : fault_of command_line words ≡ []
   pub asked : asked_in words ≡ Some (folder, task)
 
@@ -34,34 +35,38 @@ pub record IsRight (words : List Text) (folder : Text) (task : Task) : Type 0 wh
 module _ (program : Text) (x : ℕ) (xs : Text) (e : (x == 45) ≡ false) where
   right_dump : IsRight (program ∷ codes "dump" ∷ (x ∷ xs) ∷ []) (x ∷ xs) (Tell Dump)
   unfolding clap_on_literals
-  right_dump = record { faultless = simp e; asked = simp e }
+  right_dump = record { taken = simp e; faultless = simp e; asked = simp e }
 
   right_verify : IsRight (program ∷ codes "verify" ∷ (x ∷ xs) ∷ []) (x ∷ xs) (Tell Verify)
   unfolding clap_on_literals
-  right_verify = record { faultless = simp e; asked = simp e }
+  right_verify = record { taken = simp e; faultless = simp e; asked = simp e }
 
   right_current : IsRight (program ∷ codes "run" ∷ (x ∷ xs) ∷ []) (x ∷ xs) (Run Current 0)
   unfolding clap_on_literals
-  right_current = record { faultless = simp e; asked = simp e }
+  right_current = record { taken = simp e; faultless = simp e; asked = simp e }
 
   right_rescue : IsRight (program ∷ codes "run" ∷ (x ∷ xs) ∷ codes "--rescue" ∷ []) (x ∷ xs) (Run Rescue 0)
   unfolding clap_on_literals
-  right_rescue = record { faultless = simp e; asked = simp e }
+  right_rescue = record { taken = simp e; faultless = simp e; asked = simp e }
 
   module _ (y : ℕ) (ys : Text) (d : (y == 45) ≡ false) (passes : is_unsigned_in 1 1000000 (y ∷ ys) ≡ true) where
     -- what is left of each of the next two: the number passes
+    left : (((is_unsigned_in 1 1000000 (y ∷ ys) && true) && true) && true) ≡ true
+    left = rw passes refl
+
     left_kinds : or_else (or_else (or_else (if is_unsigned_in 1 1000000 (y ∷ ys) then [] else (ValueValidation ∷ [])) []) []) [] ≡ []
     left_kinds = rw passes refl
 
     right_current_every : IsRight (program ∷ codes "run" ∷ (x ∷ xs) ∷ codes "--snapshot-every" ∷ (y ∷ ys) ∷ []) (x ∷ xs)
         (Run Current (every_of_number (Some (y ∷ ys))))
     unfolding clap_on_literals
-    right_current_every = record { faultless = simp (e, d) left_kinds; asked = simp (e, d) }
+    right_current_every = record { taken = simp (e, d) left; faultless = simp (e, d) left_kinds; asked = simp (e, d) }
 
     right_rescue_every : IsRight (program ∷ codes "run" ∷ (x ∷ xs) ∷ codes "--rescue" ∷ codes "--snapshot-every" ∷ (y ∷ ys) ∷ []) (x ∷ xs)
         (Run Rescue (every_of_number (Some (y ∷ ys))))
     unfolding clap_on_literals
     right_rescue_every = record {
+      taken = simp e (rw d (simp d left));
       faultless = simp e (rw (d, d) left_kinds);
       asked = simp e (rw (d, d) refl);
     }
@@ -119,12 +124,6 @@ pub line_is_taken : (words : List Text) (folder : Text) (task : Task) → AsksFo
 line_is_taken words folder task asks =
     let right = right_line words folder task asks in
     (no_faults words folder task right.faultless right.asked, right.asked)
-
--- clap has no error for words without a mistake but that memory ran out
-pub only_memory : (words : List Text) (folder : Text) (task : Task) (kind : ErrorKind) → AsksFor words folder task
-    → (kind ≡ OutOfMemory) ⊎ IsAmong kind (fault_of command_line words) → kind ≡ OutOfMemory
-only_memory words folder task kind asks (inl memory) = memory
-only_memory words folder task kind asks (inr among) = absurd (subst (IsAmong kind) (right_line words folder task asks).faultless among)
 
 -- what clap refuses is refused
 among_first : (first next : Kinds) (kind : ErrorKind) → IsAmong kind first → IsAmong kind (or_else first next)

@@ -46,13 +46,11 @@ folder_line name = with_rule (new_app name) directory_rule
 abbrev pub run_line : App
 run_line = with_rule (with_rule (folder_line (codes "run")) rescue_rule) every_rule
 
--- the program, with no command yet
-abbrev pub bare_line : App
-bare_line = on_top (λ s. record s { subcommand_required = true }) (new_app (codes "store_program"))
-
 -- the program, with its three commands
 abbrev pub command_line : App
-command_line = with_subcommand (with_subcommand (with_subcommand bare_line run_line.top) (folder_line (codes "dump")).top) (folder_line (codes "verify")).top
+command_line =
+    with_subcommand (with_subcommand (with_subcommand (on_top (λ s. record s { subcommand_required = true }) (new_app (codes "store_program")))
+    run_line.top) (folder_line (codes "dump")).top) (folder_line (codes "verify")).top
 
 -- the mode of a flag: a flag that is there has the value true
 abbrev pub mode_of_flag : Option Text → Mode

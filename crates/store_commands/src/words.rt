@@ -1,10 +1,10 @@
 // The command line.
 ghost use Rattle.std.specs.Prelude.{◌≡◌, ◌⊎◌, Some, false, map, option_and_then, option_map, IfOk, IfErr};
-ghost use Rattle.clap.specs.Words.{FailsBy, Text, app_of, fault_of, found_of, kind_of, rows_of, rule_of, subcommand_of, subcommand_rows_of, with_subcommand};
+ghost use Rattle.clap.specs.Words.{FailsBy, Text, app_of, found_of, kind_of, rows_of, rule_of, subcommand_rows_of};
 ghost use Rattle.clap.specs.declared.builder.command.Command.TheViews.{out-Command as fields_of};
 ghost use Rattle.clap.specs.declared.error.kind.ErrorKind.TheVariants.{MissingRequiredArgument, OutOfMemory};
 ghost use Rattle.store_commands.specs.declared.words.Task.{Task};
-ghost use Rattle.store_commands.specs.CommandLine.{asked_in, asked_of, bare_line, command_line, every_in, every_rule, faults_of, folder_line, mode_of_flag, rescue_rule, run_line, task_of, AsksFor};
+ghost use Rattle.store_commands.specs.CommandLine.{asked_in, asked_of, command_line, every_in, every_rule, faults_of, folder_line, mode_of_flag, rescue_rule, run_line, task_of, AsksFor};
 
 use clap::builder::ValueParser;
 use clap::error::ErrorKind;
@@ -123,26 +123,6 @@ fn run_command<'a>(alloc: Global) -> Result<Command<'a>, AllocError>
     command.arg(every_option(alloc))
 }
 
-// The program, with no command yet.
-fn bare_command<'a>(alloc: Global) -> Command<'a>
-    ensures { app_of result ≡ bare_line }
-{
-    Command::new(alloc, "store_program")
-        .about("A store for Lisp forms that keeps what it has answered")
-        .override_usage(USAGE)
-        .after_help(MANUAL)
-        .subcommand_required(true)
-}
-
-// The program with one command more.
-fn with_command<'a>(program: Command<'a>, command: Command<'a>) -> Result<Command<'a>, AllocError>
-    requires { (fields_of command).has_globals ≡ false }
-    ensures { IfOk result (λ more. app_of more
-        ≡ with_subcommand (app_of program) (app_of command).top) }
-{
-    program.subcommand(command)
-}
-
 fn whole_command<'a>(alloc: Global) -> Result<Command<'a>, AllocError>
     ensures { IfOk result (λ command. app_of command ≡ command_line) }
 {
@@ -150,9 +130,14 @@ fn whole_command<'a>(alloc: Global) -> Result<Command<'a>, AllocError>
     let dump = folder_command(alloc, DUMP, "Writes the text of the world", DUMP_USAGE)?;
     let about = "Tells the half in use, its generation and how many records it has";
     let verify = folder_command(alloc, VERIFY, about, VERIFY_USAGE)?;
-    let program = with_command(bare_command(alloc), run)?;
-    let program = with_command(program, dump)?;
-    with_command(program, verify)
+    Command::new(alloc, "store_program")
+        .about("A store for Lisp forms that keeps what it has answered")
+        .override_usage(USAGE)
+        .after_help(MANUAL)
+        .subcommand_required(true)
+        .subcommand(run)?
+        .subcommand(dump)?
+        .subcommand(verify)
 }
 
 // The mode for the value of the flag.
@@ -209,19 +194,6 @@ fn nothing_asked(command: &mut Command<'_>) -> Error
     }
 }
 
-// What clap finds in the words.
-fn found_in<'a, S: AsStr>(
-    program: &mut Command<'a>,
-    words: &'a [S],
-) -> Result<ArgMatches<'a>, Error>
-    requires { app_of program.old ≡ command_line }
-    ensures found { IfOk result (λ matches. subcommand_rows_of matches
-        ≡ subcommand_of command_line (map S.text words.entry.now)) }
-    ensures faults { FailsBy (fault_of command_line (map S.text words.entry.now)) result }
-{
-    program.try_get_matches_from_mut(words)
-}
-
 /// What the words ask for: they are the program's name and a command with its folder and its options.
 ///
 /// # Errors
@@ -234,11 +206,11 @@ pub fn asked_in<'a, S: AsStr>(alloc: Global, words: &'a [S]) -> Result<Asked<'a>
         → IfErr result (λ e. kind_of e ≡ OutOfMemory) }
     ensures faults { FailsBy (faults_of (map S.text words.entry.now)) result }
 {
-    let mut program = whole_command(alloc)?;
-    match found_in(&mut program, words) {
+    let mut command = whole_command(alloc)?;
+    match command.try_get_matches_from_mut(words) {
         Ok(matches) => match asked_by(&matches) {
             Some(asked) => Ok(asked),
-            None => Err(nothing_asked(&mut program)),
+            None => Err(nothing_asked(&mut command)),
         },
         Err(error) => Err(error),
     }
