@@ -2,6 +2,7 @@ pub mod Added
 pub mod Adding
 pub mod Alone
 pub mod Asked
+pub mod Beginning
 pub mod ByName
 pub mod CallRows
 pub mod Calls

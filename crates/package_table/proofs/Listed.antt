@@ -39,7 +39,7 @@ same_dedup (k ∷ ks) d = same_dedup_from k ks d
 by_ties : (ns : List Name) → IsDistinct bytes_eq ns → IsDistinct (eq_by_cmp name_cmp) ns
 by_ties ns distinct = subst (λ (e : Name → Name → Bool). IsDistinct e ns) (λ i. λ x y. texts_ties x y i) distinct
 
-any_ties : (q : Name) (ns : List Name) → list_any (eq_by_cmp name_cmp q) ns ≡ list_any (bytes_eq q) ns
+pub any_ties : (q : Name) (ns : List Name) → list_any (eq_by_cmp name_cmp q) ns ≡ list_any (bytes_eq q) ns
 any_ties q ns = λ i. list_any (λ n. sym (texts_ties q n) i) ns
 
 pub sorted_is : (collected result want : List Name) → IsDistinct bytes_eq collected → IsPermutation collected result → IsSorted name_cmp result → IsStrictlySortedBy name_cmp want

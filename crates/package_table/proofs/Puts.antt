@@ -28,7 +28,7 @@ use Rattle.package_table.proofs.ByName.{own_home, symbol_by}
 use Rattle.package_table.proofs.Mapped.{named}
 
 -- ---- an entry in place of another
-insert_twice : {X : Type 0} (m : finite.FinMap name_cmp X) (k : Name) (v w : X) → finite.insert (finite.insert m k v) k w ≡ finite.insert m k w
+pub insert_twice : {X : Type 0} (m : finite.FinMap name_cmp X) (k : Name) (v w : X) → finite.insert (finite.insert m k v) k w ≡ finite.insert m k w
 insert_twice m k v w = finite.same_map name_total name_exact (finite.insert (finite.insert m k v) k w) (finite.insert m k w) (λ q.
     finite.get-insert name_total (finite.insert m k v) k w q
     ∙ ap (cond (eq_by_cmp name_cmp q k) (Some w)) (finite.get-insert name_total m k v q)
@@ -49,6 +49,10 @@ entry_twice t p n e f =
           ∙ insert_twice t p (record h { symbols = finite.insert h.symbols n e }) (record h { symbols = finite.insert (finite.insert h.symbols n e) n f })
           ∙ (λ i. finite.insert t p (record h { symbols = insert_twice h.symbols n e f i }))
     ] refl
+
+-- where nothing is found, there is no entry
+pub nothing_there : (k : Kept) (P N : Name) → found (numbered_of k).0 P N ≡ None → entry_at (numbered_of k).0 P N ≡ None
+nothing_there k P N none = no_entry (numbered_of k).0 P N (found_none (numbered_of k).0 N P none)
 
 -- the number of a symbol that is present at home
 pub at_home_number : (k : Kept) → IsGood k → (H N : Name) (h j : ℕ) → position (bytes_eq H) k.packages ≡ Some h → position (bytes_eq N) k.names ≡ Some j → IsPresent (numbered_of k).0 H N H
@@ -95,24 +99,25 @@ module _ (k : Kept) (good : IsGood k) (P N : Name) (p : ℕ) (here : position (b
   unnumbered none j there = map_none (present_in k p) (number_in k p j) (sym (entry_there k good P p here N j there) ∙ none)
 
   -- ---- a new symbol
-  module _ (nothing : found (numbered_of k).0 P N ≡ None) where
-    nothing_there : (j : ℕ) → position (bytes_eq N) k.names ≡ Some j → number_in k p j ≡ None
-    nothing_there = unnumbered (no_entry (numbered_of k).0 P N (found_none (numbered_of k).0 N P nothing))
-
+  module _ (nothing : entry_at (numbered_of k).0 P N ≡ None) where
     pub unnamed : symbol_named k p N ≡ None
     unnamed =
         elim (position (bytes_eq N) k.names) as (λ o. position (bytes_eq N) k.names ≡ o → option_and_then (λ j. position (pair_eq (p, j)) k.symbols) o ≡ None) [
           | None ↦ λ _. refl
-          | Some j ↦ λ there. (parts_none (position (pair_eq (p, j)) k.symbols) _ (nothing_there j there)).0
+          | Some j ↦ λ there. (parts_none (position (pair_eq (p, j)) k.symbols) _ (unnumbered nothing j there)).0
         ] refl
+
+    -- in a package that may be locked
+    pub interned_so : numbered_of (with_symbol k p N) ≡ with_numbered (numbered_of k) P N (record { home = P; external = nat_lt p 2 }) (length k.symbols)
+    interned_so = symbol_made k good p N unnamed (unnumbered nothing) P here
 
     pub interned : IsPlaced k → bytes_eq P common_lisp ≡ false → numbered_of (with_symbol k p N) ≡ with_numbered (numbered_of k) P N (record { home = P; external = bytes_eq P keyword }) (length k.symbols)
     interned placed open_to =
-        symbol_made k good p N unnamed nothing_there P here
+        interned_so
         ∙ ap (λ b. with_numbered (numbered_of k) P N (record { home = P; external = b }) (length k.symbols)) (keyword_number k placed P p here open_to)
 
     pub interned_adds : IsGood (with_symbol k p N) → Adds k (with_symbol k p N)
-    interned_adds = symbol_adds k good p N unnamed nothing_there
+    interned_adds = symbol_adds k good p N unnamed (unnumbered nothing)
 
   -- ---- a symbol of another home
   module _ (H : Name) (h j i : ℕ) (home : position (bytes_eq H) k.packages ≡ Some h) (there : position (bytes_eq N) k.names ≡ Some j) (is : position (pair_eq (h, j)) k.symbols ≡ Some i) (none : entry_at (numbered_of k).0 P N ≡ None) where
