@@ -138,7 +138,6 @@ module _ (k : Kept) (good : IsGood k) (p i : ℕ) where
   pub import_stays_number : (q m : ℕ) → (q ≢ p) ⊎ (m ≢ (pair_at k.symbols i).1) → number_in (with_import k p i) q m ≡ number_in k q m
   import_stays_number q m apart = ap (option_or (position (pair_eq (q, m)) k.symbols)) (import_stays q m apart)
 
-
 module _ (k : Kept) (good : IsGood k) (P N : Name) (p i : ℕ) (here : position (bytes_eq P) k.packages ≡ Some p) (less : i < length k.symbols)
     (there : position (bytes_eq N) k.names ≡ Some (pair_at k.symbols i).1) (none : number_in k p (pair_at k.symbols i).1 ≡ None) where
   pub import_new_number : number_in (with_import k p i) p (pair_at k.symbols i).1 ≡ Some i

@@ -72,9 +72,11 @@ positions_have f s all done [] i split here some = absurd (false≢true some)
 positions_have f s all done (p ∷ ps) i split here some =
     elim (pair_eq (f, s) p) as (λ b. pair_eq (f, s) p ≡ b → (b || list_any (pair_eq (f, s)) ps) ≡ true → (x : ℕ) × (list_any (nat_eq x) (cond (nat_eq p.0 f) (i ∷ positions_from f (i + 1) ps) (positions_from f (i + 1) ps)) ≡ true) × (pair_at all x ≡ (f, s))) [
       | true ↦ λ is _.
-          let one = one_pair (f, s) p is in
-          (i, ap (λ b. list_any (nat_eq i) (cond b (i ∷ positions_from f (i + 1) ps) (positions_from f (i + 1) ps))) ((Decides-eqb p.0 f).1 (ap (λ (q : ℕ × ℕ). q.0) (sym one))) ∙ ap (λ b. b || list_any (nat_eq i) (positions_from f (i + 1) ps)) ((Decides-eqb i i).1 refl),
-          ap (λ qs. pair_at qs i) split ∙ get_or_at done p ps (0, 0) i here ∙ sym one)
+          let one = one_pair (f, s) p is in (
+            i,
+            ap (λ b. list_any (nat_eq i) (cond b (i ∷ positions_from f (i + 1) ps) (positions_from f (i + 1) ps))) ((Decides-eqb p.0 f).1 (ap (λ (q : ℕ × ℕ). q.0) (sym one))) ∙ ap (λ b. b || list_any (nat_eq i) (positions_from f (i + 1) ps)) ((Decides-eqb i i).1 refl),
+            ap (λ qs. pair_at qs i) split ∙ get_or_at done p ps (0, 0) i here ∙ sym one,
+          )
       | false ↦ λ _ later.
           let rest = positions_have f s all (done ++ p ∷ []) ps (i + 1) (split ∙ sym (append_assoc done (p ∷ []) ps)) (length_push done p ∙ ap (λ n. n + 1) here) later in
           (rest.0, further (nat_eq p.0 f) rest.0 rest.1, rest.2)

@@ -254,9 +254,9 @@ module _ (k : Kept) (good : IsGood k) (placed : IsPlaced k) (sound : IsSound (nu
       λ x at. (placed.shown q (pair_at k.externals x).1 x (external_pair x at), or_right (nat_lt q 2) (is_some (position (pair_eq (q, (pair_at k.externals x).1)) k.externals)) (ap is_some (external_pair x at))) in
       let covered : (j i : ℕ) → number_in k q j ≡ Some i → is_shown_in k q i ≡ true → (x : ℕ) × (list_any (nat_eq x) (positions_of q k.externals) ≡ true) × ((pair_at k.externals x).1 ≡ i) =
       λ j i is shown. (
-        let at = external_at i (sym (ap (λ b. b || is_some (position (pair_eq (q, i)) k.externals)) high) ∙ shown) in
-        let pair = pair_there (length k.packages) (length k.symbols) k.externals good.within.externals (q, i) at.0 at.1 in
-        (at.0, among_positions k.externals good.distinct.externals q i at.0 at.1 (length k.packages) (length k.symbols) good.within.externals, ap (λ (p : ℕ × ℕ). p.1) (sym pair.1))
+      let at = external_at i (sym (ap (λ b. b || is_some (position (pair_eq (q, i)) k.externals)) high) ∙ shown) in
+      let pair = pair_there (length k.packages) (length k.symbols) k.externals good.within.externals (q, i) at.0 at.1 in
+      (at.0, among_positions k.externals good.distinct.externals q i at.0 at.1 (length k.packages) (length k.symbols) good.within.externals, ap (λ (p : ℕ × ℕ). p.1) (sym pair.1))
       ) in
       record {
         inside = λ x among. inside_one x (all_any (λ x. (x < length k.externals) × ((pair_at k.externals x).0 ≡ q)) (positions_of q k.externals) (all_of k.externals) x among);
@@ -314,8 +314,8 @@ module _ (k : Kept) (good : IsGood k) (placed : IsPlaced k) (sound : IsSound (nu
   imported_listed = listed (λ e. not (bytes_eq e.home Q)) (λ x. get_or k.imported x 0) (positions_of q k.imports) (positions_apart q 0 k.imports) (λ x. (x < length k.imports) × ((pair_at k.imports x).0 ≡ q)) (all_of k.imports)
       import_inside import_covers
       (λ x y at to same.
-          let name : (pair_at k.imports x).1 ≡ (pair_at k.imports y).1 = sym (good.named x at.0) ∙ ap (λ (i : ℕ). (pair_at k.symbols i).1) same ∙ good.named y to.0 in
-          same_some x y (sym (import_pair x at) ∙ ap (λ (j : ℕ). position (pair_eq (q, j)) k.imports) name ∙ import_pair y to))
+      let name : (pair_at k.imports x).1 ≡ (pair_at k.imports y).1 = sym (good.named x at.0) ∙ ap (λ (i : ℕ). (pair_at k.symbols i).1) same ∙ good.named y to.0 in
+      same_some x y (sym (import_pair x at) ∙ ap (λ (j : ℕ). position (pair_eq (q, j)) k.imports) name ∙ import_pair y to))
 
   -- ---- what is used
   use_pair : (x : ℕ) → (x < length k.uses) × ((pair_at k.uses x).0 ≡ q) → position (pair_eq (q, (pair_at k.uses x).1)) k.uses ≡ Some x
@@ -329,8 +329,8 @@ module _ (k : Kept) (good : IsGood k) (placed : IsPlaced k) (sound : IsSound (nu
       sorted_is (map (λ x. name_at k.packages (pair_at k.uses x).1) (positions_of q k.uses)) result (finite.keys (package_in k q).uses)
       (distinct_mapped (λ x. (x < length k.uses) × ((pair_at k.uses x).0 ≡ q)) (λ x. name_at k.packages (pair_at k.uses x).1)
       (λ x y at to same.
-          let one : (pair_at k.uses x).1 ≡ (pair_at k.uses y).1 = same_some (pair_at k.uses x).1 (pair_at k.uses y).1 (sym (used_position x at) ∙ ap (λ n. position (bytes_eq n) k.packages) (equal_names (name_at k.packages (pair_at k.uses x).1) (name_at k.packages (pair_at k.uses y).1) same) ∙ used_position y to) in
-          same_some x y (sym (use_pair x at) ∙ ap (λ (r : ℕ). position (pair_eq (q, r)) k.uses) one ∙ use_pair y to))
+      let one : (pair_at k.uses x).1 ≡ (pair_at k.uses y).1 = same_some (pair_at k.uses x).1 (pair_at k.uses y).1 (sym (used_position x at) ∙ ap (λ n. position (bytes_eq n) k.packages) (equal_names (name_at k.packages (pair_at k.uses x).1) (name_at k.packages (pair_at k.uses y).1) same) ∙ used_position y to) in
+      same_some x y (sym (use_pair x at) ∙ ap (λ (r : ℕ). position (pair_eq (q, r)) k.uses) one ∙ use_pair y to))
       (positions_of q k.uses) (positions_apart q 0 k.uses) (all_of k.uses))
       moved sorted (keys_rise (package_in k q).uses)
       (λ n. any_mapped n (λ x. name_at k.packages (pair_at k.uses x).1) (positions_of q k.uses) ∙ same_truth _ _ (used_from n) (used_to n) ∙ sym (keys_among (package_in k q).uses n))

@@ -54,4 +54,3 @@ take_seam (x ∷ xs) ys = ap (λ ls. x ∷ ls) (take_seam xs ys)
 pub get_seam : {A : Type 0} (xs : List A) (y : A) (ys : List A) → slice_get (xs ++ y ∷ ys) (length xs) ≡ Some y
 get_seam [] y ys = refl
 get_seam (x ∷ xs) y ys = get_seam xs y ys
-

@@ -80,12 +80,7 @@ fn reaches(sets: &PackageSets, owner: u32, home: &[u8], name: u32, holder: u32) 
 
 /// Whether a package that uses `owner` finds another symbol than that of this home by its name. The look-up of the name
 /// goes once over the packages, and on only from those that have another symbol there.
-pub(crate) fn user_finds_other(
-    sets: &PackageSets,
-    owner: &[u8],
-    home: &[u8],
-    name: &[u8],
-) -> bool
+pub(crate) fn user_finds_other(sets: &PackageSets, owner: &[u8], home: &[u8], name: &[u8]) -> bool
     requires { IsSound (numbered_of sets.now).0 }
     ensures { result ≡ user_finds_other (numbered_of sets.now).0 owner.now home.now name.now }
 {

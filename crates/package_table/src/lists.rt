@@ -42,11 +42,7 @@ fn names_in<'a>(
 }
 
 // The names of the external symbols of a package.
-fn shown_names(
-    sets: &PackageSets,
-    alloc: Global,
-    owner: u32,
-) -> Result<Vec<&[u8]>, AllocError>
+fn shown_names(sets: &PackageSets, alloc: Global, owner: u32) -> Result<Vec<&[u8]>, AllocError>
     ensures { let k = sets.now in IfOk result
         (λ names. names_of names.items ≡ map (λ x. symbol_name k (shown_symbol k owner x)) (shown_positions k owner)) }
 {
@@ -60,11 +56,7 @@ fn shown_names(
 }
 
 // The names of what a package imports.
-fn imported_names(
-    sets: &PackageSets,
-    alloc: Global,
-    owner: u32,
-) -> Result<Vec<&[u8]>, AllocError>
+fn imported_names(sets: &PackageSets, alloc: Global, owner: u32) -> Result<Vec<&[u8]>, AllocError>
     ensures { let k = sets.now in IfOk result
         (λ names. names_of names.items ≡ map (λ x. symbol_name k (get_or k.imported x 0)) (positions_of owner k.imports)) }
 {
@@ -78,11 +70,7 @@ fn imported_names(
 }
 
 // The names of what a package uses.
-fn used_packages(
-    sets: &PackageSets,
-    alloc: Global,
-    owner: u32,
-) -> Result<Vec<&[u8]>, AllocError>
+fn used_packages(sets: &PackageSets, alloc: Global, owner: u32) -> Result<Vec<&[u8]>, AllocError>
     ensures { let k = sets.now in IfOk result
         (λ names. names_of names.items ≡ map (λ x. name_at k.packages (pair_at k.uses x).1) (positions_of owner k.uses)) }
 {

@@ -8,9 +8,8 @@ ghost use Rattle.package_table.specs.Readers.{names_of, package_names, used_name
 
 use crate::find::{is_locked, package_name};
 use crate::initial::first_packages;
-use crate::lists;
 use crate::resolve::{resolve_external, resolve_in, resolve_internal};
-use crate::{PackageError, Resolved};
+use crate::{PackageError, Resolved, lists};
 use lisp_object::{Bytes, Items};
 use package_sets::{PackageSets, Seed, Sizes};
 use std::alloc::{AllocError, Global};

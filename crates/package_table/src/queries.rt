@@ -8,7 +8,9 @@ ghost use Rattle.package_table.specs.Lookup.{is_external, is_present, is_symbol,
 
 use crate::Packages;
 use crate::limits::MAX_SYMBOLS;
-use crate::look_ups::{external_home, has_package, is_full_of_packages, is_present, is_symbol, is_used, number_of};
+use crate::look_ups::{
+    external_home, has_package, is_full_of_packages, is_present, is_symbol, is_used, number_of,
+};
 
 impl Packages {
     /// Whether a package has the name `owner`.

@@ -40,11 +40,7 @@ fn use_refusal(sets: &PackageSets, owner: &[u8], used: &[u8]) -> Result<bool, Pa
     Ok(true)
 }
 
-fn use_other(
-    sets: &mut PackageSets,
-    owner: &[u8],
-    used: &[u8],
-) -> Result<bool, PackageError>
+fn use_other(sets: &mut PackageSets, owner: &[u8], used: &[u8]) -> Result<bool, PackageError>
     requires sound { IsSound (numbered_of sets.old).0 }
     requires placed { IsPlaced sets.old }
     ensures gives { Gives (λ _. (numbered_of sets.new).0) result
