@@ -20,7 +20,7 @@ class File:
 
     def cut(self, length):
         self.pending.append((length, length, True))
-        self.now = self.now[:length] + bytes(length - len(self.now))
+        self.now = self.now[:length].ljust(length, b"\0")
 
     def sync(self):
         self.synced, self.pending = self.now, []
