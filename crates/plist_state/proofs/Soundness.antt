@@ -11,7 +11,7 @@ use Rattle.std.specs.Option.{option_map, option_map_or}
 use Rattle.package_table.proofs.Frames.{equal_names, equal_itself}
 use Rattle.std.specs.Ordering.{eq_by_cmp}
 use Rattle.std.proofs.lemmas.Bool.{false≢true, and_parts, and_from}
-use Rattle.std.proofs.lemmas.List.Elements.{All-weaker, All-cons, All-nil, All-head, All-tail}
+use Rattle.std.proofs.lemmas.List.Elements.{All-weaker, All-nil}
 use Rattle.std.specs.FinMap as finite
 use Rattle.std.specs.FinMap.{get-insert}
 use Rattle.std.specs.Cmp.{eq_by_cmp_equiv}

@@ -15,7 +15,7 @@ use Rattle.package_table.specs.Numbers.{Numbered, numbered}
 use Rattle.plist_state.specs.declared.property.NumberedProperty.{NumberedProperty}
 use Rattle.plist_state.specs.declared.property_list.PropertyList.TheInside.{Inside}
 use Rattle.plist_state.specs.Properties.{Symbol, Plist}
-use Rattle.plist_state.specs.Lists.{NumberedPlist, symbol_at, IsNumber, named}
+use Rattle.plist_state.specs.Lists.{symbol_at, IsNumber}
 use Rattle.plist_state.specs.Shown.{numbered_property}
 use Rattle.plist_state.specs.Viewed.{plist_in, IsPropertyList}
 
