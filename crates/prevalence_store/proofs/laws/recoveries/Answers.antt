@@ -25,7 +25,7 @@ returns-clause-opened g c = λ functions start opened world now forms least hone
         after_those = first.after_those ∙ ap (λ v. Some v) (again.only first.left first.meant);
       },
       weaker (state start) (state opened) (MeansAsBefore functions (state start)) (MeansSome functions world forms least)
-      again.any_moment (some_as_before functions (state start) world forms least some),
+          again.any_moment (some_as_before functions (state start) world forms least some),
     )
 
 pub returns-clause-refused : goal.returns-clause-refused
@@ -35,7 +35,7 @@ returns-clause-refused g c = λ functions start back whole world forms least lim
     let sound = g.met.D.Disk.sound back still in
     let first = some (state start).reads (g.met.D.Disk.sound start honest).reads_stay in
     let run = weaker (state start) (state back) (MeansAsBefore functions (state start)) (MeansSome functions world forms least)
-        (refused.any_moment honest) (some_as_before functions (state start) world forms least some) in (
+    (refused.any_moment honest) (some_as_before functions (state start) world forms least some) in (
       still,
       (λ image may. run.each image (sound.counts_now _ image run.later may)),
       run,
