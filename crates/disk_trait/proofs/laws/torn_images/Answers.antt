@@ -1,4 +1,4 @@
-use Rattle.std.proofs.Common.{◌≡◌, ◌++◌, ◌+◌, ◌∙◌, [], append-nil, ap, arith, drop, length, length-append, length-take, refl, sym, take}
+use Rattle.std.proofs.Common.{◌≡◌, List, ℕ, ◌++◌, ◌+◌, ◌∙◌, [], append-nil, ap, arith, drop, length, length-append, length-take, refl, sym, take}
 use Rattle.std.proofs.lemmas.List.{drop_all}
 use Rattle.disk_trait.proofs.Left.{whole_write}
 use Rattle.disk_trait.proofs.laws.torn_images.Goals as goal
@@ -13,7 +13,7 @@ returns-clause-past_the_end c = λ at n old any are within past few.
     record {
       middle = any;
       bytes = are;
-      parts = ap (λ bytes. take at old ++ bytes) (sym (append-nil any) ∙ ap (λ bytes. any ++ bytes) (sym rest));
+      parts = sym (append-nil (take at old ++ any)) ∙ ap (λ (bytes : List ℕ). take at old ++ any ++ bytes) (sym rest);
       no_shorter = omega (arith, long, within, past, length-take at old);
       no_longer = omega (arith, long, within, few, length-take at old);
     }
