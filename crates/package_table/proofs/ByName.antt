@@ -2,24 +2,27 @@
 --     package_some, package_absent      whether there is a package
 --     present_number      what is present has a number
 --     external_no_package, external_no_name, entry_some, symbol_by, number_by_symbol, used_is      look-ups
+--     number_by_position, symbol_given, symbol_missing      the symbol of a number
 --     numbers_always, keeps_of      each symbol has one number, which it keeps
-use Rattle.std.proofs.Common.{◌≡◌, ◌≢◌, ◌<◌, ℕ, Bool, true, false, cond, nat_eq, is_some, List, [], length, position, Option, None, Some, option_map, option_and_then, bytes_eq, refl, sym, ap, subst, ◌∙◌}
+use Rattle.std.proofs.Common.{◌≡◌, ◌<◌, ◌≤◌, ◌↔◌, ℕ, true, false, cond, is_some, length, position, Option, None, Some, option_map, option_and_then, bytes_eq, refl, sym, ap, subst, ◌∙◌, arith}
 use Rattle.std.proofs.lemmas.Bool.{false≢true}
 use Rattle.std.specs.Option.{option_or, option_map_or}
 use Rattle.std.specs.FinMap as finite
 use Rattle.package_sets.specs.Kept.{Kept, import_of, name_at, pair_at, pair_eq}
 use Rattle.package_sets.specs.Good.{IsGood}
 use Rattle.package_table.specs.Table.{Name, Present, Package, entry_at, IsPackage, IsPresent}
-use Rattle.package_table.specs.Lookup.{external_home, is_external, is_present, is_symbol, is_used}
-use Rattle.package_table.specs.Numbers.{Numbered, number_at, number_of}
+use Rattle.package_table.specs.Lookup.{external_home, is_present, is_symbol, is_used}
+use Rattle.package_table.specs.Numbers.{number_at, number_of}
 use Rattle.package_table.specs.Numbering.{IsNumbered, Keeps}
-use Rattle.package_table.specs.Meaning.{number_in, is_shown_in, present_in, package_in, home_in, numbered_of}
+use Rattle.package_table.specs.Meaning.{number_in, present_in, package_in, home_in, symbol_name, numbered_of}
 use Rattle.package_table.specs.Adds.{Adds}
 use Rattle.package_table.proofs.Names.{same_some, none_some}
+use Rattle.package_sets.proofs.Growing.{pair_equiv}
 use Rattle.package_table.proofs.Frames.{equal_names, equal_itself}
+use Rattle.package_table.proofs.Numbered.{number_some, number_there as number_is_there, number_apart}
 use Rattle.package_table.proofs.Mapped.{named, count_by}
-use Rattle.package_table.proofs.Meant.{known, unknown, same_pair, pair_there, all_at, package_at, package_none, entry_there, number_there, uses_there, uses_none}
-use Rattle.package_table.proofs.FoundBy.{nothing_by, position_of, position_some}
+use Rattle.package_table.proofs.Meant.{known, same_pair, pair_there, all_at, package_at, package_none, entry_there, number_there, uses_there, uses_none}
+use Rattle.package_table.proofs.FoundBy.{nothing_by, position_in, position_of, position_some}
 
 module _ (k : Kept) (good : IsGood k) where
   pub package_some : (P : Name) → is_some (position (bytes_eq P) k.packages) ≡ finite.contains_key (numbered_of k).0 P
@@ -158,6 +161,13 @@ module _ (k : Kept) (good : IsGood k) where
   pub number_no_name : (P N : Name) → position (bytes_eq N) k.names ≡ None → number_of (numbered_of k) P N ≡ None
   number_no_name P N none = ap (λ b. cond b (number_at (numbered_of k).1 P N) None) (symbol_no_name P N none)
 
+  -- ---- the symbol of a number
+  pub number_by_position : (i : ℕ) → i < length k.symbols → number_of (numbered_of k) (home_in k i) (symbol_name k i) ≡ Some i
+  number_by_position i less =
+      let s : ℕ × ℕ = pair_at k.symbols i in
+      sym (number_of_symbol (home_in k i) (symbol_name k i) s.0 s.1 (home_position i less) (position_of k.names good.distinct.names s.1 (name_fits i less)))
+      ∙ position_in pair_equiv k.symbols (0, 0) good.distinct.symbols i less
+
   -- ---- uses
   pub used_no_package : (P Q : Name) → position (bytes_eq P) k.packages ≡ None → is_used (numbered_of k).0 P Q ≡ false
   used_no_package P Q none = ap (λ o. option_map_or (λ (h : Package). finite.contains_key h.uses Q) o false) (package_none k good P none)
@@ -189,6 +199,30 @@ module _ (k : Kept) (good : IsGood k) where
         let name : one.j ≡ two.j = sym (known k good one.p one.j one.i one.number).named_so ∙ ap (λ i. (pair_at k.symbols i).1) same ∙ (known k good two.p two.j two.i two.number).named_so in
         (sym one.home ∙ ap (home_in k) same ∙ two.home, (named n k.names one.j one.name).1 ∙ ap (name_at k.names) name ∙ sym (named m k.names two.j two.name).1);
   }
+
+-- what the symbol of a number is, and that there is none
+module _ (k : Kept) (good : IsGood k) where
+  number_fits : (h n : Name) (i : ℕ) → number_of (numbered_of k) h n ≡ Some i → i < length k.symbols
+  number_fits h n i is =
+      let some = number_some (numbered_of k) (length k.symbols) (numbers_always k good) h n (number_is_there (numbered_of k) h n i is) in
+      subst (λ (j : ℕ). j < length k.symbols) (same_some some.0 i (sym some.1 ∙ is)) some.2
+
+  only_symbol : (h n : Name) (i : ℕ) → number_of (numbered_of k) h n ≡ Some i → (home_in k i ≡ h) × (symbol_name k i ≡ n)
+  only_symbol h n i is =
+      number_apart (numbered_of k) (length k.symbols) (numbers_always k good) (home_in k i) (symbol_name k i) h n i
+      (number_by_position k good i (number_fits h n i is)) is
+
+  pub symbol_given : (i : ℕ) → i < length k.symbols → (home name : Name) → home ≡ home_in k i → name ≡ symbol_name k i → (h n : Name)
+      → (◌≡◌ {A = Option (Name × Name)} (Some (home, name)) (Some (h, n))) ↔ (number_of (numbered_of k) h n ≡ Some i)
+  symbol_given i less home name first second h n =
+      let both : ◌≡◌ {A = Name × Name} (home, name) (home_in k i, symbol_name k i) = λ t. (first t, second t) in (
+        λ e. ap (λ (s : Name × Name). number_of (numbered_of k) s.0 s.1) (sym (same_some (home, name) (h, n) e) ∙ both) ∙ number_by_position k good i less,
+        λ is. let only = only_symbol h n i is in (λ t. Some ((first ∙ only.0) t, (second ∙ only.1) t)),
+      )
+
+  pub symbol_missing : (i : ℕ) → length k.symbols ≤ i → (h n : Name)
+      → (◌≡◌ {A = Option (Name × Name)} None (Some (h, n))) ↔ (number_of (numbered_of k) h n ≡ Some i)
+  symbol_missing i past h n = (λ none. absurd (none_some (h, n) none), λ is. absurd (let less = number_fits h n i is in omega (arith, less, past)))
 
 pub keeps_of : (k u : Kept) → IsGood k → IsGood u → Adds k u → Keeps (numbered_of k) (numbered_of u)
 keeps_of k u good good_then adds h n present =

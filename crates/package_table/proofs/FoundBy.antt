@@ -1,24 +1,25 @@
 -- What a package finds by a name, by numbers.
---     position_of, position_some      the position of a name that is kept, and that there is one
+--     position_in, position_of, position_some      the position of a thing or a name that is kept, and that there is one
 --     external_by, found_by, found_no_package, found_no_name      the look-ups by names
-use Rattle.std.proofs.Common.{◌≡◌, ◌≢◌, ◌⊎◌, ◌+◌, ◌<◌, ◌≤◌, ℕ, zero, suc, Bool, true, false, cond, ◌&&◌, ◌||◌, nat_eq, is_some, List, [], ◌∷◌, ◌++◌, length, get_or, drop, position, Option, None, Some, option_map, option_and_then, bytes_eq, refl, sym, ap, subst, ◌∙◌, inl, inr, append_assoc, arith}
+use Rattle.std.proofs.Common.{◌≡◌, ◌+◌, ◌<◌, ◌≤◌, ℕ, zero, suc, Bool, true, false, cond, ◌||◌, nat_eq, is_some, List, [], ◌∷◌, ◌++◌, length, get_or, drop, position, Option, None, Some, option_map, option_and_then, bytes_eq, refl, sym, ap, subst, ◌∙◌, inl, inr, append_assoc, arith}
 use Rattle.std.proofs.lemmas.Bool.{false≢true, or_right}
 use Rattle.std.proofs.lemmas.Bool.Decides.{Decides-eqb}
 use Rattle.std.proofs.lemmas.List.{get_or_at, length_push, length-append, drop_more, drop_all}
 use Rattle.std.proofs.lemmas.List.Quantifiers.{position-Some}
 use Rattle.std.specs.Option.{option_or, option_map_or}
 use Rattle.std.specs.List.{IsDistinct, AllByRecursion, list_any}
+use Rattle.std.specs.Cmp.{IsEquivalence}
+use Rattle.std.specs.Cmp.Lexicographic.{nat_list_eq_equiv}
 use Rattle.std.specs.FinMap as finite
 use Rattle.package_sets.specs.Kept.{Kept, name_at, pair_at, pair_eq, positions_from, positions_of}
 use Rattle.package_sets.specs.Good.{IsGood}
-use Rattle.package_table.specs.Table.{Name, name_cmp, Present, Package, Table, entry_at, IsPackage, IsPresent, IsExternal, Uses, Finds, FindsNone, IsJoined}
+use Rattle.package_table.specs.Table.{Name, Present, Package, Table, entry_at, IsPresent, IsExternal, Uses, Finds, FindsNone, IsJoined}
 use Rattle.package_table.specs.Lookup.{found, external_home}
 use Rattle.package_table.specs.Meaning.{number_in, is_shown_in, present_in, package_in, home_in, shown_number, first_shown, found_number, numbered_of}
 use Rattle.package_table.proofs.Names.{same_some, none_some}
-use Rattle.package_table.proofs.Frames.{equal_names, equal_itself}
 use Rattle.package_table.proofs.Found.{found_is, finds_none}
-use Rattle.package_table.proofs.Mapped.{position_cons, named, none_any}
-use Rattle.package_table.proofs.Meant.{one_pair, same_pair, all_at, package_at, package_none, entry_there, entry_none, uses_there, uses_none, known}
+use Rattle.package_table.proofs.Mapped.{position_cons, none_any}
+use Rattle.package_table.proofs.Meant.{one_pair, same_pair, all_at, package_at, package_none, entry_there, entry_none, uses_there, uses_none}
 
 -- ---- positions
 pub any_at : {X : Type 0} (test : X → Bool) (xs : List X) (i : ℕ) (d : X) → i < length xs → test (get_or xs i d) ≡ true → list_any test xs ≡ true
@@ -33,23 +34,20 @@ position_some test xs i d less passes =
       | None ↦ λ none. absurd (false≢true (sym (none_any test xs none) ∙ any_at test xs i d less passes))
     ] refl
 
-pub position_of : (ns : List Name) → IsDistinct bytes_eq ns → (i : ℕ) → i < length ns → position (bytes_eq (name_at ns i)) ns ≡ Some i
+-- the place of a thing of a list in which all are distinct
+pub position_in : {X : Type 0} {E : X → X → Bool} → IsEquivalence E → (xs : List X) (d : X) → IsDistinct E xs → (i : ℕ) → i < length xs → position (E (get_or xs i d)) xs ≡ Some i
 unfolding IsDistinct
-position_of [] distinct i less = absurd (omega (arith, less))
-position_of (n ∷ ns) distinct zero less = position_cons (bytes_eq n) n ns ∙ ap (λ b. cond b (Some 0) (option_map (λ i. 1 + i) (position (bytes_eq n) ns))) (equal_itself n)
-position_of (n ∷ ns) distinct (suc i) less =
-    let rest = position_of ns distinct.1 i (omega (arith, less)) in
-    let differs : bytes_eq (name_at ns i) n ≡ false = turned (name_at ns i) n (all_at (λ y. bytes_eq n y ≡ false) ns distinct.0 i [] (omega (arith, less))) in
-    position_cons (bytes_eq (name_at ns i)) n ns
-    ∙ ap (λ b. cond b (Some 0) (option_map (λ i. 1 + i) (position (bytes_eq (name_at ns i)) ns))) differs
+position_in laws [] d distinct i less = absurd (omega (arith, less))
+position_in {E = E} laws (x ∷ xs) d distinct zero less = position_cons (E x) x xs ∙ ap (λ b. cond b (Some 0) (option_map (λ i. 1 + i) (position (E x) xs))) (laws.refl x)
+position_in {E = E} laws (x ∷ xs) d distinct (suc i) less =
+    let rest = position_in laws xs d distinct.1 i (omega (arith, less)) in
+    let differs : E (get_or xs i d) x ≡ false = laws.symm (get_or xs i d) x ∙ all_at (λ y. E x y ≡ false) xs distinct.0 i d (omega (arith, less)) in
+    position_cons (E (get_or xs i d)) x xs
+    ∙ ap (λ b. cond b (Some 0) (option_map (λ i. 1 + i) (position (E (get_or xs i d)) xs))) differs
     ∙ ap (option_map (λ i. 1 + i)) rest ∙ ap Some (omega arith)
-  where
-    turned : (a b : Name) → bytes_eq b a ≡ false → bytes_eq a b ≡ false
-    turned a b differs =
-        elim (bytes_eq a b) as (λ c. bytes_eq a b ≡ c → c ≡ false) [
-          | true ↦ λ same. absurd (false≢true (sym differs ∙ ap (λ x. bytes_eq x a) (sym (equal_names a b same)) ∙ equal_itself a))
-          | false ↦ λ _. refl
-        ] refl
+
+pub position_of : (ns : List Name) → IsDistinct bytes_eq ns → (i : ℕ) → i < length ns → position (bytes_eq (name_at ns i)) ns ≡ Some i
+position_of ns distinct i less = position_in nat_list_eq_equiv ns [] distinct i less
 
 -- the positions of the pairs that begin with f
 pub positions_read : (f : ℕ) (all done ps : List (ℕ × ℕ)) (i : ℕ) → all ≡ done ++ ps → length done ≡ i → AllByRecursion (λ x. (x < length all) × ((pair_at all x).0 ≡ f)) (positions_from f i ps)

@@ -1,11 +1,11 @@
 //! Look-ups, by numbers and by names. They take no memory.
-ghost use Rattle.std.specs.Prelude.{◌≡◌, ◌<◌, length, if◌then◌else◌, option_map, Some, None};
+ghost use Rattle.std.specs.Prelude.{◌≡◌, ◌<◌, ◌↔◌, nat_lt, length, if◌then◌else◌, is_some, option_map, Some, None};
 ghost use Rattle.std.specs.FinMap as finite;
 ghost use Rattle.package_sets.specs.Kept.{pair_at, positions_of};
-ghost use Rattle.package_table.specs.Table.{IsJoined};
+ghost use Rattle.package_table.specs.Table.{IsJoined, Name};
 ghost use Rattle.package_table.specs.Lookup.{external_home, found, is_present, is_symbol, is_used};
 ghost use Rattle.package_table.specs.Changes.{is_full_of_packages};
-ghost use Rattle.package_table.specs.Numbers.{number_of};
+ghost use Rattle.package_table.specs.Numbers.{names_of_symbol, number_of};
 ghost use Rattle.package_table.specs.Meaning.{first_shown, found_number, home_in, is_shown_in, number_in, numbered_of, shown_number, symbol_name};
 
 use crate::limits::{LOCKED_PACKAGES, MAX_PACKAGES};
@@ -136,6 +136,19 @@ pub(crate) fn number_of(sets: &PackageSets, home: &[u8], name: &[u8]) -> Option<
         return None;
     };
     sets.find_symbol(home, name)
+}
+
+/// The home and the name of the symbol of this number.
+pub(crate) fn symbol_of(sets: &PackageSets, number: u32) -> Option<(&[u8], &[u8])>
+    ensures symbol { (h n : Name) → (option_map names_of_symbol result ≡ Some (h, n))
+        ↔ (number_of (numbered_of sets.now) h n ≡ Some number) }
+    ensures there { is_some result ≡ nat_lt number (length sets.now.symbols) }
+{
+    sets.goodness();
+    if number >= sets.symbol_count() {
+        return None;
+    }
+    Some((home_name(sets, number), symbol_name(sets, number)))
 }
 
 /// Whether there is a symbol of this home and name.

@@ -1,8 +1,8 @@
 //! What callers ask of the packages. Package names are full here: a nickname names none. No question takes memory.
-ghost use Rattle.std.specs.Prelude.{◌≡◌, ◌↔◌, IsTrue};
+ghost use Rattle.std.specs.Prelude.{◌≡◌, ◌↔◌, IsTrue, Some, is_some, nat_lt, option_map};
 ghost use Rattle.std.specs.FinMap as finite;
-ghost use Rattle.package_table.specs.Table.{IsExternal, IsPresent, Uses};
-ghost use Rattle.package_table.specs.Numbers.{number_of, numbered};
+ghost use Rattle.package_table.specs.Table.{Name, IsExternal, IsPresent, Uses, symbol_count};
+ghost use Rattle.package_table.specs.Numbers.{names_of_symbol, number_of, numbered};
 ghost use Rattle.package_table.specs.Changes.{is_full_of_packages, is_full_of_symbols};
 ghost use Rattle.package_table.specs.Lookup.{is_external, is_present, is_symbol, is_used};
 
@@ -10,6 +10,7 @@ use crate::Packages;
 use crate::limits::MAX_SYMBOLS;
 use crate::look_ups::{
     external_home, has_package, is_full_of_packages, is_present, is_symbol, is_used, number_of,
+    symbol_of,
 };
 
 impl Packages {
@@ -34,6 +35,16 @@ impl Packages {
         ensures { result ≡ number_of (numbered self.now) home.now name.now }
     {
         number_of(&self.sets, home, name)
+    }
+
+    /// The home and the name of the symbol of this number, as the packages have them: `number_of` turned round. There is one
+    /// for each number below how many symbols there are.
+    pub fn symbol_of(&self, number: u32) -> Option<(&[u8], &[u8])>
+        ensures symbol { (h n : Name) → (option_map names_of_symbol result ≡ Some (h, n))
+            ↔ (number_of (numbered self.now) h n ≡ Some number) }
+        ensures there { is_some result ≡ nat_lt number (symbol_count self.now.0) }
+    {
+        symbol_of(&self.sets, number)
     }
 
     /// Whether there are 1,000 packages, so that `make` refuses one more.
