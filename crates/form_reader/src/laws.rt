@@ -1,5 +1,6 @@
 //! Laws of readers, as contracts of functions that do nothing.
 ghost use Rattle.std.specs.Prelude.{◌≡◌, ◌≤◌, ◌<◌, ◌∷◌, ◌++◌, ◌-◌, ℕ, List, length};
+ghost use Rattle.lisp_object.specs.Object.{Object};
 ghost use Rattle.form_reader.specs.declared.reader.FormReader.{FormReader};
 ghost use Rattle.form_reader.specs.declared.reader.Advance.TheVariants.{More};
 ghost use Rattle.form_reader.specs.Reader.{IsAfter, IsBetween, Steps};
@@ -21,4 +22,14 @@ pub fn texts_begin_between_forms()
     ensures begins { (setting : Setting) (reader : FormReader) (bytes more : List ℕ)
         → IsAfter setting reader bytes → IsBetween reader
         → reads setting (bytes ++ more) ≡ reads_at setting (length bytes) more }
+{}
+
+/// A form that is read under a limit of the text is read under each larger one, as the same object at the same offsets,
+/// whatever was discarded before it. So what was accepted stays accepted where the limit grows.
+pub fn wider_limits()
+    ensures { (setting : Setting) (text : List ℕ) (most : ℕ) (x : Object) (start end next : ℕ)
+        → setting.limits.text ≤ most
+        → reads setting text ≡ form x start end next
+        → reads (record setting { limits = record setting.limits { text = most } }) text
+        ≡ form x start end next }
 {}

@@ -20,7 +20,8 @@
 //! - `objects`: a byte where an object may begin, after a token there, and in a token; what a token comes to
 //! - `attempt`, `macros`, `opening`: an attempt from its first byte on, and how a call begins
 //! - `deliver`, `close`: what open calls make of what is found, and how they end
-//! - `laws`: `texts_begin_between_forms`, `what_is_decided_is_answered`; those of reading are of `lisp_reading`
+//! - `laws`: `texts_begin_between_forms`, `what_is_decided_is_answered`, `wider_limits`; the other laws of reading are of
+//!   `lisp_reading`
 #![tactic(auto)]
 
 mod advance;
@@ -46,7 +47,7 @@ mod tokens;
 mod whole;
 
 pub use ending::ReadOutcome;
-pub use laws::{texts_begin_between_forms, what_is_decided_is_answered};
+pub use laws::{texts_begin_between_forms, what_is_decided_is_answered, wider_limits};
 pub use lisp_reading::{
     Limits, empty_texts_are_discarded, forms_are_decided, forms_are_framed,
     forms_are_within_the_limit, forms_fit, only_registered_names_matter,

@@ -25,3 +25,4 @@ pub mod Registered
 pub mod Dependings
 pub mod Refusals
 pub mod Discardings
+pub mod Widening

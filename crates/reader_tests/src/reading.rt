@@ -10,7 +10,7 @@ use form_reader::{
     forms_are_framed, forms_are_within_the_limit, forms_fit, only_registered_names_matter,
     only_what_is_found_matters, read_one, reading_goes_on, refusals_are_decided,
     refusals_are_of_reading, spaced_forms_are_framed, texts_begin_between_forms,
-    what_is_decided_is_answered,
+    what_is_decided_is_answered, wider_limits,
 };
 use package_table::Packages;
 use readtable_core::Readtable;
@@ -39,6 +39,7 @@ fn limits_and_laws(rt: HostRuntime) {
     empty_texts_are_discarded();
     texts_begin_between_forms();
     what_is_decided_is_answered();
+    wider_limits();
     forms_fit();
     only_what_is_found_matters();
     only_registered_names_matter();

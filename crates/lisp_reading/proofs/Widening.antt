@@ -1,0 +1,375 @@
+-- A form that is read under a limit of the text is read under a larger one too. Under the larger one a plan has more turns and
+-- more room. So it gives what the plan under the smaller one gives, and may go on where that one is refused.
+use Rattle.std.proofs.Common.{◌≡◌, ℕ, zero, suc, ◌+◌, ◌-◌, ◌≤◌, Bool, true, false, List, [], ◌∷◌, ◌++◌, length, Option, Some, None, Result, Ok, Err, refl, sym, ap, subst, ◌∙◌, arith}
+use Rattle.std.specs.Prelude.{nat_le, nat_lt, ◌==◌}
+use Rattle.std.proofs.lemmas.Bool.{le-leb, lt-leb, leb-true, leb-false}
+use Rattle.lisp_object.specs.Object.{Object}
+use Rattle.lisp_object.specs.declared.refusal.TheConstants.{END_OF_FILE, INVALID_CHARACTER, DOT_CONTEXT, NO_DISPATCH, NUMERIC_ARGUMENT, TOO_DEEP, FORM_TOO_LONG, OUT_OF_PROFILE}
+use Rattle.readtable_core.specs.Characters.{is_digit, upper_case}
+use Rattle.readtable_core.specs.Names.{is_dispatch_name}
+use Rattle.readtable_core.specs.Tables.{Table, entry_at, dispatch_at}
+use Rattle.readtable_core.specs.declared.characters.Syntax.{Syntax}
+use Rattle.readtable_core.specs.declared.characters.Syntax.TheVariants.{Whitespace, Constituent, TerminatingMacro, NonTerminatingMacro, SingleEscape, MultipleEscape, Invalid}
+use Rattle.token_scan.specs.declared.mark.Mark.{Mark}
+use Rattle.token_scan.specs.Tokens.{ScannedBytes}
+use Rattle.token_meaning.specs.Results.{scan_refusal_number}
+use Rattle.std_macros.specs.Values.{Material, nothing as no_material, one as one_object, many, letters, marked}
+use Rattle.lisp_reading.specs.declared.found.Found.{Found}
+use Rattle.lisp_reading.specs.declared.found.Found.TheVariants.{Nothing as nothing, One as one, LoneDot as lone_dot, TheEnd as the_end}
+use Rattle.lisp_reading.specs.declared.way.Keep.{Keep}
+use Rattle.lisp_reading.specs.declared.way.Way.{Way}
+use Rattle.lisp_reading.specs.declared.way.Way.TheVariants.{Nothing, Next, List as AList, Until, Text, Line, Block, Token, EscapedToken}
+use Rattle.lisp_reading.specs.Calls.{InvokedCall}
+use Rattle.lisp_reading.specs.Gathering.{text_turn, is_escape, kept, line_turn, block_next, block_goes, block_turn, number_turn, next_digit}
+use Rattle.lisp_reading.specs.Plans.{Plan, gives, refuses, takes, scans, then_plan, character, next_byte, loop_in, loop, Fault, Read, within, stands_below, limited, scanned, run}
+use Rattle.lisp_reading.specs.Setting.{Setting, way_in, function_of}
+use Rattle.lisp_reading.specs.Reading.{text_to, line_after, block_after, number_after, Piece, item, dot, closed, is_whitespace, without_space, piece_of, or_closed, next_item_turn, next_item, Items, items_step, items_turn, items_after, undotted, after_tail, after_dot, list_end, one_piece, completed, opened, gathered, gathered_by, called, sub_called, sub_there, dispatched, macro_called, stands_alone, alone, token_found, attempt_by, inner, attempt, Outcome, form, outcome, reads_in, reads}
+use Rattle.lisp_reading.proofs.Steps.{and_then, run_then}
+
+-- ---- results
+
+-- what the first gives the second gives too; where the first is a fault, nothing is said
+abbrev GivesToo : {B : Type 0} → Result B Fault → Result B Fault → Type 0
+GivesToo (Ok v) r = r ≡ Ok v
+GivesToo (Err e) r = Unit {0}
+
+gives_along : {B : Type 0} (r s r2 s2 : Result B Fault) → r ≡ s → r2 ≡ s2 → GivesToo s s2 → GivesToo r r2
+gives_along {B = B} r s r2 s2 e e2 h =
+    subst (λ (q : Result B Fault). GivesToo q r2) (sym e) (subst (λ (q : Result B Fault). GivesToo s q) (sym e2) h)
+
+byte_too : {A : Type 0} (b full full2 : Bool) (at : ℕ) (r s r2 s2 : Read A) → (full ≡ false → full2 ≡ false) → GivesToo r r2 → GivesToo s s2
+    → GivesToo {B = A × ℕ × List ℕ} (elim b [ true ↦ within full at r | false ↦ s ]) (elim b [ true ↦ within full2 at r2 | false ↦ s2 ])
+byte_too true true full2 at r s r2 s2 room h g = tt
+byte_too true false full2 at r s r2 s2 room h g =
+    gives_along r r (within full2 at r2) r2 refl (ap (λ (f : Bool). within f at r2) (room refl)) h
+byte_too false full full2 at r s r2 s2 room h g = g
+
+end_too : {B : Type 0} (b b2 : Bool) (x : B) (e e2 : Fault) → (b ≡ true → b2 ≡ true)
+    → GivesToo {B = B} (elim b [ true ↦ Ok x | false ↦ Err e ]) (elim b2 [ true ↦ Ok x | false ↦ Err e2 ])
+end_too true b2 x e e2 room = ap (λ (c : Bool). elim c [ true ↦ Ok x | false ↦ Err e2 ]) (room refl)
+end_too false b2 x e e2 room = tt
+
+fault_too : {B : Type 0} (b : Bool) (e e2 : Fault) (r : Result B Fault) → GivesToo {B = B} (elim b [ true ↦ Err e | false ↦ Err e2 ]) r
+fault_too true e e2 r = tt
+fault_too false e e2 r = tt
+
+outcome_too : (table : Table) (x : Object) (from «end» next : ℕ) (again again2 : ℕ → List ℕ → Outcome) (start : ℕ) (r r2 : Read Found)
+    → ((at : ℕ) (cs : List ℕ) → again at cs ≡ form x from «end» next → again2 at cs ≡ form x from «end» next) → GivesToo r r2
+    → outcome table start again r ≡ form x from «end» next → outcome table start again2 r2 ≡ form x from «end» next
+outcome_too table x from «end» next again again2 start (Ok (nothing token, at, cs)) r2 all h e = ap (outcome table start again2) h ∙ all (start + at) cs e
+outcome_too table x from «end» next again again2 start (Ok (one token y, at, cs)) r2 all h e = ap (outcome table start again2) h ∙ e
+outcome_too table x from «end» next again again2 start (Ok (lone_dot, at, cs)) r2 all h e = cc
+outcome_too table x from «end» next again again2 start (Ok (the_end, at, cs)) r2 all h e = cc
+outcome_too table x from «end» next again again2 start (Err f) r2 all h e = cc
+
+module _ (setting : Setting) (most : ℕ) where
+  -- the setting with the larger limit
+  abbrev wide : Setting
+  wide = record setting { limits = record setting.limits { text = most } }
+
+  -- under the larger limit the second plan gives what the first one gives under the limit
+  abbrev Widens : {A : Type 0} → Plan A → Plan A → Type 0
+  Widens p q = (at : ℕ) (cs : List ℕ) → GivesToo (run setting.table setting.limits p at cs) (run setting.table wide.limits q at cs)
+
+  abbrev WidensTurn : {S A : Type 0} → ((S → Plan A) → S → Plan A) → ((S → Plan A) → S → Plan A) → Type 0
+  WidensTurn {S = S} {A = A} turn turn2 = (p q : S → Plan A) → ((s : S) → Widens (p s) (q s)) → (s : S) → Widens (turn p s) (turn2 q s)
+
+  -- of attempts one call deeper
+  abbrev WidensInner : Option (Plan Found) → Option (Plan Found) → Type 0
+  WidensInner None may = Unit {0}
+  WidensInner (Some p) None = ⊥
+  WidensInner (Some p) (Some q) = Widens p q
+
+  -- ---- parts of plans
+
+  gives_widens : {A : Type 0} (x : A) → Widens (gives x) (gives x)
+  unfolding run
+  gives_widens x at cs = refl
+
+  -- what is refused may go on in any way
+  refuses_widens : {A : Type 0} (number back : ℕ) (q : Plan A) → Widens (refuses number back) q
+  unfolding run
+  refuses_widens number back q at cs = tt
+
+  if_widens : {A : Type 0} (b : Bool) (p q p2 q2 : Plan A) → Widens p p2 → Widens q q2
+      → Widens (elim b [ true ↦ p | false ↦ q ]) (elim b [ true ↦ p2 | false ↦ q2 ])
+  if_widens true p q p2 q2 h g = h
+  if_widens false p q p2 q2 h g = g
+
+  and_then_too : {A B : Type 0} (next next2 : A → Plan B) (r r2 : Read A) → ((x : A) → Widens (next x) (next2 x)) → GivesToo r r2
+      → GivesToo (and_then setting.table setting.limits next r) (and_then setting.table wide.limits next2 r2)
+  and_then_too next next2 (Ok p) r2 all h =
+      let first = run setting.table setting.limits (next p.0) p.1 p.2 in
+      gives_along first first (and_then setting.table wide.limits next2 r2) (run setting.table wide.limits (next2 p.0) p.1 p.2)
+      refl (ap (and_then setting.table wide.limits next2) h) (all p.0 p.1 p.2)
+  and_then_too next next2 (Err e) r2 all h = tt
+
+  then_widens : {A B : Type 0} (p q : Plan A) (next next2 : A → Plan B) → Widens p q → ((x : A) → Widens (next x) (next2 x))
+      → Widens (then_plan p next) (then_plan q next2)
+  then_widens p q next next2 h all at cs =
+      let r = run setting.table setting.limits p at cs in
+      let r2 = run setting.table wide.limits q at cs in
+      gives_along (run setting.table setting.limits (then_plan p next) at cs) (and_then setting.table setting.limits next r)
+      (run setting.table wide.limits (then_plan q next2) at cs) (and_then setting.table wide.limits next2 r2)
+      (run_then setting.table setting.limits p next at cs) (run_then setting.table wide.limits q next2 at cs)
+      (and_then_too next next2 r r2 all (h at cs))
+
+  module _ (larger : setting.limits.text ≤ most) where
+    takes_widens : {A : Type 0} (p q : Plan A) (test : ℕ → Bool) (on on2 : ℕ → Plan A) → Widens p q → ((c : ℕ) → Widens (on c) (on2 c))
+        → Widens (takes p test on) (takes q test on2)
+    unfolding run
+    takes_widens p q test on on2 h all at [] = h at []
+    takes_widens p q test on on2 h all at (c ∷ cs) =
+        byte_too (test c) (nat_le setting.limits.text at) (nat_le most at) at
+        (run setting.table setting.limits (on c) (at + 1) cs) (run setting.table setting.limits p at (c ∷ cs))
+        (run setting.table wide.limits (on2 c) (at + 1) cs) (run setting.table wide.limits q at (c ∷ cs))
+        (λ e. lt-leb most at (omega (arith, larger, leb-false setting.limits.text at e))) (all c (at + 1) cs) (h at (c ∷ cs))
+
+    token_too : (r : ScannedBytes) → GivesToo (limited setting.limits.text r (λ p. p.1)) (limited most r (λ p. p.1))
+    token_too (Ok (marks, next, ds)) =
+        end_too {B = List Mark × ℕ × List ℕ} (nat_le next setting.limits.text) (nat_le next most) (marks, next, ds)
+        (record { number = FORM_TOO_LONG; at = setting.limits.text }) (record { number = FORM_TOO_LONG; at = most })
+        (λ e. le-leb next most (omega (arith, larger, leb-true next setting.limits.text e)))
+    token_too (Err e) =
+        fault_too (stands_below setting.limits.text e.refusal e.at) (record { number = scan_refusal_number e.refusal; at = e.at })
+        (record { number = FORM_TOO_LONG; at = setting.limits.text }) (limited {A = List Mark × ℕ × List ℕ} most (Err e) (λ p. p.1))
+
+    scans_widens : {A : Type 0} (escaped : Bool) (limit : ℕ) (on on2 : List Mark → Plan A) → ((marks : List Mark) → Widens (on marks) (on2 marks))
+        → Widens (scans escaped limit on) (scans escaped limit on2)
+    unfolding run
+    scans_widens escaped limit on on2 all at cs =
+        let r = scanned escaped setting.table limit at cs in
+        and_then_too on on2 (limited setting.limits.text r (λ p. p.1)) (limited most r (λ p. p.1)) all (token_too r)
+
+    -- a plan gives the same under the larger limit
+    same_widens : {A : Type 0} (plan : Plan A) → Widens plan plan
+    same_widens (gives x) = gives_widens x
+    same_widens (refuses number back) = refuses_widens number back (refuses number back)
+    same_widens (takes other test on) = takes_widens other other test on on (same_widens other) (λ c. same_widens (on c))
+    same_widens (scans escaped limit on) = scans_widens escaped limit on on (λ marks. same_widens (on marks))
+
+    character_widens : {A : Type 0} (on on2 : ℕ → Plan A) (c : ℕ) → Widens (on c) (on2 c) → Widens (character on c) (character on2 c)
+    character_widens on on2 c h =
+        if_widens (nat_lt c 128) (on c) (refuses INVALID_CHARACTER 1) (on2 c) (refuses INVALID_CHARACTER 1) h
+        (refuses_widens INVALID_CHARACTER 1 (refuses INVALID_CHARACTER 1))
+
+    next_byte_widens : {A : Type 0} (on on2 : ℕ → Plan A) → ((c : ℕ) → Widens (on c) (on2 c)) → Widens (next_byte on) (next_byte on2)
+    next_byte_widens on on2 all =
+        takes_widens (refuses END_OF_FILE 0) (refuses END_OF_FILE 0) (λ c. true) (λ c. character on c) (λ c. character on2 c)
+        (refuses_widens END_OF_FILE 0 (refuses END_OF_FILE 0)) (λ c. character_widens on on2 c (all c))
+
+    -- ---- turns: under the larger limit there are more
+
+    loop_in_widens : {S A : Type 0} (turn turn2 : (S → Plan A) → S → Plan A) → WidensTurn turn turn2 → (n m : ℕ) → n ≤ m → (s : S)
+        → Widens (loop_in turn n s) (loop_in turn2 m s)
+    unfolding loop_in
+    loop_in_widens turn turn2 all zero m le s = refuses_widens FORM_TOO_LONG 0 (loop_in turn2 m s)
+    loop_in_widens turn turn2 all (suc n) zero le s = absurd (omega arith)
+    loop_in_widens turn turn2 all (suc n) (suc m) le s =
+        all (λ t. loop_in turn n t) (λ t. loop_in turn2 m t) (λ t. loop_in_widens turn turn2 all n m (omega arith) t) s
+
+    loop_widens : {S A : Type 0} (turn turn2 : (S → Plan A) → S → Plan A) → WidensTurn turn turn2 → (s : S)
+        → Widens (loop setting.limits turn s) (loop wide.limits turn2 s)
+    loop_widens turn turn2 all s = loop_in_widens turn turn2 all (setting.limits.text + 1) (most + 1) (omega (arith, larger)) s
+
+    text_turn_widens : (terminator : ℕ) → WidensTurn (text_turn setting.table terminator) (text_turn setting.table terminator)
+    text_turn_widens terminator p q all s =
+        let on : (List ℕ → Plan (List ℕ)) → ℕ → Plan (List ℕ) =
+        λ more c. elim (is_escape (entry_at setting.table c).syntax) [ true ↦ next_byte (λ d. more (s ++ d ∷ [])) | false ↦ more (s ++ c ∷ []) ] in
+        next_byte_widens (λ c. elim (c == terminator) [ true ↦ gives s | false ↦ on p c ]) (λ c. elim (c == terminator) [ true ↦ gives s | false ↦ on q c ])
+        (λ c. if_widens (c == terminator) (gives s) (on p c) (gives s) (on q c) (gives_widens s)
+        (if_widens (is_escape (entry_at setting.table c).syntax) (next_byte (λ d. p (s ++ d ∷ []))) (p (s ++ c ∷ []))
+        (next_byte (λ d. q (s ++ d ∷ []))) (q (s ++ c ∷ []))
+        (next_byte_widens (λ d. p (s ++ d ∷ [])) (λ d. q (s ++ d ∷ [])) (λ d. all (s ++ d ∷ []))) (all (s ++ c ∷ []))))
+
+    text_widens : (terminator : ℕ) (cs : List ℕ) → Widens (text_to setting terminator cs) (text_to wide terminator cs)
+    text_widens terminator cs = loop_widens (text_turn setting.table terminator) (text_turn setting.table terminator) (text_turn_widens terminator) cs
+
+    line_turn_widens : (keep : Keep) → WidensTurn (line_turn keep) (line_turn keep)
+    line_turn_widens keep p q all s =
+        let on : (List ℕ → Plan (List ℕ)) → ℕ → Plan (List ℕ) = λ more c. elim (c == 10) [ true ↦ gives s | false ↦ more (kept keep s c) ] in
+        takes_widens (gives s) (gives s) (λ c. true) (character (on p)) (character (on q)) (gives_widens s)
+        (λ c. character_widens (on p) (on q) c
+        (if_widens (c == 10) (gives s) (p (kept keep s c)) (gives s) (q (kept keep s c)) (gives_widens s) (all (kept keep s c))))
+
+    line_widens : (keep : Keep) (cs : List ℕ) → Widens (line_after setting keep cs) (line_after wide keep cs)
+    line_widens keep cs = loop_widens (line_turn keep) (line_turn keep) (line_turn_widens keep) cs
+
+    goes_widens : (p q : ℕ × ℕ → Plan (Unit {0})) → ((s : ℕ × ℕ) → Widens (p s) (q s)) → (next : Option (ℕ × ℕ)) → Widens (block_goes p next) (block_goes q next)
+    goes_widens p q all None = gives_widens tt
+    goes_widens p q all (Some s) = all s
+
+    block_widens : (levels : ℕ × ℕ) → Widens (block_after setting levels) (block_after wide levels)
+    block_widens levels =
+        loop_widens block_turn block_turn
+        (λ p q all s. next_byte_widens (λ c. block_goes p (block_next s c)) (λ c. block_goes q (block_next s c)) (λ c. goes_widens p q all (block_next s c))) levels
+
+    number_widens : (number : Option ℕ) → Widens (number_after setting number) (number_after wide number)
+    number_widens number =
+        loop_widens number_turn number_turn
+        (λ p q all n. takes_widens (gives n) (gives n) is_digit
+        (λ c. elim (nat_le (next_digit n c) 999999) [ true ↦ p (Some (next_digit n c)) | false ↦ refuses NUMERIC_ARGUMENT 1 ])
+        (λ c. elim (nat_le (next_digit n c) 999999) [ true ↦ q (Some (next_digit n c)) | false ↦ refuses NUMERIC_ARGUMENT 1 ]) (gives_widens n)
+        (λ c. if_widens (nat_le (next_digit n c) 999999) (p (Some (next_digit n c))) (refuses NUMERIC_ARGUMENT 1) (q (Some (next_digit n c))) (refuses NUMERIC_ARGUMENT 1)
+        (all (Some (next_digit n c))) (refuses_widens NUMERIC_ARGUMENT 1 (refuses NUMERIC_ARGUMENT 1)))) number
+
+    -- ---- what comes next inside a call
+
+    space_widens : {A : Type 0} (token : Bool) (p q : Plan A) → Widens p q → Widens (without_space setting.table token p) (without_space setting.table token q)
+    space_widens false p q h = h
+    space_widens true p q h = takes_widens p q (is_whitespace setting.table) (λ c. p) (λ c. q) h (λ c. h)
+
+    piece_widens : (p q : Plan Piece) (found : Found) → Widens p q → Widens (piece_of setting.table p found) (piece_of setting.table q found)
+    piece_widens p q (nothing token) h = space_widens token p q h
+    piece_widens p q (one token x) h = gives_widens (item token x)
+    piece_widens p q lone_dot h = gives_widens dot
+    piece_widens p q the_end h = refuses_widens END_OF_FILE 0 (refuses END_OF_FILE 0)
+
+    closed_widens : (close : Option ℕ) (p q : Plan Piece) → Widens p q → Widens (or_closed close p) (or_closed close q)
+    closed_widens None p q h = h
+    closed_widens (Some close) p q h =
+        takes_widens p q (λ c. c == close) (λ c. gives closed) (λ c. gives closed) h (λ c. gives_widens closed)
+
+    next_item_widens : (close : Option ℕ) (p q : Plan Found) → Widens p q → Widens (next_item setting close p) (next_item wide close q)
+    next_item_widens close p q h =
+        loop_widens (next_item_turn setting.table close p) (next_item_turn setting.table close q)
+        (λ more more2 all u.
+        closed_widens close (then_plan p (λ found. piece_of setting.table (more tt) found)) (then_plan q (λ found. piece_of setting.table (more2 tt) found))
+        (then_widens p q (λ found. piece_of setting.table (more tt) found) (λ found. piece_of setting.table (more2 tt) found) h
+        (λ found. piece_widens (more tt) (more2 tt) found (all tt)))) tt
+
+    item_widens : (p q : List Object → Plan Items) (xs : List Object) (piece : Piece) → ((ys : List Object) → Widens (p ys) (q ys))
+        → Widens (items_step setting.table p xs piece) (items_step setting.table q xs piece)
+    item_widens p q xs closed all = gives_widens (xs, true)
+    item_widens p q xs dot all = gives_widens (xs, false)
+    item_widens p q xs (item token x) all = space_widens token (p (xs ++ x ∷ [])) (q (xs ++ x ∷ [])) (all (xs ++ x ∷ []))
+
+    items_widen : (close : ℕ) (p q : Plan Found) (xs : List Object) → Widens p q → Widens (items_after setting close p xs) (items_after wide close q xs)
+    items_widen close p q xs h =
+        loop_widens (items_turn setting close p) (items_turn wide close q)
+        (λ more more2 all ys.
+        then_widens (next_item setting (Some close) p) (next_item wide (Some close) q)
+        (λ piece. items_step setting.table more ys piece) (λ piece. items_step setting.table more2 ys piece)
+        (next_item_widens (Some close) p q h) (λ piece. item_widens more more2 ys piece all)) xs
+
+    -- ---- the end of a list
+
+    tail_widens : (p q : Plan Found) (on : Material → Plan Found) (xs : List Object) (piece : Piece) → Widens p q
+        → Widens (after_dot setting p on xs piece) (after_dot wide q on xs piece)
+    tail_widens p q on xs closed h = refuses_widens DOT_CONTEXT 1 (refuses DOT_CONTEXT 1)
+    tail_widens p q on xs dot h = refuses_widens DOT_CONTEXT 0 (refuses DOT_CONTEXT 0)
+    tail_widens p q on xs (item token x) h =
+        space_widens token (then_plan (next_item setting (Some 41) p) (after_tail on xs x)) (then_plan (next_item wide (Some 41) q) (after_tail on xs x))
+        (then_widens (next_item setting (Some 41) p) (next_item wide (Some 41) q) (after_tail on xs x) (after_tail on xs x)
+        (next_item_widens (Some 41) p q h) (λ piece. same_widens (after_tail on xs x piece)))
+
+    end_widens : (p q : Plan Found) (on : Material → Plan Found) (items : Items) → Widens p q → Widens (list_end setting p on items) (list_end wide q on items)
+    end_widens p q on (xs, true) h = same_widens (on (many xs))
+    end_widens p q on ([], false) h = refuses_widens DOT_CONTEXT 0 (refuses DOT_CONTEXT 0)
+    end_widens p q on (x ∷ xs, false) h =
+        then_widens (next_item setting (Some 41) p) (next_item wide (Some 41) q) (after_dot setting p on (x ∷ xs)) (after_dot wide q on (x ∷ xs))
+        (next_item_widens (Some 41) p q h) (λ piece. tail_widens p q on (x ∷ xs) piece h)
+
+    -- ---- calls
+
+    opened_widens : (may may2 : Option (Plan Found)) (on on2 : Plan Found → Plan Found) → WidensInner may may2
+        → ((p q : Plan Found) → Widens p q → Widens (on p) (on2 q)) → Widens (opened may on) (opened may2 on2)
+    opened_widens None may2 on on2 h all = refuses_widens TOO_DEEP 1 (opened may2 on2)
+    opened_widens (Some p) None on on2 h all = absurd h
+    opened_widens (Some p) (Some q) on on2 h all = all p q h
+
+    -- A call that ends with no object read in it gives the same, as no function is told the limits.
+    module _ (depth : ℕ) (may may2 : Option (Plan Found)) (deeper : WidensInner may may2) where
+      gathered_widens : (call : InvokedCall) (way : Way) → Widens (gathered setting depth may call way) (gathered wide depth may2 call way)
+      gathered_widens call Nothing = same_widens (completed setting depth call false false no_material)
+      gathered_widens call Next =
+          let on : Piece → Plan Found = one_piece (λ token x. completed setting depth call token token (one_object x)) in
+          opened_widens may may2 (λ p. then_plan (next_item setting None p) on) (λ q. then_plan (next_item wide None q) on) deeper
+          (λ p q h. then_widens (next_item setting None p) (next_item wide None q) on on (next_item_widens None p q h) (λ piece. same_widens (on piece)))
+      gathered_widens call AList =
+          let on : Material → Plan Found = λ m. completed setting depth call false false m in
+          opened_widens may may2 (λ p. then_plan (items_after setting 41 p []) (list_end setting p on)) (λ q. then_plan (items_after wide 41 q []) (list_end wide q on)) deeper
+          (λ p q h. then_widens (items_after setting 41 p []) (items_after wide 41 q []) (list_end setting p on) (list_end wide q on)
+          (items_widen 41 p q [] h) (λ items. end_widens p q on items h))
+      gathered_widens call (Until close) =
+          let on : Items → Plan Found = undotted (λ m. completed setting depth call false false m) in
+          opened_widens may may2 (λ p. then_plan (items_after setting close p []) on) (λ q. then_plan (items_after wide close q []) on) deeper
+          (λ p q h. then_widens (items_after setting close p []) (items_after wide close q []) on on (items_widen close p q [] h) (λ items. same_widens (on items)))
+      gathered_widens call (Text close) =
+          let on : List ℕ → Plan Found = λ cs. completed setting depth call false false (letters cs) in
+          then_widens (text_to setting close []) (text_to wide close []) on on (text_widens close []) (λ cs. same_widens (on cs))
+      gathered_widens call (Line keep) =
+          let on : List ℕ → Plan Found = λ cs. completed setting depth call false false (letters cs) in
+          then_widens (line_after setting keep []) (line_after wide keep []) on on (line_widens keep []) (λ cs. same_widens (on cs))
+      gathered_widens call Block =
+          let on : Unit {0} → Plan Found = λ u. completed setting depth call false false no_material in
+          then_widens (block_after setting (0, 0)) (block_after wide (0, 0)) on on (block_widens (0, 0)) (λ u. same_widens (on u))
+      gathered_widens call Token = same_widens (scans false setting.limits.token (λ marks. completed setting depth call true false (marked marks)))
+      gathered_widens call EscapedToken = same_widens (scans true setting.limits.token (λ marks. completed setting depth call true false (marked marks)))
+
+      way_widens : (call : InvokedCall) (way : Option Way) → Widens (gathered_by setting depth may call way) (gathered_by wide depth may2 call way)
+      way_widens call None = refuses_widens OUT_OF_PROFILE 1 (refuses OUT_OF_PROFILE 1)
+      way_widens call (Some way) = gathered_widens call way
+
+      called_widens : (call : InvokedCall) → Widens (called setting depth may call) (called wide depth may2 call)
+      called_widens call = way_widens call (way_in setting call)
+
+      sub_widens : (c sub : ℕ) (number : Option ℕ) (name : Option (List ℕ))
+          → Widens (sub_called setting depth may c sub number name) (sub_called wide depth may2 c sub number name)
+      sub_widens c sub number None = refuses_widens NO_DISPATCH 1 (refuses NO_DISPATCH 1)
+      sub_widens c sub number (Some name) =
+          called_widens (record { function = function_of name; character = c; sub = Some (upper_case sub); number = number })
+
+      dispatched_widens : (c : ℕ) → Widens (dispatched setting depth may c None) (dispatched wide depth may2 c None)
+      dispatched_widens c =
+          then_widens (number_after setting None) (number_after wide None) (sub_there setting depth may c) (sub_there wide depth may2 c) (number_widens None)
+          (λ number. next_byte_widens (λ sub. sub_called setting depth may c sub number (dispatch_at setting.table c sub))
+          (λ sub. sub_called wide depth may2 c sub number (dispatch_at setting.table c sub)) (λ sub. sub_widens c sub number (dispatch_at setting.table c sub)))
+
+      macro_widens : (c : ℕ) (name : Option (List ℕ)) → Widens (macro_called setting depth may c name) (macro_called wide depth may2 c name)
+      macro_widens c None = refuses_widens OUT_OF_PROFILE 1 (refuses OUT_OF_PROFILE 1)
+      macro_widens c (Some name) =
+          let call : InvokedCall = record { function = function_of name; character = c; sub = None; number = None } in
+          if_widens (is_dispatch_name name) (dispatched setting depth may c None) (called setting depth may call)
+          (dispatched wide depth may2 c None) (called wide depth may2 call) (dispatched_widens c) (called_widens call)
+
+      alone_widens : (c : ℕ) (s : Syntax) → Widens (alone setting depth may c s) (alone wide depth may2 c s)
+      alone_widens c Whitespace = gives_widens (nothing false)
+      alone_widens c TerminatingMacro = macro_widens c (entry_at setting.table c).function
+      alone_widens c NonTerminatingMacro = macro_widens c (entry_at setting.table c).function
+      alone_widens c Constituent = refuses_widens INVALID_CHARACTER 1 (refuses INVALID_CHARACTER 1)
+      alone_widens c SingleEscape = refuses_widens INVALID_CHARACTER 1 (refuses INVALID_CHARACTER 1)
+      alone_widens c MultipleEscape = refuses_widens INVALID_CHARACTER 1 (refuses INVALID_CHARACTER 1)
+      alone_widens c Invalid = refuses_widens INVALID_CHARACTER 1 (refuses INVALID_CHARACTER 1)
+
+      attempt_widens : Widens (attempt_by setting depth may) (attempt_by wide depth may2)
+      attempt_widens =
+          let token : Plan Found = scans false setting.limits.token (token_found setting) in
+          takes_widens token token (λ c. stands_alone (entry_at setting.table c).syntax) (λ c. alone setting depth may c (entry_at setting.table c).syntax)
+          (λ c. alone wide depth may2 c (entry_at setting.table c).syntax) (same_widens token) (λ c. alone_widens c (entry_at setting.table c).syntax)
+
+    -- ---- attempts, and forms
+
+    inner_widens : (room : ℕ) → WidensInner (inner setting room) (inner wide room)
+    unfolding inner
+    inner_widens zero = tt
+    inner_widens (suc room) = attempt_widens (setting.limits.nesting - room) (inner setting room) (inner wide room) (inner_widens room)
+
+    attempts_widen : (room : ℕ) → Widens (attempt setting room) (attempt wide room)
+    attempts_widen room = attempt_widens (setting.limits.nesting - room) (inner setting room) (inner wide room) (inner_widens room)
+
+    form_too : (x : Object) (from «end» next n start : ℕ) (text : List ℕ) → reads_in setting n start text ≡ form x from «end» next
+        → reads_in wide n start text ≡ form x from «end» next
+    unfolding reads_in
+    form_too x from «end» next zero start text e = cc
+    form_too x from «end» next (suc n) start text e =
+        outcome_too setting.table x from «end» next (λ at cs. reads_in setting n at cs) (λ at cs. reads_in wide n at cs) start
+        (run setting.table setting.limits (attempt setting setting.limits.nesting) 0 text)
+        (run setting.table wide.limits (attempt wide setting.limits.nesting) 0 text)
+        (λ at cs f. form_too x from «end» next n at cs f) (attempts_widen setting.limits.nesting 0 text) e
+
+-- a form stays what it is under a larger limit of the text, and where it is
+pub form_widens : (setting : Setting) (text : List ℕ) (most : ℕ) (x : Object) (start «end» next : ℕ) → setting.limits.text ≤ most
+    → reads setting text ≡ form x start «end» next → reads (record setting { limits = record setting.limits { text = most } }) text ≡ form x start «end» next
+unfolding reads
+form_widens setting text most x start «end» next larger e = form_too setting most larger x start «end» next (length text + 1) 0 text e
