@@ -14,13 +14,12 @@ pub enum Stop {
     Once(u64),
 }
 
-/// What comes after the stop: no crash, or one of these.
-const CRASHES: [Option<Crash>; 5] = [
-    None,
-    Some(Crash::Kept),
-    Some(Crash::Lost),
-    Some(Crash::Filled(0xa5)),
-    Some(Crash::Filled(0)),
+/// The crashes after a stop. The first leaves the files as they read.
+const CRASHES: [Crash; 4] = [
+    Crash::Kept,
+    Crash::Lost,
+    Crash::Filled(0xa5),
+    Crash::Filled(0),
 ];
 
 /// What calls over a device that stops left: the text, whether a call failed, and the disk.
@@ -110,7 +109,9 @@ fn worlds(alloc: Global, files: &Files, forms: &[Step<'_>]) -> Result<Vec<Vec<u8
     let mut worlds = Vec::new(alloc);
     for count in 0..forms.len().saturating_add(1) {
         let first = forms.get(..count).unwrap_or(forms);
-        worlds.push(world_after(alloc, files, first)?)?;
+        if worlds.push(world_after(alloc, files, first)?).is_err() {
+            return Err(Trouble::Memory);
+        }
     }
     Ok(worlds)
 }
@@ -127,7 +128,7 @@ fn takes_one_more(alloc: Global, disk: MemoryDisk) -> Result<bool, Trouble> {
 fn is_promised(
     alloc: Global,
     left: Stopped,
-    crash: Option<Crash>,
+    crash: Crash,
     whole: &[u8],
     worlds: &[Vec<u8>],
 ) -> Result<bool, Trouble> {
@@ -139,13 +140,10 @@ fn is_promised(
     let Some((count, has_stopped)) = acknowledged(text.as_slice(), whole) else {
         return Ok(false);
     };
-    let disk = match crash {
-        Some(kind) => crashed(disk, kind)?,
-        None => disk,
-    };
-    let (found, disk) = asked(alloc, disk, AMPLE, &[Ask::World])?;
+    let (found, disk) = asked(alloc, crashed(disk, crash)?, AMPLE, &[Ask::World])?;
     let is_among = worlds.iter().skip(count).take(2).any(|world| *world == found);
-    Ok(has_stopped == has_failed && is_among && takes_one_more(alloc, disk)?)
+    let goes_on = !matches!(crash, Crash::Lost) || takes_one_more(alloc, disk)?;
+    Ok(has_stopped == has_failed && is_among && goes_on)
 }
 
 /// The files that a row begins with.
@@ -191,6 +189,7 @@ fn files_at(alloc: Global, start: Start) -> Result<Files, Trouble> {
 }
 
 /// Calls over files, and the forms in them.
+#[derive(Clone, Copy)]
 struct Row<'a> {
     start: Start,
     calls: &'a [Ask<'a>],
@@ -201,7 +200,7 @@ struct Row<'a> {
 const MOST: u64 = 256;
 
 /// The first stop and crash after which a row leaves what it must not.
-fn difference(alloc: Global, row: &Row<'_>) -> Result<Option<(Stop, Option<Crash>)>, Trouble> {
+fn difference(alloc: Global, row: &Row<'_>) -> Result<Option<(Stop, Crash)>, Trouble> {
     let files = files_at(alloc, row.start)?;
     let worlds = worlds(alloc, &files, row.forms)?;
     let (whole, _disk) = asked(alloc, disk_with(alloc, &files)?, AMPLE, row.calls)?;
@@ -239,7 +238,7 @@ fn difference_after<'a>(
     start: Start,
     calls: &[Ask<'a>],
     forms: &[Step<'a>],
-) -> Result<Option<(Stop, Option<Crash>)>, Trouble> {
+) -> Result<Option<(Stop, Crash)>, Trouble> {
     let get: &[u8] = b"(GET 'A 'B)";
     let mut all_calls = Vec::from_slice(alloc, calls)?;
     all_calls.extend_from_slice(&[
@@ -262,18 +261,25 @@ fn difference_after<'a>(
 #[test]
 fn a_form_that_stops_is_there_or_not(rt: HostRuntime) -> Result<(), Fail> {
     let alloc = rt.alloc();
-    assert_eq!(rt; difference_after(alloc, Start::Fresh, &[], &[])?, None);
     let set = form(b"(SETF (GET 'A 'B) 8)");
-    assert_eq!(rt; difference_after(alloc, Start::Seven, &[set], &[EIGHT])?, None);
     let run = Ask::Run(&[EIGHT, Step::Snapshot, EIGHT]);
-    assert_eq!(rt; difference_after(alloc, Start::Fresh, &[run], &[EIGHT, EIGHT])?, None);
+    let rows: [(Start, &[Ask], &[Step]); 3] = [
+        (Start::Fresh, &[], &[]),
+        (Start::Seven, &[set], &[EIGHT]),
+        (Start::Fresh, &[run], &[EIGHT, EIGHT]),
+    ];
+    for (start, calls, forms) in rows {
+        let found = difference_after(alloc, start, calls, forms)?;
+        assert!(rt; found.is_none(), "{found:?}");
+    }
     Ok(())
 }
 
 #[test]
 fn a_snapshot_that_stops_changes_no_world(rt: HostRuntime) -> Result<(), Fail> {
     for start in [Start::Fresh, Start::Seven, Start::Older, Start::Closed] {
-        assert_eq!(rt; difference_after(rt.alloc(), start, &[Ask::Snapshot], &[])?, None);
+        let found = difference_after(rt.alloc(), start, &[Ask::Snapshot], &[])?;
+        assert!(rt; found.is_none(), "{found:?}");
     }
     Ok(())
 }
@@ -283,6 +289,7 @@ fn a_session_that_stops_has_what_it_answered(rt: HostRuntime) -> Result<(), Fail
     let alloc = rt.alloc();
     let input = b"(SET-MACRO-CHARACTER #\\[ :SQUARE)\n(SET-MACRO-CHARACTER #\\] :CLOSE)\n(SETF (GET 'A 'V) [1 2])\n";
     let forms = BRACKETS.map(|text| Step::Form(Mode::Current, text));
-    assert_eq!(rt; difference_after(alloc, Start::Fresh, &[session(input)], &forms)?, None);
+    let found = difference_after(alloc, Start::Fresh, &[session(input)], &forms)?;
+    assert!(rt; found.is_none(), "{found:?}");
     Ok(())
 }
