@@ -1,0 +1,46 @@
+"""Each growth of memory refused in turn: that one alone, and it and all after it."""
+import collections
+import os
+
+from store import DEVICE, NO_MEMORY, check, courses, library, want
+
+
+def run(room, every, names=()):
+    """One growth of so many is tried. Gives how many runs there were, and what came of them."""
+    loaded = library("growth", room.folder)
+    log = room.path("growths")
+    kinds = collections.Counter()
+    for one in courses(room, names):
+        for goes_on in (False, True):
+            number = 1
+            while disturbed(room, one, loaded, log, number, goes_on, kinds):
+                number += every
+    return sum(kinds.values()), dict(kinds)
+
+
+def disturbed(room, one, loaded, log, number, goes_on, kinds):
+    """Whether the growth of this number was reached."""
+    room.put(one.before)
+    environment = {"LD_PRELOAD": loaded, "GROWTH_AT": str(number), "GROWTH_LOG": log}
+    if goes_on:
+        environment["GROWTH_ON"] = "1"
+    got = room.run(one.session.words, one.session.text, environment)
+    with open(log, encoding="ascii") as file:
+        _, failed = map(int, file.read().split())
+    os.unlink(log)
+    where = f"{one.session.name}, growth {number}{' and on' if goes_on else ''}:"
+    if failed == 0:
+        want(got == one.ample, where, "none was refused, and yet", got)
+        return False
+    left = room.files()
+    want(got == one.ample or got.status == 3 and got.err in (NO_MEMORY, DEVICE), where, got)
+    want(not got.out or got.out.endswith(b"\n"), where, "a part of a line:", got)
+    if got == one.ample:
+        want(left == one.after, where, "other files")
+        kinds["absorbed"] += 1
+    else:
+        # while the files are opened, want of memory is told as a fault of the device, and nothing is written
+        want(got.err == NO_MEMORY or got.out == b"" and left in (one.before, [None, None], [b"", None], [b"", b""]), where, got)
+        kinds[got.err.decode().strip()] += 1
+    check(room, one, got)
+    return True

@@ -1,0 +1,110 @@
+"""Loss of power: at each call of a session, what the disk model allows to be left of both files."""
+import os
+import random
+
+from store import check_world, courses, library, want
+
+NAMES = ("property", "brackets", "snapshots", "more snapshots", "operators")
+
+
+class File:
+    """A file, with what was written or cut since the last sync."""
+
+    def __init__(self, held):
+        self.synced = self.now = held
+        self.pending = []
+
+    def write(self, place, held):
+        self.pending.append((place, place + len(held), False))
+        self.now = self.now[:place] + held + self.now[place + len(held):]
+
+    def cut(self, length):
+        self.pending.append((length, length, True))
+        self.now = self.now[:length] + bytes(length - len(self.now))
+
+    def sync(self):
+        self.synced, self.pending = self.now, []
+
+    def left(self, kind, dice):
+        """What a crash of this kind leaves: all, nothing, or any bytes where something was written, and any length in between."""
+        if kind == "kept":
+            return self.now
+        if kind == "lost":
+            return self.synced
+        shortest = longest = length = len(self.synced)
+        touched = set()
+        for start, end, is_cut in self.pending:
+            if is_cut:
+                touched.update(range(start, length))
+                shortest, length = min(shortest, start), start
+            else:
+                touched.update(range(start, end))
+                length = max(length, end)
+                longest = max(longest, length)
+        count = longest if isinstance(kind, int) else dice.randint(shortest, longest)
+        found = bytearray(self.synced[:count].ljust(count, b"\0"))
+        for place in range(count):
+            if place in touched or place >= len(self.synced):
+                found[place] = self.byte(kind, place, dice)
+        return bytes(found)
+
+    def byte(self, kind, place, dice):
+        if isinstance(kind, int):
+            return kind
+        if kind == "any":
+            return dice.randrange(256)
+        old = self.synced[place] if place < len(self.synced) else 0
+        new = self.now[place] if place < len(self.now) else 0xA5
+        return dice.choice([old, new])
+
+
+def traced(room, one, loaded):
+    """The calls of a session: what was opened, written, cut, synced and answered."""
+    trace = room.path("trace")
+    room.put(one.before)
+    got = room.run(one.session.words, one.session.text, {"LD_PRELOAD": loaded, "DEVICE_TRACE": trace})
+    want(got == one.ample, one.session.name, "traced:", got)
+    with open(trace, "rb") as file:
+        text = file.read()
+    while text:
+        head, text = text.split(b"\n", 1)
+        call, number, place, length = head.split()
+        held = b""
+        if call in b"woa":
+            held, text = text[: int(length)], text[int(length):]
+        yield call.decode(), int(number), int(place), held
+
+
+def run(room, times, names=()):
+    """So many random images of both kinds at each call. Gives how many images there were, and of what sessions."""
+    loaded = library("device", room.folder)
+    dice = random.Random(5)
+    images, told = 0, {}
+    for one in courses(room, names or NAMES):
+        before = images
+        files = [File(held or b"") for held in one.before or (b"", b"")]
+        opened, answered = {}, 0
+        images += crashed(room, one, files, answered, times, dice, "the start")
+        for number, (call, file, place, held) in enumerate(traced(room, one, loaded)):
+            if call == "o":
+                opened[file] = {b"half-a": files[0], b"half-b": files[1]}.get(os.path.basename(held))
+            elif call == "a":
+                answered += held.count(b"\n") if file == 1 else 0
+            elif opened.get(file):
+                target = opened[file]
+                {"w": lambda: target.write(place, held), "c": lambda: target.cut(place), "s": target.sync}[call]()
+                images += crashed(room, one, files, answered, times, dice, f"call {number}")
+        want([file.now for file in files] == one.after, one.session.name, "the trace is not that of the files")
+        told[one.session.name] = images - before
+    return images, told
+
+
+def crashed(room, one, files, answered, times, dice, moment):
+    kinds = ["kept", "lost", 0xA5, 0] + ["mixed", "any"] * times
+    for kind in kinds:
+        room.put([file.left(kind, dice) for file in files])
+        try:
+            check_world(room, one, answered)
+        except Exception as deviation:
+            raise type(deviation)(f"{one.session.name}, {moment}, {kind}: {deviation}") from deviation
+    return len(kinds)

@@ -1,0 +1,174 @@
+"""Sessions of the program over folders that are thrown away, and what has to hold after one that was disturbed."""
+import collections
+import os
+import shutil
+import subprocess
+import tempfile
+
+HERE = os.path.dirname(os.path.abspath(__file__))
+
+Answer = collections.namedtuple("Answer", "status out err")
+Session = collections.namedtuple("Session", "name words text base")
+# What a session does undisturbed: the files before it, its answer, the files after it, and after each number of its lines how many
+# answers there are, and the text of the world.
+Course = collections.namedtuple("Course", "session before ample after dumps")
+
+NO_MEMORY = b"! 90 NO-MEMORY\n"
+DEVICE = b"! 60 DEVICE\n"
+
+# A form that is read and accepted in every world, in Rescue mode.
+ONE_MORE = b"(COMMON-LISP:SETF (COMMON-LISP:GET 'COMMON-LISP-USER::A 'COMMON-LISP-USER::B) 9)\n"
+
+OPERATORS = b"""(MAKE-PACKAGE "P")
+(IN-PACKAGE "P")
+'NEWONE
+(COMMON-LISP:SETF (COMMON-LISP:GET 'NEWONE 'IND) '(1 2 "three" #\\a #(1 2) |odd name| #:un))
+(COMMON-LISP:EXPORT 'NEWONE)
+(COMMON-LISP:IN-PACKAGE COMMON-LISP-USER)
+(USE-PACKAGE "P")
+NEWONE
+(INTERN "made")
+(IMPORT 'P::OTHER)
+(PUSH 1 (GET 'A 'B))
+(PUSH 2 (GET 'A 'B))
+(INCF (GET 'A 'N) 3)
+(INCF (GET 'A 'N))
+(SYMBOL-PLIST 'A)
+(REMPROP 'A 'B)
+(COPY-READTABLE NIL :OTHER)
+(IN-READTABLE :OTHER)
+(SET-MACRO-CHARACTER #\\! :NOTE)
+!a line
+(MAKE-DISPATCH-MACRO-CHARACTER #\\@)
+(SET-DISPATCH-MACRO-CHARACTER #\\@ #\\s :SCALE)
+(SETF (GET 'A 'D) @3S14)
+(SETF (READTABLE-CASE *READTABLE*) :INVERT)
+(symbol-plist 'a)
+(FROB newsym)
+"""
+
+SESSIONS = [
+    Session("property", ["run"], b"(SETF (GET 'A 'B) 7)\n(GET 'A 'B)\n", None),
+    Session("tokens", ["run"], b"'(\\1 |1| 1 1. -0 +4/6 1+)\n", None),
+    Session("brackets", ["run"],
+            b"(SET-MACRO-CHARACTER #\\[ :SQUARE)\n(SET-MACRO-CHARACTER #\\] :CLOSE)\n(SETF (GET 'A 'V) [1 2])\n", None),
+    Session("brackets again", ["run"], b"(GET 'A 'V)\n]\n", "brackets"),
+    Session("no way in", ["run"], b"(SET-SYNTAX-FROM-CHAR #\\( #\\;)\n(GET 'A 'B)\n", None),
+    Session("rescue", ["run", "--rescue"], b"(COPY-READTABLE NIL :USER)\n", "no way in"),
+    Session("rescued", ["run"], b"(GET 'A 'B)\n", "rescue"),
+    Session("snapshots", ["run", "--snapshot-every", "1"],
+            b"(SETF (GET 'A 'B) 7)\n(SETF (GET 'A 'B) 8)\n(SETF (GET 'A 'C) \"t\")\n", None),
+    Session("more snapshots", ["run", "--snapshot-every", "2"],
+            b"(SETF (GET 'A 'B) 9)\n(GET 'A 'B)\n(SETF (GET 'A 'C) 10)\n(INCF (GET 'A 'C))\n", "snapshots"),
+    Session("sharp sign", ["run"], b"(LIST #xFF #36rZ #b-1/10 #\\space)\n'(#:a #'f #|x #|y|# z|# \"\")\n", None),
+    Session("dispatch", ["run"],
+            b"(MAKE-DISPATCH-MACRO-CHARACTER #\\@)\n(SET-DISPATCH-MACRO-CHARACTER #\\@ #\\s :SCALE)\n@3S14\n@S14\n", None),
+    Session("operators", ["run", "--snapshot-every", "3"], OPERATORS, None),
+    Session("after operators", ["run", "--snapshot-every", "1"], b"(setf (get 'b 'x) (symbol-plist 'a))\n(get 'b 'x)\n", "operators"),
+    Session("dump", ["dump"], b"", "operators"),
+    Session("verify", ["verify"], b"", "operators"),
+]
+
+
+class Deviation(Exception):
+    """Something was lost, changed or answered that must not be."""
+
+
+def want(holds, *what):
+    if not holds:
+        raise Deviation(" ".join(str(part) for part in what))
+
+
+def library(name, folder):
+    """The library of this name, built without headers by the tool's own compiler, to be loaded before a program."""
+    kit = os.path.join(os.path.dirname(os.path.dirname(os.path.realpath(shutil.which("rt")))), "toolchain", "bin")
+    source, code, built = (os.path.join(place, name + end) for place, end in ((HERE, ".c"), (folder, ".o"), (folder, ".so")))
+    subprocess.run([os.path.join(kit, "clang"), "-O2", "-fPIC", "-ffreestanding", "-nostdinc", "-c", source, "-o", code], check=True)
+    subprocess.run([os.path.join(kit, "ld.lld"), "-shared", code, "-o", built], check=True)
+    return built
+
+
+class Room:
+    """A folder for one store and for logs."""
+
+    def __init__(self, program):
+        self.program = program
+        self.folder = tempfile.mkdtemp(prefix="campaign-", dir="/dev/shm" if os.path.isdir("/dev/shm") else None)
+        self.store = os.path.join(self.folder, "store")
+
+    def path(self, name):
+        return os.path.join(self.folder, name)
+
+    def clear(self):
+        shutil.rmtree(self.folder)
+
+    def files(self):
+        found = []
+        for name in ("half-a", "half-b"):
+            try:
+                with open(os.path.join(self.store, name), "rb") as file:
+                    found.append(file.read())
+            except FileNotFoundError:
+                found.append(None)
+        return found
+
+    def put(self, files):
+        """Makes the store anew, of these files; `None`: no folder."""
+        shutil.rmtree(self.store, ignore_errors=True)
+        if files is None:
+            return
+        os.mkdir(self.store)
+        for name, held in zip(("half-a", "half-b"), files):
+            if held is not None:
+                with open(os.path.join(self.store, name), "wb") as file:
+                    file.write(held)
+
+    def run(self, words, text=b"", environment=None):
+        command, *options = words
+        done = subprocess.run([self.program, command, self.store, *options], input=text, capture_output=True, timeout=120,
+                              env=environment)
+        return Answer(done.returncode, done.stdout, done.stderr)
+
+
+def course(room, session, before):
+    room.put(before)
+    ample = room.run(session.words, session.text)
+    after = room.files()
+    lines = session.text.splitlines(keepends=True)
+    words = session.words if session.words[0] == "run" else ["run"]
+    dumps = []
+    for count in range(len(lines) + 1):
+        room.put(before)
+        answer = room.run(words, b"".join(lines[:count]))
+        dumps.append((answer.out.count(b"\n"), room.run(["dump"]).out))
+    return Course(session, before, ample, after, dumps)
+
+
+def courses(room, names=()):
+    """The sessions of these names, or all, each over the files that its base leaves."""
+    after = {None: None}
+    for session in SESSIONS:
+        one = course(room, session, after[session.base])
+        after[session.name] = one.after
+        if not names or session.name in names:
+            yield one
+
+
+def check(room, one, got):
+    """What was answered is a prefix of what is answered undisturbed; the store is that of the forms that were answered, or of one more;
+    it is whole, and takes a form."""
+    want(got.status >= 0, "the program died:", got)
+    want(one.ample.out.startswith(got.out), "the answers are no prefix:", got)
+    answered = got.out.count(b"\n") if one.session.words[0] == "run" else 0
+    check_world(room, one, answered)
+
+
+def check_world(room, one, answered):
+    dump = room.run(["dump"])
+    want(dump.status == 0, "no dump:", dump)
+    prefixes = [count for count, text in one.dumps if text == dump.out]
+    want(any(answered <= count <= answered + 1 for count in prefixes), answered, "answered, and the world is that after", prefixes)
+    verified = room.run(["verify"])
+    want(verified.status == 0, "not verified:", verified)
+    more = room.run(["run", "--rescue"], ONE_MORE)
+    want(more == Answer(0, b"9\n", b""), "one more form:", more)
