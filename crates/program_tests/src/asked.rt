@@ -306,7 +306,13 @@ pub fn asked<D: Disk + Drop>(
     limit: u64,
     calls: &[Ask<'_>],
 ) -> Result<(Vec<u8>, D), Trouble> {
-    asked_with(alloc, disk, ByName::new(alloc, SixFunctions::new()), limit, calls)
+    asked_with(
+        alloc,
+        disk,
+        ByName::new(alloc, SixFunctions::new()),
+        limit,
+        calls,
+    )
 }
 
 /// The same with these macro functions.

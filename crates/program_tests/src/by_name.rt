@@ -43,7 +43,8 @@ impl ByName {
     /// Whether this call finds no memory.
     fn is_short(&self) -> bool {
         let left = self.calls_left.get();
-        self.calls_left.set(left.and_then(|count| count.checked_sub(1)));
+        self.calls_left
+            .set(left.and_then(|count| count.checked_sub(1)));
         left == Some(0)
     }
 

@@ -14,7 +14,8 @@ const CLOSE: &[u8] = b"(SET-MACRO-CHARACTER #\\] :CLOSE)";
 
 const SET: &[u8] = b"(PROGN (SETF (GET 'A 'V) [1 2]) 8)";
 
-const SESSION: &[u8] = b"(SET-MACRO-CHARACTER #\\[ :SQUARE)\n(SET-MACRO-CHARACTER #\\] :CLOSE)\n(PROGN (SETF (GET 'A 'V) [1 2]) 8)\n";
+const SESSION: &[u8] =
+    b"(SET-MACRO-CHARACTER #\\[ :SQUARE)\n(SET-MACRO-CHARACTER #\\] :CLOSE)\n(PROGN (SETF (GET 'A 'V) [1 2]) 8)\n";
 
 /// How many calls of macro functions the third form makes.
 const CALLS: u64 = 2;
@@ -50,11 +51,22 @@ fn a_form_without_memory_changes_nothing(rt: HostRuntime) -> Result<(), Fail> {
         // every device call would fail now
         let calls = [form(SQUARE), form(CLOSE), form(SET)];
         let text = short(alloc, two, call, &calls)?;
-        assert!(rt; text.as_slice() == b"accepted\naccepted\nrefused 90\n".as_slice(), "{call}");
+        assert!(rt;
+            text.as_slice() == b"accepted\naccepted\nrefused 90\n".as_slice(),
+            "{call}"
+        );
         // the same once more, with memory
-        let calls = [form(SQUARE), form(CLOSE), form(SET), Ask::Half, form(SET), Ask::Half];
+        let calls = [
+            form(SQUARE),
+            form(CLOSE),
+            form(SET),
+            Ask::Half,
+            form(SET),
+            Ask::Half,
+        ];
         let text = short(alloc, u64::MAX, call, &calls)?;
-        let wanted: &[u8] = b"accepted\naccepted\nrefused 90\nhalf A generation 1 records 2\naccepted 8\nhalf A generation 1 records 3\n";
+        let wanted: &[u8] =
+            b"accepted\naccepted\nrefused 90\nhalf A generation 1 records 2\naccepted 8\nhalf A generation 1 records 3\n";
         assert!(rt; text.as_slice() == wanted, "{call}");
     }
     Ok(())
@@ -64,7 +76,12 @@ fn a_form_without_memory_changes_nothing(rt: HostRuntime) -> Result<(), Fail> {
 fn a_session_without_memory_ends(rt: HostRuntime) -> Result<(), Fail> {
     for call in 0..CALLS {
         let again = session(SET);
-        let text = short(rt.alloc(), u64::MAX, call, &[session(SESSION), Ask::Half, again])?;
+        let text = short(
+            rt.alloc(),
+            u64::MAX,
+            call,
+            &[session(SESSION), Ask::Half, again],
+        )?;
         let wanted: &[u8] = b"T\nT\nstore 90\nhalf A generation 1 records 2\n8\nend\n";
         assert!(rt; text.as_slice() == wanted, "{call}");
     }
