@@ -38,10 +38,10 @@ one_more first ps i p vs k v within is before key value =
     map-append object_of (vs ++ k ∷ []) (v ∷ []) ∙ ap (λ xs. xs ++ object_of v ∷ []) (map-append object_of vs (k ∷ []))
     ∙ (λ t. (before t ++ key t ∷ []) ++ value t ∷ [])
     ∙ ap (λ xs. first ∷ xs) (
-      two (flat_map parts (take i ps)) (symbol_object p.0) p.1
-      ∙ sym (parts_push (take i ps) p)
-      ∙ ap (λ q. flat_map parts (take i ps ++ q ∷ [])) (sym (get_or_from_slice_get ps i p p is))
-      ∙ ap (flat_map parts) (sym (take_more ps i p within)))
+    two (flat_map parts (take i ps)) (symbol_object p.0) p.1
+    ∙ sym (parts_push (take i ps) p)
+    ∙ ap (λ q. flat_map parts (take i ps ++ q ∷ [])) (sym (get_or_from_slice_get ps i p p is))
+    ∙ ap (flat_map parts) (sym (take_more ps i p within)))
 
 key_at : (ps : Plist) (i : ℕ) (p : Symbol × Object) → list_all is_ascii_key ps ≡ true → slice_get ps i ≡ Some p → is_ascii_key p ≡ true
 key_at [] i p all is = absurd (cc)
