@@ -12,12 +12,16 @@ use Rattle.std.proofs.lemmas.List.{length-map}
 use Rattle.std.proofs.lemmas.List.Sums.{fails_before_first}
 
 module _ {X Y : Type 0} (f : X → Y) where
-  position_or_len-map : (p : Y → Bool) (xs : List X) → position_or_len p (map f xs) ≡ position_or_len (λ x. p (f x)) xs
+  pub position_or_len-map : (p : Y → Bool) (xs : List X) → position_or_len p (map f xs) ≡ position_or_len (λ x. p (f x)) xs
   position_or_len-map p [] = refl
   position_or_len-map p (x ∷ xs) = ap (λ n. cond (not (p (f x))) (1 + n) 0) (position_or_len-map p xs)
 
   pub position-map : (p : Y → Bool) (xs : List X) → position p (map f xs) ≡ position (λ x. p (f x)) xs
   position-map p xs = λ i. cond (nat_lt (position_or_len-map p xs i) (length-map xs f i)) (Some (position_or_len-map p xs i)) None
+
+  pub any-map : (p : Y → Bool) (xs : List X) → list_any p (map f xs) ≡ list_any (λ x. p (f x)) xs
+  any-map p [] = refl
+  any-map p (x ∷ xs) = ap (λ b. p (f x) || b) (any-map p xs)
 
   apart-map : (e : Y → Y → Bool) (x : X) (xs : List X) → AllByRecursion (λ y. e (f x) (f y) ≡ false) xs → AllByRecursion (λ y. e (f x) y ≡ false) (map f xs)
   apart-map e x [] h = h

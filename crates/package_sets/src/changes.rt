@@ -1,24 +1,10 @@
 //! What is added. After a call that fails nothing has changed.
 ghost use Rattle.std.specs.Prelude.{◌≡◌, ◌<◌, length, position, bytes_eq, None, IfOk, OnOk, OnErr};
 ghost use Rattle.package_sets.specs.Kept.{pair_at, pair_eq};
-ghost use Rattle.package_sets.specs.Changes.{number_in, symbol_named, with_external, with_import, with_name, with_package, with_symbol, with_use};
+ghost use Rattle.package_sets.specs.Changes.{symbol_named, with_external, with_import, with_package, with_symbol, with_use};
 
-use crate::{Names, PackageSets};
-use std::alloc::{AllocError, Global};
-
-// The number of a name, which is added where it is not there.
-fn name_number(names: &mut Names, alloc: Global, name: &[u8]) -> Result<u32, AllocError>
-    ensures ok { OnOk result (names.new ≡ with_name names.old name.now) }
-    ensures number { IfOk result (λ n. n ≡ number_in names.old name.now) }
-    ensures err { OnErr result (names.new ≡ names.old) }
-{
-    if let Some(number) = names.find(name) {
-        return Ok(number);
-    }
-    let number = names.len();
-    names.push(alloc, name)?;
-    Ok(number)
-}
+use crate::PackageSets;
+use std::alloc::AllocError;
 
 impl PackageSets {
     /// Adds the package of a name that no package has, and gives its number.
@@ -43,7 +29,7 @@ impl PackageSets {
     {
         let names = self.names.len();
         let number = self.symbols.len();
-        let name = name_number(&mut self.names, self.alloc, name)?;
+        let name = self.names.intern(self.alloc, name)?;
         if let Err(_) = self.symbols.push(self.alloc, home, name) {
             self.names.truncate(names);
             return Err(AllocError);

@@ -2,6 +2,7 @@
 ghost use Rattle.std.specs.Prelude.{◌≡◌, ◌<◌, ◌++◌, ◌∷◌, [], length, take, position, bytes_eq, None, IfOk, OnOk, OnErr};
 ghost use Rattle.package_sets.specs.Kept.{name_at};
 ghost use Rattle.package_sets.specs.Good.{AreDistinctNames};
+ghost use Rattle.package_sets.specs.Changes.{number_in, with_name};
 
 use crate::Seed;
 use indexmap::IndexSet;
@@ -92,6 +93,22 @@ impl Names {
             return Err(AllocError);
         }
         Ok(())
+    }
+
+    /// The number of a name, which is added where it is not there. After a failure nothing has changed.
+    pub fn intern(&mut self, alloc: Global, name: &[u8]) -> Result<u32, AllocError>
+        ensures ok { OnOk result (self.new ≡ with_name self.old name.now) }
+        ensures number { IfOk result (λ n. n ≡ number_in self.old name.now) }
+        ensures err { OnErr result (self.new ≡ self.old) }
+    {
+        if self.set.len() >= u32::MAX as usize {
+            return Err(AllocError);
+        }
+        let name = Vec::from_slice(alloc, name)?;
+        match self.set.insert_full(name) {
+            Ok(added) => Ok(added.0 as u32),
+            Err(_) => Err(AllocError),
+        }
     }
 
     /// Keeps the first `len` names. Takes no memory, and time in proportion to what goes.

@@ -9,7 +9,8 @@ use indexmap::IndexSet;
 use std::alloc::{AllocError, Global};
 use std::marker::Model;
 
-/// Pairs of numbers, each once, and fewer than 2^32. Contracts see the list of them: the position of a pair is its number.
+/// Pairs of numbers, each once, and fewer than 2^32. Contracts see the list of them: the position of a pair is its
+/// number.
 #[derive(Drop)]
 pub struct Pairs {
     set: IndexSet<Pair, Seed>,

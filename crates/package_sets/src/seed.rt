@@ -1,4 +1,5 @@
 //! What names and numbers are hashed with.
+use crate::WordHasher;
 use std::hash::{BuildHasher, DefaultHasher, Hasher};
 use std::io;
 use std::random::RandomSource;
@@ -7,16 +8,18 @@ use std::random::RandomSource;
 #[derive(Clone, Copy)]
 pub struct Seed {
     // The words are written to it.
-    start: DefaultHasher,
+    start: WordHasher,
 }
 
 impl Seed {
     /// The seed of two words.
     pub fn new(first: u64, second: u64) -> Seed {
-        let mut start = DefaultHasher::new();
-        start.write_u64(first);
-        start.write_u64(second);
-        Seed { start }
+        let mut words = DefaultHasher::new();
+        words.write_u64(first);
+        words.write_u64(second);
+        Seed {
+            start: WordHasher::after(words),
+        }
     }
 
     /// The same seed each time: for names that are not chosen by others, and for tests.
@@ -37,11 +40,12 @@ impl Seed {
 }
 
 impl BuildHasher for Seed {
-    type Hasher = DefaultHasher;
+    type Hasher = WordHasher;
 
     ghost build_hasher = { λ s. s.start };
 
-    fn build_hasher(&self) -> DefaultHasher {
+    #[inline(always)]
+    fn build_hasher(&self) -> WordHasher {
         self.start
     }
 }

@@ -69,9 +69,9 @@ impl Packages {
     /// `intern`). A new symbol of KEYWORD is external. No other name finds another symbol than before.
     ///
     /// # Errors
-    /// `NoSuchPackage` where no package has the name `owner`; for a new name, `PackageIsLocked` in COMMON-LISP, and `Limit`
-    /// where it is longer than 4,096 bytes or there are 1,000,000 symbols; `OutOfMemory` where memory runs out. Nothing
-    /// is changed then.
+    /// `NoSuchPackage` where no package has the name `owner`; for a new name, `PackageIsLocked` in COMMON-LISP, and
+    /// `Limit` where it is longer than 4,096 bytes or there are 1,000,000 symbols; `OutOfMemory` where memory runs
+    /// out. Nothing is changed then.
     pub fn intern(&mut self, owner: &[u8], name: &[u8]) -> Result<Interned, PackageError>
         requires { All (λ b. b < 128) name.now }
         ensures gives { Gives (λ interned. (interned.home, self.new.0)) result

@@ -34,7 +34,8 @@ pub(crate) fn put_new(sets: &mut PackageSets, owner: &[u8], name: &[u8]) -> Resu
     requires fresh { found (numbered_of sets.old).0 owner.now name.now ≡ None }
     requires unlocked { bytes_eq owner.now common_lisp ≡ false }
     requires placed { IsPlaced sets.old }
-    ensures ok { OnOk result ((numbered_of sets.new).0 ≡ with_entry (numbered_of sets.old).0 owner.now name.now
+    ensures ok { OnOk result ((numbered_of sets.new).0
+        ≡ with_entry (numbered_of sets.old).0 owner.now name.now
         (record { home = owner.now; external = bytes_eq owner.now keyword })) }
     ensures adds { IfOk result (λ _. Adds sets.old sets.new) }
     ensures count { IfOk result (λ _. length sets.new.symbols ≡ length sets.old.symbols + 1) }
@@ -61,7 +62,8 @@ pub(crate) fn put_import(
     requires fresh { entry_at (numbered_of sets.old).0 owner.now name.now ≡ None }
     requires unlocked { is_locked owner.now ≡ false }
     requires placed { IsPlaced sets.old }
-    ensures ok { OnOk result ((numbered_of sets.new).0 ≡ with_entry (numbered_of sets.old).0 owner.now name.now
+    ensures ok { OnOk result ((numbered_of sets.new).0
+        ≡ with_entry (numbered_of sets.old).0 owner.now name.now
         (record { home = home.now; external = false })) }
     ensures adds { IfOk result (λ _. AddsNoSymbol sets.old sets.new) }
     ensures err { OnErr result (sets.new ≡ sets.old) }
@@ -118,7 +120,8 @@ pub(crate) fn put_external(
     requires finds { finds_this (numbered_of sets.old).0 owner.now home.now name.now ≡ true }
     requires hidden { is_external (numbered_of sets.old).0 owner.now name.now ≡ false }
     requires placed { IsPlaced sets.old }
-    ensures ok { OnOk result ((numbered_of sets.new).0 ≡ with_entry (numbered_of sets.old).0 owner.now name.now
+    ensures ok { OnOk result ((numbered_of sets.new).0
+        ≡ with_entry (numbered_of sets.old).0 owner.now name.now
         (record { home = home.now; external = true })) }
     ensures adds { IfOk result (λ _. AddsNoSymbol sets.old sets.new) }
     ensures err { OnErr result (sets.new ≡ sets.old) }

@@ -20,7 +20,7 @@ invariant_of-self-in_default c =
     let none = ap (λ (k : Kept). symbol_named k c.args.home c.args.name.now) c.self.view_is ∙ c.requires.absent in
     let symbols : c.push.new.self ≡ k.symbols ++ (c.args.home, number_in k.names c.args.name.now) ∷ [] =
     c.in_default.ensures.ok ∙ ap (λ (n : ℕ). k.symbols ++ (c.args.home, n) ∷ []) c.in_ok-name.ensures.number in
-    let names : c.name_number.new.names ≡ with_name k.names c.args.name.now = c.in_ok-name.ensures.ok in
-    let is : ◌≡◌ {A = Kept} (record k { names = with_name k.names c.args.name.now; symbols = k.symbols ++ (c.args.home, number_in k.names c.args.name.now) ∷ [] }) (record k { names = c.name_number.new.names; symbols = c.push.new.self }) =
+    let names : c.intern.new.self ≡ with_name k.names c.args.name.now = c.in_ok-name.ensures.ok in
+    let is : ◌≡◌ {A = Kept} (record k { names = with_name k.names c.args.name.now; symbols = k.symbols ++ (c.args.home, number_in k.names c.args.name.now) ∷ [] }) (record k { names = c.intern.new.self; symbols = c.push.new.self }) =
     λ i. record k { names = sym names i; symbols = sym symbols i } in
     subst IsGood is (good_symbol k c.self.invariant c.args.home c.args.name.now home none)
