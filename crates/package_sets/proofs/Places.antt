@@ -87,10 +87,10 @@ module _ {X : Type 0} (p : X → Bool) where
   none_at xs k d none within = let h : length xs ≤ position_or_len p xs = none_within xs none in fails_before_first p xs k d (omega (arith, h, within))
 
 module _ {X : Type 0} (P : X → Type 0) where
-  pub all_at : (xs : List X) (i : ℕ) (d : X) → AllByRecursion P xs → i < length xs → P (get_or xs i d)
-  all_at [] i d all within = absurd (omega (arith, within))
-  all_at (x ∷ xs) zero d all within = all.0
-  all_at (x ∷ xs) (suc i) d all within = all_at xs i d all.1 (omega (arith, within))
+  pub all_at : (xs : List X) → AllByRecursion P xs → (i : ℕ) (d : X) → i < length xs → P (get_or xs i d)
+  all_at [] all i d within = absurd (omega (arith, within))
+  all_at (x ∷ xs) all zero d within = all.0
+  all_at (x ∷ xs) all (suc i) d within = all_at xs all.1 i d (omega (arith, within))
 
   pub all_push : (xs : List X) (y : X) → AllByRecursion P xs → P y → AllByRecursion P (xs ++ y ∷ [])
   all_push [] y all one = (one, tt)

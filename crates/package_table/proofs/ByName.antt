@@ -10,6 +10,7 @@ use Rattle.std.specs.Option.{option_or, option_map_or}
 use Rattle.std.specs.FinMap as finite
 use Rattle.package_sets.specs.Kept.{Kept, import_of, name_at, pair_at, pair_eq}
 use Rattle.package_sets.specs.Good.{IsGood}
+use Rattle.package_sets.proofs.Places.{all_at}
 use Rattle.package_table.specs.Table.{Name, Present, Package, entry_at, IsPackage, IsPresent}
 use Rattle.package_table.specs.Lookup.{external_home, is_external, is_present, is_symbol, is_used}
 use Rattle.package_table.specs.Numbers.{Numbered, number_at, number_of}
@@ -21,7 +22,7 @@ use Rattle.package_sets.proofs.Growing.{pair_equiv}
 use Rattle.package_table.proofs.Frames.{equal_names, equal_itself}
 use Rattle.package_table.proofs.Numbered.{number_some, number_there as number_is_there, number_apart}
 use Rattle.package_table.proofs.Mapped.{named, count_by}
-use Rattle.package_table.proofs.Meant.{known, unknown, same_pair, pair_there, all_at, package_at, package_none, entry_there, number_there, uses_there, uses_none}
+use Rattle.package_table.proofs.Meant.{known, unknown, same_pair, pair_there, package_at, package_none, entry_there, number_there, uses_there, uses_none}
 use Rattle.package_table.proofs.FoundBy.{nothing_by, position_in, position_of, position_some}
 
 module _ (k : Kept) (good : IsGood k) where

@@ -13,14 +13,15 @@ use Rattle.std.specs.Cmp.Lexicographic.{nat_list_eq_equiv}
 use Rattle.std.specs.FinMap as finite
 use Rattle.package_sets.specs.Kept.{Kept, name_at, pair_at, pair_eq, positions_from, positions_of}
 use Rattle.package_sets.specs.Good.{IsGood}
+use Rattle.package_sets.proofs.Places.{all_at, none_any}
 use Rattle.package_table.specs.Table.{Name, name_cmp, Present, Package, Table, entry_at, IsPackage, IsPresent, IsExternal, Uses, Finds, FindsNone, IsJoined}
 use Rattle.package_table.specs.Lookup.{found, external_home}
 use Rattle.package_table.specs.Meaning.{number_in, is_shown_in, present_in, package_in, home_in, shown_number, first_shown, found_number, numbered_of}
 use Rattle.package_table.proofs.Names.{same_some, none_some}
 use Rattle.package_table.proofs.Frames.{equal_names, equal_itself}
 use Rattle.package_table.proofs.Found.{found_is, finds_none}
-use Rattle.package_table.proofs.Mapped.{position_cons, named, none_any}
-use Rattle.package_table.proofs.Meant.{one_pair, same_pair, all_at, package_at, package_none, entry_there, entry_none, uses_there, uses_none, known}
+use Rattle.package_table.proofs.Mapped.{position_cons, named}
+use Rattle.package_table.proofs.Meant.{one_pair, same_pair, package_at, package_none, entry_there, entry_none, uses_there, uses_none, known}
 
 -- ---- positions
 pub any_at : {X : Type 0} (test : X → Bool) (xs : List X) (i : ℕ) (d : X) → i < length xs → test (get_or xs i d) ≡ true → list_any test xs ≡ true

@@ -1,5 +1,5 @@
 -- What is kept by numbers, read by names.
---     one_pair, same_pair, all_at      pairs of numbers, and what holds of each in a list
+--     one_pair, same_pair      pairs of numbers
 --     known      what has a number is kept
 --     package_at, package_none, entry_there, number_there      what is at a name
 --     entry_put, named_more, made, used      what single changes make of it
@@ -16,6 +16,7 @@ use Rattle.package_sets.specs.Good.{IsGood, AreWithin}
 use Rattle.package_table.specs.Table.{Name, name_cmp, Present, Package, Table, entry_at, with_entry, with_used, with_new_package, empty_package}
 use Rattle.package_table.specs.Numbers.{Numbers, Numbered, number_at, with_numbers, with_numbered, with_use, with_package_made}
 use Rattle.package_table.specs.Meaning.{map_by, number_in, is_shown_in, present_in, package_in, numbers_in, table_of, all_numbers_of, numbered_of}
+use Rattle.package_sets.proofs.Places.{all_at}
 use Rattle.package_table.proofs.Names.{same_some, none_some}
 use Rattle.package_table.proofs.Mapped.{position_push, named, got, got_at, got_none, same, put, more, more_put, none_by}
 
@@ -38,11 +39,6 @@ other_pair a b differ =
       | true ↦ λ is. absurd (let one = one_pair a b is in elim differ [ inl first ↦ first (ap (λ (p : ℕ × ℕ). p.0) one) | inr second ↦ second (ap (λ (p : ℕ × ℕ). p.1) one) ])
       | false ↦ λ _. refl
     ] refl
-
-pub all_at : {X : Type 0} (P : X → Type 0) (xs : List X) → AllByRecursion P xs → (i : ℕ) (d : X) → i < length xs → P (get_or xs i d)
-all_at P [] all i d less = absurd (omega (arith, less))
-all_at P (x ∷ xs) all zero d less = all.0
-all_at P (x ∷ xs) all (suc i) d less = all_at P xs all.1 i d (omega (arith, less))
 
 -- where a pair is, and that its numbers are within
 pub pair_there : (n m : ℕ) (ps : List (ℕ × ℕ)) → AreWithin n m ps → (a : ℕ × ℕ) (i : ℕ) → position (pair_eq a) ps ≡ Some i → (i < length ps) × (a ≡ pair_at ps i) × (a.0 < n) × (a.1 < m)
