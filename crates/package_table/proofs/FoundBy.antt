@@ -1,6 +1,6 @@
 -- What a package finds by a name, by numbers.
 --     position_in, position_of, position_some      the position of a thing or a name that is kept, and that there is one
---     external_by, found_by, found_no_package, found_no_name      the look-ups by names
+--     external_by, found_by, found_no_name      the look-ups by names
 use Rattle.std.proofs.Common.{◌≡◌, ◌≢◌, ◌⊎◌, ◌+◌, ◌<◌, ◌≤◌, ℕ, zero, suc, Bool, true, false, cond, ◌&&◌, ◌||◌, nat_eq, is_some, List, [], ◌∷◌, ◌++◌, length, get_or, drop, position, Option, None, Some, option_map, option_and_then, bytes_eq, refl, sym, ap, subst, ◌∙◌, inl, inr, append_assoc, arith}
 use Rattle.std.proofs.lemmas.Bool.{false≢true, or_right}
 use Rattle.std.proofs.lemmas.Bool.Decides.{Decides-eqb}
@@ -277,13 +277,6 @@ module _ (k : Kept) (good : IsGood k) where
           | Some i ↦ λ is. sym (found_is (numbered_of k).0 N joined P (home_in k i) (finds_number i is))
           | None ↦ λ none. sym (finds_none (numbered_of k).0 N P (finds_nothing none))
         ] refl
-
-  pub found_no_package : (P N : Name) → position (bytes_eq P) k.packages ≡ None → found (numbered_of k).0 P N ≡ None
-  found_no_package P N none = finds_none (numbered_of k).0 N P (nothing none)
-    where
-      nothing : position (bytes_eq P) k.packages ≡ None → FindsNone (numbered_of k).0 P N
-      nothing none h (inl present) = none_some h (sym (ap (λ o. option_map (λ (e : Present). e.home) (option_and_then (λ (h : Package). finite.get h.symbols N) o)) (package_none k good P none)) ∙ present)
-      nothing none h (inr used) = none_some true (sym (ap (option_map (λ (h : Package). finite.contains_key h.uses used.0)) (package_none k good P none)) ∙ used.1)
 
   pub found_no_name : (P N : Name) → position (bytes_eq N) k.names ≡ None → found (numbered_of k).0 P N ≡ None
   found_no_name P N none = finds_none (numbered_of k).0 N P (nothing none)

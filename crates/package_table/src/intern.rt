@@ -10,7 +10,7 @@ ghost use Rattle.package_table.specs.Meaning.{numbered_of};
 ghost use Rattle.package_table.specs.Adds.{Adds, IsPlaced};
 
 use crate::limits::{MAX_SYMBOL_NAME, MAX_SYMBOLS};
-use crate::look_ups::{has_package, home_of};
+use crate::look_ups::{found_home, package_number};
 use crate::put::put_new;
 use crate::standardized::COMMON_LISP;
 use crate::{PackageError, Packages};
@@ -43,10 +43,10 @@ fn intern_symbol(
     ensures counted { length sets.new.symbols ≡ symbol_count (numbered_of sets.new).0 }
 {
     sets.goodness();
-    if !has_package(sets, owner) {
+    let Some(number) = package_number(sets, owner) else {
         return Err(PackageError::NoSuchPackage);
-    }
-    if let Some(home) = home_of(sets, owner, name) {
+    };
+    if let Some(home) = found_home(sets, number, name) {
         let home = Bytes::from_slice(alloc, home)?;
         return Ok(Interned {
             home,
@@ -60,7 +60,7 @@ fn intern_symbol(
         return Err(PackageError::Limit);
     }
     let home = Bytes::from_slice(alloc, owner)?;
-    put_new(sets, owner, name)?;
+    put_new(sets, number, name)?;
     Ok(Interned { home, is_new: true })
 }
 
