@@ -105,10 +105,10 @@ impl Names {
             return Err(AllocError);
         }
         let name = Vec::from_slice(alloc, name)?;
-        match self.set.insert_full(name) {
-            Ok(added) => Ok(added.0 as u32),
-            Err(_) => Err(AllocError),
-        }
+        let Ok(added) = self.set.insert_full(name) else {
+            return Err(AllocError);
+        };
+        Ok(added.0 as u32)
     }
 
     /// Keeps the first `len` names. Takes no memory, and time in proportion to what goes.

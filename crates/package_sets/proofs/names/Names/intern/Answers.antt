@@ -18,12 +18,12 @@ inserted ks n = either (list_any (λ k. bytes_eq n.items k.items) ks) ∙ ap (λ
     either true = refl
     either false = map-append (λ k. k.items) ks (n ∷ [])
 
-pub returns-in-Ok-clause-ok : goal.returns-in-Ok-clause-ok
-returns-in-Ok-clause-ok c =
+pub returns-clause-ok : goal.returns-clause-ok
+returns-clause-ok c =
     ap items c.in-Ok.ensures.keys ∙ inserted c.self.inside.set.keys c.in_ok-name.name
     ∙ (λ i. with_name (c.self.view_is i) (c.in_ok-name.ensures.items i))
 
-pub returns-in-Ok-clause-number : goal.returns-in-Ok-clause-number
-returns-in-Ok-clause-number c =
+pub returns-clause-number : goal.returns-clause-number
+returns-clause-number c =
     c.in-Ok.ensures.index ∙ sym (position_or_len-map (λ k. k.items) (bytes_eq c.in_ok-name.name.items) c.self.inside.set.keys)
     ∙ (λ i. number_in (c.self.view_is i) (c.in_ok-name.ensures.items i))
