@@ -1,7 +1,6 @@
 -- How symbols are numbered: one number for one symbol, for as long as there is the symbol.
-use Rattle.std.specs.Prelude.{◌≡◌, ◌<◌, ◌≤◌, ℕ, Some}
-use Rattle.std.specs.FinMap as finite
-use Rattle.package_table.specs.Table.{Name, name_cmp, IsPresent, IsSound, symbol_count}
+use Rattle.std.specs.Prelude.{◌≡◌, ◌<◌, ℕ, Some}
+use Rattle.package_table.specs.Table.{Name, IsPresent, IsSound, symbol_count}
 use Rattle.package_table.specs.Numbers.{Numbered, number_at}
 
 -- Each symbol has a number below the count, and two symbols have two.

@@ -1,11 +1,11 @@
 -- The numbers of symbols. They are beside the table and no part of it: packages with the same symbols are equal, whatever
 -- their numbers.
-use Rattle.std.specs.Prelude.{◌≡◌, ℕ, ◌++◌, List, [], ◌∷◌, Option, None, option_and_then, if◌then◌else◌, refl}
+use Rattle.std.specs.Prelude.{ℕ, ◌++◌, List, [], ◌∷◌, Option, None, option_and_then, if◌then◌else◌, refl}
 use Rattle.std.specs.Option.{option_map_or}
 use Rattle.std.specs.Borrow.{Bor}
 use Rattle.std.specs.Coded.{Coded, code_by, coded×, coded_list, coded_ℕ}
 use Rattle.std.specs.FinMap as finite
-use Rattle.package_table.specs.Table.{Name, name_cmp, name_code, Present, Package, Table, package_code, table_code, with_entry, with_used, with_new_package}
+use Rattle.package_table.specs.Table.{Name, name_cmp, name_code, Present, Table, table_code, with_entry, with_used, with_new_package}
 use Rattle.package_table.specs.Lookup.{is_symbol}
 
 -- for each package, the number of the symbol that is present by each name

@@ -2,8 +2,8 @@ use Rattle.std.proofs.Common.{arith}
 use Rattle.package_table.proofs.ByName.{symbol_given, symbol_missing}
 use Rattle.package_table.proofs.look_ups.symbol_of.Goals as goal
 
-pub returns-then-number : goal.returns-then-number
-returns-then-number c = record {
+pub returns-then-number-symbol_count : goal.returns-then-number-symbol_count
+returns-then-number-symbol_count c = record {
   symbol = symbol_missing c.args.sets.now c.goodness.ensures c.args.number (omega arith);
   there = grind arith;
 }
