@@ -1,4 +1,4 @@
-use Rattle.std.proofs.Common.{◌≡◌, ◌<◌, ◌×◌, ℕ, Option, None, Some, IfSome, length, position, bytes_eq, is_some, sym, ap, ◌∙◌}
+use Rattle.std.proofs.Common.{◌≡◌, ◌<◌, ℕ, Option, None, Some, IfSome, length, position, bytes_eq, is_some, sym, ap, ◌∙◌}
 use Rattle.package_sets.specs.Kept.{name_at}
 use Rattle.package_table.specs.Table.{Name}
 use Rattle.package_table.proofs.Mapped.{named}
