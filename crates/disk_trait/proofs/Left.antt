@@ -17,7 +17,7 @@ filled_are : (n byte : ℕ) → byte < 256 → AreBytes (replicate n byte)
 filled_are zero byte small = tt
 filled_are (suc n) byte small = (small, filled_are n byte small)
 
-whole_write : (at : ℕ) (bytes old : List ℕ) → AreBytes bytes → Torn at (length bytes) old (written at bytes old)
+pub whole_write : (at : ℕ) (bytes old : List ℕ) → AreBytes bytes → Torn at (length bytes) old (written at bytes old)
 whole_write at bytes old are = record {
   middle = bytes;
   bytes = are;

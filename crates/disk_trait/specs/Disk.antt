@@ -26,7 +26,7 @@ pub record State : Type 1 where
   pub reads : Image
   -- the images that a crash now may leave
   pub may_leave : Image → Type 0
-  -- a clock, which never falls
+  -- a clock, which falls in no call of the disk
   pub moment : ℕ
   -- the images that a crash at some moment from that one on might have left
   pub left_since : ℕ → Image → Type 0

@@ -15,6 +15,17 @@ pub struct DeviceFault;
 ///
 /// A disk claims to be honest or claims nothing. The clauses that begin with `IsHonest` bind an honest one;
 /// the others bind every disk.
+///
+/// # Before you claim that a disk is honest
+///
+/// The clauses bound what a crash leaves from above: an image that they do not allow is never left. They ask for no
+/// torn image, and a disk whose writes last as soon as they return is honest too. So what is to be checked of a device
+/// is that it leaves nothing else: of a write any bytes in its range and past the old end any number of them, of a cut
+/// any bytes up to the old end (`torn_images`), and every other byte as it was.
+///
+/// A crash inside a call leaves what one before the call might have left, or what one after it may leave. So what a
+/// call may leave half done has to be among what may be left after it, until a sync: a device whose writes last as they
+/// return, but may tear while they are made, is told as one that may tear until the next sync.
 pub trait Disk {
     /// What the disk holds, what a crash may leave of it, and how often it has failed.
     ghost state: { Self → State };

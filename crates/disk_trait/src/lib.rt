@@ -12,6 +12,7 @@
 //! - `FuseDisk` and `OnceDisk` (module `faulty`) let calls of another disk fail, for tests: those that a `Faults` (module
 //!   `faults`) names.
 //! - `HostDisk` (module `host`) is two files of the operating system. It claims no honesty.
+//! - `torn_images` (module `laws`): a write or a cut that a crash cuts short may leave each mix of bytes.
 #![tactic(auto)]
 
 mod call;
@@ -21,6 +22,7 @@ mod faults;
 mod faulty;
 mod half;
 mod host;
+mod laws;
 mod memory;
 
 pub use crash::Crash;
@@ -29,4 +31,5 @@ pub use faults::{Faults, Fuse, Once};
 pub use faulty::{FaultyDisk, FuseDisk, OnceDisk};
 pub use half::Half;
 pub use host::HostDisk;
+pub use laws::torn_images;
 pub use memory::MemoryDisk;
