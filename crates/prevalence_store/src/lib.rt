@@ -13,6 +13,8 @@
 //!   word on the files. While it opens, a crash leaves what the files might have meant before. A refusal gives the disk back.
 //! - *The two together* (`headline`): after an opening and any calls in a row, a crash at any moment and an opening of what it leaves give
 //!   the world after some of all the forms, from the first on, and after all that were acknowledged.
+//! - *Openings in a row* (`recoveries`): so does an opening after a device fault, or after a stop of the process while the machine
+//!   goes on, where a crash may leave more than one world; also where that opening is refused, or stopped itself.
 //!
 //! Of every disk: each call returns; 60 comes exactly if the device's count of failures rose, and after it each call but
 //! `close`, `world`, `half`, `generation` and `record_count` answers 61; a refusal of 1 to 46, 64, 65 or 90 changes nothing.
@@ -33,7 +35,7 @@
 //! - `session`: `serve`, and its parts: `input` and `output`, the streams; `answer`, what becomes of a form that was read;
 //!   `schedule`, when it takes snapshots.
 //! - `mode`, `step`, `outcome`, `open_fault`: the words of the calls. `failure`: why a form is not accepted.
-//! - `laws`: the headline, that an image means one world, and which numbers refuse a form.
+//! - `laws`: the headline, openings in a row, that an image means one world, and which numbers refuse a form.
 #![tactic(auto)]
 
 mod commit;
@@ -48,7 +50,7 @@ mod setting;
 mod step;
 mod store;
 
-pub use laws::{form_numbers, fresh_files, headline, one_world, refused_openings};
+pub use laws::{form_numbers, fresh_files, headline, one_world, recoveries};
 pub use lisp_object::refusal::name_of as refusal_name;
 pub use mode::Mode;
 pub use open_fault::OpenFault;
