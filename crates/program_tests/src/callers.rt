@@ -4,14 +4,15 @@ ghost use Rattle.disk_trait.specs.Disk.{IsHonest};
 ghost use Rattle.plist_state.specs.State.{WorldState};
 ghost use Rattle.prevalence_store.specs.meaning.Acceptance.{Acceptance, accepts, records_of};
 ghost use Rattle.prevalence_store.specs.meaning.Answers.{Progress, after_forms};
+ghost use Rattle.prevalence_store.specs.calls.Run.{acknowledged_in_steps, taken_in_steps};
 ghost use Rattle.prevalence_store.specs.calls.Streams.{Writes};
 ghost use Rattle.prevalence_store.specs.Theorem.{IsAfterSome, Keeps};
 
 use crate::asked::{asked, session};
 use crate::by_name::ByName;
 use crate::files::{AMPLE, Trouble, crashed};
-use disk_trait::{Crash, Disk, MemoryDisk};
-use prevalence_store::{Ending, Mode, Outcome, Store, Unopened, headline};
+use disk_trait::{Crash, Disk, MemoryDisk, OnceDisk};
+use prevalence_store::{Ending, Mode, Outcome, Step, Store, Unopened, headline, recoveries};
 use std::alloc::Global;
 use std::io::{Read, Write};
 use std::test::Fail;
@@ -109,6 +110,44 @@ fn one_session<D: Disk + Drop, M: MacroFunctions + Drop, R: Read, W: Write>(
     Some((ending, closed, Store::open(alloc, crashed, macros, AMPLE)))
 }
 
+/// The outcomes of steps, and what opening the disk again gave.
+type Rerun<D, M> = (Vec<Outcome>, Result<Store<D, M>, Unopened<D, M>>);
+
+/// Opens a disk, runs steps, closes the store, and opens the disk again with the same macro functions. `None` where it is not
+/// opened the first time, or there is no memory for the outcomes.
+///
+/// Also after a device fault the store has the world after some of the forms that the steps took, from the first on, and after
+/// all that their outcomes call accepted.
+fn steps_and_again<D: Disk + Drop, M: MacroFunctions + Drop>(
+    alloc: Global,
+    disk: D,
+    macros: M,
+    steps: &[Step],
+) -> Option<Rerun<D, M>>
+    requires room { (D.state disk).failures < 2 ^ 64 - 1 }
+    requires answers { M.answers macros }
+    ensures found { IfSome result (λ rerun. (w : WorldState)
+        → IsHonest (D.state disk) → Keeps M.Meaning.functions (D.state disk) w
+        → IfOk rerun.1 (λ store. (now : WorldState) × (store.world ≡ Some now)
+        × IsAfterSome M.Meaning.functions w
+        (taken_in_steps M.Meaning.functions w steps.now rerun.0.items)
+        (acknowledged_in_steps M.Meaning.functions w steps.now rerun.0.items) now)) }
+{
+    let Ok(mut store) = Store::open(alloc, disk, macros, AMPLE) else {
+        return None;
+    };
+    let Ok(outcomes) = store.run(steps) else {
+        let _closed = store.close();
+        return None;
+    };
+    let (closed, macros) = store.close();
+    if closed.failures() == u64::MAX {
+        return None;
+    }
+    recoveries::<D>();
+    Some((outcomes, Store::open(alloc, closed, macros, AMPLE)))
+}
+
 /// Files with the property 7, on which a crash of this kind came.
 fn left(alloc: Global, kind: Crash) -> Result<MemoryDisk, Trouble> {
     let calls = [session(b"(SETF (GET 'A 'B) 7)")];
@@ -117,7 +156,7 @@ fn left(alloc: Global, kind: Crash) -> Result<MemoryDisk, Trouble> {
 }
 
 /// Whether the other disk was opened too.
-fn opened_too(again: Result<Store<MemoryDisk, ByName>, Unopened<MemoryDisk, ByName>>) -> bool {
+fn opened_too<D: Disk + Drop>(again: Result<Store<D, ByName>, Unopened<D, ByName>>) -> bool {
     match again {
         Ok(store) => {
             let _disk = store.close();
@@ -172,6 +211,39 @@ fn served_once(alloc: Global, kind: Crash, input: &[u8]) -> Result<(bool, Vec<u8
 fn is_served(alloc: Global, kind: Crash, input: &[u8], wanted: &[u8]) -> Result<bool, Trouble> {
     let (found, answers) = served_once(alloc, kind, input)?;
     Ok(found && answers.as_slice() == wanted)
+}
+
+/// Two forms over a disk of which the call of this number fails: whether the device failed in one of them, and the disk was
+/// opened again. `None` where it was not opened the first time.
+fn again_after(alloc: Global, call: u64) -> Option<(bool, bool)> {
+    let disk = OnceDisk::new(MemoryDisk::new(alloc), call);
+    if disk.failures() > 0 {
+        return None;
+    }
+    let steps = [
+        Step::Form(Mode::Current, b"(SETF (GET 'A 'B) 7)"),
+        Step::Form(Mode::Current, b"(SETF (GET 'A 'B) 8)"),
+    ];
+    let macros = ByName::new(alloc, SixFunctions::new());
+    let (outcomes, again) = steps_and_again(alloc, disk, macros, &steps)?;
+    let has_failed = outcomes
+        .iter()
+        .any(|outcome| matches!(outcome, Outcome::Refused(60)));
+    Some((has_failed, opened_too(again)))
+}
+
+#[test]
+fn a_disk_is_opened_again_after_a_fault(rt: HostRuntime) -> Result<(), Fail> {
+    let mut faults = 0;
+    for call in 0..40 {
+        if let Some((has_failed, is_open)) = again_after(rt.alloc(), call) {
+            assert!(rt; is_open, "{call}");
+            faults += u64::from(has_failed);
+        }
+    }
+    // an append makes four calls
+    assert_eq!(rt; faults, 8);
+    Ok(())
 }
 
 #[test]
