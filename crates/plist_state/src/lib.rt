@@ -56,6 +56,7 @@ mod undo;
 mod world;
 
 pub use error::ReadtableError;
+pub use package_table::Seed;
 pub use property::Property;
 pub use symbol::Symbol;
 pub use tables::{MAX_READTABLES, STANDARD, USER};

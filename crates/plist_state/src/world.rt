@@ -13,7 +13,7 @@ use crate::numbers::number_of;
 use crate::stored::{Stored, first_stored};
 use crate::{Property, Symbol, rows, tables};
 use lisp_object::Datum;
-use package_table::Packages;
+use package_table::{Packages, Seed};
 use readtable_core::Readtable;
 use std::alloc::{AllocError, Global};
 use std::marker::Model;
@@ -50,7 +50,14 @@ impl World {
     pub fn new(alloc: Global) -> Result<World, AllocError>
         ensures { IfOk result (λ world. world ≡ (initial, [])) }
     {
-        let packages = Packages::new(alloc)?;
+        World::with_seed(alloc, Seed::fixed())
+    }
+
+    /// The same, where names are hashed by this seed (`Packages::with_seed`).
+    pub fn with_seed(alloc: Global, seed: Seed) -> Result<World, AllocError>
+        ensures { IfOk result (λ world. world ≡ (initial, [])) }
+    {
+        let packages = Packages::with_seed(alloc, seed)?;
         packages.soundness();
         Ok(World {
             alloc,

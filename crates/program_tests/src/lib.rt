@@ -11,7 +11,7 @@
 //! - `calls`, `silent`, `turns`, `snapshots`, `callers`: the calls of a store
 //! - `stopped`, `snapshot_crashes`, `altered`: devices that stop, crashes, files that were altered
 //! - `macros`: the macro functions of the program
-//! - `commands`, by scripts of `runs`: the words of the program, its statuses, and real files
+//! - `commands`, by scripts of `runs`: the words of the program, its statuses, and real files; `unseeded`: no random bytes
 #![tactic(auto)]
 
 #[cfg(test)]
@@ -54,3 +54,5 @@ mod snapshots;
 mod stopped;
 #[cfg(test)]
 mod turns;
+#[cfg(test)]
+mod unseeded;

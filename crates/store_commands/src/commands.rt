@@ -15,11 +15,13 @@ use crate::status::Status;
 use crate::words::{Asked, Task, asked_in};
 use clap::Error;
 use disk_trait::{Disk, HostDisk};
-use lisp_object::refusal::{DEVICE, NO_MEMORY, OUTPUT};
+use lisp_object::refusal::{DEVICE, INPUT, NO_MEMORY, OUTPUT};
+use plist_state::Seed;
 use std::alloc::Global;
 use std::convert::AsStr;
 use std::fs::File;
 use std::io::{Read, Write};
+use std::random::RandomSource;
 use std::rt::Files;
 use user_macros::MacroFunctions;
 
@@ -29,7 +31,8 @@ use user_macros::MacroFunctions;
 /// in the mode Rescue, and with `--snapshot-every N` it takes a snapshot after each N forms that were logged. `dump DIR` writes
 /// the text of the world to `output`, and `verify DIR` the line on the half in use; they read nothing.
 ///
-/// Faults are found in this order: the words, DIR, the opening of the store, the command. A text on words that are refused, or
+/// Names are hashed by a seed that is drawn from `rt`; where it has no random bytes, the status is that of a fault of the input.
+/// Faults are found in this order: the words, the seed, DIR, the opening of the store, the command. A text on words that are refused, or
 /// the line of a fault, goes to `faults`; help that was asked for goes to `output`. What is written to `output` is flushed.
 pub fn program<R, M, S, I, O, F>(
     rt: &R,
@@ -40,7 +43,7 @@ pub fn program<R, M, S, I, O, F>(
     faults: &mut F,
 ) -> Status
 where
-    R: Files<File = File> + AllocGlobal,
+    R: Files<File = File> + RandomSource + AllocGlobal,
     M: MacroFunctions + Drop,
     S: AsStr,
     I: Read,
@@ -121,7 +124,7 @@ fn carry_out<R, M, I, O>(
     output: &mut O,
 ) -> Status
 where
-    R: Files<File = File> + AllocGlobal,
+    R: Files<File = File> + RandomSource + AllocGlobal,
     M: MacroFunctions + Drop,
     I: Read,
     O: Write,
@@ -130,6 +133,10 @@ where
         (are_registered M.Meaning.functions (M.functions macros)) I.remaining O.contents
         input.old input.new output.old output.new asked.entry.folder.now asked.entry.task result }
 {
+    // the seed comes before the folder, so that nothing is made where there is none
+    let Ok(seed) = Seed::draw(rt) else {
+        return Status::Fault(INPUT);
+    };
     // no folder has an empty name, and files under it would be those of the present folder
     if asked.folder.is_empty() {
         return Status::Fault(DEVICE);
@@ -137,7 +144,7 @@ where
     let Ok(disk) = HostDisk::open(rt, asked.folder) else {
         return Status::Fault(DEVICE);
     };
-    let (status, _disk) = carry_out_on(rt.alloc(), disk, macros, asked.task, input, output);
+    let (status, _disk) = carry_out_on(rt.alloc(), disk, macros, seed, asked.task, input, output);
     status
 }
 
@@ -146,6 +153,7 @@ fn carry_out_on<D, M, I, O>(
     alloc: Global,
     disk: D,
     macros: M,
+    seed: Seed,
     task: Task,
     input: &mut I,
     output: &mut O,
@@ -165,11 +173,11 @@ where
         Task::Run {
             mode,
             snapshot_every,
-        } => match serve_on(alloc, disk, macros, mode, snapshot_every, input, output) {
+        } => match serve_on(alloc, disk, macros, seed, mode, snapshot_every, input, output) {
             Ok((ending, disk, _macros)) => (Status::of_ending(ending), disk),
             Err(unopened) => (Status::Fault(unopened.number), unopened.disk),
         },
-        Task::Tell(report) => match report_on(alloc, disk, macros, report, output) {
+        Task::Tell(report) => match report_on(alloc, disk, macros, seed, report, output) {
             Ok((status, disk, _macros)) => (status, disk),
             Err(unopened) => (Status::Fault(unopened.number), unopened.disk),
         },

@@ -1,18 +1,22 @@
-use Rattle.std.proofs.Common.{rules, inl, refl}
-use Rattle.lisp_object.specs.declared.refusal.TheConstants.{DEVICE}
+use Rattle.std.proofs.Common.{rules, inl, inr, refl}
+use Rattle.lisp_object.specs.declared.refusal.TheConstants.{DEVICE, INPUT}
 use Rattle.store_commands.specs.declared.status.Status.TheVariants.{Fault}
 use Rattle.store_commands.proofs.Tasks.{performs_nothing, performs_on}
 use Rattle.store_commands.proofs.commands.carry_out.Goals as goal
 
-pub returns-then-is_empty : goal.returns-then-is_empty
-returns-then-is_empty g c =
-    performs_nothing _ _ _ _ g.I.Read.remaining g.O.Write.contents _ _ _ _ c.args.asked.folder.now c.args.asked.task (Fault DEVICE) (inl refl) (refl, refl)
-
 pub returns-in_default : goal.returns-in_default
 returns-in_default g c =
-    performs_nothing _ _ _ _ g.I.Read.remaining g.O.Write.contents _ _ _ _ c.args.asked.folder.now c.args.asked.task (Fault DEVICE) (inl refl) (refl, refl)
+    performs_nothing _ _ _ _ g.I.Read.remaining g.O.Write.contents _ _ _ _ c.args.asked.folder.now c.args.asked.task (Fault INPUT) (inr (inl refl)) (refl, refl)
+
+pub returns-then-is_empty : goal.returns-then-is_empty
+returns-then-is_empty g c =
+    performs_nothing _ _ _ _ g.I.Read.remaining g.O.Write.contents _ _ _ _ c.args.asked.folder.now c.args.asked.task (Fault DEVICE) (inr (inr refl)) (refl, refl)
+
+pub returns-in_default-open : goal.returns-in_default-open
+returns-in_default-open g c =
+    performs_nothing _ _ _ _ g.I.Read.remaining g.O.Write.contents _ _ _ _ c.args.asked.folder.now c.args.asked.task (Fault DEVICE) (inr (inr refl)) (refl, refl)
 
 pub returns : goal.returns
 returns g c =
-    performs_on _ _ _ _ g.I.Read.remaining g.O.Write.contents _ _ _ _ c.in-Ok.disk c.carry_out_on-status.result.1 c.args.asked.folder.now c.args.asked.task c.carry_out_on-status.result.0
+    performs_on _ _ _ _ g.I.Read.remaining g.O.Write.contents _ _ _ _ c.in-Ok-open.disk c.carry_out_on-status.result.1 c.args.asked.folder.now c.args.asked.task c.carry_out_on-status.result.0
     (λ none. absurd (search rules)) c.carry_out_on-status.ensures

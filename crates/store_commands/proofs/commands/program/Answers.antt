@@ -34,7 +34,7 @@ returns-clause-taken g c = λ folder task taken.
       | in-Err w ↦
           let memory = only_memory (faults_of (map g.S.AsStr.text c.args.words.now)) (kind_of w.in-Err.error) taken.0 w.in-Err.ensures.faults in
           let ended = memory_at c.end_with.result w.answer_words-status.result (kind_of w.in-Err.error) (c.end_with.ensures.status ∙ w.status-is) memory w.answer_words-status.ensures.status in
-          performs_nothing _ _ _ _ g.I.Read.remaining g.O.Write.contents _ _ _ _ folder task c.end_with.result (inr ended)
+          performs_nothing _ _ _ _ g.I.Read.remaining g.O.Write.contents _ _ _ _ folder task c.end_with.result (inl ended)
           (w.input-is, w.output-is ∙ w.answer_words-status.ensures.memory (sym (c.end_with.ensures.status ∙ w.status-is) ∙ ended))
     ]
 
