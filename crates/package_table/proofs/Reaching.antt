@@ -17,7 +17,7 @@ turned true e = absurd (false≢true e)
 turned false e = refl
 
 -- a property that is asked of the entries, and one entry that has it
-any_with : {X : Type 0} (test : Name × X → Bool) (m : finite.FinMap Rattle.package_table.specs.Table.name_cmp X) (q : Name) (x : X) → finite.get m q ≡ Some x → test (q, x) ≡ true → list_any test (finite.entries m) ≡ true
+pub any_with : {X : Type 0} (test : Name × X → Bool) (m : finite.FinMap Rattle.package_table.specs.Table.name_cmp X) (q : Name) (x : X) → finite.get m q ≡ Some x → test (q, x) ≡ true → list_any test (finite.entries m) ≡ true
 any_with test m q x there passes =
     elim (list_any test (finite.entries m)) as (λ b. list_any test (finite.entries m) ≡ b → b ≡ true) [
       | true ↦ λ _. refl

@@ -13,12 +13,8 @@ use Rattle.std.specs.FinMap as finite
 use Rattle.std.specs.FinMap.{is_sorted}
 use Rattle.lisp_object.proofs.Tree as tree
 use Rattle.lisp_object.proofs.TreeEntries as tree_entries
-use Rattle.package_table.specs.declared.symbol.Symbol.{Symbol}
-use Rattle.package_table.specs.Table.{Name, name_cmp, Table}
-use Rattle.package_table.specs.Readers.{present, used_names}
-use Rattle.package_table.specs.Symbols.{present_of}
-use Rattle.package_table.specs.Numbers.{Held}
-use Rattle.package_table.specs.Kept.{as_map, as_set, package_of}
+use Rattle.package_table.specs.Table.{Name, name_cmp}
+use Rattle.package_table.specs.Kept.{as_map, as_set}
 use Rattle.package_table.proofs.Names.{name_total, name_exact}
 
 pub copied : {A B : Type 0} (g : A → B) (r : Option (Bor A)) → option_map (λ x. g x.now) r ≡ option_map g (option_copied r)
@@ -122,13 +118,6 @@ pub copied_next_key : (copied : List (Vec ℕ)) (k e : Vec ℕ) (rest all : List
     → (done : List (Vec ℕ)) × (done ++ e ∷ rest ≡ all) × (as_set copied ≡ as_set done)
     → (done : List (Vec ℕ)) × (done ++ rest ≡ all) × (as_set (insert_key by_name copied k) ≡ as_set done)
 copied_next_key = tree_entries.copied_next_key name_of name_cmp name_total name_exact
-
--- what is present in a package is what its tree holds
-pub present-read : (t : Table) (p : Name) (k : Held) (es : List (Vec ℕ × Symbol)) → as_map present_of es ≡ (package_of k).symbols → Some (package_of k) ≡ finite.get t p → IsStrictlySortedBy by_name (keys_of es) → read present_of es ≡ present t p
-present-read t p k es is here sorted = sym (entries-as_map present_of es sorted) ∙ ap finite.entries is ∙ ap (λ o. option_map_or (λ k. finite.entries k.symbols) o []) here
-
-pub used-read : (t : Table) (p : Name) (k : Held) (ks : List (Vec ℕ)) → as_set ks ≡ (package_of k).uses → Some (package_of k) ≡ finite.get t p → IsStrictlySortedBy by_name ks → map (λ k. k.items) ks ≡ used_names t p
-used-read t p k ks is here sorted = sym (keys-as_set ks sorted) ∙ ap finite.keys is ∙ ap (λ o. option_map_or (λ k. finite.keys k.uses) o []) here
 
 pub keys-read : {X V : Type 0} (g : X → V) (es : List (Vec ℕ × X)) → map (λ e. e.0) (read g es) ≡ map (λ k. k.items) (keys_of es)
 keys-read g [] = refl

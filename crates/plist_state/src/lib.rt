@@ -13,9 +13,9 @@
 //! (`undo`), and takes no memory: a row that was emptied stays, with its memory, and the journal's invariant (`IsJournal`
 //! of specs/Journal.antt) says that each row has memory for what is put back. The packages have a journal of their own.
 //!
-//! Property lists are kept by the numbers that package_table gives to symbols. What is kept is a `NumberedRest`
-//! (specs/Shown.antt), of which the definitions of the journal speak; `lists` of specs/Lists.antt gives the lists of the
-//! symbols, by which contracts see a state (`state_in` of specs/Marked.antt).
+//! Property lists are kept by the numbers that package_table gives to symbols, and in them each indicator is such a number
+//! too. What is kept is a `NumberedRest` (specs/Shown.antt), of which the definitions of the journal speak; `lists` of
+//! specs/Lists.antt gives the lists of the symbols, by which contracts see a state (`state_in` of specs/Marked.antt).
 //!
 //! - `world`: `World`, and what is asked of it
 //! - `readers`: the lists that it gives
@@ -23,7 +23,7 @@
 //! - `marks`: `mark`, `mark_count`, `back_to`, `settle`, over `journal` (notes under marks) and `undo` (notes undone)
 //! - `note`: what is noted of a change
 //! - `numbers`: the numbers of symbols, as `rows` takes them
-//! - `symbol`, `property`: `Symbol`, `Property`
+//! - `symbol`, `property`, `property_list`: `Symbol`, `Property`, `PropertyList`
 //! - `error`: `ReadtableError`
 //! - `stored`: what a world keeps besides its packages, over `rows` (property lists by number) and `tables` (readtables by
 //!   name; `copies`: those that are copied)
@@ -46,6 +46,7 @@ mod numbers;
 mod packages;
 mod properties;
 mod property;
+mod property_list;
 mod readers;
 mod readtables;
 mod rows;
@@ -56,7 +57,9 @@ mod undo;
 mod world;
 
 pub use error::ReadtableError;
+pub use package_table::Seed;
 pub use property::Property;
+pub use property_list::PropertyList;
 pub use symbol::Symbol;
 pub use tables::{MAX_READTABLES, STANDARD, USER};
 pub use world::World;

@@ -74,6 +74,25 @@ fn an_altered_byte_is_found(rt: HostRuntime) -> Result<(), Fail> {
     Ok(())
 }
 
+/// Whether half A is as an empty one.
+fn is_as_empty(alloc: Global, a: &[u8]) -> Result<bool, Trouble> {
+    let world = told(alloc, disk_of(alloc, a, b"")?, &[Ask::World])?;
+    Ok(world == told(alloc, MemoryDisk::new(alloc), &[Ask::World])?)
+}
+
+#[test]
+fn a_half_whose_gate_is_closed_is_as_an_empty_one(rt: HostRuntime) -> Result<(), Fail> {
+    let alloc = rt.alloc();
+    for bytes in [
+        cut_to(alloc, 0)?,
+        cut_to(alloc, 1)?,
+        with_byte(alloc, 0, 0)?,
+    ] {
+        assert!(rt; is_as_empty(alloc, bytes.as_slice())?, "{bytes:?}");
+    }
+    Ok(())
+}
+
 /// Whether half A is damaged that is cut to this length.
 fn is_damaged(alloc: Global, length: usize) -> Result<bool, Trouble> {
     let bytes = cut_to(alloc, length)?;

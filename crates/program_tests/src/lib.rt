@@ -9,7 +9,8 @@
 //! - `asked` calls a store, `by_name` has the macro functions, `files` the bytes of disks, `broken` streams that fail
 //! - `rows`, `evaluation`, `sessions`, `refusals`: what forms are answered
 //! - `calls`, `silent`, `turns`, `snapshots`, `callers`: the calls of a store
-//! - `stopped`, `snapshot_crashes`, `altered`: devices that stop, crashes, files that were altered
+//! - `campaign`: a device that stops at each of its calls in turn, and each kind of crash after that; `stopped`: what exactly is
+//!   left of one form or snapshot; `altered`: files that were altered; `memory`: a macro function that finds no memory
 //! - `macros`: the macro functions of the program
 //! - `commands`, by scripts of `runs`: the words of the program, its statuses, and real files
 #![tactic(auto)]
@@ -27,6 +28,8 @@ mod callers;
 #[cfg(test)]
 mod calls;
 #[cfg(test)]
+mod campaign;
+#[cfg(test)]
 mod commands;
 #[cfg(test)]
 mod evaluation;
@@ -37,6 +40,8 @@ mod long;
 #[cfg(test)]
 mod macros;
 #[cfg(test)]
+mod memory;
+#[cfg(test)]
 mod refusals;
 #[cfg(test)]
 mod rows;
@@ -46,8 +51,6 @@ mod runs;
 mod sessions;
 #[cfg(test)]
 mod silent;
-#[cfg(test)]
-mod snapshot_crashes;
 #[cfg(test)]
 mod snapshots;
 #[cfg(test)]

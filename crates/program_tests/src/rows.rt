@@ -248,6 +248,8 @@ fn difference(alloc: Global, rows: &[Row], most: usize) -> Result<Option<usize>,
             every: 0,
             most,
             input: row.input,
+            reads: u64::MAX,
+            room: usize::MAX,
         };
         let (text, left) = asked(alloc, disk, AMPLE, &[Ask::Serve(session)])?;
         if text.as_slice() != row.text {

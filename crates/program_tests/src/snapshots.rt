@@ -79,6 +79,8 @@ fn is_as_wanted(alloc: Global, case: &Case) -> Result<bool, Trouble> {
         every: case.snapshot_every,
         most: usize::MAX,
         input: case.input,
+        reads: u64::MAX,
+        room: usize::MAX,
     };
     let calls = [Ask::Serve(session), Ask::Half];
     let (text, _disk) = asked(alloc, MemoryDisk::new(alloc), case.limit, &calls)?;

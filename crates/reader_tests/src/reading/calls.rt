@@ -133,6 +133,11 @@ fn symbols_of_no_package(rt: HostRuntime) -> Result<(), Fail> {
         move |_call: &Call| symbol(alloc, b"CL-USER", b"X"),
     )?;
     assert!(rt; refusal(&read_with(&rt, nickname, function, b"(!)")?) == (21, 2));
+    let function: MacroFn = Box::new(
+        rt.alloc(),
+        move |_call: &Call| symbol(alloc, b"CL-USER", b"X"),
+    )?;
+    assert!(rt; refusal(&read_with(&rt, nickname, function, b"!")?) == (21, 1));
     Ok(())
 }
 

@@ -1,0 +1,110 @@
+-- Marks: how much was kept, and going back to it.
+--     marked_push, rising_push, tables_push      a new mark
+--     back      what is left after going back to a mark
+--     marks_sound      what was kept at each mark is sound, and its symbols are numbered
+use Rattle.std.proofs.Common.{◌≡◌, ◌<◌, ◌≤◌, ℕ, zero, suc, List, [], ◌∷◌, ◌++◌, map, length, take, get_or, Some, All, refl, sym, ap, subst, ◌∙◌, arith}
+use Rattle.std.specs.List.{AllByRecursion, slice_get}
+use Rattle.std.proofs.lemmas.List.{length-take-le, take-take}
+use Rattle.package_sets.specs.declared.sizes.Sizes.{Sizes}
+use Rattle.package_sets.specs.Kept.{Kept, cut, sizes_of}
+use Rattle.package_table.specs.Table.{symbol_count}
+use Rattle.package_table.specs.Numbers.{Numbered}
+use Rattle.package_table.specs.Numbering.{IsNumbered, IsNumberedSound}
+use Rattle.package_table.specs.Meaning.{numbered_of}
+use Rattle.package_table.specs.Adds.{IsAtMost}
+use Rattle.package_table.specs.Shown.{IsMark, IsState, IsRising, IsUpTo, tables_at}
+use Rattle.package_table.proofs.Meant.{all_at}
+use Rattle.package_table.proofs.Adding.{at_most_all, cut_all}
+use Rattle.package_table.proofs.ByName.{numbers_always}
+
+-- ---- a new mark
+mark_now : (k : Kept) → IsState k → IsMark k (sizes_of k)
+mark_now k state = record { fits = at_most_all k; state = subst IsState (sym (cut_all k state.good)) state }
+
+pub marked_push : (k : Kept) → IsState k → (ns : List Sizes) → AllByRecursion (IsMark k) ns → AllByRecursion (IsMark k) (ns ++ sizes_of k ∷ [])
+marked_push k state [] marks = (mark_now k state, tt)
+marked_push k state (n ∷ ns) marks = (marks.0, marked_push k state ns marks.1)
+
+up_to_now : (k : Kept) (n : Sizes) → IsMark k n → IsUpTo n (sizes_of k)
+up_to_now k n mark = record { names = mark.fits.names; packages = mark.fits.packages; symbols = mark.fits.symbols; imports = mark.fits.imports; externals = mark.fits.externals; uses = mark.fits.uses }
+
+up_to_push : (m s : Sizes) (ns : List Sizes) → AllByRecursion (IsUpTo m) ns → IsUpTo m s → AllByRecursion (IsUpTo m) (ns ++ s ∷ [])
+up_to_push m s [] all one = (one, tt)
+up_to_push m s (n ∷ ns) all one = (all.0, up_to_push m s ns all.1 one)
+
+pub rising_push : (k : Kept) (ns : List Sizes) → AllByRecursion (IsMark k) ns → IsRising ns → IsRising (ns ++ sizes_of k ∷ [])
+rising_push k [] marks rising = (tt, tt)
+rising_push k (n ∷ ns) marks rising = (up_to_push n (sizes_of k) ns rising.0 (up_to_now k n marks.0), rising_push k ns marks.1 rising.1)
+
+pub tables_push : (k : Kept) → IsState k → (ns : List Sizes) → tables_at (ns ++ sizes_of k ∷ []) k ≡ tables_at ns k ++ numbered_of k ∷ []
+tables_push k state [] = ap (λ (k : Kept). numbered_of k ∷ []) (cut_all k state.good)
+tables_push k state (n ∷ ns) = ap (λ ts. numbered_of (cut n k) ∷ ts) (tables_push k state ns)
+
+-- ---- going back
+-- a cut of a cut
+cut_twice : (k : Kept) (m n : Sizes) → IsUpTo m n → cut m (cut n k) ≡ cut m k
+cut_twice k m n less = λ i. record {
+  names = take-take m.names n.names k.names less.names i;
+  packages = take-take m.packages n.packages k.packages less.packages i;
+  symbols = take-take m.symbols n.symbols k.symbols less.symbols i;
+  imports = take-take m.imports n.imports k.imports less.imports i;
+  imported = take-take m.imports n.imports k.imported less.imports i;
+  externals = take-take m.externals n.externals k.externals less.externals i;
+  uses = take-take m.uses n.uses k.uses less.uses i;
+}
+
+fits_taken : {X : Type 0} (xs : List X) (m n : ℕ) → m ≤ n → n ≤ length xs → m ≤ length (take n xs)
+fits_taken xs m n less within = let size = length-take-le n xs within in omega (arith, less, size)
+
+mark_cut : (k : Kept) (m n : Sizes) → IsMark k m → IsMark k n → IsUpTo m n → IsMark (cut n k) m
+mark_cut k m n mark later less = record {
+  fits = record {
+    names = fits_taken k.names m.names n.names less.names later.fits.names;
+    packages = fits_taken k.packages m.packages n.packages less.packages later.fits.packages;
+    symbols = fits_taken k.symbols m.symbols n.symbols less.symbols later.fits.symbols;
+    imports = fits_taken k.imports m.imports n.imports less.imports later.fits.imports;
+    externals = fits_taken k.externals m.externals n.externals less.externals later.fits.externals;
+    uses = fits_taken k.uses m.uses n.uses less.uses later.fits.uses;
+  };
+  state = subst IsState (sym (cut_twice k m n less)) mark.state;
+}
+
+taken : {X : Type 0} (P : X → Type 0) (xs : List X) (i : ℕ) → AllByRecursion P xs → AllByRecursion P (take i xs)
+taken P xs zero all = tt
+taken P [] (suc i) all = tt
+taken P (x ∷ xs) (suc i) all = (all.0, taken P xs i all.1)
+
+pub record Back (k : Kept) (ns : List Sizes) (i : ℕ) (n : Sizes) : Type 0 where
+  pub state : IsState (cut n k)
+  pub marked : AllByRecursion (IsMark (cut n k)) (take i ns)
+  pub rising : IsRising (take i ns)
+  pub past : tables_at (take i ns) (cut n k) ≡ take i (tables_at ns k)
+  pub now : slice_get (tables_at ns k) i ≡ Some (numbered_of (cut n k))
+
+pub back : (k : Kept) (ns : List Sizes) (i : ℕ) (d : Sizes) → i < length ns → AllByRecursion (IsMark k) ns → IsRising ns → Back k ns i (get_or ns i d)
+back k [] i d less marks rising = absurd (omega (arith, less))
+back k (m ∷ ns) zero d less marks rising = record { state = marks.0.state; marked = tt; rising = tt; past = refl; now = refl }
+back k (m ∷ ns) (suc i) d less marks rising =
+    let n : Sizes = get_or ns i d in
+    let within : i < length ns = omega (arith, less) in
+    let rest = back k ns i d within marks.1 rising.1 in
+    let up_to : IsUpTo m n = all_at (IsUpTo m) ns rising.0 i d within in
+    let later : IsMark k n = all_at (IsMark k) ns marks.1 i d within in
+    record {
+      state = rest.state;
+      marked = (mark_cut k m n marks.0 later up_to, rest.marked);
+      rising = (taken (IsUpTo m) ns i rising.0, rest.rising);
+      past = λ t. numbered_of (cut_twice k m n up_to t) ∷ rest.past t;
+      now = rest.now;
+    }
+
+-- ---- what was kept at the marks
+numbered_state : (k : Kept) → IsState k → IsNumberedSound (numbered_of k)
+numbered_state k state = (state.sound, subst (IsNumbered (numbered_of k)) state.counted (numbers_always k state.good))
+
+each_sound : (k : Kept) (ns : List Sizes) → AllByRecursion (IsMark k) ns → AllByRecursion IsNumberedSound (tables_at ns k)
+each_sound k [] marks = tt
+each_sound k (n ∷ ns) marks = (numbered_state (cut n k) marks.0.state, each_sound k ns marks.1)
+
+pub marks_sound : (k : Kept) (ns : List Sizes) → AllByRecursion (IsMark k) ns → All IsNumberedSound (tables_at ns k)
+marks_sound k ns marks = all_at IsNumberedSound (tables_at ns k) (each_sound k ns marks)
