@@ -15,7 +15,7 @@ use crate::package_parts::make_packages;
 use crate::property_lines::read_properties;
 use crate::source::Source;
 use crate::table_parts::put_tables;
-use plist_state::World;
+use plist_state::{Seed, World};
 use readtable_core::Readtable;
 use std::alloc::{AllocError, Global};
 use user_macros::MacroFunctions;
@@ -64,7 +64,12 @@ fn read_tables<R: MacroFunctions>(
 }
 
 // A world made from the three lines of a text. From the text of a sound state the state is made.
-fn built<R: MacroFunctions>(alloc: Global, bytes: &[u8], macros: &R) -> Result<World, BuildError>
+fn built<R: MacroFunctions>(
+    alloc: Global,
+    bytes: &[u8],
+    macros: &R,
+    seed: Seed,
+) -> Result<World, BuildError>
     requires { R.answers macros.now }
     ensures { (s : WorldState) → IsSoundState s → length bytes.now ≤ 4294967295
         → snapshot s ≡ bytes.now → Makes result (λ world. world.0 ≡ s) }
@@ -76,7 +81,7 @@ fn built<R: MacroFunctions>(alloc: Global, bytes: &[u8], macros: &R) -> Result<W
         macros,
         bytes,
     };
-    let mut world = World::new(alloc)?;
+    let mut world = World::with_seed(alloc, seed)?;
     let at = read_packages(&source, &mut world, 0)?;
     let at = read_properties(&source, &mut world, at)?;
     read_tables(&source, &mut world, at)?;
@@ -124,10 +129,33 @@ pub fn read<R: MacroFunctions>(
     ensures unmarked { IfOk result (λ world. world.1 ≡ []) }
     ensures refused { IfErr result (IsRefused (R.functions macros.now).names bytes.now) }
 {
+    read_with_seed(alloc, bytes, macros, Seed::fixed())
+}
+
+/// The same, where the names of the world are hashed by this seed (`World::with_seed`).
+///
+/// # Errors
+/// Those of `read`.
+pub fn read_with_seed<R: MacroFunctions>(
+    alloc: Global,
+    bytes: &[u8],
+    macros: &R,
+    seed: Seed,
+) -> Result<World, SnapshotError>
+    requires { R.answers macros.now }
+    ensures text { IfOk result (λ world. snapshot world.0 ≡ bytes.now) }
+    ensures only { IfOk result (λ world. (s : WorldState) → IsSoundState s → snapshot s ≡ bytes.now
+        → s ≡ world.0) }
+    ensures size { IfOk result (λ world. length bytes.now ≤ 4294967295) }
+    ensures covered { IfOk result (λ world. are_covered (R.functions macros.now).names world.0
+        ≡ true) }
+    ensures unmarked { IfOk result (λ world. world.1 ≡ []) }
+    ensures refused { IfErr result (IsRefused (R.functions macros.now).names bytes.now) }
+{
     if bytes.len() > MOST_BYTES {
         return Err(SnapshotError::Damaged);
     }
-    let mut world = built(alloc, bytes, macros)?;
+    let mut world = built(alloc, bytes, macros, seed)?;
     world.settle();
     world.soundness();
     if write(alloc, &world)?.as_slice() != bytes {

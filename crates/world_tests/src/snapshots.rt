@@ -2,11 +2,11 @@
 use lisp_object::{Bytes, Datum};
 use package_table::PackageError;
 use package_table::standardized::{COMMON_LISP_USER, KEYWORD};
-use plist_state::{STANDARD, Symbol, USER, World};
+use plist_state::{STANDARD, Seed, Symbol, USER, World};
 use readtable_core::{Case, FnName};
 use snapshot_text::{
-    SnapshotError, one_text_one_state, printed_objects_read_back, read, snapshot_lines_are_read,
-    write,
+    SnapshotError, one_text_one_state, printed_objects_read_back, read, read_with_seed,
+    snapshot_lines_are_read, write,
 };
 use std::alloc::{AllocError, Global};
 use std::test::Fail;
@@ -337,6 +337,26 @@ fn altered_texts(rt: HostRuntime) -> Result<(), Fail> {
     }
     for length in 0..text.len() {
         assert!(rt; is_damaged(alloc, &text[..length])?);
+    }
+    Ok(())
+}
+
+// Whether the text is that of a world, which is read under this seed.
+fn is_read_with(alloc: Global, text: &[u8], seed: Seed) -> Result<bool, Fail> {
+    let macros = Macros::new(alloc, Notes::new());
+    Ok(match read_with_seed(alloc, text, &macros, seed) {
+        Ok(world) => write(alloc, &world)?.as_slice() == text,
+        Err(_) => false,
+    })
+}
+
+// A text is read under any seed.
+#[test]
+fn texts_under_seeds(rt: HostRuntime) -> Result<(), Fail> {
+    let alloc = rt.alloc();
+    let text = full_text(alloc)?;
+    for seed in [Seed::fixed(), Seed::new(0, 0), Seed::draw(&rt)?] {
+        assert!(rt; is_read_with(alloc, text.as_slice(), seed)?);
     }
     Ok(())
 }

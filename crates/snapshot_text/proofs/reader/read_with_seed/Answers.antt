@@ -5,7 +5,7 @@ use Rattle.package_table.proofs.Frames.{equal_itself}
 use Rattle.plist_state.specs.State.{WorldState}
 use Rattle.world_text.specs.Snapshot.{snapshot}
 use Rattle.world_text.proofs.SameText.{one_state}
-use Rattle.snapshot_text.proofs.reader.read.Goals as goal
+use Rattle.snapshot_text.proofs.reader.read_with_seed.Goals as goal
 
 pub returns-then-not-branch-clause-refused : goal.returns-then-not-branch-clause-refused
 returns-then-not-branch-clause-refused g c =
