@@ -2,9 +2,9 @@
 --     sound_packages      other packages, in which nothing is lost
 --     sound_put, sound_removed      a property
 --     removed_absent      a property that is not there, removed
---     sound_in_package, sound_in_readtable      the current names
+--     sound_in_package, sound_in_readtable, sound_base      the current names, and the base
 --     sound_table      a readtable in place of one, or a new one
-use Rattle.std.proofs.Common.{◌≡◌, ◌≤◌, true, false, cond, Option, None, Some, IsTrue, is_some, List, [], ◌∷◌, All, refl, sym, ap, subst, ◌∙◌}
+use Rattle.std.proofs.Common.{◌≡◌, ◌≤◌, ℕ, true, false, cond, Option, None, Some, IsTrue, is_some, List, [], ◌∷◌, All, refl, sym, ap, subst, ◌∙◌}
 use Rattle.std.specs.Prelude.{bytes_eq, unwrap_or}
 use Rattle.std.specs.List.{list_all}
 use Rattle.std.specs.Option.{option_map, option_map_or}
@@ -24,7 +24,7 @@ use Rattle.package_table.specs.Lookup.{is_symbol}
 use Rattle.package_table.specs.Growth.{Grows}
 use Rattle.plist_state.specs.Properties.{Symbol, Plist, Properties, symbol_cmp, same_symbol, value_at, with_value, without_value, with_list}
 use Rattle.plist_state.specs.State.{WorldState, standard_name, user_name}
-use Rattle.plist_state.specs.Changes.{plist, property, with_property, without_property, with_packages}
+use Rattle.plist_state.specs.Changes.{plist, property, with_property, without_property, with_packages, with_base}
 use Rattle.plist_state.specs.Sound.{IsSymbol, IsKnown, IsValue, IsApart, IsPlist, IsNamed, IsSound}
 use Rattle.plist_state.proofs.Orders.{one_symbol, one_name, name_total, symbol_total}
 use Rattle.plist_state.proofs.Lists.{kept, AreSome, all_with, all_without, without-absent, get-with_list, with_list_same}
@@ -100,6 +100,8 @@ sound_packages s u sound sound_u grows = record {
   };
   current_package = grows.packages s.current_package sound.current_package;
   current_readtable = sound.current_readtable;
+  lowest_base = sound.lowest_base;
+  highest_base = sound.highest_base;
 }
 
 -- ---- properties
@@ -115,6 +117,8 @@ sound_list s x ps sound at_home is = record {
   readtables = sound.readtables;
   current_package = sound.current_package;
   current_readtable = sound.current_readtable;
+  lowest_base = sound.lowest_base;
+  highest_base = sound.highest_base;
 }
   where
     symbols : (q : Symbol) → IsTrue (finite.contains_key (with_list s.properties x ps) q) → IsSymbol s.packages q
@@ -245,6 +249,8 @@ sound_in_package s n sound there = record {
   readtables = sound.readtables;
   current_package = there;
   current_readtable = sound.current_readtable;
+  lowest_base = sound.lowest_base;
+  highest_base = sound.highest_base;
 }
 
 pub sound_in_readtable : (s : WorldState) (n : Name) → IsSound s → IsTrue (finite.contains_key s.readtables n) → IsSound (record s { current_readtable = n })
@@ -255,6 +261,21 @@ sound_in_readtable s n sound there = record {
   readtables = sound.readtables;
   current_package = sound.current_package;
   current_readtable = there;
+  lowest_base = sound.lowest_base;
+  highest_base = sound.highest_base;
+}
+
+-- ---- the base in which numbers are read
+pub sound_base : (s : WorldState) (base : ℕ) → IsSound s → 2 ≤ base → base ≤ 36 → IsSound (with_base s base)
+sound_base s base sound lowest highest = record {
+  packages = sound.packages;
+  symbols = sound.symbols;
+  properties = sound.properties;
+  readtables = sound.readtables;
+  current_package = sound.current_package;
+  current_readtable = sound.current_readtable;
+  lowest_base = lowest;
+  highest_base = highest;
 }
 
 -- ---- readtables
@@ -282,6 +303,8 @@ sound_table s n r sound other at_home count named = record {
   };
   current_package = sound.current_package;
   current_readtable = still s.current_readtable sound.current_readtable;
+  lowest_base = sound.lowest_base;
+  highest_base = sound.highest_base;
 }
   where
     apart : (m : Name) → (m ≡ n → ⊥) → eq_by_cmp name_cmp m n ≡ false

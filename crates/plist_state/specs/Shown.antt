@@ -61,6 +61,7 @@ pub record NumberedRest : Type 0 where
   pub readtables : Readtables
   pub current_package : Name
   pub current_readtable : Name
+  pub read_base : ℕ
 
 -- no properties
 abbrev pub first_numbered : NumberedRest
@@ -70,6 +71,7 @@ first_numbered =
       readtables = first_readtables;
       current_package = first_rest.current_package;
       current_readtable = first_rest.current_readtable;
+      read_base = first_rest.read_base;
     }
 
 abbrev pub rest_of : Stored → NumberedRest
@@ -79,4 +81,5 @@ rest_of s =
       readtables = readtables_of s.readtables;
       current_package = s.current_package.items;
       current_readtable = s.current_readtable.items;
+      read_base = s.read_base;
     }

@@ -12,7 +12,7 @@ use Rattle.plist_state.specs.declared.note.PropertyChange.TheVariants.{Set, Adde
 use Rattle.plist_state.specs.declared.note.TableChange.{TableChange}
 use Rattle.plist_state.specs.declared.note.TableChange.TheVariants.{Over, Letters, Character}
 use Rattle.plist_state.specs.declared.note.Note.{Note}
-use Rattle.plist_state.specs.declared.note.Note.TheVariants.{Property, Made, Changed, InPackage, InReadtable}
+use Rattle.plist_state.specs.declared.note.Note.TheVariants.{Property, Made, Changed, InPackage, InReadtable, InBase}
 use Rattle.plist_state.specs.Lists.{NumberedPlist, row_of, with_row}
 use Rattle.plist_state.specs.State.{Readtables}
 use Rattle.plist_state.specs.Shown.{numbered_property, NumberedRest}
@@ -56,6 +56,7 @@ undone (Made name) r = record r { readtables = finite.remove r.readtables name.i
 undone (Changed name change) r = record r { readtables = tables_before r.readtables name.items change }
 undone (InPackage name) r = record r { current_package = name.items }
 undone (InReadtable name) r = record r { current_readtable = name.items }
+undone (InBase base) r = record r { read_base = base }
 
 -- the rest before all these changes: the last is undone first
 abbrev pub all_undone : List Note → NumberedRest → NumberedRest

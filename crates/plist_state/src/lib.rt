@@ -1,8 +1,9 @@
-//! The world: packages, the property lists of symbols, readtables by name, and which package and which readtable are current.
+//! The world: packages, the property lists of symbols, readtables by name, which package and which readtable are current, and
+//! in which base numbers are read.
 //!
 //! Contracts see a world as the pair of its state (`WorldState` of `specs/State.antt`) and the list of the states that were
 //! marked. A state has the packages, a finite map from symbols to their property lists, of which none is empty, a finite map
-//! from names to readtables, and the two current names. `IsSound` (specs/Sound.antt) says what holds of each state, and
+//! from names to readtables, the two current names, and the base. `IsSound` (specs/Sound.antt) says what holds of each state, and
 //! `World::soundness` gives it. What each call makes of a state, or why it refuses, is a definition of specs/Changes.antt, or
 //! of package_table for the calls on packages. A call that is refused, or that runs out of memory, changes nothing, and
 //! `OutOfMemory` comes only where the definition refuses nothing.
@@ -19,7 +20,7 @@
 //!
 //! - `world`: `World`, and what is asked of it
 //! - `readers`: the lists that it gives
-//! - `properties`, `packages`, `readtables`: the calls that write
+//! - `properties`, `packages`, `readtables`, `base`: the calls that write
 //! - `marks`: `mark`, `mark_count`, `back_to`, `settle`, over `journal` (notes under marks) and `undo` (notes undone)
 //! - `note`: what is noted of a change
 //! - `numbers`: the numbers of symbols, as `rows` takes them
@@ -29,14 +30,15 @@
 //!   name; `copies`: those that are copied)
 //!
 //! Proofs of crates above may cite these lemmas; they keep their names. On soundness (proofs/Soundness.antt):
-//! `sound_packages`, `sound_put`, `sound_removed`, `sound_in_package`, `sound_in_readtable`, `sound_table`, `symbol_from`,
-//! `symbol_is`. On
+//! `sound_packages`, `sound_put`, `sound_removed`, `sound_in_package`, `sound_in_readtable`, `sound_base`, `sound_table`,
+//! `symbol_from`, `symbol_is`. On
 //! property lists by symbols (proofs/Lists.antt): `get-with_list`, `list-with_list`, `with_list_twice`, `with_list_same`. On
 //! the orders of symbols and names (proofs/Orders.antt): `symbol_total`, `symbol_exact`, `one_symbol`, `name_total`,
 //! `name_exact`, `one_name`. On the first world (proofs/FirstWorld.antt): `first_sound`. On marked states (proofs/Marking.antt):
 //! `length_marked`, `marked_push`, `marked_take`, `marked_get`.
 #![tactic(auto)]
 
+mod base;
 mod copies;
 mod error;
 mod journal;

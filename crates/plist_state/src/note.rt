@@ -44,4 +44,6 @@ pub(crate) enum Note {
     InPackage(Vec<u8>),
     /// Another readtable became current; before, it was this one.
     InReadtable(Vec<u8>),
+    /// Numbers are read in another base; before, it was this one.
+    InBase(u8),
 }

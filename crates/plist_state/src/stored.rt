@@ -19,7 +19,8 @@ use readtable_core::Readtable;
 use std::alloc::{AllocError, Global};
 use std::collections::BTreeMap;
 
-/// A row of properties for each symbol that ever had one, by its number, the readtables by name, and the two current names.
+/// A row of properties for each symbol that ever had one, by its number, the readtables by name, the two current names, and
+/// the base in which numbers are read.
 /// A row that was emptied stays, so that to go back takes no memory: the symbol has no property list then.
 #[derive(Drop)]
 pub(crate) struct Stored {
@@ -27,7 +28,11 @@ pub(crate) struct Stored {
     pub(crate) readtables: BTreeMap<Vec<u8>, Readtable>,
     pub(crate) current_package: Vec<u8>,
     pub(crate) current_readtable: Vec<u8>,
+    pub(crate) read_base: u8,
 }
+
+// The base in which numbers are read first.
+const FIRST_BASE: u8 = 10;
 
 // The first readtables: STANDARD and USER.
 fn first_readtables(alloc: Global) -> Result<BTreeMap<Vec<u8>, Readtable>, AllocError>
@@ -52,6 +57,7 @@ pub(crate) fn first_stored(alloc: Global) -> Result<Stored, AllocError>
         readtables,
         current_package: Vec::from_slice(alloc, COMMON_LISP_USER)?,
         current_readtable: Vec::from_slice(alloc, USER)?,
+        read_base: FIRST_BASE,
     })
 }
 
