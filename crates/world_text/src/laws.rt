@@ -56,8 +56,8 @@ pub fn snapshot_lines_are_read()
         → length (printed s.packages common_lisp_user (properties_object s)) ≤ 4294967295
         → IsLineRead (setting_of snapshot_limits standard 10 s.packages common_lisp_user functions)
         s.packages (properties_object s) rest }
-    ensures tables { (version : ℕ) (s : WorldState) (third : Object) (functions : Functions) (rest : List ℕ)
-        → IsSoundState s → tables_object_in version s ≡ Some third
+    ensures tables { (version : ℕ) (s : WorldState) (third : Object) (functions : Functions)
+        → (rest : List ℕ) → IsSoundState s → tables_object_in version s ≡ Some third
         → length (printed s.packages common_lisp_user third) ≤ 4294967295
         → IsLineRead (setting_of snapshot_limits standard 10 s.packages common_lisp_user functions)
         s.packages third rest }
