@@ -11,12 +11,13 @@ use Rattle.std.specs.FinMap as finite
 use Rattle.package_sets.specs.Kept.{Kept, import_of, name_at, pair_at, pair_eq}
 use Rattle.package_sets.specs.Good.{IsGood}
 use Rattle.package_sets.specs.Changes.{with_external, with_import, with_package, with_use}
+use Rattle.package_sets.proofs.Places.{all_at}
 use Rattle.package_table.specs.Table.{Name, name_cmp, Present, Package, Table, empty_package}
 use Rattle.package_table.specs.Numbers.{Numbered, with_numbered, with_use as with_used_number, with_package_made}
 use Rattle.package_table.specs.Meaning.{map_by, number_in, is_shown_in, present_in, package_in, numbers_in, table_of, all_numbers_of, numbered_of}
 use Rattle.package_table.proofs.Names.{same_some, none_some}
 use Rattle.package_table.proofs.Mapped.{position_push, named, got_at, same, put, more, more_put, none_by}
-use Rattle.package_table.proofs.Meant.{IsKnown, known, unknown, same_pair, other_pair, all_at, pair_there, entry_put}
+use Rattle.package_table.proofs.Meant.{IsKnown, known, unknown, same_pair, other_pair, pair_there, entry_put}
 
 -- a list of pairs with one more: at another pair it has what it had
 pub other_push : (ps : List (ℕ × ℕ)) (a b : ℕ × ℕ) → pair_eq a b ≡ false → position (pair_eq a) (ps ++ b ∷ []) ≡ position (pair_eq a) ps

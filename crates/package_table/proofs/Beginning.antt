@@ -14,6 +14,7 @@ use Rattle.std.specs.FinMap as finite
 use Rattle.package_sets.specs.Kept.{Kept, name_at, pair_at, pair_eq}
 use Rattle.package_sets.specs.Good.{IsGood}
 use Rattle.package_sets.specs.Changes.{symbol_named, with_symbol}
+use Rattle.package_sets.proofs.Places.{all_at}
 use Rattle.package_table.specs.Table.{Name, name_cmp, Present, Package, Table, entry_at, empty_package, package_of_names, common_lisp, common_lisp_user, keyword, common_lisp_package, keyword_package, keyword_names, common_lisp_names, user_package, initial, with_entry, with_used}
 use Rattle.package_table.specs.Numbers.{Numbered}
 use Rattle.package_table.specs.Meaning.{map_by, number_in, present_in, package_in, numbered_of}
@@ -25,7 +26,7 @@ use Rattle.package_table.proofs.Growing.{again}
 use Rattle.package_table.proofs.Starting.{alike_pushed}
 use Rattle.package_table.proofs.Listed.{any_ties}
 use Rattle.package_table.proofs.Mapped.{none_by, position_cons}
-use Rattle.package_table.proofs.Meant.{all_at, package_at, package_none}
+use Rattle.package_table.proofs.Meant.{package_at, package_none}
 use Rattle.package_table.proofs.FoundBy.{position_of}
 use Rattle.package_table.proofs.Puts.{insert_twice, unnamed, interned_so}
 

@@ -11,6 +11,7 @@ use Rattle.std.specs.FinMap as finite
 use Rattle.std.specs.FinMap.Entries.{find, is_sorted}
 use Rattle.package_sets.specs.Kept.{Kept, import_of, name_at, pair_at, pair_eq, positions_from, positions_of}
 use Rattle.package_sets.specs.Good.{IsGood}
+use Rattle.package_sets.proofs.Places.{any_some, any_none, all_at}
 use Rattle.package_table.specs.Table.{Name, name_cmp, Present, Package, Table, common_lisp, common_lisp_names, common_lisp_package, keyword, is_locked, entry_at, IsPresent, IsSound}
 use Rattle.package_table.specs.Readers.{present, own_names, external_names, imports, used_names}
 use Rattle.package_table.specs.Meaning.{number_in, is_shown_in, present_in, package_in, home_in, symbol_name, shown_positions, shown_symbol, numbered_of}
@@ -21,7 +22,7 @@ use Rattle.package_table.proofs.First.{symbol_first, at_home}
 use Rattle.package_table.proofs.Asked.{found_past}
 use Rattle.package_table.proofs.Counting.{first_of_both, second_of_both}
 use Rattle.package_table.proofs.Mapped.{position_cons, named, got_at, got_none}
-use Rattle.package_table.proofs.Meant.{known, one_pair, same_pair, pair_there, all_at, package_at, entry_there, uses_there, uses_none}
+use Rattle.package_table.proofs.Meant.{known, one_pair, same_pair, pair_there, package_at, entry_there, uses_there, uses_none}
 use Rattle.package_table.proofs.FoundBy.{position_of, position_some, positions_read, positions_have, all_any, any_at}
 use Rattle.package_table.proofs.Adding.{locked_number}
 use Rattle.package_table.proofs.ByName.{home_fits, name_fits, home_position, other_home, own_home}
@@ -367,8 +368,8 @@ packages_listed k good result moved sorted =
     position_any : (n : Name) → list_any (bytes_eq n) k.packages ≡ is_some (position (bytes_eq n) k.packages)
     position_any n =
         elim (list_any (bytes_eq n) k.packages) as (λ b. list_any (bytes_eq n) k.packages ≡ b → b ≡ is_some (position (bytes_eq n) k.packages)) [
-          | true ↦ λ some. sym (ap is_some (Rattle.package_table.proofs.Adding.any_position (bytes_eq n) k.packages some))
-          | false ↦ λ none. sym (ap is_some (Rattle.package_table.proofs.Adding.none_position (bytes_eq n) k.packages none))
+          | true ↦ λ some. sym (ap is_some (any_some (bytes_eq n) k.packages some))
+          | false ↦ λ none. sym (ap is_some (any_none (bytes_eq n) k.packages none))
         ] refl
 
 -- ---- imported names with their homes

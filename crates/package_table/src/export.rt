@@ -26,7 +26,8 @@ fn export_refusal(
     ensures gives { let t = (numbered_of sets.now).0 in
         Gives (λ _. with_external t owner.now home.now name.now) result
         (after_export t owner.now home.now name.now) }
-    ensures changes { TellsChange (export_changes (numbered_of sets.now).0 owner.now name.now) result }
+    ensures changes { TellsChange
+        (export_changes (numbered_of sets.now).0 owner.now name.now) result }
 {
     if !has_package(sets, owner) {
         return Err(PackageError::NoSuchPackage);
@@ -53,7 +54,8 @@ fn export_symbol(
     requires placed { IsPlaced sets.old }
     ensures gives { Gives (λ _. (numbered_of sets.new).0) result
         (after_export (numbered_of sets.old).0 owner.now home.now name.now) }
-    ensures changed { TellsChange (export_changes (numbered_of sets.old).0 owner.now name.now) result }
+    ensures changed { TellsChange
+        (export_changes (numbered_of sets.old).0 owner.now name.now) result }
     ensures unchanged { IfErr result (λ _. sets.new ≡ sets.old) }
     ensures adds { IfOk result (λ _. AddsNoSymbol sets.old sets.new) }
 {
@@ -66,8 +68,8 @@ fn export_symbol(
 }
 
 impl Packages {
-    /// Makes the symbol of this home and name external in `owner` (standard 11.2, `export`). One that `owner` inherits is
-    /// imported first. Gives whether the packages changed: not where it was external there.
+    /// Makes the symbol of this home and name external in `owner` (standard 11.2, `export`). One that `owner` inherits
+    /// is imported first. Gives whether the packages changed: not where it was external there.
     ///
     /// # Errors
     /// `NoSuchPackage` where no package has the name `owner`; `PackageIsLocked` for COMMON-LISP and KEYWORD;

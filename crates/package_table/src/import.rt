@@ -26,7 +26,8 @@ fn import_refusal(
     ensures gives { let t = (numbered_of sets.now).0 in
         Gives (λ _. with_present t owner.now home.now name.now) result
         (after_import t owner.now home.now name.now) }
-    ensures changes { TellsChange (import_changes (numbered_of sets.now).0 owner.now name.now) result }
+    ensures changes { TellsChange
+        (import_changes (numbered_of sets.now).0 owner.now name.now) result }
 {
     if !has_package(sets, owner) {
         return Err(PackageError::NoSuchPackage);
@@ -51,7 +52,8 @@ fn import_symbol(
     requires placed { IsPlaced sets.old }
     ensures gives { Gives (λ _. (numbered_of sets.new).0) result
         (after_import (numbered_of sets.old).0 owner.now home.now name.now) }
-    ensures changed { TellsChange (import_changes (numbered_of sets.old).0 owner.now name.now) result }
+    ensures changed { TellsChange
+        (import_changes (numbered_of sets.old).0 owner.now name.now) result }
     ensures unchanged { IfErr result (λ _. sets.new ≡ sets.old) }
     ensures adds { IfOk result (λ _. AddsNoSymbol sets.old sets.new) }
 {
@@ -65,8 +67,8 @@ fn import_symbol(
 
 impl Packages {
     /// Makes the symbol of this home and name present in `owner` (standard 11.2, `import`). One that `owner` inherits
-    /// becomes present; one that is present stays as it is, external or not. Gives whether the packages changed. Whether
-    /// there is such a symbol, `is_symbol` tells.
+    /// becomes present; one that is present stays as it is, external or not. Gives whether the packages changed.
+    /// Whether there is such a symbol, `is_symbol` tells.
     ///
     /// # Errors
     /// `NoSuchPackage` where no package has the name `owner`; `PackageIsLocked` for COMMON-LISP and KEYWORD;

@@ -15,8 +15,8 @@ use package_sets::{PackageSets, Seed, Sizes};
 use std::alloc::{AllocError, Global};
 use std::marker::Model;
 
-/// Packages (standard 11.1). Contracts see them as a `Table`, and beside it the numbers of its symbols and the tables that
-/// were marked.
+/// Packages (standard 11.1). Contracts see them as a `Table`, and beside it the numbers of its symbols and the tables
+/// that were marked.
 #[derive(Drop)]
 pub struct Packages {
     pub(crate) alloc: Global,
@@ -40,7 +40,8 @@ impl Model for Packages {
 }
 
 impl Packages {
-    /// The first packages: COMMON-LISP, COMMON-LISP-USER, which uses it, and KEYWORD. They keep `alloc` for later changes.
+    /// The first packages: COMMON-LISP, COMMON-LISP-USER, which uses it, and KEYWORD. They keep `alloc` for later
+    /// changes.
     pub fn new(alloc: Global) -> Result<Packages, AllocError>
         ensures table { IfOk result (λ packages. packages.0 ≡ initial) }
         ensures marked { IfOk result (λ packages. packages.1.marked ≡ []) }
@@ -80,7 +81,8 @@ impl Packages {
         self.sets.goodness();
     }
 
-    /// Each symbol has a number, which is below how many there are, and two symbols have two. For proofs: it does nothing.
+    /// Each symbol has a number, which is below how many there are, and two symbols have two. For proofs: it does
+    /// nothing.
     pub fn numbering(&self)
         ensures { IsNumbered (numbered self.now) (symbol_count self.now.0) }
     {
@@ -137,7 +139,8 @@ impl Packages {
     /// # Errors
     /// `NoSuchPackage` where no package has the name `owner`; `OutOfMemory` where memory runs out.
     pub fn own_names(&self, alloc: Global, owner: &[u8]) -> Result<Vec<&[u8]>, PackageError>
-        ensures list { IfOk result (λ names. names_of names.items ≡ own_names self.now.0 owner.now) }
+        ensures list { IfOk result
+            (λ names. names_of names.items ≡ own_names self.now.0 owner.now) }
         ensures there { IfOk result (λ _. IsPackage self.now.0 owner.now) }
         ensures refused { IfErr result (ListRefused self.now.0 owner.now) }
     {
@@ -161,7 +164,8 @@ impl Packages {
     /// # Errors
     /// `NoSuchPackage` where no package has the name `owner`; `OutOfMemory` where memory runs out.
     pub fn external_names(&self, alloc: Global, owner: &[u8]) -> Result<Vec<&[u8]>, PackageError>
-        ensures list { IfOk result (λ names. names_of names.items ≡ external_names self.now.0 owner.now) }
+        ensures list { IfOk result
+            (λ names. names_of names.items ≡ external_names self.now.0 owner.now) }
         ensures there { IfOk result (λ _. IsPackage self.now.0 owner.now) }
         ensures refused { IfErr result (ListRefused self.now.0 owner.now) }
     {
@@ -193,15 +197,16 @@ impl Packages {
         package_name(&self.sets, name)
     }
 
-    /// Whether the package of this name is locked: COMMON-LISP, to which no name is added, and KEYWORD. Takes no memory.
+    /// Whether the package of this name is locked: COMMON-LISP, to which no name is added, and KEYWORD. Takes no
+    /// memory.
     pub fn is_locked(&self, owner: &[u8]) -> bool
         ensures { result ≡ is_locked owner.now }
     {
         is_locked(owner)
     }
 
-    /// What `name` stands for in the package `current`, which exists (standard 2.3.5): the symbol that it finds, or a new
-    /// one. Takes no memory.
+    /// What `name` stands for in the package `current`, which exists (standard 2.3.5): the symbol that it finds, or a
+    /// new one. Takes no memory.
     ///
     /// # Errors
     /// `LockedPackage` for a new name in COMMON-LISP.
@@ -223,13 +228,14 @@ impl Packages {
         resolve_external(&self.sets, prefix, name)
     }
 
-    /// What `name` stands for in the package that `prefix` names, by name or nickname (standard 2.3.5): the symbol that it
-    /// finds, or a new one. Takes no memory.
+    /// What `name` stands for in the package that `prefix` names, by name or nickname (standard 2.3.5): the symbol
+    /// that it finds, or a new one. Takes no memory.
     ///
     /// # Errors
     /// `NoPackage` where `prefix` names no package, then `LockedPackage` for a new name in COMMON-LISP.
     pub fn resolve_internal(&self, prefix: &[u8], name: &[u8]) -> Result<Resolved<'_>, PackageError>
-        ensures { Answers resolution_of result (internal_resolution self.now.0 prefix.now name.now) }
+        ensures { Answers resolution_of result
+            (internal_resolution self.now.0 prefix.now name.now) }
     {
         resolve_internal(&self.sets, prefix, name)
     }
