@@ -37,7 +37,7 @@ pub(crate) fn finds_other(sets: &PackageSets, owner: &[u8], home: &[u8], name: &
 fn uses_both(sets: &PackageSets, user: u32, owner: u32, other: u32) -> bool
     ensures { let uses = sets.now.uses in
         result ≡ (is_some (position (pair_eq (user, owner)) uses)
-            && is_some (position (pair_eq (user, other)) uses)) }
+        && is_some (position (pair_eq (user, other)) uses)) }
 {
     sets.is_used(user, owner) && sets.is_used(user, other)
 }
@@ -47,9 +47,8 @@ fn share_user(sets: &PackageSets, owner: u32, other: u32) -> bool
     requires owner { owner < length sets.now.packages }
     requires other { other < length sets.now.packages }
     ensures { let packages = sets.now.packages in
-        result
-            ≡ share_user (numbered_of sets.now).0 (name_at packages owner)
-            (name_at packages other) }
+        result ≡ share_user (numbered_of sets.now).0 (name_at packages owner)
+        (name_at packages other) }
 {
     sets.goodness();
     for user in 0..sets.package_count() {
@@ -60,14 +59,15 @@ fn share_user(sets: &PackageSets, owner: u32, other: u32) -> bool
     false
 }
 
-// Whether the package `holder` has another symbol by the name, which a package that uses `owner` finds.
+// Whether the package `holder` has another symbol by the name, which a package that
+// uses `owner` finds.
 fn reaches(sets: &PackageSets, owner: u32, home: &[u8], name: u32, holder: u32) -> bool
     requires owner { owner < length sets.now.packages }
     requires name { name < length sets.now.names }
     requires holder { holder < length sets.now.packages }
     ensures { let k = sets.now in let at = name_at k.packages in
         result ≡ reaches (numbered_of k).0 (at owner) home.now (name_at k.names name)
-            (at holder, package_in k holder) }
+        (at holder, package_in k holder) }
 {
     sets.goodness();
     let Some(symbol) = number_in(sets, holder, name) else {

@@ -15,7 +15,8 @@ use crate::put::put_external;
 use crate::{PackageError, Packages};
 use package_sets::PackageSets;
 
-// The first reason to refuse that this symbol becomes external in `owner`, and else whether it is not external yet.
+// The first reason to refuse that this symbol becomes external in `owner`, and else
+// whether it is not external yet.
 fn export_refusal(
     sets: &PackageSets,
     owner: &[u8],

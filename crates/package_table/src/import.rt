@@ -15,7 +15,8 @@ use crate::put::put_import;
 use crate::{PackageError, Packages};
 use package_sets::PackageSets;
 
-// The first reason to refuse that this symbol becomes present in `owner`, and else whether it is not present yet.
+// The first reason to refuse that this symbol becomes present in `owner`, and else
+// whether it is not present yet.
 fn import_refusal(
     sets: &PackageSets,
     owner: &[u8],

@@ -25,5 +25,5 @@ pub fn look_up_laws()
     ensures shown { (t : Table) → IsSound t → (p q : Name)
         → IsTrue (finds_other_than_shown t p q)
         ↔ ((n : Name) × (g : Name) × (h : Name)
-            × Finds t p n g × IsExternal t q n × IsPresent t q n h × (g ≢ h)) }
+        × Finds t p n g × IsExternal t q n × IsPresent t q n h × (g ≢ h)) }
 {}

@@ -45,7 +45,7 @@ fn names_in<'a>(
 fn shown_names(sets: &PackageSets, alloc: Global, owner: u32) -> Result<Vec<&[u8]>, AllocError>
     ensures { let k = sets.now in IfOk result
         (λ names. names_of names.items
-            ≡ map (λ x. symbol_name k (shown_symbol k owner x)) (shown_positions k owner)) }
+        ≡ map (λ x. symbol_name k (shown_symbol k owner x)) (shown_positions k owner)) }
 {
     sets.goodness();
     let positions = shown_positions(sets, owner);
@@ -60,7 +60,7 @@ fn shown_names(sets: &PackageSets, alloc: Global, owner: u32) -> Result<Vec<&[u8
 fn imported_names(sets: &PackageSets, alloc: Global, owner: u32) -> Result<Vec<&[u8]>, AllocError>
     ensures { let k = sets.now in IfOk result
         (λ names. names_of names.items
-            ≡ map (λ x. symbol_name k (get_or k.imported x 0)) (positions_of owner k.imports)) }
+        ≡ map (λ x. symbol_name k (get_or k.imported x 0)) (positions_of owner k.imports)) }
 {
     sets.goodness();
     let positions = sets.imports_of(owner);
@@ -75,7 +75,7 @@ fn imported_names(sets: &PackageSets, alloc: Global, owner: u32) -> Result<Vec<&
 fn used_packages(sets: &PackageSets, alloc: Global, owner: u32) -> Result<Vec<&[u8]>, AllocError>
     ensures { let k = sets.now in IfOk result
         (λ names. names_of names.items
-            ≡ map (λ x. name_at k.packages (pair_at k.uses x).1) (positions_of owner k.uses)) }
+        ≡ map (λ x. name_at k.packages (pair_at k.uses x).1) (positions_of owner k.uses)) }
 {
     sets.goodness();
     let positions = sets.uses_of(owner);
@@ -220,7 +220,8 @@ pub(crate) fn externals(
     Ok(copies(alloc, names.as_slice())?)
 }
 
-// The name of the home of the symbol that is present in `owner` by this name, and nothing where there is none.
+// The name of the home of the symbol that is present in `owner` by this name, and nothing
+// where there is none.
 fn home_at<'a>(sets: &'a PackageSets, owner: &[u8], name: &[u8]) -> &'a [u8]
     ensures { result.now ≡ home_at (numbered_of sets.now).0 owner.now name.now }
 {

@@ -86,7 +86,7 @@ pub(crate) fn home_name(sets: &PackageSets, symbol: u32) -> &[u8]
 pub(crate) fn stored_name<'a>(sets: &'a PackageSets, owner: &[u8]) -> Option<&'a [u8]>
     ensures { option_map (λ p. p.now) result
         ≡ (if finite.contains_key (numbered_of sets.now).0 owner.now then Some owner.now
-            else None) }
+        else None) }
 {
     sets.goodness();
     match sets.find_package(owner) {

@@ -31,7 +31,8 @@ pub(crate) fn put_package(sets: &mut PackageSets, name: &[u8]) -> Result<(), All
 /// Makes a new symbol of the package of a number, which is not COMMON-LISP, present there.
 pub(crate) fn put_new(sets: &mut PackageSets, owner: u32, name: &[u8]) -> Result<(), AllocError>
     requires package { owner < length sets.old.packages }
-    requires fresh { found (numbered_of sets.old).0 (name_at sets.old.packages owner) name.now ≡ None }
+    requires fresh { let p = name_at sets.old.packages owner in
+        found (numbered_of sets.old).0 p name.now ≡ None }
     requires unlocked { bytes_eq (name_at sets.old.packages owner) common_lisp ≡ false }
     requires placed { IsPlaced sets.old }
     ensures ok { let p = name_at sets.old.packages owner in OnOk result
