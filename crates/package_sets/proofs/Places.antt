@@ -1,7 +1,6 @@
 -- Places in lists: the first that passes a test, in a list that is read, and in one that grows.
 --     position-map, distinct-map      of what is read of each thing of a list
---     none_any, any_none      that nothing passes, by the place and by the test
---     position_at      the place where a thing is
+--     none_any, any_none, any_some      that nothing passes, or something does, by the place and by the test
 --     all_at, all_push, all_weaker      what holds of each thing of a list
 --     copied      copies of vectors
 use Rattle.std.proofs.Common.{◌≡◌, ◌+◌, ◌<◌, ◌≤◌, ℕ, zero, suc, Bool, true, false, cond, not, ◌||◌, nat_lt, List, [], ◌∷◌, ◌++◌, map, length, get_or, position, None, Some, is_some, refl, sym, ap, ◌∙◌, true≢false, arith}
@@ -9,7 +8,6 @@ use Rattle.std.specs.Global.{Vec}
 use Rattle.std.specs.Vec.{vec_len}
 use Rattle.std.specs.List.{position_or_len, list_any, IsDistinct, AllByRecursion, AllZip, each_same}
 use Rattle.std.proofs.lemmas.List.{length-map}
-use Rattle.std.proofs.lemmas.List.Sums.{fails_before_first}
 
 module _ {X Y : Type 0} (f : X → Y) where
   pub position_or_len-map : (p : Y → Bool) (xs : List X) → position_or_len p (map f xs) ≡ position_or_len (λ x. p (f x)) xs
@@ -82,9 +80,6 @@ module _ {X : Type 0} (p : X → Bool) where
       let less : position_or_len p xs < length xs = any_is_within xs h in
       let so : nat_lt (position_or_len p xs) (length xs) ≡ true = grind arith in
       ap (λ b. cond b (Some (position_or_len p xs)) None) so
-
-  pub none_at : (xs : List X) (k : ℕ) (d : X) → position p xs ≡ None → k < length xs → p (get_or xs k d) ≡ false
-  none_at xs k d none within = let h : length xs ≤ position_or_len p xs = none_within xs none in fails_before_first p xs k d (omega (arith, h, within))
 
 module _ {X : Type 0} (P : X → Type 0) where
   pub all_at : (xs : List X) → AllByRecursion P xs → (i : ℕ) (d : X) → i < length xs → P (get_or xs i d)

@@ -52,9 +52,6 @@ seen_alike k good q m f g alike =
 
 -- ---- a name
 module _ (k : Kept) (good : IsGood k) (N : Name) (new : position (bytes_eq N) k.names ≡ None) where
-  abbrev named_k : Kept
-  named_k = record k { names = k.names ++ N ∷ [] }
-
   pub no_number : (p : ℕ) → number_in k p (length k.names) ≡ None
   no_number p = unknown k good p (length k.names) (λ i is. (let less : length k.names < length k.names = is.name in absurd (omega (arith, less))))
 

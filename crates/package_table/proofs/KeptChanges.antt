@@ -3,7 +3,6 @@
 --     kept_make, kept_intern, kept_export, kept_import, kept_use      where it is not refused
 --     stays_after, stays_but, told_after, found_after      what an answer says
 --     exported_again      where a symbol is external already
---     exported_home, imported_there      where a symbol is that is exported or imported
 --     counted_new      the count after a new symbol
 --     holds      a test whose contrary was not met
 use Rattle.std.proofs.Common.{◌≡◌, ◌≢◌, ◌==◌, ◌<◌, ◌≤◌, ◌+◌, ◌&&◌, ◌||◌, not, ℕ, Bool, true, false, cond, List, [], ◌∷◌, length, Option, None, Some, Result, Ok, Err, IfErr, IfOk, is_some, is_none, inl, bytes_eq, nat_le, nat_lt, All, refl, sym, ap, subst, ◌∙◌, arith, leb-false, ltb-false}
@@ -160,18 +159,6 @@ kept_make t n u sound ascii is =
     not_empty : (k : ℕ) → (k == 0) ≡ false → 0 < k
     not_empty k zero_not = ne_zero k zero_not
 
--- a package that can be made is none yet
-pub make_fresh : (t : Table) (n : Name) (u : Table) → IsSound t → after_make t n ≡ Ok u → finite.get t n ≡ None
-make_fresh t n u sound is =
-    let some = passes (length n == 0) EmptyName _ u is in
-    let fresh = passes (is_some (package_named t n)) PackageExists _ u some.1 in
-    (fresh_name t n sound fresh.0).1
-
--- a package of which the call says that its use is new is not used yet
-pub use_fresh : (t : Table) (p q : Name) → use_changes t p q ≡ true → is_used t p q ≡ false
-use_fresh t p q changes =
-    (neither (bytes_eq p q) (is_used t p q) (elim (bytes_eq p q || is_used t p q) as (λ b. not b ≡ true → b ≡ false) [ true ↦ λ e. absurd (false≢true e) | false ↦ λ _. refl ] changes)).1
-
 pub counted_new : (t : Table) (p n : Name) → finite.contains_key t p ≡ true → found t p n ≡ None → symbol_count (with_entry t p n (record { home = p; external = bytes_eq p keyword })) ≡ symbol_count t + 1
 counted_new t p n there none = symbols_new t p n (record { home = p; external = bytes_eq p keyword }) there (no_entry t p n (found_none t n p none)) refl
 
@@ -286,19 +273,6 @@ kept_use t p q sound u is =
             symbols_with_used t p q is_package,
           )
     ] refl open_to.1
-
--- the symbol that EXPORT makes external is at home where it says, and p has no other by that name
-pub exported_home : (t : Table) (p h n : Name) (u : Table) → IsSound t → after_export t p h n ≡ Ok u → IsPackage t p × IsPresent t h n h × ((g : Name) → IsPresent t p n g → g ≡ h)
-exported_home t p h n u sound is =
-    let there = passes (not (finite.contains_key t p)) NoSuchPackage _ u is in
-    let open_to = passes (is_locked p) PackageIsLocked _ u there.1 in
-    let this = passes (not (finds_this t p h n)) NotAccessible _ u open_to.1 in
-    let finds : Finds t p n h = this_found t p h n (holds _ this.0) in
-    (holds _ there.0, present_at_home t p n h sound.joined finds, λ g found. sound.joined.one p n g h (inl found) finds)
-
--- IMPORT is refused where there is no package
-pub imported_there : (t : Table) (p h n : Name) (u : Table) → after_import t p h n ≡ Ok u → IsPackage t p
-imported_there t p h n u is = holds _ (passes (not (finite.contains_key t p)) NoSuchPackage _ u is).0
 
 -- What each call leaves, whether it is refused or not: sound packages with as many symbols, in which nothing is lost.
 pub record Stays (t u : Table) : Type 0 where

@@ -104,10 +104,6 @@ module _ (k : Kept) (good : IsGood k) (P : Name) where
   unfolding numbered_of
   numbers_there p is = got_at k.packages good.distinct.packages (λ p. Some (numbers_in k p)) P p is
 
-  pub numbers_none : position (bytes_eq P) k.packages ≡ None → finite.get (numbered_of k).1 P ≡ None
-  unfolding numbered_of
-  numbers_none none = got_none k.packages good.distinct.packages (λ p. Some (numbers_in k p)) P none
-
   module _ (p : ℕ) (here : position (bytes_eq P) k.packages ≡ Some p) (N : Name) where
     pub entry_there : (j : ℕ) → position (bytes_eq N) k.names ≡ Some j → entry_at (numbered_of k).0 P N ≡ option_map (present_in k p) (number_in k p j)
     entry_there j is =
