@@ -9,6 +9,7 @@ use Rattle.std.specs.Option.{option_or, option_map_or}
 use Rattle.std.specs.List.{IsDistinct, AllByRecursion, list_any}
 use Rattle.std.specs.FinMap as finite
 use Rattle.std.specs.FinMap.Entries.{find, is_sorted}
+use Rattle.std.specs.Cmp.{both_ways}
 use Rattle.package_sets.specs.Kept.{Kept, import_of, name_at, pair_at, pair_eq, positions_from, positions_of}
 use Rattle.package_sets.specs.Good.{IsGood}
 use Rattle.package_sets.proofs.Places.{any_some, any_none, all_at}
@@ -25,13 +26,8 @@ use Rattle.package_table.proofs.Mapped.{position_cons, named, got_at, got_none}
 use Rattle.package_table.proofs.Meant.{known, one_pair, same_pair, pair_there, package_at, entry_there, uses_there, uses_none}
 use Rattle.package_table.proofs.FoundBy.{position_of, position_some, positions_read, positions_have, all_any, any_at}
 use Rattle.package_table.proofs.Adding.{locked_number}
-use Rattle.package_table.proofs.ByName.{home_fits, name_fits, home_position, other_home, own_home}
+use Rattle.package_table.proofs.ByName.{home_position, other_home, own_home}
 use Rattle.package_table.proofs.Listed.{sorted_is, kept_rise, kept_among, keys_rise, keys_among, any_in, any_of, any_mapped, distinct_mapped}
-
-pub same_truth : (a b : Bool) → (a ≡ true → b ≡ true) → (b ≡ true → a ≡ true) → a ≡ b
-same_truth true b f g = sym (f refl)
-same_truth false true f g = g refl
-same_truth false false f g = refl
 
 -- ---- places of pairs
 pub position_exact : (ps : List (ℕ × ℕ)) → IsDistinct pair_eq ps → (i : ℕ) → i < length ps → position (pair_eq (pair_at ps i)) ps ≡ Some i
@@ -193,7 +189,7 @@ module _ (k : Kept) (good : IsGood k) (placed : IsPlaced k) (sound : IsSound (nu
     listed result moved sorted =
         sorted_is (map (λ x. symbol_name k (g x)) xs) result (map (λ s. s.0) (filter (λ s. test s.1) (finite.entries (package_in k q).symbols)))
         (distinct_mapped P (λ x. symbol_name k (g x)) injective xs distinct all) moved sorted (kept_rise (λ s. test s.1) (package_in k q).symbols)
-        (λ n. any_mapped n (λ x. symbol_name k (g x)) xs ∙ same_truth _ _ (listed_from n) (listed_to n) ∙ sym (kept_among (λ s. test s.1) (package_in k q).symbols n))
+        (λ n. any_mapped n (λ x. symbol_name k (g x)) xs ∙ both_ways _ _ (listed_from n) (listed_to n) ∙ sym (kept_among (λ s. test s.1) (package_in k q).symbols n))
         ∙ sym (ap (λ o. map (λ s. s.0) (filter (λ (s : Name × Present). test s.1) (option_map_or (λ (h : Package). finite.entries h.symbols) o []))) (package_at k good Q q here))
 
   -- x is the place of one of the pairs that begin with q
@@ -326,7 +322,7 @@ module _ (k : Kept) (good : IsGood k) (placed : IsPlaced k) (sound : IsSound (nu
       same_some x y (sym (place k.uses good.distinct.uses x at) ∙ ap (λ (r : ℕ). position (pair_eq (q, r)) k.uses) one ∙ place k.uses good.distinct.uses y to))
       (positions_of q k.uses) (positions_apart q 0 k.uses) (all_of k.uses))
       moved sorted (keys_rise (package_in k q).uses)
-      (λ n. any_mapped n (λ x. name_at k.packages (pair_at k.uses x).1) (positions_of q k.uses) ∙ same_truth _ _ (used_from n) (used_to n) ∙ sym (keys_among (package_in k q).uses n))
+      (λ n. any_mapped n (λ x. name_at k.packages (pair_at k.uses x).1) (positions_of q k.uses) ∙ both_ways _ _ (used_from n) (used_to n) ∙ sym (keys_among (package_in k q).uses n))
       ∙ sym (ap (λ o. option_map_or (λ (h : Package). finite.keys h.uses) o []) (package_at k good Q q here))
     where
       used_from : (n : Name) → list_any (λ x. bytes_eq n (name_at k.packages (pair_at k.uses x).1)) (positions_of q k.uses) ≡ true → finite.contains_key (package_in k q).uses n ≡ true

@@ -4,7 +4,7 @@
 --     package_at, package_none, entry_there, number_there      what is at a name
 --     entry_put, named_more, made, used      what single changes make of it
 use Rattle.std.proofs.Common.{◌≡◌, ◌≢◌, ◌⊎◌, ◌+◌, ◌<◌, ◌≤◌, ℕ, zero, suc, Bool, true, false, cond, ◌&&◌, ◌||◌, nat_eq, nat_lt, is_some, List, [], ◌∷◌, ◌++◌, length, get_or, position, Option, None, Some, option_map, option_and_then, bytes_eq, refl, sym, ap, subst, ◌∙◌, inl, inr, arith}
-use Rattle.std.proofs.lemmas.Bool.{false≢true}
+use Rattle.std.proofs.lemmas.Bool.{false≢true, and_parts}
 use Rattle.std.proofs.lemmas.Bool.Decides.{Decides-eqb}
 use Rattle.std.proofs.lemmas.List.{get_or_append_left, get_or_push, length_push}
 use Rattle.std.proofs.lemmas.List.Quantifiers.{position-Some}
@@ -21,13 +21,9 @@ use Rattle.package_table.proofs.Names.{same_some, none_some}
 use Rattle.package_table.proofs.Mapped.{position_push, named, got, got_at, got_none, same, put, more, more_put, none_by}
 
 -- ---- pairs of numbers
-both : (a b : Bool) → (a && b) ≡ true → (a ≡ true) × (b ≡ true)
-both true b e = (refl, e)
-both false b e = absurd (false≢true e)
-
 pub one_pair : (a b : ℕ × ℕ) → pair_eq a b ≡ true → a ≡ b
 one_pair a b e =
-    let h = both (nat_eq a.0 b.0) (nat_eq a.1 b.1) e in
+    let h = and_parts (nat_eq a.0 b.0) (nat_eq a.1 b.1) e in
     λ i. ((Decides-eqb a.0 b.0).0 h.0 i, (Decides-eqb a.1 b.1).0 h.1 i)
 
 pub same_pair : (a : ℕ × ℕ) → pair_eq a a ≡ true
@@ -89,6 +85,16 @@ module _ (k : Kept) (good : IsGood k) where
         | None ↦ λ _. refl
         | Some i ↦ λ is. absurd (none i (known p j i is))
       ] refl
+
+  -- the numbers of a symbol's home and of its name are those of something
+  both_fit : (i : ℕ) → i < length k.symbols → ((pair_at k.symbols i).0 < length k.packages) × ((pair_at k.symbols i).1 < length k.names)
+  both_fit i less = all_at (λ (s : ℕ × ℕ). (s.0 < length k.packages) × (s.1 < length k.names)) k.symbols good.within.symbols i (0, 0) less
+
+  pub home_fits : (i : ℕ) → i < length k.symbols → (pair_at k.symbols i).0 < length k.packages
+  home_fits i less = (both_fit i less).0
+
+  pub name_fits : (i : ℕ) → i < length k.symbols → (pair_at k.symbols i).1 < length k.names
+  name_fits i less = (both_fit i less).1
 
 -- ---- what is at a name
 module _ (k : Kept) (good : IsGood k) (P : Name) where
