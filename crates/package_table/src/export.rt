@@ -70,12 +70,12 @@ fn export_symbol(
 
 impl Packages {
     /// Makes the symbol of this home and name external in `owner` (standard 11.2, `export`). One that `owner` inherits
-    /// is imported first. Gives whether the packages changed: not where it was external there.
+    /// is imported first. Gives whether the packages changed: not if it was external there.
     ///
     /// # Errors
-    /// `NoSuchPackage` where no package has the name `owner`; `PackageIsLocked` for COMMON-LISP and KEYWORD;
-    /// `NotAccessible` where `owner` does not find this symbol by its name; `NameConflict` where a package that uses
-    /// `owner` finds another symbol by that name; `OutOfMemory` where memory runs out. Nothing is changed then.
+    /// `NoSuchPackage` if no package has the name `owner`; `PackageIsLocked` for COMMON-LISP and KEYWORD;
+    /// `NotAccessible` if `owner` does not find this symbol by its name; `NameConflict` if a package that uses
+    /// `owner` finds another symbol by that name; `OutOfMemory` if memory runs out. Nothing is changed then.
     pub fn export(&mut self, owner: &[u8], home: &[u8], name: &[u8]) -> Result<bool, PackageError>
         ensures gives { Gives (λ _. self.new.0) result
             (after_export self.old.0 owner.now home.now name.now) }

@@ -72,8 +72,8 @@ impl Packages {
     /// Whether there is such a symbol, `is_symbol` tells.
     ///
     /// # Errors
-    /// `NoSuchPackage` where no package has the name `owner`; `PackageIsLocked` for COMMON-LISP and KEYWORD;
-    /// `NameConflict` where `owner` finds another symbol by that name; `OutOfMemory` where memory runs out. Nothing is
+    /// `NoSuchPackage` if no package has the name `owner`; `PackageIsLocked` for COMMON-LISP and KEYWORD;
+    /// `NameConflict` if `owner` finds another symbol by that name; `OutOfMemory` if memory runs out. Nothing is
     /// changed then.
     pub fn import(&mut self, owner: &[u8], home: &[u8], name: &[u8]) -> Result<bool, PackageError>
         requires { IsPresent self.old.0 home.now name.now home.now }

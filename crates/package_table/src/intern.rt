@@ -1,4 +1,4 @@
-//! `intern`: the symbol of a name in a package, new where there is none.
+//! `intern`: the symbol of a name in a package, new if there is none.
 ghost use Rattle.std.specs.Prelude.{◌≡◌, ◌<◌, All, Some, IfErr, IfOk, length};
 ghost use Rattle.package_sets.specs.Kept.{name_at};
 ghost use Rattle.package_table.specs.Table.{IsJoined, IsPackage, symbol_count};
@@ -93,8 +93,8 @@ impl Packages {
     /// `intern`). A new symbol of KEYWORD is external. No other name finds another symbol than before.
     ///
     /// # Errors
-    /// `NoSuchPackage` where no package has the name `owner`; for a new name, `PackageIsLocked` in COMMON-LISP, and
-    /// `Limit` where it is longer than 4,096 bytes or there are 1,000,000 symbols; `OutOfMemory` where memory runs
+    /// `NoSuchPackage` if no package has the name `owner`; for a new name, `PackageIsLocked` in COMMON-LISP, and
+    /// `Limit` if it is longer than 4,096 bytes or there are 1,000,000 symbols; `OutOfMemory` if memory runs
     /// out. Nothing is changed then.
     pub fn intern(&mut self, owner: &[u8], name: &[u8]) -> Result<Interned, PackageError>
         requires { All (λ b. b < 128) name.now }

@@ -4,7 +4,7 @@
 //! `specs/Table.antt`): the symbols that are present, each by its name with its home and whether it is external, and
 //! the packages that are used. `Finds` says which symbol a package finds by a name, `found` (specs/Lookup.antt)
 //! computes it, and `look_up_laws` says that the two agree. A call that is refused changes nothing, no call loses
-//! anything (`Grows` of specs/Growth.antt), and `OutOfMemory` comes only where a call would not be refused.
+//! anything (`Grows` of specs/Growth.antt), and `OutOfMemory` comes only if a call would not be refused.
 //!
 //! - `packages`: `Packages`, and its calls
 //! - `queries`: what callers ask of them

@@ -221,7 +221,7 @@ pub(crate) fn externals(
 }
 
 // The name of the home of the symbol that is present in `owner` by this name, and nothing
-// where there is none.
+// if there is none.
 fn home_at<'a>(sets: &'a PackageSets, owner: &[u8], name: &[u8]) -> &'a [u8]
     ensures { result.now ≡ home_at (numbered_of sets.now).0 owner.now name.now }
 {

@@ -82,7 +82,7 @@ pub(crate) fn home_name(sets: &PackageSets, symbol: u32) -> &[u8]
     sets.package(sets.symbol(symbol).first)
 }
 
-/// The name of the package of this name, where there is one, as it is kept.
+/// The name of the package of this name, if there is one, as it is kept.
 pub(crate) fn stored_name<'a>(sets: &'a PackageSets, owner: &[u8]) -> Option<&'a [u8]>
     ensures { option_map (λ p. p.now) result
         ≡ (if finite.contains_key (numbered_of sets.now).0 owner.now then Some owner.now
@@ -135,7 +135,7 @@ pub(crate) fn is_present(sets: &PackageSets, owner: &[u8], name: &[u8]) -> bool
     number_in(sets, owner, name).is_some()
 }
 
-/// The number of the symbol of this home and name, where there is one.
+/// The number of the symbol of this home and name, if there is one.
 pub(crate) fn number_of(sets: &PackageSets, home: &[u8], name: &[u8]) -> Option<u32>
     ensures { result ≡ number_of (numbered_of sets.now) home.now name.now }
 {

@@ -11,7 +11,7 @@ impl Packages {
     /// is kept only grows, so that a mark is how much there is of it.
     ///
     /// # Errors
-    /// `AllocError` where memory runs out. Nothing is changed then.
+    /// `AllocError` if memory runs out. Nothing is changed then.
     pub fn mark(&mut self) -> Result<usize, AllocError>
         ensures ok { IfOk result
             (λ mark. (mark ≡ length self.old.1.marked) × (self.new ≡ with_mark self.old)) }

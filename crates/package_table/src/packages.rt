@@ -49,7 +49,7 @@ impl Packages {
         Packages::with_seed(alloc, Seed::fixed())
     }
 
-    /// The same, where names are hashed by this seed: who does not know it cannot choose names that fall together.
+    /// The same, with names hashed by this seed: who does not know it cannot choose names that fall together.
     pub fn with_seed(alloc: Global, seed: Seed) -> Result<Packages, AllocError>
         ensures table { IfOk result (λ packages. packages.0 ≡ initial) }
         ensures marked { IfOk result (λ packages. packages.1.marked ≡ []) }
@@ -113,7 +113,7 @@ impl Packages {
     /// The names of the packages that `owner` uses, sorted by their bytes.
     ///
     /// # Errors
-    /// `NoSuchPackage` where no package has the name `owner`; `OutOfMemory` where memory runs out.
+    /// `NoSuchPackage` if no package has the name `owner`; `OutOfMemory` if memory runs out.
     pub fn uses(&self, alloc: Global, owner: &[u8]) -> Result<Items<Bytes>, PackageError>
         ensures list { IfOk result (λ names. names ≡ used_names self.now.0 owner.now) }
         ensures there { IfOk result (λ _. IsPackage self.now.0 owner.now) }
@@ -125,7 +125,7 @@ impl Packages {
     /// The names of the symbols at home in `owner`, sorted by their bytes.
     ///
     /// # Errors
-    /// `NoSuchPackage` where no package has the name `owner`; `OutOfMemory` where memory runs out.
+    /// `NoSuchPackage` if no package has the name `owner`; `OutOfMemory` if memory runs out.
     pub fn own(&self, alloc: Global, owner: &[u8]) -> Result<Items<Bytes>, PackageError>
         ensures list { IfOk result (λ names. names ≡ own_names self.now.0 owner.now) }
         ensures there { IfOk result (λ _. IsPackage self.now.0 owner.now) }
@@ -137,7 +137,7 @@ impl Packages {
     /// The same names in the same order, as the packages have them: no name is copied.
     ///
     /// # Errors
-    /// `NoSuchPackage` where no package has the name `owner`; `OutOfMemory` where memory runs out.
+    /// `NoSuchPackage` if no package has the name `owner`; `OutOfMemory` if memory runs out.
     pub fn own_names(&self, alloc: Global, owner: &[u8]) -> Result<Vec<&[u8]>, PackageError>
         ensures list { IfOk result
             (λ names. names_of names.items ≡ own_names self.now.0 owner.now) }
@@ -150,7 +150,7 @@ impl Packages {
     /// The names that are external in `owner`, sorted by their bytes.
     ///
     /// # Errors
-    /// `NoSuchPackage` where no package has the name `owner`; `OutOfMemory` where memory runs out.
+    /// `NoSuchPackage` if no package has the name `owner`; `OutOfMemory` if memory runs out.
     pub fn externals(&self, alloc: Global, owner: &[u8]) -> Result<Items<Bytes>, PackageError>
         ensures list { IfOk result (λ names. names ≡ external_names self.now.0 owner.now) }
         ensures there { IfOk result (λ _. IsPackage self.now.0 owner.now) }
@@ -162,7 +162,7 @@ impl Packages {
     /// The same names in the same order, as the packages have them: no name is copied.
     ///
     /// # Errors
-    /// `NoSuchPackage` where no package has the name `owner`; `OutOfMemory` where memory runs out.
+    /// `NoSuchPackage` if no package has the name `owner`; `OutOfMemory` if memory runs out.
     pub fn external_names(&self, alloc: Global, owner: &[u8]) -> Result<Vec<&[u8]>, PackageError>
         ensures list { IfOk result
             (λ names. names_of names.items ≡ external_names self.now.0 owner.now) }
@@ -175,7 +175,7 @@ impl Packages {
     /// The names that are present in `owner` with another home, each with the name of that home, sorted by their bytes.
     ///
     /// # Errors
-    /// `NoSuchPackage` where no package has the name `owner`; `OutOfMemory` where memory runs out.
+    /// `NoSuchPackage` if no package has the name `owner`; `OutOfMemory` if memory runs out.
     pub fn imports(
         &self,
         alloc: Global,
@@ -221,7 +221,7 @@ impl Packages {
     /// Takes no memory.
     ///
     /// # Errors
-    /// `NoPackage` where `prefix` names no package, then `NotExternal` where `name` is not external there.
+    /// `NoPackage` if `prefix` names no package, then `NotExternal` if `name` is not external there.
     pub fn resolve_external(&self, prefix: &[u8], name: &[u8]) -> Result<&[u8], PackageError>
         ensures { Answers (λ h. h.now) result (external_resolution self.now.0 prefix.now name.now) }
     {
@@ -232,7 +232,7 @@ impl Packages {
     /// that it finds, or a new one. Takes no memory.
     ///
     /// # Errors
-    /// `NoPackage` where `prefix` names no package, then `LockedPackage` for a new name in COMMON-LISP.
+    /// `NoPackage` if `prefix` names no package, then `LockedPackage` for a new name in COMMON-LISP.
     pub fn resolve_internal(&self, prefix: &[u8], name: &[u8]) -> Result<Resolved<'_>, PackageError>
         ensures { Answers resolution_of result
             (internal_resolution self.now.0 prefix.now name.now) }

@@ -29,7 +29,7 @@ impl Packages {
         is_symbol(&self.sets, home, name)
     }
 
-    /// The number of the symbol of this home and name, where there is one. Each symbol has one number, which is below
+    /// The number of the symbol of this home and name, if there is one. Each symbol has one number, which is below
     /// how many there are, and two symbols have two (`numbering`).
     pub fn number_of(&self, home: &[u8], name: &[u8]) -> Option<u32>
         ensures { result ≡ number_of (numbered self.now) home.now name.now }
