@@ -1,9 +1,11 @@
 -- That SETF of *READ-BASE* leaves a sound state, and gives a value that may be stored.
 --     base_within      a base is one from 2 to 36
-use Rattle.std.proofs.Common.{◌≡◌, ◌≤◌, ℕ, ℤ, pos, negsuc, true, false, cond, List, [], ◌∷◌, Some, None, Err, nat_le, refl, subst}
+--     base_value      a base may be stored
+use Rattle.std.proofs.Common.{◌≡◌, ◌≤◌, ℕ, ℤ, pos, negsuc, true, false, cond, List, [], ◌∷◌, Some, None, Err, nat_le, refl, subst, arith}
 use Rattle.std.proofs.lemmas.Bool.{and_parts, leb-true}
-use Rattle.lisp_object.specs.Object.{Object}
+use Rattle.lisp_object.specs.Object.{Object, integer}
 use Rattle.lisp_object.specs.declared.refusal.TheConstants.{INTEGER_RANGE}
+use Rattle.package_table.specs.Table.{Table}
 use Rattle.package_table.proofs.Growing.{grows_same}
 use Rattle.package_table.proofs.Names.{same_some, none_some}
 use Rattle.plist_state.specs.State.{WorldState}
@@ -24,6 +26,9 @@ base_within (pos n) base is =
       | false ↦ λ _ no. absurd (none_some base no)
     ] refl is
 base_within (negsuc n) base is = absurd (none_some base is)
+
+pub base_value : (u : Table) (n : ℕ) → n ≤ 36 → IsValue u (integer (pos n))
+base_value u n within = record { object = record { sfits = omega (arith, within) }; depth = omega arith; symbols = tt }
 
 pub set_base_safe : IsSafe set_base
 set_base_safe (x ∷ []) s sound are =

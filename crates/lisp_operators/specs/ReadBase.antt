@@ -1,4 +1,4 @@
--- SETF of *READ-BASE* (standard 23.1.2), of the value of its argument.
+-- SETF of *READ-BASE* (standard 23.1.1), of the value of its argument.
 use Rattle.std.specs.Prelude.{ℕ, ℤ, pos, negsuc, Bool, ◌&&◌, nat_le, if◌then◌else◌, List, [], ◌∷◌, Option, Some, None, Err}
 use Rattle.std.specs.Option.{option_map_or}
 use Rattle.lisp_object.specs.Object.{Object}

@@ -1,4 +1,4 @@
-//! SETF of `*READ-BASE*` (standard 23.1.2), of the value of its argument.
+//! SETF of `*READ-BASE*` (standard 23.1.1), of the value of its argument.
 ghost use Rattle.std.specs.Prelude.{◌≡◌, ◌≤◌, IfOk};
 ghost use Rattle.lisp_object.specs.declared.refusal.TheConstants.{INTEGER_RANGE as WRONG_RANGE};
 ghost use Rattle.lisp_operators.specs.ReadBase.{a_base, set_base};
