@@ -1,7 +1,7 @@
 -- That SETF of *READ-BASE* leaves a sound state, and gives a value that may be stored.
 --     base_within      a base is one from 2 to 36
 --     base_value      a base may be stored
-use Rattle.std.proofs.Common.{◌≡◌, ◌≤◌, ℕ, ℤ, pos, negsuc, true, false, cond, List, [], ◌∷◌, Some, None, Err, nat_le, refl, subst, arith}
+use Rattle.std.proofs.Common.{◌≡◌, ◌≤◌, ◌<◌, ◌^◌, ℕ, ℤ, pos, negsuc, true, false, cond, List, [], ◌∷◌, Some, None, Err, nat_le, refl, subst, arith}
 use Rattle.std.proofs.lemmas.Bool.{and_parts, leb-true}
 use Rattle.lisp_object.specs.Object.{Object, integer}
 use Rattle.lisp_object.specs.declared.refusal.TheConstants.{INTEGER_RANGE}
@@ -28,7 +28,9 @@ base_within (pos n) base is =
 base_within (negsuc n) base is = absurd (none_some base is)
 
 pub base_value : (u : Table) (n : ℕ) → n ≤ 36 → IsValue u (integer (pos n))
-base_value u n within = record { object = record { sfits = omega (arith, within) }; depth = omega arith; symbols = tt }
+base_value u n within =
+    let fits : n < 2 ^ 127 = omega (arith, within) in
+    record { object = record { sfits = fits }; depth = omega arith; symbols = tt }
 
 pub set_base_safe : IsSafe set_base
 set_base_safe (x ∷ []) s sound are =
