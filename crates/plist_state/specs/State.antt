@@ -17,7 +17,7 @@ pub record Rest : Type 0 where
   pub readtables : Readtables
   pub current_package : Name
   pub current_readtable : Name
-  -- the base in which tokens are read as numbers (standard 23.1.2, *READ-BASE*)
+  -- the base in which tokens are read as numbers (standard 23.1.1, *READ-BASE*)
   pub read_base : ℕ
 
 pub record WorldState : Type 0 where
