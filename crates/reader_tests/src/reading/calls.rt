@@ -44,6 +44,7 @@ fn read_with(
         rt.alloc(),
         limits,
         &table,
+        10,
         &packages,
         current,
         &macros,
