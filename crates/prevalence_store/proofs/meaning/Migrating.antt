@@ -12,7 +12,7 @@ use Rattle.lisp_operators.specs.Evaluation.{Done, Evaluation}
 use Rattle.lisp_reading.specs.Reading.{Outcome as Reading, form, empty, refused, reads}
 use Rattle.lisp_reading.proofs.Widening.{form_widens}
 use Rattle.form_eval.specs.Acceptance.{accept_by}
-use Rattle.form_eval.proofs.WithoutBase.{accepted_without}
+use Rattle.form_eval.proofs.Accepted.{accepted_without_base}
 use Rattle.plist_state.specs.State.{WorldState, initial}
 use Rattle.world_text.specs.Snapshot.{snapshot_in}
 use Rattle.world_text.proofs.Versions.{text_with, third_by}
@@ -33,7 +33,7 @@ module _ (functions : Functions) where
     evaluated_stays : (own : List ℕ) (x : Object) (given : Acceptance) (was : Evaluation Object) → accept_by false functions.names w x ≡ was
         → acceptance_of own was ≡ Ok given → Stays (acceptance_of own (accept_by true functions.names w x)) given
     evaluated_stays own x given (Ok d) is gives =
-        let same = accepted_without functions.names w x d is in
+        let same = accepted_without_base functions.names w x d is in
         let world : d.state ≡ given.world = cc in
         (ap (acceptance_of own) same.0 ∙ gives, ap (λ (v : WorldState). v.read_base) (sym world) ∙ same.1 ∙ base)
     evaluated_stays own x given (Err number) is gives = absurd (cc)
