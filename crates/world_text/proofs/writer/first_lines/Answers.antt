@@ -3,6 +3,6 @@ use Rattle.world_text.proofs.writer.first_lines.Goals as goal
 
 pub returns : goal.returns
 returns c =
-    two_lines c.args.world.now.0 c.packages.result.now.0 c.new.result.items c.push_package_line.new.text.items c.push_property_line.new.text.items
+    two_lines c.args.world.now.0 c.packages.result.now.0 c.new-text.result.items c.push_package_line.new.text.items c.push_property_line.new.text.items
     c.packages.ensures
-    c.new.ensures.items c.in_ok-push_package_line.ensures c.in_ok-push_property_line.ensures
+    c.new-text.ensures.items c.in_ok-push_package_line.ensures c.in_ok-push_property_line.ensures
