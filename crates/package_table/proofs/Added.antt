@@ -2,20 +2,19 @@
 --     name_added, symbol_added      a name of symbols, and a symbol
 --     import_added, external_added      an import, and a symbol that becomes external
 --     use_added, package_added      a package that is used, and a new one
-use Rattle.std.proofs.Common.{◌≡◌, ◌≢◌, ◌⊎◌, ◌+◌, ◌<◌, ◌≤◌, ℕ, Bool, true, false, cond, ◌||◌, nat_lt, is_some, List, [], ◌∷◌, ◌++◌, length, get_or, position, Option, None, Some, option_map, option_and_then, bytes_eq, refl, sym, ap, subst, ◌∙◌, inl, inr, arith}
-use Rattle.std.proofs.lemmas.Bool.{false≢true}
-use Rattle.std.proofs.lemmas.List.{get_or_append_left, get_or_push, length_push}
+use Rattle.std.proofs.Common.{◌≡◌, ◌≢◌, ◌⊎◌, ◌<◌, ◌≤◌, ℕ, Bool, true, false, cond, ◌||◌, nat_lt, is_some, List, [], ◌∷◌, ◌++◌, length, get_or, position, Option, None, Some, option_map, bytes_eq, refl, sym, ap, ◌∙◌, inl, inr, arith}
+use Rattle.std.proofs.lemmas.List.{get_or_append_left, get_or_push}
 use Rattle.std.specs.Option.{option_or, option_map_or}
 use Rattle.std.specs.List.{IsDistinct}
 use Rattle.std.specs.FinMap as finite
 use Rattle.package_sets.specs.Kept.{Kept, import_of, name_at, pair_at, pair_eq}
 use Rattle.package_sets.specs.Good.{IsGood}
 use Rattle.package_sets.specs.Changes.{with_external, with_import, with_package, with_use}
-use Rattle.package_table.specs.Table.{Name, name_cmp, Present, Package, Table, empty_package}
-use Rattle.package_table.specs.Numbers.{Numbered, with_numbered, with_use as with_used_number, with_package_made}
+use Rattle.package_table.specs.Table.{Name, Present, Package, empty_package}
+use Rattle.package_table.specs.Numbers.{with_numbered, with_use as with_used_number, with_package_made}
 use Rattle.package_table.specs.Meaning.{map_by, number_in, is_shown_in, present_in, package_in, numbers_in, table_of, all_numbers_of, numbered_of}
-use Rattle.package_table.proofs.Names.{same_some, none_some}
-use Rattle.package_table.proofs.Mapped.{position_push, named, got_at, same, put, more, more_put, none_by}
+use Rattle.package_table.proofs.Names.{none_some}
+use Rattle.package_table.proofs.Mapped.{position_push, named, got_at, put, more, more_put, none_by}
 use Rattle.package_table.proofs.Meant.{IsKnown, known, unknown, same_pair, other_pair, pair_there, entry_put, home_fits}
 
 -- a list of pairs with one more: at another pair it has what it had

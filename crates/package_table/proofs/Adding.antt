@@ -3,27 +3,27 @@
 --     adds_same, adds_both      nothing, and two in a row
 --     locked_number, number_of_keyword      the numbers of the packages that are locked
 --     symbol_made, imported, exported      the packages by names after it
-use Rattle.std.proofs.Common.{◌≡◌, ◌≢◌, ◌⊎◌, ◌+◌, ◌<◌, ◌≤◌, ℕ, suc, Bool, true, false, cond, not, ◌||◌, nat_eq, nat_lt, nat_le, is_some, List, [], ◌∷◌, ◌++◌, length, take, get_or, position, Option, None, Some, option_map, option_and_then, bytes_eq, refl, sym, ap, subst, ◌∙◌, inl, inr, one-add, arith}
+use Rattle.std.proofs.Common.{◌≡◌, ◌≢◌, ◌⊎◌, ◌<◌, ◌≤◌, ℕ, Bool, true, false, cond, ◌||◌, nat_eq, nat_lt, is_some, List, [], ◌∷◌, ◌++◌, length, get_or, position, None, Some, bytes_eq, refl, sym, ap, subst, ◌∙◌, inl, inr, arith}
 use Rattle.std.proofs.lemmas.Bool.{false≢true}
 use Rattle.std.proofs.lemmas.Bool.Decides.{Decides-eqb}
-use Rattle.std.proofs.lemmas.List.{get_or_append_left, length_push, take-append-le, take_all}
+use Rattle.std.proofs.lemmas.List.{get_or_append_left, length_push}
 use Rattle.std.specs.Option.{option_or}
-use Rattle.std.specs.List.{list_any, position_or_len, IsDistinct}
+use Rattle.std.specs.List.{list_any, IsDistinct}
 use Rattle.package_sets.specs.declared.sizes.Sizes.{Sizes}
 use Rattle.package_sets.specs.Kept.{Kept, cut, import_of, name_at, pair_at, pair_eq, sizes_of, AreUpTo}
 use Rattle.package_sets.specs.Good.{IsGood}
 use Rattle.package_sets.specs.Changes.{with_external, with_import, with_name, with_package, with_symbol, with_use, symbol_named, number_in as name_number}
-use Rattle.package_table.specs.Table.{Name, Present, common_lisp, keyword, is_locked}
+use Rattle.package_table.specs.Table.{Name, common_lisp, keyword, is_locked}
 use Rattle.package_table.specs.Numbers.{Numbered, with_numbered}
-use Rattle.package_table.specs.Meaning.{number_in, is_shown_in, present_in, home_in, numbered_of}
+use Rattle.package_table.specs.Meaning.{number_in, is_shown_in, numbered_of}
 use Rattle.package_table.specs.Adds.{IsPlaced, Adds}
 use Rattle.package_sets.proofs.Cut.{cut_itself, up_to_itself, cut_package, cut_symbol, cut_import, cut_external, cut_use, up_to_package, up_to_symbol, up_to_import, up_to_external, up_to_use}
-use Rattle.package_sets.proofs.Places.{any_some, any_none, none_is_length, none_any}
+use Rattle.package_sets.proofs.Places.{any_some, any_none, none_is_length}
 use Rattle.package_table.proofs.Names.{same_some, none_some}
 use Rattle.package_table.proofs.Frames.{equal_names, equal_itself}
 use Rattle.package_table.proofs.Mapped.{position_push, named, distinct_push}
 use Rattle.package_table.proofs.Meant.{known, one_pair, same_pair, other_pair, pair_there}
-use Rattle.package_table.proofs.Added.{name_added, symbol_added, import_added, external_added, import_stays_number, no_number, other_push, parts_none, map_none}
+use Rattle.package_table.proofs.Added.{name_added, symbol_added, import_stays_number, no_number, other_push, parts_none, map_none}
 
 -- ---- positions in a longer list
 stays_push : {X : Type 0} (test : X → Bool) (xs : List X) (y : X) (i : ℕ) → position test xs ≡ Some i → position test (xs ++ y ∷ []) ≡ Some i

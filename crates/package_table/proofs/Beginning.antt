@@ -3,7 +3,7 @@
 --     no_names, next_name, not_yet      names of symbols that are made one after another
 --     apart_names, distinct_by, before_it      names that are distinct
 --     first_table, first_placed      the three packages with their symbols
-use Rattle.std.proofs.Common.{◌≡◌, ◌≢◌, ◌+◌, ◌<◌, ℕ, zero, suc, Bool, true, false, cond, not, ◌&&◌, ◌||◌, nat_lt, List, [], ◌∷◌, ◌++◌, map, length, take, get_or, position, Option, None, Some, option_map, option_and_then, is_some, bytes_eq, refl, sym, ap, subst, ◌∙◌, arith}
+use Rattle.std.proofs.Common.{◌≡◌, ◌+◌, ◌<◌, ℕ, zero, suc, Bool, true, false, cond, not, ◌&&◌, ◌||◌, nat_lt, List, [], ◌∷◌, ◌++◌, length, take, get_or, position, Option, None, Some, option_map, option_and_then, bytes_eq, refl, sym, ap, subst, ◌∙◌, arith}
 use Rattle.std.proofs.lemmas.Bool.{false≢true}
 use Rattle.std.proofs.lemmas.List.{take_more}
 use Rattle.std.specs.Cmp.Lexicographic.{texts_ties}
@@ -11,13 +11,13 @@ use Rattle.std.specs.Option.{option_or, option_map_or}
 use Rattle.std.specs.List.{IsDistinct, AllByRecursion, list_any}
 use Rattle.std.specs.Ordering.{eq_by_cmp}
 use Rattle.std.specs.FinMap as finite
-use Rattle.package_sets.specs.Kept.{Kept, name_at, pair_at, pair_eq}
+use Rattle.package_sets.specs.Kept.{Kept, name_at, pair_eq}
 use Rattle.package_sets.specs.Good.{IsGood}
 use Rattle.package_sets.specs.Changes.{symbol_named, with_symbol}
 use Rattle.package_sets.proofs.Places.{all_at}
-use Rattle.package_table.specs.Table.{Name, name_cmp, Present, Package, Table, entry_at, empty_package, package_of_names, common_lisp, common_lisp_user, keyword, common_lisp_package, keyword_package, keyword_names, common_lisp_names, user_package, initial, with_entry, with_used}
+use Rattle.package_table.specs.Table.{Name, name_cmp, Package, Table, entry_at, empty_package, package_of_names, common_lisp, common_lisp_user, keyword, common_lisp_package, keyword_package, keyword_names, common_lisp_names, user_package, initial, with_entry, with_used}
 use Rattle.package_table.specs.Numbers.{Numbered}
-use Rattle.package_table.specs.Meaning.{map_by, number_in, present_in, package_in, numbered_of}
+use Rattle.package_table.specs.Meaning.{map_by, present_in, package_in, numbered_of}
 use Rattle.package_table.specs.Adds.{HasNothing, IsPlaced}
 use Rattle.package_table.proofs.Names.{name_total, name_exact, tied_same, none_some}
 use Rattle.package_table.proofs.Frames.{get_inserted, get_kept, equal_names, equal_itself, unequal_names}

@@ -4,24 +4,24 @@
 --     external_no_package, external_no_name, entry_some, symbol_by, number_by_symbol, used_is      look-ups
 --     number_by_position, symbol_given, symbol_missing      the symbol of a number
 --     numbers_always, keeps_of      each symbol has one number, which it keeps
-use Rattle.std.proofs.Common.{◌≡◌, ◌≢◌, ◌<◌, ◌≤◌, ◌↔◌, ℕ, Bool, true, false, cond, nat_eq, is_some, List, [], length, position, Option, None, Some, option_map, option_and_then, bytes_eq, refl, sym, ap, subst, ◌∙◌, arith}
+use Rattle.std.proofs.Common.{◌≡◌, ◌<◌, ◌≤◌, ◌↔◌, ℕ, true, false, cond, is_some, length, position, Option, None, Some, option_map, option_and_then, bytes_eq, refl, sym, ap, subst, ◌∙◌, arith}
 use Rattle.std.proofs.lemmas.Bool.{false≢true}
 use Rattle.std.specs.Option.{option_or, option_map_or}
 use Rattle.std.specs.FinMap as finite
 use Rattle.package_sets.specs.Kept.{Kept, import_of, name_at, pair_at, pair_eq}
 use Rattle.package_sets.specs.Good.{IsGood}
 use Rattle.package_table.specs.Table.{Name, Present, Package, entry_at, IsPackage, IsPresent}
-use Rattle.package_table.specs.Lookup.{external_home, is_external, is_present, is_symbol, is_used}
-use Rattle.package_table.specs.Numbers.{Numbered, number_at, number_of}
+use Rattle.package_table.specs.Lookup.{external_home, is_present, is_symbol, is_used}
+use Rattle.package_table.specs.Numbers.{number_at, number_of}
 use Rattle.package_table.specs.Numbering.{IsNumbered, Keeps}
-use Rattle.package_table.specs.Meaning.{number_in, is_shown_in, present_in, package_in, home_in, symbol_name, numbered_of}
+use Rattle.package_table.specs.Meaning.{number_in, present_in, package_in, home_in, symbol_name, numbered_of}
 use Rattle.package_table.specs.Adds.{Adds}
 use Rattle.package_table.proofs.Names.{same_some, none_some}
 use Rattle.package_sets.proofs.Growing.{pair_equiv}
 use Rattle.package_table.proofs.Frames.{equal_names, equal_itself}
 use Rattle.package_table.proofs.Numbered.{number_some, number_there as number_is_there, number_apart}
 use Rattle.package_table.proofs.Mapped.{named, count_by}
-use Rattle.package_table.proofs.Meant.{known, unknown, same_pair, pair_there, package_at, package_none, entry_there, number_there, uses_there, uses_none, home_fits, name_fits}
+use Rattle.package_table.proofs.Meant.{known, same_pair, pair_there, package_at, package_none, entry_there, number_there, uses_there, uses_none, home_fits, name_fits}
 use Rattle.package_table.proofs.FoundBy.{nothing_by, position_in, position_of, position_some}
 
 module _ (k : Kept) (good : IsGood k) where

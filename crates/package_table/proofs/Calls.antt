@@ -3,17 +3,17 @@
 --     left_after      where it makes no symbol: packages as they are kept, in which nothing is lost and each symbol keeps its number
 --     left_interned      the same of `intern`
 --     told_of      what its answer says of a change
-use Rattle.std.proofs.Common.{◌≡◌, ◌<◌, ℕ, Bool, List, [], ◌∷◌, map, length, Result, Ok, Err, IfOk, IfErr, All, refl, sym, ap, subst, ◌∙◌}
+use Rattle.std.proofs.Common.{◌≡◌, ◌<◌, Bool, List, [], ◌∷◌, length, Result, Ok, Err, IfOk, IfErr, All, refl, sym, ap, subst, ◌∙◌}
 use Rattle.std.specs.List.{AllByRecursion}
 use Rattle.package_sets.specs.declared.sizes.Sizes.{Sizes}
-use Rattle.package_sets.specs.Kept.{Kept, cut}
+use Rattle.package_sets.specs.Kept.{Kept}
 use Rattle.package_sets.specs.Good.{IsGood}
 use Rattle.package_table.specs.declared.error.PackageError.{PackageError}
 use Rattle.package_table.specs.declared.packages.Packages.TheInside.{Inside}
 use Rattle.package_table.specs.Table.{Name, Table, IsSound, symbol_count}
-use Rattle.package_table.specs.Changes.{after_intern, intern_changes, Gives, TellsChange, Yields}
+use Rattle.package_table.specs.Changes.{after_intern, Gives, TellsChange, Yields}
 use Rattle.package_table.specs.Growth.{Grows, IsSameBut, Tells}
-use Rattle.package_table.specs.Numbers.{Numbered, Tables, numbered}
+use Rattle.package_table.specs.Numbers.{Tables, numbered}
 use Rattle.package_table.specs.Numbering.{Keeps}
 use Rattle.package_table.specs.Meaning.{numbered_of}
 use Rattle.package_table.specs.Adds.{Adds, AddsNoSymbol}

@@ -3,7 +3,7 @@
 --     share_by, reaches_none, reaches_home, reaches_by      what is asked of each package before an export
 --     users_none      where no conflict can be
 --     another_by, shown_by_numbers      what is asked of each external symbol before a package is used
-use Rattle.std.proofs.Common.{◌≡◌, ◌≢◌, ◌<◌, ℕ, Bool, true, false, cond, not, ◌&&◌, ◌||◌, nat_eq, is_some, List, [], length, position, Option, None, Some, option_map, option_and_then, IsTrue, bytes_eq, refl, sym, ap, subst, ◌∙◌, inl, inr}
+use Rattle.std.proofs.Common.{◌≡◌, ◌≢◌, ◌<◌, ℕ, Bool, true, false, not, ◌&&◌, ◌||◌, is_some, length, position, Option, None, Some, option_map, bytes_eq, refl, sym, ap, ◌∙◌, inl, inr}
 use Rattle.std.proofs.lemmas.Bool.{false≢true}
 use Rattle.std.specs.Option.{option_map_or}
 use Rattle.std.specs.List.{list_any}
@@ -12,19 +12,18 @@ use Rattle.std.specs.Cmp.{both_ways}
 use Rattle.package_sets.specs.Kept.{Kept, name_at, pair_at, pair_eq}
 use Rattle.package_sets.specs.Good.{IsGood}
 use Rattle.package_table.specs.Table.{Name, Present, Package, Uses, Finds, IsPackage, IsPresent, IsExternal, IsSound}
-use Rattle.package_table.specs.Lookup.{found}
-use Rattle.package_table.specs.Changes.{finds_other, finds_this, user_finds_other, finds_other_than_shown}
-use Rattle.package_table.specs.Reached.{has_other, shows, share_user, reaches}
-use Rattle.package_table.specs.Meaning.{number_in, is_shown_in, present_in, package_in, home_in, symbol_name, found_number, finds_another, shown_number, shown_positions, shown_symbol, numbered_of}
+use Rattle.package_table.specs.Changes.{user_finds_other, finds_other_than_shown}
+use Rattle.package_table.specs.Reached.{share_user, reaches}
+use Rattle.package_table.specs.Meaning.{number_in, is_shown_in, present_in, package_in, home_in, symbol_name, found_number, finds_another, shown_positions, shown_symbol, numbered_of}
 use Rattle.package_table.specs.Adds.{IsPlaced}
 use Rattle.package_table.proofs.Names.{same_some, none_some}
-use Rattle.package_table.proofs.Frames.{equal_names, equal_itself, not_equal}
-use Rattle.package_table.proofs.Found.{found_is, found_finds}
+use Rattle.package_table.proofs.Frames.{equal_itself, not_equal}
+use Rattle.package_table.proofs.Found.{found_is}
 use Rattle.package_table.proofs.Asked.{some_in, users_other, shown_other}
 use Rattle.package_table.proofs.Reaching.{any_with}
 use Rattle.package_table.proofs.Mapped.{named, got_at}
-use Rattle.package_table.proofs.Meant.{known, package_at, package_none, entry_there, uses_there}
-use Rattle.package_table.proofs.FoundBy.{position_of, found_by, finds_number, nothing_by, shows as shows_number, is_shown_number, number_by, shown_by, present_by, all_any}
+use Rattle.package_table.proofs.Meant.{known, package_at, package_none, uses_there}
+use Rattle.package_table.proofs.FoundBy.{position_of, found_by, finds_number, nothing_by, shows as shows_number, number_by, shown_by, present_by}
 use Rattle.package_table.proofs.ByName.{present_number}
 use Rattle.package_table.proofs.Listed.{any_in, any_of}
 use Rattle.package_table.proofs.ListedBy.{Shows, shown_listed}

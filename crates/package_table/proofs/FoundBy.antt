@@ -1,7 +1,7 @@
 -- What a package finds by a name, by numbers.
 --     position_in, position_of, position_some      the position of a thing or a name that is kept, and that there is one
 --     external_by, found_by, found_no_name      the look-ups by names
-use Rattle.std.proofs.Common.{◌≡◌, ◌≢◌, ◌⊎◌, ◌+◌, ◌<◌, ◌≤◌, ℕ, zero, suc, Bool, true, false, cond, ◌&&◌, ◌||◌, nat_eq, is_some, List, [], ◌∷◌, ◌++◌, length, get_or, drop, position, Option, None, Some, option_map, option_and_then, bytes_eq, refl, sym, ap, subst, ◌∙◌, inl, inr, append_assoc, arith}
+use Rattle.std.proofs.Common.{◌≡◌, ◌+◌, ◌<◌, ◌≤◌, ℕ, zero, suc, Bool, true, false, cond, ◌||◌, nat_eq, is_some, List, [], ◌∷◌, ◌++◌, length, get_or, drop, position, Option, None, Some, option_map, option_and_then, bytes_eq, refl, sym, ap, subst, ◌∙◌, inl, inr, append_assoc, arith}
 use Rattle.std.proofs.lemmas.Bool.{false≢true, or_right}
 use Rattle.std.proofs.lemmas.Bool.Decides.{Decides-eqb}
 use Rattle.std.proofs.lemmas.List.{get_or_at, length_push, length-append, drop_more, drop_all}
@@ -14,14 +14,13 @@ use Rattle.std.specs.FinMap as finite
 use Rattle.package_sets.specs.Kept.{Kept, name_at, pair_at, pair_eq, positions_from, positions_of}
 use Rattle.package_sets.specs.Good.{IsGood}
 use Rattle.package_sets.proofs.Places.{all_at, none_any}
-use Rattle.package_table.specs.Table.{Name, name_cmp, Present, Package, Table, entry_at, IsPackage, IsPresent, IsExternal, Uses, Finds, FindsNone, IsJoined}
+use Rattle.package_table.specs.Table.{Name, Present, Package, Table, entry_at, IsPresent, IsExternal, Uses, Finds, FindsNone, IsJoined}
 use Rattle.package_table.specs.Lookup.{found, external_home}
 use Rattle.package_table.specs.Meaning.{number_in, is_shown_in, present_in, package_in, home_in, shown_number, first_shown, found_number, numbered_of}
 use Rattle.package_table.proofs.Names.{same_some, none_some}
-use Rattle.package_table.proofs.Frames.{equal_names, equal_itself}
 use Rattle.package_table.proofs.Found.{found_is, finds_none}
-use Rattle.package_table.proofs.Mapped.{position_cons, named}
-use Rattle.package_table.proofs.Meant.{one_pair, same_pair, package_at, package_none, entry_there, entry_none, uses_there, uses_none, known}
+use Rattle.package_table.proofs.Mapped.{position_cons}
+use Rattle.package_table.proofs.Meant.{one_pair, same_pair, package_at, package_none, entry_there, entry_none, uses_there, uses_none}
 
 -- ---- positions
 pub any_at : {X : Type 0} (test : X → Bool) (xs : List X) (i : ℕ) (d : X) → i < length xs → test (get_or xs i d) ≡ true → list_any test xs ≡ true

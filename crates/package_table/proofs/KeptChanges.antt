@@ -4,7 +4,7 @@
 --     stays_after, stays_but, told_after, found_after      what an answer says
 --     exported_again      where a symbol is external already
 --     counted_new      the count after a new symbol
-use Rattle.std.proofs.Common.{◌≡◌, ◌≢◌, ◌==◌, ◌<◌, ◌≤◌, ◌+◌, ◌&&◌, ◌||◌, not, ℕ, Bool, true, false, cond, List, [], ◌∷◌, length, Option, None, Some, Result, Ok, Err, IfErr, IfOk, is_some, is_none, inl, bytes_eq, nat_le, nat_lt, All, refl, sym, ap, subst, ◌∙◌, arith, leb-false, ltb-false}
+use Rattle.std.proofs.Common.{◌≡◌, ◌≢◌, ◌==◌, ◌<◌, ◌≤◌, ◌+◌, ◌&&◌, ◌||◌, not, ℕ, Bool, true, false, cond, List, [], ◌∷◌, length, Option, None, Some, Result, Ok, Err, IfErr, IfOk, is_some, is_none, bytes_eq, nat_le, nat_lt, All, refl, sym, ap, subst, ◌∙◌, arith, leb-false, ltb-false}
 use Rattle.std.proofs.lemmas.Bool.{false≢true, not-false, or_parts}
 use Rattle.std.specs.Option.{option_map, option_map_or, option_and_then}
 use Rattle.std.specs.List.{list_any}
@@ -22,7 +22,6 @@ use Rattle.package_table.specs.Changes.{after_make, after_intern, after_export, 
 use Rattle.package_table.proofs.Names.{tied_same, same_some, none_some}
 use Rattle.package_table.proofs.Frames.{equal_names, unequal_names}
 use Rattle.package_table.specs.Growth.{Grows, IsSameBut, Tells}
-use Rattle.package_table.proofs.Keeping.{present_at_home}
 use Rattle.package_table.proofs.Found.{found_finds, found_is, found_none, present_found, external_entry}
 use Rattle.package_table.proofs.Growing.{Kept, grows_same, grows_with_entry, grows_with_used, grows_with_new, differs_entry, differs_external, differs_used, differs_new, entry_again}
 use Rattle.package_table.proofs.Alone.{Interned, interned_found, interned_new}

@@ -2,7 +2,7 @@
 --     sorted_is      a sorted list with the same names
 --     kept_rise, kept_among      the names of the entries that pass a test: they rise, and which they are
 --     keys_rise      all names
-use Rattle.std.proofs.Common.{◌≡◌, ◌+◌, ◌<◌, ◌≤◌, drop, get_or, ℕ, Bool, true, false, cond, ◌&&◌, ◌||◌, nat_eq, List, [], ◌∷◌, map, length, Option, None, Some, is_some, bytes_eq, refl, sym, ap, subst, ◌∙◌, IsPermutation, IsSorted, filter, T, Bor, arith}
+use Rattle.std.proofs.Common.{◌≡◌, ◌+◌, ◌<◌, ◌≤◌, drop, get_or, ℕ, Bool, true, false, cond, ◌||◌, nat_eq, List, [], ◌∷◌, map, length, Some, bytes_eq, refl, sym, ap, subst, ◌∙◌, IsPermutation, IsSorted, filter, T, Bor, arith}
 use Rattle.std.proofs.lemmas.Bool.{false≢true, or_right}
 use Rattle.std.proofs.lemmas.Bool.Decides.{Decides-eqb}
 use Rattle.std.proofs.lemmas.List.{length-map, get_or-map, drop_more, drop_all}
@@ -23,7 +23,7 @@ use Rattle.std.proofs.lemmas.Map.Keys.{IsDistinct-IsPermutation}
 use Rattle.std.proofs.lemmas.Map.Lookups.{btree_set_from_contains}
 use Rattle.package_table.specs.Table.{Name, name_cmp}
 use Rattle.package_table.proofs.Counting.{first_of_both, second_of_both}
-use Rattle.package_table.proofs.Names.{name_total, name_exact, tied_same, same_tied}
+use Rattle.package_table.proofs.Names.{name_total, name_exact, tied_same}
 
 -- ---- a sorted list
 same_dedup_from : (k : Name) (ks : List Name) → IsDistinct (eq_by_cmp name_cmp) (k ∷ ks) → dedup_from (eq_by_cmp name_cmp) k ks ≡ k ∷ ks

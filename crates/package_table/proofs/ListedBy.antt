@@ -2,9 +2,8 @@
 --     position_exact, positions_apart, locked_own      places of pairs, and that a locked package has its own symbols alone
 --     own_listed, shown_listed, imported_listed, used_listed      sorted lists
 --     imported_pairs      imported names with their homes
-use Rattle.std.proofs.Common.{◌≡◌, ◌≢◌, ◌+◌, ◌<◌, ◌≤◌, ℕ, zero, suc, Bool, true, false, cond, not, ◌&&◌, ◌||◌, nat_eq, nat_lt, is_some, List, [], ◌∷◌, map, filter, length, get_or, position, Option, None, Some, option_map, option_and_then, bytes_eq, refl, sym, ap, subst, ◌∙◌, T, IsPermutation, IsSorted, arith}
+use Rattle.std.proofs.Common.{◌≡◌, ◌+◌, ◌<◌, ◌≤◌, ℕ, zero, suc, Bool, true, false, cond, not, ◌||◌, nat_eq, nat_lt, is_some, List, [], ◌∷◌, map, filter, length, get_or, position, Option, None, Some, option_map, option_and_then, bytes_eq, refl, sym, ap, subst, ◌∙◌, T, IsPermutation, IsSorted, arith}
 use Rattle.std.proofs.lemmas.Bool.{false≢true, or_right}
-use Rattle.std.proofs.lemmas.Bool.Decides.{Decides-eqb}
 use Rattle.std.specs.Option.{option_or, option_map_or}
 use Rattle.std.specs.List.{IsDistinct, AllByRecursion, list_any}
 use Rattle.std.specs.FinMap as finite
@@ -24,7 +23,7 @@ use Rattle.package_table.proofs.Asked.{found_past}
 use Rattle.package_table.proofs.Counting.{first_of_both, second_of_both}
 use Rattle.package_table.proofs.Mapped.{position_cons, named, got_at, got_none}
 use Rattle.package_table.proofs.Meant.{known, one_pair, same_pair, pair_there, package_at, entry_there, uses_there, uses_none}
-use Rattle.package_table.proofs.FoundBy.{position_of, position_some, positions_read, positions_have, all_any, any_at}
+use Rattle.package_table.proofs.FoundBy.{position_of, positions_read, positions_have, all_any, any_at}
 use Rattle.package_table.proofs.Adding.{locked_number}
 use Rattle.package_table.proofs.ByName.{home_position, other_home, own_home}
 use Rattle.package_table.proofs.Listed.{sorted_is, kept_rise, kept_among, keys_rise, keys_among, any_in, any_of, any_mapped, distinct_mapped}

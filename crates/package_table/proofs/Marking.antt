@@ -2,14 +2,12 @@
 --     marked_push, rising_push, tables_push      a new mark
 --     back      what is left after going back to a mark
 --     marks_sound      what was kept at each mark is sound, and its symbols are numbered
-use Rattle.std.proofs.Common.{◌≡◌, ◌<◌, ◌≤◌, ℕ, zero, suc, List, [], ◌∷◌, ◌++◌, map, length, take, get_or, Some, All, refl, sym, ap, subst, ◌∙◌, arith}
+use Rattle.std.proofs.Common.{◌≡◌, ◌<◌, ◌≤◌, ℕ, zero, suc, List, [], ◌∷◌, ◌++◌, length, take, get_or, Some, All, refl, sym, ap, subst, arith}
 use Rattle.std.specs.List.{AllByRecursion, slice_get}
 use Rattle.std.proofs.lemmas.List.{length-take-le}
 use Rattle.package_sets.specs.declared.sizes.Sizes.{Sizes}
 use Rattle.package_sets.specs.Kept.{Kept, cut, sizes_of, AreUpTo}
 use Rattle.package_sets.proofs.Places.{all_at}
-use Rattle.package_table.specs.Table.{symbol_count}
-use Rattle.package_table.specs.Numbers.{Numbered}
 use Rattle.package_table.specs.Numbering.{IsNumbered, IsNumberedSound}
 use Rattle.package_table.specs.Meaning.{numbered_of}
 use Rattle.package_table.specs.Shown.{IsMark, IsState, IsRising, tables_at}

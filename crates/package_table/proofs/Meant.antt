@@ -3,22 +3,21 @@
 --     known      what has a number is kept
 --     package_at, package_none, entry_there, number_there      what is at a name
 --     entry_put, named_more, made, used      what single changes make of it
-use Rattle.std.proofs.Common.{◌≡◌, ◌≢◌, ◌⊎◌, ◌+◌, ◌<◌, ◌≤◌, ℕ, zero, suc, Bool, true, false, cond, ◌&&◌, ◌||◌, nat_eq, nat_lt, is_some, List, [], ◌∷◌, ◌++◌, length, get_or, position, Option, None, Some, option_map, option_and_then, bytes_eq, refl, sym, ap, subst, ◌∙◌, inl, inr, arith}
-use Rattle.std.proofs.lemmas.Bool.{false≢true, and_parts}
+use Rattle.std.proofs.Common.{◌≡◌, ◌≢◌, ◌⊎◌, ◌<◌, ℕ, true, false, ◌&&◌, nat_eq, List, length, get_or, position, Option, None, Some, option_map, option_and_then, bytes_eq, refl, sym, ap, subst, ◌∙◌, inl, inr, arith}
+use Rattle.std.proofs.lemmas.Bool.{and_parts}
 use Rattle.std.proofs.lemmas.Bool.Decides.{Decides-eqb}
-use Rattle.std.proofs.lemmas.List.{get_or_append_left, get_or_push, length_push}
 use Rattle.std.proofs.lemmas.List.Quantifiers.{position-Some}
 use Rattle.std.specs.Option.{option_or, option_map_or}
-use Rattle.std.specs.List.{IsDistinct, AllByRecursion}
+use Rattle.std.specs.List.{IsDistinct}
 use Rattle.std.specs.FinMap as finite
-use Rattle.package_sets.specs.Kept.{Kept, import_of, name_at, pair_at, pair_eq}
+use Rattle.package_sets.specs.Kept.{Kept, import_of, pair_at, pair_eq}
 use Rattle.package_sets.specs.Good.{IsGood, AreWithin}
-use Rattle.package_table.specs.Table.{Name, name_cmp, Present, Package, Table, entry_at, with_entry, with_used, with_new_package, empty_package}
-use Rattle.package_table.specs.Numbers.{Numbers, Numbered, number_at, with_numbers, with_numbered, with_use, with_package_made}
-use Rattle.package_table.specs.Meaning.{map_by, number_in, is_shown_in, present_in, package_in, numbers_in, table_of, all_numbers_of, numbered_of}
+use Rattle.package_table.specs.Table.{Name, name_cmp, Present, Package, entry_at, with_entry}
+use Rattle.package_table.specs.Numbers.{Numbered, number_at, with_numbers, with_numbered}
+use Rattle.package_table.specs.Meaning.{map_by, number_in, present_in, package_in, numbers_in, table_of, all_numbers_of, numbered_of}
 use Rattle.package_sets.proofs.Places.{all_at}
 use Rattle.package_table.proofs.Names.{same_some, none_some}
-use Rattle.package_table.proofs.Mapped.{position_push, named, got, got_at, got_none, same, put, more, more_put, none_by}
+use Rattle.package_table.proofs.Mapped.{got_at, got_none, same, put}
 
 -- ---- pairs of numbers
 pub one_pair : (a b : ℕ × ℕ) → pair_eq a b ≡ true → a ≡ b

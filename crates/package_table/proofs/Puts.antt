@@ -2,19 +2,19 @@
 --     entry_twice      an entry that is put in place of another
 --     made, interned, imported, shown_present, shown_inherited, used      what each call makes of the packages by names
 --     this_found, this_known      the symbol that is found
-use Rattle.std.proofs.Common.{◌≡◌, ◌≢◌, ◌<◌, ℕ, Bool, true, false, cond, not, ◌||◌, nat_lt, is_some, List, length, position, Option, None, Some, option_map, option_and_then, bytes_eq, refl, sym, ap, subst, ◌∙◌}
+use Rattle.std.proofs.Common.{◌≡◌, ◌<◌, ℕ, Bool, true, false, cond, nat_lt, is_some, length, position, Option, None, Some, option_map, option_and_then, bytes_eq, refl, sym, ap, ◌∙◌}
 use Rattle.std.proofs.lemmas.Bool.{false≢true, or_right}
 use Rattle.std.specs.Option.{option_or, option_map_or}
 use Rattle.std.specs.Ordering.{eq_by_cmp}
 use Rattle.std.specs.FinMap as finite
 use Rattle.package_sets.specs.Kept.{Kept, import_of, name_at, pair_at, pair_eq, positions_of}
 use Rattle.package_sets.specs.Good.{IsGood}
-use Rattle.package_sets.specs.Changes.{symbol_named, with_external, with_import, with_symbol, with_use}
-use Rattle.package_table.specs.Table.{Name, name_cmp, Present, Package, Table, entry_at, with_package, with_entry, common_lisp, keyword, is_locked, IsJoined, IsPresent}
-use Rattle.package_table.specs.Lookup.{found, is_present, is_external}
+use Rattle.package_sets.specs.Changes.{symbol_named, with_external, with_import, with_symbol}
+use Rattle.package_table.specs.Table.{Name, name_cmp, Present, Package, Table, entry_at, with_entry, common_lisp, keyword, is_locked, IsJoined, IsPresent}
+use Rattle.package_table.specs.Lookup.{found, is_external}
 use Rattle.package_table.specs.Changes.{finds_this}
 use Rattle.package_table.specs.Numbers.{Numbered, with_numbered}
-use Rattle.package_table.specs.Meaning.{number_in, is_shown_in, present_in, home_in, found_number, first_shown, shown_number, numbered_of}
+use Rattle.package_table.specs.Meaning.{number_in, is_shown_in, present_in, home_in, found_number, first_shown, numbered_of}
 use Rattle.package_table.specs.Adds.{IsPlaced, Adds}
 use Rattle.package_table.proofs.Names.{name_total, name_exact, same_some, none_some}
 use Rattle.package_table.proofs.Frames.{equal_names, equal_itself, get_inserted}

@@ -1,9 +1,9 @@
 -- A tree that is kept by names, as it is read: look-ups, the entries in their order, and what each change leaves.
-use Rattle.std.proofs.Common.{◌≡◌, ◌++◌, Bool, true, false, cond, Option, None, Some, List, [], ◌∷◌, map, refl, sym, ap, subst, ◌∙◌, Bor}
+use Rattle.std.proofs.Common.{◌≡◌, Bool, true, Option, None, Some, List, [], ◌∷◌, map, refl, ap, Bor}
 use Rattle.std.specs.Prelude.{ℕ, option_map}
 use Rattle.std.specs.Global.{Vec}
 use Rattle.std.specs.declared.cmp.Ordering.{Ordering}
-use Rattle.std.specs.Option.{option_copied, option_map_or, IsSome}
+use Rattle.std.specs.Option.{option_copied, IsSome}
 use Rattle.std.specs.List.Sorted.{IsStrictlySortedBy}
 use Rattle.std.specs.Map.{lookup, keys_of, remove_entry, set_value}
 use Rattle.std.specs.BTreeMap.{is_at, insert_entry}

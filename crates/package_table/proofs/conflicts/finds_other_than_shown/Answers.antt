@@ -1,4 +1,4 @@
-use Rattle.std.proofs.Common.{◌≡◌, ◌∙◌, ◌<◌, ◌≤◌, ℕ, false, nat_lt, List, length, get_or, sym, ap, subst}
+use Rattle.std.proofs.Common.{◌∙◌, ◌<◌, ◌≤◌, ℕ, List, length, get_or, sym, ap, subst}
 use Rattle.package_table.specs.Meaning.{finds_another, shown_positions, shown_symbol}
 use Rattle.package_table.proofs.Names.{none_some}
 use Rattle.package_table.proofs.ByName.{package_is}

@@ -1,4 +1,4 @@
-use Rattle.std.proofs.Common.{◌≡◌, ◌∙◌, true, false, bytes_eq, sym, ap}
+use Rattle.std.proofs.Common.{◌∙◌, true, false, bytes_eq, sym, ap}
 use Rattle.package_table.proofs.Conflicting.{reaches_none, reaches_same, reaches_using, reaches_sharing}
 use Rattle.package_table.proofs.conflicts.reaches.Goals as goal
 

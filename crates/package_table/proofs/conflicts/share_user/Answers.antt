@@ -1,4 +1,4 @@
-use Rattle.std.proofs.Common.{◌≡◌, ◌∙◌, ◌&&◌, Bool, ℕ, length, sym, ap, subst, ◌<◌, ◌≤◌, arith}
+use Rattle.std.proofs.Common.{◌∙◌, ◌&&◌, Bool, length, sym, ◌<◌, ◌≤◌, arith}
 use Rattle.std.specs.FinMap as finite
 use Rattle.package_sets.specs.Kept.{name_at}
 use Rattle.package_table.specs.Table.{Name, Package}

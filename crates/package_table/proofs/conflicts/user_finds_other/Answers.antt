@@ -1,8 +1,8 @@
-use Rattle.std.proofs.Common.{◌≡◌, ◌∙◌, ℕ, length, sym, ap, ◌<◌, ◌≤◌, arith}
+use Rattle.std.proofs.Common.{◌∙◌, length, sym, ◌<◌, ◌≤◌, arith}
 use Rattle.package_sets.specs.Kept.{name_at}
 use Rattle.package_table.specs.Reached.{reaches}
 use Rattle.package_table.specs.Changes.{user_finds_other}
-use Rattle.package_table.specs.Meaning.{numbered_of, package_in}
+use Rattle.package_table.specs.Meaning.{numbered_of}
 use Rattle.package_table.proofs.Mapped.{named}
 use Rattle.package_table.proofs.Reaching.{reached_is}
 use Rattle.package_table.proofs.Conflicting.{all_packages, some_package, users_none}

@@ -1,5 +1,4 @@
-use Rattle.std.proofs.Common.{◌≡◌, ◌∙◌, Result, IfOk, sym, subst}
-use Rattle.std.specs.FinMap as finite
+use Rattle.std.proofs.Common.{◌≡◌, IfOk, sym, subst}
 use Rattle.package_table.specs.Table.{Name, IsPackage}
 use Rattle.package_table.specs.Changes.{after_intern, intern_changes, Gives}
 use Rattle.package_table.specs.Meaning.{numbered_of}

@@ -1,4 +1,4 @@
-use Rattle.std.proofs.Common.{◌≡◌, map, take, get_or}
+use Rattle.std.proofs.Common.{◌≡◌, map, take}
 use Rattle.package_table.specs.Meaning.{symbol_name}
 use Rattle.package_table.proofs.lists.names_in.Given as goal
 

@@ -1,4 +1,4 @@
-use Rattle.std.proofs.Common.{◌≡◌, map, take, get_or}
+use Rattle.std.proofs.Common.{◌≡◌, map, take}
 use Rattle.package_sets.specs.Kept.{name_at, pair_at, positions_of}
 use Rattle.package_table.proofs.lists.used_packages.Given as goal
 

@@ -1,4 +1,4 @@
-use Rattle.std.proofs.Common.{◌≡◌, ◌∙◌, Some, option_map, position, bytes_eq, sym, ap}
+use Rattle.std.proofs.Common.{◌∙◌, Some, option_map, sym, ap}
 use Rattle.package_sets.specs.Kept.{name_at}
 use Rattle.package_table.specs.Meaning.{home_in}
 use Rattle.package_table.proofs.FoundBy.{position_of, found_by, found_no_name}

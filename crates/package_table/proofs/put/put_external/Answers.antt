@@ -1,14 +1,12 @@
-use Rattle.std.proofs.Common.{◌≡◌, ◌∙◌, ℕ, Option, Some, None, true, false, is_some, bytes_eq, refl, sym, ap, subst}
+use Rattle.std.proofs.Common.{◌∙◌, false, is_some, bytes_eq, refl, sym, ap, subst}
 use Rattle.std.proofs.lemmas.Bool.{false≢true}
 use Rattle.std.specs.Option.{option_map_or}
-use Rattle.package_sets.specs.Kept.{Kept, pair_at, positions_of}
+use Rattle.package_sets.specs.Kept.{Kept}
 use Rattle.package_sets.specs.Good.{IsGood}
-use Rattle.package_table.specs.Table.{Name, IsJoined}
 use Rattle.package_table.specs.Numbers.{Numbered}
-use Rattle.package_table.specs.Changes.{finds_this}
-use Rattle.package_table.specs.Meaning.{numbered_of, number_in, found_number, home_in}
+use Rattle.package_table.specs.Meaning.{numbered_of, number_in}
 use Rattle.package_table.specs.Adds.{AddsNoSymbol}
-use Rattle.package_table.proofs.Names.{none_some, same_some}
+use Rattle.package_table.proofs.Names.{none_some}
 use Rattle.package_table.proofs.Adding.{external_adds}
 use Rattle.package_table.proofs.FoundBy.{found_no_name}
 use Rattle.package_table.proofs.ByName.{package_is}

@@ -1,5 +1,5 @@
 use Rattle.std.proofs.Common.{◌∙◌, refl, sym, ap, subst}
-use Rattle.package_sets.specs.Kept.{Kept, pair_eq}
+use Rattle.package_sets.specs.Kept.{Kept}
 use Rattle.package_sets.specs.Good.{IsGood}
 use Rattle.package_table.specs.Numbers.{Numbered}
 use Rattle.package_table.specs.Meaning.{numbered_of}
