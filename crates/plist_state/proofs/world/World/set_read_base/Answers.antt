@@ -1,4 +1,4 @@
-use Rattle.std.proofs.Common.{◌≡◌, refl}
+use Rattle.std.proofs.Common.{refl}
 use Rattle.package_table.specs.Numbers.{numbered}
 use Rattle.plist_state.specs.declared.note.Note.TheVariants.{InBase}
 use Rattle.plist_state.specs.Shown.{NumberedRest, rest_of}
