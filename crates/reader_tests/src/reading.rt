@@ -24,7 +24,7 @@ use user_macros::{MacroFunctions, Macros};
 #[test]
 fn limits_and_laws(rt: HostRuntime) {
     let rows = [
-        (Limits::form(), 65_536, 4_096, 100),
+        (Limits::form(), 1_048_576, 4_096, 100),
         (Limits::snapshot(), 4_294_967_295, 8_192, 104),
     ];
     for (limits, text, token, nesting) in rows {

@@ -18,10 +18,10 @@ const SECOND_LOGGED: &[u8] =
     b"\xa5\x00\x02\x00\x00\x00\x00\x00\x00\x00\x01\x00\x00\x00\x08snapshot\xa5\x00\x00\x00\x00\x03(B)\x00";
 
 /// What a start makes beside either of them.
-const NEXT: &[u8] = b"\xa5\x00\x01\x00\x00\x00\x00\x00\x00\x00\x02\x00\x00\x00\x08snapshot\x00";
+const NEXT: &[u8] = b"\xa5\x00\x02\x00\x00\x00\x00\x00\x00\x00\x02\x00\x00\x00\x08snapshot\x00";
 
 /// The version that a start writes.
-const WRITTEN: u16 = 1;
+const WRITTEN: u16 = 2;
 
 /// What an opening shows of the half in use: its version, which it is, its generation and how many records it has.
 type Shown = (u16, Half, u64, u64);
