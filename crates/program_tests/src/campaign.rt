@@ -25,7 +25,7 @@ const CRASHES: [Crash; 4] = [
 
 /// What calls over a device that stops left: the text, whether a call failed, and the disk.
 #[derive(Drop)]
-pub struct Stopped {
+pub struct Remains {
     pub text: Vec<u8>,
     pub has_failed: bool,
     pub disk: MemoryDisk,
@@ -37,7 +37,7 @@ pub fn stopped(
     files: &Files,
     stop: Stop,
     calls: &[Ask<'_>],
-) -> Result<Stopped, Trouble> {
+) -> Result<Remains, Trouble> {
     let disk = disk_with(alloc, files)?;
     let (text, has_failed, disk) = match stop {
         Stop::From(passed) => {
@@ -49,7 +49,7 @@ pub fn stopped(
             (text, disk.failures() > 0, disk.into_inner())
         }
     };
-    Ok(Stopped {
+    Ok(Remains {
         text,
         has_failed,
         disk,
@@ -132,12 +132,12 @@ fn takes_one_more(alloc: Global, disk: MemoryDisk) -> Result<bool, Trouble> {
 /// Whether what was left means the world after the forms that were acknowledged, or after one more, and goes on from there.
 fn is_promised(
     alloc: Global,
-    left: Stopped,
+    left: Remains,
     crash: Crash,
     whole: &[u8],
     worlds: &[Vec<u8>],
 ) -> Result<bool, Trouble> {
-    let Stopped {
+    let Remains {
         text,
         has_failed,
         disk,

@@ -65,7 +65,7 @@ const CASES: &[Case] = &[
         text: b"7\nstore 64\nhalf B generation 2 records 0\n",
     },
     Case {
-        limit: 220,
+        limit: 224,
         snapshot_every: 0,
         input: b"(PROGN (SETF (GET 'A 'B) '#200(1)) 1)(SETF (GET 'A 'C) 2)(SETF (GET 'A 'D) 3)",
         text: b"1\n2\nstore 65\nhalf A generation 1 records 2\n",
