@@ -2,6 +2,7 @@
 
 use crate::asked::{Ask, asked, form, session, told};
 use crate::files::{AMPLE, Files, Trouble, crashed, disk_with, files_of};
+use crate::versions::first_version;
 use disk_trait::{Crash, Disk, FuseDisk, MemoryDisk, OnceDisk};
 use prevalence_store::{Mode, Step};
 use std::alloc::Global;
@@ -24,7 +25,7 @@ const CRASHES: [Crash; 4] = [
 
 /// What calls over a device that stops left: the text, whether a call failed, and the disk.
 #[derive(Drop)]
-pub struct Stopped {
+pub struct Remains {
     pub text: Vec<u8>,
     pub has_failed: bool,
     pub disk: MemoryDisk,
@@ -36,7 +37,7 @@ pub fn stopped(
     files: &Files,
     stop: Stop,
     calls: &[Ask<'_>],
-) -> Result<Stopped, Trouble> {
+) -> Result<Remains, Trouble> {
     let disk = disk_with(alloc, files)?;
     let (text, has_failed, disk) = match stop {
         Stop::From(passed) => {
@@ -48,7 +49,7 @@ pub fn stopped(
             (text, disk.failures() > 0, disk.into_inner())
         }
     };
-    Ok(Stopped {
+    Ok(Remains {
         text,
         has_failed,
         disk,
@@ -131,12 +132,12 @@ fn takes_one_more(alloc: Global, disk: MemoryDisk) -> Result<bool, Trouble> {
 /// Whether what was left means the world after the forms that were acknowledged, or after one more, and goes on from there.
 fn is_promised(
     alloc: Global,
-    left: Stopped,
+    left: Remains,
     crash: Crash,
     whole: &[u8],
     worlds: &[Vec<u8>],
 ) -> Result<bool, Trouble> {
-    let Stopped {
+    let Remains {
         text,
         has_failed,
         disk,
@@ -165,6 +166,8 @@ enum Start {
     Seven,
     /// The same in half B, and half A is older.
     Older,
+    /// The property is 7, in half A of version 1.
+    FirstVersion,
     /// Half A is in use, and in half B is the text of a world; its gate was not opened.
     Closed,
 }
@@ -194,6 +197,7 @@ fn files_at(alloc: Global, start: Start) -> Result<Files, Trouble> {
             let other = form(b"(SETF (GET 'A 'C) 7)");
             files_after(alloc, &[set, Ask::Snapshot, other])
         }
+        Start::FirstVersion => first_version(alloc),
         Start::Closed => closed_half(alloc, &files_after(alloc, &[set])?),
     }
 }
@@ -273,10 +277,11 @@ fn a_form_that_stops_is_there_or_not(rt: HostRuntime) -> Result<(), Fail> {
     let alloc = rt.alloc();
     let set = form(b"(SETF (GET 'A 'B) 8)");
     let run = Ask::Run(&[EIGHT, Step::Snapshot, EIGHT]);
-    let rows: [(Start, &[Ask], &[Step]); 3] = [
+    let rows: [(Start, &[Ask], &[Step]); 4] = [
         (Start::Fresh, &[], &[]),
         (Start::Seven, &[set], &[EIGHT]),
         (Start::Fresh, &[run], &[EIGHT, EIGHT]),
+        (Start::FirstVersion, &[run], &[EIGHT, EIGHT]),
     ];
     for (start, calls, forms) in rows {
         let found = difference_after(alloc, start, calls, forms)?;
@@ -287,7 +292,14 @@ fn a_form_that_stops_is_there_or_not(rt: HostRuntime) -> Result<(), Fail> {
 
 #[test]
 fn a_snapshot_that_stops_changes_no_world(rt: HostRuntime) -> Result<(), Fail> {
-    for start in [Start::Fresh, Start::Seven, Start::Older, Start::Closed] {
+    let starts = [
+        Start::Fresh,
+        Start::Seven,
+        Start::Older,
+        Start::Closed,
+        Start::FirstVersion,
+    ];
+    for start in starts {
         let found = difference_after(rt.alloc(), start, &[Ask::Snapshot], &[])?;
         assert!(rt; found.is_none(), "{found:?}");
     }

@@ -12,10 +12,10 @@ const SQUARE: &[u8] = b"(SET-MACRO-CHARACTER #\\[ :SQUARE)";
 
 const CLOSE: &[u8] = b"(SET-MACRO-CHARACTER #\\] :CLOSE)";
 
-const SET: &[u8] = b"(PROGN (SETF (GET 'A 'V) [1 2]) 8)";
+const SET: &[u8] = b"(PROGN (SETF (GET 'A 'V) [1 [2]]) 8)";
 
 const SESSION: &[u8] =
-    b"(SET-MACRO-CHARACTER #\\[ :SQUARE)\n(SET-MACRO-CHARACTER #\\] :CLOSE)\n(PROGN (SETF (GET 'A 'V) [1 2]) 8)\n";
+    b"(SET-MACRO-CHARACTER #\\[ :SQUARE)\n(SET-MACRO-CHARACTER #\\] :CLOSE)\n(PROGN (SETF (GET 'A 'V) [1 [2]]) 8)\n";
 
 /// How many calls of macro functions the third form makes.
 const CALLS: u64 = 2;
@@ -102,7 +102,7 @@ fn an_opening_without_memory_gives_the_disk_back(rt: HostRuntime) -> Result<(), 
     for call in 0..CALLS {
         let (first, second) = replayed(rt.alloc(), call)?;
         assert!(rt; first.as_slice() == b"unopened 90\n".as_slice(), "{call}");
-        let wanted: &[u8] = b"#(1 2)\nend\nhalf A generation 1 records 3\n";
+        let wanted: &[u8] = b"#(1 #(2))\nend\nhalf A generation 1 records 3\n";
         assert!(rt; second.as_slice() == wanted, "{call}");
     }
     Ok(())
