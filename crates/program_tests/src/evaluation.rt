@@ -10,7 +10,7 @@ use std::io::Write;
 use std::mem;
 use std::test::Fail;
 
-/// A line of forms, with `;` between them, each in the world that those before it left; and a line with what is answered to the
+/// Rows: a line of forms, with `;` between them, each in the world that those before it left; and a line with what is answered to the
 /// last one: its value, after `=` where it is not logged and after `+` where it is, or the line of its refusal.
 const ROWS: &str = r#"
 7
@@ -31,40 +31,6 @@ T
 = "COMMON-LISP-USER"
 *READTABLE*
 = :USER
-*READ-BASE*
-= 10
-(SETF *READ-BASE* 37)
-! 44 INTEGER-RANGE
-(SETF *READ-BASE* 1)
-! 44 INTEGER-RANGE
-(SETF *READ-BASE* 'X)
-! 33 ARGUMENT-KIND
-(SETF *READ-BASE* "16")
-! 33 ARGUMENT-KIND
-(SETF *READ-BASE* 16)
-+ 16
-(SETF *READ-BASE* 16);(LIST 10 10. FF 1e2 -A/4)
-= (16 10 255 482 -5/2)
-(SETF *READ-BASE* 16);(LIST #b10 #xFF #36rZ #3(A))
-= (2 255 35 #(10 10 10))
-(SETF *READ-BASE* 16);(GET 'A 'B)
-! 33 ARGUMENT-KIND
-(SETF *READ-BASE* 16);'|A|
-+ A
-(SETF *READ-BASE* 36);(LIST 1)
-! 30 NOT-A-FORM
-(SETF *READ-BASE* 36);(|SETF| *READ-BASE* 10.)
-+ 10
-(SETF *READ-BASE* 16);(PROGN (SETF *READ-BASE* 8) (FROB))
-! 31 UNKNOWN-OPERATOR
-(SETF *READ-BASE* 16);(PROGN (SETF *READ-BASE* 8) (FROB));*READ-BASE*
-= 16
-(SETF *READ-BASE* 16);(COPY-READTABLE NIL :USER);(IN-READTABLE :STANDARD);*READ-BASE*
-= 16
-(INCF *READ-BASE*)
-! 33 ARGUMENT-KIND
-(PUSH 1 *READ-BASE*)
-! 33 ARGUMENT-KIND
 X
 ! 30 NOT-A-FORM
 #:X
@@ -373,7 +339,7 @@ fn row_holds(alloc: Global, forms: &mut Vec<u8>, line: Vec<u8>) -> Result<bool, 
 }
 
 /// The forms of the first row that does not hold.
-fn failing(alloc: Global, rows: &[u8]) -> Result<Option<Vec<u8>>, Trouble> {
+pub fn failing(alloc: Global, rows: &[u8]) -> Result<Option<Vec<u8>>, Trouble> {
     let mut forms = Vec::new(alloc);
     let mut line = Vec::new(alloc);
     for c in rows {

@@ -7,7 +7,7 @@
 //! compares the text of what its calls gave with the one that is wanted.
 //!
 //! - `asked` calls a store, `by_name` has the macro functions, `files` the bytes of disks, `broken` streams that fail
-//! - `rows`, `evaluation`, `sessions`, `refusals`: what forms are answered
+//! - `rows`, `evaluation`, `read_base`, `sessions`, `refusals`: what forms are answered
 //! - `calls`, `silent`, `turns`, `snapshots`, `callers`: the calls of a store
 //! - `campaign`: a device that stops at each of its calls in turn, and each kind of crash after that; `stopped`: what exactly is
 //!   left of one form or snapshot; `altered`: files that were altered; `memory`: a macro function that finds no memory
@@ -42,6 +42,8 @@ mod long;
 mod macros;
 #[cfg(test)]
 mod memory;
+#[cfg(test)]
+mod read_base;
 #[cfg(test)]
 mod refusals;
 #[cfg(test)]
