@@ -1,6 +1,6 @@
 -- That a form is refused under a number of evaluation.
 --     value_numbered      the value of a form
-use Rattle.std.proofs.Common.{List}
+use Rattle.std.proofs.Common.{true, List}
 use Rattle.lisp_object.specs.Object.{Object}
 use Rattle.package_table.specs.Table.{Name}
 use Rattle.plist_state.specs.State.{WorldState}

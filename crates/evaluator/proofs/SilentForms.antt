@@ -1,6 +1,6 @@
 -- That a form which does not write leaves the state as it was.
 --     value_silent      the value of a form
-use Rattle.std.proofs.Common.{List, refl}
+use Rattle.std.proofs.Common.{true, List, refl}
 use Rattle.lisp_object.specs.Object.{Object}
 use Rattle.package_table.specs.Table.{Name}
 use Rattle.plist_state.specs.State.{WorldState}

@@ -1,6 +1,6 @@
 -- That a form which is evaluated in a sound state leaves a sound state.
 --     value_safe      the value of a form
-use Rattle.std.proofs.Common.{pos, false, List, [], ◌∷◌, ◌++◌}
+use Rattle.std.proofs.Common.{pos, true, false, List, [], ◌∷◌, ◌++◌}
 use Rattle.std.proofs.lemmas.List.Elements.{All-append, All-cons, All-nil, All-head, All-tail}
 use Rattle.lisp_object.specs.Object.{Object, integer, text, nil}
 use Rattle.package_table.specs.Table as packages

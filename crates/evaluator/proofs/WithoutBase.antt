@@ -1,9 +1,9 @@
 -- What a form gives where *READ-BASE* is no variable, it gives where it is one, and the base stays as it was.
 --     Widens      what is said of the two outcomes
 --     value_without_base      the value of a form
-use Rattle.std.proofs.Common.{◌≡◌, ℕ, Bool, true, false, not, ◌&&◌, ◌||◌, cond, List, [], ◌∷◌, ◌++◌, Option, Some, None, Ok, Err, codes, bytes_eq, refl, sym, ap, subst}
+use Rattle.std.proofs.Common.{◌≡◌, ℕ, Bool, true, false, not, ◌&&◌, ◌||◌, cond, List, ◌∷◌, ◌++◌, Option, Some, None, Ok, Err, codes, bytes_eq, refl, sym, ap, subst}
 use Rattle.std.proofs.lemmas.Bool.{false≢true}
-use Rattle.lisp_object.specs.Object.{Object, integer, rational, character, text, symbol, uninterned, pair, vector, nil, is_proper_list}
+use Rattle.lisp_object.specs.Object.{Object, integer, rational, character, text, symbol, uninterned, pair, vector, is_proper_list}
 use Rattle.lisp_object.specs.declared.refusal.TheConstants.{ARGUMENT_KIND}
 use Rattle.package_table.specs.Table.{Name, keyword}
 use Rattle.plist_state.specs.State.{WorldState}
@@ -16,7 +16,7 @@ use Rattle.lisp_operators.specs.ReadBase.{set_base}
 use Rattle.lisp_operators.proofs.Keeping.{Keeps}
 use Rattle.lisp_operators.proofs.SameBase.{SameBase, same_base}
 use Rattle.evaluator.specs.Operators.{Operator, Action, quotes, sequence, chooses, assigns, increments, pushes, enters_package, calls, operator_of, is_standard, is_interned, count, counts, first}
-use Rattle.evaluator.specs.Value.{value_by, values_by, choice_by, other_value_by, values_at_place_by, values_before_place_by, symbol_value_by, Parts, action_value_by, form_value_by, unless, last, is_base_by, is_case_place, list_place_refusal, place_refusal_by, get_place_refusal, set_place_by, rest}
+use Rattle.evaluator.specs.Value.{value_by, values_by, choice_by, other_value_by, values_at_place_by, values_before_place_by, symbol_value_by, Parts, action_value_by, form_value_by, unless, last, is_base_by, is_case_place, list_place_refusal, get_place_refusal, rest}
 use Rattle.evaluator.proofs.KeepingForms.{value_keeps}
 
 abbrev WidensTo : {A : Type 0} → Evaluation A → Evaluation A → Type 0

@@ -7,7 +7,7 @@ use Rattle.package_table.specs.Lookup.{found}
 use Rattle.plist_state.specs.State.{WorldState}
 use Rattle.plist_state.specs.Changes.{with_packages}
 use Rattle.lisp_operators.specs.Evaluation.{gives, writes}
-use Rattle.evaluator.specs.Value.{value, value_by}
+use Rattle.evaluator.specs.Value.{value_by}
 use Rattle.form_eval.specs.Acceptance.{accept}
 
 abbrev named : Name → Object

@@ -1,6 +1,6 @@
 -- That a form which is accepted in a sound state leaves a sound state.
 --     accepted_sound      of a whole form
-use Rattle.std.proofs.Common.{◌≡◌, map, inl, inr, ◌<◌, Bool, false, not, cond, ◌||◌, List, [], ◌∷◌, ◌++◌, length, All, Some, None, Result, Ok, Err, bytes_eq, nat_lt, nat_le, refl, sym, ap, subst, ◌∙◌}
+use Rattle.std.proofs.Common.{true, ◌≡◌, map, inl, inr, ◌<◌, Bool, false, not, cond, ◌||◌, List, [], ◌∷◌, ◌++◌, length, All, Some, None, Result, Ok, Err, bytes_eq, nat_lt, nat_le, refl, sym, ap, subst, ◌∙◌}
 use Rattle.std.specs.Option.{option_map_or}
 use Rattle.std.specs.FinMap as finite
 use Rattle.std.proofs.lemmas.List.Elements.{All-append, All-cons, All-nil, All-head, All-tail}

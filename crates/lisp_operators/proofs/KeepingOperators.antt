@@ -110,9 +110,9 @@ module _ (names : List Name) (Kept : WorldState → WorldState → Type 0) (chan
   pub enter_keeps : (x : Object) (s : WorldState) → Keeps s (enter x s)
   enter_keeps x s = keeps_kind Kept s (a_name x) _ (λ n. in_package_keeps s n _ (λ p. record { kept = changes.current_package s p }))
 
-  interned_keeps : (s : WorldState) (n : Name) (changes : Bool) (r : Result (Name × Table) PackageError) → Keeps s (interned s n changes r)
-  interned_keeps s n changes (Ok p) = record { kept = changes.packages s p.1 }
-  interned_keeps s n changes (Err e) = record { kept = tt }
+  interned_keeps : (s : WorldState) (n : Name) (is_new : Bool) (r : Result (Name × Table) PackageError) → Keeps s (interned s n is_new r)
+  interned_keeps s n is_new (Ok p) = record { kept = changes.packages s p.1 }
+  interned_keeps s n is_new (Err e) = record { kept = tt }
 
   pub intern_keeps : IsKeeping intern
   intern_keeps [] s = record { kept = tt }

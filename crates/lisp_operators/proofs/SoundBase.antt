@@ -1,14 +1,13 @@
 -- That SETF of *READ-BASE* leaves a sound state, and gives a value that may be stored.
 --     base_within      a base is one from 2 to 36
 --     base_value      a base may be stored
-use Rattle.std.proofs.Common.{◌≡◌, ◌≤◌, ◌<◌, ◌^◌, ℕ, ℤ, pos, negsuc, true, false, cond, List, [], ◌∷◌, Some, None, Err, nat_le, refl, subst, arith}
+use Rattle.std.proofs.Common.{◌≡◌, ◌≤◌, ◌<◌, ◌^◌, ℕ, ℤ, pos, negsuc, true, false, cond, [], ◌∷◌, Some, None, Err, nat_le, refl, subst, arith}
 use Rattle.std.proofs.lemmas.Bool.{and_parts, leb-true}
-use Rattle.lisp_object.specs.Object.{Object, integer}
+use Rattle.lisp_object.specs.Object.{integer}
 use Rattle.lisp_object.specs.declared.refusal.TheConstants.{INTEGER_RANGE}
 use Rattle.package_table.specs.Table.{Table}
 use Rattle.package_table.proofs.Growing.{grows_same}
 use Rattle.package_table.proofs.Names.{same_some, none_some}
-use Rattle.plist_state.specs.State.{WorldState}
 use Rattle.plist_state.specs.Changes.{with_base}
 use Rattle.plist_state.specs.Sound.{IsValue}
 use Rattle.plist_state.proofs.Soundness.{sound_base}
