@@ -1,5 +1,5 @@
 //! The world of a text.
-ghost use Rattle.std.specs.Prelude.{◌≡◌, ◌≤◌, ℕ, List, [], ◌++◌, Some, true, length, drop, IfOk, IfErr};
+ghost use Rattle.std.specs.Prelude.{◌≡◌, ◌≤◌, ℕ, List, [], ◌++◌, Some, true, length, drop, IfOk, IfErr, OnOk};
 ghost use Rattle.readtable_core.specs.Tables.{standard};
 ghost use Rattle.plist_state.specs.State.{WorldState, initial};
 ghost use Rattle.snapshot_text.specs.Built.{with_packages_of, with_properties_of};
@@ -65,6 +65,24 @@ fn read_tables<R: MacroFunctions>(
     Ok(())
 }
 
+// Makes the packages, the properties and the readtables of the lines of a text of this version, in a new world.
+fn fill<R: MacroFunctions>(
+    source: &Source<'_, R>,
+    version: u16,
+    world: &mut World,
+) -> Result<(), BuildError>
+    requires answers { R.answers source.now.macros.now }
+    requires table { source.now.table.now ≡ standard }
+    ensures { (s : WorldState) → IsSoundState s → length source.now.bytes.now ≤ 4294967295
+        → snapshot_in version s ≡ Some source.now.bytes.now → world.old.0 ≡ initial
+        → OrNoMemory (world.new.0 ≡ s) result }
+{
+    let at = read_packages(source, world, 0)?;
+    let at = read_properties(source, world, at)?;
+    read_tables(source, version, world, at)?;
+    Ok(())
+}
+
 // A world made from the three lines of a text of this version. From the text of a sound state the state is made.
 fn built<R: MacroFunctions>(
     alloc: Global,
@@ -85,9 +103,7 @@ fn built<R: MacroFunctions>(
         bytes,
     };
     let mut world = World::with_seed(alloc, seed)?;
-    let at = read_packages(&source, &mut world, 0)?;
-    let at = read_properties(&source, &mut world, at)?;
-    read_tables(&source, version, &mut world, at)?;
+    fill(&source, version, &mut world)?;
     Ok(world)
 }
 
@@ -108,6 +124,36 @@ fn is_covered<R: MacroFunctions>(
         }
     }
     Ok(true)
+}
+
+// Looks whether these bytes are the text of the world that was built from them, with no function missing.
+fn approve<R: MacroFunctions>(
+    alloc: Global,
+    version: u16,
+    bytes: &[u8],
+    macros: &R,
+    world: &World,
+) -> Result<(), SnapshotError>
+    requires built { (s : WorldState) → IsSoundState s → snapshot_in version s ≡ Some bytes.now
+        → world.now.0 ≡ s }
+    requires size { length bytes.now ≤ 4294967295 }
+    ensures text { OnOk result (snapshot_in version world.now.0 ≡ Some bytes.now) }
+    ensures covered { OnOk result (are_covered (R.functions macros.now).names world.now.0 ≡ true) }
+    ensures refused { IfErr result
+        (IsRefused (R.functions macros.now).names version bytes.now) }
+{
+    world.soundness();
+    // what was built from the bytes of no text has another one, or none in this version
+    let Some(text) = write_in(alloc, version, world)? else {
+        return Err(SnapshotError::Damaged);
+    };
+    if text.as_slice() != bytes {
+        return Err(SnapshotError::Damaged);
+    }
+    if !is_covered(alloc, world, macros)? {
+        return Err(SnapshotError::MissingFunction);
+    }
+    Ok(())
 }
 
 /// The world of which these bytes are the text in a half of this version, 1 or 2, with nothing marked, where the functions that
@@ -166,15 +212,6 @@ pub fn read_with_seed<R: MacroFunctions>(
     let mut world = built(alloc, version, bytes, macros, seed)?;
     world.settle();
     world.soundness();
-    // what was built from the bytes of no text has another one, or none in this version
-    let Some(text) = write_in(alloc, version, &world)? else {
-        return Err(SnapshotError::Damaged);
-    };
-    if text.as_slice() != bytes {
-        return Err(SnapshotError::Damaged);
-    }
-    if !is_covered(alloc, &world, macros)? {
-        return Err(SnapshotError::MissingFunction);
-    }
+    approve(alloc, version, bytes, macros, &world)?;
     Ok(world)
 }

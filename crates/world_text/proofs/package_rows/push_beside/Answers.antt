@@ -9,7 +9,7 @@ use Rattle.canon_printer.specs.Printed.{printed, printed_prefix}
 use Rattle.world_text.specs.Snapshot.{package_object}
 use Rattle.world_text.proofs.Ascii.{is_ascii_name, all_filtered, package_names_ascii}
 use Rattle.world_text.proofs.RowsWritten.{parts_written, first_and_others, each_passes, each_mapped}
-use Rattle.world_text.proofs.package_rows.push_packages.Goals as goal
+use Rattle.world_text.proofs.package_rows.push_beside.Goals as goal
 
 pub push_package-requires-clause-name : goal.push_package-requires-clause-name
 push_package-requires-clause-name c =
