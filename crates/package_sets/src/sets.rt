@@ -8,7 +8,6 @@ use std::alloc::{AllocError, Global};
 use std::marker::Model;
 
 /// What is kept of the packages. Contracts see it as a `Kept`.
-#[derive(Drop)]
 pub struct PackageSets {
     pub(crate) alloc: Global,
     pub(crate) names: Names,
@@ -19,6 +18,22 @@ pub struct PackageSets {
     pub(crate) imported: Vec<u32>,
     pub(crate) externals: Pairs,
     pub(crate) uses: Pairs,
+}
+
+// Dropping is a call, so that a crate above does not see each of these lists at each exit of a function that owns packages.
+impl Drop for PackageSets {
+    fn drop(self) {
+        let PackageSets {
+            alloc: _,
+            names: _,
+            packages: _,
+            symbols: _,
+            imports: _,
+            imported: _,
+            externals: _,
+            uses: _,
+        } = self;
+    }
 }
 
 impl Model for PackageSets {

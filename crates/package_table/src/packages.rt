@@ -17,12 +17,22 @@ use std::marker::Model;
 
 /// Packages (standard 11.1). Contracts see them as a `Table`, and beside it the numbers of its symbols and the tables
 /// that were marked.
-#[derive(Drop)]
 pub struct Packages {
     pub(crate) alloc: Global,
     pub(crate) sets: PackageSets,
     // How much was kept at each mark.
     pub(crate) marks: Vec<Sizes>,
+}
+
+// A call, so that a crate above does not see what is kept at each exit of a function that owns packages.
+impl Drop for Packages {
+    fn drop(self) {
+        let Packages {
+            alloc: _,
+            sets: _,
+            marks: _,
+        } = self;
+    }
 }
 
 impl Model for Packages {

@@ -20,13 +20,24 @@ use std::marker::Model;
 
 /// A world: packages, the property lists of symbols, readtables by name, the current package and the current readtable.
 /// Contracts see its state, and after it the list of the states that were marked.
-#[derive(Drop)]
 pub struct World {
     pub(crate) alloc: Global,
     pub(crate) packages: Packages,
     pub(crate) stored: Stored,
     // What changed in the rest since each mark, up to the next one. The packages have marks of their own, as many.
     pub(crate) marks: Vec<Vec<Note>>,
+}
+
+// A call, so that a crate above does not see what is kept at each exit of a function that owns a world.
+impl Drop for World {
+    fn drop(self) {
+        let World {
+            alloc: _,
+            packages: _,
+            stored: _,
+            marks: _,
+        } = self;
+    }
 }
 
 impl Model for World {
