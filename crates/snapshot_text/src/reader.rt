@@ -212,6 +212,8 @@ pub fn read_with_seed<R: MacroFunctions>(
     let mut world = built(alloc, version, bytes, macros, seed)?;
     world.settle();
     world.soundness();
-    approve(alloc, version, bytes, macros, &world)?;
-    Ok(world)
+    match approve(alloc, version, bytes, macros, &world) {
+        Ok(()) => Ok(world),
+        Err(error) => Err(error),
+    }
 }
