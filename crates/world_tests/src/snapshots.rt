@@ -1,4 +1,5 @@
 //! Texts of worlds, byte for byte.
+mod altered;
 mod versions;
 
 use lisp_object::{Bytes, Datum};
@@ -75,13 +76,19 @@ fn the_first_world(rt: HostRuntime) -> Result<(), Fail> {
     Ok(())
 }
 
-fn with_property(alloc: Global) -> Result<World, Fail> {
-    let mut world = World::new(alloc)?;
+// Interns two symbols, and gives the first a property by the second.
+fn add_property(alloc: Global, world: &mut World) -> Result<(), Fail> {
     world.intern(COMMON_LISP_USER, b"A")?;
     world.intern(COMMON_LISP_USER, b"B")?;
-    if put_seven(alloc, &mut world, b"A", b"B").is_none() {
+    if put_seven(alloc, world, b"A", b"B").is_none() {
         return Err(Fail::from("not put"));
     }
+    Ok(())
+}
+
+fn with_property(alloc: Global) -> Result<World, Fail> {
+    let mut world = World::new(alloc)?;
+    add_property(alloc, &mut world)?;
     Ok(world)
 }
 
@@ -108,12 +115,17 @@ fn a_macro_character(rt: HostRuntime) -> Result<(), Fail> {
     Ok(())
 }
 
-fn with_packages(alloc: Global) -> Result<World, Fail> {
-    let mut world = World::new(alloc)?;
-    add_packages(&mut world)?;
+fn add_packages_and_dispatch(world: &mut World) -> Result<(), Fail> {
+    add_packages(world)?;
     world.make_dispatch(USER, b'!', true)?;
     world.set_case(USER, Case::Invert)?;
     world.set_current_package(b"Q")?;
+    Ok(())
+}
+
+fn with_packages(alloc: Global) -> Result<World, Fail> {
+    let mut world = World::new(alloc)?;
+    add_packages_and_dispatch(&mut world)?;
     Ok(world)
 }
 
@@ -125,7 +137,7 @@ fn packages_and_dispatch(rt: HostRuntime) -> Result<(), Fail> {
 }
 
 // The text of the world that is read from a text of version 2, or the number of the refusal.
-fn read_back(alloc: Global, bytes: &[u8]) -> Result<Result<Vec<u8>, u16>, Fail> {
+pub(crate) fn read_back(alloc: Global, bytes: &[u8]) -> Result<Result<Vec<u8>, u16>, Fail> {
     let macros = Macros::new(alloc, Notes::new());
     match read(alloc, 2, bytes, &macros) {
         Ok(world) => Ok(Ok(write(alloc, &world)?)),
@@ -134,34 +146,39 @@ fn read_back(alloc: Global, bytes: &[u8]) -> Result<Result<Vec<u8>, u16>, Fail> 
 }
 
 // Whether the text is that of a world, which is read.
-fn is_read(alloc: Global, bytes: &[u8]) -> Result<bool, Fail> {
+pub(crate) fn is_read(alloc: Global, bytes: &[u8]) -> Result<bool, Fail> {
     Ok(match read_back(alloc, bytes)? {
         Ok(text) => text.as_slice() == bytes,
         Err(_) => false,
     })
 }
 
-// A world with something in each part.
-fn full_world(alloc: Global) -> Result<World, Fail> {
-    let mut world = World::new(alloc)?;
-    add_packages(&mut world)?;
+// Adds something in each part of a world.
+fn fill(alloc: Global, world: &mut World) -> Result<(), Fail> {
+    add_packages(world)?;
     for name in [b"A".as_slice(), b"b|c", b""] {
         let name = Bytes::from_slice(alloc, name)?;
         if name.is_ascii() {
             world.intern(COMMON_LISP_USER, name.as_slice())?;
         }
-        put_seven(alloc, &mut world, name.as_slice(), b"A");
-        put_seven(alloc, &mut world, b"A", name.as_slice());
+        put_seven(alloc, world, name.as_slice(), b"A");
+        put_seven(alloc, world, b"A", name.as_slice());
     }
     world.make_dispatch(USER, b'!', true)?;
     world.set_syntax_from_char(USER, b'x', STANDARD, b' ')?;
     world.set_case(USER, Case::Preserve)?;
+    Ok(())
+}
+
+// A world with something in each part.
+fn full_world(alloc: Global) -> Result<World, Fail> {
+    let mut world = World::new(alloc)?;
+    fill(alloc, &mut world)?;
     Ok(world)
 }
 
-// A world with more readtables, and functions on characters and sub-characters.
-fn world_of_tables(alloc: Global) -> Result<World, Fail> {
-    let mut world = full_world(alloc)?;
+// Adds a readtable, and functions on characters and sub-characters.
+fn add_tables(world: &mut World) -> Result<(), Fail> {
     for (c, d) in [
         (b'A', b'#'),
         (b'B', b'|'),
@@ -176,6 +193,12 @@ fn world_of_tables(alloc: Global) -> Result<World, Fail> {
     }
     world.set_current_readtable(b"UPCASE")?;
     world.set_current_package(b"P")?;
+    Ok(())
+}
+
+fn world_of_tables(alloc: Global) -> Result<World, Fail> {
+    let mut world = full_world(alloc)?;
+    add_tables(&mut world)?;
     Ok(world)
 }
 
@@ -287,67 +310,17 @@ fn other_texts_are_refused(rt: HostRuntime) -> Result<(), Fail> {
     Ok(())
 }
 
-// Whether an altered text is that of a world; nothing where it is neither that nor refused.
-fn is_another(alloc: Global, altered: &[u8]) -> Result<Option<bool>, Fail> {
-    Ok(match read_back(alloc, altered)? {
-        Ok(again) if again.as_slice() == altered => Some(true),
-        Err(62) | Err(63) => Some(false),
-        _ => None,
-    })
-}
-
-// A text with one byte altered in this way.
-fn altered_at(alloc: Global, text: &[u8], offset: usize, bits: u8) -> Result<Vec<u8>, AllocError> {
-    let mut altered = Vec::from_slice(alloc, text)?;
-    if let Some(byte) = altered.get_mut(offset) {
-        *byte ^= bits;
-    }
-    Ok(altered)
-}
-
-// The number of texts that are read among those where one byte is altered in this way. Each is refused, or is the text of a
-// world.
-fn read_altered(alloc: Global, text: &[u8], bits: u8) -> Result<Option<usize>, Fail> {
-    let mut count = 0usize;
-    for offset in 0..text.len() {
-        let altered = altered_at(alloc, text, offset, bits)?;
-        match is_another(alloc, altered.as_slice())? {
-            Some(true) => count = count.saturating_add(1),
-            Some(false) => {}
-            None => return Ok(None),
-        }
-    }
-    Ok(Some(count))
+fn set_other_names(world: &mut World) -> Result<(), Fail> {
+    world.set_current_package(b"P")?;
+    world.set_current_readtable(STANDARD)?;
+    Ok(())
 }
 
 // The text of a world with something in each part, and with other current ones than the first.
-fn full_text(alloc: Global) -> Result<Vec<u8>, Fail> {
+pub(crate) fn full_text(alloc: Global) -> Result<Vec<u8>, Fail> {
     let mut world = full_world(alloc)?;
-    world.set_current_package(b"P")?;
-    world.set_current_readtable(STANDARD)?;
+    set_other_names(&mut world)?;
     Ok(write(alloc, &world)?)
-}
-
-// Whether the text is damaged.
-fn is_damaged(alloc: Global, text: &[u8]) -> Result<bool, Fail> {
-    Ok(matches!(read_back(alloc, text)?, Err(62)))
-}
-
-// With each byte altered the text is refused, or is that of another world. Cut anywhere, it is refused.
-#[test]
-fn altered_texts(rt: HostRuntime) -> Result<(), Fail> {
-    let alloc = rt.alloc();
-    let text = full_text(alloc)?;
-    let text = text.as_slice();
-    assert!(rt; is_read(alloc, text)?);
-    for bits in [1, 2, 16, 128] {
-        let count = read_altered(alloc, text, bits)?;
-        assert!(rt; matches!(count, Some(n) if n > 0 || bits > 1));
-    }
-    for length in 0..text.len() {
-        assert!(rt; is_damaged(alloc, &text[..length])?);
-    }
-    Ok(())
 }
 
 // Whether the text is that of a world, which is read under this seed.

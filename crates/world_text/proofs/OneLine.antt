@@ -13,7 +13,6 @@ use Rattle.lisp_object.specs.Object.{Object, IsSound, OfSymbol, AllAtoms, object
 use Rattle.lisp_object.proofs.Atoms.{atoms_weaker}
 use Rattle.readtable_core.specs.Tables.{standard}
 use Rattle.token_scan.specs.Spelling.{may_end}
-use Rattle.user_macros.specs.Calls.{no_value}
 use Rattle.package_table.specs.Table as packages
 use Rattle.package_table.specs.Table.{Name, Table, common_lisp_user}
 use Rattle.canon_printer.specs.Printed.{printed}

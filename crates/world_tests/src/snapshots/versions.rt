@@ -41,17 +41,22 @@ fn has_text(alloc: Global, version: u16, world: &World, text: &[u8]) -> Result<b
     })
 }
 
-// Whether a text of version 1 is that of a world which reads in base 10 and has the other text in version 2.
-fn becomes(alloc: Global, first: &[u8], second: &[u8]) -> Result<bool, Fail> {
-    let Some(world) = world_of(alloc, 1, first) else {
-        return Ok(false);
-    };
+// Whether a world reads in base 10, and has these texts in version 1 and in version 2 and none in version 3.
+fn has_both(alloc: Global, world: &World, first: &[u8], second: &[u8]) -> Result<bool, Fail> {
     Ok(
         world.read_base() == 10
-            && has_text(alloc, 1, &world, first)?
-            && has_text(alloc, 2, &world, second)?
-            && has_text(alloc, 3, &world, b"")?,
+            && has_text(alloc, 1, world, first)?
+            && has_text(alloc, 2, world, second)?
+            && has_text(alloc, 3, world, b"")?,
     )
+}
+
+// Whether a text of version 1 is that of a world which reads in base 10 and has the other text in version 2.
+fn becomes(alloc: Global, first: &[u8], second: &[u8]) -> Result<bool, Fail> {
+    match world_of(alloc, 1, first) {
+        Some(world) => has_both(alloc, &world, first, second),
+        None => Ok(false),
+    }
 }
 
 #[test]
@@ -79,32 +84,37 @@ fn texts_of_another_version(rt: HostRuntime) -> Result<(), Fail> {
     Ok(())
 }
 
-// A new world that reads in this base, from 2 to 36.
-fn in_base(alloc: Global, base: u8) -> Result<Option<World>, Fail> {
-    if base < 2 || base > 36 {
-        return Ok(None);
+// The base in which the world of a text reads, or 0 where there is none.
+fn base_of(alloc: Global, text: &[u8]) -> u8 {
+    match world_of(alloc, 2, text) {
+        Some(world) => world.read_base(),
+        None => 0,
     }
-    let mut world = World::new(alloc)?;
-    world.set_read_base(base)?;
-    Ok(Some(world))
 }
 
-// Whether a world that reads in this base is read back, and has a text in version 1 where the base is 10 alone.
-fn keeps_base(alloc: Global, base: u8) -> Result<bool, Fail> {
-    let Some(world) = in_base(alloc, base)? else {
+// Whether the world that reads in this base is read back, and has a text in version 1 where the base is 10 alone.
+fn keeps_base(alloc: Global, world: &mut World, base: u8) -> Result<bool, Fail> {
+    if base < 2 || base > 36 {
         return Ok(false);
-    };
-    let text = write(alloc, &world)?;
-    let Some(again) = world_of(alloc, 2, text.as_slice()) else {
-        return Ok(false);
-    };
-    Ok(again.read_base() == base && write_in(alloc, 1, &world)?.is_some() == (base == 10))
+    }
+    world.set_read_base(base)?;
+    let text = write(alloc, world)?;
+    let read = base_of(alloc, text.as_slice());
+    Ok(read == base && write_in(alloc, 1, world)?.is_some() == (base == 10))
+}
+
+fn keeps_bases(alloc: Global, world: &mut World) -> Result<bool, Fail> {
+    for base in 2..=36 {
+        if !keeps_base(alloc, world, base)? {
+            return Ok(false);
+        }
+    }
+    Ok(true)
 }
 
 #[test]
 fn bases(rt: HostRuntime) -> Result<(), Fail> {
-    for base in 2..=36 {
-        assert!(rt; keeps_base(rt.alloc(), base)?);
-    }
+    let mut world = World::new(rt.alloc())?;
+    assert!(rt; keeps_bases(rt.alloc(), &mut world)?);
     Ok(())
 }
