@@ -6,18 +6,22 @@ ghost use Rattle.store_commands.specs.declared.words.Task.{Task};
 ghost use Rattle.store_commands.specs.CommandLine.{AsksFor, IsTaken, faults_of};
 ghost use Rattle.store_commands.specs.Commands.{DoesOn, Performs, PerformsNone};
 ghost use Rattle.store_commands.specs.Session.{TellsFault};
-ghost use Rattle.store_commands.specs.Status.{EndsAfter, HasFaultNumber, IsAfterWords, IsOfWords, IsQuiet};
+ghost use Rattle.store_commands.specs.Status.{EndsAfter, HasFaultNumber, IsAfterWords, IsOfWords, IsQuiet, TakesWords};
 
 use crate::fault::write_fault_with_cause;
 use crate::report::report_on;
 use crate::session::serve_on;
+use crate::sessions::sessions_on;
 use crate::snapshot::snapshot_on;
 use crate::status::Status;
+use crate::terminal::{Answers, Terminal};
 use crate::words::{Asked, Task, asked_in};
 use clap::Error;
 use disk_trait::{Disk, HostDisk, HostError, IfMissing};
 use lisp_object::refusal::{DEVICE, NO_MEMORY, OUTPUT};
+use prevalence_store::Mode;
 use std::alloc::Global;
+use std::cell::Cell;
 use std::convert::AsStr;
 use std::fs::File;
 use std::io::{Read, Write};
@@ -71,6 +75,101 @@ where
         Err(error) => (answer_words(&error, output, faults), None),
     };
     end_with_cause(faults, status, &cause)
+}
+
+/// Does what the words ask for, as `program`, where the input is a terminal. `run` is sessions in a row on one open store then: after
+/// a refusal of the reader the rest of the line is dropped, and the next session begins; the status is that of the last one.
+/// Before each line a prompt goes to `prompts`.
+pub fn program_at_terminal<R, M, S, I, O, P, F>(
+    rt: &R,
+    macros: M,
+    words: &[S],
+    terminal: (&mut I, &mut O, &mut P),
+    faults: &mut F,
+) -> Status
+where
+    R: Files<File = File> + AllocGlobal,
+    M: MacroFunctions + Drop,
+    S: AsStr,
+    I: Read,
+    O: Write,
+    P: Write,
+    F: Write,
+    requires answers { M.answers macros }
+    ensures ends { EndsAfter (faults_of (map S.text words.now)) result }
+    ensures told { TellsFault result (F.contents faults.old) (F.contents faults.new) }
+    ensures quiet { IsQuiet result → faults.new ≡ faults.old }
+{
+    let (input, output, prompts) = terminal;
+    let (status, cause) = match asked_in(rt.alloc(), words) {
+        Ok(asked) => match asked.task {
+            Task::Run {
+                mode,
+                snapshot_every,
+            } => sit(
+                rt,
+                macros,
+                asked,
+                mode,
+                snapshot_every,
+                input,
+                output,
+                prompts,
+            ),
+            _ => carry_out(rt, macros, asked, input, output),
+        },
+        Err(error) => (answer_words(&error, output, faults), None),
+    };
+    end_with_cause(faults, status, &cause)
+}
+
+// Serves sessions in a row at a terminal over the store in a folder, and tells the cause of a fault of the device.
+fn sit<R, M, I, O, P>(
+    rt: &R,
+    macros: M,
+    asked: Asked<'_>,
+    mode: Mode,
+    snapshot_every: u64,
+    input: &mut I,
+    output: &mut O,
+    prompts: &mut P,
+) -> (Status, Option<HostError>)
+where
+    R: Files<File = File> + AllocGlobal,
+    M: MacroFunctions + Drop,
+    I: Read,
+    O: Write,
+    P: Write,
+    requires answers { M.answers macros }
+    ensures { TakesWords result.0 }
+{
+    let disk = match open_folder(rt, asked) {
+        Ok(disk) => disk,
+        Err(error) => return (Status::of_host(&error), Some(error)),
+    };
+    let answered = Cell::new(false);
+    let mut terminal = Terminal::new(input, prompts, &answered);
+    let mut answers = Answers::new(output, &answered);
+    terminal.welcome();
+    let alloc = rt.alloc();
+    match sessions_on(
+        alloc,
+        disk,
+        macros,
+        mode,
+        snapshot_every,
+        &mut terminal,
+        &mut answers,
+    ) {
+        Ok((ending, disk, _macros)) => (
+            Status::of_ending(ending),
+            disk.cause().map(HostError::System),
+        ),
+        Err(unopened) => (
+            Status::Fault(unopened.number),
+            unopened.disk.cause().map(HostError::System),
+        ),
+    }
 }
 
 /// Ends so: after a fault its line is written.
