@@ -53,7 +53,7 @@ class Terminal:
 
 
 WELCOME = "Type a form and Enter; Ctrl-D ends.\n"
-DROPPED = "The rest of the line is dropped, and a new session begins.\n"
+DROPPED = "Line %d, column %d: the rest of the line is dropped, and a new session begins.\n"
 bad = 0
 
 
@@ -78,7 +78,7 @@ with tempfile.TemporaryDirectory() as room:
     check("two forms", it.type("(LIST 1) (LIST 2\n"), ("(1)\n", ". "))
     check("the end of the second", it.type(")\n"), ("(2)\n", "> "))
     check("refused by evaluation", it.type("(FROB)\n"), ("! 31 UNKNOWN-OPERATOR\n", "> "))
-    check("refused by the reader", it.type("10.5 (SETF (GET 'A 'B) 8)\n"), ("! 7 FLOAT-TOKEN\n", DROPPED + "> "))
+    check("refused by the reader", it.type("10.5 (SETF (GET 'A 'B) 8)\n"), ("! 7 FLOAT-TOKEN\n", DROPPED % (10, 5) + "> "))
     check("the next session", it.type("(GET 'A 'B)\n"), ("7\n", "> "))
     check("a paste", it.type("(SETF (GET 'A 'B) 9)\n) (SETF (GET 'A 'B) 10)\n(GET 'A 'B)\n")[0], "9\n! 4 STRAY-CLOSE\n9\n")
     check("a readtable", it.type("(SET-MACRO-CHARACTER #\\[ :SQUARE) (SET-MACRO-CHARACTER #\\] :CLOSE)\n"), ("T\nT\n", "> "))

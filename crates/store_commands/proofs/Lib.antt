@@ -7,3 +7,4 @@ pub mod Sessions
 pub mod Snapshots
 pub mod Statuses
 pub mod Tasks
+pub mod Turns

@@ -10,7 +10,7 @@ use Rattle.prevalence_store.specs.declared.outcome.Outcome.{Outcome}
 use Rattle.prevalence_store.specs.declared.outcome.Outcome.TheVariants.{Accepted, Snapshotted, Refused}
 use Rattle.user_macros.specs.Functions.{Functions}
 use Rattle.store_commands.specs.Commands.{TaskBreaksOff, is_of_opening}
-use Rattle.store_commands.specs.Report.{TellsHalf, TellsSnapshot, half_line, half_line_of}
+use Rattle.store_commands.specs.Report.{HasNoValue, TellsHalf, TellsSnapshot, half_line, half_line_of}
 use Rattle.store_commands.specs.Status.{HasFaultNumber, IsFaultNumber, TakesWords}
 use Rattle.store_commands.specs.Texts.{TellsText}
 use Rattle.store_commands.specs.declared.status.Status.{Status}
@@ -20,6 +20,11 @@ use Rattle.store_commands.proofs.Reports.{text_fault, text_front, text_of_no_ope
 use Rattle.store_commands.proofs.Statuses.{other_number}
 
 module _ (functions : Functions) {D R : Type 0} (state : D → State) (old new : StoreView D R) (world : WorldState) where
+  pub no_value : (outcome : Outcome) → Snapshots functions state old new world outcome → HasNoValue outcome
+  no_value (Accepted value) none = none
+  no_value Snapshotted done = tt
+  no_value (Refused number) why = tt
+
   -- the numbers of a snapshot that is refused
   number_of : (number : ℕ) → Snapshots functions state old new world (Refused number) → IsFaultNumber number
   number_of number (inl large) = subst IsFaultNumber (sym large.large) (inr (inl (omega arith, omega arith)))

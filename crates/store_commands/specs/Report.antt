@@ -44,6 +44,12 @@ pub record IsReport (functions : Functions) {D R : Type 0} (state : D → State)
   pub tells : TellsText status held written (text_of report opened is_opened.world)
   pub disk_is : back ≡ opened.disk
 
+-- no form was accepted
+abbrev pub HasNoValue : Outcome → Type 0
+HasNoValue (Accepted value) = ⊥
+HasNoValue Snapshotted = Unit {0}
+HasNoValue (Refused number) = Unit {0}
+
 -- After a snapshot the line on the half in use is written, which is the one that holds it; if it was refused, nothing.
 abbrev pub TellsSnapshot : Outcome → {D R : Type 0} → StoreView D R → Status → Option (List ℕ) → Option (List ℕ) → Type 0
 TellsSnapshot (Accepted value) store status held written = ⊥

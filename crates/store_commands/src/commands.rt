@@ -14,7 +14,7 @@ use crate::session::serve_on;
 use crate::sessions::sessions_on;
 use crate::snapshot::snapshot_on;
 use crate::status::Status;
-use crate::terminal::{Answers, Terminal};
+use crate::terminal::{Answers, Console, Terminal};
 use crate::words::{Asked, Task, asked_in};
 use clap::Error;
 use disk_trait::{Disk, HostDisk, HostError, IfMissing};
@@ -79,12 +79,12 @@ where
 
 /// Does what the words ask for, as `program`, where the input is a terminal. `run` is sessions in a row on one open store then: after
 /// a refusal of the reader the rest of the line is dropped, and the next session begins; the status is that of the last one.
-/// Before each line a prompt goes to `prompts`.
+/// Before each line a prompt goes to the console's `prompts`.
 pub fn program_at_terminal<R, M, S, I, O, P, F>(
     rt: &R,
     macros: M,
     words: &[S],
-    terminal: (&mut I, &mut O, &mut P),
+    console: Console<'_, I, O, P>,
     faults: &mut F,
 ) -> Status
 where
@@ -100,25 +100,15 @@ where
     ensures told { TellsFault result (F.contents faults.old) (F.contents faults.new) }
     ensures quiet { IsQuiet result → faults.new ≡ faults.old }
 {
-    let (input, output, prompts) = terminal;
     let (status, cause) = match asked_in(rt.alloc(), words) {
         Ok(asked) => match asked.task {
             Task::Run {
                 mode,
                 snapshot_every,
-            } => sit(
-                rt,
-                macros,
-                asked,
-                mode,
-                snapshot_every,
-                input,
-                output,
-                prompts,
-            ),
-            _ => carry_out(rt, macros, asked, input, output),
+            } => sit(rt, macros, asked, mode, snapshot_every, console),
+            _ => carry_out(rt, macros, asked, console.input, console.output),
         },
-        Err(error) => (answer_words(&error, output, faults), None),
+        Err(error) => (answer_words(&error, console.output, faults), None),
     };
     end_with_cause(faults, status, &cause)
 }
@@ -130,9 +120,7 @@ fn sit<R, M, I, O, P>(
     asked: Asked<'_>,
     mode: Mode,
     snapshot_every: u64,
-    input: &mut I,
-    output: &mut O,
-    prompts: &mut P,
+    console: Console<'_, I, O, P>,
 ) -> (Status, Option<HostError>)
 where
     R: Files<File = File> + AllocGlobal,
@@ -147,10 +135,14 @@ where
         Ok(disk) => disk,
         Err(error) => return (Status::of_host(&error), Some(error)),
     };
+    let Console {
+        input,
+        output,
+        prompts,
+    } = console;
     let answered = Cell::new(false);
     let mut terminal = Terminal::new(input, prompts, &answered);
     let mut answers = Answers::new(output, &answered);
-    terminal.welcome();
     let alloc = rt.alloc();
     match sessions_on(
         alloc,

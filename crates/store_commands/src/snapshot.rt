@@ -2,14 +2,13 @@
 ghost use Rattle.std.specs.Prelude.{◌≡◌, ◌<◌, ◌-◌, ◌^◌, IfOk, IfErr};
 ghost use Rattle.prevalence_store.specs.calls.Open.{IsUnopened};
 ghost use Rattle.user_macros.specs.Functions.{are_registered};
-ghost use Rattle.store_commands.specs.Report.{IsSnapshot};
+ghost use Rattle.store_commands.specs.Report.{HasNoValue, IsSnapshot, TellsSnapshot};
 ghost use Rattle.store_commands.specs.Session.{half_limit};
 
 use crate::report::write_half;
 use crate::session::HALF_LIMIT;
 use crate::status::Status;
 use disk_trait::Disk;
-use lisp_object::refusal::REOPEN;
 use prevalence_store::{Outcome, Store, Unopened};
 use std::alloc::Global;
 use std::io::Write;
@@ -42,12 +41,24 @@ where
     ensures given_back { IfErr result (λ e. e.macros ≡ macros) }
 {
     let mut store = Store::open(alloc, disk, macros, HALF_LIMIT)?;
-    let status = match store.snapshot() {
-        Outcome::Snapshotted => write_half(&store, output),
-        Outcome::Refused(number) => Status::Fault(number),
-        // a snapshot has no value
-        Outcome::Accepted(_) => Status::Fault(REOPEN),
-    };
+    let outcome = store.snapshot();
+    let status = write_outcome(&store, &outcome, output);
     let (disk, macros) = store.close();
     Ok((status, disk, macros))
+}
+
+// Tells what became of a snapshot, and answers how that ended.
+fn write_outcome<D: Disk, M, O: Write>(
+    store: &Store<D, M>,
+    outcome: &Outcome,
+    output: &mut O,
+) -> Status
+    requires no_value { HasNoValue outcome.now }
+    ensures { TellsSnapshot outcome.now store.now result (O.contents output.old) (O.contents output.new) }
+{
+    match outcome {
+        Outcome::Snapshotted => write_half(store, output),
+        Outcome::Refused(number) => Status::Fault(*number),
+        Outcome::Accepted(_) => unreachable!(),
+    }
 }

@@ -1,9 +1,10 @@
 // A terminal: prompts before its lines, and sessions in a row.
-ghost use Rattle.std.specs.Io.{ReadsAtMost};
-ghost use Rattle.std.specs.Io.KnownBytes.{ReadConsumes};
+ghost use Rattle.std.specs.Prelude.{◌≡◌};
 
 use crate::fault::write_text;
+use arrayvec::ArrayString;
 use std::cell::Cell;
+use std::fmt::Write as WriteText;
 use std::io;
 use std::io::{Read, Write};
 
@@ -15,7 +16,13 @@ const INNER_PROMPT: &[u8] = b". ";
 
 const WELCOME: &[u8] = b"Type a form and Enter; Ctrl-D ends.\n";
 
-const DROPPED: &[u8] = b"The rest of the line is dropped, and a new session begins.\n";
+/// The streams of a terminal: forms come from one, answers go to another, and prompts to a third.
+#[derive(Drop)]
+pub struct Console<'a, I, O, P> {
+    pub input: &'a mut I,
+    pub output: &'a mut O,
+    pub prompts: &'a mut P,
+}
 
 /// An input of sessions in a row.
 pub trait Sessions: Read {
@@ -33,6 +40,10 @@ pub struct Terminal<'a, I, P> {
     answered: &'a Cell<bool>,
     line: Line,
     last: u8,
+    // where the last byte stands, both counted from 1
+    line_number: u64,
+    column: u64,
+    is_new: bool,
     has_ended: bool,
 }
 
@@ -58,29 +69,56 @@ impl<'a, I, P> Terminal<'a, I, P> {
             answered,
             line: Line::Closed,
             last: b'\n',
+            line_number: 0,
+            column: 0,
+            is_new: true,
             has_ended: false,
         }
     }
 }
 
 impl<I, P: Write> Terminal<'_, I, P> {
-    /// Says how to go on and how to end.
-    pub fn welcome(&mut self) {
-        let _ = write_text(&mut self.prompts, WELCOME);
-    }
-
-    // Writes the prompt before a line.
+    // Writes the prompt before a line, and before the first one how to go on and how to end.
     fn prompt(&mut self)
         ensures { self.new.input ≡ self.old.input }
     {
         if self.last != b'\n' {
             return;
         }
+        if self.is_new {
+            self.is_new = false;
+            let _ = write_text(&mut self.prompts, WELCOME);
+        }
         let prompt = match self.line {
             Line::Open => INNER_PROMPT,
             _ => PROMPT,
         };
         let _ = write_text(&mut self.prompts, prompt);
+    }
+
+    // Takes note of a byte that is given.
+    fn give(&mut self, byte: u8)
+        ensures { self.new.input ≡ self.old.input }
+    {
+        if self.last == b'\n' {
+            self.line_number = self.line_number.saturating_add(1);
+            self.column = 0;
+        }
+        self.column = self.column.saturating_add(1);
+        self.last = byte;
+    }
+
+    // Says from which place on the rest of the line is dropped.
+    fn tell_dropped(&mut self)
+        ensures { self.new.input ≡ self.old.input }
+    {
+        let mut hint = ArrayString::<160>::new();
+        let _ = writeln!(
+            hint,
+            "Line {}, column {}: the rest of the line is dropped, and a new session begins.",
+            self.line_number, self.column
+        );
+        let _ = write_text(&mut self.prompts, hint.as_bytes());
     }
 
     // What the last byte left open.
@@ -121,7 +159,7 @@ impl<I: Read, P: Write> Read for Terminal<'_, I, P> {
             self.has_ended = true;
             let _ = write_text(&mut self.prompts, b"\n");
         } else {
-            self.last = buf[0];
+            self.give(buf[0]);
         }
         Ok(count)
     }
@@ -132,6 +170,7 @@ impl<I: Read, P: Write> Sessions for Terminal<'_, I, P> {
         if self.has_ended {
             return false;
         }
+        self.tell_dropped();
         let mut byte = [self.last];
         'line: for _ in 0..u64::MAX {
             if byte[0] == b'\n' {
@@ -142,7 +181,6 @@ impl<I: Read, P: Write> Sessions for Terminal<'_, I, P> {
                 _ => return false,
             }
         }
-        let _ = write_text(&mut self.prompts, DROPPED);
         self.last = b'\n';
         self.line = Line::Closed;
         self.answered.set(false);

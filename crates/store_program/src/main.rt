@@ -12,7 +12,9 @@ use std::alloc::AllocError;
 use std::env;
 use std::io::{ErrorKind, IsTerminal, Write};
 use std::process::ExitCode;
-use store_commands::{SixFunctions, Status, end_with, macro_functions, program, program_at_terminal};
+use store_commands::{
+    Console, SixFunctions, Status, end_with, macro_functions, program, program_at_terminal,
+};
 use user_macros::{Answer, Call, Cause, MacroFn, MacroFunctions, Macros, Refusal};
 
 // The words that the program was started with, or the status where they are not had: they are no text, or there is no memory.
@@ -34,14 +36,22 @@ fn serve<M: MacroFunctions + Drop, F: Write>(rt: &HostRuntime, macros: M, faults
     let mut input = rt.stdin();
     let mut output = rt.stdout();
     match words_given(rt) {
-        Ok(words) if input.is_terminal() => program_at_terminal(
+        Ok(words) if input.is_terminal() => {
+            let console = Console {
+                input: &mut input,
+                output: &mut output,
+                prompts: &mut rt.stderr(),
+            };
+            program_at_terminal(rt, macros, words.as_slice(), console, faults)
+        }
+        Ok(words) => program(
             rt,
             macros,
             words.as_slice(),
-            (&mut input, &mut output, &mut rt.stderr()),
+            &mut input,
+            &mut output,
             faults,
         ),
-        Ok(words) => program(rt, macros, words.as_slice(), &mut input, &mut output, faults),
         Err(Status::WordsRefused) => {
             let _ = writeln!(faults, "error: a word of the command line is no text");
             Status::WordsRefused
