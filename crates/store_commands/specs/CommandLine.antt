@@ -1,5 +1,5 @@
--- The command line of the program, as clap reads it: `run DIR [--rescue] [--snapshot-every N]`, `snapshot DIR`, `dump DIR` and
--- `verify DIR`, each with `--existing`.
+-- The command line of the program, as clap reads it: `run DIR [--rescue] [--snapshot-every N]`, `snapshot DIR`, `upgrade DIR`,
+-- `dump DIR` and `verify DIR`, each with `--existing`.
 use Rattle.std.specs.Prelude.{◌≡◌, ◌≢◌, ◌≤◌, ◌^◌, ◌-◌, ◌⊎◌, ℕ, Bool, true, false, if◌then◌else◌, List, [], ◌∷◌, ◌++◌, Option, Some, None, codes, option_map, option_and_then}
 use Rattle.std.specs.Option.{option_map_or}
 use Rattle.std.specs.Str.{bytes_eq}
@@ -15,7 +15,7 @@ use Rattle.prevalence_store.specs.declared.mode.Mode.{Mode}
 use Rattle.prevalence_store.specs.declared.mode.Mode.TheVariants.{Current, Rescue}
 use Rattle.store_commands.specs.declared.words.Task.{Task}
 use Rattle.store_commands.specs.declared.words.Report.TheVariants.{Dump, Verify}
-use Rattle.store_commands.specs.declared.words.Task.TheVariants.{Run, Snapshot, Tell}
+use Rattle.store_commands.specs.declared.words.Task.TheVariants.{Run, Snapshot, Tell, Upgrade}
 
 -- DIR: one value, required
 abbrev pub directory_rule : Rule
@@ -60,8 +60,8 @@ program_line = on_top (λ s. record s { subcommand_required = true; has_version 
 
 abbrev pub command_line : App
 command_line =
-    with_subcommand (with_subcommand (with_subcommand (with_subcommand program_line
-    run_line.top) (folder_line (codes "snapshot")).top) (folder_line (codes "dump")).top) (folder_line (codes "verify")).top
+    with_subcommand (with_subcommand (with_subcommand (with_subcommand (with_subcommand program_line
+    run_line.top) (folder_line (codes "snapshot")).top) (folder_line (codes "upgrade")).top) (folder_line (codes "dump")).top) (folder_line (codes "verify")).top
 
 -- whether a flag is there, which has the value true
 abbrev pub is_set : Option Text → Bool
@@ -85,9 +85,10 @@ abbrev pub task_of : Text × List Row → Option Task
 task_of found =
     if bytes_eq found.0 (codes "run") then Some (Run (mode_of_flag (first_of (codes "rescue") found.1)) (every_in found.1))
     else (if bytes_eq found.0 (codes "snapshot") then Some Snapshot
+    else (if bytes_eq found.0 (codes "upgrade") then Some Upgrade
     else (if bytes_eq found.0 (codes "dump") then Some (Tell Dump)
     else (if bytes_eq found.0 (codes "verify") then Some (Tell Verify)
-    else None)))
+    else None))))
 
 -- A folder, whether its store has to be there already, and what is to be done with it.
 abbrev pub Asked : Type 0
@@ -143,6 +144,7 @@ abbrev pub IsLine : List Text → Text → Bool → Task → Type 0
 IsLine words folder existing (Run mode every) =
     (option : List Text) × (words ≡ codes "run" ∷ folder ∷ (flag_for mode ++ option ++ existing_for existing)) × IsEvery every option
 IsLine words folder existing Snapshot = words ≡ codes "snapshot" ∷ folder ∷ existing_for existing
+IsLine words folder existing Upgrade = words ≡ codes "upgrade" ∷ folder ∷ existing_for existing
 IsLine words folder existing (Tell Dump) = words ≡ codes "dump" ∷ folder ∷ existing_for existing
 IsLine words folder existing (Tell Verify) = words ≡ codes "verify" ∷ folder ∷ existing_for existing
 

@@ -1,5 +1,5 @@
--- What `dump`, `verify` and `snapshot` tell of a store.
-use Rattle.std.specs.Prelude.{◌≡◌, ℕ, List, [], ◌∷◌, ◌++◌, Option, Some, codes, decimal}
+-- What `dump`, `verify`, `snapshot` and `upgrade` tell of a store.
+use Rattle.std.specs.Prelude.{◌≡◌, ◌≢◌, ℕ, List, [], ◌∷◌, ◌++◌, Option, Some, codes, decimal}
 use Rattle.disk_trait.specs.Disk.{State}
 use Rattle.disk_trait.specs.declared.half.Half.{Half}
 use Rattle.disk_trait.specs.declared.half.Half.TheVariants.{A, B}
@@ -68,6 +68,33 @@ pub record IsSnapshot (functions : Functions) {D R : Type 0} (state : D → Stat
   pub tells : TellsSnapshot outcome closed status held written
   pub disk_is : back ≡ closed.disk
 
+-- the line on the version of the half in use
+abbrev pub version_line : ℕ → List ℕ
+version_line version = codes "version " ++ (decimal version ++ 10 ∷ [])
+
+-- After an upgrade the line on the version is written; if its snapshot was refused, nothing.
+abbrev pub TellsUpgrade : Outcome → {D R : Type 0} → StoreView D R → Status → Option (List ℕ) → Option (List ℕ) → Type 0
+TellsUpgrade (Accepted value) store status held written = ⊥
+TellsUpgrade Snapshotted store status held written = TellsText status held written (version_line store.version)
+TellsUpgrade (Refused number) store status held written = (status ≡ Fault number) × (written ≡ held)
+
+-- A snapshot was taken where the half in use was of version 1, and nothing was done else.
+pub record Upgrades (functions : Functions) {D R : Type 0} (state : D → State) (old new : StoreView D R) (world : WorldState) (outcome : Outcome) : Type 0 where
+  pub first : old.version ≡ 1 → Snapshots functions state old new world outcome
+  pub later : old.version ≢ 1 → (new ≡ old) × (outcome ≡ Snapshotted)
+
+-- The store that a disk holds was opened with these macro functions, it was upgraded, which was told, and it was closed: this is its
+-- disk.
+pub record IsUpgrade (functions : Functions) {D R : Type 0} (state : D → State) (disk : D) (macros : R)
+    (held written : Option (List ℕ)) (status : Status) (back : D) : Type 0 where
+  pub opened : StoreView D R
+  pub is_opened : IsOpened functions state disk macros half_limit opened
+  pub closed : StoreView D R
+  pub outcome : Outcome
+  pub upgrades : Upgrades functions state opened closed is_opened.world outcome
+  pub tells : TellsUpgrade outcome closed status held written
+  pub disk_is : back ≡ closed.disk
+
 -- ---- over the files of a folder, of which no clause can say what they hold
 
 -- so far as it ends well, the output has the text of some world more
@@ -85,3 +112,11 @@ TellsHalf ReaderRefused held written = ⊥
 TellsHalf Helped held written = Unit {0}
 TellsHalf WordsRefused held written = Unit {0}
 TellsHalf (Fault number) held written = Unit {0}
+
+-- and the line on some version
+abbrev pub TellsVersion : Status → List ℕ → Option (List ℕ) → Type 0
+TellsVersion Done held written = (version : ℕ) × (written ≡ Some (held ++ version_line version))
+TellsVersion ReaderRefused held written = ⊥
+TellsVersion Helped held written = Unit {0}
+TellsVersion WordsRefused held written = Unit {0}
+TellsVersion (Fault number) held written = Unit {0}

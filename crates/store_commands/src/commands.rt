@@ -15,6 +15,7 @@ use crate::sessions::sessions_on;
 use crate::snapshot::snapshot_on;
 use crate::status::Status;
 use crate::terminal::{Answers, Console, Terminal};
+use crate::upgrade::upgrade_on;
 use crate::words::{Asked, Task, asked_in};
 use clap::Error;
 use disk_trait::{Disk, HostDisk, HostError, IfMissing};
@@ -34,7 +35,8 @@ use user_macros::MacroFunctions;
 ///
 /// Each command is over the store in the folder DIR. `run DIR` serves `input` to `output` in the mode Current; with `--rescue`
 /// in the mode Rescue, and with `--snapshot-every N` it takes a snapshot after each N forms that were logged. `snapshot DIR` takes
-/// a snapshot and writes the line on the half in use to `output`, `dump DIR` the text of the world, and `verify DIR` the line on
+/// a snapshot and writes the line on the half in use to `output`, `upgrade DIR` the version after it has taken one of files of
+/// version 1, `dump DIR` the text of the world, and `verify DIR` the line on
 /// the half in use; they read nothing. A folder without a store gets one, or is a fault with `--existing`.
 ///
 /// Names are hashed by a seed that is drawn from `rt`; if it has no random bytes, the status is that of a fault of the input.
@@ -315,6 +317,10 @@ where
             Err(unopened) => (Status::Fault(unopened.number), unopened.disk),
         },
         Task::Snapshot => match snapshot_on(alloc, disk, macros, seed, output) {
+            Ok((status, disk, _macros)) => (status, disk),
+            Err(unopened) => (Status::Fault(unopened.number), unopened.disk),
+        },
+        Task::Upgrade => match upgrade_on(alloc, disk, macros, seed, output) {
             Ok((status, disk, _macros)) => (status, disk),
             Err(unopened) => (Status::Fault(unopened.number), unopened.disk),
         },

@@ -2,12 +2,14 @@
 
 /// How the program is called.
 pub const USAGE: &str =
-    "./pazturrok run DIR [--existing] [--rescue] [--snapshot-every N]\n       ./pazturrok snapshot DIR [--existing]\n       ./pazturrok dump DIR [--existing]\n       ./pazturrok verify DIR [--existing]";
+    "./pazturrok run DIR [--existing] [--rescue] [--snapshot-every N]\n       ./pazturrok snapshot DIR [--existing]\n       ./pazturrok upgrade DIR [--existing]\n       ./pazturrok dump DIR [--existing]\n       ./pazturrok verify DIR [--existing]";
 
 /// How each command is called.
 pub const RUN_USAGE: &str = "./pazturrok run DIR [--existing] [--rescue] [--snapshot-every N]";
 
 pub const SNAPSHOT_USAGE: &str = "./pazturrok snapshot DIR [--existing]";
+
+pub const UPGRADE_USAGE: &str = "./pazturrok upgrade DIR [--existing]";
 
 pub const DUMP_USAGE: &str = "./pazturrok dump DIR [--existing]";
 
@@ -23,6 +25,9 @@ pub const RUN_HELP: &str =
 
 pub const SNAPSHOT_HELP: &str =
     "The text of the world goes into the file that is not in use, which is used from then on, with no\nrecords: so the next opening has none to carry out again. The line on it is written, as by verify:\n  ./pazturrok snapshot store\n  half B generation 2 records 0\n\nDocuments: docs/operating.md, \"Snapshots\".";
+
+pub const UPGRADE_HELP: &str =
+    "If the file in use is of version 1, a snapshot is taken, which is of version 2. The version is written then:\n  ./pazturrok upgrade store\n  version 2\n\nA store of version 1 is served as it is, and becomes one of version 2 at its next snapshot. An older\nprogram does not read files of version 2.\n\nDocuments: docs/operating.md, docs/files.md.";
 
 pub const DUMP_HELP: &str =
     "The text is that of a snapshot: the packages, the property lists and the readtables. Two stores\nhave the same world if they give the same text:\n  ./pazturrok dump store\n\nDocuments: docs/files.md, docs/operating.md.";

@@ -102,8 +102,8 @@ pub(crate) fn write_half<D: Disk, M, O: Write>(store: &Store<D, M>, output: &mut
     status_of_output(written)
 }
 
-// How the program ends after a text that was written.
-fn status_of_output(written: Result<(), Unwritten>) -> Status
+/// How the program ends after a text that was written.
+pub(crate) fn status_of_output(written: Result<(), Unwritten>) -> Status
     ensures { result ≡ status_of_output written }
 {
     match written {

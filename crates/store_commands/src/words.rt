@@ -7,8 +7,8 @@ ghost use Rattle.store_commands.specs.declared.words.Task.{Task};
 ghost use Rattle.store_commands.specs.CommandLine.{asked_in, asked_of, command_line, every_in, every_rule, existing_rule, faults_of, folder_line, is_set, mode_of_flag, program_line, rescue_rule, run_line, task_of, AsksFor};
 
 use crate::help::{
-    DUMP_HELP, DUMP_USAGE, PROGRAM_HELP, RUN_HELP, RUN_USAGE, SNAPSHOT_HELP, SNAPSHOT_USAGE, USAGE,
-    VERIFY_HELP, VERIFY_USAGE,
+    DUMP_HELP, DUMP_USAGE, PROGRAM_HELP, RUN_HELP, RUN_USAGE, SNAPSHOT_HELP, SNAPSHOT_USAGE,
+    UPGRADE_HELP, UPGRADE_USAGE, USAGE, VERIFY_HELP, VERIFY_USAGE,
 };
 use clap::builder::ValueParser;
 use clap::error::ErrorKind;
@@ -18,11 +18,13 @@ use std::alloc::{AllocError, Global};
 use std::convert::AsStr;
 
 /// The version of the program, and of the files that it writes.
-const PROGRAM_VERSION: &str = "0.1.0, files of version 1";
+const PROGRAM_VERSION: &str = "0.1.0, files of version 2";
 
 const RUN: &str = "run";
 
 const SNAPSHOT: &str = "snapshot";
+
+const UPGRADE: &str = "upgrade";
 
 const DUMP: &str = "dump";
 
@@ -48,6 +50,8 @@ pub enum Task {
     },
     /// A snapshot is taken.
     Snapshot,
+    /// Files of version 1 become files of version 2.
+    Upgrade,
     /// Something is told of the store.
     Tell(Report),
 }
@@ -153,6 +157,8 @@ fn whole_command<'a>(alloc: Global) -> Result<Command<'a>, AllocError>
     let run = run_command(alloc)?;
     let about = "Takes a snapshot, and tells the half in use";
     let snapshot = folder_command(alloc, SNAPSHOT, about, SNAPSHOT_USAGE, SNAPSHOT_HELP)?;
+    let about = "Makes files of version 1 files of version 2";
+    let upgrade = folder_command(alloc, UPGRADE, about, UPGRADE_USAGE, UPGRADE_HELP)?;
     let about = "Writes the text of the world";
     let dump = folder_command(alloc, DUMP, about, DUMP_USAGE, DUMP_HELP)?;
     let about = "Tells the half in use, its generation and how many records it has";
@@ -160,6 +166,7 @@ fn whole_command<'a>(alloc: Global) -> Result<Command<'a>, AllocError>
     bare_command(alloc)
         .subcommand(run)?
         .subcommand(snapshot)?
+        .subcommand(upgrade)?
         .subcommand(dump)?
         .subcommand(verify)
 }
@@ -202,6 +209,7 @@ fn task_for(name: &str, found: &ArgMatches<'_>) -> Option<Task>
             snapshot_every: every_in(found),
         }),
         SNAPSHOT => Some(Task::Snapshot),
+        UPGRADE => Some(Task::Upgrade),
         DUMP => Some(Task::Tell(Report::Dump)),
         VERIFY => Some(Task::Tell(Report::Verify)),
         _ => None,
