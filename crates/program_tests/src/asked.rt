@@ -23,6 +23,8 @@ pub enum Ask<'a> {
     Run(&'a [Step<'a>]),
     /// What the store tells of the half in use: `half A generation 1 records 0`.
     Half,
+    /// The version of the half in use: `version 2`.
+    Version,
     /// The text of the world, or `no world`.
     World,
 }
@@ -234,6 +236,7 @@ fn ask_one<D: Disk>(
         Ask::Snapshot => snapshot_line(store, text),
         Ask::Run(steps) => run(store, steps, text),
         Ask::Half => half_line(store, text),
+        Ask::Version => number_line(text, "version", i128::from(store.version())),
         Ask::World => world_text(alloc, store, text),
     }
 }

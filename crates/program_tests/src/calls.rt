@@ -31,7 +31,7 @@ fn mode_bytes(alloc: Global, mode: Mode) -> Result<[Option<u8>; 2], Trouble> {
     ];
     let left = left_after(alloc, MemoryDisk::new(alloc), AMPLE, &calls)?;
     let a = left.files.a.as_slice();
-    Ok([a.get(151).copied(), a.get(177).copied()])
+    Ok([a.get(154).copied(), a.get(180).copied()])
 }
 
 #[test]
@@ -58,7 +58,7 @@ fn a_half_has_a_limit(rt: HostRuntime) -> Result<(), Fail> {
     let alloc = rt.alloc();
     // room for one record
     assert!(rt; fills(alloc, 202, b"accepted 7\nrefused 64\naccepted 7\n")?);
-    // 150 bytes have no room for a snapshot
-    assert!(rt; fills(alloc, 150, b"unopened 65\n")?);
+    // 153 bytes have no room for a snapshot
+    assert!(rt; fills(alloc, 153, b"unopened 65\n")?);
     Ok(())
 }

@@ -2,6 +2,7 @@
 
 use crate::asked::{Ask, asked, form, session, told};
 use crate::files::{AMPLE, Files, Trouble, crashed, disk_with, files_of};
+use crate::versions::first_version;
 use disk_trait::{Crash, Disk, FuseDisk, MemoryDisk, OnceDisk};
 use prevalence_store::{Mode, Step};
 use std::alloc::Global;
@@ -165,6 +166,8 @@ enum Start {
     Seven,
     /// The same in half B, and half A is older.
     Older,
+    /// The property is 7, in half A of version 1.
+    FirstVersion,
     /// Half A is in use, and in half B is the text of a world; its gate was not opened.
     Closed,
 }
@@ -194,6 +197,7 @@ fn files_at(alloc: Global, start: Start) -> Result<Files, Trouble> {
             let other = form(b"(SETF (GET 'A 'C) 7)");
             files_after(alloc, &[set, Ask::Snapshot, other])
         }
+        Start::FirstVersion => first_version(alloc),
         Start::Closed => closed_half(alloc, &files_after(alloc, &[set])?),
     }
 }
@@ -273,10 +277,11 @@ fn a_form_that_stops_is_there_or_not(rt: HostRuntime) -> Result<(), Fail> {
     let alloc = rt.alloc();
     let set = form(b"(SETF (GET 'A 'B) 8)");
     let run = Ask::Run(&[EIGHT, Step::Snapshot, EIGHT]);
-    let rows: [(Start, &[Ask], &[Step]); 3] = [
+    let rows: [(Start, &[Ask], &[Step]); 4] = [
         (Start::Fresh, &[], &[]),
         (Start::Seven, &[set], &[EIGHT]),
         (Start::Fresh, &[run], &[EIGHT, EIGHT]),
+        (Start::FirstVersion, &[run], &[EIGHT, EIGHT]),
     ];
     for (start, calls, forms) in rows {
         let found = difference_after(alloc, start, calls, forms)?;
@@ -287,7 +292,14 @@ fn a_form_that_stops_is_there_or_not(rt: HostRuntime) -> Result<(), Fail> {
 
 #[test]
 fn a_snapshot_that_stops_changes_no_world(rt: HostRuntime) -> Result<(), Fail> {
-    for start in [Start::Fresh, Start::Seven, Start::Older, Start::Closed] {
+    let starts = [
+        Start::Fresh,
+        Start::Seven,
+        Start::Older,
+        Start::Closed,
+        Start::FirstVersion,
+    ];
+    for start in starts {
         let found = difference_after(rt.alloc(), start, &[Ask::Snapshot], &[])?;
         assert!(rt; found.is_none(), "{found:?}");
     }

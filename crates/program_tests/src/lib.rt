@@ -11,6 +11,7 @@
 //! - `calls`, `silent`, `turns`, `snapshots`, `callers`: the calls of a store
 //! - `campaign`: a device that stops at each of its calls in turn, and each kind of crash after that; `stopped`: what exactly is
 //!   left of one form or snapshot; `altered`: files that were altered; `memory`: a macro function that finds no memory
+//! - `versions`: files of version 1
 //! - `macros`: the macro functions of the program
 //! - `commands`, by scripts of `runs`: the words of the program, its statuses, and real files
 #![tactic(auto)]
@@ -57,3 +58,5 @@ mod snapshots;
 mod stopped;
 #[cfg(test)]
 mod turns;
+#[cfg(test)]
+mod versions;

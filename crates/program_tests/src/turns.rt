@@ -136,8 +136,8 @@ fn is_answered(alloc: Global, most: usize) -> Result<bool, Trouble> {
         room: usize::MAX,
     };
     let left = left_after(alloc, MemoryDisk::new(alloc), AMPLE, &[Ask::Serve(session)])?;
-    // 151 bytes, and 6 with the text of each form
-    Ok(left.text.as_slice() == b"T\nT\n#(1 2)\nend\n".as_slice() && left.files.a.len() == 258)
+    // 154 bytes, and 6 with the text of each form
+    Ok(left.text.as_slice() == b"T\nT\n#(1 2)\nend\n".as_slice() && left.files.a.len() == 261)
 }
 
 #[test]
