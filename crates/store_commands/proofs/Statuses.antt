@@ -8,8 +8,10 @@ use Rattle.prevalence_store.specs.declared.outcome.Ending.TheVariants.{End, Read
 use Rattle.store_commands.specs.declared.status.Status.{Status}
 use Rattle.store_commands.specs.declared.status.Status.TheVariants.{Done, Helped, ReaderRefused, WordsRefused, Fault}
 use Rattle.store_commands.specs.Commands.{is_of_opening}
-use Rattle.store_commands.specs.Status.{EndsAfter, HasFaultNumber, IsAfterOneOf, IsAfterWords, IsCarriedOut, IsFaultNumber, IsOfWords, TakesWords, status_of_ending}
-use Rattle.lisp_object.specs.declared.refusal.TheConstants.{NO_MEMORY, OUTPUT}
+use Rattle.store_commands.specs.Status.{EndsAfter, HasFaultNumber, IsAfterOneOf, IsAfterWords, IsCarriedOut, IsFaultNumber, IsOfWords, TakesWords, status_of_ending, status_of_host}
+use Rattle.lisp_object.specs.declared.refusal.TheConstants.{DEVICE, NO_MEMORY, OUTPUT}
+use Rattle.disk_trait.specs.declared.host.HostError.{HostError}
+use Rattle.disk_trait.specs.declared.host.HostError.TheVariants as host
 
 -- of a session
 of_session : (ending : Ending) → TakesWords (status_of_ending ending)
@@ -37,6 +39,14 @@ ending_is (Store code) number is = let same : code ≡ number = cc in ap (λ n. 
 
 pub ending_at : (status given : Status) (ending : Ending) (number : ℕ) → status ≡ given → given ≡ status_of_ending ending → status ≡ Fault number → ending ≡ Store number
 ending_at status given ending number same is fault = ending_is ending number (sym is ∙ sym same ∙ fault)
+
+-- of files that were not opened
+pub host_status : (error : HostError) → (status_of_host error ≡ Fault DEVICE) ⊎ (status_of_host error ≡ Fault NO_MEMORY)
+host_status host.OutOfMemory = inr refl
+host_status host.Locked = inl refl
+host_status host.NoStore = inl refl
+host_status host.NoName = inl refl
+host_status (host.System error) = inl refl
 
 -- ---- after words that have mistakes
 

@@ -10,7 +10,7 @@ use Rattle.user_macros.specs.Functions.{Functions}
 use Rattle.prevalence_store.specs.declared.mode.Mode.{Mode}
 use Rattle.prevalence_store.specs.declared.outcome.Ending.{Ending}
 use Rattle.store_commands.specs.Commands.{CarriesOut, Does, DoesOn, IsUntouched, Performs, TaskBreaksOff, TaskReads, TaskWrites, TellsUnopened}
-use Rattle.store_commands.specs.Report.{IsReport, half_line}
+use Rattle.store_commands.specs.Report.{IsReport, IsSnapshot, half_line}
 use Rattle.store_commands.specs.Session.{AnswersInput, IsSession, ReadsToEnd}
 use Rattle.store_commands.specs.Status.{HasFaultNumber, IsFaultNumber, status_of_ending}
 use Rattle.store_commands.specs.declared.status.Status.{Status}
@@ -18,24 +18,28 @@ use Rattle.store_commands.specs.declared.status.Status.TheVariants.{Fault}
 use Rattle.store_commands.specs.declared.words.Report.{Report}
 use Rattle.store_commands.specs.declared.words.Report.TheVariants.{Dump, Verify}
 use Rattle.store_commands.specs.declared.words.Task.{Task}
-use Rattle.store_commands.specs.declared.words.Task.TheVariants.{Run, Tell}
+use Rattle.store_commands.specs.declared.words.Task.TheVariants.{Run, Snapshot, Tell}
 use Rattle.store_commands.proofs.Reports.{report_breaks, report_writes, text_fault, text_of_no_opening, text_taken}
 use Rattle.store_commands.proofs.Sessions.{answers_input, broken_at, fault_of_session, no_opening_at, nothing_written, number_of_opening, reads_to_end}
+use Rattle.store_commands.proofs.Snapshots.{snapshot_breaks, snapshot_fault, snapshot_of_no_opening, snapshot_taken, snapshot_writes}
 use Rattle.store_commands.proofs.Statuses.{ending_at, taken_at_ending}
 
 -- after a fault, with nothing read and nothing written
 module _ (functions : Functions) (input had : List ℕ) (left written : Option (List ℕ)) where
   breaks_nothing : (task : Task) → written ≡ Some had → TaskBreaksOff functions task input had written
   breaks_nothing (Run mode every) holds = nothing_written functions mode input had written holds
+  breaks_nothing Snapshot holds = (A, 0, 0, ([], half_line A 0 0, refl, holds ∙ ap (λ l. Some l) (sym (append-nil had))))
   breaks_nothing (Tell Dump) holds = (initial, ([], snapshot initial, refl, holds ∙ ap (λ l. Some l) (sym (append-nil had))))
   breaks_nothing (Tell Verify) holds = (A, 0, 0, ([], half_line A 0 0, refl, holds ∙ ap (λ l. Some l) (sym (append-nil had))))
 
   reads_nothing : (task : Task) (number : ℕ) → left ≡ Some input → TaskReads task (Fault number) input left
+  reads_nothing Snapshot number holds = holds
   reads_nothing (Tell report) number holds = holds
   reads_nothing (Run mode every) number holds = tt
 
   writes_nothing : (task : Task) (number : ℕ) → TaskWrites functions task (Fault number) input had written
   writes_nothing (Run mode every) number = tt
+  writes_nothing Snapshot number = tt
   writes_nothing (Tell Dump) number = tt
   writes_nothing (Tell Verify) number = tt
 
@@ -96,6 +100,26 @@ module _ (functions : Functions) {D R : Type 0} (state : D → State) (macros : 
         (ending_at status status ending number refl is fault) session.serves text had reads holds;
   }
 
+  performs_snapshot : (disk back : D) (folder : Text) (status : Status) → (folder ≡ [] → ⊥)
+      → CarriesOut functions state macros whole remaining contents input left held written disk back Snapshot status
+      → Performed folder Snapshot status
+  performs_snapshot disk back folder status named (told, same) =
+      let old = told.opened in
+      let new = told.closed in
+      let world = told.is_opened.world in
+      record {
+        does = inr (disk, back, inl (told, same));
+        taken = snapshot_taken functions state old new world _ _ told.outcome status told.tells;
+        nameless = λ none. absurd (named none);
+        unread = λ none. same;
+        unopened = λ number is of. absurd (snapshot_of_no_opening functions state old new world _ _ told.outcome status number is told.snapshots told.tells of);
+        fault = snapshot_fault functions state old new world _ _ told.outcome status told.snapshots told.tells;
+        reads = λ text had. ap remaining same ∙ had;
+        writes = λ text had reads holds. snapshot_writes functions state old new world (contents held) (contents written) had holds told.outcome status told.tells;
+        breaks_off = λ text had number reads holds is.
+            snapshot_breaks functions state old new world (contents held) (contents written) had holds told.outcome status number text is told.tells;
+      }
+
   performs_report : (disk back : D) (folder : Text) (report : Report) (status : Status) → (folder ≡ [] → ⊥)
       → CarriesOut functions state macros whole remaining contents input left held written disk back (Tell report) status
       → Performed folder (Tell report) status
@@ -116,6 +140,7 @@ module _ (functions : Functions) {D R : Type 0} (state : D → State) (macros : 
   pub performs_on : (disk back : D) (folder : Text) (task : Task) (status : Status) → (folder ≡ [] → ⊥)
       → DoesOn functions state macros whole remaining contents input left held written disk back task status → Performed folder task status
   performs_on disk back folder (Run mode every) status named (inl done) = performs_session disk back folder mode every status named done
+  performs_on disk back folder Snapshot status named (inl done) = performs_snapshot disk back folder status named done
   performs_on disk back folder (Tell report) status named (inl done) = performs_report disk back folder report status named done
   performs_on disk back folder task status named (inr (unopened, same)) = performs_unopened disk back folder task status named unopened same
 
@@ -127,6 +152,13 @@ module _ (functions : Functions) {D R : Type 0} (state : D → State) (macros : 
   does_run disk back task status mode every ending is ends session =
       subst (λ (t : Task). DoesOn functions state macros whole remaining contents input left held written disk back t status) (sym is)
       (inl (ending, ends, session))
+
+  pub does_snapshot : (disk back : D) (task : Task) (status : Status) → task ≡ Snapshot
+      → IsSnapshot functions state disk macros (contents held) (contents written) status back → left ≡ input
+      → DoesOn functions state macros whole remaining contents input left held written disk back task status
+  does_snapshot disk back task status is told same =
+      subst (λ (t : Task). DoesOn functions state macros whole remaining contents input left held written disk back t status) (sym is)
+      (inl (told, same))
 
   pub does_tell : (disk back : D) (task : Task) (status : Status) (report : Report) → task ≡ Tell report
       → IsReport functions state report disk macros (contents held) (contents written) status back → left ≡ input

@@ -9,7 +9,7 @@ use Rattle.world_text.specs.Snapshot.{snapshot}
 use Rattle.user_macros.specs.Functions.{Functions}
 use Rattle.prevalence_store.specs.calls.Open.{IsUnopened}
 use Rattle.prevalence_store.specs.declared.outcome.Ending.{Ending}
-use Rattle.store_commands.specs.Report.{DumpsWorld, IsReport, TellsHalf, half_line}
+use Rattle.store_commands.specs.Report.{DumpsWorld, IsReport, IsSnapshot, TellsHalf, half_line}
 use Rattle.store_commands.specs.Session.{AnswersInput, IsBrokenOff, IsSession, ReadsToEnd, half_limit}
 use Rattle.store_commands.specs.Status.{HasFaultNumber, IsCarriedOut, TakesWords, status_of_ending}
 use Rattle.store_commands.specs.Texts.{IsFront}
@@ -17,7 +17,7 @@ use Rattle.store_commands.specs.declared.status.Status.{Status}
 use Rattle.store_commands.specs.declared.status.Status.TheVariants.{Fault, Helped, WordsRefused}
 use Rattle.store_commands.specs.declared.words.Report.TheVariants.{Dump, Verify}
 use Rattle.store_commands.specs.declared.words.Task.{Task}
-use Rattle.store_commands.specs.declared.words.Task.TheVariants.{Run, Tell}
+use Rattle.store_commands.specs.declared.words.Task.TheVariants.{Run, Snapshot, Tell}
 
 -- nothing was read, and nothing written
 abbrev pub IsUntouched : {I O : Type 0} → I → I → O → O → Type 0
@@ -27,14 +27,16 @@ IsUntouched input left held written = (left ≡ input) × (written ≡ held)
 abbrev pub is_of_opening : ℕ → Bool
 is_of_opening number = number == DAMAGED || (number == MISSING_MACRO || number == VERSION)
 
--- `dump` and `verify` read nothing
+-- `run` alone reads
 abbrev pub reads_input : Task → Bool
 reads_input (Run mode every) = true
+reads_input Snapshot = false
 reads_input (Tell report) = false
 
 -- `run` that ends well reads to the end; the other commands read nothing
 abbrev pub TaskReads : Task → Status → List ℕ → Option (List ℕ) → Type 0
 TaskReads (Run mode every) status input left = ReadsToEnd status left
+TaskReads Snapshot status input left = left ≡ Some input
 TaskReads (Tell report) status input left = left ≡ Some input
 
 -- ---- over the files of a folder, of which no clause can say what they hold
@@ -43,12 +45,14 @@ module _ (functions : Functions) where
   -- what a command writes where it ends well
   abbrev pub TaskWrites : Task → Status → List ℕ → List ℕ → Option (List ℕ) → Type 0
   TaskWrites (Run mode every) status input held written = AnswersInput functions mode status input held written
+  TaskWrites Snapshot status input held written = TellsHalf status held written
   TaskWrites (Tell Dump) status input held written = DumpsWorld status held written
   TaskWrites (Tell Verify) status input held written = TellsHalf status held written
 
   -- what a command wrote that met a fault is the first part of what it would have written, over the store of some world
   abbrev pub TaskBreaksOff : Task → List ℕ → List ℕ → Option (List ℕ) → Type 0
   TaskBreaksOff (Run mode every) input held written = IsBrokenOff functions mode input held written
+  TaskBreaksOff Snapshot input held written = (half : Half) × (generation : ℕ) × (records : ℕ) × IsFront held written (half_line half generation records)
   TaskBreaksOff (Tell Dump) input held written = (world : WorldState) × IsFront held written (snapshot world)
   TaskBreaksOff (Tell Verify) input held written = (half : Half) × (generation : ℕ) × (records : ℕ) × IsFront held written (half_line half generation records)
 
@@ -62,12 +66,14 @@ TellsUnopened functions state disk back whole status =
 -- by two functions.
 module _ (functions : Functions) {D R : Type 0} (state : D → State) (macros : R) (whole : Bool)
     {I O : Type 0} (remaining : I → Option (List ℕ)) (contents : O → Option (List ℕ)) (input left : I) (held written : O) where
-  -- It was carried out over the store that a disk holds: a session went so, and the status is that of its ending; or something was
-  -- told of the store. The disk is left as the store that was closed left it.
+  -- It was carried out over the store that a disk holds: a session went so, and the status is that of its ending; or a snapshot was
+  -- taken, or something was told of the store. The disk is left as the store that was closed left it.
   abbrev pub CarriesOut : D → D → Task → Status → Type 0
   CarriesOut disk back (Run mode every) status =
       (ending : Ending) × (status ≡ status_of_ending ending)
       × IsSession functions mode every state disk macros (remaining input) (remaining left) (contents held) (contents written) ending back
+  CarriesOut disk back Snapshot status =
+      IsSnapshot functions state disk macros (contents held) (contents written) status back × (left ≡ input)
   CarriesOut disk back (Tell report) status =
       IsReport functions state report disk macros (contents held) (contents written) status back × (left ≡ input)
 

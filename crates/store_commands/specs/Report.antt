@@ -1,4 +1,4 @@
--- What `dump` and `verify` tell of a store.
+-- What `dump`, `verify` and `snapshot` tell of a store.
 use Rattle.std.specs.Prelude.{◌≡◌, ℕ, List, [], ◌∷◌, ◌++◌, Option, Some, codes, decimal}
 use Rattle.disk_trait.specs.Disk.{State}
 use Rattle.disk_trait.specs.declared.half.Half.{Half}
@@ -7,7 +7,10 @@ use Rattle.plist_state.specs.State.{WorldState}
 use Rattle.world_text.specs.Snapshot.{snapshot}
 use Rattle.user_macros.specs.Functions.{Functions}
 use Rattle.prevalence_store.specs.calls.Open.{IsOpened}
+use Rattle.prevalence_store.specs.calls.Snapshot.{Snapshots}
 use Rattle.prevalence_store.specs.calls.Store.{StoreView}
+use Rattle.prevalence_store.specs.declared.outcome.Outcome.{Outcome}
+use Rattle.prevalence_store.specs.declared.outcome.Outcome.TheVariants.{Accepted, Snapshotted, Refused}
 use Rattle.store_commands.specs.Texts.{TellsText}
 use Rattle.store_commands.specs.Session.{half_limit}
 use Rattle.store_commands.specs.declared.status.Status.{Status}
@@ -40,6 +43,30 @@ pub record IsReport (functions : Functions) {D R : Type 0} (state : D → State)
   pub is_opened : IsOpened functions state disk macros half_limit opened
   pub tells : TellsText status held written (text_of report opened is_opened.world)
   pub disk_is : back ≡ opened.disk
+
+-- no form was accepted
+abbrev pub HasNoValue : Outcome → Type 0
+HasNoValue (Accepted value) = ⊥
+HasNoValue Snapshotted = Unit {0}
+HasNoValue (Refused number) = Unit {0}
+
+-- After a snapshot the line on the half in use is written, which is the one that holds it; if it was refused, nothing.
+abbrev pub TellsSnapshot : Outcome → {D R : Type 0} → StoreView D R → Status → Option (List ℕ) → Option (List ℕ) → Type 0
+TellsSnapshot (Accepted value) store status held written = ⊥
+TellsSnapshot Snapshotted store status held written = TellsText status held written (half_line_of store)
+TellsSnapshot (Refused number) store status held written = (status ≡ Fault number) × (written ≡ held)
+
+-- The store that a disk holds was opened with these macro functions, it took a snapshot, which was told, and it was closed: this is
+-- its disk.
+pub record IsSnapshot (functions : Functions) {D R : Type 0} (state : D → State) (disk : D) (macros : R)
+    (held written : Option (List ℕ)) (status : Status) (back : D) : Type 0 where
+  pub opened : StoreView D R
+  pub is_opened : IsOpened functions state disk macros half_limit opened
+  pub closed : StoreView D R
+  pub outcome : Outcome
+  pub snapshots : Snapshots functions state opened closed is_opened.world outcome
+  pub tells : TellsSnapshot outcome closed status held written
+  pub disk_is : back ≡ closed.disk
 
 -- ---- over the files of a folder, of which no clause can say what they hold
 

@@ -3,6 +3,8 @@ use Rattle.std.specs.Prelude.{◌≡◌, ◌≤◌, ◌⊎◌, ℕ, [], ◌∷�
 use Rattle.clap.specs.Words.{Kinds}
 use Rattle.clap.specs.declared.error.kind.ErrorKind.{ErrorKind}
 use Rattle.clap.specs.declared.error.kind.ErrorKind.TheVariants.{DisplayHelp, DisplayVersion, OutOfMemory}
+use Rattle.disk_trait.specs.declared.host.HostError.{HostError}
+use Rattle.disk_trait.specs.declared.host.HostError.TheVariants as host
 use Rattle.lisp_object.specs.declared.refusal.TheConstants.{DEVICE, DAMAGED, OUTPUT, NO_MEMORY}
 use Rattle.prevalence_store.specs.declared.outcome.Ending.{Ending}
 use Rattle.prevalence_store.specs.declared.outcome.Ending.TheVariants.{End, Reader, Store}
@@ -28,6 +30,11 @@ status_of_ending (Store number) = Fault number
 abbrev pub status_of_output : Result Unit Unwritten → Status
 status_of_output (Ok written) = Done
 status_of_output (Err unwritten) = Fault OUTPUT
+
+-- after files that were not opened
+abbrev pub status_of_host : HostError → Status
+status_of_host host.OutOfMemory = Fault NO_MEMORY
+status_of_host _ = Fault DEVICE
 
 -- after words that gave no command: help that was asked for, out of memory, or words that are refused
 abbrev pub status_of_kind : ErrorKind → Status

@@ -1,22 +1,27 @@
 // What the words of the command line ask for.
-ghost use Rattle.std.specs.Prelude.{◌≡◌, ◌⊎◌, ◌<◌, ◌-◌, ◌^◌, [], map};
+ghost use Rattle.std.specs.Prelude.{◌≡◌, ◌≢◌, ◌⊎◌, ◌<◌, ◌-◌, ◌^◌, Bool, [], map, IfOk};
 ghost use Rattle.clap.specs.Words.{Text, kind_of};
 ghost use Rattle.user_macros.specs.Functions.{are_registered};
 ghost use Rattle.store_commands.specs.declared.words.Task.{Task};
 ghost use Rattle.store_commands.specs.CommandLine.{AsksFor, IsTaken, faults_of};
 ghost use Rattle.store_commands.specs.Commands.{DoesOn, Performs, PerformsNone};
 ghost use Rattle.store_commands.specs.Session.{TellsFault};
-ghost use Rattle.store_commands.specs.Status.{EndsAfter, HasFaultNumber, IsAfterWords, IsOfWords, IsQuiet};
+ghost use Rattle.store_commands.specs.Status.{EndsAfter, HasFaultNumber, IsAfterWords, IsOfWords, IsQuiet, TakesWords};
 
-use crate::fault::write_fault;
+use crate::fault::write_fault_with_cause;
 use crate::report::report_on;
 use crate::session::serve_on;
+use crate::sessions::sessions_on;
+use crate::snapshot::snapshot_on;
 use crate::status::Status;
+use crate::terminal::{Answers, Console, Terminal};
 use crate::words::{Asked, Task, asked_in};
 use clap::Error;
-use disk_trait::{Disk, HostDisk};
+use disk_trait::{Disk, HostDisk, HostError, IfMissing};
 use lisp_object::refusal::{DEVICE, NO_MEMORY, OUTPUT};
+use prevalence_store::Mode;
 use std::alloc::Global;
+use std::cell::Cell;
 use std::convert::AsStr;
 use std::fs::File;
 use std::io::{Read, Write};
@@ -26,11 +31,13 @@ use user_macros::MacroFunctions;
 /// Does what the words ask for, with these macro functions; the first word is the program's name.
 ///
 /// Each command is over the store in the folder DIR. `run DIR` serves `input` to `output` in the mode Current; with `--rescue`
-/// in the mode Rescue, and with `--snapshot-every N` it takes a snapshot after each N forms that were logged. `dump DIR` writes
-/// the text of the world to `output`, and `verify DIR` the line on the half in use; they read nothing.
+/// in the mode Rescue, and with `--snapshot-every N` it takes a snapshot after each N forms that were logged. `snapshot DIR` takes
+/// a snapshot and writes the line on the half in use to `output`, `dump DIR` the text of the world, and `verify DIR` the line on
+/// the half in use; they read nothing. A folder without a store gets one, or is a fault with `--existing`.
 ///
 /// Faults are found in this order: the words, DIR, the opening of the store, the command. A text on words that are refused, or
-/// the line of a fault, goes to `faults`; help that was asked for goes to `output`. What is written to `output` is flushed.
+/// the line of a fault, and after that of the device one with its cause, goes to `faults`; help and the version that was asked for
+/// go to `output`. What is written to `output` is flushed.
 pub fn program<R, M, S, I, O, F>(
     rt: &R,
     macros: M,
@@ -47,10 +54,12 @@ where
     O: Write,
     F: Write,
     requires answers { M.answers macros }
-    ensures words { (folder : Text) (task : Task) → AsksFor (map S.text words.now) folder task
-        → IsTaken (map S.text words.now) folder task }
+    ensures words { (folder : Text) (existing : Bool) (task : Task)
+        → AsksFor (map S.text words.now) folder existing task
+        → IsTaken (map S.text words.now) folder existing task }
     ensures ends { EndsAfter (faults_of (map S.text words.now)) result }
-    ensures taken { (folder : Text) (task : Task) → IsTaken (map S.text words.now) folder task
+    ensures taken { (folder : Text) (existing : Bool) (task : Task)
+        → IsTaken (map S.text words.now) folder existing task
         → Performs M.Meaning.functions ⟦<HostDisk as Disk>⟧.state macros
         (are_registered M.Meaning.functions (M.functions macros)) I.remaining O.contents
         input.old input.new output.old output.new folder task result }
@@ -61,11 +70,98 @@ where
     ensures quiet { IsQuiet result → faults.new ≡ faults.old }
 {
     // The words come first: if they are refused, no folder is opened and nothing is read.
-    let status = match asked_in(rt.alloc(), words) {
+    let (status, cause) = match asked_in(rt.alloc(), words) {
         Ok(asked) => carry_out(rt, macros, asked, input, output),
-        Err(error) => answer_words(&error, output, faults),
+        Err(error) => (answer_words(&error, output, faults), None),
     };
-    end_with(faults, status)
+    end_with_cause(faults, status, &cause)
+}
+
+/// Does what the words ask for, as `program`, where the input is a terminal. `run` is sessions in a row on one open store then: after
+/// a refusal of the reader the rest of the line is dropped, and the next session begins; the status is that of the last one.
+/// Before each line a prompt goes to the console's `prompts`.
+pub fn program_at_terminal<R, M, S, I, O, P, F>(
+    rt: &R,
+    macros: M,
+    words: &[S],
+    console: Console<'_, I, O, P>,
+    faults: &mut F,
+) -> Status
+where
+    R: Files<File = File> + AllocGlobal,
+    M: MacroFunctions + Drop,
+    S: AsStr,
+    I: Read,
+    O: Write,
+    P: Write,
+    F: Write,
+    requires answers { M.answers macros }
+    ensures ends { EndsAfter (faults_of (map S.text words.now)) result }
+    ensures told { TellsFault result (F.contents faults.old) (F.contents faults.new) }
+    ensures quiet { IsQuiet result → faults.new ≡ faults.old }
+{
+    let (status, cause) = match asked_in(rt.alloc(), words) {
+        Ok(asked) => match asked.task {
+            Task::Run {
+                mode,
+                snapshot_every,
+            } => sit(rt, macros, asked, mode, snapshot_every, console),
+            _ => carry_out(rt, macros, asked, console.input, console.output),
+        },
+        Err(error) => (answer_words(&error, console.output, faults), None),
+    };
+    end_with_cause(faults, status, &cause)
+}
+
+// Serves sessions in a row at a terminal over the store in a folder, and tells the cause of a fault of the device.
+fn sit<R, M, I, O, P>(
+    rt: &R,
+    macros: M,
+    asked: Asked<'_>,
+    mode: Mode,
+    snapshot_every: u64,
+    console: Console<'_, I, O, P>,
+) -> (Status, Option<HostError>)
+where
+    R: Files<File = File> + AllocGlobal,
+    M: MacroFunctions + Drop,
+    I: Read,
+    O: Write,
+    P: Write,
+    requires answers { M.answers macros }
+    ensures { TakesWords result.0 }
+{
+    let disk = match open_folder(rt, asked) {
+        Ok(disk) => disk,
+        Err(error) => return (Status::of_host(&error), Some(error)),
+    };
+    let Console {
+        input,
+        output,
+        prompts,
+    } = console;
+    let answered = Cell::new(false);
+    let mut terminal = Terminal::new(input, prompts, &answered);
+    let mut answers = Answers::new(output, &answered);
+    let alloc = rt.alloc();
+    match sessions_on(
+        alloc,
+        disk,
+        macros,
+        mode,
+        snapshot_every,
+        &mut terminal,
+        &mut answers,
+    ) {
+        Ok((ending, disk, _macros)) => (
+            Status::of_ending(ending),
+            disk.cause().map(HostError::System),
+        ),
+        Err(unopened) => (
+            Status::Fault(unopened.number),
+            unopened.disk.cause().map(HostError::System),
+        ),
+    }
 }
 
 /// Ends so: after a fault its line is written.
@@ -74,8 +170,17 @@ pub fn end_with<F: Write>(faults: &mut F, status: Status) -> Status
     ensures told { TellsFault status (F.contents faults.old) (F.contents faults.new) }
     ensures quiet { IsQuiet status ⊎ (status ≡ Status.WordsRefused) → faults.new ≡ faults.old }
 {
+    end_with_cause(faults, status, &None)
+}
+
+// Ends so: after a fault its line is written, and after one of the device a line with the cause, if it is known.
+fn end_with_cause<F: Write>(faults: &mut F, status: Status, cause: &Option<HostError>) -> Status
+    ensures status { result ≡ status }
+    ensures told { TellsFault status (F.contents faults.old) (F.contents faults.new) }
+    ensures quiet { IsQuiet status ⊎ (status ≡ Status.WordsRefused) → faults.new ≡ faults.old }
+{
     if let Status::Fault(number) = status {
-        let _ = write_fault(faults, number);
+        let _ = write_fault_with_cause(faults, number, cause.as_ref());
     }
     status
 }
@@ -112,14 +217,15 @@ fn write_help<O: Write>(help: &Error, output: &mut O) -> Status
     }
 }
 
-// Carries a task out over the store in a folder. The store is closed after it, and its files are let go.
+// Carries a task out over the store in a folder, and tells the cause of a fault of the device. The store is closed after it, and
+// its files are let go.
 fn carry_out<R, M, I, O>(
     rt: &R,
     macros: M,
     asked: Asked<'_>,
     input: &mut I,
     output: &mut O,
-) -> Status
+) -> (Status, Option<HostError>)
 where
     R: Files<File = File> + AllocGlobal,
     M: MacroFunctions + Drop,
@@ -128,17 +234,34 @@ where
     requires answers { M.answers macros }
     ensures { Performs M.Meaning.functions ⟦<HostDisk as Disk>⟧.state macros
         (are_registered M.Meaning.functions (M.functions macros)) I.remaining O.contents
-        input.old input.new output.old output.new asked.entry.folder.now asked.entry.task result }
+        input.old input.new output.old output.new asked.entry.folder.now asked.entry.task result.0 }
+{
+    let disk = match open_folder(rt, asked) {
+        Ok(disk) => disk,
+        Err(error) => return (Status::of_host(&error), Some(error)),
+    };
+    let (status, disk) = carry_out_on(rt.alloc(), disk, macros, asked.task, input, output);
+    (status, disk.cause().map(HostError::System))
+}
+
+// Opens the files of a folder, which has a name.
+fn open_folder<R: Files<File = File> + AllocGlobal>(
+    rt: &R,
+    asked: Asked<'_>,
+) -> Result<HostDisk, HostError>
+    ensures { IfOk result (λ disk. ((⟦<HostDisk as Disk>⟧.state disk).failures ≡ 0)
+        × (asked.entry.folder.now ≢ [])) }
 {
     // no folder has an empty name, and files under it would be those of the present folder
     if asked.folder.is_empty() {
-        return Status::Fault(DEVICE);
+        return Err(HostError::NoName);
     }
-    let Ok(disk) = HostDisk::open(rt, asked.folder) else {
-        return Status::Fault(DEVICE);
+    let if_missing = if asked.existing {
+        IfMissing::Refuse
+    } else {
+        IfMissing::Make
     };
-    let (status, _disk) = carry_out_on(rt.alloc(), disk, macros, asked.task, input, output);
-    status
+    HostDisk::open_files(rt, asked.folder, if_missing)
 }
 
 // Carries a task out over the store that a disk holds, and gives the disk back as the store left it.
@@ -167,6 +290,10 @@ where
             snapshot_every,
         } => match serve_on(alloc, disk, macros, mode, snapshot_every, input, output) {
             Ok((ending, disk, _macros)) => (Status::of_ending(ending), disk),
+            Err(unopened) => (Status::Fault(unopened.number), unopened.disk),
+        },
+        Task::Snapshot => match snapshot_on(alloc, disk, macros, output) {
+            Ok((status, disk, _macros)) => (status, disk),
             Err(unopened) => (Status::Fault(unopened.number), unopened.disk),
         },
         Task::Tell(report) => match report_on(alloc, disk, macros, report, output) {

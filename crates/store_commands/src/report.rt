@@ -86,8 +86,8 @@ fn write_world<D: Disk, M, O: Write>(alloc: Global, store: &Store<D, M>, output:
     status_of_output(write_out(output, text.as_slice()))
 }
 
-// Writes the line on the half in use of an open store.
-fn write_half<D: Disk, M, O: Write>(store: &Store<D, M>, output: &mut O) -> Status
+/// Writes the line on the half in use of an open store, and answers how that ended.
+pub(crate) fn write_half<D: Disk, M, O: Write>(store: &Store<D, M>, output: &mut O) -> Status
     ensures { TellsText result (O.contents output.old) (O.contents output.new)
         (half_line_of store.now) }
 {

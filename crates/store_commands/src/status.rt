@@ -1,9 +1,10 @@
 // How the program ends.
 ghost use Rattle.std.specs.Prelude.{◌≡◌};
-ghost use Rattle.store_commands.specs.Status.{code_of, status_of_ending, status_of_kind};
+ghost use Rattle.store_commands.specs.Status.{code_of, status_of_ending, status_of_host, status_of_kind};
 
 use clap::error::ErrorKind;
-use lisp_object::refusal::NO_MEMORY;
+use disk_trait::HostError;
+use lisp_object::refusal::{DEVICE, NO_MEMORY};
 use prevalence_store::Ending;
 
 /// How the program ended.
@@ -11,7 +12,7 @@ use prevalence_store::Ending;
 pub enum Status {
     /// The command was carried out: the input was served to its end, or the text that was asked for was written.
     Done,
-    /// The help that was asked for was written.
+    /// The help or the version that was asked for was written.
     Helped,
     /// The reader refused a form, which ended the session.
     ReaderRefused,
@@ -43,6 +44,16 @@ impl Status {
             Ending::End => Status::Done,
             Ending::Reader(_) => Status::ReaderRefused,
             Ending::Store(number) => Status::Fault(number),
+        }
+    }
+
+    /// The status after files that were not opened, for this reason.
+    pub fn of_host(error: &HostError) -> Status
+        ensures { result ≡ status_of_host error.now }
+    {
+        match error {
+            HostError::OutOfMemory => Status::Fault(NO_MEMORY),
+            _ => Status::Fault(DEVICE),
         }
     }
 
