@@ -10,6 +10,7 @@ use crate::session::HALF_LIMIT;
 use crate::status::Status;
 use disk_trait::Disk;
 use lisp_object::refusal::REOPEN;
+use plist_state::Seed;
 use prevalence_store::{Outcome, Store, Unopened};
 use std::alloc::Global;
 use std::io::Write;
@@ -25,6 +26,7 @@ pub fn snapshot_on<D, M, O>(
     alloc: Global,
     disk: D,
     macros: M,
+    seed: Seed,
     output: &mut O,
 ) -> Result<(Status, D, M), Unopened<D, M>>
 where
@@ -41,7 +43,7 @@ where
         × (output.new ≡ output.old)) }
     ensures given_back { IfErr result (λ e. e.macros ≡ macros) }
 {
-    let mut store = Store::open(alloc, disk, macros, HALF_LIMIT)?;
+    let mut store = Store::open_with_seed(alloc, disk, macros, HALF_LIMIT, seed)?;
     let status = match store.snapshot() {
         Outcome::Snapshotted => write_half(&store, output),
         Outcome::Refused(number) => Status::Fault(number),
