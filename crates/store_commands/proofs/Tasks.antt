@@ -1,15 +1,15 @@
 -- From what a task does to all that is promised of it.
-use Rattle.std.proofs.Common.{◌≡◌, ◌⊎◌, ℕ, Bool, true≢false, List, [], Option, None, Some, refl, sym, ap, subst, ◌∙◌, inl, inr, append-nil}
+use Rattle.std.proofs.Common.{◌≡◌, ◌⊎◌, ℕ, Bool, true≢false, List, [], Option, None, Some, refl, sym, ap, subst, ◌∙◌, inl, inr, append-nil, arith}
 use Rattle.disk_trait.specs.Disk.{State}
 use Rattle.disk_trait.specs.declared.half.Half.TheVariants.{A}
-use Rattle.lisp_object.specs.declared.refusal.TheConstants.{DEVICE, NO_MEMORY}
+use Rattle.lisp_object.specs.declared.refusal.TheConstants.{DEVICE, INPUT, NO_MEMORY}
 use Rattle.clap.specs.Words.{Text}
 use Rattle.plist_state.specs.State.{initial}
 use Rattle.world_text.specs.Snapshot.{snapshot}
 use Rattle.user_macros.specs.Functions.{Functions}
 use Rattle.prevalence_store.specs.declared.mode.Mode.{Mode}
 use Rattle.prevalence_store.specs.declared.outcome.Ending.{Ending}
-use Rattle.store_commands.specs.Commands.{CarriesOut, Does, DoesOn, IsUntouched, Performs, TaskBreaksOff, TaskReads, TaskWrites, TellsUnopened}
+use Rattle.store_commands.specs.Commands.{CarriesOut, Does, DoesOn, IsEarlyFault, IsUntouched, Performs, TaskBreaksOff, TaskReads, TaskWrites, TellsUnopened}
 use Rattle.store_commands.specs.Report.{IsReport, IsSnapshot, half_line}
 use Rattle.store_commands.specs.Session.{AnswersInput, IsSession, ReadsToEnd}
 use Rattle.store_commands.specs.Status.{HasFaultNumber, IsFaultNumber, status_of_ending}
@@ -50,7 +50,7 @@ module _ (functions : Functions) {D R : Type 0} (state : D → State) (macros : 
 
   -- a fault before anything was read or written
   untouched : (folder : Text) (task : Task) (given : ℕ) → IsUntouched input left held written → IsFaultNumber given
-      → (folder ≡ [] → ((Fault given ≡ Fault DEVICE) ⊎ (Fault given ≡ Fault NO_MEMORY)))
+      → (folder ≡ [] → IsEarlyFault (Fault given))
       → Does functions state macros whole remaining contents input left held written task (Fault given) → Performed folder task (Fault given)
   untouched folder task given same number nameless does = record {
     does = does;
@@ -64,13 +64,18 @@ module _ (functions : Functions) {D R : Type 0} (state : D → State) (macros : 
     breaks_off = λ text had other reads holds is. breaks_nothing functions text had None (contents written) task (ap contents same.1 ∙ holds);
   }
 
-  -- there is no memory, or the folder is not opened
-  pub performs_nothing : (folder : Text) (task : Task) (status : Status) → (status ≡ Fault DEVICE) ⊎ (status ≡ Fault NO_MEMORY)
+  -- there is no memory, no seed, or the folder is not opened
+  pub performs_nothing : (folder : Text) (task : Task) (status : Status) → IsEarlyFault status
       → IsUntouched input left held written → Performed folder task status
   performs_nothing folder task status (inl is) same =
-      subst (Performed folder task) (sym is) (untouched folder task DEVICE same (inl refl) (λ none. inl refl) (inl (inr refl, same)))
-  performs_nothing folder task status (inr is) same =
-      subst (Performed folder task) (sym is) (untouched folder task NO_MEMORY same (inr (inr refl)) (λ none. inr refl) (inl (inl refl, same)))
+      subst (Performed folder task) (sym is)
+      (untouched folder task NO_MEMORY same (inr (inr refl)) (λ none. inl refl) (inl (inl refl, same)))
+  performs_nothing folder task status (inr (inl is)) same =
+      subst (Performed folder task) (sym is)
+      (untouched folder task INPUT same (inr (inl (omega arith, omega arith))) (λ none. inr (inl refl)) (inl (inr (inl refl), same)))
+  performs_nothing folder task status (inr (inr is)) same =
+      subst (Performed folder task) (sym is)
+      (untouched folder task DEVICE same (inl refl) (λ none. inr (inr refl)) (inl (inr (inr refl), same)))
 
   -- the store is not opened
   performs_unopened : (disk back : D) (folder : Text) (task : Task) (status : Status) → (folder ≡ [] → ⊥)

@@ -2,7 +2,7 @@
 use Rattle.std.specs.Prelude.{◌≡◌, ◌==◌, ◌||◌, ◌⊎◌, ℕ, Bool, true, false, List, [], Option, Some}
 use Rattle.disk_trait.specs.Disk.{State}
 use Rattle.disk_trait.specs.declared.half.Half.{Half}
-use Rattle.lisp_object.specs.declared.refusal.TheConstants.{DEVICE, DAMAGED, MISSING_MACRO, VERSION, NO_MEMORY}
+use Rattle.lisp_object.specs.declared.refusal.TheConstants.{DEVICE, DAMAGED, MISSING_MACRO, VERSION, INPUT, NO_MEMORY}
 use Rattle.clap.specs.Words.{Text}
 use Rattle.plist_state.specs.State.{WorldState}
 use Rattle.world_text.specs.Snapshot.{snapshot}
@@ -22,6 +22,10 @@ use Rattle.store_commands.specs.declared.words.Task.TheVariants.{Run, Snapshot, 
 -- nothing was read, and nothing written
 abbrev pub IsUntouched : {I O : Type 0} → I → I → O → O → Type 0
 IsUntouched input left held written = (left ≡ input) × (written ≡ held)
+
+-- before the store is opened: there is no memory for the words, no seed is had, or the folder is not opened
+abbrev pub IsEarlyFault : Status → Type 0
+IsEarlyFault status = (status ≡ Fault NO_MEMORY) ⊎ ((status ≡ Fault INPUT) ⊎ (status ≡ Fault DEVICE))
 
 -- numbers that nothing but the opening of a store answers
 abbrev pub is_of_opening : ℕ → Bool
@@ -83,11 +87,11 @@ module _ (functions : Functions) {D R : Type 0} (state : D → State) (macros : 
   DoesOn disk back task status =
       CarriesOut disk back task status ⊎ (TellsUnopened functions state disk back whole status × IsUntouched input left held written)
 
-  -- There is no memory, or the folder is not opened, and nothing is read or written; or it is done over some disk of this type. That
-  -- the files of this disk are those of the folder is not said here.
+  -- There is no memory, no seed, or the folder is not opened, and nothing is read or written; or it is done over some disk of this
+  -- type. That the files of this disk are those of the folder is not said here.
   abbrev pub Does : Task → Status → Type 0
   Does task status =
-      (((status ≡ Fault NO_MEMORY) ⊎ (status ≡ Fault DEVICE)) × IsUntouched input left held written)
+      (IsEarlyFault status × IsUntouched input left held written)
       ⊎ ((disk : D) × (back : D) × DoesOn disk back task status)
 
   -- A task, for the store in a folder, was done, and this is the status.
@@ -96,7 +100,7 @@ module _ (functions : Functions) {D R : Type 0} (state : D → State) (macros : 
     -- neither is help written nor are the words refused
     pub taken : TakesWords status
     -- no folder has an empty name
-    pub nameless : folder ≡ [] → ((status ≡ Fault DEVICE) ⊎ (status ≡ Fault NO_MEMORY)) × IsUntouched input left held written
+    pub nameless : folder ≡ [] → IsEarlyFault status × IsUntouched input left held written
     pub unread : reads_input task ≡ false → left ≡ input
     pub unopened : (number : ℕ) → status ≡ Fault number → is_of_opening number ≡ true → IsUntouched input left held written
     pub fault : HasFaultNumber status

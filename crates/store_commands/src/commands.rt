@@ -18,13 +18,15 @@ use crate::terminal::{Answers, Console, Terminal};
 use crate::words::{Asked, Task, asked_in};
 use clap::Error;
 use disk_trait::{Disk, HostDisk, HostError, IfMissing};
-use lisp_object::refusal::{DEVICE, NO_MEMORY, OUTPUT};
+use lisp_object::refusal::{INPUT, NO_MEMORY, OUTPUT};
+use plist_state::Seed;
 use prevalence_store::Mode;
 use std::alloc::Global;
 use std::cell::Cell;
 use std::convert::AsStr;
 use std::fs::File;
 use std::io::{Read, Write};
+use std::random::RandomSource;
 use std::rt::Files;
 use user_macros::MacroFunctions;
 
@@ -35,7 +37,8 @@ use user_macros::MacroFunctions;
 /// a snapshot and writes the line on the half in use to `output`, `dump DIR` the text of the world, and `verify DIR` the line on
 /// the half in use; they read nothing. A folder without a store gets one, or is a fault with `--existing`.
 ///
-/// Faults are found in this order: the words, DIR, the opening of the store, the command. A text on words that are refused, or
+/// Names are hashed by a seed that is drawn from `rt`; if it has no random bytes, the status is that of a fault of the input.
+/// Faults are found in this order: the words, the seed, DIR, the opening of the store, the command. A text on words that are refused, or
 /// the line of a fault, and after that of the device one with its cause, goes to `faults`; help and the version that was asked for
 /// go to `output`. What is written to `output` is flushed.
 pub fn program<R, M, S, I, O, F>(
@@ -47,7 +50,7 @@ pub fn program<R, M, S, I, O, F>(
     faults: &mut F,
 ) -> Status
 where
-    R: Files<File = File> + AllocGlobal,
+    R: Files<File = File> + RandomSource + AllocGlobal,
     M: MacroFunctions + Drop,
     S: AsStr,
     I: Read,
@@ -88,7 +91,7 @@ pub fn program_at_terminal<R, M, S, I, O, P, F>(
     faults: &mut F,
 ) -> Status
 where
-    R: Files<File = File> + AllocGlobal,
+    R: Files<File = File> + RandomSource + AllocGlobal,
     M: MacroFunctions + Drop,
     S: AsStr,
     I: Read,
@@ -123,7 +126,7 @@ fn sit<R, M, I, O, P>(
     console: Console<'_, I, O, P>,
 ) -> (Status, Option<HostError>)
 where
-    R: Files<File = File> + AllocGlobal,
+    R: Files<File = File> + RandomSource + AllocGlobal,
     M: MacroFunctions + Drop,
     I: Read,
     O: Write,
@@ -131,6 +134,10 @@ where
     requires answers { M.answers macros }
     ensures { TakesWords result.0 }
 {
+    // the seed comes before the folder, so that nothing is made if there is none
+    let Ok(seed) = Seed::draw(rt) else {
+        return (Status::Fault(INPUT), None);
+    };
     let disk = match open_folder(rt, asked) {
         Ok(disk) => disk,
         Err(error) => return (Status::of_host(&error), Some(error)),
@@ -148,6 +155,7 @@ where
         alloc,
         disk,
         macros,
+        seed,
         mode,
         snapshot_every,
         &mut terminal,
@@ -227,7 +235,7 @@ fn carry_out<R, M, I, O>(
     output: &mut O,
 ) -> (Status, Option<HostError>)
 where
-    R: Files<File = File> + AllocGlobal,
+    R: Files<File = File> + RandomSource + AllocGlobal,
     M: MacroFunctions + Drop,
     I: Read,
     O: Write,
@@ -236,16 +244,20 @@ where
         (are_registered M.Meaning.functions (M.functions macros)) I.remaining O.contents
         input.old input.new output.old output.new asked.entry.folder.now asked.entry.task result.0 }
 {
+    // the seed comes before the folder, so that nothing is made if there is none
+    let Ok(seed) = Seed::draw(rt) else {
+        return (Status::Fault(INPUT), None);
+    };
     let disk = match open_folder(rt, asked) {
         Ok(disk) => disk,
         Err(error) => return (Status::of_host(&error), Some(error)),
     };
-    let (status, disk) = carry_out_on(rt.alloc(), disk, macros, asked.task, input, output);
+    let (status, disk) = carry_out_on(rt.alloc(), disk, macros, seed, asked.task, input, output);
     (status, disk.cause().map(HostError::System))
 }
 
 // Opens the files of a folder, which has a name.
-fn open_folder<R: Files<File = File> + AllocGlobal>(
+fn open_folder<R: Files<File = File> + RandomSource + AllocGlobal>(
     rt: &R,
     asked: Asked<'_>,
 ) -> Result<HostDisk, HostError>
@@ -269,6 +281,7 @@ fn carry_out_on<D, M, I, O>(
     alloc: Global,
     disk: D,
     macros: M,
+    seed: Seed,
     task: Task,
     input: &mut I,
     output: &mut O,
@@ -288,15 +301,24 @@ where
         Task::Run {
             mode,
             snapshot_every,
-        } => match serve_on(alloc, disk, macros, mode, snapshot_every, input, output) {
+        } => match serve_on(
+            alloc,
+            disk,
+            macros,
+            seed,
+            mode,
+            snapshot_every,
+            input,
+            output,
+        ) {
             Ok((ending, disk, _macros)) => (Status::of_ending(ending), disk),
             Err(unopened) => (Status::Fault(unopened.number), unopened.disk),
         },
-        Task::Snapshot => match snapshot_on(alloc, disk, macros, output) {
+        Task::Snapshot => match snapshot_on(alloc, disk, macros, seed, output) {
             Ok((status, disk, _macros)) => (status, disk),
             Err(unopened) => (Status::Fault(unopened.number), unopened.disk),
         },
-        Task::Tell(report) => match report_on(alloc, disk, macros, report, output) {
+        Task::Tell(report) => match report_on(alloc, disk, macros, seed, report, output) {
             Ok((status, disk, _macros)) => (status, disk),
             Err(unopened) => (Status::Fault(unopened.number), unopened.disk),
         },

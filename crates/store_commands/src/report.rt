@@ -15,6 +15,7 @@ use crate::status::Status;
 use crate::words::Report;
 use disk_trait::Disk;
 use lisp_object::refusal::{NO_MEMORY, OUTPUT, REOPEN};
+use plist_state::Seed;
 use prevalence_store::{Store, Unopened};
 use std::alloc::Global;
 use std::io::Write;
@@ -30,6 +31,7 @@ pub fn report_on<D, M, O>(
     alloc: Global,
     disk: D,
     macros: M,
+    seed: Seed,
     report: Report,
     output: &mut O,
 ) -> Result<(Status, D, M), Unopened<D, M>>
@@ -47,7 +49,7 @@ where
         × (output.new ≡ output.old)) }
     ensures given_back { IfErr result (λ e. e.macros ≡ macros) }
 {
-    let store = Store::open(alloc, disk, macros, HALF_LIMIT)?;
+    let store = Store::open_with_seed(alloc, disk, macros, HALF_LIMIT, seed)?;
     let status = write_report(alloc, &store, report, output);
     let (disk, macros) = store.close();
     Ok((status, disk, macros))

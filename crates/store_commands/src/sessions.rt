@@ -9,6 +9,7 @@ ghost use Rattle.store_commands.specs.Sessions.{AreSessions, InTurn};
 use crate::session::HALF_LIMIT;
 use crate::terminal::Sessions;
 use disk_trait::Disk;
+use plist_state::Seed;
 use prevalence_store::{Ending, Mode, Store, Unopened};
 use std::alloc::Global;
 use std::io::Write;
@@ -24,6 +25,7 @@ pub fn sessions_on<D, M, I, O>(
     alloc: Global,
     disk: D,
     macros: M,
+    seed: Seed,
     mode: Mode,
     snapshot_every: u64,
     input: &mut I,
@@ -44,7 +46,7 @@ where
         × (output.new ≡ output.old)) }
     ensures given_back { IfErr result (λ e. e.macros ≡ macros) }
 {
-    let mut store = Store::open(alloc, disk, macros, HALF_LIMIT)?;
+    let mut store = Store::open_with_seed(alloc, disk, macros, HALF_LIMIT, seed)?;
     let ending = serve_in_turn(&mut store, mode, snapshot_every, input, output);
     let (disk, macros) = store.close();
     Ok((ending, disk, macros))

@@ -9,6 +9,7 @@ use crate::report::write_half;
 use crate::session::HALF_LIMIT;
 use crate::status::Status;
 use disk_trait::Disk;
+use plist_state::Seed;
 use prevalence_store::{Outcome, Store, Unopened};
 use std::alloc::Global;
 use std::io::Write;
@@ -24,6 +25,7 @@ pub fn snapshot_on<D, M, O>(
     alloc: Global,
     disk: D,
     macros: M,
+    seed: Seed,
     output: &mut O,
 ) -> Result<(Status, D, M), Unopened<D, M>>
 where
@@ -40,7 +42,7 @@ where
         × (output.new ≡ output.old)) }
     ensures given_back { IfErr result (λ e. e.macros ≡ macros) }
 {
-    let mut store = Store::open(alloc, disk, macros, HALF_LIMIT)?;
+    let mut store = Store::open_with_seed(alloc, disk, macros, HALF_LIMIT, seed)?;
     let outcome = store.snapshot();
     let status = write_outcome(&store, &outcome, output);
     let (disk, macros) = store.close();
