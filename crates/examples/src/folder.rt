@@ -11,6 +11,9 @@ use user_macros::{Macros, NoFunctions};
 /// How many bytes each of the two files of the store may have.
 const HALF_LIMIT: u64 = 1 << 20;
 
+/// One more than the number that the store has, or 1.
+const COUNT: &[u8] = b"(IF (GET 'N 'VALUE) (INCF (GET 'N 'VALUE)) (SETF (GET 'N 'VALUE) 1))";
+
 /// Why there is no number.
 #[derive(Debug, Drop, Error)]
 pub enum StoreError {
@@ -37,7 +40,7 @@ pub fn next_number<R: Files<File = File> + AllocGlobal>(
         Ok(store) => store,
         Err(unopened) => return Err(StoreError::Refused(unopened.number)),
     };
-    let outcome = store.execute(Mode::Current, b"(INCF (GET 'NUMBER 'VALUE 0))");
+    let outcome = store.execute(Mode::Current, COUNT);
     let _closed = store.close();
     match outcome {
         Outcome::Accepted(Datum::Integer(number)) => Ok(number),
