@@ -2,7 +2,7 @@
 --     cut_itself      at the lengths of now nothing goes
 --     cut_cut      what goes first does not matter
 --     cut_package, cut_symbol, cut_import, cut_external, cut_use      what was added later goes
---     up_to_itself, up_to_all, up_to_package ..      that lengths are at most those of now
+--     up_to_itself, up_to_package ..      that lengths are at most those of now
 use Rattle.std.proofs.Common.{◌≡◌, ◌≤◌, ℕ, Bool, true, false, cond, [], ◌∷◌, ◌++◌, length, take, refl, arith}
 use Rattle.std.specs.Prelude.{bytes_eq}
 use Rattle.std.specs.List.{list_any}
@@ -41,16 +41,6 @@ up_to_itself n = record {
   imports = omega arith;
   externals = omega arith;
   uses = omega arith;
-}
-
-pub up_to_all : (n m o : Sizes) → AreUpTo n m → AreUpTo m o → AreUpTo n o
-up_to_all n m o less more = record {
-  names = omega (arith, less.names, more.names);
-  packages = omega (arith, less.packages, more.packages);
-  symbols = omega (arith, less.symbols, more.symbols);
-  imports = omega (arith, less.imports, more.imports);
-  externals = omega (arith, less.externals, more.externals);
-  uses = omega (arith, less.uses, more.uses);
 }
 
 module _ (n : Sizes) (k : Kept) (less : AreUpTo n (sizes_of k)) where

@@ -88,7 +88,7 @@ named ns n distinct = by (list_any (bytes_eq n) ns) refl
 module _ (k : Kept) (good : IsGood k) where
   -- the name of an imported symbol, where a symbol is added
   imported_in : (i : ℕ) → i < length k.imports → get_or k.imported i 0 < length k.symbols
-  imported_in i within = all_at (λ s. s < length k.symbols) k.imported i 0 good.within.imported (omega (arith, within, good.as_many))
+  imported_in i within = all_at (λ s. s < length k.symbols) k.imported good.within.imported i 0 (omega (arith, within, good.as_many))
 
   pub good_package : (n : Name) → position (bytes_eq n) k.packages ≡ None → IsGood (with_package k n)
   good_package n none =
@@ -161,7 +161,7 @@ module _ (k : Kept) (good : IsGood k) where
   pub good_import : (p s : ℕ) → p < length k.packages → s < length k.symbols → position (pair_eq (p, (pair_at k.symbols s).1)) k.imports ≡ None → IsGood (with_import k p s)
   good_import p s inside there none =
       let at : (((pair_at k.symbols s).0 < length k.packages) × ((pair_at k.symbols s).1 < length k.names)) =
-      all_at (λ (q : ℕ × ℕ). (q.0 < length k.packages) × (q.1 < length k.names)) k.symbols s (0, 0) good.within.symbols there in
+      all_at (λ (q : ℕ × ℕ). (q.0 < length k.packages) × (q.1 < length k.names)) k.symbols good.within.symbols s (0, 0) there in
       record {
         distinct = record {
           names = good.distinct.names;

@@ -1,7 +1,6 @@
 -- Places in lists: the first that passes a test, in a list that is read, and in one that grows.
 --     position-map, distinct-map      of what is read of each thing of a list
---     none_any, any_none      that nothing passes, by the place and by the test
---     position_at      the place where a thing is
+--     none_any, any_none, any_some      that nothing passes, or something does, by the place and by the test
 --     all_at, all_push, all_weaker      what holds of each thing of a list
 --     copied      copies of vectors
 use Rattle.std.proofs.Common.{◌≡◌, ◌+◌, ◌<◌, ◌≤◌, ℕ, zero, suc, Bool, true, false, cond, not, ◌||◌, nat_lt, List, [], ◌∷◌, ◌++◌, map, length, get_or, position, None, Some, is_some, refl, sym, ap, ◌∙◌, true≢false, arith}
@@ -9,15 +8,18 @@ use Rattle.std.specs.Global.{Vec}
 use Rattle.std.specs.Vec.{vec_len}
 use Rattle.std.specs.List.{position_or_len, list_any, IsDistinct, AllByRecursion, AllZip, each_same}
 use Rattle.std.proofs.lemmas.List.{length-map}
-use Rattle.std.proofs.lemmas.List.Sums.{fails_before_first}
 
 module _ {X Y : Type 0} (f : X → Y) where
-  position_or_len-map : (p : Y → Bool) (xs : List X) → position_or_len p (map f xs) ≡ position_or_len (λ x. p (f x)) xs
+  pub position_or_len-map : (p : Y → Bool) (xs : List X) → position_or_len p (map f xs) ≡ position_or_len (λ x. p (f x)) xs
   position_or_len-map p [] = refl
   position_or_len-map p (x ∷ xs) = ap (λ n. cond (not (p (f x))) (1 + n) 0) (position_or_len-map p xs)
 
   pub position-map : (p : Y → Bool) (xs : List X) → position p (map f xs) ≡ position (λ x. p (f x)) xs
   position-map p xs = λ i. cond (nat_lt (position_or_len-map p xs i) (length-map xs f i)) (Some (position_or_len-map p xs i)) None
+
+  pub any-map : (p : Y → Bool) (xs : List X) → list_any p (map f xs) ≡ list_any (λ x. p (f x)) xs
+  any-map p [] = refl
+  any-map p (x ∷ xs) = ap (λ b. p (f x) || b) (any-map p xs)
 
   apart-map : (e : Y → Y → Bool) (x : X) (xs : List X) → AllByRecursion (λ y. e (f x) (f y) ≡ false) xs → AllByRecursion (λ y. e (f x) y ≡ false) (map f xs)
   apart-map e x [] h = h
@@ -79,14 +81,11 @@ module _ {X : Type 0} (p : X → Bool) where
       let so : nat_lt (position_or_len p xs) (length xs) ≡ true = grind arith in
       ap (λ b. cond b (Some (position_or_len p xs)) None) so
 
-  pub none_at : (xs : List X) (k : ℕ) (d : X) → position p xs ≡ None → k < length xs → p (get_or xs k d) ≡ false
-  none_at xs k d none within = let h : length xs ≤ position_or_len p xs = none_within xs none in fails_before_first p xs k d (omega (arith, h, within))
-
 module _ {X : Type 0} (P : X → Type 0) where
-  pub all_at : (xs : List X) (i : ℕ) (d : X) → AllByRecursion P xs → i < length xs → P (get_or xs i d)
-  all_at [] i d all within = absurd (omega (arith, within))
-  all_at (x ∷ xs) zero d all within = all.0
-  all_at (x ∷ xs) (suc i) d all within = all_at xs i d all.1 (omega (arith, within))
+  pub all_at : (xs : List X) → AllByRecursion P xs → (i : ℕ) (d : X) → i < length xs → P (get_or xs i d)
+  all_at [] all i d within = absurd (omega (arith, within))
+  all_at (x ∷ xs) all zero d within = all.0
+  all_at (x ∷ xs) all (suc i) d within = all_at xs all.1 i d (omega (arith, within))
 
   pub all_push : (xs : List X) (y : X) → AllByRecursion P xs → P y → AllByRecursion P (xs ++ y ∷ [])
   all_push [] y all one = (one, tt)

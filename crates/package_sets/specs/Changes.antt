@@ -3,7 +3,7 @@ use Rattle.std.specs.Prelude.{ℕ, ◌++◌, List, [], ◌∷◌, position, byte
 use Rattle.std.specs.List.{list_any, position_or_len}
 use Rattle.package_sets.specs.Kept.{Kept, Name, pair_at, pair_eq}
 
--- the names with n, which is added where it is not there
+-- the names with n, which is added if it is not there
 abbrev pub with_name : List Name → Name → List Name
 with_name ns n = if list_any (bytes_eq n) ns then ns else ns ++ n ∷ []
 
@@ -11,7 +11,7 @@ with_name ns n = if list_any (bytes_eq n) ns then ns else ns ++ n ∷ []
 abbrev pub number_in : List Name → Name → ℕ
 number_in ns n = position_or_len (bytes_eq n) ns
 
--- the number of the symbol of the home h with the name n, where there is one
+-- the number of the symbol of the home h with the name n, if there is one
 abbrev pub symbol_named : Kept → ℕ → Name → Option ℕ
 symbol_named k h n =
     option_and_then (λ i. position (pair_eq (h, i)) k.symbols) (position (bytes_eq n) k.names)

@@ -11,7 +11,7 @@ pair_of p = (p.first, p.second)
 abbrev pub pairs_of : Inside → List (ℕ × ℕ)
 pairs_of a = map pair_of a.set.keys
 
--- the group of f, which is empty where there is none
+-- the group of f, which is empty if there is none
 abbrev pub group_at : List (Vec ℕ) → ℕ → List ℕ
 group_at groups f = get_or (map (λ g. g.items) groups) f []
 

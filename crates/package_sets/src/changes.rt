@@ -53,7 +53,7 @@ impl PackageSets {
         Ok(())
     }
 
-    /// Makes a symbol external in a package, where it is not.
+    /// Makes a symbol external in a package in which it is not external yet.
     pub fn show(&mut self, owner: u32, symbol: u32) -> Result<(), AllocError>
         requires owner { owner < length self.old.packages }
         requires symbol { symbol < length self.old.symbols }

@@ -95,7 +95,7 @@ impl Names {
         Ok(())
     }
 
-    /// The number of a name, which is added where it is not there. After a failure nothing has changed.
+    /// The number of a name, which is added if it is not there. After a failure nothing has changed.
     pub fn intern(&mut self, alloc: Global, name: &[u8]) -> Result<u32, AllocError>
         ensures ok { OnOk result (self.new ≡ with_name self.old name.now) }
         ensures number { IfOk result (λ n. n ≡ number_in self.old name.now) }

@@ -18,7 +18,7 @@ impl Hash for Pair {
 
     ghost respects_eq = { Prim.search (hashing, rules) };
 
-    // One word, where two writes of a number each would take it apart.
+    // One word: two writes of a number each would take it apart.
     #[inline(always)]
     fn hash<H: Hasher>(&self, state: &mut H) {
         state.write_u64(self.first as u64 * 0x1_0000_0000 + self.second as u64);

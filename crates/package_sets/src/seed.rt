@@ -30,7 +30,7 @@ impl Seed {
     /// A seed that nobody can know.
     ///
     /// # Errors
-    /// What the source answers where it has no random bytes.
+    /// What the source answers if it has no random bytes.
     pub fn draw(source: &impl RandomSource) -> io::Result<Seed> {
         let mut bytes = [0; 16];
         source.fill_bytes(&mut bytes)?;

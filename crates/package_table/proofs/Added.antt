@@ -16,7 +16,7 @@ use Rattle.package_table.specs.Numbers.{Numbered, with_numbered, with_use as wit
 use Rattle.package_table.specs.Meaning.{map_by, number_in, is_shown_in, present_in, package_in, numbers_in, table_of, all_numbers_of, numbered_of}
 use Rattle.package_table.proofs.Names.{same_some, none_some}
 use Rattle.package_table.proofs.Mapped.{position_push, named, got_at, same, put, more, more_put, none_by}
-use Rattle.package_table.proofs.Meant.{IsKnown, known, unknown, same_pair, other_pair, all_at, pair_there, entry_put}
+use Rattle.package_table.proofs.Meant.{IsKnown, known, unknown, same_pair, other_pair, pair_there, entry_put, home_fits}
 
 -- a list of pairs with one more: at another pair it has what it had
 pub other_push : (ps : List (ℕ × ℕ)) (a b : ℕ × ℕ) → pair_eq a b ≡ false → position (pair_eq a) (ps ++ b ∷ []) ≡ position (pair_eq a) ps
@@ -51,9 +51,6 @@ seen_alike k good q m f g alike =
 
 -- ---- a name
 module _ (k : Kept) (good : IsGood k) (N : Name) (new : position (bytes_eq N) k.names ≡ None) where
-  abbrev named_k : Kept
-  named_k = record k { names = k.names ++ N ∷ [] }
-
   pub no_number : (p : ℕ) → number_in k p (length k.names) ≡ None
   no_number p = unknown k good p (length k.names) (λ i is. (let less : length k.names < length k.names = is.name in absurd (omega (arith, less))))
 
@@ -221,11 +218,8 @@ module _ (k : Kept) (good : IsGood k) (P : Name) (new : position (bytes_eq P) k.
   count : ℕ
   count = length k.packages
 
-  home_fits : (x : ℕ) → x < length k.symbols → (pair_at k.symbols x).0 < length k.packages
-  home_fits x less = (all_at (λ (s : ℕ × ℕ). (s.0 < length k.packages) × (s.1 < length k.names)) k.symbols good.within.symbols x (0, 0) less).0
-
   home_stays : (p x : ℕ) → x < length k.symbols → present_in (with_package k P) p x ≡ present_in k p x
-  home_stays p x less = ap (λ n. record { home = n; external = is_shown_in k p x }) (get_or_append_left k.packages (P ∷ []) [] (pair_at k.symbols x).0 (home_fits x less))
+  home_stays p x less = ap (λ n. record { home = n; external = is_shown_in k p x }) (get_or_append_left k.packages (P ∷ []) [] (pair_at k.symbols x).0 (home_fits k good x less))
 
   abbrev used : ℕ → ℕ → Option (Unit {0})
   used p q = option_map (λ _. tt) (position (pair_eq (p, q)) k.uses)

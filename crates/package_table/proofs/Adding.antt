@@ -10,16 +10,18 @@ use Rattle.std.proofs.lemmas.List.{get_or_append_left, length_push, take-append-
 use Rattle.std.specs.Option.{option_or}
 use Rattle.std.specs.List.{list_any, position_or_len, IsDistinct}
 use Rattle.package_sets.specs.declared.sizes.Sizes.{Sizes}
-use Rattle.package_sets.specs.Kept.{Kept, cut, import_of, name_at, pair_at, pair_eq, sizes_of}
+use Rattle.package_sets.specs.Kept.{Kept, cut, import_of, name_at, pair_at, pair_eq, sizes_of, AreUpTo}
 use Rattle.package_sets.specs.Good.{IsGood}
 use Rattle.package_sets.specs.Changes.{with_external, with_import, with_name, with_package, with_symbol, with_use, symbol_named, number_in as name_number}
 use Rattle.package_table.specs.Table.{Name, Present, common_lisp, keyword, is_locked}
 use Rattle.package_table.specs.Numbers.{Numbered, with_numbered}
 use Rattle.package_table.specs.Meaning.{number_in, is_shown_in, present_in, home_in, numbered_of}
-use Rattle.package_table.specs.Adds.{IsPlaced, Adds, IsAtMost}
+use Rattle.package_table.specs.Adds.{IsPlaced, Adds}
+use Rattle.package_sets.proofs.Cut.{cut_itself, up_to_itself, cut_package, cut_symbol, cut_import, cut_external, cut_use, up_to_package, up_to_symbol, up_to_import, up_to_external, up_to_use}
+use Rattle.package_sets.proofs.Places.{any_some, any_none, none_is_length, none_any}
 use Rattle.package_table.proofs.Names.{same_some, none_some}
 use Rattle.package_table.proofs.Frames.{equal_names, equal_itself}
-use Rattle.package_table.proofs.Mapped.{position_push, named, none_any, distinct_push}
+use Rattle.package_table.proofs.Mapped.{position_push, named, distinct_push}
 use Rattle.package_table.proofs.Meant.{known, one_pair, same_pair, other_pair, pair_there}
 use Rattle.package_table.proofs.Added.{name_added, symbol_added, import_added, external_added, import_stays_number, no_number, other_push, parts_none, map_none}
 
@@ -29,29 +31,6 @@ stays_push test xs y i is = position_push test xs y ∙ ap (λ o. option_or o (c
 
 longer : {X : Type 0} (xs : List X) (y : X) (n : ℕ) → n ≤ length xs → n ≤ length (xs ++ y ∷ [])
 longer xs y n less = let size = length_push xs y in omega (arith, less, size)
-
--- the place of a test that passes somewhere, or nowhere
-pub any_position : {X : Type 0} (test : X → Bool) (xs : List X) → list_any test xs ≡ true → position test xs ≡ Some (position_or_len test xs)
-any_position test xs some =
-    elim (nat_lt (position_or_len test xs) (length xs)) as (λ b. nat_lt (position_or_len test xs) (length xs) ≡ b → cond b (Some (position_or_len test xs)) None ≡ Some (position_or_len test xs)) [
-      | true ↦ λ _. refl
-      | false ↦ λ past. absurd (false≢true (sym (none_any test xs (ap (λ b. cond b (Some (position_or_len test xs)) None) past)) ∙ some))
-    ] refl
-
-none_length : {X : Type 0} (test : X → Bool) (xs : List X) → list_any test xs ≡ false → position_or_len test xs ≡ length xs
-none_length test [] none = refl
-none_length test (x ∷ xs) none =
-    elim (test x) as (λ b. (b || list_any test xs) ≡ false → cond (not b) (1 + position_or_len test xs) 0 ≡ suc (length xs)) [
-      | true ↦ λ some. absurd (false≢true (sym some))
-      | false ↦ λ rest. ap (λ n. 1 + n) (none_length test xs rest) ∙ one-add (length xs)
-    ] none
-
-pub none_position : {X : Type 0} (test : X → Bool) (xs : List X) → list_any test xs ≡ false → position test xs ≡ None
-none_position test xs none =
-    (λ i. cond (nat_lt (none_length test xs none i) (length xs)) (Some (none_length test xs none i)) None) ∙ ap (λ b. cond b (Some (length xs)) None) (itself (length xs))
-  where
-    itself : (n : ℕ) → nat_lt n n ≡ false
-    itself n = grind arith
 
 -- ---- each thing that is added
 pub adds_same : (k : Kept) → IsGood k → Adds k k
@@ -65,24 +44,9 @@ adds_same k good = record {
   cuts = λ n _. refl;
 }
 
--- the lists cut to their lengths
-pub cut_all : (k : Kept) → IsGood k → cut (sizes_of k) k ≡ k
-cut_all k good = λ i. record {
-  names = take_all (length k.names) k.names (omega arith) i;
-  packages = take_all (length k.packages) k.packages (omega arith) i;
-  symbols = take_all (length k.symbols) k.symbols (omega arith) i;
-  imports = take_all (length k.imports) k.imports (omega arith) i;
-  imported = take_all (length k.imports) k.imported (let many = good.as_many in omega (arith, many)) i;
-  externals = take_all (length k.externals) k.externals (omega arith) i;
-  uses = take_all (length k.uses) k.uses (omega arith) i;
-}
-
-pub at_most_all : (k : Kept) → IsAtMost (sizes_of k) k
-at_most_all k = record { names = omega arith; packages = omega arith; symbols = omega arith; imports = omega arith; externals = omega arith; uses = omega arith }
-
 -- what was there before is had again
 pub cut_back : (k u : Kept) → IsGood k → Adds k u → cut (sizes_of k) u ≡ k
-cut_back k u good adds = adds.cuts (sizes_of k) (at_most_all k) ∙ cut_all k good
+cut_back k u good adds = adds.cuts (sizes_of k) (up_to_itself (sizes_of k)) ∙ cut_itself k good.as_many
 
 pub adds_both : (k u v : Kept) → Adds k u → Adds u v → Adds k v
 adds_both k u v one two = record {
@@ -107,8 +71,8 @@ package_adds k P good = record {
     shown = placed.shown;
     apart = placed.apart;
   };
-  fits = λ n fits. record { names = fits.names; packages = longer k.packages P n.packages fits.packages; symbols = fits.symbols; imports = fits.imports; externals = fits.externals; uses = fits.uses };
-  cuts = λ n fits i. record (cut n k) { packages = take-append-le n.packages k.packages (P ∷ []) fits.packages i };
+  fits = λ n fits. up_to_package n k fits P;
+  cuts = λ n fits. cut_package n k fits P;
 }
 
 -- a package and a name are these or others
@@ -149,26 +113,22 @@ module _ (k : Kept) (good : IsGood k) (p : ℕ) (N : Name) (none : symbol_named 
     pub unused : number_in k p (name_number k.names N) ≡ None
     pub kept : (M : Name) (m : ℕ) → position (bytes_eq M) k.names ≡ Some m → position (bytes_eq M) ns ≡ Some m
     pub meaning : numbered_of (record k { names = ns }) ≡ numbered_of k
-    pub fits : (n : ℕ) → n ≤ length k.names → n ≤ length ns
-    pub cut_same : (n : ℕ) → n ≤ length k.names → take n ns ≡ take n k.names
 
   pub name_of : IsNameOf (with_name k.names N)
   name_of =
       elim (list_any (bytes_eq N) k.names) as (λ b. list_any (bytes_eq N) k.names ≡ b → IsNameOf (cond b k.names (k.names ++ N ∷ []))) [
         | true ↦ λ some.
-            let there = any_position (bytes_eq N) k.names some in
-            record { distinct = good.distinct.names; there = there; unused = no_import (name_number k.names N) there; kept = λ M m is. is; meaning = refl; fits = λ n fits. fits; cut_same = λ n _. refl }
+            let there = any_some (bytes_eq N) k.names some in
+            record { distinct = good.distinct.names; there = there; unused = no_import (name_number k.names N) there; kept = λ M m is. is; meaning = refl }
         | false ↦ λ absent.
-            let new = none_position (bytes_eq N) k.names absent in
-            let last = none_length (bytes_eq N) k.names absent in
+            let new = any_none (bytes_eq N) k.names absent in
+            let last = none_is_length (bytes_eq N) k.names absent in
             record {
               distinct = distinct_push k.names good.distinct.names N new;
               there = position_push (bytes_eq N) k.names N ∙ (λ i. option_or (new i) (cond (equal_itself N i) (Some (length k.names)) None)) ∙ ap Some (sym last);
               unused = ap (number_in k p) last ∙ no_number k good N new p;
               kept = λ M m is. stays_push (bytes_eq M) k.names N m is;
               meaning = name_added k good N new;
-              fits = longer k.names N;
-              cut_same = λ n less. take-append-le n k.names (N ∷ []) less;
             }
       ] refl
 
@@ -183,8 +143,8 @@ module _ (k : Kept) (good : IsGood k) (p : ℕ) (N : Name) (none : symbol_named 
     numbers_stay_kept : (q m i : ℕ) → number_in k q m ≡ Some i → number_in (record k { names = ns; symbols = k.symbols ++ (p, name_number k.names N) ∷ [] }) q m ≡ Some i
     numbers_stay_kept = numbers_kept k then p (name_number k.names N) is.unused numbers_same
 
-    pub adds_symbol : IsGood (record k { names = ns; symbols = k.symbols ++ (p, name_number k.names N) ∷ [] }) → Adds k (record k { names = ns; symbols = k.symbols ++ (p, name_number k.names N) ∷ [] })
-    adds_symbol good_then = record {
+    pub adds_symbol : IsGood then → ((n : Sizes) → AreUpTo n (sizes_of k) → AreUpTo n (sizes_of then)) → ((n : Sizes) → AreUpTo n (sizes_of k) → cut n then ≡ cut n k) → Adds k then
+    adds_symbol good_then fits cuts = record {
       good = good_then;
       packages = λ Q q seen. seen;
       names = is.kept;
@@ -202,12 +162,12 @@ module _ (k : Kept) (good : IsGood k) (p : ℕ) (N : Name) (none : symbol_named 
               | inr apart ↦ other_push k.symbols (q, m) (p, name_number k.names N) (other_pair (q, m) (p, name_number k.names N) apart) ∙ placed.apart q m x at
             ];
       };
-      fits = λ n fits. record { names = is.fits n.names fits.names; packages = fits.packages; symbols = longer k.symbols (p, name_number k.names N) n.symbols fits.symbols; imports = fits.imports; externals = fits.externals; uses = fits.uses };
-      cuts = λ n fits i. record (cut n k) { names = is.cut_same n.names fits.names i; symbols = take-append-le n.symbols k.symbols ((p, name_number k.names N) ∷ []) fits.symbols i };
+      fits = fits;
+      cuts = cuts;
     }
 
   pub symbol_adds : IsGood (with_symbol k p N) → Adds k (with_symbol k p N)
-  symbol_adds = adds_symbol (with_name k.names N) name_of
+  symbol_adds good_then = adds_symbol (with_name k.names N) name_of good_then (λ n fits. up_to_symbol n k fits p N) (λ n fits. cut_symbol n k fits p N)
 
   pub symbol_made : (P : Name) → position (bytes_eq P) k.packages ≡ Some p → numbered_of (with_symbol k p N) ≡ with_numbered (numbered_of k) P N (record { home = P; external = nat_lt p 2 }) (length k.symbols)
   symbol_made P here =
@@ -235,11 +195,8 @@ module _ (k : Kept) (good : IsGood k) (p i : ℕ) (none : number_in k p (pair_at
             | inr apart ↦ placed.apart q m x (sym (other_push k.imports (q, m) (p, (pair_at k.symbols i).1) (other_pair (q, m) (p, (pair_at k.symbols i).1) apart)) ∙ at)
           ];
     };
-    fits = λ n fits. record { names = fits.names; packages = fits.packages; symbols = fits.symbols; imports = longer k.imports (p, (pair_at k.symbols i).1) n.imports fits.imports; externals = fits.externals; uses = fits.uses };
-    cuts = λ n fits t. record (cut n k) {
-      imports = take-append-le n.imports k.imports ((p, (pair_at k.symbols i).1) ∷ []) fits.imports t;
-      imported = take-append-le n.imports k.imported (i ∷ []) (let less = fits.imports in let many = good.as_many in omega (arith, less, many)) t;
-    };
+    fits = λ n fits. up_to_import n k fits p i;
+    cuts = λ n fits. cut_import n k fits good.as_many p i;
   }
 
 -- ---- what becomes external
@@ -262,8 +219,8 @@ module _ (k : Kept) (good : IsGood k) (p j i : ℕ) (is : number_in k p j ≡ So
           ] refl;
       apart = placed.apart;
     };
-    fits = λ n fits. record { names = fits.names; packages = fits.packages; symbols = fits.symbols; imports = fits.imports; externals = longer k.externals (p, i) n.externals fits.externals; uses = fits.uses };
-    cuts = λ n fits t. record (cut n k) { externals = take-append-le n.externals k.externals ((p, i) ∷ []) fits.externals t };
+    fits = λ n fits. up_to_external n k fits p i;
+    cuts = λ n fits. cut_external n k fits p i;
   }
 
 pub use_adds : (k : Kept) (p q : ℕ) → IsGood (with_use k p q) → Adds k (with_use k p q)
@@ -273,8 +230,8 @@ use_adds k p q good = record {
   names = λ M m seen. seen;
   numbers = λ q m x seen. seen;
   placed = λ placed. record { lisp_first = placed.lisp_first; keyword_second = placed.keyword_second; shown = placed.shown; apart = placed.apart };
-  fits = λ n fits. record { names = fits.names; packages = fits.packages; symbols = fits.symbols; imports = fits.imports; externals = fits.externals; uses = longer k.uses (p, q) n.uses fits.uses };
-  cuts = λ n fits t. record (cut n k) { uses = take-append-le n.uses k.uses ((p, q) ∷ []) fits.uses t };
+  fits = λ n fits. up_to_use n k fits p q;
+  cuts = λ n fits. cut_use n k fits p q;
 }
 
 -- ---- the packages that are locked

@@ -14,18 +14,19 @@ use Rattle.std.specs.FinMap as finite
 use Rattle.package_sets.specs.Kept.{Kept, name_at, pair_at, pair_eq}
 use Rattle.package_sets.specs.Good.{IsGood}
 use Rattle.package_sets.specs.Changes.{symbol_named, with_symbol}
+use Rattle.package_sets.proofs.Places.{all_at}
 use Rattle.package_table.specs.Table.{Name, name_cmp, Present, Package, Table, entry_at, empty_package, package_of_names, common_lisp, common_lisp_user, keyword, common_lisp_package, keyword_package, keyword_names, common_lisp_names, user_package, initial, with_entry, with_used}
 use Rattle.package_table.specs.Numbers.{Numbered}
 use Rattle.package_table.specs.Meaning.{map_by, number_in, present_in, package_in, numbered_of}
 use Rattle.package_table.specs.Adds.{HasNothing, IsPlaced}
 use Rattle.package_table.proofs.Names.{name_total, name_exact, tied_same, none_some}
-use Rattle.package_table.proofs.Frames.{get_inserted, get_kept, equal_names, equal_itself}
+use Rattle.package_table.proofs.Frames.{get_inserted, get_kept, equal_names, equal_itself, unequal_names}
 use Rattle.package_table.proofs.First.{symbol_first, at_home}
 use Rattle.package_table.proofs.Growing.{again}
 use Rattle.package_table.proofs.Starting.{alike_pushed}
 use Rattle.package_table.proofs.Listed.{any_ties}
 use Rattle.package_table.proofs.Mapped.{none_by, position_cons}
-use Rattle.package_table.proofs.Meant.{all_at, package_at, package_none}
+use Rattle.package_table.proofs.Meant.{package_at, package_none}
 use Rattle.package_table.proofs.FoundBy.{position_of}
 use Rattle.package_table.proofs.Puts.{insert_twice, unnamed, interned_so}
 
@@ -96,9 +97,6 @@ before_it (n ∷ ns) distinct (suc i) less =
         ] refl
 
 -- ---- the three packages
-pub name_differs : (a b : Name) → bytes_eq a b ≡ false → a ≢ b
-name_differs a b differs = λ (same : a ≡ b). false≢true (sym differs ∙ ap (bytes_eq a) (sym same) ∙ equal_itself a)
-
 module _ (k : Kept) (good : IsGood k) (packages : k.packages ≡ common_lisp ∷ keyword ∷ common_lisp_user ∷ []) (nothing : HasNothing k) where
   at : (P : Name) (p : ℕ) → position (bytes_eq P) (common_lisp ∷ keyword ∷ common_lisp_user ∷ []) ≡ Some p → finite.get (numbered_of k).0 P ≡ Some empty_package
   at P p is = package_at k good P p (ap (position (bytes_eq P)) packages ∙ is) ∙ ap Some (empty_in k nothing p)
@@ -133,13 +131,13 @@ module _ (k : Kept) (good : IsGood k) (packages : k.packages ≡ common_lisp ∷
   with_names = finite.insert (finite.insert (numbered_of k).0 common_lisp (package_of_names common_lisp common_lisp_names)) keyword (package_of_names keyword keyword_names)
 
   pub still_empty : finite.get (finite.insert (numbered_of k).0 common_lisp (package_of_names common_lisp common_lisp_names)) keyword ≡ Some empty_package
-  still_empty = get_kept (numbered_of k).0 common_lisp (package_of_names common_lisp common_lisp_names) keyword (name_differs keyword common_lisp refl) ∙ keyword_empty
+  still_empty = get_kept (numbered_of k).0 common_lisp (package_of_names common_lisp common_lisp_names) keyword (unequal_names keyword common_lisp refl) ∙ keyword_empty
 
   user_still : finite.get with_names common_lisp_user ≡ Some empty_package
   unfolding with_names
   user_still =
-      get_kept (finite.insert (numbered_of k).0 common_lisp (package_of_names common_lisp common_lisp_names)) keyword (package_of_names keyword keyword_names) common_lisp_user (name_differs common_lisp_user keyword refl)
-      ∙ get_kept (numbered_of k).0 common_lisp (package_of_names common_lisp common_lisp_names) common_lisp_user (name_differs common_lisp_user common_lisp refl)
+      get_kept (finite.insert (numbered_of k).0 common_lisp (package_of_names common_lisp common_lisp_names)) keyword (package_of_names keyword keyword_names) common_lisp_user (unequal_names common_lisp_user keyword refl)
+      ∙ get_kept (numbered_of k).0 common_lisp (package_of_names common_lisp common_lisp_names) common_lisp_user (unequal_names common_lisp_user common_lisp refl)
       ∙ user_empty
 
   in_turn : (q : Name) (a b c : Bool) (o : Option Package) (x y z : Package) → (a ≡ true → b ≡ true → ⊥) → (a ≡ true → c ≡ true → ⊥) → (a ≡ false → b ≡ false → c ≡ false → o ≡ None)
@@ -152,7 +150,7 @@ module _ (k : Kept) (good : IsGood k) (packages : k.packages ≡ common_lisp ∷
   in_turn q false false false o x y z ab ac none = none refl refl refl
 
   apart_by : (q a b : Name) → bytes_eq a b ≡ false → eq_by_cmp name_cmp q a ≡ true → eq_by_cmp name_cmp q b ≡ true → ⊥
-  apart_by q a b differs one two = name_differs a b differs (sym (tied_same q a one) ∙ tied_same q b two)
+  apart_by q a b differs one two = unequal_names a b differs (sym (tied_same q a one) ∙ tied_same q b two)
 
   pub first_table : with_used (finite.insert (finite.insert (numbered_of k).0 common_lisp (package_of_names common_lisp common_lisp_names)) keyword (package_of_names keyword keyword_names)) common_lisp_user common_lisp ≡ initial
   unfolding with_names initial common_lisp_package keyword_package user_package

@@ -4,24 +4,24 @@
 --     external_no_package, external_no_name, entry_some, symbol_by, number_by_symbol, used_is      look-ups
 --     number_by_position, symbol_given, symbol_missing      the symbol of a number
 --     numbers_always, keeps_of      each symbol has one number, which it keeps
-use Rattle.std.proofs.Common.{◌≡◌, ◌<◌, ◌≤◌, ◌↔◌, ℕ, true, false, cond, is_some, length, position, Option, None, Some, option_map, option_and_then, bytes_eq, refl, sym, ap, subst, ◌∙◌, arith}
+use Rattle.std.proofs.Common.{◌≡◌, ◌≢◌, ◌<◌, ◌≤◌, ◌↔◌, ℕ, Bool, true, false, cond, nat_eq, is_some, List, [], length, position, Option, None, Some, option_map, option_and_then, bytes_eq, refl, sym, ap, subst, ◌∙◌, arith}
 use Rattle.std.proofs.lemmas.Bool.{false≢true}
 use Rattle.std.specs.Option.{option_or, option_map_or}
 use Rattle.std.specs.FinMap as finite
 use Rattle.package_sets.specs.Kept.{Kept, import_of, name_at, pair_at, pair_eq}
 use Rattle.package_sets.specs.Good.{IsGood}
 use Rattle.package_table.specs.Table.{Name, Present, Package, entry_at, IsPackage, IsPresent}
-use Rattle.package_table.specs.Lookup.{external_home, is_present, is_symbol, is_used}
-use Rattle.package_table.specs.Numbers.{number_at, number_of}
+use Rattle.package_table.specs.Lookup.{external_home, is_external, is_present, is_symbol, is_used}
+use Rattle.package_table.specs.Numbers.{Numbered, number_at, number_of}
 use Rattle.package_table.specs.Numbering.{IsNumbered, Keeps}
-use Rattle.package_table.specs.Meaning.{number_in, present_in, package_in, home_in, symbol_name, numbered_of}
+use Rattle.package_table.specs.Meaning.{number_in, is_shown_in, present_in, package_in, home_in, symbol_name, numbered_of}
 use Rattle.package_table.specs.Adds.{Adds}
 use Rattle.package_table.proofs.Names.{same_some, none_some}
 use Rattle.package_sets.proofs.Growing.{pair_equiv}
 use Rattle.package_table.proofs.Frames.{equal_names, equal_itself}
 use Rattle.package_table.proofs.Numbered.{number_some, number_there as number_is_there, number_apart}
 use Rattle.package_table.proofs.Mapped.{named, count_by}
-use Rattle.package_table.proofs.Meant.{known, same_pair, pair_there, all_at, package_at, package_none, entry_there, number_there, uses_there, uses_none}
+use Rattle.package_table.proofs.Meant.{known, unknown, same_pair, pair_there, package_at, package_none, entry_there, number_there, uses_there, uses_none, home_fits, name_fits}
 use Rattle.package_table.proofs.FoundBy.{nothing_by, position_in, position_of, position_some}
 
 module _ (k : Kept) (good : IsGood k) where
@@ -100,15 +100,9 @@ module _ (k : Kept) (good : IsGood k) where
             | Some i ↦ λ is home. record { p = p; j = j; i = i; owner = here; name = there; number = is; home = same_some (home_in k i) h home }
           ] refl (sym (ap (option_map (λ (e : Present). e.home)) (entry_there k good P p here N j there)) ∙ present)
 
-  -- the home of a symbol is kept, and it is the only package of its name
-  pub home_fits : (i : ℕ) → i < length k.symbols → (pair_at k.symbols i).0 < length k.packages
-  home_fits i less = (all_at (λ (s : ℕ × ℕ). (s.0 < length k.packages) × (s.1 < length k.names)) k.symbols good.within.symbols i (0, 0) less).0
-
-  pub name_fits : (i : ℕ) → i < length k.symbols → (pair_at k.symbols i).1 < length k.names
-  name_fits i less = (all_at (λ (s : ℕ × ℕ). (s.0 < length k.packages) × (s.1 < length k.names)) k.symbols good.within.symbols i (0, 0) less).1
-
+  -- the home of a symbol is the only package of its name
   pub home_position : (i : ℕ) → i < length k.symbols → position (bytes_eq (home_in k i)) k.packages ≡ Some (pair_at k.symbols i).0
-  home_position i less = position_of k.packages good.distinct.packages (pair_at k.symbols i).0 (home_fits i less)
+  home_position i less = position_of k.packages good.distinct.packages (pair_at k.symbols i).0 (home_fits k good i less)
 
   module _ (P N : Name) (p j : ℕ) (here : position (bytes_eq P) k.packages ≡ Some p) (there : position (bytes_eq N) k.names ≡ Some j) where
     pub present_by_number : is_some (number_in k p j) ≡ is_present (numbered_of k).0 P N
@@ -165,7 +159,7 @@ module _ (k : Kept) (good : IsGood k) where
   pub number_by_position : (i : ℕ) → i < length k.symbols → number_of (numbered_of k) (home_in k i) (symbol_name k i) ≡ Some i
   number_by_position i less =
       let s : ℕ × ℕ = pair_at k.symbols i in
-      sym (number_of_symbol (home_in k i) (symbol_name k i) s.0 s.1 (home_position i less) (position_of k.names good.distinct.names s.1 (name_fits i less)))
+      sym (number_of_symbol (home_in k i) (symbol_name k i) s.0 s.1 (home_position i less) (position_of k.names good.distinct.names s.1 (name_fits k good i less)))
       ∙ position_in pair_equiv k.symbols (0, 0) good.distinct.symbols i less
 
   -- ---- uses

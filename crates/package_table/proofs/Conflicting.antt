@@ -8,6 +8,7 @@ use Rattle.std.proofs.lemmas.Bool.{false≢true}
 use Rattle.std.specs.Option.{option_map_or}
 use Rattle.std.specs.List.{list_any}
 use Rattle.std.specs.FinMap as finite
+use Rattle.std.specs.Cmp.{both_ways}
 use Rattle.package_sets.specs.Kept.{Kept, name_at, pair_at, pair_eq}
 use Rattle.package_sets.specs.Good.{IsGood}
 use Rattle.package_table.specs.Table.{Name, Present, Package, Uses, Finds, IsPackage, IsPresent, IsExternal, IsSound}
@@ -26,7 +27,7 @@ use Rattle.package_table.proofs.Meant.{known, package_at, package_none, entry_th
 use Rattle.package_table.proofs.FoundBy.{position_of, found_by, finds_number, nothing_by, shows as shows_number, is_shown_number, number_by, shown_by, present_by, all_any}
 use Rattle.package_table.proofs.ByName.{present_number}
 use Rattle.package_table.proofs.Listed.{any_in, any_of}
-use Rattle.package_table.proofs.ListedBy.{Shows, shown_listed, same_truth}
+use Rattle.package_table.proofs.ListedBy.{Shows, shown_listed}
 
 module _ (k : Kept) (good : IsGood k) where
   -- ---- packages
@@ -177,4 +178,4 @@ module _ (k : Kept) (good : IsGood k) where
             other_home_of i (Some o) is home = (λ t. not (bytes_eq (same_some (home_in k o) g is t) (home t))) ∙ ap not (not_equal g h differ)
 
     pub shown_by_numbers : list_any (λ x. finds_another k p (shown_symbol k q x)) (shown_positions k q) ≡ finds_other_than_shown (numbered_of k).0 P Q
-    shown_by_numbers = same_truth _ _ from_numbers to_numbers
+    shown_by_numbers = both_ways _ _ from_numbers to_numbers

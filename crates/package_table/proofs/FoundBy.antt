@@ -1,7 +1,7 @@
 -- What a package finds by a name, by numbers.
 --     position_in, position_of, position_some      the position of a thing or a name that is kept, and that there is one
---     external_by, found_by, found_no_package, found_no_name      the look-ups by names
-use Rattle.std.proofs.Common.{◌≡◌, ◌+◌, ◌<◌, ◌≤◌, ℕ, zero, suc, Bool, true, false, cond, ◌||◌, nat_eq, is_some, List, [], ◌∷◌, ◌++◌, length, get_or, drop, position, Option, None, Some, option_map, option_and_then, bytes_eq, refl, sym, ap, subst, ◌∙◌, inl, inr, append_assoc, arith}
+--     external_by, found_by, found_no_name      the look-ups by names
+use Rattle.std.proofs.Common.{◌≡◌, ◌≢◌, ◌⊎◌, ◌+◌, ◌<◌, ◌≤◌, ℕ, zero, suc, Bool, true, false, cond, ◌&&◌, ◌||◌, nat_eq, is_some, List, [], ◌∷◌, ◌++◌, length, get_or, drop, position, Option, None, Some, option_map, option_and_then, bytes_eq, refl, sym, ap, subst, ◌∙◌, inl, inr, append_assoc, arith}
 use Rattle.std.proofs.lemmas.Bool.{false≢true, or_right}
 use Rattle.std.proofs.lemmas.Bool.Decides.{Decides-eqb}
 use Rattle.std.proofs.lemmas.List.{get_or_at, length_push, length-append, drop_more, drop_all}
@@ -13,13 +13,15 @@ use Rattle.std.specs.Cmp.Lexicographic.{nat_list_eq_equiv}
 use Rattle.std.specs.FinMap as finite
 use Rattle.package_sets.specs.Kept.{Kept, name_at, pair_at, pair_eq, positions_from, positions_of}
 use Rattle.package_sets.specs.Good.{IsGood}
-use Rattle.package_table.specs.Table.{Name, Present, Package, Table, entry_at, IsPresent, IsExternal, Uses, Finds, FindsNone, IsJoined}
+use Rattle.package_sets.proofs.Places.{all_at, none_any}
+use Rattle.package_table.specs.Table.{Name, name_cmp, Present, Package, Table, entry_at, IsPackage, IsPresent, IsExternal, Uses, Finds, FindsNone, IsJoined}
 use Rattle.package_table.specs.Lookup.{found, external_home}
 use Rattle.package_table.specs.Meaning.{number_in, is_shown_in, present_in, package_in, home_in, shown_number, first_shown, found_number, numbered_of}
 use Rattle.package_table.proofs.Names.{same_some, none_some}
+use Rattle.package_table.proofs.Frames.{equal_names, equal_itself}
 use Rattle.package_table.proofs.Found.{found_is, finds_none}
-use Rattle.package_table.proofs.Mapped.{position_cons, none_any}
-use Rattle.package_table.proofs.Meant.{one_pair, same_pair, all_at, package_at, package_none, entry_there, entry_none, uses_there, uses_none}
+use Rattle.package_table.proofs.Mapped.{position_cons, named}
+use Rattle.package_table.proofs.Meant.{one_pair, same_pair, package_at, package_none, entry_there, entry_none, uses_there, uses_none, known}
 
 -- ---- positions
 pub any_at : {X : Type 0} (test : X → Bool) (xs : List X) (i : ℕ) (d : X) → i < length xs → test (get_or xs i d) ≡ true → list_any test xs ≡ true
@@ -275,13 +277,6 @@ module _ (k : Kept) (good : IsGood k) where
           | Some i ↦ λ is. sym (found_is (numbered_of k).0 N joined P (home_in k i) (finds_number i is))
           | None ↦ λ none. sym (finds_none (numbered_of k).0 N P (finds_nothing none))
         ] refl
-
-  pub found_no_package : (P N : Name) → position (bytes_eq P) k.packages ≡ None → found (numbered_of k).0 P N ≡ None
-  found_no_package P N none = finds_none (numbered_of k).0 N P (nothing none)
-    where
-      nothing : position (bytes_eq P) k.packages ≡ None → FindsNone (numbered_of k).0 P N
-      nothing none h (inl present) = none_some h (sym (ap (λ o. option_map (λ (e : Present). e.home) (option_and_then (λ (h : Package). finite.get h.symbols N) o)) (package_none k good P none)) ∙ present)
-      nothing none h (inr used) = none_some true (sym (ap (option_map (λ (h : Package). finite.contains_key h.uses used.0)) (package_none k good P none)) ∙ used.1)
 
   pub found_no_name : (P N : Name) → position (bytes_eq N) k.names ≡ None → found (numbered_of k).0 P N ≡ None
   found_no_name P N none = finds_none (numbered_of k).0 N P (nothing none)

@@ -22,6 +22,7 @@ use Rattle.std.proofs.lemmas.List.Sorted.{list_any-IsPermutation, IsPermutation-
 use Rattle.std.proofs.lemmas.Map.Keys.{IsDistinct-IsPermutation}
 use Rattle.std.proofs.lemmas.Map.Lookups.{btree_set_from_contains}
 use Rattle.package_table.specs.Table.{Name, name_cmp}
+use Rattle.package_table.proofs.Counting.{first_of_both, second_of_both}
 use Rattle.package_table.proofs.Names.{name_total, name_exact, tied_same, same_tied}
 
 -- ---- a sorted list
@@ -51,14 +52,6 @@ sorted_is collected result want distinct moved sorted rises same =
     (λ q. sym (list_any-IsPermutation (eq_by_cmp name_cmp q) collected result moved) ∙ any_ties q collected ∙ same q ∙ sym (any_ties q want)) name_exact
 
 -- ---- the names of a finite map
-first_of : (a b : Bool) → T (a && b) → T a
-first_of true b h = tt
-first_of false b h = absurd h
-
-second_of : (a b : Bool) → T (a && b) → T b
-second_of true b h = h
-second_of false b h = absurd h
-
 is_less : (r : Ordering) → T (is_lt r) → r ≡ Less
 is_less Less h = refl
 is_less Equal h = absurd h
@@ -71,9 +64,9 @@ module _ {X : Type 0} (test : Name × X → Bool) where
   below_kept : (x : Name) (es : List (Name × X)) → T (below_all name_cmp x es) → AllByRecursion (λ y. name_cmp x y ≡ Less) (map (λ e. e.0) (filter test es))
   below_kept x [] h = tt
   below_kept x (e ∷ es) h =
-      let rest = below_kept x es (second_of _ _ h) in
+      let rest = below_kept x es (second_of_both _ _ h) in
       elim (test e) as (λ b. AllByRecursion (λ y. name_cmp x y ≡ Less) (map (λ e. e.0) (cond b (e ∷ filter test es) (filter test es)))) [
-        | true ↦ (is_less (name_cmp x e.0) (first_of _ _ h), rest)
+        | true ↦ (is_less (name_cmp x e.0) (first_of_both _ _ h), rest)
         | false ↦ rest
       ]
 
@@ -81,18 +74,18 @@ module _ {X : Type 0} (test : Name × X → Bool) where
   unfolding IsStrictlySortedBy
   rise [] h = tt
   rise (e ∷ es) h =
-      let rest = rise es (second_of _ _ h) in
+      let rest = rise es (second_of_both _ _ h) in
       elim (test e) as (λ b. IsStrictlySortedBy name_cmp (map (λ e. e.0) (cond b (e ∷ filter test es) (filter test es)))) [
-        | true ↦ (below_kept e.0 es (first_of _ _ h), rest)
+        | true ↦ (below_kept e.0 es (first_of_both _ _ h), rest)
         | false ↦ rest
       ]
 
   none_below : (x : Name) (es : List (Name × X)) → T (below_all name_cmp x es) → list_any (bytes_eq x) (map (λ e. e.0) (filter test es)) ≡ false
   none_below x [] h = refl
   none_below x (e ∷ es) h =
-      let rest = none_below x es (second_of _ _ h) in
+      let rest = none_below x es (second_of_both _ _ h) in
       elim (test e) as (λ b. list_any (bytes_eq x) (map (λ e. e.0) (cond b (e ∷ filter test es) (filter test es))) ≡ false) [
-        | true ↦ ap (λ b. b || list_any (bytes_eq x) (map (λ e. e.0) (filter test es))) (texts_ties x e.0 ∙ ap is_eq (is_less (name_cmp x e.0) (first_of _ _ h))) ∙ rest
+        | true ↦ ap (λ b. b || list_any (bytes_eq x) (map (λ e. e.0) (filter test es))) (texts_ties x e.0 ∙ ap is_eq (is_less (name_cmp x e.0) (first_of_both _ _ h))) ∙ rest
         | false ↦ rest
       ]
 
@@ -102,9 +95,9 @@ module _ {X : Type 0} (test : Name × X → Bool) where
       elim (bytes_eq q e.0) as (λ b. bytes_eq q e.0 ≡ b → list_any (bytes_eq q) (map (λ e. e.0) (cond (test e) (e ∷ filter test es) (filter test es))) ≡ option_map_or (λ x. test (q, x)) (cond b (Some e.1) (find name_cmp q es)) false) [
         | true ↦ λ same.
             let one : q ≡ e.0 = tied_same q e.0 (sym (texts_ties q e.0) ∙ same) in
-            here same (subst (λ (n : Name). list_any (bytes_eq n) (map (λ e. e.0) (filter test es)) ≡ false) (sym one) (none_below e.0 es (first_of _ _ h))) (test e)
+            here same (subst (λ (n : Name). list_any (bytes_eq n) (map (λ e. e.0) (filter test es)) ≡ false) (sym one) (none_below e.0 es (first_of_both _ _ h))) (test e)
             ∙ ap (λ (n : Name). test (n, e.1)) (sym one)
-        | false ↦ λ differs. skipped differs (test e) ∙ among q es (second_of _ _ h)
+        | false ↦ λ differs. skipped differs (test e) ∙ among q es (second_of_both _ _ h)
       ] refl
       ∙ ap (λ b. option_map_or (λ x. test (q, x)) (cond b (Some e.1) (find name_cmp q es)) false) (texts_ties q e.0)
     where

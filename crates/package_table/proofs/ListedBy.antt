@@ -9,8 +9,10 @@ use Rattle.std.specs.Option.{option_or, option_map_or}
 use Rattle.std.specs.List.{IsDistinct, AllByRecursion, list_any}
 use Rattle.std.specs.FinMap as finite
 use Rattle.std.specs.FinMap.Entries.{find, is_sorted}
+use Rattle.std.specs.Cmp.{both_ways}
 use Rattle.package_sets.specs.Kept.{Kept, import_of, name_at, pair_at, pair_eq, positions_from, positions_of}
 use Rattle.package_sets.specs.Good.{IsGood}
+use Rattle.package_sets.proofs.Places.{any_some, any_none, all_at}
 use Rattle.package_table.specs.Table.{Name, name_cmp, Present, Package, Table, common_lisp, common_lisp_names, common_lisp_package, keyword, is_locked, entry_at, IsPresent, IsSound}
 use Rattle.package_table.specs.Readers.{present, own_names, external_names, imports, used_names}
 use Rattle.package_table.specs.Meaning.{number_in, is_shown_in, present_in, package_in, home_in, symbol_name, shown_positions, shown_symbol, numbered_of}
@@ -21,16 +23,11 @@ use Rattle.package_table.proofs.First.{symbol_first, at_home}
 use Rattle.package_table.proofs.Asked.{found_past}
 use Rattle.package_table.proofs.Counting.{first_of_both, second_of_both}
 use Rattle.package_table.proofs.Mapped.{position_cons, named, got_at, got_none}
-use Rattle.package_table.proofs.Meant.{known, one_pair, same_pair, pair_there, all_at, package_at, entry_there, uses_there, uses_none}
+use Rattle.package_table.proofs.Meant.{known, one_pair, same_pair, pair_there, package_at, entry_there, uses_there, uses_none}
 use Rattle.package_table.proofs.FoundBy.{position_of, position_some, positions_read, positions_have, all_any, any_at}
 use Rattle.package_table.proofs.Adding.{locked_number}
-use Rattle.package_table.proofs.ByName.{home_fits, name_fits, home_position, other_home, own_home}
+use Rattle.package_table.proofs.ByName.{home_position, other_home, own_home}
 use Rattle.package_table.proofs.Listed.{sorted_is, kept_rise, kept_among, keys_rise, keys_among, any_in, any_of, any_mapped, distinct_mapped}
-
-pub same_truth : (a b : Bool) → (a ≡ true → b ≡ true) → (b ≡ true → a ≡ true) → a ≡ b
-same_truth true b f g = sym (f refl)
-same_truth false true f g = g refl
-same_truth false false f g = refl
 
 -- ---- places of pairs
 pub position_exact : (ps : List (ℕ × ℕ)) → IsDistinct pair_eq ps → (i : ℕ) → i < length ps → position (pair_eq (pair_at ps i)) ps ≡ Some i
@@ -192,26 +189,27 @@ module _ (k : Kept) (good : IsGood k) (placed : IsPlaced k) (sound : IsSound (nu
     listed result moved sorted =
         sorted_is (map (λ x. symbol_name k (g x)) xs) result (map (λ s. s.0) (filter (λ s. test s.1) (finite.entries (package_in k q).symbols)))
         (distinct_mapped P (λ x. symbol_name k (g x)) injective xs distinct all) moved sorted (kept_rise (λ s. test s.1) (package_in k q).symbols)
-        (λ n. any_mapped n (λ x. symbol_name k (g x)) xs ∙ same_truth _ _ (listed_from n) (listed_to n) ∙ sym (kept_among (λ s. test s.1) (package_in k q).symbols n))
+        (λ n. any_mapped n (λ x. symbol_name k (g x)) xs ∙ both_ways _ _ (listed_from n) (listed_to n) ∙ sym (kept_among (λ s. test s.1) (package_in k q).symbols n))
         ∙ sym (ap (λ o. map (λ s. s.0) (filter (λ (s : Name × Present). test s.1) (option_map_or (λ (h : Package). finite.entries h.symbols) o []))) (package_at k good Q q here))
 
-  abbrev AreOf : List (ℕ × ℕ) → ℕ → Type 0
-  AreOf ps x = (x < length ps) × ((pair_at ps x).0 ≡ q)
+  -- x is the place of one of the pairs that begin with q
+  abbrev IsOf : List (ℕ × ℕ) → ℕ → Type 0
+  IsOf ps x = (x < length ps) × ((pair_at ps x).0 ≡ q)
 
-  all_of : (ps : List (ℕ × ℕ)) → AllByRecursion (λ x. (x < length ps) × ((pair_at ps x).0 ≡ q)) (positions_of q ps)
+  all_of : (ps : List (ℕ × ℕ)) → AllByRecursion (IsOf ps) (positions_of q ps)
   all_of ps = positions_read q ps [] ps 0 refl refl
 
-  own_number : (x : ℕ) → (x < length k.symbols) × ((pair_at k.symbols x).0 ≡ q) → position (pair_eq (q, (pair_at k.symbols x).1)) k.symbols ≡ Some x
-  own_number x at = ap (λ (p : ℕ). position (pair_eq (p, (pair_at k.symbols x).1)) k.symbols) (sym at.1) ∙ position_exact k.symbols good.distinct.symbols x at.0
+  place : (ps : List (ℕ × ℕ)) → IsDistinct pair_eq ps → (x : ℕ) → IsOf ps x → position (pair_eq (q, (pair_at ps x).1)) ps ≡ Some x
+  place ps distinct x at = ap (λ (p : ℕ). position (pair_eq (p, (pair_at ps x).1)) ps) (sym at.1) ∙ position_exact ps distinct x at.0
 
-  number_own : (x : ℕ) → (x < length k.symbols) × ((pair_at k.symbols x).0 ≡ q) → number_in k q (pair_at k.symbols x).1 ≡ Some x
-  number_own x at = ap (λ o. option_or o (import_of k q (pair_at k.symbols x).1)) (own_number x at)
+  number_own : (x : ℕ) → IsOf k.symbols x → number_in k q (pair_at k.symbols x).1 ≡ Some x
+  number_own x at = ap (λ o. option_or o (import_of k q (pair_at k.symbols x).1)) (place k.symbols good.distinct.symbols x at)
 
-  home_own : (x : ℕ) → (x < length k.symbols) × ((pair_at k.symbols x).0 ≡ q) → home_in k x ≡ Q
+  home_own : (x : ℕ) → IsOf k.symbols x → home_in k x ≡ Q
   home_own x at = ap (name_at k.packages) at.1 ∙ sym (named Q k.packages q here).1
 
   pub own_listed : (result : List Name) → IsPermutation (map (symbol_name k) (positions_of q k.symbols)) result → IsSorted name_cmp result → result ≡ own_names (numbered_of k).0 Q
-  own_listed = listed (λ e. bytes_eq e.home Q) (λ x. x) (positions_of q k.symbols) (positions_apart q 0 k.symbols) (λ x. (x < length k.symbols) × ((pair_at k.symbols x).0 ≡ q)) (all_of k.symbols)
+  own_listed = listed (λ e. bytes_eq e.home Q) (λ x. x) (positions_of q k.symbols) (positions_apart q 0 k.symbols) (IsOf k.symbols) (all_of k.symbols)
       (λ x at. (number_own x at, ap (λ n. bytes_eq n Q) (home_own x at) ∙ equal_itself Q))
       (λ j i is same. (i, among_positions k.symbols good.distinct.symbols q j i (at_home_is j i is (equal_names (home_in k i) Q same)) (length k.packages) (length k.names) good.within.symbols, refl))
       (λ x y _ _ same. same)
@@ -229,9 +227,6 @@ module _ (k : Kept) (good : IsGood k) (placed : IsPlaced k) (sound : IsSound (nu
   shown_own : nat_lt q 2 ≡ true → (x : ℕ) → is_shown_in k q x ≡ true
   shown_own low x = ap (λ b. b || is_some (position (pair_eq (q, x)) k.externals)) low
 
-  external_pair : (x : ℕ) → (x < length k.externals) × ((pair_at k.externals x).0 ≡ q) → position (pair_eq (q, (pair_at k.externals x).1)) k.externals ≡ Some x
-  external_pair x at = ap (λ (p : ℕ). position (pair_eq (p, (pair_at k.externals x).1)) k.externals) (sym at.1) ∙ position_exact k.externals good.distinct.externals x at.0
-
   pub record Shows (xs : List ℕ) (g : ℕ → ℕ) : Type 0 where
     pub inside : (x : ℕ) → list_any (nat_eq x) xs ≡ true → (number_in k q (pair_at k.symbols (g x)).1 ≡ Some (g x)) × (is_shown_in k q (g x) ≡ true)
     pub covers : (j i : ℕ) → number_in k q j ≡ Some i → is_shown_in k q i ≡ true → (x : ℕ) × (list_any (nat_eq x) xs ≡ true) × (g x ≡ i)
@@ -242,16 +237,16 @@ module _ (k : Kept) (good : IsGood k) (placed : IsPlaced k) (sound : IsSound (nu
       let covered : (j i : ℕ) → number_in k q j ≡ Some i → is_shown_in k q i ≡ true → (x : ℕ) × (list_any (nat_eq x) (positions_of q k.symbols) ≡ true) × (x ≡ i) =
       λ j i is _. (i, among_positions k.symbols good.distinct.symbols q j i (locked_own low j i is) (length k.packages) (length k.names) good.within.symbols, refl) in
       record {
-        inside = λ x among. let at = all_any (λ x. (x < length k.symbols) × ((pair_at k.symbols x).0 ≡ q)) (positions_of q k.symbols) (all_of k.symbols) x among in (number_own x at, shown_own low x);
+        inside = λ x among. let at = all_any (IsOf k.symbols) (positions_of q k.symbols) (all_of k.symbols) x among in (number_own x at, shown_own low x);
         covers = covered;
-        sorted = listed (λ e. e.external) (λ x. x) (positions_of q k.symbols) (positions_apart q 0 k.symbols) (λ x. (x < length k.symbols) × ((pair_at k.symbols x).0 ≡ q)) (all_of k.symbols)
+        sorted = listed (λ e. e.external) (λ x. x) (positions_of q k.symbols) (positions_apart q 0 k.symbols) (IsOf k.symbols) (all_of k.symbols)
             (λ x at. (number_own x at, shown_own low x)) covered (λ x y _ _ same. same);
       }
 
   shows_external : nat_lt q 2 ≡ false → Shows (positions_of q k.externals) (λ x. (pair_at k.externals x).1)
   shows_external high =
-      let inside_one : (x : ℕ) → (x < length k.externals) × ((pair_at k.externals x).0 ≡ q) → (number_in k q (pair_at k.symbols (pair_at k.externals x).1).1 ≡ Some (pair_at k.externals x).1) × (is_shown_in k q (pair_at k.externals x).1 ≡ true) =
-      λ x at. (placed.shown q (pair_at k.externals x).1 x (external_pair x at), or_right (nat_lt q 2) (is_some (position (pair_eq (q, (pair_at k.externals x).1)) k.externals)) (ap is_some (external_pair x at))) in
+      let inside_one : (x : ℕ) → IsOf k.externals x → (number_in k q (pair_at k.symbols (pair_at k.externals x).1).1 ≡ Some (pair_at k.externals x).1) × (is_shown_in k q (pair_at k.externals x).1 ≡ true) =
+      λ x at. (placed.shown q (pair_at k.externals x).1 x (place k.externals good.distinct.externals x at), or_right (nat_lt q 2) (is_some (position (pair_eq (q, (pair_at k.externals x).1)) k.externals)) (ap is_some (place k.externals good.distinct.externals x at))) in
       let covered : (j i : ℕ) → number_in k q j ≡ Some i → is_shown_in k q i ≡ true → (x : ℕ) × (list_any (nat_eq x) (positions_of q k.externals) ≡ true) × ((pair_at k.externals x).1 ≡ i) =
       λ j i is shown. (
       let at = external_at i (sym (ap (λ b. b || is_some (position (pair_eq (q, i)) k.externals)) high) ∙ shown) in
@@ -259,11 +254,11 @@ module _ (k : Kept) (good : IsGood k) (placed : IsPlaced k) (sound : IsSound (nu
       (at.0, among_positions k.externals good.distinct.externals q i at.0 at.1 (length k.packages) (length k.symbols) good.within.externals, ap (λ (p : ℕ × ℕ). p.1) (sym pair.1))
       ) in
       record {
-        inside = λ x among. inside_one x (all_any (λ x. (x < length k.externals) × ((pair_at k.externals x).0 ≡ q)) (positions_of q k.externals) (all_of k.externals) x among);
+        inside = λ x among. inside_one x (all_any (IsOf k.externals) (positions_of q k.externals) (all_of k.externals) x among);
         covers = covered;
-        sorted = listed (λ e. e.external) (λ x. (pair_at k.externals x).1) (positions_of q k.externals) (positions_apart q 0 k.externals) (λ x. (x < length k.externals) × ((pair_at k.externals x).0 ≡ q)) (all_of k.externals)
+        sorted = listed (λ e. e.external) (λ x. (pair_at k.externals x).1) (positions_of q k.externals) (positions_apart q 0 k.externals) (IsOf k.externals) (all_of k.externals)
             inside_one covered
-            (λ x y at to same. same_some x y (sym (external_pair x at) ∙ ap (λ (i : ℕ). position (pair_eq (q, i)) k.externals) same ∙ external_pair y to));
+            (λ x y at to same. same_some x y (sym (place k.externals good.distinct.externals x at) ∙ ap (λ (i : ℕ). position (pair_eq (q, i)) k.externals) same ∙ place k.externals good.distinct.externals y to));
       }
     where
       external_at : (i : ℕ) → (false || is_some (position (pair_eq (q, i)) k.externals)) ≡ true → (x : ℕ) × (position (pair_eq (q, i)) k.externals ≡ Some x)
@@ -281,19 +276,16 @@ module _ (k : Kept) (good : IsGood k) (placed : IsPlaced k) (sound : IsSound (nu
       ] refl
 
   -- ---- what is imported
-  import_pair : (x : ℕ) → (x < length k.imports) × ((pair_at k.imports x).0 ≡ q) → position (pair_eq (q, (pair_at k.imports x).1)) k.imports ≡ Some x
-  import_pair x at = ap (λ (p : ℕ). position (pair_eq (p, (pair_at k.imports x).1)) k.imports) (sym at.1) ∙ position_exact k.imports good.distinct.imports x at.0
+  import_number : (x : ℕ) → IsOf k.imports x → number_in k q (pair_at k.imports x).1 ≡ Some (get_or k.imported x 0)
+  import_number x at = (λ t. option_or (placed.apart q (pair_at k.imports x).1 x (place k.imports good.distinct.imports x at) t) (option_map (λ i. get_or k.imported i 0) (place k.imports good.distinct.imports x at t)))
 
-  import_number : (x : ℕ) → (x < length k.imports) × ((pair_at k.imports x).0 ≡ q) → number_in k q (pair_at k.imports x).1 ≡ Some (get_or k.imported x 0)
-  import_number x at = (λ t. option_or (placed.apart q (pair_at k.imports x).1 x (import_pair x at) t) (option_map (λ i. get_or k.imported i 0) (import_pair x at t)))
-
-  import_inside : (x : ℕ) → (x < length k.imports) × ((pair_at k.imports x).0 ≡ q) → (number_in k q (pair_at k.symbols (get_or k.imported x 0)).1 ≡ Some (get_or k.imported x 0)) × (not (bytes_eq (home_in k (get_or k.imported x 0)) Q) ≡ true)
+  import_inside : (x : ℕ) → IsOf k.imports x → (number_in k q (pair_at k.symbols (get_or k.imported x 0)).1 ≡ Some (get_or k.imported x 0)) × (not (bytes_eq (home_in k (get_or k.imported x 0)) Q) ≡ true)
   import_inside x at =
       let number = import_number x at in
       let known_at = known k good q (pair_at k.imports x).1 (get_or k.imported x 0) number in
       let there = position_of k.names good.distinct.names (pair_at k.imports x).1 known_at.name in (
         ap (number_in k q) (good.named x at.0) ∙ number,
-        ap not (other_home k good Q (name_at k.names (pair_at k.imports x).1) q (pair_at k.imports x).1 here there (get_or k.imported x 0) (placed.apart q (pair_at k.imports x).1 x (import_pair x at)) number),
+        ap not (other_home k good Q (name_at k.names (pair_at k.imports x).1) q (pair_at k.imports x).1 here there (get_or k.imported x 0) (placed.apart q (pair_at k.imports x).1 x (place k.imports good.distinct.imports x at)) number),
       )
 
   import_covers : (j i : ℕ) → number_in k q j ≡ Some i → not (bytes_eq (home_in k i) Q) ≡ true → (x : ℕ) × (list_any (nat_eq x) (positions_of q k.imports) ≡ true) × (get_or k.imported x 0 ≡ i)
@@ -311,37 +303,34 @@ module _ (k : Kept) (good : IsGood k) (placed : IsPlaced k) (sound : IsSound (nu
 
   pub imported_listed : (result : List Name) → IsPermutation (map (λ x. symbol_name k (get_or k.imported x 0)) (positions_of q k.imports)) result → IsSorted name_cmp result
       → result ≡ map (λ s. s.0) (filter (λ s. not (bytes_eq s.1.home Q)) (present (numbered_of k).0 Q))
-  imported_listed = listed (λ e. not (bytes_eq e.home Q)) (λ x. get_or k.imported x 0) (positions_of q k.imports) (positions_apart q 0 k.imports) (λ x. (x < length k.imports) × ((pair_at k.imports x).0 ≡ q)) (all_of k.imports)
+  imported_listed = listed (λ e. not (bytes_eq e.home Q)) (λ x. get_or k.imported x 0) (positions_of q k.imports) (positions_apart q 0 k.imports) (IsOf k.imports) (all_of k.imports)
       import_inside import_covers
       (λ x y at to same.
       let name : (pair_at k.imports x).1 ≡ (pair_at k.imports y).1 = sym (good.named x at.0) ∙ ap (λ (i : ℕ). (pair_at k.symbols i).1) same ∙ good.named y to.0 in
-      same_some x y (sym (import_pair x at) ∙ ap (λ (j : ℕ). position (pair_eq (q, j)) k.imports) name ∙ import_pair y to))
+      same_some x y (sym (place k.imports good.distinct.imports x at) ∙ ap (λ (j : ℕ). position (pair_eq (q, j)) k.imports) name ∙ place k.imports good.distinct.imports y to))
 
   -- ---- what is used
-  use_pair : (x : ℕ) → (x < length k.uses) × ((pair_at k.uses x).0 ≡ q) → position (pair_eq (q, (pair_at k.uses x).1)) k.uses ≡ Some x
-  use_pair x at = ap (λ (p : ℕ). position (pair_eq (p, (pair_at k.uses x).1)) k.uses) (sym at.1) ∙ position_exact k.uses good.distinct.uses x at.0
-
-  used_position : (x : ℕ) → (x < length k.uses) × ((pair_at k.uses x).0 ≡ q) → position (bytes_eq (name_at k.packages (pair_at k.uses x).1)) k.packages ≡ Some (pair_at k.uses x).1
+  used_position : (x : ℕ) → IsOf k.uses x → position (bytes_eq (name_at k.packages (pair_at k.uses x).1)) k.packages ≡ Some (pair_at k.uses x).1
   used_position x at = position_of k.packages good.distinct.packages (pair_at k.uses x).1 (all_at (λ (u : ℕ × ℕ). (u.0 < length k.packages) × (u.1 < length k.packages)) k.uses good.within.uses x (0, 0) at.0).1
 
   pub used_listed : (result : List Name) → IsPermutation (map (λ x. name_at k.packages (pair_at k.uses x).1) (positions_of q k.uses)) result → IsSorted name_cmp result → result ≡ used_names (numbered_of k).0 Q
   used_listed result moved sorted =
       sorted_is (map (λ x. name_at k.packages (pair_at k.uses x).1) (positions_of q k.uses)) result (finite.keys (package_in k q).uses)
-      (distinct_mapped (λ x. (x < length k.uses) × ((pair_at k.uses x).0 ≡ q)) (λ x. name_at k.packages (pair_at k.uses x).1)
+      (distinct_mapped (IsOf k.uses) (λ x. name_at k.packages (pair_at k.uses x).1)
       (λ x y at to same.
       let one : (pair_at k.uses x).1 ≡ (pair_at k.uses y).1 = same_some (pair_at k.uses x).1 (pair_at k.uses y).1 (sym (used_position x at) ∙ ap (λ n. position (bytes_eq n) k.packages) (equal_names (name_at k.packages (pair_at k.uses x).1) (name_at k.packages (pair_at k.uses y).1) same) ∙ used_position y to) in
-      same_some x y (sym (use_pair x at) ∙ ap (λ (r : ℕ). position (pair_eq (q, r)) k.uses) one ∙ use_pair y to))
+      same_some x y (sym (place k.uses good.distinct.uses x at) ∙ ap (λ (r : ℕ). position (pair_eq (q, r)) k.uses) one ∙ place k.uses good.distinct.uses y to))
       (positions_of q k.uses) (positions_apart q 0 k.uses) (all_of k.uses))
       moved sorted (keys_rise (package_in k q).uses)
-      (λ n. any_mapped n (λ x. name_at k.packages (pair_at k.uses x).1) (positions_of q k.uses) ∙ same_truth _ _ (used_from n) (used_to n) ∙ sym (keys_among (package_in k q).uses n))
+      (λ n. any_mapped n (λ x. name_at k.packages (pair_at k.uses x).1) (positions_of q k.uses) ∙ both_ways _ _ (used_from n) (used_to n) ∙ sym (keys_among (package_in k q).uses n))
       ∙ sym (ap (λ o. option_map_or (λ (h : Package). finite.keys h.uses) o []) (package_at k good Q q here))
     where
       used_from : (n : Name) → list_any (λ x. bytes_eq n (name_at k.packages (pair_at k.uses x).1)) (positions_of q k.uses) ≡ true → finite.contains_key (package_in k q).uses n ≡ true
       used_from n some =
           let at = any_in (λ x. bytes_eq n (name_at k.packages (pair_at k.uses x).1)) (positions_of q k.uses) some in
-          let here_x = all_any (λ x. (x < length k.uses) × ((pair_at k.uses x).0 ≡ q)) (positions_of q k.uses) (all_of k.uses) at.0 at.1 in
+          let here_x = all_any (IsOf k.uses) (positions_of q k.uses) (all_of k.uses) at.0 at.1 in
           let there : position (bytes_eq n) k.packages ≡ Some (pair_at k.uses at.0).1 = ap (λ m. position (bytes_eq m) k.packages) (equal_names n (name_at k.packages (pair_at k.uses at.0).1) at.2) ∙ used_position at.0 here_x in
-          ap is_some (uses_there k good Q q (pair_at k.uses at.0).1 n there ∙ ap (option_map (λ _. tt {0})) (use_pair at.0 here_x))
+          ap is_some (uses_there k good Q q (pair_at k.uses at.0).1 n there ∙ ap (option_map (λ _. tt {0})) (place k.uses good.distinct.uses at.0 here_x))
 
       used_to : (n : Name) → finite.contains_key (package_in k q).uses n ≡ true → list_any (λ x. bytes_eq n (name_at k.packages (pair_at k.uses x).1)) (positions_of q k.uses) ≡ true
       used_to n some =
@@ -367,8 +356,8 @@ packages_listed k good result moved sorted =
     position_any : (n : Name) → list_any (bytes_eq n) k.packages ≡ is_some (position (bytes_eq n) k.packages)
     position_any n =
         elim (list_any (bytes_eq n) k.packages) as (λ b. list_any (bytes_eq n) k.packages ≡ b → b ≡ is_some (position (bytes_eq n) k.packages)) [
-          | true ↦ λ some. sym (ap is_some (Rattle.package_table.proofs.Adding.any_position (bytes_eq n) k.packages some))
-          | false ↦ λ none. sym (ap is_some (Rattle.package_table.proofs.Adding.none_position (bytes_eq n) k.packages none))
+          | true ↦ λ some. sym (ap is_some (any_some (bytes_eq n) k.packages some))
+          | false ↦ λ none. sym (ap is_some (any_none (bytes_eq n) k.packages none))
         ] refl
 
 -- ---- imported names with their homes

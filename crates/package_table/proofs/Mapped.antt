@@ -10,6 +10,7 @@ use Rattle.std.proofs.lemmas.List.Quantifiers.{position-Some}
 use Rattle.std.proofs.lemmas.Map.Keys.{IsDistinct-push}
 use Rattle.std.specs.FinMap as finite
 use Rattle.std.specs.FinMap.Entries.{find}
+use Rattle.package_sets.proofs.Places.{none_any}
 use Rattle.package_table.specs.Table.{Name, name_cmp}
 use Rattle.package_table.specs.Meaning.{entries_by, map_by}
 use Rattle.package_table.proofs.Names.{name_total, name_exact}
@@ -52,18 +53,6 @@ module _ {X : Type 0} (p : X → Bool) where
       later false b (Some i) = refl
       later false true None = ap Some (one-add (length xs))
       later false false None = refl
-
-  nothing : (o : Option ℕ) → option_map (λ i. 1 + i) o ≡ None → o ≡ None
-  nothing None _ = refl
-  nothing (Some i) wrong = absurd (let no : Some (1 + i) ≡ None = wrong in cc)
-
-  pub none_any : (xs : List X) → position p xs ≡ None → list_any p xs ≡ false
-  none_any [] none = refl
-  none_any (x ∷ xs) none = later (none_any xs) (p x) refl (sym (position_cons x xs) ∙ none)
-    where
-      later : (position p xs ≡ None → list_any p xs ≡ false) → (b : Bool) → p x ≡ b → cond b (Some 0) (option_map (λ i. 1 + i) (position p xs)) ≡ None → list_any p (x ∷ xs) ≡ false
-      later rest true is some = absurd (let wrong : Some 0 ≡ None = some in cc)
-      later rest false is none = ap (λ b. b || list_any p xs) is ∙ rest (nothing (position p xs) none)
 
 -- the name at the position that it was found at
 pub named : (q : Name) (ns : List Name) (i : ℕ) → position (bytes_eq q) ns ≡ Some i → (i < length ns) × (q ≡ get_or ns i [])

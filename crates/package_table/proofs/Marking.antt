@@ -4,59 +4,43 @@
 --     marks_sound      what was kept at each mark is sound, and its symbols are numbered
 use Rattle.std.proofs.Common.{◌≡◌, ◌<◌, ◌≤◌, ℕ, zero, suc, List, [], ◌∷◌, ◌++◌, map, length, take, get_or, Some, All, refl, sym, ap, subst, ◌∙◌, arith}
 use Rattle.std.specs.List.{AllByRecursion, slice_get}
-use Rattle.std.proofs.lemmas.List.{length-take-le, take-take}
+use Rattle.std.proofs.lemmas.List.{length-take-le}
 use Rattle.package_sets.specs.declared.sizes.Sizes.{Sizes}
-use Rattle.package_sets.specs.Kept.{Kept, cut, sizes_of}
+use Rattle.package_sets.specs.Kept.{Kept, cut, sizes_of, AreUpTo}
+use Rattle.package_sets.proofs.Places.{all_at}
 use Rattle.package_table.specs.Table.{symbol_count}
 use Rattle.package_table.specs.Numbers.{Numbered}
 use Rattle.package_table.specs.Numbering.{IsNumbered, IsNumberedSound}
 use Rattle.package_table.specs.Meaning.{numbered_of}
-use Rattle.package_table.specs.Adds.{IsAtMost}
-use Rattle.package_table.specs.Shown.{IsMark, IsState, IsRising, IsUpTo, tables_at}
-use Rattle.package_table.proofs.Meant.{all_at}
-use Rattle.package_table.proofs.Adding.{at_most_all, cut_all}
+use Rattle.package_table.specs.Shown.{IsMark, IsState, IsRising, tables_at}
+use Rattle.package_sets.proofs.Cut.{cut_itself, cut_cut, up_to_itself}
 use Rattle.package_table.proofs.ByName.{numbers_always}
 
 -- ---- a new mark
 mark_now : (k : Kept) → IsState k → IsMark k (sizes_of k)
-mark_now k state = record { fits = at_most_all k; state = subst IsState (sym (cut_all k state.good)) state }
+mark_now k state = record { fits = up_to_itself (sizes_of k); state = subst IsState (sym (cut_itself k state.good.as_many)) state }
 
 pub marked_push : (k : Kept) → IsState k → (ns : List Sizes) → AllByRecursion (IsMark k) ns → AllByRecursion (IsMark k) (ns ++ sizes_of k ∷ [])
 marked_push k state [] marks = (mark_now k state, tt)
 marked_push k state (n ∷ ns) marks = (marks.0, marked_push k state ns marks.1)
 
-up_to_now : (k : Kept) (n : Sizes) → IsMark k n → IsUpTo n (sizes_of k)
-up_to_now k n mark = record { names = mark.fits.names; packages = mark.fits.packages; symbols = mark.fits.symbols; imports = mark.fits.imports; externals = mark.fits.externals; uses = mark.fits.uses }
-
-up_to_push : (m s : Sizes) (ns : List Sizes) → AllByRecursion (IsUpTo m) ns → IsUpTo m s → AllByRecursion (IsUpTo m) (ns ++ s ∷ [])
+up_to_push : (m s : Sizes) (ns : List Sizes) → AllByRecursion (AreUpTo m) ns → AreUpTo m s → AllByRecursion (AreUpTo m) (ns ++ s ∷ [])
 up_to_push m s [] all one = (one, tt)
 up_to_push m s (n ∷ ns) all one = (all.0, up_to_push m s ns all.1 one)
 
 pub rising_push : (k : Kept) (ns : List Sizes) → AllByRecursion (IsMark k) ns → IsRising ns → IsRising (ns ++ sizes_of k ∷ [])
 rising_push k [] marks rising = (tt, tt)
-rising_push k (n ∷ ns) marks rising = (up_to_push n (sizes_of k) ns rising.0 (up_to_now k n marks.0), rising_push k ns marks.1 rising.1)
+rising_push k (n ∷ ns) marks rising = (up_to_push n (sizes_of k) ns rising.0 marks.0.fits, rising_push k ns marks.1 rising.1)
 
 pub tables_push : (k : Kept) → IsState k → (ns : List Sizes) → tables_at (ns ++ sizes_of k ∷ []) k ≡ tables_at ns k ++ numbered_of k ∷ []
-tables_push k state [] = ap (λ (k : Kept). numbered_of k ∷ []) (cut_all k state.good)
+tables_push k state [] = ap (λ (k : Kept). numbered_of k ∷ []) (cut_itself k state.good.as_many)
 tables_push k state (n ∷ ns) = ap (λ ts. numbered_of (cut n k) ∷ ts) (tables_push k state ns)
 
 -- ---- going back
--- a cut of a cut
-cut_twice : (k : Kept) (m n : Sizes) → IsUpTo m n → cut m (cut n k) ≡ cut m k
-cut_twice k m n less = λ i. record {
-  names = take-take m.names n.names k.names less.names i;
-  packages = take-take m.packages n.packages k.packages less.packages i;
-  symbols = take-take m.symbols n.symbols k.symbols less.symbols i;
-  imports = take-take m.imports n.imports k.imports less.imports i;
-  imported = take-take m.imports n.imports k.imported less.imports i;
-  externals = take-take m.externals n.externals k.externals less.externals i;
-  uses = take-take m.uses n.uses k.uses less.uses i;
-}
-
 fits_taken : {X : Type 0} (xs : List X) (m n : ℕ) → m ≤ n → n ≤ length xs → m ≤ length (take n xs)
 fits_taken xs m n less within = let size = length-take-le n xs within in omega (arith, less, size)
 
-mark_cut : (k : Kept) (m n : Sizes) → IsMark k m → IsMark k n → IsUpTo m n → IsMark (cut n k) m
+mark_cut : (k : Kept) (m n : Sizes) → IsMark k m → IsMark k n → AreUpTo m n → IsMark (cut n k) m
 mark_cut k m n mark later less = record {
   fits = record {
     names = fits_taken k.names m.names n.names less.names later.fits.names;
@@ -66,7 +50,7 @@ mark_cut k m n mark later less = record {
     externals = fits_taken k.externals m.externals n.externals less.externals later.fits.externals;
     uses = fits_taken k.uses m.uses n.uses less.uses later.fits.uses;
   };
-  state = subst IsState (sym (cut_twice k m n less)) mark.state;
+  state = subst IsState (sym (cut_cut m n k less)) mark.state;
 }
 
 taken : {X : Type 0} (P : X → Type 0) (xs : List X) (i : ℕ) → AllByRecursion P xs → AllByRecursion P (take i xs)
@@ -88,13 +72,13 @@ back k (m ∷ ns) (suc i) d less marks rising =
     let n : Sizes = get_or ns i d in
     let within : i < length ns = omega (arith, less) in
     let rest = back k ns i d within marks.1 rising.1 in
-    let up_to : IsUpTo m n = all_at (IsUpTo m) ns rising.0 i d within in
+    let up_to : AreUpTo m n = all_at (AreUpTo m) ns rising.0 i d within in
     let later : IsMark k n = all_at (IsMark k) ns marks.1 i d within in
     record {
       state = rest.state;
       marked = (mark_cut k m n marks.0 later up_to, rest.marked);
-      rising = (taken (IsUpTo m) ns i rising.0, rest.rising);
-      past = λ t. numbered_of (cut_twice k m n up_to t) ∷ rest.past t;
+      rising = (taken (AreUpTo m) ns i rising.0, rest.rising);
+      past = λ t. numbered_of (cut_cut m n k up_to t) ∷ rest.past t;
       now = rest.now;
     }
 

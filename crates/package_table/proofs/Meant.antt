@@ -1,31 +1,29 @@
 -- What is kept by numbers, read by names.
---     one_pair, same_pair, all_at      pairs of numbers, and what holds of each in a list
+--     one_pair, same_pair      pairs of numbers
 --     known      what has a number is kept
 --     package_at, package_none, entry_there, number_there      what is at a name
 --     entry_put, named_more, made, used      what single changes make of it
-use Rattle.std.proofs.Common.{◌≡◌, ◌≢◌, ◌⊎◌, ◌<◌, ℕ, zero, suc, Bool, true, false, ◌&&◌, nat_eq, List, [], ◌∷◌, length, get_or, position, Option, None, Some, option_map, option_and_then, bytes_eq, refl, sym, ap, subst, ◌∙◌, inl, inr, arith}
-use Rattle.std.proofs.lemmas.Bool.{false≢true}
+use Rattle.std.proofs.Common.{◌≡◌, ◌≢◌, ◌⊎◌, ◌+◌, ◌<◌, ◌≤◌, ℕ, zero, suc, Bool, true, false, cond, ◌&&◌, ◌||◌, nat_eq, nat_lt, is_some, List, [], ◌∷◌, ◌++◌, length, get_or, position, Option, None, Some, option_map, option_and_then, bytes_eq, refl, sym, ap, subst, ◌∙◌, inl, inr, arith}
+use Rattle.std.proofs.lemmas.Bool.{false≢true, and_parts}
 use Rattle.std.proofs.lemmas.Bool.Decides.{Decides-eqb}
+use Rattle.std.proofs.lemmas.List.{get_or_append_left, get_or_push, length_push}
 use Rattle.std.proofs.lemmas.List.Quantifiers.{position-Some}
 use Rattle.std.specs.Option.{option_or, option_map_or}
 use Rattle.std.specs.List.{IsDistinct, AllByRecursion}
 use Rattle.std.specs.FinMap as finite
-use Rattle.package_sets.specs.Kept.{Kept, import_of, pair_at, pair_eq}
+use Rattle.package_sets.specs.Kept.{Kept, import_of, name_at, pair_at, pair_eq}
 use Rattle.package_sets.specs.Good.{IsGood, AreWithin}
-use Rattle.package_table.specs.Table.{Name, name_cmp, Present, Package, entry_at, with_entry}
-use Rattle.package_table.specs.Numbers.{Numbered, number_at, with_numbers, with_numbered}
-use Rattle.package_table.specs.Meaning.{map_by, number_in, present_in, package_in, numbers_in, table_of, all_numbers_of, numbered_of}
+use Rattle.package_table.specs.Table.{Name, name_cmp, Present, Package, Table, entry_at, with_entry, with_used, with_new_package, empty_package}
+use Rattle.package_table.specs.Numbers.{Numbers, Numbered, number_at, with_numbers, with_numbered, with_use, with_package_made}
+use Rattle.package_table.specs.Meaning.{map_by, number_in, is_shown_in, present_in, package_in, numbers_in, table_of, all_numbers_of, numbered_of}
+use Rattle.package_sets.proofs.Places.{all_at}
 use Rattle.package_table.proofs.Names.{same_some, none_some}
-use Rattle.package_table.proofs.Mapped.{got_at, got_none, same, put}
+use Rattle.package_table.proofs.Mapped.{position_push, named, got, got_at, got_none, same, put, more, more_put, none_by}
 
 -- ---- pairs of numbers
-both : (a b : Bool) → (a && b) ≡ true → (a ≡ true) × (b ≡ true)
-both true b e = (refl, e)
-both false b e = absurd (false≢true e)
-
 pub one_pair : (a b : ℕ × ℕ) → pair_eq a b ≡ true → a ≡ b
 one_pair a b e =
-    let h = both (nat_eq a.0 b.0) (nat_eq a.1 b.1) e in
+    let h = and_parts (nat_eq a.0 b.0) (nat_eq a.1 b.1) e in
     λ i. ((Decides-eqb a.0 b.0).0 h.0 i, (Decides-eqb a.1 b.1).0 h.1 i)
 
 pub same_pair : (a : ℕ × ℕ) → pair_eq a a ≡ true
@@ -37,11 +35,6 @@ other_pair a b differ =
       | true ↦ λ is. absurd (let one = one_pair a b is in elim differ [ inl first ↦ first (ap (λ (p : ℕ × ℕ). p.0) one) | inr second ↦ second (ap (λ (p : ℕ × ℕ). p.1) one) ])
       | false ↦ λ _. refl
     ] refl
-
-pub all_at : {X : Type 0} (P : X → Type 0) (xs : List X) → AllByRecursion P xs → (i : ℕ) (d : X) → i < length xs → P (get_or xs i d)
-all_at P [] all i d less = absurd (omega (arith, less))
-all_at P (x ∷ xs) all zero d less = all.0
-all_at P (x ∷ xs) all (suc i) d less = all_at P xs all.1 i d (omega (arith, less))
 
 -- where a pair is, and that its numbers are within
 pub pair_there : (n m : ℕ) (ps : List (ℕ × ℕ)) → AreWithin n m ps → (a : ℕ × ℕ) (i : ℕ) → position (pair_eq a) ps ≡ Some i → (i < length ps) × (a ≡ pair_at ps i) × (a.0 < n) × (a.1 < m)
@@ -93,6 +86,16 @@ module _ (k : Kept) (good : IsGood k) where
         | Some i ↦ λ is. absurd (none i (known p j i is))
       ] refl
 
+  -- the numbers of a symbol's home and of its name are those of something
+  both_fit : (i : ℕ) → i < length k.symbols → ((pair_at k.symbols i).0 < length k.packages) × ((pair_at k.symbols i).1 < length k.names)
+  both_fit i less = all_at (λ (s : ℕ × ℕ). (s.0 < length k.packages) × (s.1 < length k.names)) k.symbols good.within.symbols i (0, 0) less
+
+  pub home_fits : (i : ℕ) → i < length k.symbols → (pair_at k.symbols i).0 < length k.packages
+  home_fits i less = (both_fit i less).0
+
+  pub name_fits : (i : ℕ) → i < length k.symbols → (pair_at k.symbols i).1 < length k.names
+  name_fits i less = (both_fit i less).1
+
 -- ---- what is at a name
 module _ (k : Kept) (good : IsGood k) (P : Name) where
   pub package_at : (p : ℕ) → position (bytes_eq P) k.packages ≡ Some p → finite.get (numbered_of k).0 P ≡ Some (package_in k p)
@@ -106,10 +109,6 @@ module _ (k : Kept) (good : IsGood k) (P : Name) where
   pub numbers_there : (p : ℕ) → position (bytes_eq P) k.packages ≡ Some p → finite.get (numbered_of k).1 P ≡ Some (numbers_in k p)
   unfolding numbered_of
   numbers_there p is = got_at k.packages good.distinct.packages (λ p. Some (numbers_in k p)) P p is
-
-  pub numbers_none : position (bytes_eq P) k.packages ≡ None → finite.get (numbered_of k).1 P ≡ None
-  unfolding numbered_of
-  numbers_none none = got_none k.packages good.distinct.packages (λ p. Some (numbers_in k p)) P none
 
   module _ (p : ℕ) (here : position (bytes_eq P) k.packages ≡ Some p) (N : Name) where
     pub entry_there : (j : ℕ) → position (bytes_eq N) k.names ≡ Some j → entry_at (numbered_of k).0 P N ≡ option_map (present_in k p) (number_in k p j)

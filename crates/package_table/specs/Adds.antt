@@ -1,7 +1,7 @@
 -- What every call keeps that adds to the kept lists.
-use Rattle.std.specs.Prelude.{◌≡◌, ◌≤◌, ℕ, [], length, position, bytes_eq, Some, None}
+use Rattle.std.specs.Prelude.{◌≡◌, ℕ, [], length, position, bytes_eq, Some, None}
 use Rattle.package_sets.specs.declared.sizes.Sizes.{Sizes}
-use Rattle.package_sets.specs.Kept.{Kept, cut, pair_at, pair_eq}
+use Rattle.package_sets.specs.Kept.{Kept, cut, pair_at, pair_eq, sizes_of, AreUpTo}
 use Rattle.package_sets.specs.Good.{IsGood}
 use Rattle.package_table.specs.Table.{Name, common_lisp, keyword}
 use Rattle.package_table.specs.Meaning.{number_in}
@@ -14,15 +14,6 @@ pub record IsPlaced (k : Kept) : Type 0 where
   pub shown : (p i x : ℕ) → position (pair_eq (p, i)) k.externals ≡ Some x → number_in k p (pair_at k.symbols i).1 ≡ Some i
   pub apart : (p j x : ℕ) → position (pair_eq (p, j)) k.imports ≡ Some x → position (pair_eq (p, j)) k.symbols ≡ None
 
--- the kept lists are at least that long
-pub record IsAtMost (n : Sizes) (k : Kept) : Type 0 where
-  pub names : n.names ≤ length k.names
-  pub packages : n.packages ≤ length k.packages
-  pub symbols : n.symbols ≤ length k.symbols
-  pub imports : n.imports ≤ length k.imports
-  pub externals : n.externals ≤ length k.externals
-  pub uses : n.uses ≤ length k.uses
-
 -- What is kept is good, packages, names and symbols keep their numbers, and what was kept earlier is still to be had by a cut
 pub record Adds (k u : Kept) : Type 0 where
   pub good : IsGood u
@@ -30,8 +21,8 @@ pub record Adds (k u : Kept) : Type 0 where
   pub names : (N : Name) (j : ℕ) → position (bytes_eq N) k.names ≡ Some j → position (bytes_eq N) u.names ≡ Some j
   pub numbers : (p j i : ℕ) → number_in k p j ≡ Some i → number_in u p j ≡ Some i
   pub placed : IsPlaced k → IsPlaced u
-  pub fits : (n : Sizes) → IsAtMost n k → IsAtMost n u
-  pub cuts : (n : Sizes) → IsAtMost n k → cut n u ≡ cut n k
+  pub fits : (n : Sizes) → AreUpTo n (sizes_of k) → AreUpTo n (sizes_of u)
+  pub cuts : (n : Sizes) → AreUpTo n (sizes_of k) → cut n u ≡ cut n k
 
 -- the same where no symbol is made
 abbrev pub AddsNoSymbol : Kept → Kept → Type 0

@@ -56,7 +56,7 @@ without_marks ts = (ts.0, record ts.1 { marked = [] })
 abbrev pub number_at : Numbers → Name → Name → Option ℕ
 number_at ns p n = option_and_then (λ m. finite.get m n) (finite.get ns p)
 
--- the numbers after a change of those of the package p, where there is one
+-- the numbers after a change of those of the package p, if there is one
 abbrev pub with_numbers : Numbers → Name → (finite.FinMap name_cmp ℕ → finite.FinMap name_cmp ℕ) → Numbers
 with_numbers ns p change = option_map_or (λ m. finite.insert ns p (change m)) (finite.get ns p) ns
 
@@ -72,7 +72,7 @@ with_use s p q = (with_used s.0 p q, s.1)
 abbrev pub with_package_made : Numbered → Name → Numbered
 with_package_made s p = (with_new_package s.0 p, finite.insert s.1 p finite.empty)
 
--- the number of the symbol of this home and name, where there is one
+-- the number of the symbol of this home and name, if there is one
 abbrev pub number_of : Numbered → Name → Name → Option ℕ
 number_of s h n = if is_symbol s.0 h n then number_at s.1 h n else None
 

@@ -1,15 +1,15 @@
 -- What contracts see of the packages.
-use Rattle.std.specs.Prelude.{◌≡◌, ◌≤◌, List, [], ◌∷◌, map, length}
+use Rattle.std.specs.Prelude.{◌≡◌, List, [], ◌∷◌, map, length}
 use Rattle.std.specs.List.{AllByRecursion}
 use Rattle.package_sets.specs.declared.sizes.Sizes.{Sizes}
-use Rattle.package_sets.specs.Kept.{Kept, cut}
+use Rattle.package_sets.specs.Kept.{Kept, cut, sizes_of, AreUpTo}
 use Rattle.package_sets.specs.Good.{IsGood}
 use Rattle.package_table.specs.declared.packages.Packages.TheInside.{Inside}
 use Rattle.package_table.specs.Table.{IsSound, symbol_count}
 use Rattle.package_table.specs.Numbers.{Numbered, Tables}
 pub use Rattle.package_table.specs.Kept.{as_map}
 use Rattle.package_table.specs.Meaning.{numbered_of}
-use Rattle.package_table.specs.Adds.{IsAtMost, IsPlaced}
+use Rattle.package_table.specs.Adds.{IsPlaced}
 
 -- the tables of what was kept at these marks
 abbrev pub tables_at : List Sizes → Kept → List Numbered
@@ -27,21 +27,13 @@ pub record IsState (k : Kept) : Type 0 where
 
 -- what was kept then can be had by a cut, and was such a state
 pub record IsMark (k : Kept) (n : Sizes) : Type 0 where
-  pub fits : IsAtMost n k
+  pub fits : AreUpTo n (sizes_of k)
   pub state : IsState (cut n k)
 
--- no more was kept at the first mark than at the second
-pub record IsUpTo (m n : Sizes) : Type 0 where
-  pub names : m.names ≤ n.names
-  pub packages : m.packages ≤ n.packages
-  pub symbols : m.symbols ≤ n.symbols
-  pub imports : m.imports ≤ n.imports
-  pub externals : m.externals ≤ n.externals
-  pub uses : m.uses ≤ n.uses
-
+-- no more was kept at a mark than at those after it
 abbrev pub IsRising : List Sizes → Type 0
 IsRising [] = Unit {0}
-IsRising (n ∷ ns) = AllByRecursion (IsUpTo n) ns × IsRising ns
+IsRising (n ∷ ns) = AllByRecursion (AreUpTo n) ns × IsRising ns
 
 pub record IsKept (a : Inside) : Type 0 where
   pub state : IsState a.sets

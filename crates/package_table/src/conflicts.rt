@@ -36,7 +36,8 @@ pub(crate) fn finds_other(sets: &PackageSets, owner: &[u8], home: &[u8], name: &
 // Whether a package uses both others.
 fn uses_both(sets: &PackageSets, user: u32, owner: u32, other: u32) -> bool
     ensures { let uses = sets.now.uses in
-        result ≡ (is_some (position (pair_eq (user, owner)) uses) && is_some (position (pair_eq (user, other)) uses)) }
+        result ≡ (is_some (position (pair_eq (user, owner)) uses)
+        && is_some (position (pair_eq (user, other)) uses)) }
 {
     sets.is_used(user, owner) && sets.is_used(user, other)
 }
@@ -46,7 +47,8 @@ fn share_user(sets: &PackageSets, owner: u32, other: u32) -> bool
     requires owner { owner < length sets.now.packages }
     requires other { other < length sets.now.packages }
     ensures { let packages = sets.now.packages in
-        result ≡ share_user (numbered_of sets.now).0 (name_at packages owner) (name_at packages other) }
+        result ≡ share_user (numbered_of sets.now).0 (name_at packages owner)
+        (name_at packages other) }
 {
     sets.goodness();
     for user in 0..sets.package_count() {
@@ -57,13 +59,15 @@ fn share_user(sets: &PackageSets, owner: u32, other: u32) -> bool
     false
 }
 
-// Whether the package `holder` has another symbol by the name, which a package that uses `owner` finds.
+// Whether the package `holder` has another symbol by the name, which a package that
+// uses `owner` finds.
 fn reaches(sets: &PackageSets, owner: u32, home: &[u8], name: u32, holder: u32) -> bool
     requires owner { owner < length sets.now.packages }
     requires name { name < length sets.now.names }
     requires holder { holder < length sets.now.packages }
     ensures { let k = sets.now in let at = name_at k.packages in
-        result ≡ reaches (numbered_of k).0 (at owner) home.now (name_at k.names name) (at holder, package_in k holder) }
+        result ≡ reaches (numbered_of k).0 (at owner) home.now (name_at k.names name)
+        (at holder, package_in k holder) }
 {
     sets.goodness();
     let Some(symbol) = number_in(sets, holder, name) else {
@@ -134,7 +138,8 @@ pub(crate) fn shown_symbol(sets: &PackageSets, owner: u32, position: u32) -> u32
     }
 }
 
-/// Whether `owner` finds another symbol by the name of one that is external in `used`. Looks at the external symbols alone.
+/// Whether `owner` finds another symbol by the name of one that is external in `used`. Looks at the external symbols
+/// alone.
 pub(crate) fn finds_other_than_shown(sets: &PackageSets, owner: &[u8], used: &[u8]) -> bool
     requires owner { IsPackage (numbered_of sets.now).0 owner.now }
     requires used { IsPackage (numbered_of sets.now).0 used.now }

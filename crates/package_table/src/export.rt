@@ -15,7 +15,8 @@ use crate::put::put_external;
 use crate::{PackageError, Packages};
 use package_sets::PackageSets;
 
-// The first reason to refuse that this symbol becomes external in `owner`, and else whether it is not external yet.
+// The first reason to refuse that this symbol becomes external in `owner`, and else
+// whether it is not external yet.
 fn export_refusal(
     sets: &PackageSets,
     owner: &[u8],
@@ -26,7 +27,8 @@ fn export_refusal(
     ensures gives { let t = (numbered_of sets.now).0 in
         Gives (λ _. with_external t owner.now home.now name.now) result
         (after_export t owner.now home.now name.now) }
-    ensures changes { TellsChange (export_changes (numbered_of sets.now).0 owner.now name.now) result }
+    ensures changes { TellsChange
+        (export_changes (numbered_of sets.now).0 owner.now name.now) result }
 {
     if !has_package(sets, owner) {
         return Err(PackageError::NoSuchPackage);
@@ -53,7 +55,8 @@ fn export_symbol(
     requires placed { IsPlaced sets.old }
     ensures gives { Gives (λ _. (numbered_of sets.new).0) result
         (after_export (numbered_of sets.old).0 owner.now home.now name.now) }
-    ensures changed { TellsChange (export_changes (numbered_of sets.old).0 owner.now name.now) result }
+    ensures changed { TellsChange
+        (export_changes (numbered_of sets.old).0 owner.now name.now) result }
     ensures unchanged { IfErr result (λ _. sets.new ≡ sets.old) }
     ensures adds { IfOk result (λ _. AddsNoSymbol sets.old sets.new) }
 {
@@ -66,13 +69,13 @@ fn export_symbol(
 }
 
 impl Packages {
-    /// Makes the symbol of this home and name external in `owner` (standard 11.2, `export`). One that `owner` inherits is
-    /// imported first. Gives whether the packages changed: not where it was external there.
+    /// Makes the symbol of this home and name external in `owner` (standard 11.2, `export`). One that `owner` inherits
+    /// is imported first. Gives whether the packages changed: not if it was external there.
     ///
     /// # Errors
-    /// `NoSuchPackage` where no package has the name `owner`; `PackageIsLocked` for COMMON-LISP and KEYWORD;
-    /// `NotAccessible` where `owner` does not find this symbol by its name; `NameConflict` where a package that uses
-    /// `owner` finds another symbol by that name; `OutOfMemory` where memory runs out. Nothing is changed then.
+    /// `NoSuchPackage` if no package has the name `owner`; `PackageIsLocked` for COMMON-LISP and KEYWORD;
+    /// `NotAccessible` if `owner` does not find this symbol by its name; `NameConflict` if a package that uses
+    /// `owner` finds another symbol by that name; `OutOfMemory` if memory runs out. Nothing is changed then.
     pub fn export(&mut self, owner: &[u8], home: &[u8], name: &[u8]) -> Result<bool, PackageError>
         ensures gives { Gives (λ _. self.new.0) result
             (after_export self.old.0 owner.now home.now name.now) }

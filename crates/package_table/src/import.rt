@@ -15,7 +15,8 @@ use crate::put::put_import;
 use crate::{PackageError, Packages};
 use package_sets::PackageSets;
 
-// The first reason to refuse that this symbol becomes present in `owner`, and else whether it is not present yet.
+// The first reason to refuse that this symbol becomes present in `owner`, and else
+// whether it is not present yet.
 fn import_refusal(
     sets: &PackageSets,
     owner: &[u8],
@@ -26,7 +27,8 @@ fn import_refusal(
     ensures gives { let t = (numbered_of sets.now).0 in
         Gives (λ _. with_present t owner.now home.now name.now) result
         (after_import t owner.now home.now name.now) }
-    ensures changes { TellsChange (import_changes (numbered_of sets.now).0 owner.now name.now) result }
+    ensures changes { TellsChange
+        (import_changes (numbered_of sets.now).0 owner.now name.now) result }
 {
     if !has_package(sets, owner) {
         return Err(PackageError::NoSuchPackage);
@@ -51,7 +53,8 @@ fn import_symbol(
     requires placed { IsPlaced sets.old }
     ensures gives { Gives (λ _. (numbered_of sets.new).0) result
         (after_import (numbered_of sets.old).0 owner.now home.now name.now) }
-    ensures changed { TellsChange (import_changes (numbered_of sets.old).0 owner.now name.now) result }
+    ensures changed { TellsChange
+        (import_changes (numbered_of sets.old).0 owner.now name.now) result }
     ensures unchanged { IfErr result (λ _. sets.new ≡ sets.old) }
     ensures adds { IfOk result (λ _. AddsNoSymbol sets.old sets.new) }
 {
@@ -65,12 +68,12 @@ fn import_symbol(
 
 impl Packages {
     /// Makes the symbol of this home and name present in `owner` (standard 11.2, `import`). One that `owner` inherits
-    /// becomes present; one that is present stays as it is, external or not. Gives whether the packages changed. Whether
-    /// there is such a symbol, `is_symbol` tells.
+    /// becomes present; one that is present stays as it is, external or not. Gives whether the packages changed.
+    /// Whether there is such a symbol, `is_symbol` tells.
     ///
     /// # Errors
-    /// `NoSuchPackage` where no package has the name `owner`; `PackageIsLocked` for COMMON-LISP and KEYWORD;
-    /// `NameConflict` where `owner` finds another symbol by that name; `OutOfMemory` where memory runs out. Nothing is
+    /// `NoSuchPackage` if no package has the name `owner`; `PackageIsLocked` for COMMON-LISP and KEYWORD;
+    /// `NameConflict` if `owner` finds another symbol by that name; `OutOfMemory` if memory runs out. Nothing is
     /// changed then.
     pub fn import(&mut self, owner: &[u8], home: &[u8], name: &[u8]) -> Result<bool, PackageError>
         requires { IsPresent self.old.0 home.now name.now home.now }

@@ -88,10 +88,12 @@ fn three_packages(alloc: Global, seed: Seed) -> Result<PackageSets, AllocError>
 fn add_names(sets: &mut PackageSets, owner: u32, names: &[&[u8]]) -> Result<(), AllocError>
     requires owner { owner < length sets.old.packages }
     requires locked { owner < 2 }
-    requires fresh { finite.get (numbered_of sets.old).0 (name_at sets.old.packages owner) ≡ Some empty_package }
+    requires fresh { finite.get (numbered_of sets.old).0 (name_at sets.old.packages owner)
+        ≡ Some empty_package }
     requires distinct { IsDistinct bytes_eq (names_of names.now) }
     ensures table { let p = name_at sets.old.packages owner in IfOk result
-        (λ _. (numbered_of sets.new).0 ≡ finite.insert (numbered_of sets.old).0 p (package_of_names p (names_of names.now))) }
+        (λ _. (numbered_of sets.new).0
+        ≡ finite.insert (numbered_of sets.old).0 p (package_of_names p (names_of names.now))) }
     ensures packages { IfOk result (λ _. sets.new.packages ≡ sets.old.packages) }
     ensures imports { IfOk result (λ _. sets.new.imports ≡ sets.old.imports) }
     ensures externals { IfOk result (λ _. sets.new.externals ≡ sets.old.externals) }

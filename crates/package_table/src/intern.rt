@@ -1,6 +1,7 @@
-//! `intern`: the symbol of a name in a package, new where there is none.
+//! `intern`: the symbol of a name in a package, new if there is none.
 ghost use Rattle.std.specs.Prelude.{◌≡◌, ◌<◌, All, Some, IfErr, IfOk, length};
-ghost use Rattle.package_table.specs.Table.{IsJoined, symbol_count};
+ghost use Rattle.package_sets.specs.Kept.{name_at};
+ghost use Rattle.package_table.specs.Table.{IsJoined, IsPackage, symbol_count};
 ghost use Rattle.package_table.specs.Lookup.{found};
 ghost use Rattle.package_table.specs.Changes.{after_intern, intern_changes, Gives};
 ghost use Rattle.package_table.specs.Growth.{Grows, IsSameBut, Tells};
@@ -10,7 +11,7 @@ ghost use Rattle.package_table.specs.Meaning.{numbered_of};
 ghost use Rattle.package_table.specs.Adds.{Adds, IsPlaced};
 
 use crate::limits::{MAX_SYMBOL_NAME, MAX_SYMBOLS};
-use crate::look_ups::{has_package, home_of};
+use crate::look_ups::{found_home, package_number};
 use crate::put::put_new;
 use crate::standardized::COMMON_LISP;
 use crate::{PackageError, Packages};
@@ -23,6 +24,45 @@ use std::alloc::Global;
 pub struct Interned {
     pub home: Bytes,
     pub is_new: bool,
+}
+
+// In the package of a number.
+fn intern_in(
+    alloc: Global,
+    sets: &mut PackageSets,
+    owner: u32,
+    name: &[u8],
+) -> Result<Interned, PackageError>
+    requires owner { owner < length sets.old.packages }
+    requires package { IsPackage (numbered_of sets.old).0 (name_at sets.old.packages owner) }
+    requires counted { length sets.old.symbols ≡ symbol_count (numbered_of sets.old).0 }
+    requires joined { IsJoined (numbered_of sets.old).0 }
+    requires placed { IsPlaced sets.old }
+    ensures gives { Gives (λ interned. (interned.home, (numbered_of sets.new).0)) result
+        (after_intern (numbered_of sets.old).0 (name_at sets.old.packages owner) name.now) }
+    ensures is_new { let p = name_at sets.old.packages owner in IfOk result
+        (λ interned. interned.is_new ≡ intern_changes (numbered_of sets.old).0 p name.now) }
+    ensures unchanged { IfErr result (λ _. sets.new ≡ sets.old) }
+    ensures adds { IfOk result (λ _. Adds sets.old sets.new) }
+    ensures counted { length sets.new.symbols ≡ symbol_count (numbered_of sets.new).0 }
+{
+    sets.goodness();
+    if let Some(home) = found_home(sets, owner, name) {
+        let home = Bytes::from_slice(alloc, home)?;
+        return Ok(Interned {
+            home,
+            is_new: false,
+        });
+    }
+    if sets.package(owner) == COMMON_LISP {
+        return Err(PackageError::PackageIsLocked);
+    }
+    if name.len() > MAX_SYMBOL_NAME || sets.symbol_count() as u64 >= MAX_SYMBOLS {
+        return Err(PackageError::Limit);
+    }
+    let home = Bytes::from_slice(alloc, sets.package(owner))?;
+    put_new(sets, owner, name)?;
+    Ok(Interned { home, is_new: true })
 }
 
 fn intern_symbol(
@@ -42,26 +82,10 @@ fn intern_symbol(
     ensures adds { IfOk result (λ _. Adds sets.old sets.new) }
     ensures counted { length sets.new.symbols ≡ symbol_count (numbered_of sets.new).0 }
 {
-    sets.goodness();
-    if !has_package(sets, owner) {
-        return Err(PackageError::NoSuchPackage);
+    match package_number(sets, owner) {
+        Some(number) => intern_in(alloc, sets, number, name),
+        None => Err(PackageError::NoSuchPackage),
     }
-    if let Some(home) = home_of(sets, owner, name) {
-        let home = Bytes::from_slice(alloc, home)?;
-        return Ok(Interned {
-            home,
-            is_new: false,
-        });
-    }
-    if owner == COMMON_LISP {
-        return Err(PackageError::PackageIsLocked);
-    }
-    if name.len() > MAX_SYMBOL_NAME || sets.symbol_count() as u64 >= MAX_SYMBOLS {
-        return Err(PackageError::Limit);
-    }
-    let home = Bytes::from_slice(alloc, owner)?;
-    put_new(sets, owner, name)?;
-    Ok(Interned { home, is_new: true })
 }
 
 impl Packages {
@@ -69,9 +93,9 @@ impl Packages {
     /// `intern`). A new symbol of KEYWORD is external. No other name finds another symbol than before.
     ///
     /// # Errors
-    /// `NoSuchPackage` where no package has the name `owner`; for a new name, `PackageIsLocked` in COMMON-LISP, and `Limit`
-    /// where it is longer than 4,096 bytes or there are 1,000,000 symbols; `OutOfMemory` where memory runs out. Nothing
-    /// is changed then.
+    /// `NoSuchPackage` if no package has the name `owner`; for a new name, `PackageIsLocked` in COMMON-LISP, and
+    /// `Limit` if it is longer than 4,096 bytes or there are 1,000,000 symbols; `OutOfMemory` if memory runs
+    /// out. Nothing is changed then.
     pub fn intern(&mut self, owner: &[u8], name: &[u8]) -> Result<Interned, PackageError>
         requires { All (λ b. b < 128) name.now }
         ensures gives { Gives (λ interned. (interned.home, self.new.0)) result

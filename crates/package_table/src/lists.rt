@@ -44,7 +44,8 @@ fn names_in<'a>(
 // The names of the external symbols of a package.
 fn shown_names(sets: &PackageSets, alloc: Global, owner: u32) -> Result<Vec<&[u8]>, AllocError>
     ensures { let k = sets.now in IfOk result
-        (λ names. names_of names.items ≡ map (λ x. symbol_name k (shown_symbol k owner x)) (shown_positions k owner)) }
+        (λ names. names_of names.items
+        ≡ map (λ x. symbol_name k (shown_symbol k owner x)) (shown_positions k owner)) }
 {
     sets.goodness();
     let positions = shown_positions(sets, owner);
@@ -58,7 +59,8 @@ fn shown_names(sets: &PackageSets, alloc: Global, owner: u32) -> Result<Vec<&[u8
 // The names of what a package imports.
 fn imported_names(sets: &PackageSets, alloc: Global, owner: u32) -> Result<Vec<&[u8]>, AllocError>
     ensures { let k = sets.now in IfOk result
-        (λ names. names_of names.items ≡ map (λ x. symbol_name k (get_or k.imported x 0)) (positions_of owner k.imports)) }
+        (λ names. names_of names.items
+        ≡ map (λ x. symbol_name k (get_or k.imported x 0)) (positions_of owner k.imports)) }
 {
     sets.goodness();
     let positions = sets.imports_of(owner);
@@ -72,7 +74,8 @@ fn imported_names(sets: &PackageSets, alloc: Global, owner: u32) -> Result<Vec<&
 // The names of what a package uses.
 fn used_packages(sets: &PackageSets, alloc: Global, owner: u32) -> Result<Vec<&[u8]>, AllocError>
     ensures { let k = sets.now in IfOk result
-        (λ names. names_of names.items ≡ map (λ x. name_at k.packages (pair_at k.uses x).1) (positions_of owner k.uses)) }
+        (λ names. names_of names.items
+        ≡ map (λ x. name_at k.packages (pair_at k.uses x).1) (positions_of owner k.uses)) }
 {
     sets.goodness();
     let positions = sets.uses_of(owner);
@@ -152,7 +155,8 @@ pub(crate) fn own_names<'a>(
 ) -> Result<Vec<&'a [u8]>, PackageError>
     requires sound { IsSound (numbered_of sets.now).0 }
     requires placed { IsPlaced sets.now }
-    ensures list { IfOk result (λ names. names_of names.items ≡ own_names (numbered_of sets.now).0 owner.now) }
+    ensures list { IfOk result
+        (λ names. names_of names.items ≡ own_names (numbered_of sets.now).0 owner.now) }
     ensures there { IfOk result (λ _. IsPackage (numbered_of sets.now).0 owner.now) }
     ensures refused { IfErr result (ListRefused (numbered_of sets.now).0 owner.now) }
 {
@@ -171,7 +175,8 @@ pub(crate) fn external_names<'a>(
 ) -> Result<Vec<&'a [u8]>, PackageError>
     requires sound { IsSound (numbered_of sets.now).0 }
     requires placed { IsPlaced sets.now }
-    ensures list { IfOk result (λ names. names_of names.items ≡ external_names (numbered_of sets.now).0 owner.now) }
+    ensures list { IfOk result
+        (λ names. names_of names.items ≡ external_names (numbered_of sets.now).0 owner.now) }
     ensures there { IfOk result (λ _. IsPackage (numbered_of sets.now).0 owner.now) }
     ensures refused { IfErr result (ListRefused (numbered_of sets.now).0 owner.now) }
 {
@@ -206,7 +211,8 @@ pub(crate) fn externals(
 ) -> Result<Items<Bytes>, PackageError>
     requires sound { IsSound (numbered_of sets.now).0 }
     requires placed { IsPlaced sets.now }
-    ensures list { IfOk result (λ names. names ≡ external_names (numbered_of sets.now).0 owner.now) }
+    ensures list { IfOk result
+        (λ names. names ≡ external_names (numbered_of sets.now).0 owner.now) }
     ensures there { IfOk result (λ _. IsPackage (numbered_of sets.now).0 owner.now) }
     ensures refused { IfErr result (ListRefused (numbered_of sets.now).0 owner.now) }
 {
@@ -214,7 +220,8 @@ pub(crate) fn externals(
     Ok(copies(alloc, names.as_slice())?)
 }
 
-// The name of the home of the symbol that is present in `owner` by this name, and nothing where there is none.
+// The name of the home of the symbol that is present in `owner` by this name, and nothing
+// if there is none.
 fn home_at<'a>(sets: &'a PackageSets, owner: &[u8], name: &[u8]) -> &'a [u8]
     ensures { result.now ≡ home_at (numbered_of sets.now).0 owner.now name.now }
 {

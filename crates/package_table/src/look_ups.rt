@@ -1,7 +1,7 @@
 //! Look-ups, by numbers and by names. They take no memory.
-ghost use Rattle.std.specs.Prelude.{◌≡◌, ◌<◌, ◌↔◌, nat_lt, length, if◌then◌else◌, is_some, option_map, Some, None};
+ghost use Rattle.std.specs.Prelude.{◌≡◌, ◌<◌, ◌↔◌, IfSome, nat_lt, length, if◌then◌else◌, is_some, option_map, Some, None};
 ghost use Rattle.std.specs.FinMap as finite;
-ghost use Rattle.package_sets.specs.Kept.{pair_at, positions_of};
+ghost use Rattle.package_sets.specs.Kept.{name_at, pair_at, positions_of};
 ghost use Rattle.package_table.specs.Table.{IsJoined, Name};
 ghost use Rattle.package_table.specs.Lookup.{external_home, found, is_present, is_symbol, is_used};
 ghost use Rattle.package_table.specs.Changes.{is_full_of_packages};
@@ -82,16 +82,27 @@ pub(crate) fn home_name(sets: &PackageSets, symbol: u32) -> &[u8]
     sets.package(sets.symbol(symbol).first)
 }
 
-/// The name of the package of this name, where there is one, as it is kept.
+/// The name of the package of this name, if there is one, as it is kept.
 pub(crate) fn stored_name<'a>(sets: &'a PackageSets, owner: &[u8]) -> Option<&'a [u8]>
     ensures { option_map (λ p. p.now) result
-        ≡ (if finite.contains_key (numbered_of sets.now).0 owner.now then Some owner.now else None) }
+        ≡ (if finite.contains_key (numbered_of sets.now).0 owner.now then Some owner.now
+        else None) }
 {
     sets.goodness();
     match sets.find_package(owner) {
         Some(number) => Some(sets.package(number)),
         None => None,
     }
+}
+
+/// The number of the package of this name.
+pub(crate) fn package_number(sets: &PackageSets, owner: &[u8]) -> Option<u32>
+    ensures there { is_some result ≡ finite.contains_key (numbered_of sets.now).0 owner.now }
+    ensures named { IfSome result (λ p.
+        (p < length sets.now.packages) × (name_at sets.now.packages p ≡ owner.now)) }
+{
+    sets.goodness();
+    sets.find_package(owner)
 }
 
 /// Whether a package has this name.
@@ -124,7 +135,7 @@ pub(crate) fn is_present(sets: &PackageSets, owner: &[u8], name: &[u8]) -> bool
     number_in(sets, owner, name).is_some()
 }
 
-/// The number of the symbol of this home and name, where there is one.
+/// The number of the symbol of this home and name, if there is one.
 pub(crate) fn number_of(sets: &PackageSets, home: &[u8], name: &[u8]) -> Option<u32>
     ensures { result ≡ number_of (numbered_of sets.now) home.now name.now }
 {
@@ -201,20 +212,30 @@ pub(crate) fn external_home<'a>(
     }
 }
 
-/// The home of the symbol that a package finds by this name.
-pub(crate) fn home_of<'a>(sets: &'a PackageSets, owner: &[u8], name: &[u8]) -> Option<&'a [u8]>
-    requires { IsJoined (numbered_of sets.now).0 }
-    ensures { option_map (λ h. h.now) result ≡ found (numbered_of sets.now).0 owner.now name.now }
+/// The home of the symbol that the package of a number finds by this name.
+pub(crate) fn found_home<'a>(sets: &'a PackageSets, owner: u32, name: &[u8]) -> Option<&'a [u8]>
+    requires package { owner < length sets.now.packages }
+    requires joined { IsJoined (numbered_of sets.now).0 }
+    ensures { option_map (λ h. h.now) result
+        ≡ found (numbered_of sets.now).0 (name_at sets.now.packages owner) name.now }
 {
     sets.goodness();
-    let Some(owner) = sets.find_package(owner) else {
-        return None;
-    };
     let Some(name) = sets.find_name(name) else {
         return None;
     };
     match found_number(sets, owner, name) {
         Some(symbol) => Some(home_name(sets, symbol)),
+        None => None,
+    }
+}
+
+/// The home of the symbol that a package finds by this name.
+pub(crate) fn home_of<'a>(sets: &'a PackageSets, owner: &[u8], name: &[u8]) -> Option<&'a [u8]>
+    requires { IsJoined (numbered_of sets.now).0 }
+    ensures { option_map (λ h. h.now) result ≡ found (numbered_of sets.now).0 owner.now name.now }
+{
+    match package_number(sets, owner) {
+        Some(number) => found_home(sets, number, name),
         None => None,
     }
 }

@@ -48,9 +48,9 @@ impl Packages {
     /// Adds a package of this name, which has no symbols and uses nothing (standard 11.2, `make-package`).
     ///
     /// # Errors
-    /// `EmptyName` for the empty name; `PackageExists` where a package has `name` as its name or nickname; `Limit` where
-    /// there are 1,000 packages or the name is longer than 256 bytes; `OutOfMemory` where memory runs out. Nothing is
-    /// changed then.
+    /// `EmptyName` for the empty name; `PackageExists` if a package has `name` as its name or nickname; `Limit`
+    /// if there are 1,000 packages or the name is longer than 256 bytes; `OutOfMemory` if memory runs out.
+    /// Nothing is changed then.
     pub fn make(&mut self, name: &[u8]) -> Result<(), PackageError>
         requires { All (λ b. b < 128) name.now }
         ensures gives { Gives (λ _. self.new.0) result (after_make self.old.0 name.now) }

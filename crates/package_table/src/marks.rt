@@ -7,11 +7,11 @@ use crate::Packages;
 use std::alloc::AllocError;
 
 impl Packages {
-    /// Marks the packages as they are, so that `back_to` can go back to them, and gives the number of the mark. What is kept
-    /// only grows, so that a mark is how much there is of it.
+    /// Marks the packages as they are, so that `back_to` can go back to them, and gives the number of the mark. What
+    /// is kept only grows, so that a mark is how much there is of it.
     ///
     /// # Errors
-    /// `AllocError` where memory runs out. Nothing is changed then.
+    /// `AllocError` if memory runs out. Nothing is changed then.
     pub fn mark(&mut self) -> Result<usize, AllocError>
         ensures ok { IfOk result
             (λ mark. (mark ≡ length self.old.1.marked) × (self.new ≡ with_mark self.old)) }
@@ -31,8 +31,8 @@ impl Packages {
         self.marks.len()
     }
 
-    /// Goes back to the packages as they were at this mark, each symbol with the number that it had, and takes this mark and
-    /// all later ones away. Takes no memory.
+    /// Goes back to the packages as they were at this mark, each symbol with the number that it had, and takes this
+    /// mark and all later ones away. Takes no memory.
     pub fn back_to(&mut self, mark: usize)
         requires { mark < length self.old.1.marked }
         ensures past { self.new.1.marked ≡ take mark self.old.1.marked }

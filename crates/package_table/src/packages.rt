@@ -15,8 +15,8 @@ use package_sets::{PackageSets, Seed, Sizes};
 use std::alloc::{AllocError, Global};
 use std::marker::Model;
 
-/// Packages (standard 11.1). Contracts see them as a `Table`, and beside it the numbers of its symbols and the tables that
-/// were marked.
+/// Packages (standard 11.1). Contracts see them as a `Table`, and beside it the numbers of its symbols and the tables
+/// that were marked.
 #[derive(Drop)]
 pub struct Packages {
     pub(crate) alloc: Global,
@@ -40,7 +40,8 @@ impl Model for Packages {
 }
 
 impl Packages {
-    /// The first packages: COMMON-LISP, COMMON-LISP-USER, which uses it, and KEYWORD. They keep `alloc` for later changes.
+    /// The first packages: COMMON-LISP, COMMON-LISP-USER, which uses it, and KEYWORD. They keep `alloc` for later
+    /// changes.
     pub fn new(alloc: Global) -> Result<Packages, AllocError>
         ensures table { IfOk result (λ packages. packages.0 ≡ initial) }
         ensures marked { IfOk result (λ packages. packages.1.marked ≡ []) }
@@ -48,7 +49,7 @@ impl Packages {
         Packages::with_seed(alloc, Seed::fixed())
     }
 
-    /// The same, where names are hashed by this seed: who does not know it cannot choose names that fall together.
+    /// The same, with names hashed by this seed: who does not know it cannot choose names that fall together.
     pub fn with_seed(alloc: Global, seed: Seed) -> Result<Packages, AllocError>
         ensures table { IfOk result (λ packages. packages.0 ≡ initial) }
         ensures marked { IfOk result (λ packages. packages.1.marked ≡ []) }
@@ -80,7 +81,8 @@ impl Packages {
         self.sets.goodness();
     }
 
-    /// Each symbol has a number, which is below how many there are, and two symbols have two. For proofs: it does nothing.
+    /// Each symbol has a number, which is below how many there are, and two symbols have two. For proofs: it does
+    /// nothing.
     pub fn numbering(&self)
         ensures { IsNumbered (numbered self.now) (symbol_count self.now.0) }
     {
@@ -111,7 +113,7 @@ impl Packages {
     /// The names of the packages that `owner` uses, sorted by their bytes.
     ///
     /// # Errors
-    /// `NoSuchPackage` where no package has the name `owner`; `OutOfMemory` where memory runs out.
+    /// `NoSuchPackage` if no package has the name `owner`; `OutOfMemory` if memory runs out.
     pub fn uses(&self, alloc: Global, owner: &[u8]) -> Result<Items<Bytes>, PackageError>
         ensures list { IfOk result (λ names. names ≡ used_names self.now.0 owner.now) }
         ensures there { IfOk result (λ _. IsPackage self.now.0 owner.now) }
@@ -123,7 +125,7 @@ impl Packages {
     /// The names of the symbols at home in `owner`, sorted by their bytes.
     ///
     /// # Errors
-    /// `NoSuchPackage` where no package has the name `owner`; `OutOfMemory` where memory runs out.
+    /// `NoSuchPackage` if no package has the name `owner`; `OutOfMemory` if memory runs out.
     pub fn own(&self, alloc: Global, owner: &[u8]) -> Result<Items<Bytes>, PackageError>
         ensures list { IfOk result (λ names. names ≡ own_names self.now.0 owner.now) }
         ensures there { IfOk result (λ _. IsPackage self.now.0 owner.now) }
@@ -135,9 +137,10 @@ impl Packages {
     /// The same names in the same order, as the packages have them: no name is copied.
     ///
     /// # Errors
-    /// `NoSuchPackage` where no package has the name `owner`; `OutOfMemory` where memory runs out.
+    /// `NoSuchPackage` if no package has the name `owner`; `OutOfMemory` if memory runs out.
     pub fn own_names(&self, alloc: Global, owner: &[u8]) -> Result<Vec<&[u8]>, PackageError>
-        ensures list { IfOk result (λ names. names_of names.items ≡ own_names self.now.0 owner.now) }
+        ensures list { IfOk result
+            (λ names. names_of names.items ≡ own_names self.now.0 owner.now) }
         ensures there { IfOk result (λ _. IsPackage self.now.0 owner.now) }
         ensures refused { IfErr result (ListRefused self.now.0 owner.now) }
     {
@@ -147,7 +150,7 @@ impl Packages {
     /// The names that are external in `owner`, sorted by their bytes.
     ///
     /// # Errors
-    /// `NoSuchPackage` where no package has the name `owner`; `OutOfMemory` where memory runs out.
+    /// `NoSuchPackage` if no package has the name `owner`; `OutOfMemory` if memory runs out.
     pub fn externals(&self, alloc: Global, owner: &[u8]) -> Result<Items<Bytes>, PackageError>
         ensures list { IfOk result (λ names. names ≡ external_names self.now.0 owner.now) }
         ensures there { IfOk result (λ _. IsPackage self.now.0 owner.now) }
@@ -159,9 +162,10 @@ impl Packages {
     /// The same names in the same order, as the packages have them: no name is copied.
     ///
     /// # Errors
-    /// `NoSuchPackage` where no package has the name `owner`; `OutOfMemory` where memory runs out.
+    /// `NoSuchPackage` if no package has the name `owner`; `OutOfMemory` if memory runs out.
     pub fn external_names(&self, alloc: Global, owner: &[u8]) -> Result<Vec<&[u8]>, PackageError>
-        ensures list { IfOk result (λ names. names_of names.items ≡ external_names self.now.0 owner.now) }
+        ensures list { IfOk result
+            (λ names. names_of names.items ≡ external_names self.now.0 owner.now) }
         ensures there { IfOk result (λ _. IsPackage self.now.0 owner.now) }
         ensures refused { IfErr result (ListRefused self.now.0 owner.now) }
     {
@@ -171,7 +175,7 @@ impl Packages {
     /// The names that are present in `owner` with another home, each with the name of that home, sorted by their bytes.
     ///
     /// # Errors
-    /// `NoSuchPackage` where no package has the name `owner`; `OutOfMemory` where memory runs out.
+    /// `NoSuchPackage` if no package has the name `owner`; `OutOfMemory` if memory runs out.
     pub fn imports(
         &self,
         alloc: Global,
@@ -193,15 +197,16 @@ impl Packages {
         package_name(&self.sets, name)
     }
 
-    /// Whether the package of this name is locked: COMMON-LISP, to which no name is added, and KEYWORD. Takes no memory.
+    /// Whether the package of this name is locked: COMMON-LISP, to which no name is added, and KEYWORD. Takes no
+    /// memory.
     pub fn is_locked(&self, owner: &[u8]) -> bool
         ensures { result ≡ is_locked owner.now }
     {
         is_locked(owner)
     }
 
-    /// What `name` stands for in the package `current`, which exists (standard 2.3.5): the symbol that it finds, or a new
-    /// one. Takes no memory.
+    /// What `name` stands for in the package `current`, which exists (standard 2.3.5): the symbol that it finds, or a
+    /// new one. Takes no memory.
     ///
     /// # Errors
     /// `LockedPackage` for a new name in COMMON-LISP.
@@ -216,20 +221,21 @@ impl Packages {
     /// Takes no memory.
     ///
     /// # Errors
-    /// `NoPackage` where `prefix` names no package, then `NotExternal` where `name` is not external there.
+    /// `NoPackage` if `prefix` names no package, then `NotExternal` if `name` is not external there.
     pub fn resolve_external(&self, prefix: &[u8], name: &[u8]) -> Result<&[u8], PackageError>
         ensures { Answers (λ h. h.now) result (external_resolution self.now.0 prefix.now name.now) }
     {
         resolve_external(&self.sets, prefix, name)
     }
 
-    /// What `name` stands for in the package that `prefix` names, by name or nickname (standard 2.3.5): the symbol that it
-    /// finds, or a new one. Takes no memory.
+    /// What `name` stands for in the package that `prefix` names, by name or nickname (standard 2.3.5): the symbol
+    /// that it finds, or a new one. Takes no memory.
     ///
     /// # Errors
-    /// `NoPackage` where `prefix` names no package, then `LockedPackage` for a new name in COMMON-LISP.
+    /// `NoPackage` if `prefix` names no package, then `LockedPackage` for a new name in COMMON-LISP.
     pub fn resolve_internal(&self, prefix: &[u8], name: &[u8]) -> Result<Resolved<'_>, PackageError>
-        ensures { Answers resolution_of result (internal_resolution self.now.0 prefix.now name.now) }
+        ensures { Answers resolution_of result
+            (internal_resolution self.now.0 prefix.now name.now) }
     {
         resolve_internal(&self.sets, prefix, name)
     }

@@ -1,7 +1,7 @@
 //! Single changes. Each adds to what is kept, so that what was kept before is still to be had by a cut.
 ghost use Rattle.std.specs.Prelude.{◌≡◌, ◌<◌, ◌+◌, false, true, length, bytes_eq, Some, None, IfOk, OnOk, OnErr};
 ghost use Rattle.std.specs.FinMap as finite;
-ghost use Rattle.package_sets.specs.Kept.{pair_at, pair_eq};
+ghost use Rattle.package_sets.specs.Kept.{name_at, pair_at, pair_eq};
 ghost use Rattle.package_sets.specs.Good.{IsGood};
 ghost use Rattle.package_sets.specs.Changes.{with_external, with_import};
 ghost use Rattle.package_table.specs.Table.{common_lisp, entry_at, is_locked, keyword, with_entry, with_new_package, with_used, IsJoined, IsPackage, IsPresent};
@@ -28,22 +28,21 @@ pub(crate) fn put_package(sets: &mut PackageSets, name: &[u8]) -> Result<(), All
     Ok(())
 }
 
-/// Makes a new symbol of the package `owner`, which exists and is not COMMON-LISP, present there.
-pub(crate) fn put_new(sets: &mut PackageSets, owner: &[u8], name: &[u8]) -> Result<(), AllocError>
-    requires package { IsPackage (numbered_of sets.old).0 owner.now }
-    requires fresh { found (numbered_of sets.old).0 owner.now name.now ≡ None }
-    requires unlocked { bytes_eq owner.now common_lisp ≡ false }
+/// Makes a new symbol of the package of a number, which is not COMMON-LISP, present there.
+pub(crate) fn put_new(sets: &mut PackageSets, owner: u32, name: &[u8]) -> Result<(), AllocError>
+    requires package { owner < length sets.old.packages }
+    requires fresh { let p = name_at sets.old.packages owner in
+        found (numbered_of sets.old).0 p name.now ≡ None }
+    requires unlocked { bytes_eq (name_at sets.old.packages owner) common_lisp ≡ false }
     requires placed { IsPlaced sets.old }
-    ensures ok { OnOk result ((numbered_of sets.new).0 ≡ with_entry (numbered_of sets.old).0 owner.now name.now
-        (record { home = owner.now; external = bytes_eq owner.now keyword })) }
+    ensures ok { let p = name_at sets.old.packages owner in OnOk result
+        ((numbered_of sets.new).0 ≡ with_entry (numbered_of sets.old).0 p name.now
+        (record { home = p; external = bytes_eq p keyword })) }
     ensures adds { IfOk result (λ _. Adds sets.old sets.new) }
     ensures count { IfOk result (λ _. length sets.new.symbols ≡ length sets.old.symbols + 1) }
     ensures err { OnErr result (sets.new ≡ sets.old) }
 {
     sets.goodness();
-    let Some(owner) = sets.find_package(owner) else {
-        unreachable!()
-    };
     sets.intern(owner, name)?;
     sets.goodness();
     Ok(())
@@ -61,7 +60,8 @@ pub(crate) fn put_import(
     requires fresh { entry_at (numbered_of sets.old).0 owner.now name.now ≡ None }
     requires unlocked { is_locked owner.now ≡ false }
     requires placed { IsPlaced sets.old }
-    ensures ok { OnOk result ((numbered_of sets.new).0 ≡ with_entry (numbered_of sets.old).0 owner.now name.now
+    ensures ok { OnOk result ((numbered_of sets.new).0
+        ≡ with_entry (numbered_of sets.old).0 owner.now name.now
         (record { home = home.now; external = false })) }
     ensures adds { IfOk result (λ _. AddsNoSymbol sets.old sets.new) }
     ensures err { OnErr result (sets.new ≡ sets.old) }
@@ -118,7 +118,8 @@ pub(crate) fn put_external(
     requires finds { finds_this (numbered_of sets.old).0 owner.now home.now name.now ≡ true }
     requires hidden { is_external (numbered_of sets.old).0 owner.now name.now ≡ false }
     requires placed { IsPlaced sets.old }
-    ensures ok { OnOk result ((numbered_of sets.new).0 ≡ with_entry (numbered_of sets.old).0 owner.now name.now
+    ensures ok { OnOk result ((numbered_of sets.new).0
+        ≡ with_entry (numbered_of sets.old).0 owner.now name.now
         (record { home = home.now; external = true })) }
     ensures adds { IfOk result (λ _. AddsNoSymbol sets.old sets.new) }
     ensures err { OnErr result (sets.new ≡ sets.old) }

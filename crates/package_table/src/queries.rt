@@ -29,16 +29,16 @@ impl Packages {
         is_symbol(&self.sets, home, name)
     }
 
-    /// The number of the symbol of this home and name, where there is one. Each symbol has one number, which is below how many
-    /// there are, and two symbols have two (`numbering`).
+    /// The number of the symbol of this home and name, if there is one. Each symbol has one number, which is below
+    /// how many there are, and two symbols have two (`numbering`).
     pub fn number_of(&self, home: &[u8], name: &[u8]) -> Option<u32>
         ensures { result ≡ number_of (numbered self.now) home.now name.now }
     {
         number_of(&self.sets, home, name)
     }
 
-    /// The home and the name of the symbol of this number, as the packages have them: `number_of` turned round. There is one
-    /// for each number below how many symbols there are.
+    /// The home and the name of the symbol of this number, as the packages have them: `number_of` turned round. There
+    /// is one for each number below how many symbols there are.
     pub fn symbol_of(&self, number: u32) -> Option<(&[u8], &[u8])>
         ensures symbol { (h n : Name) → (option_map names_of_symbol result ≡ Some (h, n))
             ↔ (number_of (numbered self.now) h n ≡ Some number) }

@@ -27,7 +27,8 @@ pub(crate) fn resolve_in<'a>(
 ) -> Result<Resolved<'a>, PackageError>
     requires package { IsPackage (numbered_of sets.now).0 owner.now }
     requires joined { IsJoined (numbered_of sets.now).0 }
-    ensures { Answers resolution_of result (resolution (numbered_of sets.now).0 owner.now name.now) }
+    ensures { Answers resolution_of result
+        (resolution (numbered_of sets.now).0 owner.now name.now) }
 {
     if let Some(home) = home_of(sets, owner, name) {
         return Ok(Resolved::Found(home));
@@ -47,7 +48,8 @@ pub(crate) fn resolve_external<'a>(
     prefix: &[u8],
     name: &[u8],
 ) -> Result<&'a [u8], PackageError>
-    ensures { Answers (λ h. h.now) result (external_resolution (numbered_of sets.now).0 prefix.now name.now) }
+    ensures { Answers (λ h. h.now) result
+        (external_resolution (numbered_of sets.now).0 prefix.now name.now) }
 {
     let Some(owner) = package_name(sets, prefix) else {
         return Err(PackageError::NoPackage);
@@ -65,7 +67,8 @@ pub(crate) fn resolve_internal<'a>(
     name: &[u8],
 ) -> Result<Resolved<'a>, PackageError>
     requires { IsJoined (numbered_of sets.now).0 }
-    ensures { Answers resolution_of result (internal_resolution (numbered_of sets.now).0 prefix.now name.now) }
+    ensures { Answers resolution_of result
+        (internal_resolution (numbered_of sets.now).0 prefix.now name.now) }
 {
     match package_name(sets, prefix) {
         Some(owner) => resolve_in(sets, owner, name),

@@ -58,13 +58,13 @@ fn use_other(sets: &mut PackageSets, owner: &[u8], used: &[u8]) -> Result<bool, 
 }
 
 impl Packages {
-    /// Makes `owner` use `used`, so that it finds its external symbols (standard 11.2, `use-package`). A package that is
-    /// used already, and `owner` itself, are passed over. Gives whether the packages changed.
+    /// Makes `owner` use `used`, so that it finds its external symbols (standard 11.2, `use-package`). A package that
+    /// is used already, and `owner` itself, are passed over. Gives whether the packages changed.
     ///
     /// # Errors
-    /// `NoSuchPackage` where one of the two names names no package; `PackageIsLocked` where `owner` is COMMON-LISP or
-    /// KEYWORD, or `used` is KEYWORD; `NameConflict` where `owner` finds another symbol by the name of one that is external
-    /// in `used`; `OutOfMemory` where memory runs out. Nothing is changed then.
+    /// `NoSuchPackage` if one of the two names names no package; `PackageIsLocked` if `owner` is COMMON-LISP or
+    /// KEYWORD, or `used` is KEYWORD; `NameConflict` if `owner` finds another symbol by the name of one that is
+    /// external in `used`; `OutOfMemory` if memory runs out. Nothing is changed then.
     pub fn use_package(&mut self, owner: &[u8], used: &[u8]) -> Result<bool, PackageError>
         ensures gives { Gives (λ _. self.new.0) result (after_use self.old.0 owner.now used.now) }
         ensures changed { Yields result (use_changes self.old.0 owner.now used.now) }

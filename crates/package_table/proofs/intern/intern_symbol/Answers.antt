@@ -1,14 +1,19 @@
-use Rattle.std.proofs.Common.{◌+◌, ◌∙◌, sym, ap}
-use Rattle.package_table.specs.Table.{Table, symbol_count}
-use Rattle.package_table.proofs.KeptChanges.{counted_new}
-use Rattle.package_table.proofs.Adding.{adds_same}
+use Rattle.std.proofs.Common.{◌≡◌, ◌∙◌, Result, IfOk, sym, subst}
+use Rattle.std.specs.FinMap as finite
+use Rattle.package_table.specs.Table.{Name, IsPackage}
+use Rattle.package_table.specs.Changes.{after_intern, intern_changes, Gives}
+use Rattle.package_table.specs.Meaning.{numbered_of}
 use Rattle.package_table.proofs.intern.intern_symbol.Goals as goal
 
-pub returns-clause-counted : goal.returns-clause-counted
-returns-clause-counted c =
-    c.in_ok-put_new.ensures.count ∙ ap (λ k. k + 1) c.requires.counted
-    ∙ sym (ap symbol_count c.in_ok-put_new.ensures.ok
-    ∙ counted_new _ c.args.owner.now c.args.name.now (sym c.if-not-has_package.ensures) (sym c.in_default.ensures))
+pub intern_in-requires-clause-package : goal.intern_in-requires-clause-package
+intern_in-requires-clause-package c = subst (IsPackage (numbered_of c.args.sets.now).0) (sym c.in-Some.ensures.named.1) (sym c.in-Some.ensures.there)
 
-pub returns-in-Some-clause-adds : goal.returns-in-Some-clause-adds
-returns-in-Some-clause-adds c = adds_same c.args.sets.now c.goodness.ensures
+pub returns-in-Some-clause-gives : goal.returns-in-Some-clause-gives
+returns-in-Some-clause-gives c =
+    subst (λ (p : Name). Gives (λ interned. (interned.home, (numbered_of c.intern_in.new.sets).0)) c.intern_in.result (after_intern (numbered_of c.args.sets.now).0 p c.args.name.now))
+    c.in-Some.ensures.named.1 c.intern_in.ensures.gives
+
+pub returns-in-Some-clause-is_new : goal.returns-in-Some-clause-is_new
+returns-in-Some-clause-is_new c =
+    subst (λ (p : Name). IfOk c.intern_in.result (λ interned. interned.is_new ≡ intern_changes (numbered_of c.args.sets.now).0 p c.args.name.now))
+    c.in-Some.ensures.named.1 c.intern_in.ensures.is_new

@@ -1,25 +1,21 @@
-use Rattle.std.proofs.Common.{◌∙◌, Some, option_map, sym, ap}
-use Rattle.package_table.specs.Meaning.{home_in}
-use Rattle.package_table.proofs.FoundBy.{found_by, found_no_package, found_no_name}
-use Rattle.package_table.proofs.Puts.{this_known}
+use Rattle.std.proofs.Common.{◌≡◌, ◌∙◌, true, false, Option, None, Some, is_some, refl, sym, ap}
+use Rattle.std.proofs.lemmas.Bool.{false≢true}
+use Rattle.std.specs.Option.{option_map_or}
+use Rattle.std.specs.FinMap as finite
+use Rattle.package_table.specs.Table.{Name, Package, Present, Table}
+use Rattle.package_table.specs.Lookup.{first_external, found}
+use Rattle.package_table.specs.Meaning.{numbered_of}
 use Rattle.package_table.proofs.look_ups.home_of.Goals as goal
 
-pub returns-in_default : goal.returns-in_default
-returns-in_default c = sym (found_no_package c.args.sets.now c.goodness.ensures c.args.owner.now c.args.name.now (sym c.in_default.ensures))
+none_outside : (t : Table) (p n : Name) → finite.contains_key t p ≡ false → found t p n ≡ None
+none_outside t p n outside =
+    elim (finite.get t p) as (λ o. is_some o ≡ false → option_map_or (λ (k : Package). option_map_or (λ (e : Present). Some e.home) (finite.get k.symbols n) (first_external t n (finite.keys k.uses))) o None ≡ None) [
+      | None ↦ λ _. refl
+      | Some k ↦ λ none. absurd (false≢true (sym none))
+    ] outside
 
-pub returns-in_default-find_name : goal.returns-in_default-find_name
-returns-in_default-find_name c = sym (found_no_name c.args.sets.now c.goodness.ensures c.args.owner.now c.args.name.now (sym c.in_default-find_name.ensures))
-
-pub home_name-requires : goal.home_name-requires
-home_name-requires c =
-    (this_known c.args.sets.now c.goodness.ensures c.args.owner.now c.args.name.now c.in-Some.owner (sym c.in-Some.ensures) c.in-Some-find_name.name (sym c.in-Some-find_name.ensures) c.in-Some-found_number.symbol (sym c.in-Some-found_number.ensures)).0
-
-pub returns-in-Some-found_number : goal.returns-in-Some-found_number
-returns-in-Some-found_number c =
-    ap Some c.home_name.ensures ∙ ap (option_map (home_in c.args.sets.now)) c.in-Some-found_number.ensures
-    ∙ found_by c.args.sets.now c.goodness.ensures c.args.owner.now c.args.name.now c.in-Some.owner c.in-Some-find_name.name (sym c.in-Some.ensures) (sym c.in-Some-find_name.ensures) c.requires
+pub returns-in-Some : goal.returns-in-Some
+returns-in-Some c = c.found_home.ensures ∙ ap (λ (p : Name). found (numbered_of c.args.sets.now).0 p c.args.name.now) c.in-Some.ensures.named.1
 
 pub returns-in-None : goal.returns-in-None
-returns-in-None c =
-    ap (option_map (home_in c.args.sets.now)) c.in-None.ensures
-    ∙ found_by c.args.sets.now c.goodness.ensures c.args.owner.now c.args.name.now c.in-Some.owner c.in-Some-find_name.name (sym c.in-Some.ensures) (sym c.in-Some-find_name.ensures) c.requires
+returns-in-None c = sym (none_outside (numbered_of c.args.sets.now).0 c.args.owner.now c.args.name.now (sym c.in-None.ensures.there))

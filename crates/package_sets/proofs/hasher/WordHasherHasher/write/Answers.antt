@@ -1,4 +1,4 @@
-use Rattle.std.proofs.Common.{take_all, rules}
+use Rattle.std.proofs.Common.{rules}
 use Rattle.std.proofs.hash.Loops.{byte_more}
 use Rattle.package_sets.proofs.hasher.WordHasherHasher.write.Goals as goal
 
