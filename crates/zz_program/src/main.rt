@@ -1,0 +1,127 @@
+//! The program: it registers the macro functions, hands them to `store_commands::program` with the words, the standard streams and
+//! the files of the system, and ends with its status.
+#![tactic(auto)]
+
+ghost use Rattle.std.specs.Prelude.{◌≡◌, true, IfErr, is_ok};
+ghost use Rattle.user_macros.specs.Sound.{IsSoundCall};
+ghost use Rattle.user_macros.specs.Functions.{are_registered};
+
+use lisp_object::refusal::NO_MEMORY;
+use readtable_core::FnName;
+use std::alloc::AllocError;
+use disk_trait::HostDisk;
+use prevalence_store::Store;
+use world_forms::{Content, export};
+use std::env;
+use std::io::{ErrorKind, Write};
+use std::process::ExitCode;
+use store_commands::{SixFunctions, Status, end_with, macro_functions, program};
+use user_macros::{Answer, Call, Cause, MacroFn, MacroFunctions, Macros, Refusal};
+
+// The words that the program was started with, or the status where they are not had: they are no text, or there is no memory.
+fn words_given(rt: &HostRuntime) -> Result<Vec<String>, Status> {
+    match env::args(rt) {
+        Ok(words) => words
+            .collect(rt.alloc())
+            .map_err(|_| Status::Fault(NO_MEMORY)),
+        Err(error) if error.kind() == ErrorKind::InvalidData => Err(Status::WordsRefused),
+        Err(_) => Err(Status::Fault(NO_MEMORY)),
+    }
+}
+
+// Does what the words ask for, with macro functions that are all registered.
+fn serve<M: MacroFunctions + Drop, F: Write>(rt: &HostRuntime, macros: M, faults: &mut F) -> Status
+    requires answers { M.answers macros }
+    requires whole { are_registered M.Meaning.functions (M.functions macros) ≡ true }
+{
+    match words_given(rt) {
+        Ok(words) if words.len() > 2 && words[1].as_str() == "export" => export_on(rt, macros, words.as_slice()),
+        Ok(words) => program(
+            rt,
+            macros,
+            words.as_slice(),
+            &mut rt.stdin(),
+            &mut rt.stdout(),
+            faults,
+        ),
+        Err(Status::WordsRefused) => {
+            let _ = writeln!(faults, "error: a word of the command line is no text");
+            Status::WordsRefused
+        }
+        Err(status) => end_with(faults, status),
+    }
+}
+
+fn export_on<M: MacroFunctions + Drop>(rt: &HostRuntime, macros: M, words: &[String]) -> Status
+    requires answers { M.answers macros }
+{
+    let Ok(disk) = HostDisk::open(rt, words[2].as_str()) else { return Status::Fault(60); };
+    let store = match Store::open(rt.alloc(), disk, macros, 1 << 30) { Ok(s) => s, Err(e) => return Status::Fault(e.number) };
+    let content = if words.len() > 3 { Content::Data } else { Content::World };
+    let mut status = Status::Done;
+    if let Some(world) = store.world() {
+        match export(rt.alloc(), world, content) {
+            Ok(e) => {
+                let _ = rt.stdout().write_all(e.forms.as_slice());
+                let _ = rt.stderr().write_all(e.left_out.as_slice());
+            }
+            Err(_) => { status = Status::Fault(90); }
+        }
+    }
+    let _c = store.close();
+    status
+}
+
+// What comes of registering a function whose name is known and not taken: only memory can refuse it.
+fn registered(registering: Result<(), Refusal>) -> Result<(), AllocError>
+    requires { IfErr registering (λ refusal. refusal.cause ≡ Cause.OutOfMemory) }
+    ensures { is_ok result ≡ is_ok registering }
+{
+    match registering {
+        Ok(()) => Ok(()),
+        Err(_) => Err(AllocError),
+    }
+}
+
+// Registers the macro functions, and then does what the words ask for.
+fn start<F: Write>(rt: &HostRuntime, faults: &mut F) -> Result<Status, AllocError> {
+    let alloc = rt.alloc();
+    let square: MacroFn = Box::new(
+        alloc,
+        move |call: &Call| -> Result<Answer, AllocError>
+            requires { IsSoundCall call.now }
+        { macro_functions::square(alloc, call) },
+    )?;
+    let close: MacroFn = Box::new(alloc, |_call: &Call| Ok(Answer::Refused(1)))?;
+    let note: MacroFn = Box::new(alloc, |_call: &Call| Ok(Answer::Nothing))?;
+    let skip: MacroFn = Box::new(alloc, |_call: &Call| Ok(Answer::Nothing))?;
+    let unit: MacroFn = Box::new(
+        alloc,
+        move |call: &Call| -> Result<Answer, AllocError>
+            requires { IsSoundCall call.now }
+        { macro_functions::unit(alloc, call) },
+    )?;
+    let scale: MacroFn = Box::new(
+        alloc,
+        |call: &Call| -> Result<Answer, AllocError>
+            requires { IsSoundCall call.now }
+        { Ok(macro_functions::scale(call)) },
+    )?;
+    let mut macros = Macros::new(alloc, SixFunctions::new());
+    registered(macros.register(FnName::new(b"SQUARE").unwrap(), square))?;
+    registered(macros.register(FnName::new(b"CLOSE").unwrap(), close))?;
+    registered(macros.register(FnName::new(b"NOTE").unwrap(), note))?;
+    registered(macros.register(FnName::new(b"SKIP").unwrap(), skip))?;
+    registered(macros.register(FnName::new(b"UNIT").unwrap(), unit))?;
+    registered(macros.register(FnName::new(b"SCALE").unwrap(), scale))?;
+    Ok(serve(rt, macros, faults))
+}
+
+fn main(rt: HostRuntime) -> ExitCode {
+    let mut faults = rt.stderr();
+    let status = match start(&rt, &mut faults) {
+        Ok(status) => status,
+        Err(AllocError) => end_with(&mut faults, Status::Fault(NO_MEMORY)),
+    };
+    ExitCode::from(status.code())
+}
