@@ -26,7 +26,9 @@ pub fn read_and_print(alloc: Global, text: &[u8]) -> Result<Vec<u8>, ReadingErro
     let macros = Macros::new(alloc, NoFunctions);
     let current = COMMON_LISP_USER;
     let limits = Limits::form();
-    match read_one(alloc, limits, &readtable, &packages, current, &macros, text)? {
+    match read_one(
+        alloc, limits, &readtable, 10, &packages, current, &macros, text,
+    )? {
         ReadOutcome::Form { datum, .. } => Ok(print(alloc, &datum, &packages, current)?),
         ReadOutcome::Empty => Err(ReadingError::Empty),
         ReadOutcome::Refused { code, at } => Err(ReadingError::Refused { number: code, at }),

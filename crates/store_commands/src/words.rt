@@ -18,7 +18,7 @@ use std::alloc::{AllocError, Global};
 use std::convert::AsStr;
 
 /// The version of the program, and of the files that it writes.
-const PROGRAM_VERSION: &str = "0.1.0, files of version 1";
+const PROGRAM_VERSION: &str = "0.1.0, files of version 2";
 
 const RUN: &str = "run";
 

@@ -1,4 +1,6 @@
 //! All forms of a world.
+ghost use Rattle.std.specs.Prelude.{◌≤◌};
+
 use crate::packages::push_packages;
 use crate::properties::push_properties;
 use crate::readtables::push_readtables;
@@ -45,15 +47,29 @@ pub fn export(alloc: Global, world: &World, content: Content) -> Result<Export, 
     Ok(Export { forms, left_out })
 }
 
-/// One form that makes the package, and with the readtables the readtable, of a world current: the next one would be read under them.
+/// One form that makes the package, and with the readtables the read base and the readtable, of a world current: the next one would
+/// be read under them.
 fn push_current(forms: &mut Vec<u8>, world: &World, content: Content) -> Result<(), AllocError> {
     forms.extend_from_slice(b"(PROGN (IN-PACKAGE ")?;
     push_text(forms, world.current_package())?;
     forms.push(b')')?;
     if content == Content::World {
-        forms.extend_from_slice(b" (IN-READTABLE ")?;
+        forms.extend_from_slice(b" (SETF *READ-BASE* ")?;
+        push_decimal(forms, world.read_base())?;
+        forms.extend_from_slice(b") (IN-READTABLE ")?;
         push_symbol(forms, KEYWORD, world.current_readtable())?;
         forms.push(b')')?;
     }
     forms.extend_from_slice(b")\n")
+}
+
+/// Adds a number of at most two digits.
+fn push_decimal(forms: &mut Vec<u8>, number: u8) -> Result<(), AllocError>
+    requires { number ≤ 36 }
+{
+    if number >= 10 {
+        forms.push(b'0' + number / 10)?;
+    }
+    forms.push(b'0' + number % 10)?;
+    Ok(())
 }

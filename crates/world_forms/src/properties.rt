@@ -52,6 +52,7 @@ fn is_form(
         alloc,
         limits,
         readtable,
+        10,
         packages,
         COMMON_LISP_USER,
         &macros,
