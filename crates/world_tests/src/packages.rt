@@ -154,9 +154,10 @@ fn are_numbered(packages: &Packages) -> bool {
     let mut seen = [false; 53];
     for (owner, names) in FIRST_SYMBOLS {
         for name in names {
-            let Some(number) = packages.numbers().number_of(owner, name) else {
+            let Some(number) = packages.number_of(owner, name) else {
                 return false;
             };
+            let number = number as usize;
             if number >= 53 || seen[number] {
                 return false;
             }

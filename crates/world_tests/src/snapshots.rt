@@ -1,12 +1,14 @@
 //! Texts of worlds, byte for byte.
+mod versions;
+
 use lisp_object::{Bytes, Datum};
 use package_table::PackageError;
 use package_table::standardized::{COMMON_LISP_USER, KEYWORD};
-use plist_state::{STANDARD, Symbol, USER, World};
+use plist_state::{STANDARD, Seed, Symbol, USER, World};
 use readtable_core::{Case, FnName};
 use snapshot_text::{
-    SnapshotError, one_text_one_state, printed_objects_read_back, read, snapshot_lines_are_read,
-    write,
+    SnapshotError, one_text_one_state, printed_objects_read_back, read, read_with_seed,
+    snapshot_lines_are_read, write,
 };
 use std::alloc::{AllocError, Global};
 use std::test::Fail;
@@ -50,16 +52,16 @@ fn add_packages(world: &mut World) -> Result<(), PackageError> {
 }
 
 const FIRST_WORLD: &[u8] =
-    b"((\"COMMON-LISP-USER\" (\"COMMON-LISP\") NIL NIL NIL) (\"KEYWORD\" NIL NIL NIL NIL))\nNIL\n(\"COMMON-LISP-USER\" \"USER\" ((\"USER\" \"UPCASE\" NIL)))\n";
+    b"((\"COMMON-LISP-USER\" (\"COMMON-LISP\") NIL NIL NIL) (\"KEYWORD\" NIL NIL NIL NIL))\nNIL\n(\"COMMON-LISP-USER\" \"USER\" 10 ((\"USER\" \"UPCASE\" NIL)))\n";
 
 const WITH_PROPERTY: &[u8] =
-    b"((\"COMMON-LISP-USER\" (\"COMMON-LISP\") (\"A\" \"B\") NIL NIL) (\"KEYWORD\" NIL NIL NIL NIL))\n((A B 7))\n(\"COMMON-LISP-USER\" \"USER\" ((\"USER\" \"UPCASE\" NIL)))\n";
+    b"((\"COMMON-LISP-USER\" (\"COMMON-LISP\") (\"A\" \"B\") NIL NIL) (\"KEYWORD\" NIL NIL NIL NIL))\n((A B 7))\n(\"COMMON-LISP-USER\" \"USER\" 10 ((\"USER\" \"UPCASE\" NIL)))\n";
 
 const WITH_MACRO: &[u8] =
-    b"((\"COMMON-LISP-USER\" (\"COMMON-LISP\") NIL NIL NIL) (\"KEYWORD\" NIL (\"SQUARE\") NIL NIL))\nNIL\n(\"COMMON-LISP-USER\" \"USER\" ((\"USER\" \"UPCASE\" ((91 2 \"SQUARE\" NIL)))))\n";
+    b"((\"COMMON-LISP-USER\" (\"COMMON-LISP\") NIL NIL NIL) (\"KEYWORD\" NIL (\"SQUARE\") NIL NIL))\nNIL\n(\"COMMON-LISP-USER\" \"USER\" 10 ((\"USER\" \"UPCASE\" ((91 2 \"SQUARE\" NIL)))))\n";
 
 const WITH_PACKAGES: &[u8] =
-    b"((\"COMMON-LISP-USER\" (\"COMMON-LISP\") NIL NIL ((\"X\" \"P\"))) (\"KEYWORD\" NIL NIL NIL NIL) (\"P\" NIL (\"X\") (\"X\") NIL) (\"Q\" (\"P\") NIL NIL NIL))\nNIL\n(\"Q\" \"USER\" ((\"USER\" \"INVERT\" ((33 3 \"STD-DISPATCH\" NIL)))))\n";
+    b"((\"COMMON-LISP-USER\" (\"COMMON-LISP\") NIL NIL ((\"X\" \"P\"))) (\"KEYWORD\" NIL NIL NIL NIL) (\"P\" NIL (\"X\") (\"X\") NIL) (\"Q\" (\"P\") NIL NIL NIL))\nNIL\n(\"Q\" \"USER\" 10 ((\"USER\" \"INVERT\" ((33 3 \"STD-DISPATCH\" NIL)))))\n";
 
 // Whether this is the text of the world.
 fn is_text_of(alloc: Global, world: &World, text: &[u8]) -> Result<bool, Fail> {
@@ -69,7 +71,7 @@ fn is_text_of(alloc: Global, world: &World, text: &[u8]) -> Result<bool, Fail> {
 #[test]
 fn the_first_world(rt: HostRuntime) -> Result<(), Fail> {
     let world = World::new(rt.alloc())?;
-    assert!(rt; is_text_of(rt.alloc(), &world, FIRST_WORLD)? && FIRST_WORLD.len() == 135);
+    assert!(rt; is_text_of(rt.alloc(), &world, FIRST_WORLD)? && FIRST_WORLD.len() == 138);
     Ok(())
 }
 
@@ -86,7 +88,7 @@ fn with_property(alloc: Global) -> Result<World, Fail> {
 #[test]
 fn a_property(rt: HostRuntime) -> Result<(), Fail> {
     let world = with_property(rt.alloc())?;
-    assert!(rt; is_text_of(rt.alloc(), &world, WITH_PROPERTY)? && WITH_PROPERTY.len() == 147);
+    assert!(rt; is_text_of(rt.alloc(), &world, WITH_PROPERTY)? && WITH_PROPERTY.len() == 150);
     Ok(())
 }
 
@@ -102,7 +104,7 @@ fn with_macro(alloc: Global) -> Result<World, Fail> {
 #[test]
 fn a_macro_character(rt: HostRuntime) -> Result<(), Fail> {
     let world = with_macro(rt.alloc())?;
-    assert!(rt; is_text_of(rt.alloc(), &world, WITH_MACRO)? && WITH_MACRO.len() == 160);
+    assert!(rt; is_text_of(rt.alloc(), &world, WITH_MACRO)? && WITH_MACRO.len() == 163);
     Ok(())
 }
 
@@ -122,10 +124,10 @@ fn packages_and_dispatch(rt: HostRuntime) -> Result<(), Fail> {
     Ok(())
 }
 
-// The text of the world that is read from a text, or the number of the refusal.
+// The text of the world that is read from a text of version 2, or the number of the refusal.
 fn read_back(alloc: Global, bytes: &[u8]) -> Result<Result<Vec<u8>, u16>, Fail> {
     let macros = Macros::new(alloc, Notes::new());
-    match read(alloc, bytes, &macros) {
+    match read(alloc, 2, bytes, &macros) {
         Ok(world) => Ok(Ok(write(alloc, &world)?)),
         Err(refusal) => Ok(Err(refusal.number())),
     }
@@ -213,27 +215,34 @@ const USES_ITSELF: &[u8] =
 const NOT_PRESENT: &[u8] =
     b"((\"COMMON-LISP-USER\" (\"COMMON-LISP\") NIL (\"A\") NIL) (\"KEYWORD\" NIL NIL NIL NIL))";
 
-const TABLES: &[u8] = b"(\"COMMON-LISP-USER\" \"USER\" ((\"USER\" \"UPCASE\" NIL)))";
+const TABLES: &[u8] = b"(\"COMMON-LISP-USER\" \"USER\" 10 ((\"USER\" \"UPCASE\" NIL)))";
 
 // A number, and the lines of a text that is refused so; the words are those of `line_of`. Two texts have an empty line more.
 const REFUSED: &str = r#"62|||
 62|NIL|NIL|NIL
-62|FIRST|NIL|("COMMON-LISP-USER" "USER" (("USER" "UPCASE"  NIL)))
-62|FIRST|NIL|("COMMON-LISP-USER" "USER" (("USER" "UPCASE" NIL)))|
-62|FIRST|NIL|("P" "USER" (("USER" "UPCASE" NIL)))
-62|FIRST|NIL|("COMMON-LISP-USER" "STANDARD" NIL)
-62|FIRST|NIL|("COMMON-LISP-USER" "USER" (("USER" "UPCASE" ((40 2 "STD-LIST" NIL)))))
-62|FIRST|NIL|("COMMON-LISP-USER" "USER" (("USER" "UPCASE" ((91 2 "SQUARE" NIL)))))
-62|FIRST|NIL|("COMMON-LISP-USER" "USER" (("USER" "UPCASE" ((33 3 "STD-DISPATCH" ((53 "STD-LIST")))))))
-63|KEYWORDS|NIL|("COMMON-LISP-USER" "USER" (("USER" "UPCASE" ((91 2 "SQUARE" NIL)))))
-63|KEYWORDS|NIL|("COMMON-LISP-USER" "USER" (("USER" "UPCASE" ((33 3 "STD-DISPATCH" ((91 "STD-FOO")))))))
-62|KEYWORDS|NIL|("COMMON-LISP-USER" "USER" (("USER" "UPCASE" ((91 2 "SQUARE" NIL)))))|
+62|FIRST|NIL|("COMMON-LISP-USER" "USER" 10 (("USER" "UPCASE"  NIL)))
+62|FIRST|NIL|("COMMON-LISP-USER" "USER" 10 (("USER" "UPCASE" NIL)))|
+62|FIRST|NIL|("P" "USER" 10 (("USER" "UPCASE" NIL)))
+62|FIRST|NIL|("COMMON-LISP-USER" "STANDARD" 10 NIL)
+62|FIRST|NIL|("COMMON-LISP-USER" "USER" 10 (("USER" "UPCASE" ((40 2 "STD-LIST" NIL)))))
+62|FIRST|NIL|("COMMON-LISP-USER" "USER" 10 (("USER" "UPCASE" ((91 2 "SQUARE" NIL)))))
+62|FIRST|NIL|("COMMON-LISP-USER" "USER" 10 (("USER" "UPCASE" ((33 3 "STD-DISPATCH" ((53 "STD-LIST")))))))
+63|KEYWORDS|NIL|("COMMON-LISP-USER" "USER" 10 (("USER" "UPCASE" ((91 2 "SQUARE" NIL)))))
+63|KEYWORDS|NIL|("COMMON-LISP-USER" "USER" 10 (("USER" "UPCASE" ((33 3 "STD-DISPATCH" ((91 "STD-FOO")))))))
+62|KEYWORDS|NIL|("COMMON-LISP-USER" "USER" 10 (("USER" "UPCASE" ((91 2 "SQUARE" NIL)))))|
 62|FIRST|((T T))|TABLES
 62|NO_NAME|NIL|TABLES
 62|NICKNAME|NIL|TABLES
 62|USES_NOTHING|NIL|TABLES
 62|USES_ITSELF|NIL|TABLES
-62|NOT_PRESENT|NIL|TABLES"#;
+62|NOT_PRESENT|NIL|TABLES
+62|FIRST|NIL|("COMMON-LISP-USER" "USER" (("USER" "UPCASE" NIL)))
+62|FIRST|NIL|("COMMON-LISP-USER" "USER" 1 (("USER" "UPCASE" NIL)))
+62|FIRST|NIL|("COMMON-LISP-USER" "USER" 37 (("USER" "UPCASE" NIL)))
+62|FIRST|NIL|("COMMON-LISP-USER" "USER" -10 (("USER" "UPCASE" NIL)))
+62|FIRST|NIL|("COMMON-LISP-USER" "USER" "10" (("USER" "UPCASE" NIL)))
+62|FIRST|NIL|("COMMON-LISP-USER" "USER" 10. (("USER" "UPCASE" NIL)))
+62|FIRST|NIL|("COMMON-LISP-USER" "USER" (("USER" "UPCASE" NIL)) 10)"#;
 
 // The line of a word, and else the word.
 fn line_of(word: &str) -> &[u8] {
@@ -337,6 +346,26 @@ fn altered_texts(rt: HostRuntime) -> Result<(), Fail> {
     }
     for length in 0..text.len() {
         assert!(rt; is_damaged(alloc, &text[..length])?);
+    }
+    Ok(())
+}
+
+// Whether the text is that of a world, which is read under this seed.
+fn is_read_with(alloc: Global, text: &[u8], seed: Seed) -> Result<bool, Fail> {
+    let macros = Macros::new(alloc, Notes::new());
+    Ok(match read_with_seed(alloc, 2, text, &macros, seed) {
+        Ok(world) => write(alloc, &world)?.as_slice() == text,
+        Err(_) => false,
+    })
+}
+
+// A text is read under any seed.
+#[test]
+fn texts_under_seeds(rt: HostRuntime) -> Result<(), Fail> {
+    let alloc = rt.alloc();
+    let text = full_text(alloc)?;
+    for seed in [Seed::fixed(), Seed::new(0, 0), Seed::draw(&rt)?] {
+        assert!(rt; is_read_with(alloc, text.as_slice(), seed)?);
     }
     Ok(())
 }

@@ -205,10 +205,10 @@ fn is_number(value: Option<&Datum>, number: i128) -> bool {
 
 // Whether the symbol has these two properties, in this order.
 fn has(world: &World, symbol: &Symbol, first: i128, second: i128) -> bool {
-    match world.plist(symbol) {
-        [one, two] => is_number(Some(&one.value), first) && is_number(Some(&two.value), second),
-        _ => false,
-    }
+    let properties = world.plist(symbol);
+    properties.len() == 2
+        && is_number(Some(properties.at(0).value), first)
+        && is_number(Some(properties.at(1).value), second)
 }
 
 // How many symbols have properties, and how many packages they are of.

@@ -56,7 +56,7 @@ no_alone _ e = absurd cc
 module _ (limits : Limits) (packages : Packages) (current : Name) (functions : Functions) where
   -- reading under the standard readtable
   abbrev pub under : Setting
-  under = setting_of limits standard packages current functions
+  under = setting_of limits standard 10 packages current functions
 
   abbrev pub begun : ℕ → ℕ → List ℕ → Read Found
   begun d at cs = run standard limits (attempt under d) at cs

@@ -283,12 +283,9 @@ fn keeps_limits(packages: &mut Packages) -> bool {
         && answer(packages, Call::BackTo(0)) == Ok(true)
         && !packages.is_full_of_symbols()
         && packages.resolve_internal(COMMON_LISP_USER, last) == Ok(Resolved::New(COMMON_LISP_USER))
-        && packages
-            .numbers()
-            .number_of(COMMON_LISP_USER, last)
-            .is_none()
+        && packages.number_of(COMMON_LISP_USER, last).is_none()
         && makes_symbols(packages)
-        && packages.numbers().number_of(COMMON_LISP_USER, last) == Some(986_895)
+        && packages.number_of(COMMON_LISP_USER, last) == Some(986_895)
         && answers(packages, AT_LIMITS)
 }
 

@@ -2,7 +2,7 @@
 use super::{answer, put, remove, words_of};
 use package_table::Packages;
 use package_table::standardized::COMMON_LISP;
-use plist_state::{Property, Symbol, World};
+use plist_state::{PropertyList, Symbol, World};
 use readtable_core::Readtable;
 use std::alloc::Global;
 use std::test::Fail;
@@ -97,12 +97,13 @@ fn same_packages(alloc: Global, a: &Packages, b: &Packages) -> bool {
 }
 
 // The same properties in the same order.
-fn same_plist(a: &[Property], b: &[Property]) -> bool {
+fn same_plist(a: &PropertyList<'_>, b: &PropertyList<'_>) -> bool {
     if a.len() != b.len() {
         return false;
     }
-    for (p, q) in a.iter().zip(b) {
-        if p.indicator != q.indicator || p.value != q.value {
+    for index in 0..a.len() {
+        let (p, q) = (a.at(index), b.at(index));
+        if p.home != q.home || p.name != q.name || p.value != q.value {
             return false;
         }
     }
@@ -118,7 +119,7 @@ fn same_properties(alloc: Global, a: &World, b: &World) -> bool {
         let Ok(symbol) = Symbol::from_bytes(alloc, home.as_slice(), name.as_slice()) else {
             return false;
         };
-        if !same_plist(a.plist(&symbol), b.plist(&symbol)) {
+        if !same_plist(&a.plist(&symbol), &b.plist(&symbol)) {
             return false;
         }
     }

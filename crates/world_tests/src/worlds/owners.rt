@@ -67,7 +67,8 @@ const OWNERS: [(&[u8], &[u8]); 5] = [
 // Whether each symbol has the number that was put at it.
 fn have_their_own(world: &World) -> bool {
     PUT.iter().enumerate().all(|(index, (home, name))| {
-        matches!(world.plist_of(home, name), [property] if super::is_number(Some(property.value()), index as i128))
+        let properties = world.plist_of(home, name);
+        properties.len() == 1 && super::is_number(Some(properties.at(0).value), index as i128)
     })
 }
 
