@@ -1,5 +1,5 @@
 -- The command line of the program, as clap reads it: `run DIR [--rescue] [--snapshot-every N]`, `snapshot DIR`, `upgrade DIR`,
--- `dump DIR` and `verify DIR`, each with `--existing`.
+-- `export DIR [--data]`, `dump DIR` and `verify DIR`, each with `--existing`.
 use Rattle.std.specs.Prelude.{◌≡◌, ◌≢◌, ◌≤◌, ◌^◌, ◌-◌, ◌⊎◌, ℕ, Bool, true, false, if◌then◌else◌, List, [], ◌∷◌, ◌++◌, Option, Some, None, codes, option_map, option_and_then}
 use Rattle.std.specs.Option.{option_map_or}
 use Rattle.std.specs.Str.{bytes_eq}
@@ -13,9 +13,11 @@ use Rattle.clap.specs.declared.builder.value_parser.ValueParser.TheVariants.{Uns
 use Rattle.clap.specs.declared.error.kind.ErrorKind.TheVariants.{MissingRequiredArgument}
 use Rattle.prevalence_store.specs.declared.mode.Mode.{Mode}
 use Rattle.prevalence_store.specs.declared.mode.Mode.TheVariants.{Current, Rescue}
+use Rattle.world_forms.specs.declared.export.Content.{Content}
+use Rattle.world_forms.specs.declared.export.Content.TheVariants.{Data, World}
 use Rattle.store_commands.specs.declared.words.Task.{Task}
 use Rattle.store_commands.specs.declared.words.Report.TheVariants.{Dump, Verify}
-use Rattle.store_commands.specs.declared.words.Task.TheVariants.{Run, Snapshot, Tell, Upgrade}
+use Rattle.store_commands.specs.declared.words.Task.TheVariants.{Export, Run, Snapshot, Tell, Upgrade}
 
 -- DIR: one value, required
 abbrev pub directory_rule : Rule
@@ -54,14 +56,25 @@ folder_line name = with_rule (with_rule (new_app name) directory_rule) existing_
 abbrev pub run_line : App
 run_line = with_rule (with_rule (folder_line (codes "run")) rescue_rule) every_rule
 
+-- --data: a flag
+abbrev pub data_rule : Rule
+data_rule = record (new_rule (codes "data")) {
+  long = Some (codes "data");
+  action = Some SetTrue;
+}
+
+abbrev pub export_line : App
+export_line = with_rule (folder_line (codes "export")) data_rule
+
 -- the program, with its commands and its version
 abbrev pub program_line : App
 program_line = on_top (λ s. record s { subcommand_required = true; has_version = true }) (new_app (codes "store_program"))
 
 abbrev pub command_line : App
 command_line =
-    with_subcommand (with_subcommand (with_subcommand (with_subcommand (with_subcommand program_line
-    run_line.top) (folder_line (codes "snapshot")).top) (folder_line (codes "upgrade")).top) (folder_line (codes "dump")).top) (folder_line (codes "verify")).top
+    with_subcommand (with_subcommand (with_subcommand (with_subcommand (with_subcommand (with_subcommand program_line
+    run_line.top) (folder_line (codes "snapshot")).top) (folder_line (codes "upgrade")).top) export_line.top)
+    (folder_line (codes "dump")).top) (folder_line (codes "verify")).top
 
 -- whether a flag is there, which has the value true
 abbrev pub is_set : Option Text → Bool
@@ -70,6 +83,10 @@ is_set flag = option_map_or (bytes_eq (codes "true")) flag false
 -- the mode of a flag
 abbrev pub mode_of_flag : Option Text → Mode
 mode_of_flag flag = if is_set flag then Rescue else Current
+
+-- what is exported, by the flag
+abbrev pub content_of_flag : Option Text → Content
+content_of_flag flag = if is_set flag then Data else World
 
 -- after how many forms a snapshot is taken: 0, which is never, where no number is given
 abbrev pub every_of_number : Option Text → ℕ
@@ -86,9 +103,10 @@ task_of found =
     if bytes_eq found.0 (codes "run") then Some (Run (mode_of_flag (first_of (codes "rescue") found.1)) (every_in found.1))
     else (if bytes_eq found.0 (codes "snapshot") then Some Snapshot
     else (if bytes_eq found.0 (codes "upgrade") then Some Upgrade
+    else (if bytes_eq found.0 (codes "export") then Some (Export (content_of_flag (first_of (codes "data") found.1)))
     else (if bytes_eq found.0 (codes "dump") then Some (Tell Dump)
     else (if bytes_eq found.0 (codes "verify") then Some (Tell Verify)
-    else None))))
+    else None)))))
 
 -- A folder, whether its store has to be there already, and what is to be done with it.
 abbrev pub Asked : Type 0
@@ -128,6 +146,11 @@ abbrev pub flag_for : Mode → List Text
 flag_for Current = []
 flag_for Rescue = codes "--rescue" ∷ []
 
+-- the flag of what is exported
+abbrev pub data_for : Content → List Text
+data_for World = []
+data_for Data = codes "--data" ∷ []
+
 -- the words of the option on snapshots: none for 0, and a decimal number from 1 to 1,000,000 else
 abbrev pub IsEvery : ℕ → List Text → Type 0
 IsEvery every words =
@@ -145,6 +168,7 @@ IsLine words folder existing (Run mode every) =
     (option : List Text) × (words ≡ codes "run" ∷ folder ∷ (flag_for mode ++ option ++ existing_for existing)) × IsEvery every option
 IsLine words folder existing Snapshot = words ≡ codes "snapshot" ∷ folder ∷ existing_for existing
 IsLine words folder existing Upgrade = words ≡ codes "upgrade" ∷ folder ∷ existing_for existing
+IsLine words folder existing (Export content) = words ≡ codes "export" ∷ folder ∷ (data_for content ++ existing_for existing)
 IsLine words folder existing (Tell Dump) = words ≡ codes "dump" ∷ folder ∷ existing_for existing
 IsLine words folder existing (Tell Verify) = words ≡ codes "verify" ∷ folder ∷ existing_for existing
 

@@ -9,7 +9,7 @@ use Rattle.world_text.specs.Snapshot.{snapshot}
 use Rattle.user_macros.specs.Functions.{Functions}
 use Rattle.prevalence_store.specs.calls.Open.{IsUnopened}
 use Rattle.prevalence_store.specs.declared.outcome.Ending.{Ending}
-use Rattle.store_commands.specs.Report.{DumpsWorld, IsReport, IsSnapshot, IsUpgrade, TellsHalf, TellsVersion, half_line, version_line}
+use Rattle.store_commands.specs.Report.{DumpsWorld, IsExport, IsReport, IsSnapshot, IsUpgrade, TellsHalf, TellsVersion, WritesForms, half_line, version_line}
 use Rattle.store_commands.specs.Session.{AnswersInput, IsBrokenOff, IsSession, ReadsToEnd, half_limit}
 use Rattle.store_commands.specs.Status.{HasFaultNumber, IsCarriedOut, TakesWords, status_of_ending}
 use Rattle.store_commands.specs.Texts.{IsFront}
@@ -17,7 +17,7 @@ use Rattle.store_commands.specs.declared.status.Status.{Status}
 use Rattle.store_commands.specs.declared.status.Status.TheVariants.{Fault, Helped, WordsRefused}
 use Rattle.store_commands.specs.declared.words.Report.TheVariants.{Dump, Verify}
 use Rattle.store_commands.specs.declared.words.Task.{Task}
-use Rattle.store_commands.specs.declared.words.Task.TheVariants.{Run, Snapshot, Tell, Upgrade}
+use Rattle.store_commands.specs.declared.words.Task.TheVariants.{Export, Run, Snapshot, Tell, Upgrade}
 
 -- nothing was read, and nothing written
 abbrev pub IsUntouched : {I O : Type 0} → I → I → O → O → Type 0
@@ -36,6 +36,7 @@ abbrev pub reads_input : Task → Bool
 reads_input (Run mode every) = true
 reads_input Snapshot = false
 reads_input Upgrade = false
+reads_input (Export content) = false
 reads_input (Tell report) = false
 
 -- `run` that ends well reads to the end; the other commands read nothing
@@ -43,6 +44,7 @@ abbrev pub TaskReads : Task → Status → List ℕ → Option (List ℕ) → Ty
 TaskReads (Run mode every) status input left = ReadsToEnd status left
 TaskReads Snapshot status input left = left ≡ Some input
 TaskReads Upgrade status input left = left ≡ Some input
+TaskReads (Export content) status input left = left ≡ Some input
 TaskReads (Tell report) status input left = left ≡ Some input
 
 -- ---- over the files of a folder, of which no clause can say what they hold
@@ -53,6 +55,7 @@ module _ (functions : Functions) where
   TaskWrites (Run mode every) status input held written = AnswersInput functions mode status input held written
   TaskWrites Snapshot status input held written = TellsHalf status held written
   TaskWrites Upgrade status input held written = TellsVersion status held written
+  TaskWrites (Export content) status input held written = WritesForms status held written
   TaskWrites (Tell Dump) status input held written = DumpsWorld status held written
   TaskWrites (Tell Verify) status input held written = TellsHalf status held written
 
@@ -61,6 +64,7 @@ module _ (functions : Functions) where
   TaskBreaksOff (Run mode every) input held written = IsBrokenOff functions mode input held written
   TaskBreaksOff Snapshot input held written = (half : Half) × (generation : ℕ) × (records : ℕ) × IsFront held written (half_line half generation records)
   TaskBreaksOff Upgrade input held written = (version : ℕ) × IsFront held written (version_line version)
+  TaskBreaksOff (Export content) input held written = (forms : List ℕ) × IsFront held written forms
   TaskBreaksOff (Tell Dump) input held written = (world : WorldState) × IsFront held written (snapshot world)
   TaskBreaksOff (Tell Verify) input held written = (half : Half) × (generation : ℕ) × (records : ℕ) × IsFront held written (half_line half generation records)
 
@@ -75,7 +79,7 @@ TellsUnopened functions state disk back whole status =
 module _ (functions : Functions) {D R : Type 0} (state : D → State) (macros : R) (whole : Bool)
     {I O : Type 0} (remaining : I → Option (List ℕ)) (contents : O → Option (List ℕ)) (input left : I) (held written : O) where
   -- It was carried out over the store that a disk holds: a session went so, and the status is that of its ending; or a snapshot was
-  -- taken, the store was upgraded, or something was told of it. The disk is left as the store that was closed left it.
+  -- taken, the store was upgraded or exported, or something was told of it. The disk is left as the store that was closed left it.
   abbrev pub CarriesOut : D → D → Task → Status → Type 0
   CarriesOut disk back (Run mode every) status =
       (ending : Ending) × (status ≡ status_of_ending ending)
@@ -84,6 +88,8 @@ module _ (functions : Functions) {D R : Type 0} (state : D → State) (macros : 
       IsSnapshot functions state disk macros (contents held) (contents written) status back × (left ≡ input)
   CarriesOut disk back Upgrade status =
       IsUpgrade functions state disk macros (contents held) (contents written) status back × (left ≡ input)
+  CarriesOut disk back (Export content) status =
+      IsExport functions state disk macros (contents held) (contents written) status back × (left ≡ input)
   CarriesOut disk back (Tell report) status =
       IsReport functions state report disk macros (contents held) (contents written) status back × (left ≡ input)
 

@@ -1,4 +1,4 @@
--- What `dump`, `verify`, `snapshot` and `upgrade` tell of a store.
+-- What `dump`, `verify`, `snapshot`, `upgrade` and `export` tell of a store.
 use Rattle.std.specs.Prelude.{◌≡◌, ◌≢◌, ℕ, List, [], ◌∷◌, ◌++◌, Option, Some, codes, decimal}
 use Rattle.disk_trait.specs.Disk.{State}
 use Rattle.disk_trait.specs.declared.half.Half.{Half}
@@ -11,10 +11,11 @@ use Rattle.prevalence_store.specs.calls.Snapshot.{Snapshots}
 use Rattle.prevalence_store.specs.calls.Store.{StoreView}
 use Rattle.prevalence_store.specs.declared.outcome.Outcome.{Outcome}
 use Rattle.prevalence_store.specs.declared.outcome.Outcome.TheVariants.{Accepted, Snapshotted, Refused}
+use Rattle.prevalence_store.specs.calls.Streams.{Writes}
 use Rattle.store_commands.specs.Texts.{TellsText}
 use Rattle.store_commands.specs.Session.{half_limit}
 use Rattle.store_commands.specs.declared.status.Status.{Status}
-use Rattle.store_commands.specs.declared.status.Status.TheVariants.{Done, Helped, ReaderRefused, WordsRefused, Fault}
+use Rattle.store_commands.specs.declared.status.Status.TheVariants.{Done, Helped, ReaderRefused, WordsRefused, LeftOut, Fault}
 use Rattle.store_commands.specs.declared.words.Report.{Report}
 use Rattle.store_commands.specs.declared.words.Report.TheVariants.{Dump, Verify}
 
@@ -95,6 +96,25 @@ pub record IsUpgrade (functions : Functions) {D R : Type 0} (state : D → State
   pub tells : TellsUpgrade outcome closed status held written
   pub disk_is : back ≡ closed.disk
 
+-- All forms were written, or all but what no form can make; or a part of them, as of every text.
+abbrev pub TellsForms : Status → Option (List ℕ) → Option (List ℕ) → List ℕ → Type 0
+TellsForms LeftOut held written forms = Writes held written forms
+TellsForms Done held written forms = TellsText Done held written forms
+TellsForms (Fault number) held written forms = TellsText (Fault number) held written forms
+TellsForms Helped held written forms = ⊥
+TellsForms ReaderRefused held written forms = ⊥
+TellsForms WordsRefused held written forms = ⊥
+
+-- The store that a disk holds was opened with these macro functions, forms were written, and it was closed: this is its disk. That
+-- they make its world is not said.
+pub record IsExport (functions : Functions) {D R : Type 0} (state : D → State) (disk : D) (macros : R)
+    (held written : Option (List ℕ)) (status : Status) (back : D) : Type 0 where
+  pub opened : StoreView D R
+  pub is_opened : IsOpened functions state disk macros half_limit opened
+  pub forms : List ℕ
+  pub tells : TellsForms status held written forms
+  pub disk_is : back ≡ opened.disk
+
 -- ---- over the files of a folder, of which no clause can say what they hold
 
 -- so far as it ends well, the output has the text of some world more
@@ -103,6 +123,7 @@ DumpsWorld Done held written = (world : WorldState) × (written ≡ Some (held +
 DumpsWorld ReaderRefused held written = ⊥
 DumpsWorld Helped held written = Unit {0}
 DumpsWorld WordsRefused held written = Unit {0}
+DumpsWorld LeftOut held written = ⊥
 DumpsWorld (Fault number) held written = Unit {0}
 
 -- and the line on some half
@@ -111,6 +132,7 @@ TellsHalf Done held written = (half : Half) × (generation : ℕ) × (records : 
 TellsHalf ReaderRefused held written = ⊥
 TellsHalf Helped held written = Unit {0}
 TellsHalf WordsRefused held written = Unit {0}
+TellsHalf LeftOut held written = ⊥
 TellsHalf (Fault number) held written = Unit {0}
 
 -- and the line on some version
@@ -119,4 +141,14 @@ TellsVersion Done held written = (version : ℕ) × (written ≡ Some (held ++ v
 TellsVersion ReaderRefused held written = ⊥
 TellsVersion Helped held written = Unit {0}
 TellsVersion WordsRefused held written = Unit {0}
+TellsVersion LeftOut held written = ⊥
 TellsVersion (Fault number) held written = Unit {0}
+
+-- and some forms
+abbrev pub WritesForms : Status → List ℕ → Option (List ℕ) → Type 0
+WritesForms Done held written = (forms : List ℕ) × (written ≡ Some (held ++ forms))
+WritesForms LeftOut held written = (forms : List ℕ) × (written ≡ Some (held ++ forms))
+WritesForms ReaderRefused held written = ⊥
+WritesForms Helped held written = Unit {0}
+WritesForms WordsRefused held written = Unit {0}
+WritesForms (Fault number) held written = Unit {0}

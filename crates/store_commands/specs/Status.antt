@@ -10,7 +10,7 @@ use Rattle.prevalence_store.specs.declared.outcome.Ending.{Ending}
 use Rattle.prevalence_store.specs.declared.outcome.Ending.TheVariants.{End, Reader, Store}
 use Rattle.store_commands.specs.declared.fault.Unwritten.{Unwritten}
 use Rattle.store_commands.specs.declared.status.Status.{Status}
-use Rattle.store_commands.specs.declared.status.Status.TheVariants.{Done, Helped, ReaderRefused, WordsRefused, Fault}
+use Rattle.store_commands.specs.declared.status.Status.TheVariants.{Done, Helped, ReaderRefused, WordsRefused, LeftOut, Fault}
 
 -- the exit status
 abbrev pub code_of : Status → ℕ
@@ -18,6 +18,7 @@ code_of Done = 0
 code_of Helped = 0
 code_of ReaderRefused = 1
 code_of WordsRefused = 2
+code_of LeftOut = 3
 code_of (Fault number) = 3
 
 -- after a session
@@ -65,6 +66,7 @@ TakesWords Helped = ⊥
 TakesWords WordsRefused = ⊥
 TakesWords Done = Unit {0}
 TakesWords ReaderRefused = Unit {0}
+TakesWords LeftOut = Unit {0}
 TakesWords (Fault number) = Unit {0}
 
 -- after words that gave no command: that of their kind of error, or a fault of the output where help was not written
@@ -75,6 +77,7 @@ IsAfterWords kind status = (status ≡ status_of_kind kind) ⊎ ((status_of_kind
 abbrev pub IsOfWords : Status → Type 0
 IsOfWords Done = ⊥
 IsOfWords ReaderRefused = ⊥
+IsOfWords LeftOut = ⊥
 IsOfWords Helped = Unit {0}
 IsOfWords WordsRefused = Unit {0}
 IsOfWords (Fault number) = (number ≡ NO_MEMORY) ⊎ (number ≡ OUTPUT)

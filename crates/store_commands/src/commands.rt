@@ -8,13 +8,14 @@ ghost use Rattle.store_commands.specs.Commands.{DoesOn, Performs, PerformsNone};
 ghost use Rattle.store_commands.specs.Session.{TellsFault};
 ghost use Rattle.store_commands.specs.Status.{EndsAfter, HasFaultNumber, IsAfterWords, IsOfWords, IsQuiet, TakesWords};
 
-use crate::fault::write_fault_with_cause;
+use crate::export::export_on;
 use crate::report::report_on;
 use crate::session::serve_on;
 use crate::sessions::sessions_on;
 use crate::snapshot::snapshot_on;
 use crate::status::Status;
 use crate::terminal::{Answers, Console, Terminal};
+use crate::told::{Told, end_with_told};
 use crate::upgrade::upgrade_on;
 use crate::words::{Asked, Task, asked_in};
 use clap::Error;
@@ -36,7 +37,7 @@ use user_macros::MacroFunctions;
 /// Each command is over the store in the folder DIR. `run DIR` serves `input` to `output` in the mode Current; with `--rescue`
 /// in the mode Rescue, and with `--snapshot-every N` it takes a snapshot after each N forms that were logged. `snapshot DIR` takes
 /// a snapshot and writes the line on the half in use to `output`, `upgrade DIR` the version after it has taken one of files of
-/// version 1, `dump DIR` the text of the world, and `verify DIR` the line on
+/// version 1, `export DIR` the forms that make the world, `dump DIR` its text, and `verify DIR` the line on
 /// the half in use; they read nothing. A folder without a store gets one, or is a fault with `--existing`.
 ///
 /// Names are hashed by a seed that is drawn from `rt`; if it has no random bytes, the status is that of a fault of the input.
@@ -75,11 +76,11 @@ where
     ensures quiet { IsQuiet result → faults.new ≡ faults.old }
 {
     // The words come first: if they are refused, no folder is opened and nothing is read.
-    let (status, cause) = match asked_in(rt.alloc(), words) {
+    let (status, told) = match asked_in(rt.alloc(), words) {
         Ok(asked) => carry_out(rt, macros, asked, input, output),
-        Err(error) => (answer_words(&error, output, faults), None),
+        Err(error) => (answer_words(&error, output, faults), Told::Nothing),
     };
-    end_with_cause(faults, status, &cause)
+    end_with_told(faults, status, &told)
 }
 
 /// Does what the words ask for, as `program`, where the input is a terminal. `run` is sessions in a row on one open store then: after
@@ -105,7 +106,7 @@ where
     ensures told { TellsFault result (F.contents faults.old) (F.contents faults.new) }
     ensures quiet { IsQuiet result → faults.new ≡ faults.old }
 {
-    let (status, cause) = match asked_in(rt.alloc(), words) {
+    let (status, told) = match asked_in(rt.alloc(), words) {
         Ok(asked) => match asked.task {
             Task::Run {
                 mode,
@@ -113,12 +114,12 @@ where
             } => sit(rt, macros, asked, mode, snapshot_every, console),
             _ => carry_out(rt, macros, asked, console.input, console.output),
         },
-        Err(error) => (answer_words(&error, console.output, faults), None),
+        Err(error) => (answer_words(&error, console.output, faults), Told::Nothing),
     };
-    end_with_cause(faults, status, &cause)
+    end_with_told(faults, status, &told)
 }
 
-// Serves sessions in a row at a terminal over the store in a folder, and tells the cause of a fault of the device.
+// Serves sessions in a row at a terminal over the store in a folder, and tells what is to be told of them on standard error.
 fn sit<R, M, I, O, P>(
     rt: &R,
     macros: M,
@@ -126,7 +127,7 @@ fn sit<R, M, I, O, P>(
     mode: Mode,
     snapshot_every: u64,
     console: Console<'_, I, O, P>,
-) -> (Status, Option<HostError>)
+) -> (Status, Told)
 where
     R: Files<File = File> + RandomSource + AllocGlobal,
     M: MacroFunctions + Drop,
@@ -138,11 +139,11 @@ where
 {
     // the seed comes before the folder, so that nothing is made if there is none
     let Ok(seed) = Seed::draw(rt) else {
-        return (Status::Fault(INPUT), None);
+        return (Status::Fault(INPUT), Told::Nothing);
     };
     let disk = match open_folder(rt, asked) {
         Ok(disk) => disk,
-        Err(error) => return (Status::of_host(&error), Some(error)),
+        Err(error) => return (Status::of_host(&error), Told::Cause(error)),
     };
     let Console {
         input,
@@ -163,36 +164,9 @@ where
         &mut terminal,
         &mut answers,
     ) {
-        Ok((ending, disk, _macros)) => (
-            Status::of_ending(ending),
-            disk.cause().map(HostError::System),
-        ),
-        Err(unopened) => (
-            Status::Fault(unopened.number),
-            unopened.disk.cause().map(HostError::System),
-        ),
+        Ok((ending, disk, _macros)) => (Status::of_ending(ending), cause_of(&disk)),
+        Err(unopened) => (Status::Fault(unopened.number), cause_of(&unopened.disk)),
     }
-}
-
-/// Ends so: after a fault its line is written.
-pub fn end_with<F: Write>(faults: &mut F, status: Status) -> Status
-    ensures status { result ≡ status }
-    ensures told { TellsFault status (F.contents faults.old) (F.contents faults.new) }
-    ensures quiet { IsQuiet status ⊎ (status ≡ Status.WordsRefused) → faults.new ≡ faults.old }
-{
-    end_with_cause(faults, status, &None)
-}
-
-// Ends so: after a fault its line is written, and after one of the device a line with the cause, if it is known.
-fn end_with_cause<F: Write>(faults: &mut F, status: Status, cause: &Option<HostError>) -> Status
-    ensures status { result ≡ status }
-    ensures told { TellsFault status (F.contents faults.old) (F.contents faults.new) }
-    ensures quiet { IsQuiet status ⊎ (status ≡ Status.WordsRefused) → faults.new ≡ faults.old }
-{
-    if let Status::Fault(number) = status {
-        let _ = write_fault_with_cause(faults, number, cause.as_ref());
-    }
-    status
 }
 
 // Words that gave no command: the text on them is written.
@@ -227,15 +201,15 @@ fn write_help<O: Write>(help: &Error, output: &mut O) -> Status
     }
 }
 
-// Carries a task out over the store in a folder, and tells the cause of a fault of the device. The store is closed after it, and
-// its files are let go.
+// Carries a task out over the store in a folder, and tells what is to be told of it on standard error. The store is closed after it,
+// and its files are let go.
 fn carry_out<R, M, I, O>(
     rt: &R,
     macros: M,
     asked: Asked<'_>,
     input: &mut I,
     output: &mut O,
-) -> (Status, Option<HostError>)
+) -> (Status, Told)
 where
     R: Files<File = File> + RandomSource + AllocGlobal,
     M: MacroFunctions + Drop,
@@ -248,14 +222,34 @@ where
 {
     // the seed comes before the folder, so that nothing is made if there is none
     let Ok(seed) = Seed::draw(rt) else {
-        return (Status::Fault(INPUT), None);
+        return (Status::Fault(INPUT), Told::Nothing);
     };
     let disk = match open_folder(rt, asked) {
         Ok(disk) => disk,
-        Err(error) => return (Status::of_host(&error), Some(error)),
+        Err(error) => return (Status::of_host(&error), Told::Cause(error)),
     };
-    let (status, disk) = carry_out_on(rt.alloc(), disk, macros, seed, asked.task, input, output);
-    (status, disk.cause().map(HostError::System))
+    let (status, disk, left_out) = carry_out_on(
+        rt.alloc(),
+        disk,
+        macros,
+        seed,
+        asked.task,
+        input,
+        output,
+    );
+    if status == Status::LeftOut {
+        (status, Told::LeftOut(left_out))
+    } else {
+        (status, cause_of(&disk))
+    }
+}
+
+// The cause of a fault of the device, if there was one.
+fn cause_of(disk: &HostDisk) -> Told {
+    match disk.cause() {
+        Some(error) => Told::Cause(HostError::System(error)),
+        None => Told::Nothing,
+    }
 }
 
 // Opens the files of a folder, which has a name.
@@ -278,7 +272,8 @@ fn open_folder<R: Files<File = File> + RandomSource + AllocGlobal>(
     HostDisk::open_files(rt, asked.folder, if_missing)
 }
 
-// Carries a task out over the store that a disk holds, and gives the disk back as the store left it.
+// Carries a task out over the store that a disk holds, and gives the disk back as the store left it, and a line for each property
+// that was left out of an export.
 fn carry_out_on<D, M, I, O>(
     alloc: Global,
     disk: D,
@@ -287,7 +282,7 @@ fn carry_out_on<D, M, I, O>(
     task: Task,
     input: &mut I,
     output: &mut O,
-) -> (Status, D)
+) -> (Status, D, Vec<u8>)
 where
     D: Disk + Drop,
     M: MacroFunctions + Drop,
@@ -313,20 +308,46 @@ where
             input,
             output,
         ) {
-            Ok((ending, disk, _macros)) => (Status::of_ending(ending), disk),
-            Err(unopened) => (Status::Fault(unopened.number), unopened.disk),
+            Ok((ending, disk, _macros)) => (Status::of_ending(ending), disk, Vec::new(alloc)),
+            Err(unopened) => (
+                Status::Fault(unopened.number),
+                unopened.disk,
+                Vec::new(alloc),
+            ),
         },
         Task::Snapshot => match snapshot_on(alloc, disk, macros, seed, output) {
-            Ok((status, disk, _macros)) => (status, disk),
-            Err(unopened) => (Status::Fault(unopened.number), unopened.disk),
+            Ok((status, disk, _macros)) => (status, disk, Vec::new(alloc)),
+            Err(unopened) => (
+                Status::Fault(unopened.number),
+                unopened.disk,
+                Vec::new(alloc),
+            ),
         },
         Task::Upgrade => match upgrade_on(alloc, disk, macros, seed, output) {
-            Ok((status, disk, _macros)) => (status, disk),
-            Err(unopened) => (Status::Fault(unopened.number), unopened.disk),
+            Ok((status, disk, _macros)) => (status, disk, Vec::new(alloc)),
+            Err(unopened) => (
+                Status::Fault(unopened.number),
+                unopened.disk,
+                Vec::new(alloc),
+            ),
+        },
+        Task::Export(content) => match export_on(alloc, disk, macros, seed, content, output) {
+            Ok((status, disk, _macros, left_out)) => (status, disk, left_out),
+            Err(unopened) => {
+                (
+                    Status::Fault(unopened.number),
+                    unopened.disk,
+                    Vec::new(alloc),
+                )
+            }
         },
         Task::Tell(report) => match report_on(alloc, disk, macros, seed, report, output) {
-            Ok((status, disk, _macros)) => (status, disk),
-            Err(unopened) => (Status::Fault(unopened.number), unopened.disk),
+            Ok((status, disk, _macros)) => (status, disk, Vec::new(alloc)),
+            Err(unopened) => (
+                Status::Fault(unopened.number),
+                unopened.disk,
+                Vec::new(alloc),
+            ),
         },
     }
 }

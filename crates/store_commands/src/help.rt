@@ -2,7 +2,7 @@
 
 /// How the program is called.
 pub const USAGE: &str =
-    "./pazturrok run DIR [--existing] [--rescue] [--snapshot-every N]\n       ./pazturrok snapshot DIR [--existing]\n       ./pazturrok upgrade DIR [--existing]\n       ./pazturrok dump DIR [--existing]\n       ./pazturrok verify DIR [--existing]";
+    "./pazturrok run DIR [--existing] [--rescue] [--snapshot-every N]\n       ./pazturrok snapshot DIR [--existing]\n       ./pazturrok upgrade DIR [--existing]\n       ./pazturrok export DIR [--existing] [--data]\n       ./pazturrok dump DIR [--existing]\n       ./pazturrok verify DIR [--existing]";
 
 /// How each command is called.
 pub const RUN_USAGE: &str = "./pazturrok run DIR [--existing] [--rescue] [--snapshot-every N]";
@@ -10,6 +10,8 @@ pub const RUN_USAGE: &str = "./pazturrok run DIR [--existing] [--rescue] [--snap
 pub const SNAPSHOT_USAGE: &str = "./pazturrok snapshot DIR [--existing]";
 
 pub const UPGRADE_USAGE: &str = "./pazturrok upgrade DIR [--existing]";
+
+pub const EXPORT_USAGE: &str = "./pazturrok export DIR [--existing] [--data]";
 
 pub const DUMP_USAGE: &str = "./pazturrok dump DIR [--existing]";
 
@@ -28,6 +30,9 @@ pub const SNAPSHOT_HELP: &str =
 
 pub const UPGRADE_HELP: &str =
     "If the file in use is of version 1, a snapshot is taken, which is of version 2. The version is written then:\n  ./pazturrok upgrade store\n  version 2\n\nA store of version 1 is served as it is, and becomes one of version 2 at its next snapshot. An older\nprogram does not read files of version 2.\n\nDocuments: docs/operating.md, docs/files.md.";
+
+pub const EXPORT_HELP: &str =
+    "Over a new store the forms make the same world:\n  ./pazturrok export store > forms\n  ./pazturrok run copy < forms\n\nWith --data the readtables are left out, and the forms are Common Lisp. A property that no form can\nset, as its text would be longer than a form may be, is left out: its symbol and its indicator are told on\nstandard error, and the status is 3.\n\nDocuments: docs/operating.md.";
 
 pub const DUMP_HELP: &str =
     "The text is that of a snapshot: the packages, the property lists and the readtables. Two stores\nhave the same world if they give the same text:\n  ./pazturrok dump store\n\nDocuments: docs/files.md, docs/operating.md.";

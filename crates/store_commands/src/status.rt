@@ -18,13 +18,15 @@ pub enum Status {
     ReaderRefused,
     /// The words of the command line were refused.
     WordsRefused,
+    /// What no form can make was left out of an export; the rest was written.
+    LeftOut,
     /// A fault, with its number: 60 to 68, or 90.
     Fault(u16),
 }
 
 impl Status {
     /// The exit status: 0 where the command was carried out and after help, 1 after a refusal of the reader, 2 for words that
-    /// are refused, 3 after a fault.
+    /// are refused, 3 after a fault and where something was left out of an export.
     pub fn code(self) -> u8
         ensures { result ≡ code_of self }
     {
@@ -32,7 +34,7 @@ impl Status {
             Status::Done | Status::Helped => 0,
             Status::ReaderRefused => 1,
             Status::WordsRefused => 2,
-            Status::Fault(_) => 3,
+            Status::LeftOut | Status::Fault(_) => 3,
         }
     }
 

@@ -4,11 +4,11 @@ ghost use Rattle.clap.specs.Words.{FailsBy, Text, app_of, found_of, kind_of, row
 ghost use Rattle.clap.specs.declared.builder.command.Command.TheViews.{out-Command as fields_of};
 ghost use Rattle.clap.specs.declared.error.kind.ErrorKind.TheVariants.{MissingRequiredArgument, OutOfMemory};
 ghost use Rattle.store_commands.specs.declared.words.Task.{Task};
-ghost use Rattle.store_commands.specs.CommandLine.{asked_in, asked_of, command_line, every_in, every_rule, existing_rule, faults_of, folder_line, is_set, mode_of_flag, program_line, rescue_rule, run_line, task_of, AsksFor};
+ghost use Rattle.store_commands.specs.CommandLine.{asked_in, asked_of, command_line, content_of_flag, data_rule, every_in, every_rule, existing_rule, export_line, faults_of, folder_line, is_set, mode_of_flag, program_line, rescue_rule, run_line, task_of, AsksFor};
 
 use crate::help::{
-    DUMP_HELP, DUMP_USAGE, PROGRAM_HELP, RUN_HELP, RUN_USAGE, SNAPSHOT_HELP, SNAPSHOT_USAGE,
-    UPGRADE_HELP, UPGRADE_USAGE, USAGE, VERIFY_HELP, VERIFY_USAGE,
+    DUMP_HELP, DUMP_USAGE, EXPORT_HELP, EXPORT_USAGE, PROGRAM_HELP, RUN_HELP, RUN_USAGE,
+    SNAPSHOT_HELP, SNAPSHOT_USAGE, UPGRADE_HELP, UPGRADE_USAGE, USAGE, VERIFY_HELP, VERIFY_USAGE,
 };
 use clap::builder::ValueParser;
 use clap::error::ErrorKind;
@@ -16,6 +16,7 @@ use clap::{Arg, ArgAction, ArgMatches, Command, Error};
 use prevalence_store::Mode;
 use std::alloc::{AllocError, Global};
 use std::convert::AsStr;
+use world_forms::Content;
 
 /// The version of the program, and of the files that it writes.
 const PROGRAM_VERSION: &str = "0.1.0, files of version 2";
@@ -26,6 +27,8 @@ const SNAPSHOT: &str = "snapshot";
 
 const UPGRADE: &str = "upgrade";
 
+const EXPORT: &str = "export";
+
 const DUMP: &str = "dump";
 
 const VERIFY: &str = "verify";
@@ -33,6 +36,8 @@ const VERIFY: &str = "verify";
 const DIRECTORY: &str = "DIR";
 
 const EXISTING: &str = "existing";
+
+const DATA: &str = "data";
 
 const RESCUE: &str = "rescue";
 
@@ -52,6 +57,8 @@ pub enum Task {
     Snapshot,
     /// Files of version 1 become files of version 2.
     Upgrade,
+    /// The forms that make the world are written.
+    Export(Content),
     /// Something is told of the store.
     Tell(Report),
 }
@@ -128,6 +135,24 @@ fn every_option<'a>(alloc: Global) -> Arg<'a>
         .value_parser(ValueParser::unsigned(1, 1_000_000))
 }
 
+fn data_option<'a>(alloc: Global) -> Arg<'a>
+    ensures { (rule_of result ≡ data_rule) × (result.global ≡ false) }
+{
+    Arg::new(alloc, DATA)
+        .long(DATA)
+        .help("Leave the readtables out, so that another Lisp can load the forms")
+        .action(ArgAction::SetTrue)
+}
+
+fn export_command<'a>(alloc: Global) -> Result<Command<'a>, AllocError>
+    ensures line { IfOk result (λ command. app_of command ≡ export_line) }
+    ensures local { IfOk result (λ command. (fields_of command).has_globals ≡ false) }
+{
+    let about = "Writes the forms that make the world";
+    let command = folder_command(alloc, EXPORT, about, EXPORT_USAGE, EXPORT_HELP)?;
+    command.arg(data_option(alloc))
+}
+
 fn run_command<'a>(alloc: Global) -> Result<Command<'a>, AllocError>
     ensures line { IfOk result (λ command. app_of command ≡ run_line) }
     ensures local { IfOk result (λ command. (fields_of command).has_globals ≡ false) }
@@ -159,6 +184,7 @@ fn whole_command<'a>(alloc: Global) -> Result<Command<'a>, AllocError>
     let snapshot = folder_command(alloc, SNAPSHOT, about, SNAPSHOT_USAGE, SNAPSHOT_HELP)?;
     let about = "Makes files of version 1 files of version 2";
     let upgrade = folder_command(alloc, UPGRADE, about, UPGRADE_USAGE, UPGRADE_HELP)?;
+    let export = export_command(alloc)?;
     let about = "Writes the text of the world";
     let dump = folder_command(alloc, DUMP, about, DUMP_USAGE, DUMP_HELP)?;
     let about = "Tells the half in use, its generation and how many records it has";
@@ -167,6 +193,7 @@ fn whole_command<'a>(alloc: Global) -> Result<Command<'a>, AllocError>
         .subcommand(run)?
         .subcommand(snapshot)?
         .subcommand(upgrade)?
+        .subcommand(export)?
         .subcommand(dump)?
         .subcommand(verify)
 }
@@ -192,6 +219,17 @@ fn mode_for(flag: Option<&str>) -> Mode
     }
 }
 
+// What is exported, by the value of the flag.
+fn content_for(flag: Option<&str>) -> Content
+    ensures { result ≡ content_of_flag (option_map (λ value. value.now) flag.entry) }
+{
+    if flag_is_set(flag) {
+        Content::Data
+    } else {
+        Content::World
+    }
+}
+
 // After how many forms a snapshot is taken.
 fn every_in(found: &ArgMatches<'_>) -> u64
     ensures { result ≡ every_in (rows_of (found_of found.now)) }
@@ -210,6 +248,7 @@ fn task_for(name: &str, found: &ArgMatches<'_>) -> Option<Task>
         }),
         SNAPSHOT => Some(Task::Snapshot),
         UPGRADE => Some(Task::Upgrade),
+        EXPORT => Some(Task::Export(content_for(found.get_str(DATA)))),
         DUMP => Some(Task::Tell(Report::Dump)),
         VERIFY => Some(Task::Tell(Report::Verify)),
         _ => None,
