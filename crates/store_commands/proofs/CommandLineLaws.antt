@@ -12,10 +12,12 @@ use Rattle.clap.proofs.OnLiterals.{clap_on_literals}
 use Rattle.clap.proofs.ValueTestLemmas.{Accepts-accepts}
 use Rattle.prevalence_store.specs.declared.mode.Mode.{Mode}
 use Rattle.prevalence_store.specs.declared.mode.Mode.TheVariants.{Current, Rescue}
+use Rattle.world_forms.specs.declared.export.Content.{Content}
+use Rattle.world_forms.specs.declared.export.Content.TheVariants.{Data, World}
 use Rattle.store_commands.specs.declared.words.Task.{Task}
 use Rattle.store_commands.specs.declared.words.Report.TheVariants.{Dump, Verify}
-use Rattle.store_commands.specs.declared.words.Task.TheVariants.{Run, Snapshot, Tell}
-use Rattle.store_commands.specs.CommandLine.{AsksFor, IsLine, IsTaken, asked_in, command_line, every_of_number, existing_for, faults_of, flag_for, missing_command}
+use Rattle.store_commands.specs.declared.words.Task.TheVariants.{Export, Run, Snapshot, Tell, Upgrade}
+use Rattle.store_commands.specs.CommandLine.{AsksFor, IsLine, IsTaken, asked_in, command_line, data_for, every_of_number, existing_for, faults_of, flag_for, missing_command}
 
 pub simple_line : is_simple command_line ≡ true
 unfolding clap_on_literals
@@ -44,6 +46,41 @@ module _ (program : Text) (x : ℕ) (xs : Text) (e : (x == 45) ≡ false) where
   right_snapshot : (existing : Bool) → IsRight (program ∷ codes "snapshot" ∷ (x ∷ xs) ∷ existing_for existing) (x ∷ xs) existing Snapshot
   right_snapshot false = right_snapshot_any
   right_snapshot true = right_snapshot_existing
+
+  right_upgrade_any : IsRight (program ∷ codes "upgrade" ∷ (x ∷ xs) ∷ []) (x ∷ xs) false Upgrade
+  unfolding clap_on_literals
+  right_upgrade_any = record { taken = simp e; faultless = simp e; asked = simp e }
+
+  right_upgrade_existing : IsRight (program ∷ codes "upgrade" ∷ (x ∷ xs) ∷ codes "--existing" ∷ []) (x ∷ xs) true Upgrade
+  unfolding clap_on_literals
+  right_upgrade_existing = record { taken = simp e; faultless = simp e; asked = simp e }
+
+  right_upgrade : (existing : Bool) → IsRight (program ∷ codes "upgrade" ∷ (x ∷ xs) ∷ existing_for existing) (x ∷ xs) existing Upgrade
+  right_upgrade false = right_upgrade_any
+  right_upgrade true = right_upgrade_existing
+
+  right_export_any : IsRight (program ∷ codes "export" ∷ (x ∷ xs) ∷ []) (x ∷ xs) false (Export World)
+  unfolding clap_on_literals
+  right_export_any = record { taken = simp e; faultless = simp e; asked = simp e }
+
+  right_export_existing : IsRight (program ∷ codes "export" ∷ (x ∷ xs) ∷ codes "--existing" ∷ []) (x ∷ xs) true (Export World)
+  unfolding clap_on_literals
+  right_export_existing = record { taken = simp e; faultless = simp e; asked = simp e }
+
+  right_data_any : IsRight (program ∷ codes "export" ∷ (x ∷ xs) ∷ codes "--data" ∷ []) (x ∷ xs) false (Export Data)
+  unfolding clap_on_literals
+  right_data_any = record { taken = simp e; faultless = simp e; asked = simp e }
+
+  right_data_existing : IsRight (program ∷ codes "export" ∷ (x ∷ xs) ∷ codes "--data" ∷ codes "--existing" ∷ []) (x ∷ xs) true (Export Data)
+  unfolding clap_on_literals
+  right_data_existing = record { taken = simp e; faultless = simp e; asked = simp e }
+
+  right_content : (content : Content) (existing : Bool)
+      → IsRight (program ∷ codes "export" ∷ (x ∷ xs) ∷ (data_for content ++ existing_for existing)) (x ∷ xs) existing (Export content)
+  right_content World false = right_export_any
+  right_content World true = right_export_existing
+  right_content Data false = right_data_any
+  right_content Data true = right_data_existing
 
   right_dump_any : IsRight (program ∷ codes "dump" ∷ (x ∷ xs) ∷ []) (x ∷ xs) false (Tell Dump)
   unfolding clap_on_literals
@@ -173,6 +210,8 @@ module _ (program : Text) (x : ℕ) (xs : Text) (e : (x == 45) ≡ false) where
 
   right_plain : (line : List Text) (existing : Bool) (task : Task) → IsLine line (x ∷ xs) existing task → IsRight (program ∷ line) (x ∷ xs) existing task
   right_plain line existing Snapshot is = rw is (right_snapshot program x xs e existing)
+  right_plain line existing Upgrade is = rw is (right_upgrade program x xs e existing)
+  right_plain line existing (Export content) is = rw is (right_content program x xs e content existing)
   right_plain line existing (Tell Dump) is = rw is (right_dump program x xs e existing)
   right_plain line existing (Tell Verify) is = rw is (right_verify program x xs e existing)
   right_plain line existing (Run mode every) (option, line_is, inl none) = rw (line_is, none.0, none.1) (right_run program x xs e mode existing)

@@ -8,3 +8,4 @@ pub mod Snapshots
 pub mod Statuses
 pub mod Tasks
 pub mod Turns
+pub mod Upgrades

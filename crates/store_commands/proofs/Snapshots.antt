@@ -14,7 +14,7 @@ use Rattle.store_commands.specs.Report.{HasNoValue, TellsHalf, TellsSnapshot, ha
 use Rattle.store_commands.specs.Status.{HasFaultNumber, IsFaultNumber, TakesWords}
 use Rattle.store_commands.specs.Texts.{TellsText}
 use Rattle.store_commands.specs.declared.status.Status.{Status}
-use Rattle.store_commands.specs.declared.status.Status.TheVariants.{Done, Helped, ReaderRefused, WordsRefused, Fault}
+use Rattle.store_commands.specs.declared.status.Status.TheVariants.{Done, Helped, ReaderRefused, WordsRefused, LeftOut, Fault}
 use Rattle.store_commands.specs.declared.words.Task.TheVariants.{Snapshot}
 use Rattle.store_commands.proofs.Reports.{text_fault, text_front, text_of_no_opening, text_taken}
 use Rattle.store_commands.proofs.Statuses.{other_number}
@@ -36,6 +36,15 @@ module _ (functions : Functions) {D R : Type 0} (state : D → State) (old new :
   none_of_opening number (inr (inl fault)) of = other_number number DEVICE fault.device refl of
   none_of_opening number (inr (inr memory)) of = other_number number NO_MEMORY memory.memory refl of
 
+  pub refused_fault : (given : ℕ) (status : Status) → Snapshots functions state old new world (Refused given) → status ≡ Fault given → HasFaultNumber status
+  refused_fault given status why is =
+      subst HasFaultNumber (sym is) (λ number fault. let same : given ≡ number = cc in subst IsFaultNumber same (number_of given why))
+
+  pub refused_opening : (given number : ℕ) → Snapshots functions state old new world (Refused given) → Fault given ≡ Fault number → is_of_opening number ≡ true → ⊥
+  refused_opening given number why both of =
+      let same : given ≡ number = cc in
+      none_of_opening given why (ap is_of_opening same ∙ of)
+
   module _ (held written : Option (List ℕ)) where
     pub snapshot_taken : (outcome : Outcome) (status : Status) → TellsSnapshot outcome new status held written → TakesWords status
     snapshot_taken (Accepted value) status none = absurd none
@@ -46,17 +55,13 @@ module _ (functions : Functions) {D R : Type 0} (state : D → State) (old new :
         → TellsSnapshot outcome new status held written → HasFaultNumber status
     snapshot_fault (Accepted value) status none told = absurd none
     snapshot_fault Snapshotted status done told = text_fault held written (half_line_of new) status told
-    snapshot_fault (Refused given) status why told =
-        subst HasFaultNumber (sym told.0) (λ number is. let same : given ≡ number = cc in subst IsFaultNumber same (number_of given why))
+    snapshot_fault (Refused given) status why told = refused_fault given status why told.0
 
     pub snapshot_of_no_opening : (outcome : Outcome) (status : Status) (number : ℕ) → status ≡ Fault number
         → Snapshots functions state old new world outcome → TellsSnapshot outcome new status held written → is_of_opening number ≡ true → ⊥
     snapshot_of_no_opening (Accepted value) status number is none told of = none
     snapshot_of_no_opening Snapshotted status number is done told of = text_of_no_opening held written (half_line_of new) status number is told of
-    snapshot_of_no_opening (Refused given) status number is why told of =
-        let both : Fault given ≡ Fault number = sym told.0 ∙ is in
-        let same : given ≡ number = cc in
-        none_of_opening given why (ap is_of_opening same ∙ of)
+    snapshot_of_no_opening (Refused given) status number is why told of = refused_opening given number why (sym told.0 ∙ is) of
 
     module _ (had : List ℕ) (holds : held ≡ Some had) where
       half_told : (status : Status) → TellsText status held written (half_line_of new) → TellsHalf status had written
@@ -65,6 +70,7 @@ module _ (functions : Functions) {D R : Type 0} (state : D → State) (old new :
       half_told Helped told = tt
       half_told ReaderRefused told = absurd told
       half_told WordsRefused told = tt
+      half_told LeftOut told = absurd told
 
       -- what it writes if it ends well, and if not
       pub snapshot_writes : (outcome : Outcome) (status : Status) → TellsSnapshot outcome new status held written → TellsHalf status had written
