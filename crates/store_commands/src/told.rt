@@ -37,13 +37,14 @@ pub(crate) fn end_with_told<F: Write>(faults: &mut F, status: Status, told: &Tol
     match status {
         Status::Fault(number) => {
             let _ = write_fault_with_cause(faults, number, told.cause());
+            status
         }
         Status::LeftOut => {
             let _ = write_text(faults, told.left_out());
+            status
         }
-        _ => {}
+        _ => status,
     }
-    status
 }
 
 impl Told {
