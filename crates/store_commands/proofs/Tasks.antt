@@ -11,7 +11,8 @@ use Rattle.prevalence_store.specs.declared.mode.Mode.{Mode}
 use Rattle.prevalence_store.specs.declared.outcome.Ending.{Ending}
 use Rattle.store_commands.specs.Commands.{CarriesOut, Does, DoesOn, IsEarlyFault, IsUntouched, Performs, TaskBreaksOff, TaskReads, TaskWrites, TellsUnopened}
 use Rattle.store_commands.specs.Report.{IsExport, IsReport, IsSnapshot, IsUpgrade, half_line, version_line}
-use Rattle.store_commands.specs.Session.{AnswersInput, IsSession, ReadsToEnd}
+use Rattle.prevalence_store.specs.calls.Open.{IsUnopened}
+use Rattle.store_commands.specs.Session.{AnswersInput, IsSession, ReadsToEnd, half_limit}
 use Rattle.store_commands.specs.Status.{HasFaultNumber, IsFaultNumber, status_of_ending}
 use Rattle.store_commands.specs.declared.status.Status.{Status}
 use Rattle.store_commands.specs.declared.status.Status.TheVariants.{Fault}
@@ -194,6 +195,13 @@ module _ (functions : Functions) {D R : Type 0} (state : D → State) (macros : 
   performs_on disk back folder (Export content) status named (inl done) = performs_export disk back folder content status named done
   performs_on disk back folder (Tell report) status named (inl done) = performs_report disk back folder report status named done
   performs_on disk back folder task status named (inr (unopened, same)) = performs_unopened disk back folder task status named unopened same
+
+  -- the store was not opened
+  pub does_not : (disk back given : D) (task : Task) (status : Status) (number : ℕ) → status ≡ Fault number → back ≡ given
+      → IsUnopened functions state disk whole half_limit number given → IsUntouched input left held written
+      → DoesOn functions state macros whole remaining contents input left held written disk back task status
+  does_not disk back given task status number is back_is unopened same =
+      inr ((number, is, subst (IsUnopened functions state disk whole half_limit number) (sym back_is) unopened), same)
 
   -- what a session, and what a report, is over a disk
   pub does_run : (disk back : D) (task : Task) (status : Status) (mode : Mode) (every : ℕ) (ending : Ending) → task ≡ Run mode every

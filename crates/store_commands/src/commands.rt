@@ -22,7 +22,7 @@ use clap::Error;
 use disk_trait::{Disk, HostDisk, HostError, IfMissing};
 use lisp_object::refusal::{INPUT, NO_MEMORY, OUTPUT};
 use plist_state::Seed;
-use prevalence_store::Mode;
+use prevalence_store::{Mode, Unopened};
 use std::alloc::Global;
 use std::cell::Cell;
 use std::convert::AsStr;
@@ -309,45 +309,35 @@ where
             output,
         ) {
             Ok((ending, disk, _macros)) => (Status::of_ending(ending), disk, Vec::new(alloc)),
-            Err(unopened) => (
-                Status::Fault(unopened.number),
-                unopened.disk,
-                Vec::new(alloc),
-            ),
+            Err(unopened) => without_store(alloc, unopened),
         },
         Task::Snapshot => match snapshot_on(alloc, disk, macros, seed, output) {
             Ok((status, disk, _macros)) => (status, disk, Vec::new(alloc)),
-            Err(unopened) => (
-                Status::Fault(unopened.number),
-                unopened.disk,
-                Vec::new(alloc),
-            ),
+            Err(unopened) => without_store(alloc, unopened),
         },
         Task::Upgrade => match upgrade_on(alloc, disk, macros, seed, output) {
             Ok((status, disk, _macros)) => (status, disk, Vec::new(alloc)),
-            Err(unopened) => (
-                Status::Fault(unopened.number),
-                unopened.disk,
-                Vec::new(alloc),
-            ),
+            Err(unopened) => without_store(alloc, unopened),
         },
         Task::Export(content) => match export_on(alloc, disk, macros, seed, content, output) {
             Ok((status, disk, _macros, left_out)) => (status, disk, left_out),
-            Err(unopened) => {
-                (
-                    Status::Fault(unopened.number),
-                    unopened.disk,
-                    Vec::new(alloc),
-                )
-            }
+            Err(unopened) => without_store(alloc, unopened),
         },
         Task::Tell(report) => match report_on(alloc, disk, macros, seed, report, output) {
             Ok((status, disk, _macros)) => (status, disk, Vec::new(alloc)),
-            Err(unopened) => (
-                Status::Fault(unopened.number),
-                unopened.disk,
-                Vec::new(alloc),
-            ),
+            Err(unopened) => without_store(alloc, unopened),
         },
     }
+}
+
+// A store was not opened: the status, and the disk.
+fn without_store<D: Drop, M: Drop>(alloc: Global, unopened: Unopened<D, M>) -> (Status, D, Vec<u8>)
+    ensures status { result.0 ≡ Status.Fault unopened.number }
+    ensures disk { result.1 ≡ unopened.disk }
+{
+    (
+        Status::Fault(unopened.number),
+        unopened.disk,
+        Vec::new(alloc),
+    )
 }
