@@ -15,7 +15,7 @@ use crate::sessions::sessions_on;
 use crate::snapshot::snapshot_on;
 use crate::status::Status;
 use crate::terminal::{Answers, Console, Terminal};
-use crate::told::{Told, end_with_told};
+use crate::told::{Told, end_with, end_with_told};
 use crate::upgrade::upgrade_on;
 use crate::words::{Asked, Task, asked_in};
 use clap::Error;
@@ -76,11 +76,16 @@ where
     ensures quiet { IsQuiet result → faults.new ≡ faults.old }
 {
     // The words come first: if they are refused, no folder is opened and nothing is read.
-    let (status, told) = match asked_in(rt.alloc(), words) {
-        Ok(asked) => carry_out(rt, macros, asked, input, output),
-        Err(error) => (answer_words(&error, output, faults), Told::Nothing),
-    };
-    end_with_told(faults, status, &told)
+    match asked_in(rt.alloc(), words) {
+        Ok(asked) => {
+            let (status, told) = carry_out(rt, macros, asked, input, output);
+            end_with_told(faults, status, &told)
+        }
+        Err(error) => {
+            let status = answer_words(&error, output, faults);
+            end_with(faults, status)
+        }
+    }
 }
 
 /// Does what the words ask for, as `program`, where the input is a terminal. `run` is sessions in a row on one open store then: after
@@ -106,17 +111,41 @@ where
     ensures told { TellsFault result (F.contents faults.old) (F.contents faults.new) }
     ensures quiet { IsQuiet result → faults.new ≡ faults.old }
 {
-    let (status, told) = match asked_in(rt.alloc(), words) {
-        Ok(asked) => match asked.task {
-            Task::Run {
-                mode,
-                snapshot_every,
-            } => sit(rt, macros, asked, mode, snapshot_every, console),
-            _ => carry_out(rt, macros, asked, console.input, console.output),
-        },
-        Err(error) => (answer_words(&error, console.output, faults), Told::Nothing),
-    };
-    end_with_told(faults, status, &told)
+    match asked_in(rt.alloc(), words) {
+        Ok(asked) => {
+            let (status, told) = carry_out_at_terminal(rt, macros, asked, console);
+            end_with_told(faults, status, &told)
+        }
+        Err(error) => {
+            let status = answer_words(&error, console.output, faults);
+            end_with(faults, status)
+        }
+    }
+}
+
+// Carries a task out over the store in a folder, a session as sessions in a row.
+fn carry_out_at_terminal<R, M, I, O, P>(
+    rt: &R,
+    macros: M,
+    asked: Asked<'_>,
+    console: Console<'_, I, O, P>,
+) -> (Status, Told)
+where
+    R: Files<File = File> + RandomSource + AllocGlobal,
+    M: MacroFunctions + Drop,
+    I: Read,
+    O: Write,
+    P: Write,
+    requires answers { M.answers macros }
+    ensures { TakesWords result.0 }
+{
+    match asked.task {
+        Task::Run {
+            mode,
+            snapshot_every,
+        } => sit(rt, macros, asked, mode, snapshot_every, console),
+        _ => carry_out(rt, macros, asked, console.input, console.output),
+    }
 }
 
 // Serves sessions in a row at a terminal over the store in a folder, and tells what is to be told of them on standard error.
