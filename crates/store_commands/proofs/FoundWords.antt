@@ -14,9 +14,10 @@ use Rattle.clap.proofs.WalkLemmas.{first_value-rows, one_text-rows}
 use Rattle.clap.specs.declared.parser.matches.ArgMatches.{ArgMatches}
 use Rattle.clap.specs.declared.parser.matches.ArgMatches.TheViews.{out-ArgMatches, out-SubCommand}
 use Rattle.std.specs.Box.{box_value}
+use Rattle.world_forms.specs.declared.export.Content.{Content}
 use Rattle.store_commands.specs.declared.words.Task.{Task}
-use Rattle.store_commands.specs.declared.words.Task.TheVariants.{Run}
-use Rattle.store_commands.specs.CommandLine.{Asked, asked_of, every_of_number, is_set, mode_of_flag, task_of}
+use Rattle.store_commands.specs.declared.words.Task.TheVariants.{Export, Run}
+use Rattle.store_commands.specs.CommandLine.{Asked, asked_of, content_of_flag, every_of_number, is_set, mode_of_flag, task_of}
 
 -- a number that was read is the one that the text writes
 number_read : (E : Type 0) (text : Text) (n : ℕ) → ParsesUnsigned {E = E} 64 10 text (Ok n) → n ≡ every_of_number (Some text)
@@ -51,6 +52,11 @@ pub run_found : (name : Text) (f : Found) (flag : Option Text) (mode : Mode) (ev
 run_found name f flag mode every is mode_is flag_is every_is =
     rw (is, mode_is, flag_is ∙ first_value-rows f (codes "rescue"), every_is) refl
 
+-- the command `export` that was found
+pub export_found : (name : Text) (f : Found) (flag : Option Text) (content : Content) → name ≡ codes "export" → content ≡ content_of_flag flag
+    → flag ≡ first_value f (codes "data") → Some (Export content) ≡ task_of (name, rows_of f)
+export_found name f flag content is content_is flag_is = rw (is, content_is, flag_is ∙ first_value-rows f (codes "data")) refl
+
 -- the name and the rows of what was found, in one
 module _ {A B : Type 0} (label : A → B) (listing : A → List Row) where
   abbrev pair_of : A → B × List Row
@@ -77,6 +83,9 @@ asked_found m name f folder flag existing task named listed folder_is existing_i
       task_is,
     ) refl
 
+task_in : Asked → Task
+task_in (folder, existing, task) = task
+
 -- the words ask for one thing, of one folder
 module _ (asked : Option Asked) (a b : Text) (m n : Bool) (t u : Task) where
   pub same_folder : asked ≡ Some (a, m, t) → asked ≡ Some (b, n, u) → a ≡ b
@@ -85,4 +94,4 @@ module _ (asked : Option Asked) (a b : Text) (m n : Bool) (t u : Task) where
 
   pub same_task : asked ≡ Some (a, m, t) → asked ≡ Some (b, n, u) → t ≡ u
   same_task one other = let both : ◌≡◌ {A = Option Asked} (Some (a, m, t)) (Some (b, n, u)) = sym one ∙ other in
-      ap (λ (o : Option Asked). elim o [ None ↦ t | Some p ↦ p.1.1 ]) both
+      ap (λ (o : Option Asked). elim o [ None ↦ t | Some p ↦ task_in p ]) both
