@@ -55,33 +55,26 @@ pub fn read(rt: &HostRuntime, text: &[u8]) -> Result<ReadOutcome, Fail> {
 
 // The same where numbers are in this base.
 fn read_in(rt: &HostRuntime, base: u8, text: &[u8]) -> Result<ReadOutcome, Fail> {
+    if base < 2 || base > 36 {
+        return Err(Fail::from("no base"));
+    }
     let mut table = Readtable::standard(rt.alloc())?;
     table.copy_syntax(b']', b' ')?;
     let packages = Packages::new(rt.alloc())?;
     let macros = Macros::new(rt.alloc(), Notes::new());
-    read_under(rt.alloc(), &table, base, &packages, &macros, text)
-}
-
-// What a text begins with in COMMON-LISP-USER. It borrows all that it reads with, so that nothing is dropped at its exits.
-fn read_under<R: MacroFunctions>(
-    alloc: Global,
-    readtable: &Readtable,
-    base: u8,
-    packages: &Packages,
-    macros: &R,
-    text: &[u8],
-) -> Result<ReadOutcome, Fail>
-    requires answers { R.answers macros.now }
-{
-    if base < 2 || base > 36 {
-        return Err(Fail::from("no base"));
-    }
     let Some(current) = packages.find(b"COMMON-LISP-USER") else {
         return Err(Fail::from("no package"));
     };
     let limits = Limits::form();
     let outcome = read_one(
-        alloc, limits, readtable, base, packages, current, macros, text,
+        rt.alloc(),
+        limits,
+        &table,
+        base,
+        &packages,
+        current,
+        &macros,
+        text,
     )?;
     Ok(outcome)
 }
@@ -267,32 +260,18 @@ fn answers_to<R: MacroFunctions>(
     Ok((last, told_at_end(&outcome)))
 }
 
-// The same in COMMON-LISP-USER.
-fn answers_under<R: MacroFunctions>(
-    alloc: Global,
-    readtable: &Readtable,
-    base: u8,
-    packages: &Packages,
-    macros: &R,
-    text: &[u8],
-) -> Result<(Told, Told), Fail>
-    requires answers { R.answers macros.now }
-{
+// The same in the first packages and the standard readtable.
+fn last_answers(rt: &HostRuntime, base: u8, text: &[u8]) -> Result<(Told, Told), Fail> {
     if base < 2 || base > 36 {
         return Err(Fail::from("no base"));
     }
-    let Some(current) = packages.find(b"COMMON-LISP-USER") else {
-        return Err(Fail::from("no package"));
-    };
-    Ok(answers_to(alloc, readtable, base, packages, current, macros, text)?)
-}
-
-// The same in the first packages and the standard readtable.
-fn last_answers(rt: &HostRuntime, base: u8, text: &[u8]) -> Result<(Told, Told), Fail> {
     let table = Readtable::standard(rt.alloc())?;
     let packages = Packages::new(rt.alloc())?;
     let macros = Macros::new(rt.alloc(), Notes::new());
-    answers_under(rt.alloc(), &table, base, &packages, &macros, text)
+    let Some(current) = packages.find(b"COMMON-LISP-USER") else {
+        return Err(Fail::from("no package"));
+    };
+    Ok(answers_to(rt.alloc(), &table, base, &packages, current, &macros, text)?)
 }
 
 #[test]

@@ -80,18 +80,13 @@ const PRINTED: &str = "\
 /// The printed text of an object in the first packages.
 pub fn shown(alloc: Global, datum: &Datum) -> Result<Vec<u8>, Fail> {
     let packages = Packages::new(alloc)?;
-    shown_in(alloc, &packages, datum)
-}
-
-// The same in these packages, which it borrows.
-fn shown_in(alloc: Global, packages: &Packages, datum: &Datum) -> Result<Vec<u8>, Fail> {
     let Some(current) = packages.find(b"COMMON-LISP-USER") else {
         return Err(Fail::from("no package"));
     };
     if !datum.is_proper() {
         return Err(Fail::from("not proper"));
     }
-    Ok(print(alloc, datum, packages, current)?)
+    Ok(print(alloc, datum, &packages, current)?)
 }
 
 // The printed text of the object that a text is read as.

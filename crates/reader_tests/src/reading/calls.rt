@@ -7,8 +7,8 @@ ghost use Rattle.reader_tests.specs.Trial.{trial_answer, makes, other_answer};
 
 use super::hostile::repeated;
 use super::trial::{Trial, counted, empty_list, name_of, named, symbol, wrapped};
-use super::{field, number, read_under};
-use form_reader::ReadOutcome;
+use super::{field, number};
+use form_reader::{Limits, ReadOutcome, read_one};
 use lisp_object::Datum;
 use package_table::Packages;
 use readtable_core::{FnName, Readtable};
@@ -36,7 +36,21 @@ fn read_with(
     table.set_macro(b'!', name, false);
     let _ = table.set_dispatch(b'#', b'!', name);
     let packages = Packages::new(rt.alloc())?;
-    read_under(rt.alloc(), &table, 10, &packages, &macros, text)
+    let Some(current) = packages.find(b"COMMON-LISP-USER") else {
+        return Err(Fail::from("no package"));
+    };
+    let limits = Limits::form();
+    let outcome = read_one(
+        rt.alloc(),
+        limits,
+        &table,
+        10,
+        &packages,
+        current,
+        &macros,
+        text,
+    )?;
+    Ok(outcome)
 }
 
 // How much a function gathered that counts, and where the next form begins; the same where a sub-character calls it.
