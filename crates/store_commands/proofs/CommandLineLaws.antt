@@ -122,7 +122,7 @@ module _ (program : Text) (x : ℕ) (xs : Text) (e : (x == 45) ≡ false) where
   unfolding clap_on_literals
   right_rescue_existing = record { taken = simp e; faultless = simp e; asked = simp e }
 
-  right_run : (mode : Mode) (existing : Bool) → IsRight (program ∷ codes "run" ∷ (x ∷ xs) ∷ (flag_for mode ++ [] ++ existing_for existing)) (x ∷ xs) existing (Run mode 0)
+  right_run : (mode : Mode) (existing : Bool) → IsRight (program ∷ codes "run" ∷ (x ∷ xs) ∷ (flag_for mode ++ existing_for existing ++ [])) (x ∷ xs) existing (Run mode 0)
   right_run Current false = right_current_any
   right_run Current true = right_current_existing
   right_run Rescue false = right_rescue_any
@@ -139,13 +139,17 @@ module _ (program : Text) (x : ℕ) (xs : Text) (e : (x == 45) ≡ false) where
     right_current_every_any : IsRight (program ∷ codes "run" ∷ (x ∷ xs) ∷ codes "--snapshot-every" ∷ (y ∷ ys) ∷ []) (x ∷ xs) false
         (Run Current (every_of_number (Some (y ∷ ys))))
     unfolding clap_on_literals
-    right_current_every_any = record { taken = simp (e, d) left; faultless = simp (e, d) left_kinds; asked = simp (e, d) }
+    right_current_every_any = record {
+      taken = simp e (rw (d, d) left);
+      faultless = simp e (rw (d, d) left_kinds);
+      asked = simp e (rw (d, d) refl);
+    }
 
-    right_current_every_existing : IsRight (program ∷ codes "run" ∷ (x ∷ xs) ∷ codes "--snapshot-every" ∷ (y ∷ ys) ∷ codes "--existing" ∷ []) (x ∷ xs) true
+    right_current_every_existing : IsRight (program ∷ codes "run" ∷ (x ∷ xs) ∷ codes "--existing" ∷ codes "--snapshot-every" ∷ (y ∷ ys) ∷ []) (x ∷ xs) true
         (Run Current (every_of_number (Some (y ∷ ys))))
     unfolding clap_on_literals
     right_current_every_existing = record {
-      taken = simp e (rw d (simp d left));
+      taken = simp e (rw (d, d) left);
       faultless = simp e (rw (d, d) left_kinds);
       asked = simp e (rw (d, d) refl);
     }
@@ -154,22 +158,22 @@ module _ (program : Text) (x : ℕ) (xs : Text) (e : (x == 45) ≡ false) where
         (Run Rescue (every_of_number (Some (y ∷ ys))))
     unfolding clap_on_literals
     right_rescue_every_any = record {
-      taken = simp e (rw d (simp d left));
+      taken = simp e (rw (d, d) left);
       faultless = simp e (rw (d, d) left_kinds);
       asked = simp e (rw (d, d) refl);
     }
 
-    right_rescue_every_existing : IsRight (program ∷ codes "run" ∷ (x ∷ xs) ∷ codes "--rescue" ∷ codes "--snapshot-every" ∷ (y ∷ ys) ∷ codes "--existing" ∷ []) (x ∷ xs) true
+    right_rescue_every_existing : IsRight (program ∷ codes "run" ∷ (x ∷ xs) ∷ codes "--rescue" ∷ codes "--existing" ∷ codes "--snapshot-every" ∷ (y ∷ ys) ∷ []) (x ∷ xs) true
         (Run Rescue (every_of_number (Some (y ∷ ys))))
     unfolding clap_on_literals
     right_rescue_every_existing = record {
-      taken = simp e (rw d (simp d left));
+      taken = simp e (rw (d, d) left);
       faultless = simp e (rw (d, d) left_kinds);
       asked = simp e (rw (d, d) refl);
     }
 
     right_every : (mode : Mode) (existing : Bool)
-        → IsRight (program ∷ codes "run" ∷ (x ∷ xs) ∷ (flag_for mode ++ codes "--snapshot-every" ∷ (y ∷ ys) ∷ existing_for existing)) (x ∷ xs) existing
+        → IsRight (program ∷ codes "run" ∷ (x ∷ xs) ∷ (flag_for mode ++ existing_for existing ++ codes "--snapshot-every" ∷ (y ∷ ys) ∷ [])) (x ∷ xs) existing
         (Run mode (every_of_number (Some (y ∷ ys))))
     right_every Current false = right_current_every_any
     right_every Current true = right_current_every_existing
@@ -201,10 +205,10 @@ module _ (y : ℕ) (ys : Text) (numeral : IsNumeral 10 (y ∷ ys)) where
 
 module _ (program : Text) (x : ℕ) (xs : Text) (e : (x == 45) ≡ false) where
   right_number : (mode : Mode) (existing : Bool) (number : Text) (every : ℕ) → IsNumeral 10 number → digits_value 10 number ≡ every → 1 ≤ every → every ≤ 1000000
-      → IsRight (program ∷ codes "run" ∷ (x ∷ xs) ∷ (flag_for mode ++ codes "--snapshot-every" ∷ number ∷ existing_for existing)) (x ∷ xs) existing (Run mode every)
+      → IsRight (program ∷ codes "run" ∷ (x ∷ xs) ∷ (flag_for mode ++ existing_for existing ++ codes "--snapshot-every" ∷ number ∷ [])) (x ∷ xs) existing (Run mode every)
   right_number mode existing [] every numeral is above below = let none : 0 < 0 = numeral.0 in absurd (omega arith)
   right_number mode existing (y ∷ ys) every numeral is above below =
-      subst (λ n. IsRight (program ∷ codes "run" ∷ (x ∷ xs) ∷ (flag_for mode ++ codes "--snapshot-every" ∷ (y ∷ ys) ∷ existing_for existing)) (x ∷ xs) existing (Run mode n))
+      subst (λ n. IsRight (program ∷ codes "run" ∷ (x ∷ xs) ∷ (flag_for mode ++ existing_for existing ++ codes "--snapshot-every" ∷ (y ∷ ys) ∷ [])) (x ∷ xs) existing (Run mode n))
       (number_is y ys numeral every is above below)
       (right_every program x xs e y ys (differs y 45 (no_hyphen y ys numeral)) (in_range y ys numeral 1 1000000 every is above below (omega arith)) mode existing)
 
