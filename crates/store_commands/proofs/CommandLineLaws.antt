@@ -167,9 +167,9 @@ module _ (program : Text) (x : ℕ) (xs : Text) (e : (x == 45) ≡ false) where
         (Run Rescue (every_of_number (Some (y ∷ ys))))
     unfolding clap_on_literals
     right_rescue_every_existing = record {
-      taken = simp e (rw (d, d) left);
-      faultless = simp e (rw (d, d) left_kinds);
-      asked = simp e (rw (d, d) refl);
+      taken = rw (e, e, d, d) left;
+      faultless = rw (e, e, d, d) left_kinds;
+      asked = rw (e, e, d, d) refl;
     }
 
     right_every : (mode : Mode) (existing : Bool)
