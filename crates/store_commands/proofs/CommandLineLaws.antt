@@ -120,7 +120,7 @@ module _ (program : Text) (x : ℕ) (xs : Text) (e : (x == 45) ≡ false) where
 
   right_rescue_existing : IsRight (program ∷ codes "run" ∷ (x ∷ xs) ∷ codes "--rescue" ∷ codes "--existing" ∷ []) (x ∷ xs) true (Run Rescue 0)
   unfolding clap_on_literals
-  right_rescue_existing = record { taken = simp e; faultless = simp e; asked = simp e }
+  right_rescue_existing = record { taken = simp e; faultless = rw e (rw e refl); asked = rw e (rw e refl) }
 
   right_run : (mode : Mode) (existing : Bool) → IsRight (program ∷ codes "run" ∷ (x ∷ xs) ∷ (flag_for mode ++ existing_for existing ++ [])) (x ∷ xs) existing (Run mode 0)
   right_run Current false = right_current_any
@@ -168,8 +168,8 @@ module _ (program : Text) (x : ℕ) (xs : Text) (e : (x == 45) ≡ false) where
     unfolding clap_on_literals
     right_rescue_every_existing = record {
       taken = rw (e, e, d, d) left;
-      faultless = rw (e, e, d, d) left_kinds;
-      asked = rw (e, e, d, d) refl;
+      faultless = rw e (rw e (rw d (rw d left_kinds)));
+      asked = rw e (rw e (rw d (rw d refl)));
     }
 
     right_every : (mode : Mode) (existing : Bool)
