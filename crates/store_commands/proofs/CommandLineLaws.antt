@@ -122,7 +122,7 @@ module _ (program : Text) (x : ℕ) (xs : Text) (e : (x == 45) ≡ false) where
   unfolding clap_on_literals
   right_rescue_existing = record { taken = simp e; faultless = rw e (rw e refl); asked = rw e (rw e refl) }
 
-  right_run : (mode : Mode) (existing : Bool) → IsRight (program ∷ codes "run" ∷ (x ∷ xs) ∷ (flag_for mode ++ existing_for existing ++ [])) (x ∷ xs) existing (Run mode 0)
+  right_run : (mode : Mode) (existing : Bool) → IsRight (program ∷ codes "run" ∷ (x ∷ xs) ∷ (flag_for mode ++ existing_for existing)) (x ∷ xs) existing (Run mode 0)
   right_run Current false = right_current_any
   right_run Current true = right_current_existing
   right_run Rescue false = right_rescue_any
