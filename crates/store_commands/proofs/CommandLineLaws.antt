@@ -120,9 +120,9 @@ module _ (program : Text) (x : ℕ) (xs : Text) (e : (x == 45) ≡ false) where
 
   right_rescue_existing : IsRight (program ∷ codes "run" ∷ (x ∷ xs) ∷ codes "--rescue" ∷ codes "--existing" ∷ []) (x ∷ xs) true (Run Rescue 0)
   unfolding clap_on_literals
-  right_rescue_existing = record { taken = simp e; faultless = simp e; asked = simp e }
+  right_rescue_existing = record { taken = simp e; faultless = rw e (rw e refl); asked = rw e (rw e refl) }
 
-  right_run : (mode : Mode) (existing : Bool) → IsRight (program ∷ codes "run" ∷ (x ∷ xs) ∷ (flag_for mode ++ [] ++ existing_for existing)) (x ∷ xs) existing (Run mode 0)
+  right_run : (mode : Mode) (existing : Bool) → IsRight (program ∷ codes "run" ∷ (x ∷ xs) ∷ (flag_for mode ++ existing_for existing)) (x ∷ xs) existing (Run mode 0)
   right_run Current false = right_current_any
   right_run Current true = right_current_existing
   right_run Rescue false = right_rescue_any
@@ -139,13 +139,8 @@ module _ (program : Text) (x : ℕ) (xs : Text) (e : (x == 45) ≡ false) where
     right_current_every_any : IsRight (program ∷ codes "run" ∷ (x ∷ xs) ∷ codes "--snapshot-every" ∷ (y ∷ ys) ∷ []) (x ∷ xs) false
         (Run Current (every_of_number (Some (y ∷ ys))))
     unfolding clap_on_literals
-    right_current_every_any = record { taken = simp (e, d) left; faultless = simp (e, d) left_kinds; asked = simp (e, d) }
-
-    right_current_every_existing : IsRight (program ∷ codes "run" ∷ (x ∷ xs) ∷ codes "--snapshot-every" ∷ (y ∷ ys) ∷ codes "--existing" ∷ []) (x ∷ xs) true
-        (Run Current (every_of_number (Some (y ∷ ys))))
-    unfolding clap_on_literals
-    right_current_every_existing = record {
-      taken = simp e (rw d (simp d left));
+    right_current_every_any = record {
+      taken = simp e (rw (d, d) left);
       faultless = simp e (rw (d, d) left_kinds);
       asked = simp e (rw (d, d) refl);
     }
@@ -154,27 +149,16 @@ module _ (program : Text) (x : ℕ) (xs : Text) (e : (x == 45) ≡ false) where
         (Run Rescue (every_of_number (Some (y ∷ ys))))
     unfolding clap_on_literals
     right_rescue_every_any = record {
-      taken = simp e (rw d (simp d left));
+      taken = simp e (rw (d, d) left);
       faultless = simp e (rw (d, d) left_kinds);
       asked = simp e (rw (d, d) refl);
     }
 
-    right_rescue_every_existing : IsRight (program ∷ codes "run" ∷ (x ∷ xs) ∷ codes "--rescue" ∷ codes "--snapshot-every" ∷ (y ∷ ys) ∷ codes "--existing" ∷ []) (x ∷ xs) true
-        (Run Rescue (every_of_number (Some (y ∷ ys))))
-    unfolding clap_on_literals
-    right_rescue_every_existing = record {
-      taken = simp e (rw d (simp d left));
-      faultless = simp e (rw (d, d) left_kinds);
-      asked = simp e (rw (d, d) refl);
-    }
-
-    right_every : (mode : Mode) (existing : Bool)
-        → IsRight (program ∷ codes "run" ∷ (x ∷ xs) ∷ (flag_for mode ++ codes "--snapshot-every" ∷ (y ∷ ys) ∷ existing_for existing)) (x ∷ xs) existing
+    right_every : (mode : Mode)
+        → IsRight (program ∷ codes "run" ∷ (x ∷ xs) ∷ (flag_for mode ++ codes "--snapshot-every" ∷ (y ∷ ys) ∷ [])) (x ∷ xs) false
         (Run mode (every_of_number (Some (y ∷ ys))))
-    right_every Current false = right_current_every_any
-    right_every Current true = right_current_every_existing
-    right_every Rescue false = right_rescue_every_any
-    right_every Rescue true = right_rescue_every_existing
+    right_every Current = right_current_every_any
+    right_every Rescue = right_rescue_every_any
 
 differs : (x y : ℕ) → x ≢ y → (x == y) ≡ false
 differs x y apart = search rules
@@ -200,13 +184,13 @@ module _ (y : ℕ) (ys : Text) (numeral : IsNumeral 10 (y ∷ ys)) where
   number_is every is above below = rw (in_range 0 (2 ^ 64 - 1) every is (omega arith) (omega arith) (omega arith)) (ap (digits_value 10) bare ∙ is)
 
 module _ (program : Text) (x : ℕ) (xs : Text) (e : (x == 45) ≡ false) where
-  right_number : (mode : Mode) (existing : Bool) (number : Text) (every : ℕ) → IsNumeral 10 number → digits_value 10 number ≡ every → 1 ≤ every → every ≤ 1000000
-      → IsRight (program ∷ codes "run" ∷ (x ∷ xs) ∷ (flag_for mode ++ codes "--snapshot-every" ∷ number ∷ existing_for existing)) (x ∷ xs) existing (Run mode every)
-  right_number mode existing [] every numeral is above below = let none : 0 < 0 = numeral.0 in absurd (omega arith)
-  right_number mode existing (y ∷ ys) every numeral is above below =
-      subst (λ n. IsRight (program ∷ codes "run" ∷ (x ∷ xs) ∷ (flag_for mode ++ codes "--snapshot-every" ∷ (y ∷ ys) ∷ existing_for existing)) (x ∷ xs) existing (Run mode n))
+  right_number : (mode : Mode) (number : Text) (every : ℕ) → IsNumeral 10 number → digits_value 10 number ≡ every → 1 ≤ every → every ≤ 1000000
+      → IsRight (program ∷ codes "run" ∷ (x ∷ xs) ∷ (flag_for mode ++ codes "--snapshot-every" ∷ number ∷ [])) (x ∷ xs) false (Run mode every)
+  right_number mode [] every numeral is above below = let none : 0 < 0 = numeral.0 in absurd (omega arith)
+  right_number mode (y ∷ ys) every numeral is above below =
+      subst (λ n. IsRight (program ∷ codes "run" ∷ (x ∷ xs) ∷ (flag_for mode ++ codes "--snapshot-every" ∷ (y ∷ ys) ∷ [])) (x ∷ xs) false (Run mode n))
       (number_is y ys numeral every is above below)
-      (right_every program x xs e y ys (differs y 45 (no_hyphen y ys numeral)) (in_range y ys numeral 1 1000000 every is above below (omega arith)) mode existing)
+      (right_every program x xs e y ys (differs y 45 (no_hyphen y ys numeral)) (in_range y ys numeral 1 1000000 every is above below (omega arith)) mode)
 
   right_plain : (line : List Text) (existing : Bool) (task : Task) → IsLine line (x ∷ xs) existing task → IsRight (program ∷ line) (x ∷ xs) existing task
   right_plain line existing Snapshot is = rw is (right_snapshot program x xs e existing)
@@ -214,8 +198,9 @@ module _ (program : Text) (x : ℕ) (xs : Text) (e : (x == 45) ≡ false) where
   right_plain line existing (Export content) is = rw is (right_content program x xs e content existing)
   right_plain line existing (Tell Dump) is = rw is (right_dump program x xs e existing)
   right_plain line existing (Tell Verify) is = rw is (right_verify program x xs e existing)
-  right_plain line existing (Run mode every) (option, line_is, inl none) = rw (line_is, none.0, none.1) (right_run program x xs e mode existing)
-  right_plain line existing (Run mode every) (option, line_is, inr given) = rw (line_is, given.1) (right_number mode existing given.0 every given.2 given.3 given.4 given.5)
+  right_plain line false (Run mode every) (option, line_is, inl none) = rw (line_is, none.0, none.1) (right_run program x xs e mode false)
+  right_plain line false (Run mode every) (option, line_is, inr given) = rw (line_is, given.1) (right_number mode given.0 every given.2 given.3 given.4 given.5)
+  right_plain line true (Run mode every) (none, line_is) = rw (line_is, none) (right_run program x xs e mode true)
 
 pub right_line : (words : List Text) (folder : Text) (existing : Bool) (task : Task) → AsksFor words folder existing task → IsRight words folder existing task
 right_line words [] existing task asks = absurd asks.4

@@ -83,7 +83,7 @@ asked_found m name f folder flag existing task named listed folder_is existing_i
       task_is,
     ) refl
 
-task_in : Asked → Task
+abbrev task_in : Asked → Task
 task_in (folder, existing, task) = task
 
 -- the words ask for one thing, of one folder

@@ -162,10 +162,10 @@ abbrev pub existing_for : Bool → List Text
 existing_for false = []
 existing_for true = codes "--existing" ∷ []
 
--- the words of a command on this folder that asks for this
+-- The words of a command on this folder that asks for this. A number of snapshots beside `--existing` is not among them.
 abbrev pub IsLine : List Text → Text → Bool → Task → Type 0
-IsLine words folder existing (Run mode every) =
-    (option : List Text) × (words ≡ codes "run" ∷ folder ∷ (flag_for mode ++ option ++ existing_for existing)) × IsEvery every option
+IsLine words folder false (Run mode every) = (option : List Text) × (words ≡ codes "run" ∷ folder ∷ (flag_for mode ++ option)) × IsEvery every option
+IsLine words folder true (Run mode every) = (every ≡ 0) × (words ≡ codes "run" ∷ folder ∷ (flag_for mode ++ existing_for true))
 IsLine words folder existing Snapshot = words ≡ codes "snapshot" ∷ folder ∷ existing_for existing
 IsLine words folder existing Upgrade = words ≡ codes "upgrade" ∷ folder ∷ existing_for existing
 IsLine words folder existing (Export content) = words ≡ codes "export" ∷ folder ∷ (data_for content ++ existing_for existing)
