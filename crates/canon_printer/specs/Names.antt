@@ -1,4 +1,4 @@
--- How names are written (standard 22.1.3.3): as they are where they read back so, and else between bars.
+-- How names are written (standard 22.1.3.3): as they are if they read back so, and else between bars.
 use Rattle.std.specs.Prelude.{ℕ, ◌==◌, Bool, false, ◌&&◌, ◌||◌, nat_lt, nat_le, if◌then◌else◌, List, [], ◌∷◌, ◌++◌, codes}
 use Rattle.std.specs.List.{list_any, list_all, flat_map}
 use Rattle.std.specs.Char.{is_ascii_digit, is_ascii_uppercase}

@@ -17,7 +17,7 @@ module _ (packages : Table) (current : Name) where
   abbrev pub is_accessible : Name → Name → Bool
   is_accessible home name = has_home (found packages current name) home
 
-  -- what comes before a symbol's name (standard 22.1.3.3.1): nothing where it is accessible, one package marker where its
+  -- what comes before a symbol's name (standard 22.1.3.3.1): nothing if it is accessible, one package marker if its
   -- home has this very symbol external, else two
   abbrev pub printed_prefix : Name → Name → List ℕ
   printed_prefix home name =

@@ -6,7 +6,7 @@ ghost use Rattle.package_table.specs.Lookup.{is_external};
 ghost use Rattle.canon_printer.specs.Printed.{is_accessible};
 
 /// What is written for a symbol that is present in its home means this symbol again (standard 2.3.5), in each form: the name
-/// alone in the current package, the name after a colon where the home is KEYWORD, and the name after the home and one or
+/// alone in the current package, the name after a colon if the home is KEYWORD, and the name after the home and one or
 /// two package markers. NIL is among the symbols of all packages, so no list ends in a symbol that is missing.
 pub fn printed_symbols_are_found()
     ensures bare { (t : Table) (current home name : Name)

@@ -6,7 +6,7 @@ ghost use Rattle.canon_printer.specs.Written.{Writes};
 
 use std::alloc::AllocError;
 
-/// Writes a name as it is where it reads back so, and else between bars (standard 22.1.3.3).
+/// Writes a name as it is if it reads back so, and else between bars (standard 22.1.3.3).
 pub(crate) fn write_name(text: &mut Vec<u8>, name: &[u8]) -> Result<(), AllocError>
     ensures { OnOk result (Writes text.old text.new (printed_name name.now)) }
 {
@@ -21,7 +21,7 @@ pub(crate) fn write_name(text: &mut Vec<u8>, name: &[u8]) -> Result<(), AllocErr
     Ok(())
 }
 
-/// Writes the character, after a backslash where it needs one.
+/// Writes the character, after a backslash if it needs one.
 pub(crate) fn write_escaped(text: &mut Vec<u8>, c: u8, is_escaped: bool) -> Result<(), AllocError>
     ensures { OnOk result (Writes text.old text.new
         (if is_escaped then codes "\\" ++ c ∷ [] else c ∷ [])) }

@@ -111,7 +111,8 @@ fn write_tail(
     requires proper { option_map_or (λ d. is_proper d && not (is_list d)) tail.now true ≡ true }
     requires known { IsPackage packages.now.0 current.now }
     ensures { OnOk result (Writes text.old text.new
-        (written_rest (printed_prefix packages.now.0 current.now) (option_map_or object_of tail.now nil))) }
+        (written_rest (printed_prefix packages.now.0 current.now)
+        (option_map_or object_of tail.now nil))) }
 {
     match tail {
         None => {

@@ -10,7 +10,7 @@ use package_table::standardized::KEYWORD;
 use package_table::{Packages, Resolved};
 use std::alloc::AllocError;
 
-/// Writes a symbol, after a prefix where the current package does not find it by its name (standard 22.1.3.3.1).
+/// Writes a symbol, after a prefix if the current package does not find it by its name (standard 22.1.3.3.1).
 pub(crate) fn write_symbol(
     text: &mut Vec<u8>,
     home: &[u8],

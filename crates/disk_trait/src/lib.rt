@@ -11,7 +11,8 @@
 //!   so that it can crash: `Crash` (module `crash`) says what is then left.
 //! - `FuseDisk` and `OnceDisk` (module `faulty`) let calls of another disk fail, for tests: those that a `Faults` (module
 //!   `faults`) names.
-//! - `HostDisk` (module `host`) is two files of the operating system. It claims no honesty.
+//! - `HostDisk` (module `host`) is two files of the operating system. It claims no honesty, and keeps the system's error of the
+//!   last call that failed; `HostError` says why they are not opened.
 //! - `torn_images` (module `laws`): a write or a cut that a crash cuts short may leave each mix of bytes.
 #![tactic(auto)]
 
@@ -30,6 +31,6 @@ pub use disk::{DeviceFault, Disk};
 pub use faults::{Faults, Fuse, Once};
 pub use faulty::{FaultyDisk, FuseDisk, OnceDisk};
 pub use half::Half;
-pub use host::HostDisk;
+pub use host::{HostDisk, HostError, IfMissing};
 pub use laws::torn_images;
 pub use memory::MemoryDisk;

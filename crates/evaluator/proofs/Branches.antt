@@ -11,14 +11,14 @@ use Rattle.lisp_operators.specs.declared.error.EvaluationError.TheVariants.{Refu
 use Rattle.lisp_operators.specs.declared.evaluated.Evaluated.{Evaluated}
 use Rattle.lisp_operators.specs.Kinds.{is_true}
 use Rattle.lisp_operators.specs.Evaluation.{gives, also, and_then}
-use Rattle.evaluator.specs.Value.{value, choice, other_value, rest}
+use Rattle.evaluator.specs.Value.{value, choice, other_value, rest, value_by}
 use Rattle.lisp_operators.specs.Evaluated.{Answers, done}
 use Rattle.evaluator.specs.Gathered.{arguments_of}
 use Rattle.evaluator.proofs.Forms.{two_arguments}
 
 choice_of : (names : List Name) (s : WorldState) (x y others : Object)
     → choice names s (pair x (pair y others)) ≡ and_then (value names s x) (λ z later. cond (is_true z) (value names later y) (other_value names later others))
-unfolding value
+unfolding value_by
 choice_of names s x y others = refl
 
 pub choice_refused : (names : List Name) (s t u : WorldState) (items : List Datum) (x : Datum) (e : EvaluationError) → 3 ≤ length items → x ≡ get_or items 1 x → Answers done (Err e) t (value names s (object_of x))
@@ -47,11 +47,11 @@ pub choice_true : (names : List Name) (s t u : WorldState) (items : List Datum) 
 choice_true names s t u items x y d r some is at h test after = subst (Answers done r u) (sym (after_test names s t items x y d true some is at h test)) after
 
 other_none : (names : List Name) (s : WorldState) → other_value names s nil ≡ gives nil s
-unfolding value
+unfolding value_by
 other_none names s = refl
 
 other_one : (names : List Name) (s : WorldState) (x rest : Object) → other_value names s (pair x rest) ≡ value names s x
-unfolding value
+unfolding value_by
 other_one names s x rest = refl
 
 pub choice_none : (names : List Name) (s t : WorldState) (items : List Datum) (x : Datum) (d : Evaluated) (v : Datum) → 3 ≤ length items → length items ≡ 3 → x ≡ get_or items 1 x → value names s (object_of x) ≡ Ok (done d t)

@@ -25,13 +25,15 @@ use Rattle.evaluator.specs.declared.operation.Operation.TheVariants.{Quote, Prog
 use Rattle.lisp_operators.specs.Kinds.{a_symbol, is_pair}
 use Rattle.lisp_operators.specs.Properties.{set}
 use Rattle.lisp_operators.specs.Readtables.{set_case}
+use Rattle.lisp_operators.specs.ReadBase.{set_base}
 use Rattle.lisp_operators.specs.Evaluation.{Evaluation, gives, also, and_then}
 use Rattle.evaluator.specs.Operators.{count, first}
-use Rattle.evaluator.specs.Value.{value, values, values_at_place, values_before_place, symbol_value, action_value, unless, is_case_place}
-use Rattle.evaluator.specs.Operations.{action_of, is_ordinary, function_of}
+use Rattle.evaluator.specs.Value.{value, values, values_at_place, values_before_place, symbol_value, action_value, unless, is_base_place, is_case_place, value_by}
+use Rattle.evaluator.specs.declared.place.Place.TheVariants.{Property, Case, ReadBase}
+use Rattle.evaluator.specs.Operations.{action_of, is_ordinary, set_at, function_of}
 use Rattle.lisp_operators.specs.Evaluated.{Answers, done}
 use Rattle.evaluator.specs.Gathered.{all_done}
-use Rattle.evaluator.specs.Gathered.{arguments_of, parts, followed, subforms, gathered, refusal_of_place, is_case, IsHead, IsRefusal}
+use Rattle.evaluator.specs.Gathered.{arguments_of, parts, followed, subforms, gathered, refusal_of_place, list_place, place_of, IsHead, IsRefusal}
 use Rattle.evaluator.proofs.Places.{count_pairs}
 use Rattle.evaluator.proofs.Steps.{value_symbol, value_constant, value_uninterned, is_constant, followed_start}
 
@@ -103,19 +105,25 @@ quote_left SetDispatchMacroCharacter e f g = absurd (false≢true (sym e))
 quote_left GetDispatchMacroCharacter e f g = absurd (false≢true (sym e))
 quote_left ReadtableCase e f g = absurd (false≢true (sym e))
 
-case_or_property : (names : List Name) (s : WorldState) (arguments : Object) → action_value s (action_of names Setf) arguments (parts names s arguments)
-    ≡ unless (refusal_of_place Setf arguments) (and_then (gathered names s Setf arguments) (function_of names Setf (is_case Setf arguments)))
-case_or_property names s arguments =
-    elim (is_case_place (first arguments)) as (λ b. unless (refusal_of_place Setf arguments) (and_then (values_at_place names s arguments) (cond b set_case set)) ≡ unless (refusal_of_place Setf arguments) (and_then (values_at_place names s arguments) (λ xs t. cond b (set_case xs t) (set xs t)))) [ true ↦ refl | false ↦ refl ]
+any_place : (names : List Name) (s : WorldState) (arguments : Object) → action_value s (action_of names Setf) arguments (parts names s arguments)
+    ≡ unless (refusal_of_place Setf arguments) (and_then (gathered names s Setf arguments) (function_of names Setf (place_of Setf arguments)))
+any_place names s arguments =
+    elim (is_base_place (first arguments)) as (λ b. unless (refusal_of_place Setf arguments) (and_then (values_at_place names s arguments) (cond b set_base (cond (is_case_place (first arguments)) set_case set)))
+    ≡ unless (refusal_of_place Setf arguments) (and_then (values_at_place names s arguments) (λ xs t. set_at (cond b ReadBase (list_place (first arguments))) xs t))) [
+      | true ↦ refl
+      | false ↦
+          elim (is_case_place (first arguments)) as (λ b. unless (refusal_of_place Setf arguments) (and_then (values_at_place names s arguments) (cond b set_case set))
+          ≡ unless (refusal_of_place Setf arguments) (and_then (values_at_place names s arguments) (λ xs t. set_at (cond b Case Property) xs t))) [ true ↦ refl | false ↦ refl ]
+    ]
 
 pub ordinary_is : (names : List Name) (operation : Operation) (s : WorldState) (arguments : Object) → is_ordinary operation ≡ true → action_value s (action_of names operation) arguments (parts names s arguments)
-    ≡ unless (refusal_of_place operation arguments) (and_then (gathered names s operation arguments) (function_of names operation (is_case operation arguments)))
+    ≡ unless (refusal_of_place operation arguments) (and_then (gathered names s operation arguments) (function_of names operation (place_of operation arguments)))
 ordinary_is names Quote s arguments e = absurd (false≢true e)
 ordinary_is names Progn s arguments e = refl
 ordinary_is names If s arguments e = absurd (false≢true e)
 ordinary_is names MakeList s arguments e = refl
 ordinary_is names Get s arguments e = refl
-ordinary_is names Setf s arguments e = case_or_property names s arguments
+ordinary_is names Setf s arguments e = any_place names s arguments
 ordinary_is names Remprop s arguments e = refl
 ordinary_is names SymbolPlist s arguments e = refl
 ordinary_is names Incf s arguments e = refl
@@ -198,9 +206,9 @@ two_arguments (a ∷ b ∷ e ∷ es) x y some is then' =
     ap (λ d. pair (object_of d) (pair (object_of e) (list_of (map object_of es)))) (sym is) ∙ ap (λ d. pair (object_of x) (pair (object_of d) (list_of (map object_of es)))) (sym then')
 
 at_place_of : (names : List Name) (s : WorldState) (p f : Object) → values_at_place names s (pair p f) ≡ and_then (subforms names [] false s p) (λ xs later. and_then (values names later f) (λ ys end'. gives (xs ++ ys) end'))
-unfolding value
+unfolding value_by
 at_place_of names s (pair a b) f = ap (λ o. and_then o (λ xs later. and_then (values names later f) (λ ys end'. gives (xs ++ ys) end'))) (sym (followed_start names s b))
-at_place_of names s (symbol h n) f = refl
+at_place_of names s (symbol h n) f = sym (followed_start names s f)
 at_place_of names s (uninterned n) f = refl
 at_place_of names s (integer n) f = refl
 at_place_of names s (rational n d) f = refl
@@ -230,7 +238,7 @@ place_given names s t u items x vs w v r some is none nothing h after =
 -- ---- PUSH
 before_pair : (names : List Name) (s : WorldState) (x p f : Object) (y : Object) (t : WorldState) (w : Bool) → is_pair p ≡ true → value names s x ≡ Ok (record { value = y; state = t; wrote = w })
     → values_before_place names s (pair x (pair p f)) ≡ subforms names (y ∷ []) w t p
-unfolding value
+unfolding value_by
 before_pair names s x (pair a b) f y t w is e = ap (λ o. and_then o (λ z later. and_then (values names later b) (λ ys end'. gives (z ∷ ys) end'))) e
 before_pair names s x (symbol h n) f y t w is e = absurd (false≢true is)
 before_pair names s x (uninterned n) f y t w is e = absurd (false≢true is)
@@ -241,7 +249,7 @@ before_pair names s x (text b) f y t w is e = absurd (false≢true is)
 before_pair names s x (vector xs) f y t w is e = absurd (false≢true is)
 
 before_refused : (names : List Name) (s : WorldState) (x p f : Object) (code : ℕ) → is_pair p ≡ true → value names s x ≡ Err code → values_before_place names s (pair x (pair p f)) ≡ Err code
-unfolding value
+unfolding value_by
 before_refused names s x (pair a b) f code is e = ap (λ o. and_then o (λ z later. and_then (values names later b) (λ ys end'. gives (z ∷ ys) end'))) e
 before_refused names s x (symbol h n) f code is e = absurd (false≢true is)
 before_refused names s x (uninterned n) f code is e = absurd (false≢true is)
@@ -252,7 +260,7 @@ before_refused names s x (text b) f code is e = absurd (false≢true is)
 before_refused names s x (vector xs) f code is e = absurd (false≢true is)
 
 before_other : (names : List Name) (s : WorldState) (x p f : Object) → is_pair p ≡ false → values_before_place names s (pair x (pair p f)) ≡ Err ARGUMENT_KIND
-unfolding value
+unfolding value_by
 before_other names s x (pair a b) f is = absurd (false≢true (sym is))
 before_other names s x (symbol h n) f is = refl
 before_other names s x (uninterned n) f is = refl
@@ -297,7 +305,7 @@ same_item xs i x y within is at = is ∙ get_or-any xs i x y within ∙ sym at
 
 -- ---- the subforms of a place
 values_of_pairs : (names : List Name) (s : WorldState) (xs : List Object) (end : Object) → object_is_list end ≡ false → values names s (pairs xs end) ≡ values names s (list_of xs)
-unfolding value
+unfolding value_by
 values_of_pairs names s [] (symbol h n) other = refl
 values_of_pairs names s [] (uninterned n) other = refl
 values_of_pairs names s [] (integer n) other = refl

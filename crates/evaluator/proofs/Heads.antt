@@ -13,7 +13,7 @@ use Rattle.package_table.proofs.Names.{same_some, none_some}
 use Rattle.lisp_operators.specs.Kinds.{a_symbol}
 use Rattle.evaluator.specs.Operators.{Operator, operator_named, operator_of, is_interned, count, counts}
 use Rattle.evaluator.specs.Operations.{operator, action_of, among, operators_on_data, operators_on_packages, operators_on_readtables}
-use Rattle.evaluator.specs.Value.{value, form_value, action_value}
+use Rattle.evaluator.specs.Value.{value, form_value_by, action_value, value_by}
 use Rattle.evaluator.specs.Gathered.{parts}
 
 module _ (names : List Name) (name : Name) where
@@ -69,19 +69,19 @@ symbol_of_some (uninterned n) p e = absurd (none_some p e)
 symbol_of_some (pair a b) p e = absurd (none_some p e)
 symbol_of_some (vector xs) p e = absurd (none_some p e)
 
-pub head_value : (names : List Name) (s : WorldState) (head arguments : Object) → is_interned head ≡ true → is_proper_list arguments ≡ true → value names s (pair head arguments) ≡ form_value s (operator_of names head) arguments (parts names s arguments)
-unfolding value
+pub head_value : (names : List Name) (s : WorldState) (head arguments : Object) → is_interned head ≡ true → is_proper_list arguments ≡ true → value names s (pair head arguments) ≡ form_value_by true s (operator_of names head) arguments (parts names s arguments)
+unfolding value_by
 head_value names s head arguments interned proper = rw (interned, proper) refl
 
 pub head_symbol : (names : List Name) (s : WorldState) (head arguments : Object) (h n : Name) → Some (h, n) ≡ a_symbol head → is_proper_list arguments ≡ true
-    → value names s (pair head arguments) ≡ form_value s (cond (bytes_eq h common_lisp) (operator_named names n) None) arguments (parts names s arguments)
+    → value names s (pair head arguments) ≡ form_value_by true s (cond (bytes_eq h common_lisp) (operator_named names n) None) arguments (parts names s arguments)
 head_symbol names s head arguments h n is proper =
     let same : head ≡ symbol h n = symbol_of_some head (h, n) (sym is) in
-    subst (λ k. value names s (pair k arguments) ≡ form_value s (cond (bytes_eq h common_lisp) (operator_named names n) None) arguments (parts names s arguments)) (sym same)
+    subst (λ k. value names s (pair k arguments) ≡ form_value_by true s (cond (bytes_eq h common_lisp) (operator_named names n) None) arguments (parts names s arguments)) (sym same)
     (head_value names s (symbol h n) arguments refl proper)
 
 pub head_other : (names : List Name) (s : WorldState) (head arguments : Object) → None ≡ a_symbol head → value names s (pair head arguments) ≡ Err NOT_A_FORM
-unfolding value
+unfolding value_by
 head_other names s (symbol h n) arguments is = absurd (none_some (h, n) is)
 head_other names s (integer n) arguments is = refl
 head_other names s (rational n d) arguments is = refl
@@ -95,15 +95,15 @@ head_other names s (vector xs) arguments is = refl
 pub head_unknown : (names : List Name) (s : WorldState) (head arguments : Object) (h n : Name) → Some (h, n) ≡ a_symbol head → is_proper_list arguments ≡ true
     → cond (bytes_eq h common_lisp) (operator_named names n) None ≡ None → value names s (pair head arguments) ≡ Err UNKNOWN_OPERATOR
 head_unknown names s head arguments h n is proper none =
-    head_symbol names s head arguments h n is proper ∙ ap (λ o. form_value s o arguments (parts names s arguments)) none
+    head_symbol names s head arguments h n is proper ∙ ap (λ o. form_value_by true s o arguments (parts names s arguments)) none
 
 -- a wrong count, and a right one
 pub head_count : (names : List Name) (s : WorldState) (head arguments : Object) (h n : Name) (operation : Operation) (number : ℕ) → Some (h, n) ≡ a_symbol head → is_proper_list arguments ≡ true
     → bytes_eq h common_lisp ≡ true → Some (operator names operation) ≡ operator_named names n → count arguments ≡ number → counts (operator names operation) number ≡ false → value names s (pair head arguments) ≡ Err ARGUMENT_COUNT
 head_count names s head arguments h n operation number is proper home named counted wrong =
     head_symbol names s head arguments h n is proper
-    ∙ ap (λ b. form_value s (cond b (operator_named names n) None) arguments (parts names s arguments)) home
-    ∙ ap (λ o. form_value s o arguments (parts names s arguments)) (sym named)
+    ∙ ap (λ b. form_value_by true s (cond b (operator_named names n) None) arguments (parts names s arguments)) home
+    ∙ ap (λ o. form_value_by true s o arguments (parts names s arguments)) (sym named)
     ∙ ap (λ b. cond (not b) (Err ARGUMENT_COUNT) (action_value s (action_of names operation) arguments (parts names s arguments))) (ap (counts (operator names operation)) counted ∙ wrong)
 
 pub head_acts : (names : List Name) (s : WorldState) (head arguments : Object) (h n : Name) (operation : Operation) (number : ℕ) → Some (h, n) ≡ a_symbol head → is_proper_list arguments ≡ true
@@ -111,6 +111,6 @@ pub head_acts : (names : List Name) (s : WorldState) (head arguments : Object) (
     → value names s (pair head arguments) ≡ action_value s (action_of names operation) arguments (parts names s arguments)
 head_acts names s head arguments h n operation number is proper home named counted right =
     head_symbol names s head arguments h n is proper
-    ∙ ap (λ b. form_value s (cond b (operator_named names n) None) arguments (parts names s arguments)) home
-    ∙ ap (λ o. form_value s o arguments (parts names s arguments)) (sym named)
+    ∙ ap (λ b. form_value_by true s (cond b (operator_named names n) None) arguments (parts names s arguments)) home
+    ∙ ap (λ o. form_value_by true s o arguments (parts names s arguments)) (sym named)
     ∙ ap (λ b. cond (not b) (Err ARGUMENT_COUNT) (action_value s (action_of names operation) arguments (parts names s arguments))) (ap (counts (operator names operation)) counted ∙ right)

@@ -2,8 +2,9 @@
 --     Operators      what is asked of the operators
 --     Steps      what is asked of each step
 --     every_value      the value of a form
-use Rattle.std.proofs.Common.{Bool, true, false, not, ◌&&◌, ◌||◌, ◌==◌, cond, List, [], ◌∷◌, ◌++◌, Option, Some, None, Err, codes, bytes_eq, arith}
+use Rattle.std.proofs.Common.{◌≡◌, pos, refl, Bool, true, false, not, ◌&&◌, ◌||◌, ◌==◌, cond, List, [], ◌∷◌, ◌++◌, Option, Some, None, Err, codes, bytes_eq, arith}
 use Rattle.std.specs.Prelude.{ℕ}
+use Rattle.std.proofs.lemmas.Bool.{and_parts}
 use Rattle.lisp_object.specs.Object.{Object, integer, rational, character, text, symbol, uninterned, pair, vector, nil, is_proper_list}
 use Rattle.package_table.specs.Table.{Name, common_lisp, keyword}
 use Rattle.plist_state.specs.State.{WorldState}
@@ -11,10 +12,11 @@ use Rattle.lisp_operators.specs.Kinds.{is_true}
 use Rattle.lisp_operators.specs.Evaluation.{Evaluation, gives, and_then}
 use Rattle.lisp_operators.specs.Properties.{list, get, set, remove, symbol_plist, increment, push}
 use Rattle.lisp_operators.specs.Packages.{make, enter, intern, export, import, use_package}
+use Rattle.lisp_operators.specs.ReadBase.{set_base}
 use Rattle.lisp_operators.specs.Readtables.{a_keyword_of, readtable_case, set_case, copy_readtable, enter_readtable, set_syntax, set_macro, get_macro, make_dispatch, set_dispatch, get_dispatch}
 use Rattle.lisp_operators.proofs.Numbered.{IsNumber}
 use Rattle.evaluator.specs.Operators.{Operator, Action, quotes, sequence, chooses, assigns, increments, pushes, enters_package, calls, operator_named, operator_of, is_standard, is_interned, count, counts, first}
-use Rattle.evaluator.specs.Value.{value, values, choice, other_value, values_at_place, values_before_place, symbol_value, Parts, action_value, form_value, unless, last, is_case_place, place_refusal, case_place_refusal, get_place_refusal, set_place, rest}
+use Rattle.evaluator.specs.Value.{value_by, values_by, choice_by, other_value_by, values_at_place_by, values_before_place_by, symbol_value_by, Parts, action_value_by, form_value_by, unless, last, is_base_by, is_case_place, place_refusal_by, case_place_refusal, get_place_refusal, set_place_by, rest}
 
 -- ---- why an object is no place
 abbrev IsNumbered : Option ℕ → Type 0
@@ -35,12 +37,14 @@ case_place_numbered (pair operator subforms) =
     either_numbered (not (is_standard (codes "READTABLE-CASE") operator && is_proper_list subforms)) _ _ (omega arith, omega arith) (either_numbered (count subforms == 1) _ _ tt (omega arith, omega arith))
 case_place_numbered _ = (omega arith, omega arith)
 
-place_numbered : (place : Object) → IsNumbered (place_refusal place)
-place_numbered place = either_numbered (is_case_place place) (case_place_refusal place) (get_place_refusal place) (case_place_numbered place) (get_place_numbered place)
+place_numbered : (based : Bool) (place : Object) → IsNumbered (place_refusal_by based place)
+place_numbered based place =
+    either_numbered (is_base_by based place) None _ tt
+    (either_numbered (is_case_place place) (case_place_refusal place) (get_place_refusal place) (case_place_numbered place) (get_place_numbered place))
 
--- What is asked of a form before it is evaluated, what is said of its value and of the values of forms, and what is said of a
--- function of values.
-module _ (names : List Name) (Asks : WorldState → Object → Type 0) (One : WorldState → Evaluation Object → Type 0) (All : WorldState → Evaluation (List Object) → Type 0) (Function : (List Object → WorldState → Evaluation Object) → Type 0) where
+-- Whether *READ-BASE* is a variable, what is asked of a form before it is evaluated, what is said of its value and of the
+-- values of forms, and what is said of a function of values.
+module _ (based : Bool) (names : List Name) (Asks : WorldState → Object → Type 0) (One : WorldState → Evaluation Object → Type 0) (All : WorldState → Evaluation (List Object) → Type 0) (Function : (List Object → WorldState → Evaluation Object) → Type 0) where
   pub record Operators : Type 0 where
     pub lists : Function list
     pub gets : Function get
@@ -64,6 +68,7 @@ module _ (names : List Name) (Asks : WorldState → Object → Type 0) (One : Wo
     pub makes_dispatch : Function make_dispatch
     pub sets_dispatch : Function (set_dispatch names)
     pub gets_dispatch : Function get_dispatch
+    pub sets_base : based ≡ true → Function set_base
 
   -- what is asked of a form stays so from the first state to the second
   abbrev pub Later : WorldState → WorldState → Type 0
@@ -79,6 +84,7 @@ module _ (names : List Name) (Asks : WorldState → Object → Type 0) (One : Wo
     pub nothing : (s : WorldState) (asked : Object) → Asks s asked → One s (gives nil s)
     pub current_package : (s : WorldState) (asked : Object) → Asks s asked → One s (gives (text s.current_package) s)
     pub current_readtable : (s : WorldState) (asked : Object) → Asks s asked → One s (gives (a_keyword_of s.current_readtable) s)
+    pub read_base : (s : WorldState) (asked : Object) → Asks s asked → One s (gives (integer (pos s.read_base)) s)
     pub none : (s : WorldState) (asked : Object) → Asks s asked → All s (gives [] s)
     pub parts : (s : WorldState) (a b : Object) → Asks s (pair a b) → Asks s a × Asks s b
     -- a value, and then others; values, and then others
@@ -158,8 +164,12 @@ module _ (names : List Name) (Asks : WorldState → Object → Type 0) (One : Wo
     unless_one s (Some code) on number is = steps.refused s code number
     unless_one s None on number is = is
 
-    set_place_holds : (place : Object) → Function (set_place place)
-    set_place_holds place = elim (is_case_place place) as (λ b. Function (cond b set_case set)) [ true ↦ steps.operators.sets_case | false ↦ steps.operators.sets ]
+    set_place_holds : (place : Object) → Function (set_place_by based place)
+    set_place_holds place =
+        elim (is_base_by based place) as (λ b. is_base_by based place ≡ b → Function (cond b set_base (cond (is_case_place place) set_case set))) [
+          | true ↦ λ is. steps.operators.sets_base (and_parts based (is_standard (codes "*READ-BASE*") place) is).0
+          | false ↦ λ _. elim (is_case_place place) as (λ b. Function (cond b set_case set)) [ true ↦ steps.operators.sets_case | false ↦ steps.operators.sets ]
+        ] refl
 
     quoted : (s : WorldState) (arguments : Object) → Asks s arguments → One s (gives (first arguments) s)
     quoted s (pair x xs) asks = steps.itself s x (steps.parts s x xs asks).0
@@ -171,12 +181,12 @@ module _ (names : List Name) (Asks : WorldState → Object → Type 0) (One : Wo
     quoted s (uninterned name) asks = steps.nothing s (uninterned name) asks
     quoted s (vector xs) asks = steps.nothing s (vector xs) asks
 
-    of_action : (s : WorldState) (action : Action) (arguments : Object) (parts : Parts) → Asks s arguments → ActionHolds action → PartsHold s parts → One s (action_value s action arguments parts)
+    of_action : (s : WorldState) (action : Action) (arguments : Object) (parts : Parts) → Asks s arguments → ActionHolds action → PartsHold s parts → One s (action_value_by based s action arguments parts)
     of_action s quotes arguments parts asks holds all = quoted s arguments asks
     of_action s sequence arguments parts asks holds all = steps.of_values s parts.in_order (λ xs later. gives (last xs) later) all.in_order steps.last_one
     of_action s chooses arguments parts asks holds all = all.chosen
     of_action s assigns arguments parts asks holds all =
-        unless_one s (place_refusal (first arguments)) _ (place_numbered (first arguments)) (steps.of_values s parts.at_place (set_place (first arguments)) all.at_place (set_place_holds (first arguments)))
+        unless_one s (place_refusal_by based (first arguments)) _ (place_numbered based (first arguments)) (steps.of_values s parts.at_place (set_place_by based (first arguments)) all.at_place (set_place_holds (first arguments)))
     of_action s increments arguments parts asks holds all =
         unless_one s (get_place_refusal (first arguments)) _ (get_place_numbered (first arguments)) (steps.of_values s parts.at_place increment all.at_place steps.operators.increments)
     of_action s pushes arguments parts asks holds all =
@@ -184,21 +194,22 @@ module _ (names : List Name) (Asks : WorldState → Object → Type 0) (One : Wo
     of_action s enters_package arguments parts asks holds all = steps.in_package s (first arguments) arguments asks
     of_action s (calls function) arguments parts asks holds all = steps.of_values s parts.in_order function all.in_order holds
 
-    of_form : (s : WorldState) (operator : Option Operator) (arguments : Object) (parts : Parts) → Asks s arguments → OperatorHolds operator → PartsHold s parts → One s (form_value s operator arguments parts)
+    of_form : (s : WorldState) (operator : Option Operator) (arguments : Object) (parts : Parts) → Asks s arguments → OperatorHolds operator → PartsHold s parts → One s (form_value_by based s operator arguments parts)
     of_form s None arguments parts asks holds all = steps.refused s _ (omega arith, omega arith)
     of_form s (Some operator) arguments parts asks holds all =
         if_one s (not (counts operator (count arguments))) _ _ (steps.refused s _ (omega arith, omega arith)) (of_action s operator.action arguments parts asks holds all)
 
-    of_symbol : (s : WorldState) (home name : List ℕ) → Asks s (symbol home name) → One s (symbol_value home name s)
+    of_symbol : (s : WorldState) (home name : List ℕ) → Asks s (symbol home name) → One s (symbol_value_by based home name s)
     of_symbol s home name asks =
         if_one s (bytes_eq home keyword || is_standard (codes "T") (symbol home name) || is_standard (codes "NIL") (symbol home name)) _ _ (steps.itself s (symbol home name) asks)
         (if_one s (is_standard (codes "*PACKAGE*") (symbol home name)) _ _ (steps.current_package s (symbol home name) asks)
-        (if_one s (is_standard (codes "*READTABLE*") (symbol home name)) _ _ (steps.current_readtable s (symbol home name) asks) (steps.refused s _ (omega arith, omega arith))))
+        (if_one s (is_standard (codes "*READTABLE*") (symbol home name)) _ _ (steps.current_readtable s (symbol home name) asks)
+        (if_one s (is_base_by based (symbol home name)) _ _ (steps.read_base s (symbol home name) asks) (steps.refused s _ (omega arith, omega arith)))))
 
     mutual
-      unfolding value
+      unfolding value_by
 
-      pub every_value : (s : WorldState) (x : Object) → Asks s x → One s (value names s x)
+      pub every_value : (s : WorldState) (x : Object) → Asks s x → One s (value_by based names s x)
       every_value s (pair head arguments) asks =
           let given = (steps.parts s head arguments asks).1 in
           if_one s (not (is_interned head && is_proper_list arguments)) _ _ (steps.refused s _ (omega arith, omega arith))
@@ -217,10 +228,10 @@ module _ (names : List Name) (Asks : WorldState → Object → Type 0) (One : Wo
       every_value s (text characters) asks = steps.itself s (text characters) asks
       every_value s (vector xs) asks = steps.itself s (vector xs) asks
 
-      all_values : (s : WorldState) (x : Object) → Asks s x → All s (values names s x)
+      all_values : (s : WorldState) (x : Object) → Asks s x → All s (values_by based names s x)
       all_values s (pair x xs) asks =
           let both = steps.parts s x xs asks in
-          steps.one_more s (value names s x) (λ later. values names later xs) (every_value s x both.0) (λ t still. all_values t xs (still xs both.1))
+          steps.one_more s (value_by based names s x) (λ later. values_by based names later xs) (every_value s x both.0) (λ t still. all_values t xs (still xs both.1))
       all_values s (symbol home name) asks = steps.none s (symbol home name) asks
       all_values s (uninterned name) asks = steps.none s (uninterned name) asks
       all_values s (integer n) asks = steps.none s (integer n) asks
@@ -229,15 +240,15 @@ module _ (names : List Name) (Asks : WorldState → Object → Type 0) (One : Wo
       all_values s (text characters) asks = steps.none s (text characters) asks
       all_values s (vector xs) asks = steps.none s (vector xs) asks
 
-      of_choice : (s : WorldState) (x : Object) → Asks s x → One s (choice names s x)
+      of_choice : (s : WorldState) (x : Object) → Asks s x → One s (choice_by based names s x)
       of_choice s (pair test (pair then' others)) asks =
           let both = steps.parts s test (pair then' others) asks in
           let branches = steps.parts s then' others both.1 in
-          steps.then_one s (value names s test) _ (every_value s test both.0)
-          (λ x t still. if_one t (is_true x) (value names t then') (other_value names t others) (every_value t then' (still then' branches.0)) (of_other t others (still others branches.1)))
+          steps.then_one s (value_by based names s test) _ (every_value s test both.0)
+          (λ x t still. if_one t (is_true x) (value_by based names t then') (other_value_by based names t others) (every_value t then' (still then' branches.0)) (of_other t others (still others branches.1)))
       of_choice s _ asks = steps.refused s _ (omega arith, omega arith)
 
-      of_other : (s : WorldState) (x : Object) → Asks s x → One s (other_value names s x)
+      of_other : (s : WorldState) (x : Object) → Asks s x → One s (other_value_by based names s x)
       of_other s (pair x xs) asks = every_value s x (steps.parts s x xs asks).0
       of_other s (symbol home name) asks = steps.nothing s (symbol home name) asks
       of_other s (uninterned name) asks = steps.nothing s (uninterned name) asks
@@ -247,17 +258,18 @@ module _ (names : List Name) (Asks : WorldState → Object → Type 0) (One : Wo
       of_other s (text characters) asks = steps.nothing s (text characters) asks
       of_other s (vector xs) asks = steps.nothing s (vector xs) asks
 
-      at_place : (s : WorldState) (x : Object) → Asks s x → All s (values_at_place names s x)
+      at_place : (s : WorldState) (x : Object) → Asks s x → All s (values_at_place_by based names s x)
       at_place s (pair (pair head subforms) forms) asks =
           let both = steps.parts s (pair head subforms) forms asks in
           let given = (steps.parts s head subforms both.0).1 in
-          steps.more s (values names s subforms) (λ later. values names later forms) (all_values s subforms given) (λ t still. all_values t forms (still forms both.1))
+          steps.more s (values_by based names s subforms) (λ later. values_by based names later forms) (all_values s subforms given) (λ t still. all_values t forms (still forms both.1))
+      at_place s (pair (symbol home name) forms) asks = all_values s forms (steps.parts s (symbol home name) forms asks).1
       at_place s _ asks = steps.all_refused s _ (omega arith, omega arith)
 
-      before_place : (s : WorldState) (x : Object) → Asks s x → All s (values_before_place names s x)
+      before_place : (s : WorldState) (x : Object) → Asks s x → All s (values_before_place_by based names s x)
       before_place s (pair x (pair (pair head subforms) forms)) asks =
           let both = steps.parts s x (pair (pair head subforms) forms) asks in
           let place = steps.parts s (pair head subforms) forms both.1 in
           let given = (steps.parts s head subforms place.0).1 in
-          steps.one_more s (value names s x) (λ later. values names later subforms) (every_value s x both.0) (λ t still. all_values t subforms (still subforms given))
+          steps.one_more s (value_by based names s x) (λ later. values_by based names later subforms) (every_value s x both.0) (λ t still. all_values t subforms (still subforms given))
       before_place s _ asks = steps.all_refused s _ (omega arith, omega arith)

@@ -10,4 +10,5 @@ pub mod Induction
 pub mod SilentForms
 pub mod SoundForms
 pub mod NumberedForms
-pub mod CoveringForms
+pub mod KeepingForms
+pub mod WithoutBase

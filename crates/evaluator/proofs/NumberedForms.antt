@@ -1,12 +1,12 @@
 -- That a form is refused under a number of evaluation.
 --     value_numbered      the value of a form
-use Rattle.std.proofs.Common.{List}
+use Rattle.std.proofs.Common.{true, List}
 use Rattle.lisp_object.specs.Object.{Object}
 use Rattle.package_table.specs.Table.{Name}
 use Rattle.plist_state.specs.State.{WorldState}
 use Rattle.lisp_operators.specs.Evaluation.{Evaluation}
 use Rattle.lisp_operators.proofs.Numbered.{Numbered, numbered_then}
-use Rattle.lisp_operators.proofs.NumberedOperators.{IsNumberedFunction, list_numbered, get_numbered, set_numbered, remove_numbered, symbol_plist_numbered, increment_numbered, push_numbered, make_numbered, enter_numbered, intern_numbered, export_numbered, import_numbered, use_numbered, case_numbered, set_case_numbered, copy_numbered, enter_readtable_numbered, set_syntax_numbered, set_macro_numbered, get_macro_numbered, make_dispatch_numbered, set_dispatch_numbered, get_dispatch_numbered}
+use Rattle.lisp_operators.proofs.NumberedOperators.{IsNumberedFunction, list_numbered, get_numbered, set_numbered, remove_numbered, symbol_plist_numbered, increment_numbered, push_numbered, make_numbered, enter_numbered, intern_numbered, export_numbered, import_numbered, use_numbered, case_numbered, set_case_numbered, copy_numbered, enter_readtable_numbered, set_syntax_numbered, set_macro_numbered, get_macro_numbered, make_dispatch_numbered, set_dispatch_numbered, get_dispatch_numbered, set_base_numbered}
 use Rattle.evaluator.specs.Value.{value}
 use Rattle.evaluator.proofs.Induction.{Operators, Steps, every_value}
 
@@ -17,7 +17,7 @@ module _ (names : List Name) where
   abbrev Of : {A : Type 0} → WorldState → Evaluation A → Type 0
   Of s o = Numbered o
 
-  operators : Operators names Asks Of Of IsNumberedFunction
+  operators : Operators true names Asks Of Of IsNumberedFunction
   operators = record {
     lists = list_numbered;
     gets = get_numbered;
@@ -41,9 +41,10 @@ module _ (names : List Name) where
     makes_dispatch = make_dispatch_numbered;
     sets_dispatch = set_dispatch_numbered names;
     gets_dispatch = get_dispatch_numbered;
+    sets_base = λ _. set_base_numbered;
   }
 
-  steps : Steps names Asks Of Of IsNumberedFunction
+  steps : Steps true names Asks Of Of IsNumberedFunction
   steps = record {
     operators = operators;
     last_one = λ xs later. record { number = tt };
@@ -54,6 +55,7 @@ module _ (names : List Name) where
     nothing = λ s asked _. record { number = tt };
     current_package = λ s asked _. record { number = tt };
     current_readtable = λ s asked _. record { number = tt };
+    read_base = λ s asked _. record { number = tt };
     none = λ s asked _. record { number = tt };
     parts = λ s a b _. (tt, tt);
     one_more = λ s o others is each. numbered_then o _ is (λ y t. numbered_then (others t) _ (each t (λ _ _. tt)) (λ ys end'. record { number = tt }));
@@ -63,4 +65,4 @@ module _ (names : List Name) where
   }
 
   pub value_numbered : (s : WorldState) (x : Object) → Numbered (value names s x)
-  value_numbered s x = every_value names Asks Of Of IsNumberedFunction steps s x tt
+  value_numbered s x = every_value true names Asks Of Of IsNumberedFunction steps s x tt

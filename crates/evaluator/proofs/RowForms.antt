@@ -42,6 +42,9 @@ b = quoted (own (codes "B"))
 abbrev pub place : Object
 place = call (codes "GET") (a ∷ b ∷ [])
 
+abbrev pub base : Object
+base = standard (codes "*READ-BASE*")
+
 -- a list in a list, and so on
 abbrev pub nested : ℕ → Object
 nested zero = nil

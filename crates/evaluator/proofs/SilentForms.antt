@@ -1,11 +1,11 @@
 -- That a form which does not write leaves the state as it was.
 --     value_silent      the value of a form
-use Rattle.std.proofs.Common.{List, refl}
+use Rattle.std.proofs.Common.{true, List, refl}
 use Rattle.lisp_object.specs.Object.{Object}
 use Rattle.package_table.specs.Table.{Name}
 use Rattle.plist_state.specs.State.{WorldState}
 use Rattle.lisp_operators.proofs.Silence.{Keeps, keeps_then}
-use Rattle.lisp_operators.proofs.SilentOperators.{IsSilent, list_silent, get_silent, set_silent, remove_silent, symbol_plist_silent, increment_silent, push_silent, make_silent, enter_silent, intern_silent, export_silent, import_silent, use_silent, case_silent, set_case_silent, copy_silent, enter_readtable_silent, set_syntax_silent, set_macro_silent, get_macro_silent, make_dispatch_silent, set_dispatch_silent, get_dispatch_silent}
+use Rattle.lisp_operators.proofs.SilentOperators.{IsSilent, list_silent, get_silent, set_silent, remove_silent, symbol_plist_silent, increment_silent, push_silent, make_silent, enter_silent, intern_silent, export_silent, import_silent, use_silent, case_silent, set_case_silent, copy_silent, enter_readtable_silent, set_syntax_silent, set_macro_silent, get_macro_silent, make_dispatch_silent, set_dispatch_silent, get_dispatch_silent, set_base_silent}
 use Rattle.evaluator.specs.Value.{value}
 use Rattle.evaluator.proofs.Induction.{Operators, Steps, every_value}
 
@@ -13,7 +13,7 @@ module _ (names : List Name) where
   abbrev Asks : WorldState → Object → Type 0
   Asks s x = Unit {0}
 
-  operators : Operators names Asks Keeps Keeps IsSilent
+  operators : Operators true names Asks Keeps Keeps IsSilent
   operators = record {
     lists = list_silent;
     gets = get_silent;
@@ -37,9 +37,10 @@ module _ (names : List Name) where
     makes_dispatch = make_dispatch_silent;
     sets_dispatch = set_dispatch_silent names;
     gets_dispatch = get_dispatch_silent;
+    sets_base = λ _. set_base_silent;
   }
 
-  steps : Steps names Asks Keeps Keeps IsSilent
+  steps : Steps true names Asks Keeps Keeps IsSilent
   steps = record {
     operators = operators;
     last_one = λ xs later. record { same = λ _. refl };
@@ -50,6 +51,7 @@ module _ (names : List Name) where
     nothing = λ s asked _. record { same = λ _. refl };
     current_package = λ s asked _. record { same = λ _. refl };
     current_readtable = λ s asked _. record { same = λ _. refl };
+    read_base = λ s asked _. record { same = λ _. refl };
     none = λ s asked _. record { same = λ _. refl };
     parts = λ s a b _. (tt, tt);
     one_more = λ s o others is each. keeps_then s o _ is (λ y t. keeps_then t (others t) _ (each t (λ _ _. tt)) (λ ys end'. record { same = λ _. refl }));
@@ -59,4 +61,4 @@ module _ (names : List Name) where
   }
 
   pub value_silent : (s : WorldState) (x : Object) → Keeps s (value names s x)
-  value_silent s x = every_value names Asks Keeps Keeps IsSilent steps s x tt
+  value_silent s x = every_value true names Asks Keeps Keeps IsSilent steps s x tt

@@ -1,8 +1,8 @@
 -- That a form which is evaluated in a sound state leaves a sound state.
 --     value_safe      the value of a form
-use Rattle.std.proofs.Common.{false, List, [], ◌∷◌, ◌++◌}
+use Rattle.std.proofs.Common.{pos, true, false, List, [], ◌∷◌, ◌++◌}
 use Rattle.std.proofs.lemmas.List.Elements.{All-append, All-cons, All-nil, All-head, All-tail}
-use Rattle.lisp_object.specs.Object.{Object, text, nil}
+use Rattle.lisp_object.specs.Object.{Object, integer, text, nil}
 use Rattle.package_table.specs.Table as packages
 use Rattle.package_table.specs.Table.{Name, Table, keyword}
 use Rattle.package_table.specs.Growth.{Grows}
@@ -15,6 +15,7 @@ use Rattle.lisp_operators.proofs.Storable.{AreValues, symbol_is_value, nil_value
 use Rattle.lisp_operators.proofs.SoundProperties.{IsSafe, list_safe, get_safe, set_safe, remove_safe, symbol_plist_safe, increment_safe, push_safe}
 use Rattle.lisp_operators.proofs.SoundPackages.{make_safe, enter_safe, intern_safe, export_safe, import_safe, use_safe}
 use Rattle.lisp_operators.proofs.SoundReadtables.{case_safe, set_case_safe, copy_safe, enter_readtable_safe, set_syntax_safe, set_macro_safe, get_macro_safe, make_dispatch_safe, set_dispatch_safe, get_dispatch_safe}
+use Rattle.lisp_operators.proofs.SoundBase.{set_base_safe, base_value}
 use Rattle.evaluator.specs.Value.{value, last}
 use Rattle.evaluator.proofs.Induction.{Operators, Steps, every_value}
 
@@ -40,7 +41,7 @@ append_safe s xs o before safe =
     goods_then AreValues AreValues s o _ safe (λ ys end' sound grows are. goods_here AreValues end' (xs ++ ys) false sound (All-append (IsValue end'.packages) xs ys (values_grown s.packages end'.packages grows xs before) are))
 
 module _ (names : List Name) (all : AreFunctionNames names) where
-  operators : Operators names Asks (Goods IsValue) (Goods AreValues) IsSafe
+  operators : Operators true names Asks (Goods IsValue) (Goods AreValues) IsSafe
   operators = record {
     lists = list_safe;
     gets = get_safe;
@@ -64,9 +65,10 @@ module _ (names : List Name) (all : AreFunctionNames names) where
     makes_dispatch = make_dispatch_safe;
     sets_dispatch = set_dispatch_safe names all;
     gets_dispatch = get_dispatch_safe;
+    sets_base = λ _. set_base_safe;
   }
 
-  steps : Steps names Asks (Goods IsValue) (Goods AreValues) IsSafe
+  steps : Steps true names Asks (Goods IsValue) (Goods AreValues) IsSafe
   steps = record {
     operators = operators;
     last_one = λ xs later still are. goods_here IsValue later (last xs) false still (last_value later.packages still.packages xs are);
@@ -77,6 +79,7 @@ module _ (names : List Name) (all : AreFunctionNames names) where
     nothing = λ s asked asks. goods_here IsValue s nil false asks.0 (nil_value s.packages asks.0.packages);
     current_package = λ s asked asks. goods_here IsValue s (text s.current_package) false asks.0 (text_value s.packages s.current_package (asks.0.packages.within.package_names s.current_package asks.0.current_package).ascii);
     current_readtable = λ s asked asks. goods_here IsValue s (a_keyword_of s.current_readtable) false asks.0 (symbol_is_value s.packages keyword s.current_readtable asks.0.packages (asks.0.readtables.names s.current_readtable asks.0.current_readtable));
+    read_base = λ s asked asks. goods_here IsValue s (integer (pos s.read_base)) false asks.0 (base_value s.packages s.read_base asks.0.highest_base);
     none = λ s asked asks. goods_here AreValues s [] false asks.0 (All-nil (IsValue s.packages));
     parts = λ s a b asks. let both = value_parts s.packages a b asks.1 in ((asks.0, both.0), (asks.0, both.1));
     one_more = λ s o others is each. goods_then IsValue AreValues s o _ is (λ y t sound grows fits. cons_safe t y (others t) fits (each t (stays s t sound grows)));
@@ -86,4 +89,4 @@ module _ (names : List Name) (all : AreFunctionNames names) where
   }
 
   pub value_safe : (s : WorldState) (x : Object) → IsSound s → IsValue s.packages x → Goods IsValue s (value names s x)
-  value_safe s x sound is = every_value names Asks (Goods IsValue) (Goods AreValues) IsSafe steps s x (sound, is)
+  value_safe s x sound is = every_value true names Asks (Goods IsValue) (Goods AreValues) IsSafe steps s x (sound, is)

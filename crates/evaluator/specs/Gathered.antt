@@ -1,6 +1,6 @@
 -- Forms that are evaluated one after the other, and what an operator makes of their values.
-use Rattle.std.specs.Prelude.{◌≡◌, ℕ, Bool, true, false, List, [], ◌∷◌, ◌++◌, map, Option, Some, None, Result, Ok, Err}
-use Rattle.lisp_object.specs.Object.{Object, nil, list_of, is_proper_list, pair}
+use Rattle.std.specs.Prelude.{◌≡◌, ℕ, Bool, true, if◌then◌else◌, List, [], ◌∷◌, ◌++◌, map, Option, Some, None, Result, Ok, Err}
+use Rattle.lisp_object.specs.Object.{Object, nil, list_of, is_proper_list, symbol, pair}
 use Rattle.package_table.specs.Table.{Name}
 use Rattle.plist_state.specs.State.{WorldState}
 use Rattle.lisp_operators.specs.declared.error.EvaluationError.{EvaluationError}
@@ -14,10 +14,12 @@ use Rattle.lisp_operators.specs.Evaluation.{Done}
 use Rattle.evaluator.specs.declared.values.Values.{Values}
 use Rattle.evaluator.specs.declared.operation.Operation.{Operation}
 use Rattle.evaluator.specs.declared.operation.Operation.TheVariants.{Setf, Incf, Push}
+use Rattle.evaluator.specs.declared.place.Place.{Place}
+use Rattle.evaluator.specs.declared.place.Place.TheVariants.{Property, Case, ReadBase}
 use Rattle.lisp_operators.specs.Evaluation.{Evaluation, gives, also, and_then}
 use Rattle.evaluator.specs.Operators.{count, first}
 use Rattle.evaluator.specs.Operations.{action_of}
-use Rattle.evaluator.specs.Value.{Parts, value, values, choice, values_at_place, values_before_place, action_value, place_refusal, get_place_refusal, is_case_place, rest}
+use Rattle.evaluator.specs.Value.{Parts, value, values, choice, values_at_place, values_before_place, action_value, place_refusal, get_place_refusal, is_base_place, is_case_place, rest}
 
 -- values that leave this state
 abbrev pub all_done : Values → WorldState → Done (List Object)
@@ -63,6 +65,7 @@ followed names xs wrote s forms = also wrote (and_then (values names s forms) (�
 -- the same of the subforms of a place
 abbrev pub subforms : List Name → List Object → Bool → WorldState → Object → Evaluation (List Object)
 subforms names xs wrote s (pair operator forms) = followed names xs wrote s forms
+subforms names xs wrote s (symbol home name) = Ok (record { value = xs; state = s; wrote = wrote })
 subforms names xs wrote s _ = Err ARGUMENT_KIND
 
 -- what an operator takes of these
@@ -79,10 +82,17 @@ refusal_of_place Incf arguments = get_place_refusal (first arguments)
 refusal_of_place Push arguments = get_place_refusal (first (rest arguments))
 refusal_of_place _ arguments = None
 
--- whether it is SETF of a readtable's case
-abbrev pub is_case : Operation → Object → Bool
-is_case Setf arguments = is_case_place (first arguments)
-is_case _ arguments = false
+-- what a list names that is a place for SETF, and what any place names
+abbrev pub list_place : Object → Place
+list_place place = if is_case_place place then Case else Property
+
+abbrev pub setf_place : Object → Place
+setf_place place = if is_base_place place then ReadBase else list_place place
+
+-- What an operator puts a value into. All but SETF know properties alone.
+abbrev pub place_of : Operation → Object → Place
+place_of Setf arguments = setf_place (first arguments)
+place_of _ arguments = Property
 
 -- nothing is refused, or this is the number of the refusal
 abbrev pub IsRefusal : {A : Type 0} → Option ℕ → Result A EvaluationError → Type 0

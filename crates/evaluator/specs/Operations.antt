@@ -6,11 +6,14 @@ use Rattle.plist_state.specs.State.{WorldState}
 use Rattle.package_table.specs.Table.{Name}
 use Rattle.evaluator.specs.declared.operation.Operation.{Operation}
 use Rattle.evaluator.specs.declared.operation.Operation.TheVariants.{Quote, Progn, If, MakeList, Get, Setf, Remprop, SymbolPlist, Incf, Push, MakePackage, InPackage, Export, Import, UsePackage, Intern, CopyReadtable, InReadtable, SetSyntaxFromChar, SetMacroCharacter, GetMacroCharacter, MakeDispatchMacroCharacter, SetDispatchMacroCharacter, GetDispatchMacroCharacter, ReadtableCase}
+use Rattle.evaluator.specs.declared.place.Place.{Place}
+use Rattle.evaluator.specs.declared.place.Place.TheVariants.{Property, Case, ReadBase}
 use Rattle.lisp_operators.specs.Evaluation.{Evaluation, gives}
 use Rattle.lisp_operators.specs.Properties.{list, get, set, remove, symbol_plist, increment, push}
 use Rattle.lisp_operators.specs.Packages.{make, intern, export, import, use_package}
 use Rattle.evaluator.specs.Value.{last}
 use Rattle.lisp_operators.specs.Readtables.{readtable_case, set_case, copy_readtable, enter_readtable, set_syntax, set_macro, get_macro, make_dispatch, set_dispatch, get_dispatch}
+use Rattle.lisp_operators.specs.ReadBase.{set_base}
 use Rattle.evaluator.specs.Operators.{Operator, Action, quotes, sequence, chooses, assigns, increments, pushes, enters_package, calls}
 
 abbrev pub least : Operation → ℕ
@@ -109,20 +112,22 @@ is_ordinary If = false
 is_ordinary InPackage = false
 is_ordinary _ = true
 
--- that function; SETF has two, as its place is a readtable's case or a property
+-- that function; SETF has three, as its place is the read base, a readtable's case or a property
 abbrev pub of_values : Action → List Object → WorldState → Evaluation Object
 of_values (calls function) xs s = function xs s
 of_values _ xs s = Err ARGUMENT_KIND
 
-abbrev pub set_either : Bool → List Object → WorldState → Evaluation Object
-set_either is_case xs s = if is_case then set_case xs s else set xs s
+abbrev pub set_at : Place → List Object → WorldState → Evaluation Object
+set_at Property xs s = set xs s
+set_at Case xs s = set_case xs s
+set_at ReadBase xs s = set_base xs s
 
-abbrev pub function_of : List Name → Operation → Bool → List Object → WorldState → Evaluation Object
-function_of names Progn is_case xs s = gives (last xs) s
-function_of names Setf is_case xs s = set_either is_case xs s
-function_of names Incf is_case xs s = increment xs s
-function_of names Push is_case xs s = push xs s
-function_of names operation is_case xs s = of_values (action_of names operation) xs s
+abbrev pub function_of : List Name → Operation → Place → List Object → WorldState → Evaluation Object
+function_of names Progn place xs s = gives (last xs) s
+function_of names Setf place xs s = set_at place xs s
+function_of names Incf place xs s = increment xs s
+function_of names Push place xs s = push xs s
+function_of names operation place xs s = of_values (action_of names operation) xs s
 
 -- the operators of control and on data, by their names
 abbrev pub operators_on_data : List (Name × Operation)

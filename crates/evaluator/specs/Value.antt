@@ -1,7 +1,10 @@
 -- Evaluation (standard 3.1.2.1): the value of a form, by cases on the form.
-use Rattle.std.specs.Prelude.{ℕ, Bool, ◌&&◌, ◌||◌, ◌==◌, not, if◌then◌else◌, List, [], ◌∷◌, ◌++◌, Option, Some, None, Err, codes}
+--
+-- The language of the first version had no read base: there *READ-BASE* has no value, and is no place. So the definitions have
+-- one test in front, whether the variable is known (`value_by`); `value` and the names after it are those in which it is.
+use Rattle.std.specs.Prelude.{ℕ, Bool, true, ◌&&◌, ◌||◌, ◌==◌, not, if◌then◌else◌, List, [], ◌∷◌, ◌++◌, pos, Option, Some, None, Err, codes}
 use Rattle.std.specs.Str.{bytes_eq}
-use Rattle.lisp_object.specs.Object.{Object, text, symbol, uninterned, pair, nil, is_proper_list}
+use Rattle.lisp_object.specs.Object.{Object, integer, text, symbol, uninterned, pair, nil, is_proper_list}
 use Rattle.lisp_object.specs.declared.refusal.TheConstants.{NOT_A_FORM, UNKNOWN_OPERATOR, ARGUMENT_COUNT, ARGUMENT_KIND}
 use Rattle.package_table.specs.Table.{Name, keyword}
 use Rattle.plist_state.specs.State.{WorldState}
@@ -10,17 +13,8 @@ use Rattle.lisp_operators.specs.Kinds.{is_true}
 use Rattle.lisp_operators.specs.Properties.{set, increment, push}
 use Rattle.lisp_operators.specs.Packages.{enter}
 use Rattle.lisp_operators.specs.Readtables.{a_keyword_of, set_case}
+use Rattle.lisp_operators.specs.ReadBase.{set_base}
 use Rattle.evaluator.specs.Operators.{Operator, Action, quotes, sequence, chooses, assigns, increments, pushes, enters_package, calls, operator_of, is_standard, is_interned, count, counts, first}
-
--- A symbol is a form where it is a keyword, T or NIL, which have themselves as their values, or the name of one of the two
--- variables (standard 3.1.2.1.1).
-abbrev pub symbol_value : List ℕ → List ℕ → WorldState → Evaluation Object
-symbol_value home name s =
-    if bytes_eq home keyword || is_standard (codes "T") (symbol home name) || is_standard (codes "NIL") (symbol home name)
-    then gives (symbol home name) s
-    else (if is_standard (codes "*PACKAGE*") (symbol home name) then gives (text s.current_package) s
-    else (if is_standard (codes "*READTABLE*") (symbol home name) then gives (a_keyword_of s.current_readtable) s
-    else Err NOT_A_FORM))
 
 -- the values of a sequence are those of its last form (standard 5.3, progn); NIL where there is none
 abbrev pub last : List Object → Object
@@ -47,15 +41,13 @@ abbrev pub rest : Object → Object
 rest (pair x xs) = xs
 rest _ = nil
 
--- what SETF puts a value into: a readtable's case, or a property
+-- the place that READTABLE-CASE names
 abbrev pub is_case_place : Object → Bool
 is_case_place place = is_standard (codes "READTABLE-CASE") (first place)
 
-abbrev pub place_refusal : Object → Option ℕ
-place_refusal place = if is_case_place place then case_place_refusal place else get_place_refusal place
-
-abbrev pub set_place : Object → List Object → WorldState → Evaluation Object
-set_place place = if is_case_place place then set_case else set
+-- why a list is no place for SETF: it is one that READTABLE-CASE or GET names
+abbrev pub list_place_refusal : Object → Option ℕ
+list_place_refusal place = if is_case_place place then case_place_refusal place else get_place_refusal place
 
 abbrev pub unless : Option ℕ → Evaluation Object → Evaluation Object
 unless (Some code) on = Err code
@@ -72,65 +64,122 @@ pub record Parts : Type 0 where
   -- a form, and then the subforms of a place
   pub before_place : Evaluation (List Object)
 
-abbrev pub action_value : WorldState → Action → Object → Parts → Evaluation Object
-action_value s quotes arguments parts = gives (first arguments) s
-action_value s sequence arguments parts = and_then parts.in_order (λ xs later. gives (last xs) later)
-action_value s chooses arguments parts = parts.chosen
-action_value s assigns arguments parts =
-    unless (place_refusal (first arguments)) (and_then parts.at_place (set_place (first arguments)))
-action_value s increments arguments parts =
-    unless (get_place_refusal (first arguments)) (and_then parts.at_place increment)
-action_value s pushes arguments parts =
-    unless (get_place_refusal (first (rest arguments))) (and_then parts.before_place push)
-action_value s enters_package arguments parts = enter (first arguments) s
-action_value s (calls function) arguments parts = and_then parts.in_order function
+-- where it is known whether *READ-BASE* is a variable
+module _ (based : Bool) where
+  -- the variable *READ-BASE* (standard 23.1.1)
+  abbrev pub is_base_by : Object → Bool
+  is_base_by x = based && is_standard (codes "*READ-BASE*") x
 
--- of an operator and its arguments: the operator is looked at first, then their number
-abbrev pub form_value : WorldState → Option Operator → Object → Parts → Evaluation Object
-form_value s None arguments parts = Err UNKNOWN_OPERATOR
-form_value s (Some operator) arguments parts =
-    if not (counts operator (count arguments)) then Err ARGUMENT_COUNT
-    else action_value s operator.action arguments parts
+  -- A symbol is a form where it is a keyword, T or NIL, which have themselves as their values, or the name of a variable
+  -- (standard 3.1.2.1.1).
+  abbrev pub symbol_value_by : List ℕ → List ℕ → WorldState → Evaluation Object
+  symbol_value_by home name s =
+      if bytes_eq home keyword || is_standard (codes "T") (symbol home name) || is_standard (codes "NIL") (symbol home name)
+      then gives (symbol home name) s
+      else (if is_standard (codes "*PACKAGE*") (symbol home name) then gives (text s.current_package) s
+      else (if is_standard (codes "*READTABLE*") (symbol home name) then gives (a_keyword_of s.current_readtable) s
+      else (if is_base_by (symbol home name) then gives (integer (pos s.read_base)) s
+      else Err NOT_A_FORM)))
+
+  -- what SETF puts a value into: the read base, a readtable's case, or a property
+  abbrev pub place_refusal_by : Object → Option ℕ
+  place_refusal_by place = if is_base_by place then None else list_place_refusal place
+
+  abbrev pub set_place_by : Object → List Object → WorldState → Evaluation Object
+  set_place_by place = if is_base_by place then set_base else (if is_case_place place then set_case else set)
+
+  abbrev pub action_value_by : WorldState → Action → Object → Parts → Evaluation Object
+  action_value_by s quotes arguments parts = gives (first arguments) s
+  action_value_by s sequence arguments parts = and_then parts.in_order (λ xs later. gives (last xs) later)
+  action_value_by s chooses arguments parts = parts.chosen
+  action_value_by s assigns arguments parts =
+      unless (place_refusal_by (first arguments)) (and_then parts.at_place (set_place_by (first arguments)))
+  action_value_by s increments arguments parts =
+      unless (get_place_refusal (first arguments)) (and_then parts.at_place increment)
+  action_value_by s pushes arguments parts =
+      unless (get_place_refusal (first (rest arguments))) (and_then parts.before_place push)
+  action_value_by s enters_package arguments parts = enter (first arguments) s
+  action_value_by s (calls function) arguments parts = and_then parts.in_order function
+
+  -- of an operator and its arguments: the operator is looked at first, then their number
+  abbrev pub form_value_by : WorldState → Option Operator → Object → Parts → Evaluation Object
+  form_value_by s None arguments parts = Err UNKNOWN_OPERATOR
+  form_value_by s (Some operator) arguments parts =
+      if not (counts operator (count arguments)) then Err ARGUMENT_COUNT
+      else action_value_by s operator.action arguments parts
 
 unfoldable mutual
   -- the value of a form, where these are the names of macro functions
-  pub value : List Name → WorldState → Object → Evaluation Object
-  value names s (pair operator arguments) =
+  pub value_by : Bool → List Name → WorldState → Object → Evaluation Object
+  value_by based names s (pair operator arguments) =
       if not (is_interned operator && is_proper_list arguments) then Err NOT_A_FORM
-      else form_value s (operator_of names operator) arguments
+      else form_value_by based s (operator_of names operator) arguments
       (record {
-        in_order = values names s arguments;
-        chosen = choice names s arguments;
-        at_place = values_at_place names s arguments;
-        before_place = values_before_place names s arguments;
+        in_order = values_by based names s arguments;
+        chosen = choice_by based names s arguments;
+        at_place = values_at_place_by based names s arguments;
+        before_place = values_before_place_by based names s arguments;
       })
-  value names s (symbol home name) = symbol_value home name s
-  value names s (uninterned name) = Err NOT_A_FORM
-  value names s x = gives x s
+  value_by based names s (symbol home name) = symbol_value_by based home name s
+  value_by based names s (uninterned name) = Err NOT_A_FORM
+  value_by based names s x = gives x s
 
   -- the values of forms, from left to right (standard 3.1.2.1.2.3)
-  pub values : List Name → WorldState → Object → Evaluation (List Object)
-  values names s (pair x xs) = and_then (value names s x) (λ y later. and_then (values names later xs) (λ ys end'. gives (y ∷ ys) end'))
-  values names s _ = gives [] s
+  pub values_by : Bool → List Name → WorldState → Object → Evaluation (List Object)
+  values_by based names s (pair x xs) =
+      and_then (value_by based names s x) (λ y later. and_then (values_by based names later xs) (λ ys end'. gives (y ∷ ys) end'))
+  values_by based names s _ = gives [] s
 
   -- IF (standard 5.3): NIL where the first is false and there is no third
-  pub choice : List Name → WorldState → Object → Evaluation Object
-  choice names s (pair test (pair then' others)) =
-      and_then (value names s test) (λ x later. if is_true x then value names later then' else other_value names later others)
-  choice names s _ = Err ARGUMENT_COUNT
+  pub choice_by : Bool → List Name → WorldState → Object → Evaluation Object
+  choice_by based names s (pair test (pair then' others)) =
+      and_then (value_by based names s test) (λ x later. if is_true x then value_by based names later then' else other_value_by based names later others)
+  choice_by based names s _ = Err ARGUMENT_COUNT
 
-  pub other_value : List Name → WorldState → Object → Evaluation Object
-  other_value names s (pair x xs) = value names s x
-  other_value names s _ = gives nil s
+  pub other_value_by : Bool → List Name → WorldState → Object → Evaluation Object
+  other_value_by based names s (pair x xs) = value_by based names s x
+  other_value_by based names s _ = gives nil s
 
-  -- the values of a place's subforms, and of the forms after it (standard 5.1.1.1)
-  pub values_at_place : List Name → WorldState → Object → Evaluation (List Object)
-  values_at_place names s (pair (pair operator subforms) forms) =
-      and_then (values names s subforms) (λ xs later. and_then (values names later forms) (λ ys end'. gives (xs ++ ys) end'))
-  values_at_place names s _ = Err ARGUMENT_KIND
+  -- the values of a place's subforms, and of the forms after it (standard 5.1.1.1); a symbol has no subforms
+  pub values_at_place_by : Bool → List Name → WorldState → Object → Evaluation (List Object)
+  values_at_place_by based names s (pair (pair operator subforms) forms) =
+      and_then (values_by based names s subforms) (λ xs later. and_then (values_by based names later forms) (λ ys end'. gives (xs ++ ys) end'))
+  values_at_place_by based names s (pair (symbol home name) forms) = values_by based names s forms
+  values_at_place_by based names s _ = Err ARGUMENT_KIND
 
   -- the value of a form, and then those of the subforms of the place after it
-  pub values_before_place : List Name → WorldState → Object → Evaluation (List Object)
-  values_before_place names s (pair x (pair (pair operator subforms) forms)) =
-      and_then (value names s x) (λ y later. and_then (values names later subforms) (λ ys end'. gives (y ∷ ys) end'))
-  values_before_place names s _ = Err ARGUMENT_KIND
+  pub values_before_place_by : Bool → List Name → WorldState → Object → Evaluation (List Object)
+  values_before_place_by based names s (pair x (pair (pair operator subforms) forms)) =
+      and_then (value_by based names s x) (λ y later. and_then (values_by based names later subforms) (λ ys end'. gives (y ∷ ys) end'))
+  values_before_place_by based names s _ = Err ARGUMENT_KIND
+
+-- ---- where it is
+abbrev pub is_base_place : Object → Bool
+is_base_place = is_base_by true
+
+abbrev pub symbol_value : List ℕ → List ℕ → WorldState → Evaluation Object
+symbol_value = symbol_value_by true
+
+abbrev pub place_refusal : Object → Option ℕ
+place_refusal = place_refusal_by true
+
+abbrev pub action_value : WorldState → Action → Object → Parts → Evaluation Object
+action_value = action_value_by true
+
+abbrev pub value : List Name → WorldState → Object → Evaluation Object
+value = value_by true
+
+abbrev pub values : List Name → WorldState → Object → Evaluation (List Object)
+values = values_by true
+
+abbrev pub choice : List Name → WorldState → Object → Evaluation Object
+choice = choice_by true
+
+abbrev pub other_value : List Name → WorldState → Object → Evaluation Object
+other_value = other_value_by true
+
+abbrev pub values_at_place : List Name → WorldState → Object → Evaluation (List Object)
+values_at_place = values_at_place_by true
+
+abbrev pub values_before_place : List Name → WorldState → Object → Evaluation (List Object)
+values_before_place = values_before_place_by true

@@ -118,5 +118,11 @@ pub(crate) fn symbol_value(
             wrote: false,
         });
     }
+    if is_standard_name(home, name, b"*READ-BASE*") {
+        return Ok(Evaluated {
+            value: Datum::Integer(i128::from(world.read_base())),
+            wrote: false,
+        });
+    }
     Err(Refused(NOT_A_FORM))
 }

@@ -142,12 +142,12 @@ fn ordinary(
     ensures proper { IfOk result IsProperValue }
     ensures marked { world.new.1 ≡ world.old.1 }
 {
-    let is_case = match check_place(operation, items) {
-        Ok(is_case) => is_case,
+    let place = match check_place(operation, items) {
+        Ok(place) => place,
         Err(error) => return Err(error),
     };
     match gathered(alloc, world, names, operation, items) {
-        Ok(values) => perform(alloc, world, names, operation, is_case, values),
+        Ok(values) => perform(alloc, world, names, operation, place, values),
         Err(error) => Err(error),
     }
 }
@@ -226,7 +226,7 @@ fn before_place(
     subforms(alloc, world, names, first, &items[2])
 }
 
-// These values, and after them those of the subforms of a place.
+// These values, and after them those of the subforms of a place. A symbol has none.
 #[cycle(evaluation)]
 fn subforms(
     alloc: Global,
@@ -246,11 +246,11 @@ fn subforms(
 {
     match place {
         Datum::List { items, .. } => extended(alloc, world, names, values, items.as_slice(), 1),
+        Datum::Symbol { .. } => Ok(values),
         Datum::Integer(_) => Err(Refused(ARGUMENT_KIND)),
         Datum::Rational(_) => Err(Refused(ARGUMENT_KIND)),
         Datum::Char(_) => Err(Refused(ARGUMENT_KIND)),
         Datum::Text(_) => Err(Refused(ARGUMENT_KIND)),
-        Datum::Symbol { .. } => Err(Refused(ARGUMENT_KIND)),
         Datum::Uninterned(_) => Err(Refused(ARGUMENT_KIND)),
         Datum::Vector(_) => Err(Refused(ARGUMENT_KIND)),
     }

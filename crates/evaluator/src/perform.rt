@@ -1,18 +1,18 @@
 //! What an operator makes of the values of its arguments.
-ghost use Rattle.std.specs.Prelude.{◌≡◌, if◌then◌else◌, IfOk};
+ghost use Rattle.std.specs.Prelude.{◌≡◌, IfOk};
 ghost use Rattle.lisp_operators.specs.Readtables.{AreFunctionNames};
 ghost use Rattle.lisp_operators.specs.Evaluation.{also};
-ghost use Rattle.lisp_operators.specs.Properties.{set};
-ghost use Rattle.lisp_operators.specs.Readtables.{set_case};
-ghost use Rattle.evaluator.specs.Operations.{function_of, set_either};
+ghost use Rattle.evaluator.specs.Operations.{function_of, set_at};
 ghost use Rattle.lisp_operators.specs.Evaluated.{Answers, done, IsProperValue, AreArgumentsOf, CarriesOut, objects};
 
 use crate::control::{after, last};
 use crate::operation::Operation;
+use crate::place::Place;
 use crate::values::Values;
 use lisp_object::Datum;
 use lisp_object::refusal::ARGUMENT_KIND;
 use lisp_operators::EvaluationError::Refused;
+use lisp_operators::read_base::set_base;
 use lisp_operators::readtables::{get_dispatch, make_dispatch, set_dispatch, set_macro};
 use lisp_operators::{
     Evaluated, EvaluationError, package_lists, packages, properties, readtables, values,
@@ -27,20 +27,20 @@ pub(crate) fn perform(
     world: &mut World,
     names: &[FnName],
     operation: Operation,
-    is_case: bool,
+    place: Place,
     values: Values,
 ) -> Result<Evaluated, EvaluationError>
     requires names { AreFunctionNames names.now }
     requires values { AreArgumentsOf world.old values.values.items }
     ensures gives { Answers done result world.new.0
-        (also values.wrote (function_of names.now operation is_case (objects values.values.items) world.old.0)) }
+        (also values.wrote (function_of names.now operation place (objects values.values.items) world.old.0)) }
     ensures proper { IfOk result IsProperValue }
     ensures marked { world.new.1 ≡ world.old.1 }
 {
     let Values { values, wrote } = values;
     after(
         wrote,
-        carry_out(alloc, world, names, operation, is_case, values),
+        carry_out(alloc, world, names, operation, place, values),
     )
 }
 
@@ -50,12 +50,12 @@ fn carry_out(
     world: &mut World,
     names: &[FnName],
     operation: Operation,
-    is_case: bool,
+    place: Place,
     values: Vec<Datum>,
 ) -> Result<Evaluated, EvaluationError>
     requires names { AreFunctionNames names.now }
     requires values { AreArgumentsOf world.old values.items }
-    ensures gives { CarriesOut (function_of names.now operation is_case) values.items
+    ensures gives { CarriesOut (function_of names.now operation place) values.items
         world.old.0 world.new.0 result }
     ensures proper { IfOk result IsProperValue }
     ensures marked { world.new.1 ≡ world.old.1 }
@@ -64,7 +64,7 @@ fn carry_out(
         Operation::Progn => last(alloc, values),
         Operation::MakeList => values::list(alloc, values),
         Operation::Get => properties::get(alloc, world, values),
-        Operation::Setf => put(alloc, world, is_case, values),
+        Operation::Setf => put(alloc, world, place, values),
         Operation::Remprop => properties::remove(alloc, world, values),
         Operation::SymbolPlist => properties::symbol_plist(alloc, world, values),
         Operation::Incf => properties::increment(alloc, world, values),
@@ -94,21 +94,21 @@ fn carry_out(
     }
 }
 
-// SETF of a readtable's case, or of a property.
+// SETF of a property, of a readtable's case, or of the read base.
 fn put(
     alloc: Global,
     world: &mut World,
-    is_case: bool,
+    place: Place,
     values: Vec<Datum>,
 ) -> Result<Evaluated, EvaluationError>
     requires { AreArgumentsOf world.old values.items }
-    ensures gives { CarriesOut (set_either is_case) values.items world.old.0 world.new.0 result }
+    ensures gives { CarriesOut (set_at place) values.items world.old.0 world.new.0 result }
     ensures proper { IfOk result IsProperValue }
     ensures marked { world.new.1 ≡ world.old.1 }
 {
-    if is_case {
-        readtables::set_case(alloc, world, values.as_slice())
-    } else {
-        properties::set(alloc, world, values)
+    match place {
+        Place::Property => properties::set(alloc, world, values),
+        Place::Case => readtables::set_case(alloc, world, values.as_slice()),
+        Place::ReadBase => set_base(world, values.as_slice()),
     }
 }

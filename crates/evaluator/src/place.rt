@@ -1,12 +1,12 @@
 //! The places that SETF, INCF and PUSH take (standard 5.1).
-ghost use Rattle.std.specs.Prelude.{◌≡◌, true, false, Some, None, length, IfOk, MatchOption};
+ghost use Rattle.std.specs.Prelude.{◌≡◌, true, Some, None, length, IfOk, MatchOption};
 ghost use Rattle.lisp_object.specs.Object.{Object, pair, is_proper_list};
 ghost use Rattle.lisp_object.specs.Datum.{object_of, is_proper};
 ghost use Rattle.lisp_object.specs.declared.refusal.TheConstants.{ARGUMENT_KIND as WRONG_KIND};
 ghost use Rattle.evaluator.specs.Operators.{is_standard, count};
-ghost use Rattle.evaluator.specs.Value.{get_place_refusal, place_refusal, is_case_place};
+ghost use Rattle.evaluator.specs.Value.{get_place_refusal, list_place_refusal, place_refusal};
 ghost use Rattle.evaluator.specs.Operations.{IsCounted};
-ghost use Rattle.evaluator.specs.Gathered.{refusal_of_place, is_case, IsRefusal, arguments_in};
+ghost use Rattle.evaluator.specs.Gathered.{refusal_of_place, list_place, setf_place, place_of, IsRefusal, arguments_in};
 ghost use Rattle.lisp_operators.specs.Evaluated.{IsProper, AreProper};
 
 use crate::operation::Operation;
@@ -16,11 +16,22 @@ use lisp_operators::EvaluationError::Refused;
 use lisp_operators::{EvaluationError, kinds};
 use package_table::standardized::COMMON_LISP;
 
+/// What an operator puts a value into.
+#[derive(Clone, Copy, Debug, PartialEq, Eq)]
+pub(crate) enum Place {
+    /// A property, which GET names.
+    Property,
+    /// The case of a readtable, which READTABLE-CASE names.
+    Case,
+    /// The base in which numbers are read, `*READ-BASE*`.
+    ReadBase,
+}
+
 // The operator of a list as a place, and the number of its subforms.
 fn accessor(place: &Datum) -> Option<(&Datum, usize)>
     requires { IsProper place.now }
     ensures value { MatchOption result
-        ((get_place_refusal (object_of place.now) ≡ Some WRONG_KIND) × (place_refusal (object_of place.now) ≡ Some WRONG_KIND))
+        ((get_place_refusal (object_of place.now) ≡ Some WRONG_KIND) × (list_place_refusal (object_of place.now) ≡ Some WRONG_KIND))
         (λ p. (subforms : Object) × (object_of place.now ≡ pair (object_of p.0.now) subforms) × (is_proper_list subforms ≡ true) × (count subforms ≡ p.1)) }
     ensures proper { MatchOption result (Unit {0}) (λ p. is_proper p.0.now ≡ true) }
 {
@@ -55,10 +66,10 @@ fn is_standard(datum: &Datum, name: &[u8]) -> bool
 }
 
 // That it is a place that GET names.
-fn check_property(place: &Datum) -> Result<bool, EvaluationError>
+fn check_property(place: &Datum) -> Result<Place, EvaluationError>
     requires { IsProper place.now }
     ensures refusal { IsRefusal (get_place_refusal (object_of place.now)) result }
-    ensures value { IfOk result (λ b. b ≡ false) }
+    ensures value { IfOk result (λ p. p ≡ Place.Property) }
 {
     let Some((operator, number)) = accessor(place) else {
         return Err(Refused(ARGUMENT_KIND));
@@ -69,14 +80,14 @@ fn check_property(place: &Datum) -> Result<bool, EvaluationError>
     if number != 2 {
         return Err(Refused(ARGUMENT_COUNT));
     }
-    Ok(false)
+    Ok(Place::Property)
 }
 
-// That it is a place for SETF, and whether it is the case of a readtable.
-fn check_either(place: &Datum) -> Result<bool, EvaluationError>
+// That it is a list that is a place for SETF, and what it names.
+fn check_list(place: &Datum) -> Result<Place, EvaluationError>
     requires { IsProper place.now }
-    ensures refusal { IsRefusal (place_refusal (object_of place.now)) result }
-    ensures value { IfOk result (λ b. b ≡ is_case_place (object_of place.now)) }
+    ensures refusal { IsRefusal (list_place_refusal (object_of place.now)) result }
+    ensures value { IfOk result (λ p. p ≡ list_place (object_of place.now)) }
 {
     let Some((operator, number)) = accessor(place) else {
         return Err(Refused(ARGUMENT_KIND));
@@ -87,21 +98,33 @@ fn check_either(place: &Datum) -> Result<bool, EvaluationError>
     if number != 1 {
         return Err(Refused(ARGUMENT_COUNT));
     }
-    Ok(true)
+    Ok(Place::Case)
 }
 
-/// That the place of an operator, if it takes one, is a place, and whether it is the case of a readtable. The first of the
-/// items is the operator itself.
-pub(crate) fn check_place(operation: Operation, items: &[Datum]) -> Result<bool, EvaluationError>
+// That it is a place for SETF, and what it names.
+fn check_setf(place: &Datum) -> Result<Place, EvaluationError>
+    requires { IsProper place.now }
+    ensures refusal { IsRefusal (place_refusal (object_of place.now)) result }
+    ensures value { IfOk result (λ p. p ≡ setf_place (object_of place.now)) }
+{
+    if is_standard(place, b"*READ-BASE*") {
+        return Ok(Place::ReadBase);
+    }
+    check_list(place)
+}
+
+/// That the place of an operator, if it takes one, is a place, and what it names. The first of the items is the operator
+/// itself.
+pub(crate) fn check_place(operation: Operation, items: &[Datum]) -> Result<Place, EvaluationError>
     requires counted { IsCounted operation (length items.now) }
     requires proper { AreProper items.now }
     ensures refusal { IsRefusal (refusal_of_place operation (arguments_in items.now)) result }
-    ensures value { IfOk result (λ b. b ≡ is_case operation (arguments_in items.now)) }
+    ensures value { IfOk result (λ p. p ≡ place_of operation (arguments_in items.now)) }
 {
     match operation {
-        Operation::Setf => check_either(&items[1]),
+        Operation::Setf => check_setf(&items[1]),
         Operation::Incf => check_property(&items[1]),
         Operation::Push => check_property(&items[2]),
-        _ => Ok(false),
+        _ => Ok(Place::Property),
     }
 }

@@ -1,27 +1,31 @@
 -- What holds of a form as one transaction.
 --     accepted_silent      one that does not write leaves the state as it was
 --     accepted_covers      it leaves no readtables which name other functions than those that may be named
+--     accepted_without_base      one that is accepted where *READ-BASE* is no variable is accepted where it is one
 --     accepted_numbered      it is refused under a number of evaluation
-use Rattle.std.proofs.Common.{◌≡◌, ◌≤◌, ℕ, Bool, false, List, Ok, Err, Result, ap, refl, subst, sym, ◌∙◌}
+use Rattle.std.proofs.Common.{◌≡◌, ◌≤◌, ℕ, Bool, true, false, List, Ok, Err, Result, ap, refl, subst, sym, ◌∙◌}
 use Rattle.lisp_object.specs.Object.{Object}
 use Rattle.package_table.specs.declared.error.PackageError.{PackageError}
 use Rattle.package_table.specs.Table.{Name, Table}
+use Rattle.package_table.specs.Errors.{number_of}
 use Rattle.package_table.specs.Changes.{after_intern, intern_changes}
 use Rattle.plist_state.specs.Properties.{Symbol}
 use Rattle.plist_state.specs.State.{WorldState}
 use Rattle.plist_state.specs.Changes.{with_packages}
-use Rattle.lisp_operators.specs.Evaluation.{Evaluation, Done}
+use Rattle.lisp_operators.specs.Evaluation.{Evaluation, Done, also}
 use Rattle.lisp_operators.specs.Readtables.{AreCovered}
 use Rattle.lisp_operators.proofs.Silence.{Keeps, keeps_also}
 use Rattle.lisp_operators.proofs.Unmoved.{IsUnmoved, one_unmoved, intern_still, same_ok}
-use Rattle.lisp_operators.proofs.Covering as covering
+use Rattle.lisp_operators.proofs.Keeping as keeping
+use Rattle.lisp_operators.proofs.Covering.{Covers, covering}
 use Rattle.lisp_operators.proofs.Numbered.{Numbered, IsPackagesNumbered, numbered_also, numbered_intern}
 use Rattle.lisp_operators.proofs.NumberedOperators.{one_numbered}
-use Rattle.evaluator.specs.Value.{value}
+use Rattle.evaluator.specs.Value.{value, value_by}
 use Rattle.evaluator.proofs.SilentForms.{value_silent}
-use Rattle.evaluator.proofs.CoveringForms.{value_covers}
+use Rattle.evaluator.proofs.KeepingForms.{value_keeps}
+use Rattle.evaluator.proofs.WithoutBase.{value_without_base}
 use Rattle.evaluator.proofs.NumberedForms.{value_numbered}
-use Rattle.form_eval.specs.Acceptance.{table_of, symbols, after_symbol, with_symbols, accepted, accept}
+use Rattle.form_eval.specs.Acceptance.{table_of, symbols, after_symbol, with_symbols, accepted_by, accept_by, accept}
 
 -- ---- one that does not write
 symbol_still : (t : Table) (x : Symbol) (u : Table) → after_symbol t x ≡ Ok u → intern_changes t x.0 x.1 ≡ false → u ≡ t
@@ -31,7 +35,7 @@ symbol_still t x u is none =
       | Err e ↦ λ _ no. absurd (let other : Err e ≡ Ok u = no in cc)
     ] refl is
 
-still_after_symbols : (names : List Name) (s : WorldState) (r : Result (Table × Bool) PackageError) (x : Object) → IsUnmoved s.packages false r → Keeps s (accepted names s r x)
+still_after_symbols : (names : List Name) (s : WorldState) (r : Result (Table × Bool) PackageError) (x : Object) → IsUnmoved s.packages false r → Keeps s (accepted_by true names s r x)
 still_after_symbols names s (Ok p) x still =
     keeps_also s p.1 (with_packages s p.0) (value names (with_packages s p.0) x) (λ none. ap (with_packages s) (still none).1) (value_silent names (with_packages s p.0) x)
 still_after_symbols names s (Err e) x still = record { same = tt }
@@ -49,15 +53,40 @@ accepted_silent names s x d is none = shown (accept names s x) (accepted_keeps n
 
 -- ---- readtables
 module _ (names : List Name) where
-  covered_after_symbols : (s : WorldState) (r : Result (Table × Bool) PackageError) (x : Object) → covering.Keeps names s (accepted names s r x)
-  covered_after_symbols s (Ok p) x = covering.keeps_also names s p.1 (with_packages s p.0) (value names (with_packages s p.0) x) (λ all. all) (value_covers names (with_packages s p.0) x)
-  covered_after_symbols s (Err e) x = record { covered = tt }
+  covered_after_symbols : (s : WorldState) (r : Result (Table × Bool) PackageError) (x : Object) → keeping.Keeps (Covers names) s (accepted_by true names s r x)
+  covered_after_symbols s (Ok p) x =
+      keeping.keeps_also (Covers names) (covering names).both s p.1 (with_packages s p.0) (value names (with_packages s p.0) x) (λ all. all)
+      (value_keeps true names (Covers names) (covering names) (λ _ t n all. all) (with_packages s p.0) x)
+  covered_after_symbols s (Err e) x = record { kept = tt }
 
   pub accepted_covers : (s : WorldState) (x : Object) (d : Done Object) → accept names s x ≡ Ok d → AreCovered names s.readtables → AreCovered names d.state.readtables
   accepted_covers s x d is = shown (accept names s x) (covered_after_symbols s (with_symbols s.packages (symbols x)) x) is
     where
-      shown : (o : Evaluation Object) → covering.Keeps names s o → o ≡ Ok d → AreCovered names s.readtables → AreCovered names d.state.readtables
-      shown o keeps same = (subst (covering.Keeps names s) same keeps).covered
+      shown : (o : Evaluation Object) → keeping.Keeps (Covers names) s o → o ≡ Ok d → AreCovered names s.readtables → AreCovered names d.state.readtables
+      shown o keeps same = (subst (keeping.Keeps (Covers names) s) same keeps).kept
+
+-- ---- the base
+module _ (names : List Name) where
+  also_without_base : (s : WorldState) (wrote : Bool) (o p : Evaluation Object) (d : Done Object) → ((e : Done Object) → o ≡ Ok e → (p ≡ Ok e) × (e.state.read_base ≡ s.read_base))
+      → also wrote o ≡ Ok d → (also wrote p ≡ Ok d) × (d.state.read_base ≡ s.read_base)
+  also_without_base s wrote (Err code) p d each is = absurd (let no : Err code ≡ Ok d = is in cc)
+  also_without_base s wrote (Ok e) p d each is =
+      let both = each e refl in
+      let base : d.state.read_base ≡ e.state.read_base = ap base_of (sym is) in
+      (ap (also wrote) both.0 ∙ is, base ∙ both.1)
+    where
+      base_of : Evaluation Object → ℕ
+      base_of (Ok f) = f.state.read_base
+      base_of (Err code) = 0
+
+  with_symbols_without_base : (s : WorldState) (r : Result (Table × Bool) PackageError) (x : Object) (d : Done Object) → accepted_by false names s r x ≡ Ok d
+      → (accepted_by true names s r x ≡ Ok d) × (d.state.read_base ≡ s.read_base)
+  with_symbols_without_base s (Ok p) x d is =
+      also_without_base s p.1 (value_by false names (with_packages s p.0) x) (value_by true names (with_packages s p.0) x) d (λ e. value_without_base names (with_packages s p.0) x e) is
+  with_symbols_without_base s (Err e) x d is = absurd (let no : Err (number_of e) ≡ Ok d = is in cc)
+
+  pub accepted_without_base : (s : WorldState) (x : Object) (d : Done Object) → accept_by false names s x ≡ Ok d → (accept_by true names s x ≡ Ok d) × (d.state.read_base ≡ s.read_base)
+  accepted_without_base s x d is = with_symbols_without_base s (with_symbols s.packages (symbols x)) x d is
 
 -- ---- numbers
 symbol_numbered : (u : Table) (y : Symbol) → IsPackagesNumbered (after_symbol u y)
@@ -67,7 +96,7 @@ symbol_numbered u y = of_table (after_intern u y.0 y.1) (numbered_intern u y.0 y
     of_table (Ok p) is = tt
     of_table (Err e) is = is
 
-numbered_after_symbols : (names : List Name) (s : WorldState) (r : Result (Table × Bool) PackageError) (x : Object) → IsPackagesNumbered r → Numbered (accepted names s r x)
+numbered_after_symbols : (names : List Name) (s : WorldState) (r : Result (Table × Bool) PackageError) (x : Object) → IsPackagesNumbered r → Numbered (accepted_by true names s r x)
 numbered_after_symbols names s (Ok p) x is = numbered_also p.1 (value names (with_packages s p.0) x) (value_numbered names (with_packages s p.0) x)
 numbered_after_symbols names s (Err e) x is = record { number = is }
 

@@ -1,6 +1,6 @@
 -- That a form which is accepted in a sound state leaves a sound state.
 --     accepted_sound      of a whole form
-use Rattle.std.proofs.Common.{◌≡◌, map, inl, inr, ◌<◌, Bool, false, not, cond, ◌||◌, List, [], ◌∷◌, ◌++◌, length, All, Some, None, Result, Ok, Err, bytes_eq, nat_lt, nat_le, refl, sym, ap, subst, ◌∙◌}
+use Rattle.std.proofs.Common.{true, ◌≡◌, map, inl, inr, ◌<◌, Bool, false, not, cond, ◌||◌, List, [], ◌∷◌, ◌++◌, length, All, Some, None, Result, Ok, Err, bytes_eq, nat_lt, nat_le, refl, sym, ap, subst, ◌∙◌}
 use Rattle.std.specs.Option.{option_map_or}
 use Rattle.std.specs.FinMap as finite
 use Rattle.std.proofs.lemmas.List.Elements.{All-append, All-cons, All-nil, All-head, All-tail}
@@ -28,7 +28,7 @@ use Rattle.plist_state.proofs.Soundness.{sound_packages}
 use Rattle.lisp_operators.specs.Evaluation.{Done}
 use Rattle.lisp_operators.specs.Packages.{one_by_one, then_others}
 use Rattle.evaluator.specs.Value.{value}
-use Rattle.form_eval.specs.Acceptance.{symbols, table_of, after_symbol, with_symbols, accepted, accept}
+use Rattle.form_eval.specs.Acceptance.{symbols, table_of, after_symbol, with_symbols, accepted_by, accept}
 use Rattle.lisp_operators.specs.Readtables.{AreFunctionNames}
 use Rattle.form_eval.specs.Laws.{Fits, IsForm, IsSoundAfter}
 use Rattle.lisp_operators.proofs.Good.{Goods, goods_also}
@@ -166,7 +166,7 @@ form_may s x v wrote sound form is =
 
 -- ---- whole forms
 module _ (names : List Name) (all : AreFunctionNames names) (s : WorldState) (x : Object) (sound : IsSound s) (form : IsForm s.packages x) where
-  after_symbols : (r : Result (Table × Bool) PackageError) → InternedWhere s.packages (symbols x) r → Goods IsValue s (accepted names s r x)
+  after_symbols : (r : Result (Table × Bool) PackageError) → InternedWhere s.packages (symbols x) r → Goods IsValue s (accepted_by true names s r x)
   after_symbols (Ok p) done =
       goods_also IsValue s p.1 (with_packages s p.0) (value names (with_packages s p.0) x) done.grows
       (value_safe names all (with_packages s p.0) x (sound_packages s p.0 sound done.sound done.grows)

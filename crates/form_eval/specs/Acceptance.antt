@@ -1,5 +1,5 @@
 -- A form as one transaction: its symbols are interned, and then it is evaluated.
-use Rattle.std.specs.Prelude.{Bool, false, List, [], ◌∷◌, ◌++◌, Result, Ok, Err}
+use Rattle.std.specs.Prelude.{Bool, true, false, List, [], ◌∷◌, ◌++◌, Result, Ok, Err}
 use Rattle.lisp_object.specs.Object.{Object, symbol, pair, vector}
 use Rattle.package_table.specs.declared.error.PackageError.{PackageError}
 use Rattle.package_table.specs.Table.{Name, Table}
@@ -13,7 +13,7 @@ use Rattle.lisp_operators.specs.declared.error.EvaluationError.{EvaluationError}
 use Rattle.lisp_operators.specs.declared.evaluated.Evaluated.{Evaluated}
 use Rattle.lisp_operators.specs.Evaluated.{Answers, done}
 use Rattle.lisp_operators.specs.Packages.{one_by_one}
-use Rattle.evaluator.specs.Value.{value}
+use Rattle.evaluator.specs.Value.{value_by}
 
 -- the interned symbols of an object, from left to right
 abbrev pub symbols : Object → List Symbol
@@ -38,13 +38,17 @@ is_new packages x = intern_changes packages x.0 x.1
 abbrev pub with_symbols : Table → List Symbol → Result (Table × Bool) PackageError
 with_symbols packages xs = one_by_one after_symbol is_new packages false xs
 
--- the value of a form, the state after it and whether it wrote; or the number of the refusal, and then nothing has changed
-abbrev pub accepted : List Name → WorldState → Result (Table × Bool) PackageError → Object → Evaluation Object
-accepted names s (Ok p) x = also p.1 (value names (with_packages s p.0) x)
-accepted names s (Err e) x = Err (number_of e)
+-- The value of a form, the state after it and whether it wrote; or the number of the refusal, and then nothing has changed. The
+-- test in front is whether *READ-BASE* is a variable, as it is for `accept`.
+abbrev pub accepted_by : Bool → List Name → WorldState → Result (Table × Bool) PackageError → Object → Evaluation Object
+accepted_by based names s (Ok p) x = also p.1 (value_by based names (with_packages s p.0) x)
+accepted_by based names s (Err e) x = Err (number_of e)
+
+abbrev pub accept_by : Bool → List Name → WorldState → Object → Evaluation Object
+accept_by based names s x = accepted_by based names s (with_symbols s.packages (symbols x)) x
 
 abbrev pub accept : List Name → WorldState → Object → Evaluation Object
-accept names s x = accepted names s (with_symbols s.packages (symbols x)) x
+accept = accept_by true
 
 -- a form as a transaction is answered what the definition says, from the first of two states to the second
 abbrev pub Transacts : List Name → Object → WorldState → WorldState → Result Evaluated EvaluationError → Type 0

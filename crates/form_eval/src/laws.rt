@@ -1,11 +1,11 @@
 //! What holds of every form, for proofs.
-ghost use Rattle.std.specs.Prelude.{ℕ, ◌≡◌, ◌≤◌, false, List, Ok, Err};
+ghost use Rattle.std.specs.Prelude.{ℕ, ◌≡◌, ◌≤◌, true, false, List, Ok, Err};
 ghost use Rattle.lisp_object.specs.Object.{Object};
 ghost use Rattle.package_table.specs.Table.{Name};
 ghost use Rattle.plist_state.specs.State.{WorldState};
 ghost use Rattle.plist_state.specs.Sound.{IsSound};
 ghost use Rattle.lisp_operators.specs.Evaluation.{Done};
-ghost use Rattle.form_eval.specs.Acceptance.{accept};
+ghost use Rattle.form_eval.specs.Acceptance.{accept, accept_by};
 ghost use Rattle.lisp_operators.specs.Readtables.{AreCovered, AreFunctionNames};
 ghost use Rattle.form_eval.specs.Laws.{IsForm, IsSoundAfter};
 
@@ -35,4 +35,12 @@ pub fn accepted_readtables_are_covered()
 pub fn refusals_are_of_evaluation()
     ensures { (names : List Name) (s : WorldState) (x : Object) (code : ℕ)
         → accept names s x ≡ Err code → (30 ≤ code) × (code ≤ 46) }
+{}
+
+/// A form that is accepted where `*READ-BASE*` is no variable is accepted where it is one, with the same value and the same
+/// state, and leaves the base as it was. For proofs: it does nothing.
+pub fn without_a_base()
+    ensures { (names : List Name) (s : WorldState) (x : Object) (d : Done Object)
+        → accept_by false names s x ≡ Ok d
+        → (accept_by true names s x ≡ Ok d) × (d.state.read_base ≡ s.read_base) }
 {}

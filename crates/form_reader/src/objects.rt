@@ -176,7 +176,14 @@ pub(crate) fn token_end<R: MacroFunctions>(
     ensures ends { IfOk result (IsEnd 1 at) }
 {
     let case = with.readtable.case();
-    match tell(with.alloc, case, with.packages, with.current, 10, marks) {
+    match tell(
+        with.alloc,
+        case,
+        with.packages,
+        with.current,
+        with.base,
+        marks,
+    ) {
         Ok(Told::Object(x)) => Ok(Event::Gives(Found::One(true, x))),
         Ok(Told::Dot) => Ok(Event::Gives(Found::LoneDot)),
         Err(TellError::OutOfMemory) => Err(AllocError),

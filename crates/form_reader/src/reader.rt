@@ -101,25 +101,29 @@ impl FormReader {
         *start
     }
 
-    /// One more byte of the text, under the same readtable, packages, current package and functions as the bytes before it.
+    /// One more byte of the text, under the same readtable, base of numbers (2 to 36), packages, current package and functions
+    /// as the bytes before it.
     /// After a refusal, and after it ran out of memory, it answers the same again. Between forms whitespace is taken without
     /// memory, unless the limit of the text is 0, and the reader stays there.
     pub fn step<R: MacroFunctions>(
         &mut self,
         byte: u8,
         readtable: &Readtable,
+        base: u8,
         packages: &Packages,
         current: &[u8],
         macros: &R,
     ) -> Result<Advance, AllocError>
         requires answers { R.answers macros.now }
+        requires lowest_base { 2 ≤ base }
+        requires highest_base { base ≤ 36 }
         requires current { IsPackage packages.now.0 current.now }
         requires count { fed self.old < 2 ^ 63 }
         ensures steps { (bytes : List ℕ) → IsAfter
-            (setting_of (limits_of self.old) readtable.now packages.now.0 current.now
+            (setting_of (limits_of self.old) readtable.now base packages.now.0 current.now
             (R.functions macros.now))
             self.old bytes → IfOk result (Steps
-            (setting_of (limits_of self.old) readtable.now packages.now.0 current.now
+            (setting_of (limits_of self.old) readtable.now base packages.now.0 current.now
             (R.functions macros.now))
             self.new (bytes ++ byte ∷ [])) }
         ensures limits { limits_of self.new ≡ limits_of self.old }
@@ -144,6 +148,7 @@ impl FormReader {
             alloc: self.alloc,
             limits: self.limits,
             readtable,
+            base,
             packages,
             current,
             macros,
@@ -246,26 +251,29 @@ impl FormReader {
         }
     }
 
-    /// The end of the text, under the same readtable, packages, current package and functions as its bytes. Between forms the
-    /// text is empty.
+    /// The end of the text, under the same readtable, base, packages, current package and functions as its bytes. Between forms
+    /// the text is empty.
     pub fn finish<R: MacroFunctions>(
         self,
         readtable: &Readtable,
+        base: u8,
         packages: &Packages,
         current: &[u8],
         macros: &R,
     ) -> Result<ReadOutcome, AllocError>
         requires answers { R.answers macros.now }
+        requires lowest_base { 2 ≤ base }
+        requires highest_base { base ≤ 36 }
         requires current { IsPackage packages.now.0 current.now }
         requires count { fed self ≤ 2 ^ 63 }
         ensures refused { (number offset : ℕ) → HasRefused self number offset
             → result ≡ Ok (ReadRefused number offset) }
         ensures spent { HasNoMemory self → IsErr result }
         ensures outcome { (bytes : List ℕ) → IsAfter
-            (setting_of (limits_of self) readtable.now packages.now.0 current.now
+            (setting_of (limits_of self) readtable.now base packages.now.0 current.now
             (R.functions macros.now))
             self bytes → IfOk result (λ outcome. IsOutcome outcome (reads
-            (setting_of (limits_of self) readtable.now packages.now.0 current.now
+            (setting_of (limits_of self) readtable.now base packages.now.0 current.now
             (R.functions macros.now))
             bytes)) }
         ensures between { IsBetween self → result ≡ Ok ReadEmpty }
@@ -284,6 +292,7 @@ impl FormReader {
                     alloc,
                     limits,
                     readtable,
+                    base,
                     packages,
                     current,
                     macros,

@@ -1,5 +1,5 @@
 //! A whole text.
-ghost use Rattle.std.specs.Prelude.{◌≡◌, ◌<◌, true, Ok, IfOk};
+ghost use Rattle.std.specs.Prelude.{◌≡◌, ◌<◌, ◌≤◌, true, Ok, IfOk};
 ghost use Rattle.std.specs.List.{list_all};
 ghost use Rattle.package_table.specs.Table.{IsPackage};
 ghost use Rattle.lisp_reading.specs.Setting.{setting_of};
@@ -15,20 +15,24 @@ use readtable_core::Readtable;
 use std::alloc::{AllocError, Global};
 use user_macros::MacroFunctions;
 
-/// What the text `bytes` begins with. A text of whitespace alone needs no memory.
+/// What the text `bytes` begins with, where numbers are in `base`, which is 2 to 36. A text of whitespace alone needs no
+/// memory.
 pub fn read_one<R: MacroFunctions>(
     alloc: Global,
     limits: Limits,
     readtable: &Readtable,
+    base: u8,
     packages: &Packages,
     current: &[u8],
     macros: &R,
     bytes: &[u8],
 ) -> Result<ReadOutcome, AllocError>
     requires answers { R.answers macros.now }
+    requires lowest_base { 2 ≤ base }
+    requires highest_base { base ≤ 36 }
     requires current { IsPackage packages.now.0 current.now }
     ensures outcome { IfOk result (λ outcome. IsOutcome outcome (reads
-        (setting_of limits readtable.now packages.now.0 current.now
+        (setting_of limits readtable.now base packages.now.0 current.now
         (R.functions macros.now))
         bytes.now)) }
     ensures blank { 0 < limits.text → list_all (is_whitespace readtable.now) bytes.now ≡ true
@@ -36,7 +40,7 @@ pub fn read_one<R: MacroFunctions>(
 {
     let mut reader = FormReader::new(alloc, limits);
     for byte in bytes {
-        match reader.step(*byte, readtable, packages, current, macros)? {
+        match reader.step(*byte, readtable, base, packages, current, macros)? {
             Advance::More => {}
             Advance::Form {
                 datum,
@@ -54,5 +58,5 @@ pub fn read_one<R: MacroFunctions>(
             Advance::Refused { code, at } => return Ok(ReadOutcome::Refused { code, at }),
         }
     }
-    reader.finish(readtable, packages, current, macros)
+    reader.finish(readtable, base, packages, current, macros)
 }

@@ -16,7 +16,10 @@ pub mod Storable
 pub mod SoundProperties
 pub mod SoundPackages
 pub mod SoundReadtables
+pub mod SoundBase
 pub mod Numbered
 pub mod NumberedOperators
+pub mod Keeping
+pub mod KeepingOperators
 pub mod Covering
-pub mod CoveringOperators
+pub mod SameBase

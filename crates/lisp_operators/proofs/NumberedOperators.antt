@@ -4,7 +4,7 @@ use Rattle.std.specs.Prelude.{nat_lt, unwrap_or, ◌+ℤ◌}
 use Rattle.std.specs.List.{list_all, list_any}
 use Rattle.std.specs.FinMap as finite
 use Rattle.lisp_object.specs.Object.{Object, pair, nil, list_of, object_depth, object_size}
-use Rattle.lisp_object.specs.declared.refusal.TheConstants.{NO_SUCH_PACKAGE, PACKAGE_IS_LOCKED, NO_READTABLE}
+use Rattle.lisp_object.specs.declared.refusal.TheConstants.{NO_SUCH_PACKAGE, PACKAGE_IS_LOCKED, NO_READTABLE, INTEGER_RANGE}
 use Rattle.readtable_core.specs.Tables as readtable
 use Rattle.readtable_core.specs.Tables.{entry_at}
 use Rattle.readtable_core.specs.Sound.{is_dispatching}
@@ -21,6 +21,7 @@ use Rattle.lisp_operators.specs.Evaluation.{Evaluation, gives}
 use Rattle.lisp_operators.specs.Properties.{t, built, list, get, set, removed, remove, in_turn, symbol_plist, amount, is_in_range, increment, push}
 use Rattle.lisp_operators.specs.Packages.{then_others, one_by_one, in_package, made, make, enter, interned, intern, changed, unlocked, export, import, use_all, packages_named, use_package}
 use Rattle.lisp_operators.specs.Readtables.{after, in_readtable, changeable, is_function, a_function, readtable_case, set_case, copy_readtable, enter_readtable, after_first, set_syntax, set_macro, get_macro, make_dispatch, set_dispatch, get_dispatch}
+use Rattle.lisp_operators.specs.ReadBase.{a_base, set_base}
 use Rattle.lisp_operators.proofs.Numbered.{Numbered, IsPackagesNumbered, IsReadtablesNumbered, numbered_if, numbered_kind, numbered_option, numbered_make, numbered_intern, numbered_export, numbered_import, numbered_use, numbered_case, numbered_macro, numbered_dispatching, numbered_dispatch, numbered_syntax, numbered_copy}
 
 abbrev pub IsNumberedFunction : (List Object → WorldState → Evaluation Object) → Type 0
@@ -209,3 +210,9 @@ get_dispatch_numbered (c ∷ []) s = record { number = (omega arith, omega arith
 get_dispatch_numbered (c ∷ d ∷ rest) s =
     numbered_kind (a_character c) _ (λ at. numbered_kind (a_character d) _ (λ sub. numbered_kind (given_or a_source s.current_readtable rest) _ (λ n.
     in_readtable_numbered s n _ (λ table. numbered_if (not (is_dispatching (entry_at table at))) _ _ (record { number = (omega arith, omega arith) }) (record { number = tt })))))
+
+-- ---- the base
+pub set_base_numbered : IsNumberedFunction set_base
+set_base_numbered (x ∷ []) s =
+    numbered_kind (an_integer x) _ (λ n. numbered_option (a_base n) _ (Err INTEGER_RANGE) (λ base. record { number = tt }) (record { number = (omega arith, omega arith) }))
+set_base_numbered _ s = record { number = (omega arith, omega arith) }

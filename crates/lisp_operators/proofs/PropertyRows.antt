@@ -3,12 +3,13 @@
 --     indicators_sound      the indicators of a symbol
 --     in_turn_more, turn_proper      one more property of a list in turn
 --     all_ascii, ascii_home, ascii_name, package_ascii, readtable_ascii      names of characters below 128
-use Rattle.std.proofs.Common.{◌≡◌, ◌<◌, ◌+◌, ℕ, true, false, List, [], ◌∷◌, ◌++◌, All, map, length, take, get_or, nat_lt, unwrap_or, Some, refl, sym, ap, subst, ◌∙◌, arith}
-use Rattle.std.specs.List.{list_all}
+use Rattle.std.proofs.Common.{◌≡◌, ◌<◌, ◌+◌, ℕ, true, false, List, [], ◌∷◌, ◌++◌, All, map, length, take, nat_lt, unwrap_or, Some, refl, sym, ap, subst, ◌∙◌}
+use Rattle.std.specs.List.{list_all, slice_get}
 use Rattle.std.proofs.lemmas.Bool.{ltb-false, and_from}
 use Rattle.std.proofs.lemmas.List.{take_more, map-append}
 use Rattle.std.proofs.lemmas.List.Folds.{list_all-append}
-use Rattle.std.proofs.lemmas.List.Elements.{All-weaker, All-cons, All-head, All-tail}
+use Rattle.std.proofs.lemmas.Option.{get_or_from_slice_get}
+use Rattle.std.proofs.lemmas.List.Elements.{All-weaker}
 use Rattle.lisp_object.specs.Ascii.{is_ascii}
 use Rattle.lisp_object.specs.declared.datum.Datum.{Datum}
 use Rattle.lisp_object.specs.Object as object
@@ -20,11 +21,9 @@ use Rattle.package_table.specs.Lookup.{found}
 use Rattle.package_table.proofs.Found.{found_finds}
 use Rattle.package_table.proofs.Keeping.{present_at_home}
 use Rattle.lisp_operators.specs.Kinds.{a_name, a_text}
-use Rattle.plist_state.specs.declared.property.Property.{Property}
 use Rattle.plist_state.specs.Properties.{Symbol, Plist}
 use Rattle.plist_state.specs.State.{WorldState}
 use Rattle.plist_state.specs.Changes.{plist, property}
-use Rattle.plist_state.specs.Shown.{property_of}
 use Rattle.plist_state.specs.Sound.{IsSymbol, IsValue, IsSound}
 use Rattle.lisp_operators.specs.Properties.{in_turn}
 use Rattle.lisp_operators.specs.Evaluated.{object_of_symbol}
@@ -38,30 +37,24 @@ pushed_value s x i v o sound value is shallow =
     (pair_value s.packages v (unwrap_or (property s x i) nil) value (property_value s x i nil sound (nil_value s.packages sound.packages))
     (ltb-false 100 (object_depth (pair v (unwrap_or (property s x i) nil))) shallow))
 
-of_row : (P : Symbol → Type 0) (row : List Property) → All (λ p. P p.0) (map property_of row) → All (λ p. P (property_of p).0) row
-of_row P [] all = λ k d h. absurd (omega arith)
-of_row P (p ∷ ps) all = All-cons (λ (q : Property). P (property_of q).0) p ps (All-head (λ (q : Symbol × Object). P q.0) (property_of p) (map property_of ps) all) (of_row P ps (All-tail (λ (q : Symbol × Object). P q.0) (property_of p) (map property_of ps) all))
-
-pub indicators_sound : (s : WorldState) (x : Symbol) (row : List Property) → IsSound s → map property_of row ≡ plist s x → All (λ p. object.IsSound (object_of_symbol (property_of p).0)) row
-indicators_sound s x row sound is =
-    of_row (λ y. object.IsSound (object_of_symbol y)) row
-    (All-weaker (λ (p : Symbol × Object). IsSymbol s.packages p.0) (λ p. object.IsSound (object_of_symbol p.0)) (λ p there. (symbol_is_value s.packages p.0.0 p.0.1 sound.packages there).object) (map property_of row)
-    (subst (λ ps. All (λ (p : Symbol × Object). IsSymbol s.packages p.0) ps) (sym is) (held s x sound).indicators))
+pub indicators_sound : (s : WorldState) (x : Symbol) → IsSound s → All (λ p. object.IsSound (object_of_symbol p.0)) (plist s x)
+indicators_sound s x sound =
+    All-weaker (λ (p : Symbol × Object). IsSymbol s.packages p.0) (λ p. object.IsSound (object_of_symbol p.0)) (λ p there. (symbol_is_value s.packages p.0.0 p.0.1 sound.packages there).object) (plist s x)
+    (held s x sound).indicators
 
 in_turn_push : (ps : Plist) (p : Symbol × Object) → in_turn (ps ++ p ∷ []) ≡ in_turn ps ++ (symbol p.0.0 p.0.1 ∷ p.1 ∷ [])
 in_turn_push [] p = refl
 in_turn_push (q ∷ ps) p = ap (λ rest. symbol q.0.0 q.0.1 ∷ q.1 ∷ rest) (in_turn_push ps p)
 
-pub in_turn_more : (row : List Property) (i : ℕ) (p : Property) (vs : List Datum) (k v : Datum) → i < length row → p ≡ get_or row i p → map object_of vs ≡ in_turn (map property_of (take i row))
-    → object_of k ≡ object_of_symbol (property_of p).0 → object_of v ≡ object_of p.value → map object_of ((vs ++ k ∷ []) ++ v ∷ []) ≡ in_turn (map property_of (take (i + 1) row))
-in_turn_more row i p vs k v within is before key value =
+pub in_turn_more : (ps : Plist) (i : ℕ) (p : Symbol × Object) (vs : List Datum) (k v : Datum) → i < length ps → slice_get ps i ≡ Some p → map object_of vs ≡ in_turn (take i ps)
+    → object_of k ≡ object_of_symbol p.0 → object_of v ≡ p.1 → map object_of ((vs ++ k ∷ []) ++ v ∷ []) ≡ in_turn (take (i + 1) ps)
+in_turn_more ps i p vs k v within is before key value =
     map-append object_of (vs ++ k ∷ []) (v ∷ []) ∙ ap (λ xs. xs ++ object_of v ∷ []) (map-append object_of vs (k ∷ []))
-    ∙ (ap (λ xs. (xs ++ object_of k ∷ []) ++ object_of v ∷ []) before ∙ (ap (λ x. (in_turn (map property_of (take i row)) ++ x ∷ []) ++ object_of v ∷ []) key ∙ ap (λ x. (in_turn (map property_of (take i row)) ++ object_of_symbol (property_of p).0 ∷ []) ++ x ∷ []) value))
-    ∙ two (in_turn (map property_of (take i row))) (object_of_symbol (property_of p).0) (object_of p.value)
-    ∙ sym (in_turn_push (map property_of (take i row)) (property_of p))
-    ∙ ap in_turn (sym (map-append property_of (take i row) (p ∷ [])))
-    ∙ ap (λ q. in_turn (map property_of (take i row ++ q ∷ []))) is
-    ∙ ap (λ r. in_turn (map property_of r)) (sym (take_more row i p within))
+    ∙ (ap (λ xs. (xs ++ object_of k ∷ []) ++ object_of v ∷ []) before ∙ (ap (λ x. (in_turn (take i ps) ++ x ∷ []) ++ object_of v ∷ []) key ∙ ap (λ x. (in_turn (take i ps) ++ object_of_symbol p.0 ∷ []) ++ x ∷ []) value))
+    ∙ two (in_turn (take i ps)) (object_of_symbol p.0) p.1
+    ∙ sym (in_turn_push (take i ps) p)
+    ∙ ap (λ q. in_turn (take i ps ++ q ∷ [])) (sym (get_or_from_slice_get ps i p p is))
+    ∙ ap in_turn (sym (take_more ps i p within))
   where
     two : (xs : List Object) (x y : Object) → (xs ++ x ∷ []) ++ y ∷ [] ≡ xs ++ (x ∷ y ∷ [])
     two [] x y = refl

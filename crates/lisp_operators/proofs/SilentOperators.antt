@@ -4,7 +4,7 @@ use Rattle.std.specs.Prelude.{nat_lt, unwrap_or, ◌+ℤ◌}
 use Rattle.std.specs.List.{list_all, list_any}
 use Rattle.std.specs.FinMap as finite
 use Rattle.lisp_object.specs.Object.{Object, pair, nil, list_of, object_depth, object_size}
-use Rattle.lisp_object.specs.declared.refusal.TheConstants.{NO_SUCH_PACKAGE, PACKAGE_IS_LOCKED, NO_READTABLE}
+use Rattle.lisp_object.specs.declared.refusal.TheConstants.{NO_SUCH_PACKAGE, PACKAGE_IS_LOCKED, NO_READTABLE, INTEGER_RANGE}
 use Rattle.readtable_core.specs.Tables as readtable
 use Rattle.readtable_core.specs.Tables.{entry_at}
 use Rattle.readtable_core.specs.Sound.{is_dispatching}
@@ -20,6 +20,7 @@ use Rattle.lisp_operators.specs.Evaluation.{Evaluation, gives}
 use Rattle.lisp_operators.specs.Properties.{t, built, list, get, set, removed, remove, in_turn, symbol_plist, amount, is_in_range, increment, push}
 use Rattle.lisp_operators.specs.Packages.{in_package, made, make, enter, interned, intern, changed, unlocked, export, import, use_all, packages_named, use_package}
 use Rattle.lisp_operators.specs.Readtables.{after, in_readtable, changeable, is_function, a_function, readtable_case, set_case, copy_readtable, enter_readtable, after_first, set_syntax, set_macro, get_macro, make_dispatch, set_dispatch, get_dispatch}
+use Rattle.lisp_operators.specs.ReadBase.{a_base, set_base}
 use Rattle.lisp_operators.proofs.Silence.{Keeps, written, keeps_if, keeps_kind, keeps_option}
 use Rattle.lisp_operators.proofs.Unmoved.{IsUnmoved, intern_still, export_still, import_still, use_still, one_unmoved}
 
@@ -193,3 +194,9 @@ get_dispatch_silent (c ∷ []) s = record { same = tt }
 get_dispatch_silent (c ∷ d ∷ rest) s =
     keeps_kind s (a_character c) _ (λ at. keeps_kind s (a_character d) _ (λ sub. keeps_kind s (given_or a_source s.current_readtable rest) _ (λ n.
     in_readtable_silent s n _ (λ table. keeps_if s (not (is_dispatching (entry_at table at))) _ _ (record { same = tt }) (record { same = λ _. refl })))))
+
+-- ---- the base
+pub set_base_silent : IsSilent set_base
+set_base_silent (x ∷ []) s =
+    keeps_kind s (an_integer x) _ (λ n. keeps_option s (a_base n) _ (Err INTEGER_RANGE) (λ base. record { same = written }) (record { same = tt }))
+set_base_silent _ s = record { same = tt }

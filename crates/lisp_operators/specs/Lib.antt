@@ -6,3 +6,4 @@ pub mod Members
 pub mod Properties
 pub mod Packages
 pub mod Readtables
+pub mod ReadBase

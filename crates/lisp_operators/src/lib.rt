@@ -1,11 +1,11 @@
-//! The operators on property lists, packages and readtables, each of the list of the values of its arguments.
+//! The operators on property lists, packages, readtables and the read base, each of the list of the values of its arguments.
 //!
 //! `specs/` says what each gives in a state of the world: a value, the state after it and whether anything was written, or the
 //! number of its refusal. Each function does with a `World` what its definition says, or answers that memory ran out (`Answers`
 //! of specs/Evaluated.antt). After a refusal or out of memory the world may have changed, but for its marks. Which form is a call
 //! of which operator, the crate `evaluator` says.
 //!
-//! - `properties`, `packages`, `package_lists`, `readtables`: the operators of each family
+//! - `properties`, `packages`, `package_lists`, `readtables`, `read_base`: the operators of each family
 //! - `error`, `evaluated`: what an operator gives, `EvaluationError` and `Evaluated`
 //! - `arguments`, `owned_arguments`, `kinds`, `lists`, `values`: so many arguments, what each stands for, lists of them, and
 //!   values that are built; `changes`: changes of the packages, one after the other
@@ -21,6 +21,7 @@ mod owned_arguments;
 pub mod package_lists;
 pub mod packages;
 pub mod properties;
+pub mod read_base;
 pub mod readtables;
 pub mod values;
 

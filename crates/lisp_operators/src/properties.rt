@@ -1,9 +1,9 @@
 //! The operators on property lists (standard 10.2, 14.2), of the values of their arguments.
-ghost use Rattle.std.specs.Prelude.{◌≡◌, true, [], map, option_map, All, IfErr, IfOk, IfSome};
+ghost use Rattle.std.specs.Prelude.{◌≡◌, true, [], option_map, All, IfErr, IfOk, IfSome};
 ghost use Rattle.std.specs.List.{list_all};
 ghost use Rattle.lisp_object.specs.Object.{IsSound, pair};
 ghost use Rattle.lisp_object.specs.Datum.{object_of, is_proper};
-ghost use Rattle.plist_state.specs.Shown.{symbol_of, property_of};
+ghost use Rattle.plist_state.specs.Shown.{symbol_of};
 ghost use Rattle.plist_state.specs.Sound.{IsSymbol};
 ghost use Rattle.lisp_operators.specs.Kinds.{a_symbol};
 ghost use Rattle.lisp_operators.specs.Properties.{get, set, remove, in_turn, symbol_plist, amount, increment, push};
@@ -15,7 +15,7 @@ use crate::owned_arguments::{one, three, two, two_and_rest};
 use crate::{Evaluated, EvaluationError, kinds, values};
 use lisp_object::Datum;
 use lisp_object::refusal::{ARGUMENT_KIND, INTEGER_RANGE, LIMIT, VALUE_TOO_DEEP};
-use plist_state::{Property, Symbol, World};
+use plist_state::{PropertyList, Symbol, World};
 use std::alloc::{AllocError, Global};
 
 // The symbol that an argument is.
@@ -131,17 +131,16 @@ pub fn remove(
 }
 
 // Indicators and values in turn.
-fn in_turn(alloc: Global, row: &[Property]) -> Result<Vec<Datum>, AllocError>
-    requires indicators { All (λ p. IsSound (object_of_symbol (property_of p).0)) row.now }
-    requires values { All (λ p. is_proper p.value ≡ true) row.now }
-    ensures value { IfOk result (λ v. objects v.items ≡ in_turn (map property_of row.now)) }
+fn in_turn(alloc: Global, row: &PropertyList<'_>) -> Result<Vec<Datum>, AllocError>
+    requires { All (λ p. IsSound (object_of_symbol p.0)) row.now }
+    ensures value { IfOk result (λ v. objects v.items ≡ in_turn row.now) }
     ensures proper { IfOk result (λ v. list_all is_proper v.items ≡ true) }
 {
     let mut values = Vec::new(alloc);
-    for property in row {
-        let indicator = property.indicator();
-        values.push(values::symbol(alloc, indicator.home(), indicator.name())?)?;
-        values.push(property.value().copy(alloc)?)?;
+    for index in 0..row.len() {
+        let property = row.at(index);
+        values.push(values::symbol(alloc, property.home, property.name)?)?;
+        values.push(property.value.copy(alloc)?)?;
     }
     Ok(values)
 }
@@ -159,7 +158,7 @@ pub fn symbol_plist(
     let symbol = symbol(one(values)?)?;
     world.soundness();
     let row = world.plist(&symbol);
-    values::list(alloc, in_turn(alloc, row)?)
+    values::list(alloc, in_turn(alloc, &row)?)
 }
 
 // By how much INCF adds: 1 where it is not given.

@@ -9,13 +9,13 @@ use Rattle.user_macros.specs.Functions.{Functions, named_among}
 use Rattle.lisp_reading.specs.declared.limits.Limits.{Limits}
 use Rattle.lisp_reading.specs.Setting.{setting_of}
 
-pub setting_same : (limits : Limits) (table : Table) (packages : Packages) (current : Name) (functions : Functions) (names : List (List ℕ))
+pub setting_same : (limits : Limits) (table : Table) (base : ℕ) (packages : Packages) (current : Name) (functions : Functions) (names : List (List ℕ))
     → ((name : List ℕ) → is_among names name ≡ is_among functions.names name)
-    → setting_of limits table packages current (named_among names functions) ≡ setting_of limits table packages current functions
-setting_same limits table packages current functions names same = λ i. record {
+    → setting_of limits table base packages current (named_among names functions) ≡ setting_of limits table base packages current functions
+setting_same limits table base packages current functions names same = λ i. record {
   limits = limits;
   table = table;
-  base = 10;
+  base = base;
   packages = packages;
   current = current;
   way = λ name. if same name i then functions.way name else None;

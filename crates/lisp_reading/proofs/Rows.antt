@@ -76,7 +76,7 @@ own_table =
 
 abbrev small : Table → Setting
 small table = record {
-  limits = record { text = 65536; token = 4096; nesting = 100 };
+  limits = record { text = 1048576; token = 4096; nesting = 100 };
   table = table;
   base = 10;
   packages = initial;

@@ -1,5 +1,5 @@
--- A form that is read under a limit of the text is read under a larger one too, where a plan has more turns and more
--- room: it gives what the plan under the smaller limit gives, and may go on where that one is refused.
+-- A form that is read under a limit of the text is read under a larger one too. There a plan has more turns and more room.
+-- So it gives what the plan under the smaller limit gives, and may go on where that one is refused.
 use Rattle.std.proofs.Common.{◌≡◌, ℕ, zero, suc, ◌+◌, ◌-◌, ◌≤◌, Bool, true, false, List, [], ◌∷◌, ◌++◌, length, Option, Some, None, Result, Ok, Err, refl, sym, ap, subst, ◌∙◌, arith}
 use Rattle.std.specs.Prelude.{nat_le, nat_lt, ◌==◌}
 use Rattle.std.proofs.lemmas.Bool.{le-leb, lt-leb, leb-true, leb-false}

@@ -23,8 +23,8 @@ use Rattle.lisp_reading.specs.declared.way.Way.{Way}
 use Rattle.lisp_reading.specs.declared.way.Way.TheVariants.{Nothing, Next, List as AList, Until, Text, Line, Block, Token, EscapedToken}
 use Rattle.lisp_reading.specs.declared.way.Keep.TheVariants.{Kept, Dropped}
 
--- The limits, the readtable in force, the base of numbers, the packages and the current one, and of the functions of users
--- what each gathers and answers.
+-- The limits, the readtable in force, the base of numbers (standard 23.1.2, *READ-BASE*), the packages and the current one,
+-- and of the functions of users what each gathers and answers.
 pub record Setting : Type 0 where
   pub limits : Limits
   pub table : Table
@@ -34,13 +34,13 @@ pub record Setting : Type 0 where
   pub way : List ℕ → Option Gather
   pub answer : List ℕ → MacroCall → MacroAnswer
 
--- Reading under these limits, this readtable, in base 10, in this package, with these functions. A name that is not among
+-- Reading under these limits, this readtable, in this base, in this package, with these functions. A name that is not among
 -- theirs is that of no function.
-abbrev pub setting_of : Limits → Table → Packages → Name → Functions → Setting
-setting_of limits table packages current functions = record {
+abbrev pub setting_of : Limits → Table → ℕ → Packages → Name → Functions → Setting
+setting_of limits table base packages current functions = record {
   limits = limits;
   table = table;
-  base = 10;
+  base = base;
   packages = packages;
   current = current;
   way = named_way functions;

@@ -127,10 +127,10 @@ pub fn refusals_are_of_reading()
 /// What is read depends on the registered functions only through their names: where two registries have the same names, the
 /// setting is the same. So where each function of a meaning is registered, a text is read under all its names.
 pub fn only_registered_names_matter()
-    ensures { (limits : Limits) (table : Table) (packages : Packages) (current : Name)
+    ensures { (limits : Limits) (table : Table) (base : ℕ) (packages : Packages) (current : Name)
         (functions : Functions) (names : List (List ℕ))
         → ((name : List ℕ) → IsTrue (is_among functions.names name) → IsTrue (is_among names name))
         → ((name : List ℕ) → IsTrue (is_among names name) → IsTrue (is_among functions.names name))
-        → setting_of limits table packages current (named_among names functions)
-        ≡ setting_of limits table packages current functions }
+        → setting_of limits table base packages current (named_among names functions)
+        ≡ setting_of limits table base packages current functions }
 {}

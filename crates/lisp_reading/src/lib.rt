@@ -4,8 +4,8 @@
 //! specs/Plans.antt says what a plan gives on a text, and alone knows offsets and the limit of the text. The definition is
 //! `reads` of specs/Reading.antt, which says of a text that it begins with a form (its object, its start, its end, and where
 //! the next form begins), that it is empty, or that it is refused, with a number and an offset. It rests on a `Setting`
-//! (specs/Setting.antt): the limits, the readtable, the packages and the current one, and what the registered functions of
-//! users gather and answer.
+//! (specs/Setting.antt): the limits, the readtable, the base of numbers, the packages and the current one, and what the
+//! registered functions of users gather and answer.
 //!
 //! - specs/Plans.antt: plans, and what they give; specs/Gathering.antt: texts, lines, blocks and numbers
 //! - specs/Calls.antt: calls; specs/Naming.antt: what a token means in packages; specs/Answering.antt: what a function of a

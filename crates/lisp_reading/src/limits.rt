@@ -10,12 +10,12 @@ pub struct Limits {
 }
 
 impl Limits {
-    /// The limits of a form: 65,536 bytes, tokens of 4,096 characters, 100 open calls.
+    /// The limits of a form: 1,048,576 bytes, tokens of 4,096 characters, 100 open calls.
     pub fn form() -> Limits
-        ensures { result ≡ record { text = 65536; token = 4096; nesting = 100 } }
+        ensures { result ≡ record { text = 1048576; token = 4096; nesting = 100 } }
     {
         Limits {
-            text: 65_536,
+            text: 1_048_576,
             token: 4_096,
             nesting: 100,
         }

@@ -2,7 +2,7 @@
 --     users_other      whether a package that uses p finds another symbol
 --     shown_other      whether p finds another symbol than one that is external in q
 use Rattle.std.proofs.Common.{◌≡◌, ◌≢◌, ◌↔◌, ◌&&◌, ◌||◌, not, Bool, true, false, cond, T, List, [], ◌∷◌, None, Some, IsTrue, bytes_eq, refl, sym, ap, ◌∙◌}
-use Rattle.std.proofs.lemmas.Bool.{false≢true}
+use Rattle.std.proofs.lemmas.Bool.{false≢true, and_parts, not-true}
 use Rattle.std.specs.Option.{option_map, option_map_or, option_and_then}
 use Rattle.std.specs.List.{list_any}
 use Rattle.std.specs.Ordering.{is_eq, eq_by_cmp}
@@ -16,10 +16,6 @@ use Rattle.package_table.proofs.Frames.{unequal_names}
 use Rattle.package_table.proofs.Found.{found_finds}
 use Rattle.package_table.proofs.Counting.{first_of_both, second_of_both, below}
 use Rattle.package_table.proofs.KeptChanges.{users_agree, shown_agree}
-
-pub both : (a b : Bool) → (a && b) ≡ true → (a ≡ true) × (b ≡ true)
-both true b e = (refl, e)
-both false b e = absurd (false≢true e)
 
 -- a name below all the others is none of them
 pub none_above : {X : Type 0} (x : Name) (es : List (Name × X)) → T (below_all name_cmp x es) → find name_cmp x es ≡ None
@@ -57,12 +53,8 @@ other_found : (t : Table) (p h n : Name) → finds_other t p h n ≡ true → (g
 other_found t p h n other =
     elim (found t p n) as (λ o. found t p n ≡ o → option_map_or (λ g. not (bytes_eq g h)) o false ≡ true → (g : Name) × Finds t p n g × (g ≢ h)) [
       | None ↦ λ _ no. absurd (false≢true no)
-      | Some g ↦ λ is differs. (g, found_finds t n p g is, unequal_names g h (turned (bytes_eq g h) differs))
+      | Some g ↦ λ is differs. (g, found_finds t n p g is, unequal_names g h (not-true (bytes_eq g h) differs))
     ] refl other
-  where
-    turned : (b : Bool) → not b ≡ true → b ≡ false
-    turned true e = absurd (false≢true e)
-    turned false e = refl
 
 pub users_other : (t : Table) → IsSound t → (p h n : Name) → IsTrue (user_finds_other t p h n) ↔ ((q : Name) × (g : Name) × Uses t q p × Finds t q n g × (g ≢ h))
 users_other t sound p h n = (from_users, to_users)
@@ -70,7 +62,7 @@ users_other t sound p h n = (from_users, to_users)
     from_users : user_finds_other t p h n ≡ true → (q : Name) × (g : Name) × Uses t q p × Finds t q n g × (g ≢ h)
     from_users some =
         let user = some_in (λ (r : Name × Package). finite.contains_key r.1.uses p && finds_other t r.0 h n) t some in
-        let asked = both _ _ user.3 in
+        let asked = and_parts _ _ user.3 in
         let other = other_found t user.0 h n asked.1 in
         (user.0, other.0, ap (option_map (λ (k : Package). finite.contains_key k.uses p)) user.2 ∙ ap Some asked.0, other.1, other.2)
 
@@ -91,7 +83,7 @@ shown_other t sound p q = (from_shown, to_shown)
           | None ↦ λ none. absurd (false≢true none)
           | Some k ↦ λ some.
               let shown = some_in (λ (s : Name × Present). s.1.external && finds_other t p s.1.home s.0) k.symbols some in
-              let asked = both _ _ shown.3 in
+              let asked = and_parts _ _ shown.3 in
               let other = other_found t p shown.1.home shown.0 asked.1 in (
                 shown.0,
                 other.0,

@@ -1,50 +1,106 @@
--- What a call leaves that makes no symbol, whether it is refused or not.
---     left_after      packages as they are kept, in which nothing is lost and each symbol keeps its number
+-- What a call leaves, whether it is refused or not.
+--     marks_after, same_marked      the marks stay
+--     left_after      where it makes no symbol: packages as they are kept, in which nothing is lost and each symbol keeps its number
+--     left_interned      the same of `intern`
 --     told_of      what its answer says of a change
-use Rattle.std.proofs.Common.{◌≡◌, ℕ, Bool, Result, Ok, Err, IfOk, IfErr, All, sym, subst, ◌∙◌}
-use Rattle.std.specs.Global.{Vec}
+use Rattle.std.proofs.Common.{◌≡◌, ◌<◌, Bool, List, [], ◌∷◌, length, Result, Ok, Err, IfOk, IfErr, All, refl, sym, ap, subst, ◌∙◌}
+use Rattle.std.specs.List.{AllByRecursion}
+use Rattle.package_sets.specs.declared.sizes.Sizes.{Sizes}
+use Rattle.package_sets.specs.Kept.{Kept}
+use Rattle.package_sets.specs.Good.{IsGood}
 use Rattle.package_table.specs.declared.error.PackageError.{PackageError}
-use Rattle.package_table.specs.declared.journal.Mark.{Mark}
 use Rattle.package_table.specs.declared.packages.Packages.TheInside.{Inside}
-use Rattle.package_table.specs.Table.{Table, symbol_count}
-use Rattle.package_table.specs.Changes.{Gives, TellsChange, Yields}
-use Rattle.package_table.specs.Growth.{Grows, Tells}
-use Rattle.package_table.specs.Numbers.{Numbered, Tables, numbered}
-use Rattle.package_table.specs.Numbering.{Keeps, KeepsNumbers}
-use Rattle.package_table.specs.Shown.{IsCounted, IsKept, marked_tables, tables_of}
-use Rattle.package_table.proofs.Growing.{Kept}
-use Rattle.package_table.proofs.KeptChanges.{stays_after, told_after}
-use Rattle.package_table.proofs.KeptNumbers.{numbers_after, keeps_after, same_tables}
+use Rattle.package_table.specs.Table.{Name, Table, IsSound, symbol_count}
+use Rattle.package_table.specs.Changes.{after_intern, Gives, TellsChange, Yields}
+use Rattle.package_table.specs.Growth.{Grows, IsSameBut, Tells}
+use Rattle.package_table.specs.Numbers.{Tables, numbered}
+use Rattle.package_table.specs.Numbering.{Keeps}
+use Rattle.package_table.specs.Meaning.{numbered_of}
+use Rattle.package_table.specs.Adds.{Adds, AddsNoSymbol}
+use Rattle.package_table.specs.Shown.{IsKept, IsMark, IsState, tables_at, tables_of}
+use Rattle.package_table.proofs.Growing.{Kept as Keeps_sound}
+use Rattle.package_table.proofs.KeptChanges.{stays_after, stays_but, told_after}
+use Rattle.package_table.proofs.Adding.{adds_same}
+use Rattle.package_table.proofs.ByName.{keeps_of}
 
-pub record Left (ts : Tables) (b : Inside) : Type 0 where
+module _ (k u : Kept) (adds : Adds k u) where
+  pub marks_after : (ns : List Sizes) → AllByRecursion (IsMark k) ns → AllByRecursion (IsMark u) ns
+  marks_after [] marks = tt
+  marks_after (n ∷ ns) marks = (
+    record { fits = adds.fits n marks.0.fits; state = subst IsState (sym (adds.cuts n marks.0.fits)) marks.0.state },
+    marks_after ns marks.1,
+  )
+
+  pub same_marked : (ns : List Sizes) → AllByRecursion (IsMark k) ns → tables_at ns u ≡ tables_at ns k
+  same_marked [] marks = refl
+  same_marked (n ∷ ns) marks = λ i. numbered_of (adds.cuts n marks.0.fits i) ∷ same_marked ns marks.1 i
+
+-- what a call adds
+added : {A E : Type 0} (k u : Kept) (r : Result A E) → IsGood k → IfErr r (λ _. u ≡ k) → IfOk r (λ _. Adds k u) → Adds k u
+added k u (Ok x) good unchanged adds = adds
+added k u (Err e) good unchanged adds = subst (Adds k) (sym unchanged) (adds_same k good)
+
+same_count : {A E : Type 0} (k u : Kept) (r : Result A E) → IfErr r (λ _. u ≡ k) → IfOk r (λ _. AddsNoSymbol k u) → length u.symbols ≡ length k.symbols
+same_count k u (Ok x) unchanged adds = adds.1
+same_count k u (Err e) unchanged adds = ap (λ (k : Kept). length k.symbols) unchanged
+
+adds_alone : {A E : Type 0} (k u : Kept) (r : Result A E) → IfOk r (λ _. AddsNoSymbol k u) → IfOk r (λ _. Adds k u)
+adds_alone k u (Ok x) adds = adds.0
+adds_alone k u (Err e) adds = adds
+
+same_tables : {A E : Type 0} (k u : Kept) (r : Result A E) → IfErr r (λ _. u ≡ k) → IfErr r (λ _. (numbered_of u).0 ≡ (numbered_of k).0)
+same_tables k u (Ok x) unchanged = unchanged
+same_tables k u (Err e) unchanged = ap (λ (k : Kept). (numbered_of k).0) unchanged
+
+pub record Left (ts : Tables) (a b : Inside) : Type 0 where
   pub kept : IsKept b
-  pub grows : Grows ts.0 b.table.0
-  pub numbers : Keeps (numbered ts) b.table
+  pub grows : Grows ts.0 (numbered_of b.sets).0
+  pub numbers : Keeps (numbered ts) (numbered_of b.sets)
+  pub marked : tables_at a.marks.items b.sets ≡ ts.1.marked
 
-pub left_after : {A : Type 0} (a : Inside) (ts : Tables) (u : Numbered) (marks : Vec Mark) (changes : Bool) (r : Result A PackageError) (said : Result Table PackageError)
-    → (said ≡ Ok u.0 → Kept a.table.0 u.0 changes × (symbol_count u.0 ≡ symbol_count a.table.0)) → tables_of a ≡ ts → IsKept a
-    → Gives (λ _. u.0) r said → IfErr r (λ _. u ≡ a.table) → IfOk r (λ _. (count : ℕ) → KeepsNumbers a.table count u count)
-    → marked_tables marks.items u ≡ marked_tables a.marks.items a.table → Left ts (record a { table = u; marks = marks })
-left_after a ts u marks changes r said kept seen before gives unchanged numbers marked =
-    let stays = stays_after a.table.0 u.0 changes r said before.sound gives (same_tables a.table u r unchanged) kept in
+-- what is left of packages that are sound and counted
+left_by : (a : Inside) (ts : Tables) (u : Kept) → tables_of a ≡ ts → IsKept a → Adds a.sets u → IsSound (numbered_of u).0 → Grows (numbered_of a.sets).0 (numbered_of u).0
+    → length u.symbols ≡ symbol_count (numbered_of u).0 → Left ts a (record a { sets = u })
+left_by a ts u seen before adds sound grows counted = record {
+  kept = record {
+    state = record { good = adds.good; sound = sound; counted = counted; placed = adds.placed before.state.placed };
+    marked = marks_after a.sets u adds a.marks.items before.marked;
+    rising = before.rising;
+  };
+  grows = subst (λ (ts : Tables). Grows ts.0 (numbered_of u).0) seen grows;
+  numbers = subst (λ (ts : Tables). Keeps (numbered ts) (numbered_of u)) seen (keeps_of a.sets u before.state.good adds.good adds);
+  marked = same_marked a.sets u adds a.marks.items before.marked ∙ ap (λ (ts : Tables). ts.1.marked) seen;
+}
+
+pub left_after : {A : Type 0} (a : Inside) (ts : Tables) (u : Kept) (changes : Bool) (r : Result A PackageError) (said : Result Table PackageError)
+    → (said ≡ Ok (numbered_of u).0 → Keeps_sound (numbered_of a.sets).0 (numbered_of u).0 changes × (symbol_count (numbered_of u).0 ≡ symbol_count (numbered_of a.sets).0)) → tables_of a ≡ ts → IsKept a
+    → Gives (λ _. (numbered_of u).0) r said → IfErr r (λ _. u ≡ a.sets) → IfOk r (λ _. AddsNoSymbol a.sets u) → Left ts a (record a { sets = u })
+left_after a ts u changes r said kept seen before gives unchanged adds =
+    let stays = stays_after (numbered_of a.sets).0 (numbered_of u).0 changes r said before.state.sound gives (same_tables a.sets u r unchanged) kept in
+    left_by a ts u seen before (added a.sets u r before.state.good unchanged (adds_alone a.sets u r adds)) stays.sound stays.grows
+    (same_count a.sets u r unchanged adds ∙ before.state.counted ∙ sym stays.count)
+
+pub record LeftBut (ts : Tables) (a b : Inside) (p n : Name) : Type 0 where
+  pub left : Left ts a b
+  pub others : IsSameBut ts.0 (numbered_of b.sets).0 p n
+
+pub left_interned : {A : Type 0} (a : Inside) (ts : Tables) (u : Kept) (p n : Name) (home : A → Name) (r : Result A PackageError) → All (λ b. b < 128) n → tables_of a ≡ ts → IsKept a
+    → Gives (λ x. (home x, (numbered_of u).0)) r (after_intern (numbered_of a.sets).0 p n) → IfErr r (λ _. u ≡ a.sets) → IfOk r (λ _. Adds a.sets u) → length u.symbols ≡ symbol_count (numbered_of u).0
+    → LeftBut ts a (record a { sets = u }) p n
+left_interned a ts u p n home r ascii seen before gives unchanged adds counted =
+    let stays = stays_but (numbered_of a.sets).0 (numbered_of u).0 p n home r before.state.sound ascii gives (same_tables a.sets u r unchanged) in
     record {
-      kept = record {
-        sound = stays.sound;
-        counted = before.counted ∙ sym stays.count;
-        numbered = numbers_after a.table u r numbers unchanged a.count before.numbered;
-        marked = subst (All IsCounted) (sym marked) before.marked;
-      };
-      grows = subst (λ (ts : Tables). Grows ts.0 u.0) seen stays.grows;
-      numbers = subst (λ (ts : Tables). Keeps (numbered ts) u) seen (keeps_after a.table u r numbers unchanged a.count before.numbered);
+      left = left_by a ts u seen before (added a.sets u r before.state.good unchanged adds) stays.sound stays.grows counted;
+      others = subst (λ (ts : Tables). IsSameBut ts.0 (numbered_of u).0 p n) seen stays.others;
     }
 
 told_change : (changes : Bool) (r : Result Bool PackageError) → TellsChange changes r → Yields r changes
 told_change changes (Ok changed) is = is
 told_change changes (Err e) is = tt
 
-pub told_of : (a : Inside) (ts : Tables) (u : Numbered) (changes : Bool) (r : Result Bool PackageError) (said : Result Table PackageError)
-    → (said ≡ Ok u.0 → Kept a.table.0 u.0 changes × (symbol_count u.0 ≡ symbol_count a.table.0)) → tables_of a ≡ ts
-    → Gives (λ _. u.0) r said → TellsChange changes r → IfOk r (λ changed. Tells changed ts.0 u.0)
+pub told_of : (a : Inside) (ts : Tables) (u : Kept) (changes : Bool) (r : Result Bool PackageError) (said : Result Table PackageError)
+    → (said ≡ Ok (numbered_of u).0 → Keeps_sound (numbered_of a.sets).0 (numbered_of u).0 changes × (symbol_count (numbered_of u).0 ≡ symbol_count (numbered_of a.sets).0)) → tables_of a ≡ ts
+    → Gives (λ _. (numbered_of u).0) r said → TellsChange changes r → IfOk r (λ changed. Tells changed ts.0 (numbered_of u).0)
 told_of a ts u changes r said kept seen gives changed =
-    subst (λ (ts : Tables). IfOk r (λ changed. Tells changed ts.0 u.0)) seen
-    (told_after a.table.0 u.0 (λ _. u.0) (λ changed. changed) changes r said gives (told_change changes r changed) (λ _ is. (kept is).0.told))
+    subst (λ (ts : Tables). IfOk r (λ changed. Tells changed ts.0 (numbered_of u).0)) seen
+    (told_after (numbered_of a.sets).0 (numbered_of u).0 (λ _. (numbered_of u).0) (λ changed. changed) changes r said gives (told_change changes r changed) (λ _ is. (kept is).0.told))

@@ -11,6 +11,7 @@ use Rattle.std.specs.Option.{option_map_or, option_and_then}
 use Rattle.std.specs.Ordering.{is_eq, is_lt}
 use Rattle.std.specs.FinMap as finite
 use Rattle.std.specs.FinMap.Entries.{find, put, is_sorted, below_all, by_order}
+use Rattle.std.proofs.lemmas.List.{nil_from_length}
 use Rattle.package_table.specs.Table.{Name, name_cmp, Present, Package, Table, entry_at, IsPackage, with_package, with_entry, with_used, empty_package, symbol_count, own_count, with_new_package}
 use Rattle.package_table.proofs.Names.{name_total, name_exact}
 use Rattle.package_table.proofs.Frames.{equal_itself, not_equal, package_there}
@@ -126,15 +127,11 @@ symbols_with_used t p q there =
     let sums = symbols-change t p (λ k. record k { uses = finite.insert k.uses q tt }) k.0 k.1 in
     omega (arith, sums)
 
-no_items : {A : Type 0} (xs : List A) → length xs ≡ 0 → xs ≡ []
-no_items [] e = refl
-no_items (x ∷ xs) e = absurd (omega arith)
-
 pub symbols_with_new : (t : Table) (p : Name) → finite.get t p ≡ None → symbol_count (with_new_package t p) ≡ symbol_count t
 symbols_with_new t p absent =
     let sums : symbol_count (with_new_package t p) + weight_of own_count p (finite.get t p) ≡ symbol_count t + own_count p empty_package = weight-insert own_count t p empty_package in
     let was : weight_of own_count p (finite.get t p) ≡ 0 = ap (weight_of own_count p) absent in
-    let no_symbols : finite.entries empty_package.symbols ≡ [] = no_items (finite.entries empty_package.symbols) (sym (finite.len-entries empty_package.symbols) ∙ finite.len-empty name_cmp Present) in
+    let no_symbols : finite.entries empty_package.symbols ≡ [] = nil_from_length (finite.entries empty_package.symbols) (sym (finite.len-entries empty_package.symbols) ∙ finite.len-empty name_cmp Present) in
     let none : own_count p empty_package ≡ 0 = ap (λ (es : List (Name × Present)). length (filter (λ s. bytes_eq s.1.home p) es)) no_symbols in
     omega (arith, sums, was, none)
 

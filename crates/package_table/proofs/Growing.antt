@@ -86,7 +86,7 @@ grows_with_new t p absent = record {
 pub differs_new : (t : Table) (p : Name) → finite.get t p ≡ None → with_new_package t p ≢ t
 differs_new t p absent = λ (same : with_new_package t p ≡ t). false≢true (ap is_some (sym absent) ∙ ap (λ (u : Table). is_some (finite.get u p)) (sym same) ∙ ap is_some (get_inserted t p empty_package))
 
-again : {V : Type 0} (m : finite.FinMap name_cmp V) (k : Name) (v : V) → finite.get m k ≡ Some v → finite.insert m k v ≡ m
+pub again : {V : Type 0} (m : finite.FinMap name_cmp V) (k : Name) (v : V) → finite.get m k ≡ Some v → finite.insert m k v ≡ m
 again {V = V} = insert_same (λ (x : Name). x) (λ (v : V). v) name_cmp name_total name_exact
 
 pub entry_again : (t : Table) (p n : Name) (e : Present) → entry_at t p n ≡ Some e → with_entry t p n e ≡ t

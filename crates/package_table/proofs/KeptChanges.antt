@@ -3,11 +3,9 @@
 --     kept_make, kept_intern, kept_export, kept_import, kept_use      where it is not refused
 --     stays_after, stays_but, told_after, found_after      what an answer says
 --     exported_again      where a symbol is external already
---     exported_home, imported_there      where a symbol is that is exported or imported
 --     counted_new      the count after a new symbol
---     holds      a test whose contrary was not met
-use Rattle.std.proofs.Common.{◌≡◌, ◌≢◌, ◌==◌, ◌<◌, ◌≤◌, ◌+◌, ◌&&◌, ◌||◌, not, ℕ, Bool, true, false, cond, List, [], ◌∷◌, length, Option, None, Some, Result, Ok, Err, IfErr, IfOk, is_some, is_none, inl, bytes_eq, nat_le, nat_lt, All, refl, sym, ap, subst, ◌∙◌, arith, leb-false, ltb-false}
-use Rattle.std.proofs.lemmas.Bool.{false≢true}
+use Rattle.std.proofs.Common.{◌≡◌, ◌≢◌, ◌==◌, ◌<◌, ◌≤◌, ◌+◌, ◌&&◌, ◌||◌, not, ℕ, Bool, true, false, cond, List, [], ◌∷◌, length, Option, None, Some, Result, Ok, Err, IfErr, IfOk, is_some, is_none, bytes_eq, nat_le, nat_lt, All, refl, sym, ap, subst, ◌∙◌, arith, leb-false, ltb-false}
+use Rattle.std.proofs.lemmas.Bool.{false≢true, not-false, or_parts}
 use Rattle.std.specs.Option.{option_map, option_map_or, option_and_then}
 use Rattle.std.specs.List.{list_any}
 use Rattle.std.specs.declared.cmp.Ordering.{Ordering}
@@ -24,7 +22,6 @@ use Rattle.package_table.specs.Changes.{after_make, after_intern, after_export, 
 use Rattle.package_table.proofs.Names.{tied_same, same_some, none_some}
 use Rattle.package_table.proofs.Frames.{equal_names, unequal_names}
 use Rattle.package_table.specs.Growth.{Grows, IsSameBut, Tells}
-use Rattle.package_table.proofs.Keeping.{present_at_home}
 use Rattle.package_table.proofs.Found.{found_finds, found_is, found_none, present_found, external_entry}
 use Rattle.package_table.proofs.Growing.{Kept, grows_same, grows_with_entry, grows_with_used, grows_with_new, differs_entry, differs_external, differs_used, differs_new, entry_again}
 use Rattle.package_table.proofs.Alone.{Interned, interned_found, interned_new}
@@ -38,14 +35,6 @@ ne_zero k test = grind (arith, test)
 passes : {A : Type 0} (b : Bool) (e : PackageError) (rest : Result A PackageError) (x : A) → cond b (Err e) rest ≡ Ok x → (b ≡ false) × (rest ≡ Ok x)
 passes true e rest x is = absurd (let other : Err e ≡ Ok x = is in cc)
 passes false e rest x is = (refl, is)
-
-neither : (a b : Bool) → (a || b) ≡ false → (a ≡ false) × (b ≡ false)
-neither true b e = absurd (false≢true (sym e))
-neither false b e = (refl, e)
-
-pub holds : (b : Bool) → not b ≡ false → b ≡ true
-holds true e = refl
-holds false e = absurd (false≢true (sym e))
 
 open_to_change : (p : Name) → is_locked p ≡ false → (p ≢ common_lisp) × (p ≢ keyword)
 open_to_change p e =
@@ -69,7 +58,7 @@ only_this : (t : Table) (p h n : Name) → IsSound t → finds_other t p h n ≡
 only_this t p h n sound alike g finds =
     let is : found t p n ≡ Some g = found_is t n sound.joined p g finds in
     let same : not (bytes_eq g h) ≡ false = sym (ap (λ o. option_map_or (λ g. not (bytes_eq g h)) o false) is) ∙ alike in
-    equal_names g h (holds (bytes_eq g h) same)
+    equal_names g h (not-false (bytes_eq g h) same)
 
 -- the symbol of home h is found
 this_found : (t : Table) (p h n : Name) → finds_this t p h n ≡ true → Finds t p n h
@@ -84,8 +73,8 @@ none_of : {K X : Type 0} (R : K → K → Ordering) (test : K × X → Bool) (q 
 none_of R test q x [] exact none there = absurd (none_some x there)
 none_of R test q x (e ∷ es) exact none there =
     elim (eq_by_cmp R q e.0) as (λ b. eq_by_cmp R q e.0 ≡ b → cond b (Some e.1) (find R q es) ≡ Some x → test (q, x) ≡ false) [
-      | true ↦ λ same here. (λ i. test (exact e.0 same i, sym (same_some e.1 x here) i)) ∙ (neither (test e) (list_any test es) none).0
-      | false ↦ λ _ later. none_of R test q x es exact (neither (test e) (list_any test es) none).1 later
+      | true ↦ λ same here. (λ i. test (exact e.0 same i, sym (same_some e.1 x here) i)) ∙ (or_parts (test e) (list_any test es) none).0
+      | false ↦ λ _ later. none_of R test q x es exact (or_parts (test e) (list_any test es) none).1 later
     ] refl there
 
 pub none_in : {X : Type 0} (test : Name × X → Bool) (m : finite.FinMap name_cmp X) (q : Name) (x : X) → list_any test (finite.entries m) ≡ false → finite.get m q ≡ Some x → test (q, x) ≡ false
@@ -150,27 +139,12 @@ kept_make t n u sound ascii is =
     let within = passes (nat_le most_packages (finite.len t) || nat_lt longest_package_name (length n)) Limit _ u fresh.1 in
     let made : with_new_package t n ≡ u = same_ok (with_new_package t n) u within.1 in
     let name = fresh_name t n sound fresh.0 in
-    let limits = neither (nat_le most_packages (finite.len t)) (nat_lt longest_package_name (length n)) within.0 in
+    let limits = or_parts (nat_le most_packages (finite.len t)) (nat_lt longest_package_name (length n)) within.0 in
     let few : finite.len t < most_packages = leb-false most_packages (finite.len t) limits.0 in
     let short : length n ≤ longest_package_name = ltb-false longest_package_name (length n) limits.1 in
-    let good : IsPackageName n = record { some = not_empty (length n) some.0; short = short; full = name.0; ascii = ascii } in
+    let good : IsPackageName n = record { some = ne_zero (length n) some.0; short = short; full = name.0; ascii = ascii } in
     subst (λ (u : Table). Kept t u true × (symbol_count u ≡ symbol_count t)) made
     (record { sound = sound_made t n sound name.1 good few; grows = grows_with_new t n name.1; told = differs_new t n name.1 }, symbols_with_new t n name.1)
-  where
-    not_empty : (k : ℕ) → (k == 0) ≡ false → 0 < k
-    not_empty k zero_not = ne_zero k zero_not
-
--- a package that can be made is none yet
-pub make_fresh : (t : Table) (n : Name) (u : Table) → IsSound t → after_make t n ≡ Ok u → finite.get t n ≡ None
-make_fresh t n u sound is =
-    let some = passes (length n == 0) EmptyName _ u is in
-    let fresh = passes (is_some (package_named t n)) PackageExists _ u some.1 in
-    (fresh_name t n sound fresh.0).1
-
--- a package of which the call says that its use is new is not used yet
-pub use_fresh : (t : Table) (p q : Name) → use_changes t p q ≡ true → is_used t p q ≡ false
-use_fresh t p q changes =
-    (neither (bytes_eq p q) (is_used t p q) (elim (bytes_eq p q || is_used t p q) as (λ b. not b ≡ true → b ≡ false) [ true ↦ λ e. absurd (false≢true e) | false ↦ λ _. refl ] changes)).1
 
 pub counted_new : (t : Table) (p n : Name) → finite.contains_key t p ≡ true → found t p n ≡ None → symbol_count (with_entry t p n (record { home = p; external = bytes_eq p keyword })) ≡ symbol_count t + 1
 counted_new t p n there none = symbols_new t p n (record { home = p; external = bytes_eq p keyword }) there (no_entry t p n (found_none t n p none)) refl
@@ -196,7 +170,7 @@ exported_again t p h n shown is =
     let there = passes (not (finite.contains_key t p)) NoSuchPackage _ (with_external t p h n) is in
     let open_to = passes (is_locked p) PackageIsLocked _ (with_external t p h n) there.1 in
     let this = passes (not (finds_this t p h n)) NotAccessible _ (with_external t p h n) open_to.1 in
-    is ∙ ap Ok (again_external t p h n (holds _ this.0) shown)
+    is ∙ ap Ok (again_external t p h n (not-false _ this.0) shown)
 
 module _ (t : Table) (p n : Name) (sound : IsSound t) where
   pub kept_intern : (h : Name) (u : Table) → All (λ b. b < 128) n → after_intern t p n ≡ Ok (h, u) → Interned t u p n h (intern_changes t p n)
@@ -209,9 +183,9 @@ module _ (t : Table) (p n : Name) (sound : IsSound t) where
         | None ↦ λ none new.
             let open_to = passes (bytes_eq p common_lisp) PackageIsLocked _ (h, u) new in
             let within = passes (nat_lt longest_symbol_name (length n) || nat_le most_symbols (symbol_count t)) Limit _ (h, u) open_to.1 in
-            let limits = neither (nat_lt longest_symbol_name (length n)) (nat_le most_symbols (symbol_count t)) within.0 in
+            let limits = or_parts (nat_lt longest_symbol_name (length n)) (nat_le most_symbols (symbol_count t)) within.0 in
             let made = same_ok (p, with_entry t p n (record { home = p; external = bytes_eq p keyword })) (h, u) within.1 in
-            let is_package : IsPackage t p = holds _ there.0 in
+            let is_package : IsPackage t p = not-false _ there.0 in
             subst (λ (x : Name × Table). Interned t x.1 p n x.0 true) made
             (interned_new t p n sound is_package (found_none t n p none)
             (sound_interned t p n sound is_package (unequal_names p common_lisp open_to.0) (found_none t n p none)
@@ -226,8 +200,8 @@ module _ (t : Table) (p n : Name) (sound : IsSound t) where
         let this = passes (not (finds_this t p h n)) NotAccessible _ u open_to.1 in
         let users = passes (user_finds_other t p h n) NameConflict _ u this.1 in
         let apart = open_to_change p open_to.0 in
-        let is_package : IsPackage t p = holds _ there.0 in
-        let finds : Finds t p n h = this_found t p h n (holds _ this.0) in
+        let is_package : IsPackage t p = not-false _ there.0 in
+        let finds : Finds t p n h = this_found t p h n (not-false _ this.0) in
         let agree = users_agree t p h n sound users.0 in
         let only : (g : Name) → Finds t p n g → g ≡ h = λ g found. sound.joined.one p n g h found finds in
         let e : Present = record { home = h; external = true } in
@@ -235,7 +209,7 @@ module _ (t : Table) (p n : Name) (sound : IsSound t) where
           record {
             sound = sound_exported t p n sound is_package apart.0 h apart.1 finds agree;
             grows = grows_with_entry t p n e is_package only (λ _. refl);
-            told = told_export t p h n is_package (holds _ this.0);
+            told = told_export t p h n is_package (not-false _ this.0);
           },
           count_exported t p n sound is_package apart.0 h apart.1 finds agree,
         )
@@ -246,7 +220,7 @@ module _ (t : Table) (p n : Name) (sound : IsSound t) where
         let open_to = passes (is_locked p) PackageIsLocked _ u there.1 in
         let alike = passes (finds_other t p h n) NameConflict _ u open_to.1 in
         let apart = open_to_change p open_to.0 in
-        let is_package : IsPackage t p = holds _ there.0 in
+        let is_package : IsPackage t p = not-false _ there.0 in
         let only = only_this t p h n sound alike.0 in
         let e : Present = record { home = h; external = false } in
         elim (entry_at t p n) as (λ o. entry_at t p n ≡ o → ◌≡◌ {A = Result Table PackageError} (Ok (cond (is_some o) t (with_entry t p n e))) (Ok u) → Kept t u (not (is_some o)) × (symbol_count u ≡ symbol_count t)) [
@@ -267,38 +241,25 @@ pub kept_use : (t : Table) (p q : Name) (sound : IsSound t) (u : Table) → afte
 kept_use t p q sound u is =
     let there = passes (not (finite.contains_key t p) || not (finite.contains_key t q)) NoSuchPackage _ u is in
     let open_to = passes (is_locked p || bytes_eq q keyword) PackageIsLocked _ u there.1 in
-    let packages = neither (not (finite.contains_key t p)) (not (finite.contains_key t q)) there.0 in
-    let locks = neither (is_locked p) (bytes_eq q keyword) open_to.0 in
+    let packages = or_parts (not (finite.contains_key t p)) (not (finite.contains_key t q)) there.0 in
+    let locks = or_parts (is_locked p) (bytes_eq q keyword) open_to.0 in
     let apart = open_to_change p locks.0 in
     elim (bytes_eq p q || is_used t p q) as (λ b. (bytes_eq p q || is_used t p q) ≡ b → cond b (Ok t) (cond (finds_other_than_shown t p q) (Err NameConflict) (Ok (with_used t p q))) ≡ Ok u → Kept t u (not b) × (symbol_count u ≡ symbol_count t)) [
       | true ↦ λ _ same. subst (λ (u : Table). Kept t u false × (symbol_count u ≡ symbol_count t)) (same_ok t u same) (record { sound = sound; grows = grows_same t; told = refl }, refl)
       | false ↦ λ other rest.
           let agree = passes (finds_other_than_shown t p q) NameConflict _ u rest in
-          let apart_from = neither (bytes_eq p q) (is_used t p q) other in
+          let apart_from = or_parts (bytes_eq p q) (is_used t p q) other in
           let differ : p ≢ q = unequal_names p q apart_from.0 in
-          let is_package : IsPackage t p = holds _ packages.0 in
+          let is_package : IsPackage t p = not-false _ packages.0 in
           subst (λ (u : Table). Kept t u true × (symbol_count u ≡ symbol_count t)) (same_ok (with_used t p q) u agree.1) (
             record {
-              sound = sound_used t p q sound is_package apart.0 apart.1 (holds _ packages.1) (unequal_names q keyword locks.1) (λ (e : q ≡ p). differ (sym e)) (shown_agree t p q sound agree.0);
+              sound = sound_used t p q sound is_package apart.0 apart.1 (not-false _ packages.1) (unequal_names q keyword locks.1) (λ (e : q ≡ p). differ (sym e)) (shown_agree t p q sound agree.0);
               grows = grows_with_used t p q is_package;
               told = differs_used t p q is_package apart_from.1;
             },
             symbols_with_used t p q is_package,
           )
     ] refl open_to.1
-
--- the symbol that EXPORT makes external is at home where it says, and p has no other by that name
-pub exported_home : (t : Table) (p h n : Name) (u : Table) → IsSound t → after_export t p h n ≡ Ok u → IsPackage t p × IsPresent t h n h × ((g : Name) → IsPresent t p n g → g ≡ h)
-exported_home t p h n u sound is =
-    let there = passes (not (finite.contains_key t p)) NoSuchPackage _ u is in
-    let open_to = passes (is_locked p) PackageIsLocked _ u there.1 in
-    let this = passes (not (finds_this t p h n)) NotAccessible _ u open_to.1 in
-    let finds : Finds t p n h = this_found t p h n (holds _ this.0) in
-    (holds _ there.0, present_at_home t p n h sound.joined finds, λ g found. sound.joined.one p n g h (inl found) finds)
-
--- IMPORT is refused where there is no package
-pub imported_there : (t : Table) (p h n : Name) (u : Table) → after_import t p h n ≡ Ok u → IsPackage t p
-imported_there t p h n u is = holds _ (passes (not (finite.contains_key t p)) NoSuchPackage _ u is).0
 
 -- What each call leaves, whether it is refused or not: sound packages with as many symbols, in which nothing is lost.
 pub record Stays (t u : Table) : Type 0 where

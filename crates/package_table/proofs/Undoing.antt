@@ -1,18 +1,8 @@
--- The journal: a note that is pushed, and marks that are pushed and popped.
+-- Lists that grow and shrink at their end, as journals do.
 --     at_last      the last of a list, and what a write to it leaves
---     tables_push      the tables at the marks, with one mark more
---     same_marks, room_last, noted      what a write to the newest mark leaves
---     popped      the newest mark taken away
---     mark_tables, length_marked      a new mark, and how many there are
---     past_marks, at_mark      the earlier marks, and the table that was marked
-use Rattle.std.proofs.Common.{◌≡◌, ◌++◌, ◌+◌, ◌-◌, ◌<◌, ℕ, suc, List, [], ◌∷◌, length, map, slice_index_or, slice_set, refl, sym, ap, ◌∙◌, arith, subst, add-one, Result, Ok, Err, OnOk, take, Some}
+--     no_more, take_seam, get_seam      the list with nothing, its first part, and what comes after that
+use Rattle.std.proofs.Common.{◌≡◌, ◌++◌, ◌+◌, ◌-◌, ◌<◌, ℕ, List, [], ◌∷◌, length, map, slice_index_or, slice_set, refl, sym, ap, ◌∙◌, arith, add-one, Result, Ok, Err, OnOk, take, Some}
 use Rattle.std.specs.List.{slice_get}
-use Rattle.std.proofs.lemmas.List.{length-map}
-use Rattle.std.specs.Vec.{vec_len, vec_capacity}
-use Rattle.package_table.specs.declared.journal.Mark.{Mark}
-use Rattle.package_table.specs.Numbers.{Numbered}
-use Rattle.package_table.specs.Undo.{Change, Marked, undone, all_undone, undone_since, tables_at}
-use Rattle.package_table.specs.Shown.{change_of, marked_of, marks_of, marked_tables, has_room}
 
 later : {A : Type 0} (y : A) (ys : List A) (i : ℕ) (d : A) → slice_index_or (y ∷ ys) (i + 1) d ≡ slice_index_or ys i d
 later y ys i d = rw (add-one i) refl
@@ -49,57 +39,6 @@ pub no_more : {A : Type 0} (xs : List A) → length xs ≡ 0 → xs ≡ []
 no_more [] e = refl
 no_more (x ∷ xs) e = absurd (omega arith)
 
-pub undone_push : (cs : List Change) (c : Change) (t : Numbered) → all_undone (cs ++ c ∷ []) t ≡ all_undone cs (undone c t)
-undone_push [] c t = refl
-undone_push (d ∷ cs) c t = ap (undone d) (undone_push cs c t)
-
-since_push : (ms : List Marked) (m : Marked) (t : Numbered) → undone_since (ms ++ m ∷ []) t ≡ undone_since ms (all_undone m.0 t)
-since_push [] m t = refl
-since_push (n ∷ ms) m t = ap (all_undone n.0) (since_push ms m t)
-
-pub tables_push : (ms : List Marked) (m : Marked) (t : Numbered) → tables_at (ms ++ m ∷ []) t ≡ tables_at ms (all_undone m.0 t) ++ (all_undone m.0 t, m.1) ∷ []
-tables_push [] m t = refl
-tables_push (n ∷ ms) m t = λ i. (all_undone n.0 (since_push ms m t i), n.1) ∷ tables_push ms m t i
-
-pub length-tables : (ms : List Marked) (t : Numbered) → length (tables_at ms t) ≡ length ms
-length-tables [] t = refl
-length-tables (m ∷ ms) t = ap (λ k. suc k) (length-tables ms t)
-
-room_at_end : (ms : List Mark) (m : Mark) → vec_len m.notes < vec_capacity m.notes → has_room (ms ++ m ∷ [])
-room_at_end [] m room = room
-room_at_end (n ∷ []) m room = room
-room_at_end (n ∷ o ∷ ms) m room = room_at_end (o ∷ ms) m room
-
-room_of_end : (ms : List Mark) (m : Mark) → has_room (ms ++ m ∷ []) → vec_len m.notes < vec_capacity m.notes
-room_of_end [] m room = room
-room_of_end (n ∷ []) m room = room
-room_of_end (n ∷ o ∷ ms) m room = room_of_end (o ∷ ms) m room
-
--- the newest mark, and what is written in its place
-module _ (ms : List Mark) (n : ℕ) (m w : Mark) (is_length : length ms ≡ n) (some : 0 < n) (newest : m ≡ slice_index_or ms (n - 1) m) where
-  last : IsLast ms (n - 1) m
-  last = subst (λ k. IsLast ms (k - 1) m) is_length (at_last ms m (subst (λ k. 0 < k) (sym is_length) some) (newest ∙ ap (λ k. slice_index_or ms (k - 1) m) (sym is_length)))
-
-  pub same_marks : marked_of w ≡ marked_of m → marks_of (slice_set ms (n - 1) w) ≡ marks_of ms
-  same_marks same =
-      ap marks_of (last.2 w) ∙ map-push marked_of last.0 w ∙ ap (λ x. marks_of last.0 ++ x ∷ []) same ∙ sym (ap marks_of last.1 ∙ map-push marked_of last.0 m)
-
-  pub room_last : vec_len w.notes < vec_capacity w.notes → has_room (slice_set ms (n - 1) w)
-  room_last room = subst has_room (sym (last.2 w)) (room_at_end last.0 w room)
-
-  pub had_room : has_room ms → vec_len m.notes < vec_capacity m.notes
-  had_room room = room_of_end last.0 m (subst has_room last.1 room)
-
-  pub noted : (c : Change) → marked_of w ≡ (map change_of m.notes.items ++ c ∷ [], m.count) → (u t : Numbered) → undone c u ≡ t
-      → tables_at (marks_of (slice_set ms (n - 1) w)) u ≡ tables_at (marks_of ms) t
-  noted c is u t undoes =
-      let cs = map change_of m.notes.items in
-      let back : all_undone (cs ++ c ∷ []) u ≡ all_undone cs t = undone_push cs c u ∙ ap (all_undone cs) undoes in
-      ap (λ xs. tables_at (marks_of xs) u) (last.2 w) ∙ ap (λ xs. tables_at xs u) (map-push marked_of last.0 w ∙ ap (λ x. marks_of last.0 ++ x ∷ []) is)
-      ∙ tables_push (marks_of last.0) (cs ++ c ∷ [], m.count) u
-      ∙ (λ i. tables_at (marks_of last.0) (back i) ++ (back i, m.count) ∷ [])
-      ∙ sym (ap (λ xs. tables_at (marks_of xs) t) last.1 ∙ ap (λ xs. tables_at xs t) (map-push marked_of last.0 m) ∙ tables_push (marks_of last.0) (cs, m.count) t)
-
 append_assoc : {A : Type 0} (xs ys zs : List A) → (xs ++ ys) ++ zs ≡ xs ++ (ys ++ zs)
 append_assoc [] ys zs = refl
 append_assoc (x ∷ xs) ys zs = ap (λ ls. x ∷ ls) (append_assoc xs ys zs)
@@ -115,31 +54,3 @@ take_seam (x ∷ xs) ys = ap (λ ls. x ∷ ls) (take_seam xs ys)
 pub get_seam : {A : Type 0} (xs : List A) (y : A) (ys : List A) → slice_get (xs ++ y ∷ ys) (length xs) ≡ Some y
 get_seam [] y ys = refl
 get_seam (x ∷ xs) y ys = get_seam xs y ys
-
--- the newest mark taken away, and its changes undone
-module _ (before : List Mark) (m : Mark) (t u : Numbered) (undoes : u ≡ all_undone (map change_of m.notes.items) t) (all rest : List (Numbered × ℕ)) where
-  pub popped : (ms : List Mark) → ms ≡ before ++ m ∷ [] → all ≡ marked_tables ms t ++ rest → all ≡ marked_tables before u ++ (u, m.count) ∷ rest
-  popped ms split is =
-      is ∙ ap (λ xs. xs ++ rest) (
-      ap (λ ms. marked_tables ms t) split ∙ ap (λ xs. tables_at xs t) (map-push marked_of before m) ∙ tables_push (marks_of before) (marked_of m) t
-      ∙ (λ i. tables_at (marks_of before) (sym undoes i) ++ (sym undoes i, m.count) ∷ [])
-      )
-      ∙ append_assoc (marked_tables before u) ((u, m.count) ∷ []) rest
-
-module _ (before : List Mark) (u : Numbered) (count : ℕ) (all rest : List (Numbered × ℕ)) (mark : ℕ) (is : all ≡ marked_tables before u ++ (u, count) ∷ rest) (here : length before ≡ mark) where
-  place : length (marked_tables before u) ≡ mark
-  place = length-tables (marks_of before) u ∙ length-map before marked_of ∙ here
-
-  pub past_marks : marked_tables before u ≡ take mark all
-  past_marks = sym (ap (λ k. take k all) (sym place) ∙ ap (take (length (marked_tables before u))) is ∙ take_seam (marked_tables before u) ((u, count) ∷ rest))
-
-  pub at_mark : slice_get all mark ≡ Some (u, count)
-  at_mark = ap (slice_get all) (sym place) ∙ ap (λ xs. slice_get xs (length (marked_tables before u))) is ∙ get_seam (marked_tables before u) (u, count) rest
-
--- a new mark
-pub mark_tables : (ms : List Mark) (m : Mark) (t : Numbered) → m.notes.items ≡ [] → marked_tables (ms ++ m ∷ []) t ≡ marked_tables ms t ++ (t, m.count) ∷ []
-mark_tables ms m t empty =
-    ap (λ xs. tables_at xs t) (map-push marked_of ms m ∙ ap (λ cs. marks_of ms ++ (map change_of cs, m.count) ∷ []) empty) ∙ tables_push (marks_of ms) ([], m.count) t
-
-pub length_marked : (ms : List Mark) (t : Numbered) → length (map (λ m. m.0) (marked_tables ms t)) ≡ length ms
-length_marked ms t = length-map (marked_tables ms t) (λ m. m.0) ∙ length-tables (marks_of ms) t ∙ length-map ms marked_of

@@ -102,7 +102,7 @@ import_changes t p n = not (is_present t p n)
 abbrev pub use_changes : Table → Name → Name → Bool
 use_changes t p q = not (bytes_eq p q || is_used t p q)
 
--- A call answers what the definition says. That a growth was refused it answers only where the definition refuses nothing.
+-- A call answers what the definition says. That a growth was refused it answers only if the definition refuses nothing.
 abbrev pub Gives : {A B : Type 0} → (A → B) → Result A PackageError → Result B PackageError → Type 0
 Gives view (Ok x) said = said ≡ Ok (view x)
 Gives view (Err OutOfMemory) said = IsOk said
@@ -112,7 +112,7 @@ Gives view (Err e) said = said ≡ Err e
 abbrev pub Yields : {B : Type 0} → Result B PackageError → B → Type 0
 Yields said v = IfOk said (λ x. x ≡ v)
 
--- Memory runs out only where the call would change the packages.
+-- Memory runs out only if the call would change the packages.
 abbrev pub RunsOutOnlyIf : Bool → PackageError → Type 0
 RunsOutOnlyIf changes OutOfMemory = IsTrue changes
 RunsOutOnlyIf changes e = Unit {0}

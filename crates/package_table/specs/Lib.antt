@@ -9,7 +9,7 @@ pub mod Readers
 pub mod Changes
 pub mod Reached
 pub mod Growth
-pub mod Undo
-pub mod Symbols
+pub mod Meaning
+pub mod Adds
 pub mod Kept
 pub mod Shown

@@ -1,4 +1,4 @@
--- The look-up of a name in a package, as a function. `Finds` of Table.antt says the same; where no package finds two
+-- The look-up of a name in a package, as a function. `Finds` of Table.antt says the same; if no package finds two
 -- symbols by one name, the two agree (proofs/Found.antt).
 use Rattle.std.specs.Prelude.{Bool, false, cond, is_some, bytes_eq, List, [], ◌∷◌, Option, Some, None}
 use Rattle.std.specs.Option.{option_map_or}

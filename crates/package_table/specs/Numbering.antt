@@ -1,7 +1,6 @@
 -- How symbols are numbered: one number for one symbol, for as long as there is the symbol.
-use Rattle.std.specs.Prelude.{◌≡◌, ◌<◌, ◌≤◌, ℕ, Some}
-use Rattle.std.specs.FinMap as finite
-use Rattle.package_table.specs.Table.{Name, name_cmp, IsPresent, IsSound, symbol_count}
+use Rattle.std.specs.Prelude.{◌≡◌, ◌<◌, ℕ, Some}
+use Rattle.package_table.specs.Table.{Name, IsPresent, IsSound, symbol_count}
 use Rattle.package_table.specs.Numbers.{Numbered, number_at}
 
 -- Each symbol has a number below the count, and two symbols have two.
@@ -16,16 +15,3 @@ IsNumberedSound s = IsSound s.0 × IsNumbered s (symbol_count s.0)
 -- Each symbol that was there keeps its number.
 abbrev pub Keeps : Numbered → Numbered → Type 0
 Keeps s u = (h n : Name) → IsPresent s.0 h n h → number_at u.1 h n ≡ number_at s.1 h n
-
--- The symbols of a table that are numbered below one count are so below another, and those that were there keep their numbers.
-abbrev pub KeepsNumbers : Numbered → ℕ → Numbered → ℕ → Type 0
-KeepsNumbers s count u later = IsNumbered s count → IsNumbered u later × Keeps s u
-
--- The same where no symbol is made: as many are counted before and after.
-abbrev pub KeepsEachNumber : Numbered → Numbered → Type 0
-KeepsEachNumber s u = (count : ℕ) → KeepsNumbers s count u count
-
--- The numbers of a package are from the first up to the next, and no two of its names have one.
-pub record IsRun (m : finite.FinMap name_cmp ℕ) (first next : ℕ) : Type 0 where
-  pub within : (n : Name) (i : ℕ) → finite.get m n ≡ Some i → (first ≤ i) × (i < next)
-  pub apart : (n k : Name) (i : ℕ) → finite.get m n ≡ Some i → finite.get m k ≡ Some i → n ≡ k

@@ -1,22 +1,16 @@
 -- The numbers of symbols. They are beside the table and no part of it: packages with the same symbols are equal, whatever
 -- their numbers.
-use Rattle.std.specs.Prelude.{◌≡◌, ℕ, ◌++◌, List, [], ◌∷◌, Option, None, option_and_then, if◌then◌else◌, refl}
+use Rattle.std.specs.Prelude.{ℕ, ◌++◌, List, [], ◌∷◌, Option, None, option_and_then, if◌then◌else◌, refl}
 use Rattle.std.specs.Option.{option_map_or}
+use Rattle.std.specs.Borrow.{Bor}
 use Rattle.std.specs.Coded.{Coded, code_by, coded×, coded_list, coded_ℕ}
 use Rattle.std.specs.FinMap as finite
-use Rattle.package_table.specs.Table.{Name, name_cmp, name_code, Present, Package, Table, package_code, table_code, with_entry, with_used, with_new_package}
+use Rattle.package_table.specs.Table.{Name, name_cmp, name_code, Present, Table, table_code, with_entry, with_used, with_new_package}
 use Rattle.package_table.specs.Lookup.{is_symbol}
 
 -- for each package, the number of the symbol that is present by each name
 abbrev pub Numbers : Type 0
 Numbers = finite.FinMap name_cmp (finite.FinMap name_cmp ℕ)
-
--- a package, and the numbers of its symbols
-abbrev pub Held : Type 0
-Held = Package × finite.FinMap name_cmp ℕ
-
-abbrev pub held_code : Coded Held
-held_code = coded× package_code (finite.code name_code coded_ℕ)
 
 -- a table, and the numbers of its symbols
 abbrev pub Numbered : Type 0
@@ -62,15 +56,7 @@ without_marks ts = (ts.0, record ts.1 { marked = [] })
 abbrev pub number_at : Numbers → Name → Name → Option ℕ
 number_at ns p n = option_and_then (λ m. finite.get m n) (finite.get ns p)
 
--- there are numbers for the package p exactly if there is the package
-abbrev pub HasNumbers : Numbered → Name → Type 0
-HasNumbers s p = finite.contains_key s.1 p ≡ finite.contains_key s.0 p
-
--- each symbol that is present in the package has a number, and nothing else has one
-abbrev pub HasEachNumber : Held → Type 0
-HasEachNumber k = (n : Name) → finite.contains_key k.1 n ≡ finite.contains_key k.0.symbols n
-
--- the numbers after a change of those of the package p, where there is one
+-- the numbers after a change of those of the package p, if there is one
 abbrev pub with_numbers : Numbers → Name → (finite.FinMap name_cmp ℕ → finite.FinMap name_cmp ℕ) → Numbers
 with_numbers ns p change = option_map_or (λ m. finite.insert ns p (change m)) (finite.get ns p) ns
 
@@ -86,10 +72,10 @@ with_use s p q = (with_used s.0 p q, s.1)
 abbrev pub with_package_made : Numbered → Name → Numbered
 with_package_made s p = (with_new_package s.0 p, finite.insert s.1 p finite.empty)
 
--- the number of the symbol of this home and name, where there is one
+-- the number of the symbol of this home and name, if there is one
 abbrev pub number_of : Numbered → Name → Name → Option ℕ
 number_of s h n = if is_symbol s.0 h n then number_at s.1 h n else None
 
--- its number, and 0 where there is no such symbol
-abbrev pub number_or_none : Numbered → Name → Name → ℕ
-number_or_none s h n = option_map_or (λ i. i) (number_of s h n) 0
+-- the home and the name of a symbol that is given by borrow
+abbrev pub names_of_symbol : Bor Name × Bor Name → Name × Name
+names_of_symbol s = (s.0.now, s.1.now)

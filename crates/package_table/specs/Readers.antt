@@ -5,7 +5,7 @@ use Rattle.std.specs.Borrow.{Bor}
 use Rattle.std.specs.FinMap as finite
 use Rattle.package_table.specs.declared.error.PackageError.{PackageError}
 use Rattle.package_table.specs.declared.error.PackageError.TheVariants.{NoSuchPackage, OutOfMemory}
-use Rattle.package_table.specs.Table.{Name, Present, Table, IsPackage}
+use Rattle.package_table.specs.Table.{Name, Present, Table, IsPackage, entry_at}
 
 -- names as the packages have them
 abbrev pub names_of : List (Bor Name) → List Name
@@ -44,6 +44,10 @@ external_names t p = external_among (present t p)
 
 abbrev pub imports : Table → Name → List (Name × Name)
 imports t p = imported_among p (present t p)
+
+-- the home of the symbol that is present in p by the name n
+abbrev pub home_at : Table → Name → Name → Name
+home_at t p n = option_map_or (λ e. e.home) (entry_at t p n) []
 
 -- why a list of p is not given
 abbrev pub ListRefused : Table → Name → PackageError → Type 0

@@ -105,7 +105,7 @@ own_count p k = length (filter (λ s. bytes_eq s.1.home p) (finite.entries k.sym
 abbrev pub symbol_count : Table → ℕ
 symbol_count t = sum_by (λ r. own_count r.0 r.1) (finite.entries t)
 
--- the table after a change of the package p, where there is one
+-- the table after a change of the package p, if there is one
 abbrev pub with_package : Table → Name → (Package → Package) → Table
 with_package t p change = option_map_or (λ k. finite.insert t p (change k)) (finite.get t p) t
 

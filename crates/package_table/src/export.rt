@@ -4,76 +4,78 @@ ghost use Rattle.package_table.specs.Table.{IsSound};
 ghost use Rattle.package_table.specs.Changes.{after_export, export_changes, with_external, Gives, RunsOutOnlyIf, TellsChange, Yields};
 ghost use Rattle.package_table.specs.Growth.{Grows, Tells};
 ghost use Rattle.package_table.specs.Numbers.{numbered};
-ghost use Rattle.package_table.specs.Numbering.{Keeps, KeepsEachNumber};
-ghost use Rattle.package_table.specs.Shown.{SameMarks};
+ghost use Rattle.package_table.specs.Numbering.{Keeps};
+ghost use Rattle.package_table.specs.Meaning.{numbered_of};
+ghost use Rattle.package_table.specs.Adds.{AddsNoSymbol, IsPlaced};
 
+use crate::conflicts::{finds_this, user_finds_other};
 use crate::find::is_locked;
-use crate::journal::Mark;
-use crate::put::put_symbol;
-use crate::table::PackageTable;
+use crate::look_ups::{external_home, has_package};
+use crate::put::put_external;
 use crate::{PackageError, Packages};
-use std::alloc::Global;
+use package_sets::PackageSets;
 
-// The first reason to refuse that this symbol becomes external in `owner`, and else whether it is not external yet.
+// The first reason to refuse that this symbol becomes external in `owner`, and else
+// whether it is not external yet.
 fn export_refusal(
-    table: &PackageTable,
+    sets: &PackageSets,
     owner: &[u8],
     home: &[u8],
     name: &[u8],
 ) -> Result<bool, PackageError>
-    requires { IsSound table.now.0 }
-    ensures gives { let t = table.now.0 in
+    requires { IsSound (numbered_of sets.now).0 }
+    ensures gives { let t = (numbered_of sets.now).0 in
         Gives (λ _. with_external t owner.now home.now name.now) result
         (after_export t owner.now home.now name.now) }
-    ensures changes { TellsChange (export_changes table.now.0 owner.now name.now) result }
+    ensures changes { TellsChange
+        (export_changes (numbered_of sets.now).0 owner.now name.now) result }
 {
-    if !table.has_package(owner) {
+    if !has_package(sets, owner) {
         return Err(PackageError::NoSuchPackage);
     }
     if is_locked(owner) {
         return Err(PackageError::PackageIsLocked);
     }
-    if !table.finds_this(owner, home, name) {
+    if !finds_this(sets, owner, home, name) {
         return Err(PackageError::NotAccessible);
     }
-    if table.user_finds_other(owner, home, name) {
+    if user_finds_other(sets, owner, home, name) {
         return Err(PackageError::NameConflict);
     }
-    Ok(table.external_home(owner, name).is_none())
+    Ok(external_home(sets, owner, name).is_none())
 }
 
 fn export_symbol(
-    alloc: Global,
-    table: &mut PackageTable,
-    marks: &mut Vec<Mark>,
+    sets: &mut PackageSets,
     owner: &[u8],
     home: &[u8],
     name: &[u8],
 ) -> Result<bool, PackageError>
-    requires { IsSound table.old.0 }
-    ensures gives { Gives (λ _. table.new.0) result
-        (after_export table.old.0 owner.now home.now name.now) }
-    ensures changed { TellsChange (export_changes table.old.0 owner.now name.now) result }
-    ensures unchanged { IfErr result (λ _. table.new ≡ table.old) }
-    ensures numbers { IfOk result (λ _. KeepsEachNumber table.old table.new) }
-    ensures marked { SameMarks marks.old.items table.old marks.new.items table.new }
+    requires sound { IsSound (numbered_of sets.old).0 }
+    requires placed { IsPlaced sets.old }
+    ensures gives { Gives (λ _. (numbered_of sets.new).0) result
+        (after_export (numbered_of sets.old).0 owner.now home.now name.now) }
+    ensures changed { TellsChange
+        (export_changes (numbered_of sets.old).0 owner.now name.now) result }
+    ensures unchanged { IfErr result (λ _. sets.new ≡ sets.old) }
+    ensures adds { IfOk result (λ _. AddsNoSymbol sets.old sets.new) }
 {
-    if !export_refusal(table, owner, home, name)? {
+    sets.goodness();
+    if !export_refusal(sets, owner, home, name)? {
         return Ok(false);
     }
-    let number = table.number_or_none(home, name);
-    put_symbol(alloc, table, marks, owner, home, name, true, number)?;
+    put_external(sets, owner, home, name)?;
     Ok(true)
 }
 
 impl Packages {
-    /// Makes the symbol of this home and name external in `owner` (standard 11.2, `export`). One that `owner` inherits is
-    /// imported first. Gives whether the packages changed: not where it was external there.
+    /// Makes the symbol of this home and name external in `owner` (standard 11.2, `export`). One that `owner` inherits
+    /// is imported first. Gives whether the packages changed: not if it was external there.
     ///
     /// # Errors
-    /// `NoSuchPackage` where no package has the name `owner`; `PackageIsLocked` for COMMON-LISP and KEYWORD;
-    /// `NotAccessible` where `owner` does not find this symbol by its name; `NameConflict` where a package that uses
-    /// `owner` finds another symbol by that name; `OutOfMemory` where memory runs out. Nothing is changed then.
+    /// `NoSuchPackage` if no package has the name `owner`; `PackageIsLocked` for COMMON-LISP and KEYWORD;
+    /// `NotAccessible` if `owner` does not find this symbol by its name; `NameConflict` if a package that uses
+    /// `owner` finds another symbol by that name; `OutOfMemory` if memory runs out. Nothing is changed then.
     pub fn export(&mut self, owner: &[u8], home: &[u8], name: &[u8]) -> Result<bool, PackageError>
         ensures gives { Gives (λ _. self.new.0) result
             (after_export self.old.0 owner.now home.now name.now) }
@@ -86,13 +88,6 @@ impl Packages {
         ensures numbers { Keeps (numbered self.old) (numbered self.new) }
         ensures marked { self.new.1.marked ≡ self.old.1.marked }
     {
-        export_symbol(
-            self.alloc,
-            &mut self.table,
-            &mut self.marks,
-            owner,
-            home,
-            name,
-        )
+        export_symbol(&mut self.sets, owner, home, name)
     }
 }

@@ -1,9 +1,11 @@
 //! Names of packages.
 ghost use Rattle.std.specs.Prelude.{◌≡◌, option_map};
 ghost use Rattle.package_table.specs.Table.{full_name, is_locked, package_named};
+ghost use Rattle.package_table.specs.Meaning.{numbered_of};
 
+use crate::look_ups::stored_name;
 use crate::standardized::{CL, CL_USER, COMMON_LISP, COMMON_LISP_USER, KEYWORD};
-use crate::table::PackageTable;
+use package_sets::PackageSets;
 
 /// The name that a name or a nickname stands for.
 pub(crate) fn full_name(name: &[u8]) -> &[u8]
@@ -19,10 +21,10 @@ pub(crate) fn full_name(name: &[u8]) -> &[u8]
 }
 
 /// The name of the package that a name or a nickname stands for.
-pub(crate) fn package_name<'a>(table: &'a PackageTable, name: &[u8]) -> Option<&'a [u8]>
-    ensures { option_map (λ p. p.now) result ≡ package_named table.now.0 name.now }
+pub(crate) fn package_name<'a>(sets: &'a PackageSets, name: &[u8]) -> Option<&'a [u8]>
+    ensures { option_map (λ p. p.now) result ≡ package_named (numbered_of sets.now).0 name.now }
 {
-    table.stored_name(full_name(name))
+    stored_name(sets, full_name(name))
 }
 
 /// Whether `owner` is COMMON-LISP or KEYWORD.

@@ -4,10 +4,10 @@ ghost use Rattle.package_table.specs.Table.{Name, Table, Finds, FindsNone, IsExt
 ghost use Rattle.package_table.specs.Changes.{finds_other_than_shown, user_finds_other};
 ghost use Rattle.package_table.specs.Lookup.{external_home, found};
 
-/// The look-ups that definitions compute with say what the standard says (11.1.1.2), in any sound packages: what a package
-/// finds by a name, that it finds nothing, that a symbol which is found is present in its home, which names are external,
-/// that a package's own name stands for it, that a package which uses another finds another symbol by a name, and that a
-/// package finds another symbol than one which is external in the other. For proofs: it does nothing.
+/// The look-ups that definitions compute with say what the standard says (11.1.1.2), in any sound packages: what a
+/// package finds by a name, that it finds nothing, that a symbol which is found is present in its home, which names
+/// are external, that a package's own name stands for it, that a package which uses another finds another symbol by a
+/// name, and that a package finds another symbol than one which is external in the other. For proofs: it does nothing.
 pub fn look_up_laws()
     ensures finds { (t : Table) → IsSound t → (p n h : Name)
         → (found t p n ≡ Some h) ↔ Finds t p n h }
@@ -24,5 +24,6 @@ pub fn look_up_laws()
         ↔ ((q : Name) × (g : Name) × Uses t q p × Finds t q n g × (g ≢ h)) }
     ensures shown { (t : Table) → IsSound t → (p q : Name)
         → IsTrue (finds_other_than_shown t p q)
-        ↔ ((n : Name) × (g : Name) × (h : Name) × Finds t p n g × IsExternal t q n × IsPresent t q n h × (g ≢ h)) }
+        ↔ ((n : Name) × (g : Name) × (h : Name)
+        × Finds t p n g × IsExternal t q n × IsPresent t q n h × (g ≢ h)) }
 {}

@@ -11,3 +11,6 @@ pub const MAX_PACKAGE_NAME: usize = 256;
 
 /// The greatest length of a symbol's name, in bytes.
 pub const MAX_SYMBOL_NAME: usize = 4_096;
+
+// COMMON-LISP and KEYWORD have the numbers below this one.
+pub(crate) const LOCKED_PACKAGES: u32 = 2;

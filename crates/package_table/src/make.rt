@@ -4,50 +4,43 @@ ghost use Rattle.package_table.specs.Table.{IsSound, with_new_package};
 ghost use Rattle.package_table.specs.Changes.{after_make, Gives};
 ghost use Rattle.package_table.specs.Growth.{Grows};
 ghost use Rattle.package_table.specs.Numbers.{numbered};
-ghost use Rattle.package_table.specs.Numbering.{Keeps, KeepsEachNumber};
-ghost use Rattle.package_table.specs.Shown.{SameMarks};
+ghost use Rattle.package_table.specs.Numbering.{Keeps};
+ghost use Rattle.package_table.specs.Meaning.{numbered_of};
+ghost use Rattle.package_table.specs.Adds.{AddsNoSymbol, IsPlaced};
 
 use crate::find::package_name;
-use crate::journal::Mark;
-use crate::limits::{MAX_PACKAGE_NAME, MAX_PACKAGES};
+use crate::limits::MAX_PACKAGE_NAME;
+use crate::look_ups::is_full_of_packages;
 use crate::put::put_package;
-use crate::table::PackageTable;
 use crate::{PackageError, Packages};
-use std::alloc::Global;
+use package_sets::PackageSets;
 
 // The first reason to refuse a new package of this name.
-fn make_refusal(table: &PackageTable, name: &[u8]) -> Result<(), PackageError>
-    ensures { let t = table.now.0 in
+fn make_refusal(sets: &PackageSets, name: &[u8]) -> Result<(), PackageError>
+    ensures { let t = (numbered_of sets.now).0 in
         Gives (λ _. with_new_package t name.now) result (after_make t name.now) }
 {
     if name.is_empty() {
         return Err(PackageError::EmptyName);
     }
-    if package_name(table, name).is_some() {
+    if package_name(sets, name).is_some() {
         return Err(PackageError::PackageExists);
     }
-    if table.package_count() >= MAX_PACKAGES || name.len() > MAX_PACKAGE_NAME {
+    if is_full_of_packages(sets) || name.len() > MAX_PACKAGE_NAME {
         return Err(PackageError::Limit);
     }
     Ok(())
 }
 
-fn make_package(
-    alloc: Global,
-    table: &mut PackageTable,
-    marks: &mut Vec<Mark>,
-    name: &[u8],
-) -> Result<(), PackageError>
-    requires { IsSound table.old.0 }
-    ensures gives { Gives (λ _. table.new.0) result
-        (after_make table.old.0 name.now) }
-    ensures unchanged { IfErr result (λ _. table.new ≡ table.old) }
-    ensures numbers { IfOk result (λ _. KeepsEachNumber table.old table.new) }
-    ensures marked { SameMarks marks.old.items table.old marks.new.items table.new }
+fn make_package(sets: &mut PackageSets, name: &[u8]) -> Result<(), PackageError>
+    requires { IsSound (numbered_of sets.old).0 }
+    ensures gives { Gives (λ _. (numbered_of sets.new).0) result
+        (after_make (numbered_of sets.old).0 name.now) }
+    ensures unchanged { IfErr result (λ _. sets.new ≡ sets.old) }
+    ensures adds { IfOk result (λ _. AddsNoSymbol sets.old sets.new) }
 {
-    make_refusal(table, name)?;
-    let name = Vec::from_slice(alloc, name)?;
-    put_package(alloc, table, marks, name)?;
+    make_refusal(sets, name)?;
+    put_package(sets, name)?;
     Ok(())
 }
 
@@ -55,9 +48,9 @@ impl Packages {
     /// Adds a package of this name, which has no symbols and uses nothing (standard 11.2, `make-package`).
     ///
     /// # Errors
-    /// `EmptyName` for the empty name; `PackageExists` where a package has `name` as its name or nickname; `Limit` where
-    /// there are 1,000 packages or the name is longer than 256 bytes; `OutOfMemory` where memory runs out. Nothing is
-    /// changed then.
+    /// `EmptyName` for the empty name; `PackageExists` if a package has `name` as its name or nickname; `Limit`
+    /// if there are 1,000 packages or the name is longer than 256 bytes; `OutOfMemory` if memory runs out.
+    /// Nothing is changed then.
     pub fn make(&mut self, name: &[u8]) -> Result<(), PackageError>
         requires { All (λ b. b < 128) name.now }
         ensures gives { Gives (λ _. self.new.0) result (after_make self.old.0 name.now) }
@@ -66,6 +59,6 @@ impl Packages {
         ensures numbers { Keeps (numbered self.old) (numbered self.new) }
         ensures marked { self.new.1.marked ≡ self.old.1.marked }
     {
-        make_package(self.alloc, &mut self.table, &mut self.marks, name)
+        make_package(&mut self.sets, name)
     }
 }

@@ -4,27 +4,23 @@ ghost use Rattle.std.specs.List.{slice_get};
 ghost use Rattle.package_table.specs.Numbers.{numbered, with_mark, without_marks};
 
 use crate::Packages;
-use crate::journal::Mark;
-use crate::undo::undo_to;
 use std::alloc::AllocError;
 
 impl Packages {
-    /// Marks the packages as they are, so that `back_to` can go back to them, and gives the number of the mark. From then on
-    /// each call that writes notes what it changes.
+    /// Marks the packages as they are, so that `back_to` can go back to them, and gives the number of the mark. What
+    /// is kept only grows, so that a mark is how much there is of it.
     ///
     /// # Errors
-    /// `AllocError` where memory runs out. Nothing is changed then.
+    /// `AllocError` if memory runs out. Nothing is changed then.
     pub fn mark(&mut self) -> Result<usize, AllocError>
         ensures ok { IfOk result
             (λ mark. (mark ≡ length self.old.1.marked) × (self.new ≡ with_mark self.old)) }
         ensures err { IfErr result (λ _. self.new ≡ self.old) }
     {
         let mark = self.marks.len();
+        self.sets.goodness();
         self.marks.reserve(1)?;
-        self.marks.push_reserved(Mark {
-            notes: Vec::new(self.alloc),
-            count: self.count,
-        });
+        self.marks.push_reserved(self.sets.sizes());
         Ok(mark)
     }
 
@@ -35,14 +31,16 @@ impl Packages {
         self.marks.len()
     }
 
-    /// Goes back to the packages as they were at this mark, each symbol with the number that it had, and takes this mark and
-    /// all later ones away. Takes no memory.
+    /// Goes back to the packages as they were at this mark, each symbol with the number that it had, and takes this
+    /// mark and all later ones away. Takes no memory.
     pub fn back_to(&mut self, mark: usize)
         requires { mark < length self.old.1.marked }
         ensures past { self.new.1.marked ≡ take mark self.old.1.marked }
         ensures now { slice_get self.old.1.marked mark ≡ Some (numbered self.new) }
     {
-        self.count = undo_to(&mut self.table, &mut self.marks, mark);
+        let sizes = self.marks[mark];
+        self.marks.truncate(mark);
+        self.sets.cut(sizes);
     }
 
     /// Takes all marks away: the packages stay as they are. Takes no memory.

@@ -7,23 +7,32 @@ ghost use Rattle.package_table.specs.Resolving.{resolution, external_resolution,
 ghost use Rattle.package_table.specs.Readers.{names_of, package_names, used_names, own_names, external_names, imports, ListRefused};
 
 use crate::find::{is_locked, package_name};
-use crate::journal::Mark;
+use crate::initial::first_packages;
 use crate::resolve::{resolve_external, resolve_in, resolve_internal};
-use crate::table::PackageTable;
-use crate::{PackageError, Resolved};
+use crate::{PackageError, Resolved, lists};
 use lisp_object::{Bytes, Items};
+use package_sets::{PackageSets, Seed, Sizes};
 use std::alloc::{AllocError, Global};
 use std::marker::Model;
 
-/// Packages (standard 11.1). Contracts see them as a `Table`, and beside it the numbers of its symbols and the tables that
-/// were marked.
-#[derive(Drop)]
+/// Packages (standard 11.1). Contracts see them as a `Table`, and beside it the numbers of its symbols and the tables
+/// that were marked.
 pub struct Packages {
     pub(crate) alloc: Global,
-    pub(crate) table: PackageTable,
-    // The number of symbols, each counted in its home.
-    pub(crate) count: u64,
-    pub(crate) marks: Vec<Mark>,
+    pub(crate) sets: PackageSets,
+    // How much was kept at each mark.
+    pub(crate) marks: Vec<Sizes>,
+}
+
+// A call, so that a crate above does not see what is kept at each exit of a function that owns packages.
+impl Drop for Packages {
+    fn drop(self) {
+        let Packages {
+            alloc: _,
+            sets: _,
+            marks: _,
+        } = self;
+    }
 }
 
 impl Model for Packages {
@@ -41,27 +50,36 @@ impl Model for Packages {
 }
 
 impl Packages {
-    /// The first packages: COMMON-LISP, COMMON-LISP-USER, which uses it, and KEYWORD. They keep `alloc` for later changes.
+    /// The first packages: COMMON-LISP, COMMON-LISP-USER, which uses it, and KEYWORD. They keep `alloc` for later
+    /// changes.
     pub fn new(alloc: Global) -> Result<Packages, AllocError>
         ensures table { IfOk result (λ packages. packages.0 ≡ initial) }
         ensures marked { IfOk result (λ packages. packages.1.marked ≡ []) }
     {
+        Packages::with_seed(alloc, Seed::fixed())
+    }
+
+    /// The same, with names hashed by this seed: who does not know it cannot choose names that fall together.
+    pub fn with_seed(alloc: Global, seed: Seed) -> Result<Packages, AllocError>
+        ensures table { IfOk result (λ packages. packages.0 ≡ initial) }
+        ensures marked { IfOk result (λ packages. packages.1.marked ≡ []) }
+    {
+        let sets = first_packages(alloc, seed)?;
+        sets.goodness();
         Ok(Packages {
             alloc,
-            table: PackageTable::initial(alloc)?,
-            count: 53,
+            sets,
             marks: Vec::new(alloc),
         })
     }
 
-    /// The same packages with the same numbers, on their own memory, and nothing marked.
+    /// The same packages with the same numbers and the same seed, on their own memory, and nothing marked.
     pub fn copy(&self, alloc: Global) -> Result<Packages, AllocError>
         ensures { IfOk result (λ packages. packages ≡ without_marks self.now) }
     {
         Ok(Packages {
             alloc,
-            table: self.table.copy(alloc)?,
-            count: self.count,
+            sets: self.sets.copy(alloc)?,
             marks: Vec::new(alloc),
         })
     }
@@ -70,101 +88,104 @@ impl Packages {
     pub fn soundness(&self)
         ensures { IsSound self.now.0 }
     {
-        let _ = &self.table;
+        self.sets.goodness();
     }
 
-    /// Each symbol has a number, which is below how many there are, and two symbols have two. For proofs: it does nothing.
+    /// Each symbol has a number, which is below how many there are, and two symbols have two. For proofs: it does
+    /// nothing.
     pub fn numbering(&self)
         ensures { IsNumbered (numbered self.now) (symbol_count self.now.0) }
     {
-        let _ = &self.table;
+        self.sets.goodness();
     }
 
     /// Both of the packages as they were at each mark. For proofs: it does nothing.
     pub fn marks_soundness(&self)
         ensures { All IsNumberedSound self.now.1.marked }
     {
-        let _ = &self.table;
+        self.sets.goodness();
     }
 
     /// The names of the packages, sorted by their bytes.
     pub fn names(&self, alloc: Global) -> Result<Items<Bytes>, AllocError>
         ensures { IfOk result (λ names. names ≡ package_names self.now.0) }
     {
-        self.table.names(alloc)
+        lists::names(&self.sets, alloc)
     }
 
     /// The same names in the same order, as the packages have them: no name is copied.
     pub fn package_names(&self, alloc: Global) -> Result<Vec<&[u8]>, AllocError>
         ensures { IfOk result (λ names. names_of names.items ≡ package_names self.now.0) }
     {
-        self.table.package_names(alloc)
+        lists::package_names(&self.sets, alloc)
     }
 
     /// The names of the packages that `owner` uses, sorted by their bytes.
     ///
     /// # Errors
-    /// `NoSuchPackage` where no package has the name `owner`; `OutOfMemory` where memory runs out.
+    /// `NoSuchPackage` if no package has the name `owner`; `OutOfMemory` if memory runs out.
     pub fn uses(&self, alloc: Global, owner: &[u8]) -> Result<Items<Bytes>, PackageError>
         ensures list { IfOk result (λ names. names ≡ used_names self.now.0 owner.now) }
         ensures there { IfOk result (λ _. IsPackage self.now.0 owner.now) }
         ensures refused { IfErr result (ListRefused self.now.0 owner.now) }
     {
-        self.table.uses(alloc, owner)
+        lists::uses(&self.sets, alloc, owner)
     }
 
     /// The names of the symbols at home in `owner`, sorted by their bytes.
     ///
     /// # Errors
-    /// `NoSuchPackage` where no package has the name `owner`; `OutOfMemory` where memory runs out.
+    /// `NoSuchPackage` if no package has the name `owner`; `OutOfMemory` if memory runs out.
     pub fn own(&self, alloc: Global, owner: &[u8]) -> Result<Items<Bytes>, PackageError>
         ensures list { IfOk result (λ names. names ≡ own_names self.now.0 owner.now) }
         ensures there { IfOk result (λ _. IsPackage self.now.0 owner.now) }
         ensures refused { IfErr result (ListRefused self.now.0 owner.now) }
     {
-        self.table.own(alloc, owner)
+        lists::own(&self.sets, alloc, owner)
     }
 
     /// The same names in the same order, as the packages have them: no name is copied.
     ///
     /// # Errors
-    /// `NoSuchPackage` where no package has the name `owner`; `OutOfMemory` where memory runs out.
+    /// `NoSuchPackage` if no package has the name `owner`; `OutOfMemory` if memory runs out.
     pub fn own_names(&self, alloc: Global, owner: &[u8]) -> Result<Vec<&[u8]>, PackageError>
-        ensures list { IfOk result (λ names. names_of names.items ≡ own_names self.now.0 owner.now) }
+        ensures list { IfOk result
+            (λ names. names_of names.items ≡ own_names self.now.0 owner.now) }
         ensures there { IfOk result (λ _. IsPackage self.now.0 owner.now) }
         ensures refused { IfErr result (ListRefused self.now.0 owner.now) }
     {
-        self.table.own_names(alloc, owner)
+        lists::own_names(&self.sets, alloc, owner)
     }
 
     /// The names that are external in `owner`, sorted by their bytes.
     ///
     /// # Errors
-    /// `NoSuchPackage` where no package has the name `owner`; `OutOfMemory` where memory runs out.
+    /// `NoSuchPackage` if no package has the name `owner`; `OutOfMemory` if memory runs out.
     pub fn externals(&self, alloc: Global, owner: &[u8]) -> Result<Items<Bytes>, PackageError>
         ensures list { IfOk result (λ names. names ≡ external_names self.now.0 owner.now) }
         ensures there { IfOk result (λ _. IsPackage self.now.0 owner.now) }
         ensures refused { IfErr result (ListRefused self.now.0 owner.now) }
     {
-        self.table.externals(alloc, owner)
+        lists::externals(&self.sets, alloc, owner)
     }
 
     /// The same names in the same order, as the packages have them: no name is copied.
     ///
     /// # Errors
-    /// `NoSuchPackage` where no package has the name `owner`; `OutOfMemory` where memory runs out.
+    /// `NoSuchPackage` if no package has the name `owner`; `OutOfMemory` if memory runs out.
     pub fn external_names(&self, alloc: Global, owner: &[u8]) -> Result<Vec<&[u8]>, PackageError>
-        ensures list { IfOk result (λ names. names_of names.items ≡ external_names self.now.0 owner.now) }
+        ensures list { IfOk result
+            (λ names. names_of names.items ≡ external_names self.now.0 owner.now) }
         ensures there { IfOk result (λ _. IsPackage self.now.0 owner.now) }
         ensures refused { IfErr result (ListRefused self.now.0 owner.now) }
     {
-        self.table.external_names(alloc, owner)
+        lists::external_names(&self.sets, alloc, owner)
     }
 
     /// The names that are present in `owner` with another home, each with the name of that home, sorted by their bytes.
     ///
     /// # Errors
-    /// `NoSuchPackage` where no package has the name `owner`; `OutOfMemory` where memory runs out.
+    /// `NoSuchPackage` if no package has the name `owner`; `OutOfMemory` if memory runs out.
     pub fn imports(
         &self,
         alloc: Global,
@@ -174,7 +195,7 @@ impl Packages {
         ensures there { IfOk result (λ _. IsPackage self.now.0 owner.now) }
         ensures refused { IfErr result (ListRefused self.now.0 owner.now) }
     {
-        self.table.imports(alloc, owner)
+        lists::imports(&self.sets, alloc, owner)
     }
 
     /// The name of the package that has `name` as its name or nickname: CL stands for COMMON-LISP, and CL-USER for
@@ -183,18 +204,19 @@ impl Packages {
         ensures named { option_map (λ p. p.now) result ≡ package_named self.now.0 name.now }
         ensures there { IfSome result (λ p. IsPackage self.now.0 p.now) }
     {
-        package_name(&self.table, name)
+        package_name(&self.sets, name)
     }
 
-    /// Whether the package of this name is locked: COMMON-LISP, to which no name is added, and KEYWORD. Takes no memory.
+    /// Whether the package of this name is locked: COMMON-LISP, to which no name is added, and KEYWORD. Takes no
+    /// memory.
     pub fn is_locked(&self, owner: &[u8]) -> bool
         ensures { result ≡ is_locked owner.now }
     {
         is_locked(owner)
     }
 
-    /// What `name` stands for in the package `current`, which exists (standard 2.3.5): the symbol that it finds, or a new
-    /// one. Takes no memory.
+    /// What `name` stands for in the package `current`, which exists (standard 2.3.5): the symbol that it finds, or a
+    /// new one. Takes no memory.
     ///
     /// # Errors
     /// `LockedPackage` for a new name in COMMON-LISP.
@@ -202,28 +224,29 @@ impl Packages {
         requires { IsPackage self.now.0 current.now }
         ensures { Answers resolution_of result (resolution self.now.0 current.now name.now) }
     {
-        resolve_in(&self.table, current, name)
+        resolve_in(&self.sets, current, name)
     }
 
     /// The home of the external symbol `name` of the package that `prefix` names, by name or nickname (standard 2.3.5).
     /// Takes no memory.
     ///
     /// # Errors
-    /// `NoPackage` where `prefix` names no package, then `NotExternal` where `name` is not external there.
+    /// `NoPackage` if `prefix` names no package, then `NotExternal` if `name` is not external there.
     pub fn resolve_external(&self, prefix: &[u8], name: &[u8]) -> Result<&[u8], PackageError>
         ensures { Answers (λ h. h.now) result (external_resolution self.now.0 prefix.now name.now) }
     {
-        resolve_external(&self.table, prefix, name)
+        resolve_external(&self.sets, prefix, name)
     }
 
-    /// What `name` stands for in the package that `prefix` names, by name or nickname (standard 2.3.5): the symbol that it
-    /// finds, or a new one. Takes no memory.
+    /// What `name` stands for in the package that `prefix` names, by name or nickname (standard 2.3.5): the symbol
+    /// that it finds, or a new one. Takes no memory.
     ///
     /// # Errors
-    /// `NoPackage` where `prefix` names no package, then `LockedPackage` for a new name in COMMON-LISP.
+    /// `NoPackage` if `prefix` names no package, then `LockedPackage` for a new name in COMMON-LISP.
     pub fn resolve_internal(&self, prefix: &[u8], name: &[u8]) -> Result<Resolved<'_>, PackageError>
-        ensures { Answers resolution_of result (internal_resolution self.now.0 prefix.now name.now) }
+        ensures { Answers resolution_of result
+            (internal_resolution self.now.0 prefix.now name.now) }
     {
-        resolve_internal(&self.table, prefix, name)
+        resolve_internal(&self.sets, prefix, name)
     }
 }

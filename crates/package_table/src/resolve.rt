@@ -1,12 +1,14 @@
 //! What the name in a token stands for (standard 2.3.5).
 ghost use Rattle.std.specs.Prelude.{◌≡◌};
-ghost use Rattle.package_table.specs.Table.{IsPackage};
+ghost use Rattle.package_table.specs.Table.{IsJoined, IsPackage};
+ghost use Rattle.package_table.specs.Meaning.{numbered_of};
 ghost use Rattle.package_table.specs.Resolving.{resolution, external_resolution, internal_resolution, resolution_of, Answers};
 
 use crate::PackageError;
 use crate::find::package_name;
+use crate::look_ups::{external_home, home_of, stored_name};
 use crate::standardized::COMMON_LISP;
-use crate::table::PackageTable;
+use package_sets::PackageSets;
 
 /// What a name stands for in a package.
 #[derive(Clone, Copy, Debug, PartialEq, Eq)]
@@ -19,20 +21,22 @@ pub enum Resolved<'a> {
 
 /// What the name stands for in the package `owner`, which exists.
 pub(crate) fn resolve_in<'a>(
-    table: &'a PackageTable,
+    sets: &'a PackageSets,
     owner: &[u8],
     name: &[u8],
 ) -> Result<Resolved<'a>, PackageError>
-    requires { IsPackage table.now.0 owner.now }
-    ensures { Answers resolution_of result (resolution table.now.0 owner.now name.now) }
+    requires package { IsPackage (numbered_of sets.now).0 owner.now }
+    requires joined { IsJoined (numbered_of sets.now).0 }
+    ensures { Answers resolution_of result
+        (resolution (numbered_of sets.now).0 owner.now name.now) }
 {
-    if let Some(home) = table.home_of(owner, name) {
+    if let Some(home) = home_of(sets, owner, name) {
         return Ok(Resolved::Found(home));
     }
     if owner == COMMON_LISP {
         return Err(PackageError::LockedPackage);
     }
-    match table.stored_name(owner) {
+    match stored_name(sets, owner) {
         Some(stored) => Ok(Resolved::New(stored)),
         None => unreachable!(),
     }
@@ -40,16 +44,17 @@ pub(crate) fn resolve_in<'a>(
 
 /// The home of the external symbol after one package marker.
 pub(crate) fn resolve_external<'a>(
-    table: &'a PackageTable,
+    sets: &'a PackageSets,
     prefix: &[u8],
     name: &[u8],
 ) -> Result<&'a [u8], PackageError>
-    ensures { Answers (λ h. h.now) result (external_resolution table.now.0 prefix.now name.now) }
+    ensures { Answers (λ h. h.now) result
+        (external_resolution (numbered_of sets.now).0 prefix.now name.now) }
 {
-    let Some(owner) = package_name(table, prefix) else {
+    let Some(owner) = package_name(sets, prefix) else {
         return Err(PackageError::NoPackage);
     };
-    match table.external_home(owner, name) {
+    match external_home(sets, owner, name) {
         Some(home) => Ok(home),
         None => Err(PackageError::NotExternal),
     }
@@ -57,14 +62,16 @@ pub(crate) fn resolve_external<'a>(
 
 /// What the name stands for after two package markers.
 pub(crate) fn resolve_internal<'a>(
-    table: &'a PackageTable,
+    sets: &'a PackageSets,
     prefix: &[u8],
     name: &[u8],
 ) -> Result<Resolved<'a>, PackageError>
-    ensures { Answers resolution_of result (internal_resolution table.now.0 prefix.now name.now) }
+    requires { IsJoined (numbered_of sets.now).0 }
+    ensures { Answers resolution_of result
+        (internal_resolution (numbered_of sets.now).0 prefix.now name.now) }
 {
-    match package_name(table, prefix) {
-        Some(owner) => resolve_in(table, owner, name),
+    match package_name(sets, prefix) {
+        Some(owner) => resolve_in(sets, owner, name),
         None => Err(PackageError::NoPackage),
     }
 }

@@ -1,71 +1,70 @@
 //! `use_package`: a package uses another.
 ghost use Rattle.std.specs.Prelude.{◌≡◌, if◌then◌else◌, IfErr, IfOk};
-ghost use Rattle.package_table.specs.Table.{with_used};
+ghost use Rattle.package_table.specs.Table.{with_used, IsSound};
 ghost use Rattle.package_table.specs.Changes.{after_use, use_changes, Gives, RunsOutOnlyIf, TellsChange, Yields};
 ghost use Rattle.package_table.specs.Growth.{Grows, Tells};
 ghost use Rattle.package_table.specs.Numbers.{numbered};
-ghost use Rattle.package_table.specs.Numbering.{Keeps, KeepsEachNumber};
-ghost use Rattle.package_table.specs.Shown.{SameMarks};
+ghost use Rattle.package_table.specs.Numbering.{Keeps};
+ghost use Rattle.package_table.specs.Meaning.{numbered_of};
+ghost use Rattle.package_table.specs.Adds.{AddsNoSymbol, IsPlaced};
 
+use crate::conflicts::finds_other_than_shown;
 use crate::find::is_locked;
-use crate::journal::Mark;
+use crate::look_ups::{has_package, is_used};
 use crate::put::put_use;
 use crate::standardized::KEYWORD;
-use crate::table::PackageTable;
 use crate::{PackageError, Packages};
-use std::alloc::Global;
+use package_sets::PackageSets;
 
 // The first reason to refuse that `owner` uses `used`, and else whether it does not use it yet.
-fn use_refusal(table: &PackageTable, owner: &[u8], used: &[u8]) -> Result<bool, PackageError>
-    ensures gives { let t = table.now.0 in
+fn use_refusal(sets: &PackageSets, owner: &[u8], used: &[u8]) -> Result<bool, PackageError>
+    requires sound { IsSound (numbered_of sets.now).0 }
+    requires placed { IsPlaced sets.now }
+    ensures gives { let t = (numbered_of sets.now).0 in
         Gives (λ changes. if changes then with_used t owner.now used.now else t) result
         (after_use t owner.now used.now) }
-    ensures changes { TellsChange (use_changes table.now.0 owner.now used.now) result }
+    ensures changes { TellsChange (use_changes (numbered_of sets.now).0 owner.now used.now) result }
 {
-    if !table.has_package(owner) || !table.has_package(used) {
+    if !has_package(sets, owner) || !has_package(sets, used) {
         return Err(PackageError::NoSuchPackage);
     }
     if is_locked(owner) || used == KEYWORD {
         return Err(PackageError::PackageIsLocked);
     }
-    if owner == used || table.is_used(owner, used) {
+    if owner == used || is_used(sets, owner, used) {
         return Ok(false);
     }
-    if table.finds_other_than_shown(owner, used) {
+    if finds_other_than_shown(sets, owner, used) {
         return Err(PackageError::NameConflict);
     }
     Ok(true)
 }
 
-fn use_other(
-    alloc: Global,
-    table: &mut PackageTable,
-    marks: &mut Vec<Mark>,
-    owner: &[u8],
-    used: &[u8],
-) -> Result<bool, PackageError>
-    ensures gives { Gives (λ _. table.new.0) result
-        (after_use table.old.0 owner.now used.now) }
-    ensures changed { TellsChange (use_changes table.old.0 owner.now used.now) result }
-    ensures unchanged { IfErr result (λ _. table.new ≡ table.old) }
-    ensures numbers { IfOk result (λ _. KeepsEachNumber table.old table.new) }
-    ensures marked { SameMarks marks.old.items table.old marks.new.items table.new }
+fn use_other(sets: &mut PackageSets, owner: &[u8], used: &[u8]) -> Result<bool, PackageError>
+    requires sound { IsSound (numbered_of sets.old).0 }
+    requires placed { IsPlaced sets.old }
+    ensures gives { Gives (λ _. (numbered_of sets.new).0) result
+        (after_use (numbered_of sets.old).0 owner.now used.now) }
+    ensures changed { TellsChange (use_changes (numbered_of sets.old).0 owner.now used.now) result }
+    ensures unchanged { IfErr result (λ _. sets.new ≡ sets.old) }
+    ensures adds { IfOk result (λ _. AddsNoSymbol sets.old sets.new) }
 {
-    if !use_refusal(table, owner, used)? {
+    sets.goodness();
+    if !use_refusal(sets, owner, used)? {
         return Ok(false);
     }
-    put_use(alloc, table, marks, owner, Vec::from_slice(alloc, used)?)?;
+    put_use(sets, owner, used)?;
     Ok(true)
 }
 
 impl Packages {
-    /// Makes `owner` use `used`, so that it finds its external symbols (standard 11.2, `use-package`). A package that is
-    /// used already, and `owner` itself, are passed over. Gives whether the packages changed.
+    /// Makes `owner` use `used`, so that it finds its external symbols (standard 11.2, `use-package`). A package that
+    /// is used already, and `owner` itself, are passed over. Gives whether the packages changed.
     ///
     /// # Errors
-    /// `NoSuchPackage` where one of the two names names no package; `PackageIsLocked` where `owner` is COMMON-LISP or
-    /// KEYWORD, or `used` is KEYWORD; `NameConflict` where `owner` finds another symbol by the name of one that is external
-    /// in `used`; `OutOfMemory` where memory runs out. Nothing is changed then.
+    /// `NoSuchPackage` if one of the two names names no package; `PackageIsLocked` if `owner` is COMMON-LISP or
+    /// KEYWORD, or `used` is KEYWORD; `NameConflict` if `owner` finds another symbol by the name of one that is
+    /// external in `used`; `OutOfMemory` if memory runs out. Nothing is changed then.
     pub fn use_package(&mut self, owner: &[u8], used: &[u8]) -> Result<bool, PackageError>
         ensures gives { Gives (λ _. self.new.0) result (after_use self.old.0 owner.now used.now) }
         ensures changed { Yields result (use_changes self.old.0 owner.now used.now) }
@@ -76,6 +75,6 @@ impl Packages {
         ensures numbers { Keeps (numbered self.old) (numbered self.new) }
         ensures marked { self.new.1.marked ≡ self.old.1.marked }
     {
-        use_other(self.alloc, &mut self.table, &mut self.marks, owner, used)
+        use_other(&mut self.sets, owner, used)
     }
 }

@@ -9,7 +9,7 @@ use Rattle.std.specs.Ordering.{eq_by_cmp}
 use Rattle.std.specs.FinMap as finite
 use Rattle.std.specs.FinMap.{same_map, get-insert, get-remove}
 use Rattle.lisp_object.proofs.Tree.{insert_same}
-use Rattle.readtable_core.specs.Tables.{CharacterEntry, Table, entry_at}
+use Rattle.readtable_core.specs.Tables.{CharacterEntry, Table}
 use Rattle.readtable_core.specs.Changes.{with_entry}
 use Rattle.readtable_core.proofs.PutBack.{put_back}
 use Rattle.package_table.specs.Table.{Name, name_cmp}

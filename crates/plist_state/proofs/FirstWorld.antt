@@ -112,6 +112,8 @@ first_sound = record {
   };
   current_package = user_is_package;
   current_readtable = ap is_some (at_first user_name);
+  lowest_base = omega arith;
+  highest_base = omega arith;
 }
 
 -- what is kept first is the first state

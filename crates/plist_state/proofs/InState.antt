@@ -2,6 +2,7 @@
 --     state_listed      one list is changed
 --     world_listed, world_same_err      the world after a change of a list, or after none
 --     row_seen, none_seen      what is seen of a symbol
+--     property_seen, no_property, property_out      what is seen of a property, and one that is not there taken out
 --     packages_kept, packages_rest, packages_unchanged, packages_changed      the world with other packages, in which no symbol is lost and each keeps its number
 use Rattle.std.proofs.Common.{◌≡◌, ℕ, Bool, List, [], None, Some, Result, Ok, Err, refl, sym, ap, subst, ◌∙◌}
 use Rattle.std.specs.Prelude.{OnOk, OnErr, IfOk, IfErr}
@@ -14,11 +15,11 @@ use Rattle.package_table.specs.Numbering.{IsNumbered, Keeps}
 use Rattle.package_table.specs.Growth.{Grows, Tells}
 use Rattle.plist_state.specs.declared.note.Note.{Note}
 use Rattle.plist_state.specs.declared.world.World.TheInside.{Inside}
-use Rattle.plist_state.specs.Properties.{Symbol, Plist, Properties, list_at, with_list}
+use Rattle.plist_state.specs.Properties.{Symbol, Plist, Properties, value_at, list_at, with_list}
 use Rattle.plist_state.specs.State.{WorldState, Worlds}
-use Rattle.plist_state.specs.Changes.{plist, with_packages}
+use Rattle.plist_state.specs.Changes.{plist, property, without_property, with_packages}
 use Rattle.plist_state.specs.PackageCalls.{ChangesPackages}
-use Rattle.plist_state.specs.Lists.{row_of, with_row, lists}
+use Rattle.plist_state.specs.Lists.{NumberedPlist, row_of, with_row, value_in, named, lists}
 use Rattle.plist_state.specs.Shown.{NumberedRest, rest_of}
 use Rattle.plist_state.specs.Undoing.{rests_at}
 use Rattle.plist_state.specs.Journal.{marks_of}
@@ -26,36 +27,40 @@ use Rattle.plist_state.specs.Sound.{IsSound}
 use Rattle.plist_state.specs.Marked.{state_in, marked_states, worlds_of, AreKept, IsKept}
 use Rattle.plist_state.proofs.Listed.{lists_at, lists_none, lists_put, lists_grown, owned_grown}
 use Rattle.plist_state.proofs.Marking.{world_same}
-use Rattle.plist_state.proofs.Soundness.{sound_packages}
+use Rattle.plist_state.proofs.Named.{value_named, value_unnamed}
+use Rattle.plist_state.proofs.Soundness.{sound_packages, removed_absent}
 
 -- what is kept where the list of a number is changed
-abbrev pub with_changed_row : NumberedRest → ℕ → (Plist → Plist) → NumberedRest
-with_changed_row r n f = record r { properties = with_row r.properties n (f (row_of r.properties n)) }
+abbrev pub with_changed_row : NumberedRest → ℕ → (NumberedPlist → NumberedPlist) → NumberedRest
+with_changed_row r n g = record r { properties = with_row r.properties n (g (row_of r.properties n)) }
 
 -- a state where the list of a symbol is changed
 abbrev pub with_changed_list : WorldState → Symbol → (Plist → Plist) → WorldState
 with_changed_list s x f = record s { properties = with_list s.properties x (f (list_at s.properties x)) }
 
 module _ (s : Numbered) (count : ℕ) (counted : IsNumbered s count) (x : Symbol) (n : ℕ) (is : number_of s x.0 x.1 ≡ Some n) where
-  pub state_listed : (r : NumberedRest) (f : Plist → Plist) → state_in s (with_changed_row r n f) ≡ with_changed_list (state_in s r) x f
-  state_listed r f =
+  -- what g makes of the list by numbers, f makes of the list by symbols
+  pub state_listed : (r : NumberedRest) (g : NumberedPlist → NumberedPlist) (f : Plist → Plist) → named s (g (row_of r.properties n)) ≡ f (named s (row_of r.properties n))
+      → state_in s (with_changed_row r n g) ≡ with_changed_list (state_in s r) x f
+  state_listed r g f made =
       ap (λ (m : Properties). record (state_in s r) { properties = m })
-      (lists_put s count counted r.properties x n (f (row_of r.properties n)) is
-      ∙ ap (λ ps. with_list (lists s r.properties) x (f ps)) (sym (lists_at s r.properties x n is)))
+      (lists_put s count counted r.properties x n (g (row_of r.properties n)) is
+      ∙ ap (with_list (lists s r.properties) x) (made ∙ ap f (sym (lists_at s r.properties x n is))))
 
 module _ {A E : Type 0} (res : Result A E) (ts : Tables) (ms ns : List (List Note)) (r u : NumberedRest) (same : rests_at ns u ≡ rests_at ms r)
     (w : Worlds) (seen : ◌≡◌ {A = Worlds} (state_in (numbered ts) r, marked_states ts.1.marked (rests_at ms r)) w) where
-  pub world_listed : (count : ℕ) → IsNumbered (numbered ts) count → (x : Symbol) (n : ℕ) → number_of (numbered ts) x.0 x.1 ≡ Some n → (f : Plist → Plist)
-      → OnOk res (u ≡ with_changed_row r n f)
+  pub world_listed : (count : ℕ) → IsNumbered (numbered ts) count → (x : Symbol) (n : ℕ) → number_of (numbered ts) x.0 x.1 ≡ Some n
+      → (g : NumberedPlist → NumberedPlist) (f : Plist → Plist) → named (numbered ts) (g (row_of r.properties n)) ≡ f (named (numbered ts) (row_of r.properties n))
+      → OnOk res (u ≡ with_changed_row r n g)
       → OnOk res (◌≡◌ {A = Worlds} (state_in (numbered ts) u, marked_states ts.1.marked (rests_at ns u)) (with_changed_list w.0 x f, w.1))
-  world_listed count counted x n is f = done res
+  world_listed count counted x n is g f made = done res
     where
-      done : (q : Result A E) → OnOk q (u ≡ with_changed_row r n f)
+      done : (q : Result A E) → OnOk q (u ≡ with_changed_row r n g)
           → OnOk q (◌≡◌ {A = Worlds} (state_in (numbered ts) u, marked_states ts.1.marked (rests_at ns u)) (with_changed_list w.0 x f, w.1))
       done (Err e) ok = tt
       done (Ok v) ok =
           (λ i. (state_in (numbered ts) (ok i), marked_states ts.1.marked (same i)))
-          ∙ (λ i. (state_listed (numbered ts) count counted x n is r f i, marked_states ts.1.marked (rests_at ms r)))
+          ∙ (λ i. (state_listed (numbered ts) count counted x n is r g f made i, marked_states ts.1.marked (rests_at ms r)))
           ∙ ap (λ (v : Worlds). (with_changed_list v.0 x f, v.1)) seen
 
   pub world_same_err : OnErr res (u ≡ r) → OnErr res (◌≡◌ {A = Worlds} (state_in (numbered ts) u, marked_states ts.1.marked (rests_at ns u)) w)
@@ -67,11 +72,31 @@ module _ {A E : Type 0} (res : Result A E) (ts : Tables) (ms ns : List (List Not
 
 -- ---- what is seen of a symbol
 module _ (a : Inside) (w : Worlds) (seen : worlds_of a ≡ w) (x : Symbol) where
-  pub row_seen : (n : ℕ) → number_of (numbered a.packages) x.0 x.1 ≡ Some n → row_of (rest_of a.stored).properties n ≡ plist w.0 x
+  pub row_seen : (n : ℕ) → number_of (numbered a.packages) x.0 x.1 ≡ Some n → named (numbered a.packages) (row_of (rest_of a.stored).properties n) ≡ plist w.0 x
   row_seen n is = sym (lists_at (numbered a.packages) (rest_of a.stored).properties x n is) ∙ ap (λ (v : Worlds). plist v.0 x) seen
 
   pub none_seen : number_of (numbered a.packages) x.0 x.1 ≡ None → [] ≡ plist w.0 x
   none_seen is = sym (lists_none (numbered a.packages) (rest_of a.stored).properties x is) ∙ ap (λ (v : Worlds). plist v.0 x) seen
+
+-- ---- what is seen of a property
+module _ (a : Inside) (kept : IsKept a) (w : Worlds) (seen : worlds_of a ≡ w) (x i : Symbol) where
+  -- a property by the numbers of its symbol and of its indicator
+  pub property_seen : (count : ℕ) → IsNumbered (numbered a.packages) count → (n j : ℕ) → number_of (numbered a.packages) x.0 x.1 ≡ Some n → number_of (numbered a.packages) i.0 i.1 ≡ Some j
+      → value_in (rest_of a.stored).properties n j ≡ property w.0 x i
+  property_seen count counted n j owner indicator =
+      sym (value_named (numbered a.packages) count counted i j indicator (row_of (rest_of a.stored).properties n) (kept.owned.indicators n))
+      ∙ ap (λ ps. value_at ps i) (row_seen a w seen x n owner)
+
+  -- what has no number is no indicator
+  pub no_property : (n : ℕ) → number_of (numbered a.packages) x.0 x.1 ≡ Some n → number_of (numbered a.packages) i.0 i.1 ≡ None → property w.0 x i ≡ None
+  no_property n owner none =
+      ap (λ ps. value_at ps i) (sym (row_seen a w seen x n owner))
+      ∙ value_unnamed (numbered a.packages) i none (row_of (rest_of a.stored).properties n) (kept.owned.indicators n)
+
+  -- a property that is not there, removed
+  pub property_out : property w.0 x i ≡ None → ◌≡◌ {A = Worlds} (without_property w.0 x i, w.1) w
+  property_out absent =
+      ap (λ (t : WorldState). (t, w.1)) (removed_absent w.0 x i (subst (λ (v : Worlds). IsSound v.0) seen kept.sound) absent)
 
 -- ---- other packages
 module _ (a : Inside) (ts : Tables) (grows : Grows a.packages.0 ts.0) (keeps : Keeps (numbered a.packages) (numbered ts))
@@ -90,7 +115,7 @@ module _ (a : Inside) (ts : Tables) (grows : Grows a.packages.0 ts.0) (keeps : K
   pub packages_kept : packages.IsSound ts.0 → IsKept (record a { packages = ts })
   packages_kept sound = record {
     values = kept.values;
-    owned = owned_grown (numbered a.packages) (numbered ts) grows keeps (rest_of a.stored).properties kept.owned;
+    owned = owned_grown (numbered a.packages) (numbered ts) (symbol_count ts.0) counted grows keeps (rest_of a.stored).properties kept.owned;
     sound = subst IsSound (sym same_state) (sound_packages (state_in (numbered a.packages) (rest_of a.stored)) ts.0 kept.sound sound grows);
     marked = subst (λ ss. AreKept ss (marks_of a.marks.items) (rest_of a.stored) a.stored.properties.entries) (sym marked) kept.marked;
   }

@@ -6,34 +6,35 @@ use Rattle.std.proofs.lemmas.Iterator.Adapters.{position_from-zero}
 use Rattle.lisp_object.specs.Object.{Object}
 use Rattle.lisp_object.specs.Datum.{object_of}
 use Rattle.lisp_object.specs.declared.datum.Datum.{Datum}
-use Rattle.plist_state.specs.declared.property.Property.{Property}
-use Rattle.plist_state.specs.Shown.{symbol_of, property_of}
-use Rattle.plist_state.specs.Properties.{Symbol, Plist, same_symbol, value_at, with_value, without_value}
+use Rattle.plist_state.specs.declared.property.NumberedProperty.{NumberedProperty}
+use Rattle.plist_state.specs.Shown.{numbered_property}
+use Rattle.plist_state.specs.Properties.{value_by, with_value_by, without_value_by}
+use Rattle.plist_state.specs.Lists.{NumberedPlist, same_number}
 use Rattle.plist_state.specs.Undoing.{with_value_at, with_inserted}
 
-abbrev pub has : Symbol → Property → Bool
-has i p = same_symbol i (symbol_of p.indicator)
+abbrev pub has : ℕ → NumberedProperty → Bool
+has i p = same_number i p.indicator
 
 -- the properties, as pairs
-abbrev pub shown : List Property → Plist
-shown items = map property_of items
+abbrev pub shown : List NumberedProperty → NumberedPlist
+shown items = map numbered_property items
 
 -- the indicator stands at index k, and nowhere before
-pub record IsFirstAt (items : List Property) (i : Symbol) (k : ℕ) : Type 0 where
+pub record IsFirstAt (items : List NumberedProperty) (i : ℕ) (k : ℕ) : Type 0 where
   pub within : k < length items
-  pub written : (x : Object) → with_value (shown items) i x ≡ with_value_at (shown items) k x
-  pub stands : (d : Property) → value_at (shown items) i ≡ Some (object_of (get_or items k d).value)
-  pub cut : shown (remove items k) ≡ without_value (shown items) i
+  pub written : (x : Object) → with_value_by same_number (shown items) i x ≡ with_value_at (shown items) k x
+  pub stands : (d : NumberedProperty) → value_by same_number (shown items) i ≡ Some (object_of (get_or items k d).value)
+  pub cut : shown (remove items k) ≡ without_value_by same_number (shown items) i
 
-pub record IsAbsent (items : List Property) (i : Symbol) : Type 0 where
-  pub written : (x : Object) → with_value (shown items) i x ≡ shown items ++ (i, x) ∷ []
-  pub stands : value_at (shown items) i ≡ None
-  pub uncut : without_value (shown items) i ≡ shown items
+pub record IsAbsent (items : List NumberedProperty) (i : ℕ) : Type 0 where
+  pub written : (x : Object) → with_value_by same_number (shown items) i x ≡ shown items ++ (i, x) ∷ []
+  pub stands : value_by same_number (shown items) i ≡ None
+  pub uncut : without_value_by same_number (shown items) i ≡ shown items
 
 cond_is : {X : Type 0} (a b : Bool) (x y : X) → a ≡ b → cond a x y ≡ cond b x y
 cond_is a b x y e = ap (λ t. cond t x y) e
 
-found_from : (items : List Property) (i : Symbol) (n m : ℕ) → position_from (has i) n items ≡ Some m → (k : ℕ) × (m ≡ n + k) × IsFirstAt items i k
+found_from : (items : List NumberedProperty) (i : ℕ) (n m : ℕ) → position_from (has i) n items ≡ Some m → (k : ℕ) × (m ≡ n + k) × IsFirstAt items i k
 found_from [] i n m is = cc
 found_from (p ∷ ps) i n m is =
     elim (has i p) as (λ b. has i p ≡ b → cond b (Some n) (position_from (has i) (n + 1) ps) ≡ Some m → (k : ℕ) × (m ≡ n + k) × IsFirstAt (p ∷ ps) i k) [
@@ -52,76 +53,76 @@ found_from (p ∷ ps) i n m is =
         (let f : m ≡ (n + 1) + h.0 = h.1 in omega arith),
         record {
           within = (let f : h.0 < length ps = h.2.within in omega arith);
-          written = λ x. cond_is _ _ _ _ t ∙ ap (λ qs. property_of p ∷ qs) (h.2.written x);
+          written = λ x. cond_is _ _ _ _ t ∙ ap (λ qs. numbered_property p ∷ qs) (h.2.written x);
           stands = λ d. cond_is _ _ _ _ t ∙ h.2.stands d;
-          cut = ap (λ qs. property_of p ∷ qs) h.2.cut ∙ sym (cond_is _ _ _ _ t);
+          cut = ap (λ qs. numbered_property p ∷ qs) h.2.cut ∙ sym (cond_is _ _ _ _ t);
         },
       )
     ] refl is
 
-absent_from : (items : List Property) (i : Symbol) (n : ℕ) → position_from (has i) n items ≡ None → IsAbsent items i
+absent_from : (items : List NumberedProperty) (i : ℕ) (n : ℕ) → position_from (has i) n items ≡ None → IsAbsent items i
 absent_from [] i n is = record { written = λ x. refl; stands = refl; uncut = refl }
 absent_from (p ∷ ps) i n is =
     elim (has i p) as (λ b. has i p ≡ b → cond b (Some n) (position_from (has i) (n + 1) ps) ≡ None → IsAbsent (p ∷ ps) i) [
       | true ↦ λ t e. absurd (cc)
       | false ↦ λ t e. let h : IsAbsent ps i = absent_from ps i (n + 1) e in
           record {
-            written = λ x. cond_is _ _ _ _ t ∙ ap (λ qs. property_of p ∷ qs) (h.written x);
+            written = λ x. cond_is _ _ _ _ t ∙ ap (λ qs. numbered_property p ∷ qs) (h.written x);
             stands = cond_is _ _ _ _ t ∙ h.stands;
-            uncut = cond_is _ _ _ _ t ∙ ap (λ qs. property_of p ∷ qs) h.uncut;
+            uncut = cond_is _ _ _ _ t ∙ ap (λ qs. numbered_property p ∷ qs) h.uncut;
           }
     ] refl is
 
-pub first_at : (items : List Property) (i : Symbol) (k : ℕ) → position (has i) items ≡ Some k → IsFirstAt items i k
+pub first_at : (items : List NumberedProperty) (i : ℕ) (k : ℕ) → position (has i) items ≡ Some k → IsFirstAt items i k
 first_at items i k is =
     let h : (j : ℕ) × (k ≡ 0 + j) × IsFirstAt items i j = found_from items i 0 k (sym (position_from-zero (has i) items) ∙ is) in
     let e : h.0 ≡ k = (let f : k ≡ 0 + h.0 = h.1 in omega arith) in
     subst (IsFirstAt items i) e h.2
 
-pub absent : (items : List Property) (i : Symbol) → position (has i) items ≡ None → IsAbsent items i
+pub absent : (items : List NumberedProperty) (i : ℕ) → position (has i) items ≡ None → IsAbsent items i
 absent items i is = absent_from items i 0 (sym (position_from-zero (has i) items) ∙ is)
 
 -- a value is set at index k, where p stands
-pub shown-set : (items : List Property) (k : ℕ) (p : Property) (v : Datum) → p ≡ get_or items k p → shown (set items k (record { indicator = p.indicator; value = v })) ≡ with_value_at (shown items) k (object_of v)
+pub shown-set : (items : List NumberedProperty) (k : ℕ) (p : NumberedProperty) (v : Datum) → p ≡ get_or items k p → shown (set items k (record { indicator = p.indicator; value = v })) ≡ with_value_at (shown items) k (object_of v)
 shown-set [] k p v e = refl
-shown-set (q ∷ qs) zero p v e = ap (λ (t : Property). (symbol_of t.indicator, object_of v) ∷ shown qs) e
-shown-set (q ∷ qs) (suc k) p v e = ap (λ ps. property_of q ∷ ps) (shown-set qs k p v e)
+shown-set (q ∷ qs) zero p v e = ap (λ (t : NumberedProperty). (t.indicator, object_of v) ∷ shown qs) e
+shown-set (q ∷ qs) (suc k) p v e = ap (λ ps. numbered_property q ∷ ps) (shown-set qs k p v e)
 
 -- the value that stands there is set there
-pub with_value_at-same : (items : List Property) (k : ℕ) (p : Property) → p ≡ get_or items k p → with_value_at (shown items) k (object_of p.value) ≡ shown items
+pub with_value_at-same : (items : List NumberedProperty) (k : ℕ) (p : NumberedProperty) → p ≡ get_or items k p → with_value_at (shown items) k (object_of p.value) ≡ shown items
 with_value_at-same [] k p e = refl
-with_value_at-same (q ∷ qs) zero p e = ap (λ (t : Property). (symbol_of q.indicator, object_of t.value) ∷ shown qs) e
-with_value_at-same (q ∷ qs) (suc k) p e = ap (λ ps. property_of q ∷ ps) (with_value_at-same qs k p e)
+with_value_at-same (q ∷ qs) zero p e = ap (λ (t : NumberedProperty). (q.indicator, object_of t.value) ∷ shown qs) e
+with_value_at-same (q ∷ qs) (suc k) p e = ap (λ ps. numbered_property q ∷ ps) (with_value_at-same qs k p e)
 
 -- of two values that are set at one index the second stands
-pub with_value_at-twice : (ps : Plist) (k : ℕ) (x y : Object) → with_value_at (with_value_at ps k x) k y ≡ with_value_at ps k y
+pub with_value_at-twice : (ps : NumberedPlist) (k : ℕ) (x y : Object) → with_value_at (with_value_at ps k x) k y ≡ with_value_at ps k y
 with_value_at-twice [] k x y = refl
 with_value_at-twice (p ∷ ps) zero x y = refl
 with_value_at-twice (p ∷ ps) (suc k) x y = ap (λ qs. p ∷ qs) (with_value_at-twice ps k x y)
 
 -- an index past the end
-pub with_value_at-past : (ps : Plist) (k : ℕ) (x : Object) → length ps ≤ k → with_value_at ps k x ≡ ps
+pub with_value_at-past : (ps : NumberedPlist) (k : ℕ) (x : Object) → length ps ≤ k → with_value_at ps k x ≡ ps
 with_value_at-past [] k x h = refl
 with_value_at-past (p ∷ ps) zero x h = absurd (omega arith)
 with_value_at-past (p ∷ ps) (suc k) x h = ap (λ qs. p ∷ qs) (with_value_at-past ps k x (omega arith))
 
 -- a property that was taken out, put back
-pub inserted-removed : (items : List Property) (k : ℕ) (p : Property) → k < length items → p ≡ get_or items k p → with_inserted (shown (remove items k)) k (property_of p) ≡ shown items
+pub inserted-removed : (items : List NumberedProperty) (k : ℕ) (p : NumberedProperty) → k < length items → p ≡ get_or items k p → with_inserted (shown (remove items k)) k (numbered_property p) ≡ shown items
 inserted-removed [] k p h e = absurd (omega arith)
-inserted-removed (q ∷ []) zero p h e = ap (λ (t : Property). property_of t ∷ []) e
-inserted-removed (q ∷ r ∷ qs) zero p h e = ap (λ (t : Property). property_of t ∷ property_of r ∷ shown qs) e
-inserted-removed (q ∷ qs) (suc k) p h e = ap (λ ps. property_of q ∷ ps) (inserted-removed qs k p (omega arith) e)
+inserted-removed (q ∷ []) zero p h e = ap (λ (t : NumberedProperty). numbered_property t ∷ []) e
+inserted-removed (q ∷ r ∷ qs) zero p h e = ap (λ (t : NumberedProperty). numbered_property t ∷ numbered_property r ∷ shown qs) e
+inserted-removed (q ∷ qs) (suc k) p h e = ap (λ ps. numbered_property q ∷ ps) (inserted-removed qs k p (omega arith) e)
 
 -- a property, put at an index or at the end
-pub shown-insert : (items : List Property) (k j : ℕ) (p : Property) → j ≡ min k (length items) → shown (insert items j p) ≡ with_inserted (shown items) k (property_of p)
+pub shown-insert : (items : List NumberedProperty) (k j : ℕ) (p : NumberedProperty) → j ≡ min k (length items) → shown (insert items j p) ≡ with_inserted (shown items) k (numbered_property p)
 shown-insert [] k zero p e = refl
 shown-insert [] k (suc j) p e = absurd (omega (arith, e))
 shown-insert (q ∷ qs) zero zero p e = refl
 shown-insert (q ∷ qs) zero (suc j) p e = absurd (omega (arith, e))
 shown-insert (q ∷ qs) (suc k) zero p e = absurd (omega (arith, e))
-shown-insert (q ∷ qs) (suc k) (suc j) p e = ap (λ ps. property_of q ∷ ps) (shown-insert qs k j p (omega (arith, e)))
+shown-insert (q ∷ qs) (suc k) (suc j) p e = ap (λ ps. numbered_property q ∷ ps) (shown-insert qs k j p (omega (arith, e)))
 
-pub length-inserted : (ps : Plist) (k : ℕ) (p : Symbol × Object) → length (with_inserted ps k p) ≡ suc (length ps)
+pub length-inserted : (ps : NumberedPlist) (k : ℕ) (p : ℕ × Object) → length (with_inserted ps k p) ≡ suc (length ps)
 length-inserted [] k p = refl
 length-inserted (q ∷ ps) zero p = refl
 length-inserted (q ∷ ps) (suc k) p = ap suc (length-inserted ps k p)

@@ -7,8 +7,10 @@ pub mod Soundness
 pub mod KeptWorld
 pub mod FirstWorld
 pub mod AllSymbols
+pub mod Named
 pub mod Listed
 pub mod InState
 pub mod Notes
 pub mod Marking
 pub mod Left
+pub mod Viewed

@@ -22,11 +22,10 @@ use Rattle.std.specs.FinMap as finite
 use Rattle.std.specs.FinMap.{find, get-empty, get-insert, get-remove, same_map, nat_cmp-IsAntisymmetric}
 use Rattle.std.proofs.lemmas.Bool.{false≢true}
 use Rattle.lisp_object.proofs.Tree as tree
-use Rattle.plist_state.specs.declared.property.Property.{Property}
+use Rattle.plist_state.specs.declared.property.NumberedProperty.{NumberedProperty}
 use Rattle.plist_state.specs.declared.note.PropertyChange.{PropertyChange}
-use Rattle.plist_state.specs.Properties.{Plist}
-use Rattle.plist_state.specs.Lists.{NumberedLists, row_of, with_row}
-use Rattle.plist_state.specs.Shown.{property_of, plist_of, Rows, lists_in, row_at, room_at}
+use Rattle.plist_state.specs.Lists.{NumberedPlist, NumberedLists, row_of, with_row}
+use Rattle.plist_state.specs.Shown.{numbered_property, plist_of, Rows, lists_in, row_at, room_at}
 use Rattle.plist_state.specs.Kept.{IsProperRow, IsProperRows, IsWider}
 use Rattle.plist_state.specs.Undoing.{list_before}
 use Rattle.plist_state.proofs.Lists.{kept, unwrap_kept}
@@ -37,17 +36,17 @@ one_number = tells_apart nat_cmp-IsAntisymmetric
 pub number_tied : (x : ℕ) → eq_by_cmp nat_cmp x x ≡ true
 number_tied x = ap is_eq (tied_itself nat_cmp_total x)
 
-pub get-with_row : (m : NumberedLists) (x : ℕ) (ps : Plist) (q : ℕ) → finite.get (with_row m x ps) q ≡ cond (eq_by_cmp nat_cmp q x) (kept ps) (finite.get m q)
+pub get-with_row : (m : NumberedLists) (x : ℕ) (ps : NumberedPlist) (q : ℕ) → finite.get (with_row m x ps) q ≡ cond (eq_by_cmp nat_cmp q x) (kept ps) (finite.get m q)
 get-with_row m x [] q = get-remove nat_cmp_total m x q
 get-with_row m x (p ∷ ps) q = get-insert nat_cmp_total m x (p ∷ ps) q
 
 -- the list that was put is there
-pub row-with_row : (m : NumberedLists) (x : ℕ) (ps : Plist) → row_of (with_row m x ps) x ≡ ps
+pub row-with_row : (m : NumberedLists) (x : ℕ) (ps : NumberedPlist) → row_of (with_row m x ps) x ≡ ps
 row-with_row m x ps =
     ap (λ o. unwrap_or o []) (get-with_row m x ps x ∙ ap (λ b. cond b (kept ps) (finite.get m x)) (number_tied x)) ∙ unwrap_kept ps
 
 -- of two lists that are put at one number the second is there
-pub with_row_twice : (m : NumberedLists) (x : ℕ) (ps qs : Plist) → with_row (with_row m x ps) x qs ≡ with_row m x qs
+pub with_row_twice : (m : NumberedLists) (x : ℕ) (ps qs : NumberedPlist) → with_row (with_row m x ps) x qs ≡ with_row m x qs
 with_row_twice m x ps qs = same_map nat_cmp_total nat_cmp-IsAntisymmetric _ _ (λ q.
     get-with_row (with_row m x ps) x qs q ∙ ap (cond (eq_by_cmp nat_cmp q x) (kept qs)) (get-with_row m x ps q)
     ∙ elim (eq_by_cmp nat_cmp q x) as (λ b. cond b (kept qs) (cond b (kept ps) (finite.get m q)) ≡ cond b (kept qs) (finite.get m q)) [ true ↦ refl | false ↦ refl ]
@@ -58,7 +57,7 @@ abbrev pub AreSome : NumberedLists → Type 0
 AreSome m = (q : ℕ) → finite.get m q ≡ kept (row_of m q)
 
 -- the list that is there, put again
-pub with_row_same : (m : NumberedLists) (x : ℕ) (ps : Plist) → AreSome m → ps ≡ row_of m x → with_row m x ps ≡ m
+pub with_row_same : (m : NumberedLists) (x : ℕ) (ps : NumberedPlist) → AreSome m → ps ≡ row_of m x → with_row m x ps ≡ m
 with_row_same m x ps some is = same_map nat_cmp_total nat_cmp-IsAntisymmetric _ _ (λ q.
     get-with_row m x ps q
     ∙ elim (eq_by_cmp nat_cmp q x) as (λ b. eq_by_cmp nat_cmp q x ≡ b → cond b (kept ps) (finite.get m q) ≡ finite.get m q) [
@@ -95,32 +94,32 @@ some_in rows q =
 
 -- the same look-up, in a list of pairs
 abbrev read : Rows → Rows
-read rows = tree.read (λ (n : ℕ). n) (λ (v : Vec Property). v) nat_cmp rows
+read rows = tree.read (λ (n : ℕ). n) (λ (v : Vec NumberedProperty). v) nat_cmp rows
 
 row_is : (rows : Rows) (q : ℕ) → row_at rows q ≡ find nat_cmp q (read rows)
-row_is rows q = sym (tree.find_at (λ (n : ℕ). n) (λ (v : Vec Property). v) nat_cmp q rows ∙ same (row_at rows q))
+row_is rows q = sym (tree.find_at (λ (n : ℕ). n) (λ (v : Vec NumberedProperty). v) nat_cmp q rows ∙ same (row_at rows q))
   where
-    same : (o : Option (Vec Property)) → option_map (λ v. v) o ≡ o
+    same : (o : Option (Vec NumberedProperty)) → option_map (λ v. v) o ≡ o
     same None = refl
     same (Some v) = refl
 
 -- the same rows, but for one
-abbrev pub IsPut : Rows → Rows → ℕ → Vec Property → Type 0
+abbrev pub IsPut : Rows → Rows → ℕ → Vec NumberedProperty → Type 0
 IsPut rows later x row = (q : ℕ) → row_at later q ≡ cond (eq_by_cmp nat_cmp q x) (Some row) (row_at rows q)
 
-pub put_insert : (rows later : Rows) (x : ℕ) (row : Vec Property) → later ≡ insert_entry nat_cmp rows x row → IsPut rows later x row
+pub put_insert : (rows later : Rows) (x : ℕ) (row : Vec NumberedProperty) → later ≡ insert_entry nat_cmp rows x row → IsPut rows later x row
 put_insert rows later x row is q =
     ap (λ es. row_at es q) is ∙ row_is (insert_entry nat_cmp rows x row) q
-    ∙ tree.find_read-insert (λ (n : ℕ). n) (λ (v : Vec Property). v) nat_cmp nat_cmp_total x row rows q
+    ∙ tree.find_read-insert (λ (n : ℕ). n) (λ (v : Vec NumberedProperty). v) nat_cmp nat_cmp_total x row rows q
     ∙ ap (cond (eq_by_cmp nat_cmp q x) (Some row)) (sym (row_is rows q))
 
-pub put_set : (rows later : Rows) (x : ℕ) (old row : Vec Property) → row_at rows x ≡ Some old → later ≡ set_value (is_at (nat_cmp x)) rows row → IsPut rows later x row
+pub put_set : (rows later : Rows) (x : ℕ) (old row : Vec NumberedProperty) → row_at rows x ≡ Some old → later ≡ set_value (is_at (nat_cmp x)) rows row → IsPut rows later x row
 put_set rows later x old row there is q =
     ap (λ es. row_at es q) is ∙ row_is (set_value (is_at (nat_cmp x)) rows row) q
-    ∙ tree.find_set_at (λ (n : ℕ). n) (λ (v : Vec Property). v) nat_cmp nat_cmp_total x row rows q (subst (λ (o : Option (Vec Property)). IsSome o) (sym there) refl)
+    ∙ tree.find_set_at (λ (n : ℕ). n) (λ (v : Vec NumberedProperty). v) nat_cmp nat_cmp_total x row rows q (subst (λ (o : Option (Vec NumberedProperty)). IsSome o) (sym there) refl)
     ∙ ap (cond (eq_by_cmp nat_cmp q x) (Some row)) (sym (row_is rows q))
 
-pub lists-put : (rows later : Rows) (x : ℕ) (row : Vec Property) → IsPut rows later x row → lists_in later ≡ with_row (lists_in rows) x (plist_of row)
+pub lists-put : (rows later : Rows) (x : ℕ) (row : Vec NumberedProperty) → IsPut rows later x row → lists_in later ≡ with_row (lists_in rows) x (plist_of row)
 lists-put rows later x row put = same_map nat_cmp_total nat_cmp-IsAntisymmetric _ _ (λ q.
     get-lists_in later q ∙ ap (option_and_then (λ row. kept (plist_of row))) (put q)
     ∙ elim (eq_by_cmp nat_cmp q x) as (λ b. option_and_then (λ row. kept (plist_of row)) (cond b (Some row) (row_at rows q)) ≡ cond b (kept (plist_of row)) (finite.get (lists_in rows) q)) [
@@ -130,7 +129,7 @@ lists-put rows later x row put = same_map nat_cmp_total nat_cmp-IsAntisymmetric 
     ∙ sym (get-with_row (lists_in rows) x (plist_of row) q))
 
 -- the row had at most as much memory, and proper values
-pub wider_put : (rows later : Rows) (x : ℕ) (row : Vec Property) → IsPut rows later x row → room_at rows x ≤ vec_capacity row → (IsProperRows rows → IsProperRow row) → IsWider rows later
+pub wider_put : (rows later : Rows) (x : ℕ) (row : Vec NumberedProperty) → IsPut rows later x row → room_at rows x ≤ vec_capacity row → (IsProperRows rows → IsProperRow row) → IsWider rows later
 wider_put rows later x row put room proper = record {
   rooms = λ q. subst (λ n. room_at rows q ≤ n) (sym (ap (λ o. option_map_or vec_capacity o 0) (put q)))
       (elim (eq_by_cmp nat_cmp q x) as (λ b. eq_by_cmp nat_cmp q x ≡ b → room_at rows q ≤ option_map_or vec_capacity (cond b (Some row) (row_at rows q)) 0) [
@@ -158,25 +157,25 @@ wider_both a b c x y = record {
 
 -- ---- what is shown of one row
 -- the row that is found is the one that is shown
-pub row_shown : (rows : Rows) (x : ℕ) (row : Vec Property) → Some row ≡ lookup (is_at (nat_cmp x)) rows → row_of (lists_in rows) x ≡ plist_of row
+pub row_shown : (rows : Rows) (x : ℕ) (row : Vec NumberedProperty) → Some row ≡ lookup (is_at (nat_cmp x)) rows → row_of (lists_in rows) x ≡ plist_of row
 row_shown rows x row is = row-lists_in rows x ∙ ap (λ o. option_map_or plist_of o []) (sym is)
 
 pub none_shown : (rows : Rows) (x : ℕ) → None ≡ lookup (is_at (nat_cmp x)) rows → row_of (lists_in rows) x ≡ []
 none_shown rows x is = row-lists_in rows x ∙ ap (λ o. option_map_or plist_of o []) (sym is)
 
-pub room_shown : (rows : Rows) (x : ℕ) (row : Vec Property) → Some row ≡ lookup (is_at (nat_cmp x)) rows → room_at rows x ≡ vec_capacity row
+pub room_shown : (rows : Rows) (x : ℕ) (row : Vec NumberedProperty) → Some row ≡ lookup (is_at (nat_cmp x)) rows → room_at rows x ≡ vec_capacity row
 room_shown rows x row is = ap (λ o. option_map_or vec_capacity o 0) (sym is)
 
-pub proper_shown : (rows : Rows) (x : ℕ) (row : Vec Property) → Some row ≡ lookup (is_at (nat_cmp x)) rows → IsProperRows rows → IsProperRow row
+pub proper_shown : (rows : Rows) (x : ℕ) (row : Vec NumberedProperty) → Some row ≡ lookup (is_at (nat_cmp x)) rows → IsProperRows rows → IsProperRow row
 proper_shown rows x row is all = subst (λ o. IfSome o IsProperRow) (sym is) (all x)
 
 -- whether the row that is found has a property
-pub has_shown : (rows : Rows) (x : ℕ) (row : Vec Property) → Some row ≡ lookup (is_at (nat_cmp x)) rows → (b : Bool) → b ≡ (vec_len row == 0) → not b ≡ finite.contains_key (lists_in rows) x
+pub has_shown : (rows : Rows) (x : ℕ) (row : Vec NumberedProperty) → Some row ≡ lookup (is_at (nat_cmp x)) rows → (b : Bool) → b ≡ (vec_len row == 0) → not b ≡ finite.contains_key (lists_in rows) x
 has_shown rows x row is b empty =
     ap not empty ∙ some_items row.items (vec_len row) row.ok.0
     ∙ sym (ap is_some (get-lists_in rows x ∙ ap (option_and_then (λ row. kept (plist_of row))) (sym is)))
   where
-    some_items : (ps : List Property) (n : ℕ) → n ≡ length ps → not (n == 0) ≡ is_some (kept (map property_of ps))
+    some_items : (ps : List NumberedProperty) (n : ℕ) → n ≡ length ps → not (n == 0) ≡ is_some (kept (map numbered_property ps))
     some_items [] n e = ap (λ n. not (n == 0)) e
     some_items (p ∷ ps) n e = (let some : (n == 0) ≡ false = grind (arith, nat_tests, e) in ap not some)
 
@@ -184,12 +183,12 @@ pub none_has : (rows : Rows) (x : ℕ) → None ≡ lookup (is_at (nat_cmp x)) r
 none_has rows x is = sym (ap is_some (get-lists_in rows x ∙ ap (option_and_then (λ row. kept (plist_of row))) (sym is)))
 
 -- one row is written
-pub record IsWritten (rows later : Rows) (x : ℕ) (ps : Plist) : Type 0 where
+pub record IsWritten (rows later : Rows) (x : ℕ) (ps : NumberedPlist) : Type 0 where
   pub lists : lists_in later ≡ with_row (lists_in rows) x ps
   pub wider : IsWider rows later
 
 -- a row that was written through `get_mut`
-module _ (rows later : Rows) (x : ℕ) (old row : Vec Property)
+module _ (rows later : Rows) (x : ℕ) (old row : Vec NumberedProperty)
     (there : Some old ≡ lookup (is_at (nat_cmp x)) rows)
     (is : later ≡ set_value (is_at (nat_cmp x)) rows row)
     (room : vec_capacity old ≤ vec_capacity row) (proper : IsProperRow old → IsProperRow row) where
@@ -204,34 +203,34 @@ module _ (rows later : Rows) (x : ℕ) (old row : Vec Property)
       }
 
   -- what was made of the list
-  pub lists_made : (f : Plist → Plist) → plist_of row ≡ f (plist_of old) → lists_in later ≡ with_row (lists_in rows) x (f (row_of (lists_in rows) x))
+  pub lists_made : (f : NumberedPlist → NumberedPlist) → plist_of row ≡ f (plist_of old) → lists_in later ≡ with_row (lists_in rows) x (f (row_of (lists_in rows) x))
   lists_made f made = written.lists ∙ ap (with_row (lists_in rows) x) (made ∙ ap f (sym (row_shown rows x old there)))
 
   pub list_now : row_of (lists_in later) x ≡ plist_of row
   list_now = ap (λ m. row_of m x) written.lists ∙ row-with_row (lists_in rows) x (plist_of row)
 
 -- the list in the row is as it was
-pub written_same : (rows later : Rows) (x : ℕ) (ps : Plist) → IsWritten rows later x ps → ps ≡ row_of (lists_in rows) x → lists_in later ≡ lists_in rows
+pub written_same : (rows later : Rows) (x : ℕ) (ps : NumberedPlist) → IsWritten rows later x ps → ps ≡ row_of (lists_in rows) x → lists_in later ≡ lists_in rows
 written_same rows later x ps w is = w.lists ∙ with_row_same (lists_in rows) x ps (some_in rows) is
 
 -- an empty row is added
-pub grown : (rows later : Rows) (x : ℕ) (row : Vec Property) → later ≡ insert_entry nat_cmp rows x row
+pub grown : (rows later : Rows) (x : ℕ) (row : Vec NumberedProperty) → later ≡ insert_entry nat_cmp rows x row
     → row_at rows x ≡ None → row.items ≡ [] → IsWritten rows later x []
 grown rows later x row is none empty =
     let put : IsPut rows later x row = put_insert rows later x row is in
-    let nothing : plist_of row ≡ [] = ap (map property_of) empty in
+    let nothing : plist_of row ≡ [] = ap (map numbered_property) empty in
     record {
       lists = lists-put rows later x row put ∙ ap (with_row (lists_in rows) x) nothing;
       wider = wider_put rows later x row put
           (let nil : room_at rows x ≡ 0 = ap (λ o. option_map_or vec_capacity o 0) none in omega (arith, nil))
-          (λ all. subst (λ (xs : List Property). All (λ p. is_proper p.value ≡ true) xs) (sym empty) (All-nil (λ (p : Property). is_proper p.value ≡ true)));
+          (λ all. subst (λ (xs : List NumberedProperty). All (λ p. is_proper p.value ≡ true) xs) (sym empty) (All-nil (λ (p : NumberedProperty). is_proper p.value ≡ true)));
     }
 
 -- no row is found
 pub no_row : (rows : Rows) (x : ℕ) (b : Bool) → b ≡ is_some (lookup (is_at (nat_cmp x)) rows) → b ≡ false → row_at rows x ≡ None
 no_row rows x b is absent = nothing (row_at rows x) (sym is ∙ absent)
   where
-    nothing : (o : Option (Vec Property)) → is_some o ≡ false → o ≡ None
+    nothing : (o : Option (Vec NumberedProperty)) → is_some o ≡ false → o ≡ None
     nothing None e = refl
     nothing (Some v) e = absurd (false≢true (sym e))
 
@@ -239,7 +238,7 @@ pub no_room : (rows : Rows) (x : ℕ) → None ≡ lookup (is_at (nat_cmp x)) ro
 no_room rows x is = ap (λ o. option_map_or vec_capacity o 0) (sym is)
 
 -- a change of the list of a number that was put, taken back
-pub property_back : (rows later : Rows) (x : ℕ) (ps : Plist) (change : PropertyChange)
+pub property_back : (rows later : Rows) (x : ℕ) (ps : NumberedPlist) (change : PropertyChange)
     → lists_in later ≡ with_row (lists_in rows) x ps → list_before change (row_of (lists_in later) x) ≡ row_of (lists_in rows) x
     → with_row (lists_in later) x (list_before change (row_of (lists_in later) x)) ≡ lists_in rows
 property_back rows later x ps change put back =

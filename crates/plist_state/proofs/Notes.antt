@@ -17,10 +17,9 @@ pub use Rattle.package_table.proofs.Undoing.{IsLast, at_last, no_more, on_ok, ta
 use Rattle.plist_state.specs.declared.note.Note.{Note}
 use Rattle.plist_state.specs.declared.note.Note.TheVariants.{Property as OfList}
 use Rattle.plist_state.specs.declared.note.PropertyChange.{PropertyChange}
-use Rattle.plist_state.specs.declared.property.Property.{Property}
-use Rattle.plist_state.specs.Properties.{Plist}
-use Rattle.plist_state.specs.Lists.{NumberedLists, row_of, with_row}
-use Rattle.plist_state.specs.Shown.{Rows, lists_in, plist_of, property_of, row_at, room_at, NumberedRest}
+use Rattle.plist_state.specs.declared.property.NumberedProperty.{NumberedProperty}
+use Rattle.plist_state.specs.Lists.{NumberedPlist, NumberedLists, row_of, with_row}
+use Rattle.plist_state.specs.Shown.{Rows, lists_in, plist_of, numbered_property, row_at, room_at, NumberedRest}
 use Rattle.plist_state.specs.Kept.{IsProperChange, IsWider}
 use Rattle.plist_state.specs.Undoing.{list_before, undone, all_undone, undone_since, rests_at}
 use Rattle.plist_state.specs.Journal.{marks_of, has_room, IsNoted, Fits, LeadsBack, IsJournal, Continues}
@@ -82,8 +81,8 @@ journal_wider [] r rows later wider journal = tt
 journal_wider (m ∷ ms) r rows later wider journal =
     (leads_wider m (undone_since ms r) rows later wider journal.0, journal_wider ms r rows later wider journal.1)
 
-row_fits : (row : Vec Property) → length (plist_of row) ≤ vec_capacity row
-row_fits row = omega (arith, row.ok, length-map row.items property_of)
+row_fits : (row : Vec NumberedProperty) → length (plist_of row) ≤ vec_capacity row
+row_fits row = omega (arith, row.ok, length-map row.items numbered_property)
 
 pub fits_now : (rows : Rows) (r : NumberedRest) → r.properties ≡ lists_in rows → Fits rows r
 fits_now rows r is x =
@@ -120,7 +119,7 @@ continues_noted ms ks ns note t u same pushed proper undoes = subst (λ k. Conti
 -- the same of a change of the property list of a number
 pub property_noted : (ms ks ns : List (List Note)) → ks ≡ ms → (x : ℕ) (change : PropertyChange)
     → ((t u : NumberedRest) → IsNoted (OfList x change) → undone (OfList x change) u ≡ t → Continues ks t ns u) → IsProperChange change
-    → (t : NumberedRest) (rows later : Rows) (ps : Plist)
+    → (t : NumberedRest) (rows later : Rows) (ps : NumberedPlist)
     → lists_in later ≡ with_row (lists_in rows) x ps → list_before change (row_of (lists_in later) x) ≡ row_of (lists_in rows) x
     → Continues ms (record t { properties = lists_in rows }) ns (record t { properties = lists_in later })
 property_noted ms ks ns same x change pushed proper t rows later ps put back =

@@ -1,16 +1,17 @@
 -- That the calls keep the state of a world sound.
 --     sound_packages      other packages, in which nothing is lost
 --     sound_put, sound_removed      a property
---     sound_in_package, sound_in_readtable      the current names
+--     removed_absent      a property that is not there, removed
+--     sound_in_package, sound_in_readtable, sound_base      the current names, and the base
 --     sound_table      a readtable in place of one, or a new one
-use Rattle.std.proofs.Common.{◌≡◌, ◌≤◌, true, false, cond, Option, None, Some, IsTrue, is_some, List, [], ◌∷◌, All, refl, sym, ap, subst, ◌∙◌}
+use Rattle.std.proofs.Common.{◌≡◌, ◌≤◌, ℕ, true, false, cond, Option, None, Some, IsTrue, is_some, List, [], ◌∷◌, All, refl, sym, ap, subst, ◌∙◌}
 use Rattle.std.specs.Prelude.{bytes_eq, unwrap_or}
 use Rattle.std.specs.List.{list_all}
 use Rattle.std.specs.Option.{option_map, option_map_or}
 use Rattle.package_table.proofs.Frames.{equal_names, equal_itself}
 use Rattle.std.specs.Ordering.{eq_by_cmp}
 use Rattle.std.proofs.lemmas.Bool.{false≢true, and_parts, and_from}
-use Rattle.std.proofs.lemmas.List.Elements.{All-weaker, All-cons, All-nil, All-head, All-tail}
+use Rattle.std.proofs.lemmas.List.Elements.{All-weaker, All-nil}
 use Rattle.std.specs.FinMap as finite
 use Rattle.std.specs.FinMap.{get-insert}
 use Rattle.std.specs.Cmp.{eq_by_cmp_equiv}
@@ -21,12 +22,12 @@ use Rattle.package_table.specs.Table as packages
 use Rattle.package_table.specs.Table.{Name, name_cmp, IsPackage, IsPresent, keyword}
 use Rattle.package_table.specs.Lookup.{is_symbol}
 use Rattle.package_table.specs.Growth.{Grows}
-use Rattle.plist_state.specs.Properties.{Symbol, Plist, symbol_cmp, same_symbol, value_at, with_value, without_value, with_list}
+use Rattle.plist_state.specs.Properties.{Symbol, Plist, Properties, symbol_cmp, same_symbol, value_at, with_value, without_value, with_list}
 use Rattle.plist_state.specs.State.{WorldState, standard_name, user_name}
-use Rattle.plist_state.specs.Changes.{plist, with_property, without_property, with_packages}
+use Rattle.plist_state.specs.Changes.{plist, property, with_property, without_property, with_packages, with_base}
 use Rattle.plist_state.specs.Sound.{IsSymbol, IsKnown, IsValue, IsApart, IsPlist, IsNamed, IsSound}
 use Rattle.plist_state.proofs.Orders.{one_symbol, one_name, name_total, symbol_total}
-use Rattle.plist_state.proofs.Lists.{kept, get-with_list}
+use Rattle.plist_state.proofs.Lists.{kept, AreSome, all_with, all_without, without-absent, get-with_list, with_list_same}
 
 -- ---- packages that grow
 known_grown : (t u : packages.Table) → Grows t u → (x : Object) → IsKnown t x → IsKnown u x
@@ -99,6 +100,8 @@ sound_packages s u sound sound_u grows = record {
   };
   current_package = grows.packages s.current_package sound.current_package;
   current_readtable = sound.current_readtable;
+  lowest_base = sound.lowest_base;
+  highest_base = sound.highest_base;
 }
 
 -- ---- properties
@@ -114,6 +117,8 @@ sound_list s x ps sound at_home is = record {
   readtables = sound.readtables;
   current_package = sound.current_package;
   current_readtable = sound.current_readtable;
+  lowest_base = sound.lowest_base;
+  highest_base = sound.highest_base;
 }
   where
     symbols : (q : Symbol) → IsTrue (finite.contains_key (with_list s.properties x ps) q) → IsSymbol s.packages q
@@ -154,14 +159,6 @@ apart_without (p ∷ ps) i e =
       | false ↦ (value_without ps i p.0 e.0, apart_without ps i e.1)
     ]
 
-all_without : (P : Symbol × Object → Type 0) (ps : Plist) (i : Symbol) → All P ps → All P (without_value ps i)
-all_without P [] i e = All-nil P
-all_without P (p ∷ ps) i e =
-    elim (same_symbol i p.0) as (λ b. All P (cond b ps (p ∷ without_value ps i))) [
-      | true ↦ All-tail P p ps e
-      | false ↦ All-cons P p (without_value ps i) (All-head P p ps e) (all_without P ps i (All-tail P p ps e))
-    ]
-
 value_with : (ps : Plist) (i j : Symbol) (v : Object) → same_symbol j i ≡ false → value_at ps j ≡ None → value_at (with_value ps i v) j ≡ None
 value_with [] i j v other e = ap (λ b. cond b (Some v) None) other
 value_with (p ∷ ps) i j v other e =
@@ -184,14 +181,6 @@ apart_with (p ∷ ps) i v e =
       | true ↦ λ _. e
       | false ↦ λ t. (value_with ps i p.0 v (turned i p.0 t) e.0, apart_with ps i v e.1)
     ] refl
-
-all_with : (P : Symbol × Object → Type 0) (ps : Plist) (i : Symbol) (v : Object) → P (i, v) → ((p : Symbol × Object) → P p → P (p.0, v)) → All P ps → All P (with_value ps i v)
-all_with P [] i v new set e = All-cons P (i, v) [] new (All-nil P)
-all_with P (p ∷ ps) i v new set e =
-    elim (same_symbol i p.0) as (λ b. All P (cond b ((p.0, v) ∷ ps) (p ∷ with_value ps i v))) [
-      | true ↦ All-cons P (p.0, v) ps (set p (All-head P p ps e)) (All-tail P p ps e)
-      | false ↦ All-cons P p (with_value ps i v) (All-head P p ps e) (all_with P ps i v new set (All-tail P p ps e))
-    ]
 
 some_with : (ps : Plist) (i : Symbol) (v : Object) → with_value ps i v ≡ [] → ⊥
 some_with [] i v e = absurd (cc)
@@ -220,8 +209,8 @@ sound_put s x i v sound at_home indicator value =
     sound_list s x (with_value (plist s x) i v) sound at_home (λ _. record {
       some = some_with (plist s x) i v;
       apart = apart_with (plist s x) i v old.apart;
-      indicators = all_with (λ p. IsSymbol s.packages p.0) (plist s x) i v indicator (λ p k. k) old.indicators;
-      values = all_with (λ p. IsValue s.packages p.1) (plist s x) i v value (λ p k. value) old.values;
+      indicators = all_with same_symbol (λ p. IsSymbol s.packages p.0) (plist s x) i v indicator (λ p k. k) old.indicators;
+      values = all_with same_symbol (λ p. IsValue s.packages p.1) (plist s x) i v value (λ p k. value) old.values;
     })
 
 pub sound_removed : (s : WorldState) (x i : Symbol) → IsSound s → IsSymbol s.packages x → IsSound (without_property s x i)
@@ -230,9 +219,26 @@ sound_removed s x i sound at_home =
     sound_list s x (without_value (plist s x) i) sound at_home (λ some. record {
       some = some;
       apart = apart_without (plist s x) i old.apart;
-      indicators = all_without (λ p. IsSymbol s.packages p.0) (plist s x) i old.indicators;
-      values = all_without (λ p. IsValue s.packages p.1) (plist s x) i old.values;
+      indicators = all_without same_symbol (λ p. IsSymbol s.packages p.0) (plist s x) i old.indicators;
+      values = all_without same_symbol (λ p. IsValue s.packages p.1) (plist s x) i old.values;
     })
+
+-- a property that is not there, removed
+pub removed_absent : (s : WorldState) (x i : Symbol) → IsSound s → property s x i ≡ None → without_property s x i ≡ s
+removed_absent s x i sound absent =
+    ap (λ (m : Properties). record s { properties = m })
+    (ap (with_list s.properties x) (without-absent same_symbol (plist s x) i absent) ∙ with_list_same s.properties x (plist s x) some refl)
+  where
+    some_kept : (ps : Plist) → (ps ≡ [] → ⊥) → kept ps ≡ Some ps
+    some_kept [] full = absurd (full refl)
+    some_kept (p ∷ ps) full = refl
+
+    some : AreSome s.properties
+    some q =
+        elim (finite.get s.properties q) as (λ o. finite.get s.properties q ≡ o → o ≡ kept (unwrap_or o [])) [
+          | None ↦ λ _. refl
+          | Some ps ↦ λ there. sym (some_kept ps (sound.properties q ps there).some)
+        ] refl
 
 -- ---- the current names
 pub sound_in_package : (s : WorldState) (n : Name) → IsSound s → IsPackage s.packages n → IsSound (record s { current_package = n })
@@ -243,6 +249,8 @@ sound_in_package s n sound there = record {
   readtables = sound.readtables;
   current_package = there;
   current_readtable = sound.current_readtable;
+  lowest_base = sound.lowest_base;
+  highest_base = sound.highest_base;
 }
 
 pub sound_in_readtable : (s : WorldState) (n : Name) → IsSound s → IsTrue (finite.contains_key s.readtables n) → IsSound (record s { current_readtable = n })
@@ -253,6 +261,21 @@ sound_in_readtable s n sound there = record {
   readtables = sound.readtables;
   current_package = sound.current_package;
   current_readtable = there;
+  lowest_base = sound.lowest_base;
+  highest_base = sound.highest_base;
+}
+
+-- ---- the base in which numbers are read
+pub sound_base : (s : WorldState) (base : ℕ) → IsSound s → 2 ≤ base → base ≤ 36 → IsSound (with_base s base)
+sound_base s base sound lowest highest = record {
+  packages = sound.packages;
+  symbols = sound.symbols;
+  properties = sound.properties;
+  readtables = sound.readtables;
+  current_package = sound.current_package;
+  current_readtable = sound.current_readtable;
+  lowest_base = lowest;
+  highest_base = highest;
 }
 
 -- ---- readtables
@@ -280,6 +303,8 @@ sound_table s n r sound other at_home count named = record {
   };
   current_package = sound.current_package;
   current_readtable = still s.current_readtable sound.current_readtable;
+  lowest_base = sound.lowest_base;
+  highest_base = sound.highest_base;
 }
   where
     apart : (m : Name) → (m ≡ n → ⊥) → eq_by_cmp name_cmp m n ≡ false

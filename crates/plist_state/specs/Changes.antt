@@ -46,6 +46,10 @@ after_in_package s n = if finite.contains_key s.packages n then Ok (record s { c
 abbrev pub after_in_readtable : WorldState → Name → Result WorldState ReadtableError
 after_in_readtable s n = if finite.contains_key s.readtables n then Ok (record s { current_readtable = n }) else Err NoReadtable
 
+-- numbers are read in this base from now on (standard 23.1.1, *READ-BASE*)
+abbrev pub with_base : WorldState → ℕ → WorldState
+with_base s base = record s { read_base = base }
+
 -- ---- readtables
 -- the readtable of this name where it may be written: the standard one never changes
 abbrev pub writable : Readtables → Name → Result Table ReadtableError

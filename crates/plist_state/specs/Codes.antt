@@ -11,7 +11,7 @@ use Rattle.readtable_core.specs.Tables as readtable
 use Rattle.package_table.specs.Table as packages
 use Rattle.package_table.specs.Table.{Name, name_code, table_code}
 use Rattle.plist_state.specs.Properties.{Properties, properties_code}
-use Rattle.plist_state.specs.State.{Readtables, Rest, WorldState, Worlds}
+use Rattle.plist_state.specs.State.{Readtables, Rest, WorldState, Worlds, state_with}
 
 -- the type that a number stands for
 abbrev pub numbered_syntax : ℕ → Syntax
@@ -68,15 +68,15 @@ readtables_code = finite.code name_code readtable_code
 
 abbrev pub rest_code : Coded Rest
 rest_code =
-    code_by (Properties × (Readtables × (Name × Name))) (coded× properties_code (coded× readtables_code (coded× name_code name_code)))
-    (λ r. (r.properties, (r.readtables, (r.current_package, r.current_readtable))))
-    (λ p. record { properties = p.0; readtables = p.1.0; current_package = p.1.1.0; current_readtable = p.1.1.1 }) (λ _. refl)
+    code_by (Properties × (Readtables × (Name × (Name × ℕ)))) (coded× properties_code (coded× readtables_code (coded× name_code (coded× name_code coded_ℕ))))
+    (λ r. (r.properties, (r.readtables, (r.current_package, (r.current_readtable, r.read_base)))))
+    (λ p. record { properties = p.0; readtables = p.1.0; current_package = p.1.1.0; current_readtable = p.1.1.1.0; read_base = p.1.1.1.1 }) (λ _. refl)
 
 abbrev pub state_code : Coded WorldState
 state_code =
     code_by (packages.Table × Rest) (coded× table_code rest_code)
-    (λ s. (s.packages, record { properties = s.properties; readtables = s.readtables; current_package = s.current_package; current_readtable = s.current_readtable }))
-    (λ p. record { packages = p.0; properties = p.1.properties; readtables = p.1.readtables; current_package = p.1.current_package; current_readtable = p.1.current_readtable }) (λ _. refl)
+    (λ s. (s.packages, record { properties = s.properties; readtables = s.readtables; current_package = s.current_package; current_readtable = s.current_readtable; read_base = s.read_base }))
+    (λ p. state_with p.0 p.1) (λ _. refl)
 
 abbrev pub worlds_code : Coded Worlds
 worlds_code = coded× state_code (coded_list state_code)

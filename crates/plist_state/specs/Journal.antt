@@ -8,7 +8,7 @@ use Rattle.package_table.specs.Table.{Name}
 use Rattle.plist_state.specs.declared.note.TableChange.{TableChange}
 use Rattle.plist_state.specs.declared.note.TableChange.TheVariants.{Over, Letters, Character}
 use Rattle.plist_state.specs.declared.note.Note.{Note}
-use Rattle.plist_state.specs.declared.note.Note.TheVariants.{Property, Made, Changed, InPackage, InReadtable}
+use Rattle.plist_state.specs.declared.note.Note.TheVariants.{Property, Made, Changed, InPackage, InReadtable, InBase}
 use Rattle.plist_state.specs.State.{Readtables}
 use Rattle.plist_state.specs.Lists.{row_of}
 use Rattle.plist_state.specs.Shown.{Rows, room_at, NumberedRest}
@@ -46,6 +46,7 @@ IsNoted (Made name) = Unit {0}
 IsNoted (Changed name change) = IsTableChange change
 IsNoted (InPackage name) = Unit {0}
 IsNoted (InReadtable name) = Unit {0}
+IsNoted (InBase base) = Unit {0}
 
 -- the rows have memory for these property lists
 abbrev pub Fits : Rows → NumberedRest → Type 0

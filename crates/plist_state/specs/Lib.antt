@@ -12,3 +12,4 @@ pub mod Undoing
 pub mod Kept
 pub mod Journal
 pub mod Marked
+pub mod Viewed

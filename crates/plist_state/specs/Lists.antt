@@ -1,51 +1,76 @@
 -- Property lists by the numbers of symbols, and how they are those of the symbols.
-use Rattle.std.specs.Prelude.{◌≡◌, ℕ, IsTrue, List, [], ◌∷◌, map, Option, Some, option_map, option_and_then, unwrap_or}
-use Rattle.std.specs.List.{filter_map, flat_map}
+use Rattle.std.specs.Prelude.{◌≡◌, ℕ, Bool, ◌==◌, false, IsTrue, All, List, [], ◌∷◌, map, Option, Some, option_map, option_and_then, unwrap_or}
+use Rattle.std.specs.Option.{option_map_or}
+use Rattle.std.specs.List.{filter_map, find, flat_map}
 use Rattle.std.specs.Ordering.{nat_cmp}
 use Rattle.std.specs.FinMap as finite
 use Rattle.lisp_object.specs.Object.{Object}
 use Rattle.package_table.specs.Table.{Table}
 use Rattle.package_table.specs.Numbers.{Numbered, number_of}
 use Rattle.package_table.specs.Readers.{package_names, own_names}
-use Rattle.plist_state.specs.Properties.{Symbol, Plist, Properties, value_at, with_value, without_value}
+use Rattle.plist_state.specs.Properties.{Symbol, Plist, Properties, value_by, with_value_by, without_value_by}
+
+-- a property list by numbers: each indicator is the number of a symbol
+abbrev pub NumberedPlist : Type 0
+NumberedPlist = List (ℕ × Object)
+
+abbrev pub same_number : ℕ → ℕ → Bool
+same_number i j = i == j
 
 -- the property lists of the symbols that have one, by their numbers, each with a property in it
 abbrev pub NumberedLists : Type 0
-NumberedLists = finite.FinMap nat_cmp Plist
+NumberedLists = finite.FinMap nat_cmp NumberedPlist
 
 -- the property list of the symbol of a number
-abbrev pub row_of : NumberedLists → ℕ → Plist
+abbrev pub row_of : NumberedLists → ℕ → NumberedPlist
 row_of m i = unwrap_or (finite.get m i) []
 
 -- where the symbol of a number has this list. One with no property has none.
-abbrev pub with_row : NumberedLists → ℕ → Plist → NumberedLists
+abbrev pub with_row : NumberedLists → ℕ → NumberedPlist → NumberedLists
 with_row m i [] = finite.remove m i
 with_row m i (p ∷ ps) = finite.insert m i (p ∷ ps)
 
 -- the value of a property of the symbol of a number
-abbrev pub value_in : NumberedLists → ℕ → Symbol → Option Object
-value_in m i x = value_at (row_of m i) x
+abbrev pub value_in : NumberedLists → ℕ → ℕ → Option Object
+value_in m i j = value_by same_number (row_of m i) j
 
 -- with this value beside the indicator
-abbrev pub with_value_in : NumberedLists → ℕ → Symbol → Object → NumberedLists
-with_value_in m i x v = with_row m i (with_value (row_of m i) x v)
+abbrev pub with_value_in : NumberedLists → ℕ → ℕ → Object → NumberedLists
+with_value_in m i j v = with_row m i (with_value_by same_number (row_of m i) j v)
 
 -- without the indicator and its value
-abbrev pub without_value_in : NumberedLists → ℕ → Symbol → NumberedLists
-without_value_in m i x = with_row m i (without_value (row_of m i) x)
+abbrev pub without_value_in : NumberedLists → ℕ → ℕ → NumberedLists
+without_value_in m i j = with_row m i (without_value_by same_number (row_of m i) j)
 
 -- all symbols, by the names of their homes and then by their own
 abbrev pub symbols : Table → List Symbol
 symbols t = flat_map (λ p. map (λ n. (p, n)) (own_names t p)) (package_names t)
 
+-- whether this is the number of the symbol
+abbrev pub has_number : Numbered → ℕ → Symbol → Bool
+has_number s i x = option_map_or (same_number i) (number_of s x.0 x.1) false
+
+-- the symbol of a number, and one with empty names where there is none
+unfoldable pub symbol_at : Numbered → ℕ → Symbol
+symbol_at s i = unwrap_or (find (has_number s i) (symbols s.0)) ([], [])
+
+-- this is the number of a symbol
+abbrev pub IsNumber : Numbered → ℕ → Type 0
+IsNumber s i = number_of s (symbol_at s i).0 (symbol_at s i).1 ≡ Some i
+
+-- the property list by the symbols of its indicators
+abbrev pub named : Numbered → NumberedPlist → Plist
+named s ps = map (λ p. (symbol_at s p.0, p.1)) ps
+
 -- the property list of a symbol, if it has one
 abbrev pub list_of : Numbered → NumberedLists → Symbol → Option Plist
-list_of s m x = option_and_then (finite.get m) (number_of s x.0 x.1)
+list_of s m x = option_map (named s) (option_and_then (finite.get m) (number_of s x.0 x.1))
 
 -- the property lists by their symbols
 abbrev pub lists : Numbered → NumberedLists → Properties
 lists s m = finite.from_entries (filter_map (λ x. option_map (λ ps. (x, ps)) (list_of s m x)) (symbols s.0))
 
--- each number that has a list is that of a symbol
-abbrev pub IsOwned : Numbered → NumberedLists → Type 0
-IsOwned s m = (i : ℕ) → IsTrue (finite.contains_key m i) → (x : Symbol) × (number_of s x.0 x.1 ≡ Some i)
+-- each number that has a list is that of a symbol, and so is each indicator in it
+pub record IsOwned (s : Numbered) (m : NumberedLists) : Type 0 where
+  pub owners : (i : ℕ) → IsTrue (finite.contains_key m i) → IsNumber s i
+  pub indicators : (i : ℕ) → All (λ p. IsNumber s p.0) (row_of m i)

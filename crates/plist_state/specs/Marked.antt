@@ -19,6 +19,7 @@ rest_in s r =
       readtables = r.readtables;
       current_package = r.current_package;
       current_readtable = r.current_readtable;
+      read_base = r.read_base;
     }
 
 -- the state of these packages, and of what is kept besides

@@ -22,20 +22,34 @@ same_symbol a b = is_eq (symbol_cmp a b)
 abbrev pub Plist : Type 0
 Plist = List (Symbol × Object)
 
+-- values beside keys, which are the same where the test says so
+module _ {K : Type 0} (same : K → K → Bool) where
+  -- the value beside the key, if the list has it
+  abbrev pub value_by : List (K × Object) → K → Option Object
+  value_by [] i = None
+  value_by (p ∷ ps) i = cond (same i p.0) (Some p.1) (value_by ps i)
+
+  -- with this value beside the key: in its place, or last where the key is new
+  abbrev pub with_value_by : List (K × Object) → K → Object → List (K × Object)
+  with_value_by [] i x = (i, x) ∷ []
+  with_value_by (p ∷ ps) i x = cond (same i p.0) ((p.0, x) ∷ ps) (p ∷ with_value_by ps i x)
+
+  -- without the key and its value
+  abbrev pub without_value_by : List (K × Object) → K → List (K × Object)
+  without_value_by [] i = []
+  without_value_by (p ∷ ps) i = cond (same i p.0) ps (p ∷ without_value_by ps i)
+
 -- the value beside the indicator, if the list has it
 abbrev pub value_at : Plist → Symbol → Option Object
-value_at [] i = None
-value_at (p ∷ ps) i = cond (same_symbol i p.0) (Some p.1) (value_at ps i)
+value_at = value_by same_symbol
 
 -- with this value beside the indicator: in its place, or last where the indicator is new
 abbrev pub with_value : Plist → Symbol → Object → Plist
-with_value [] i x = (i, x) ∷ []
-with_value (p ∷ ps) i x = cond (same_symbol i p.0) ((p.0, x) ∷ ps) (p ∷ with_value ps i x)
+with_value = with_value_by same_symbol
 
 -- without the indicator and its value
 abbrev pub without_value : Plist → Symbol → Plist
-without_value [] i = []
-without_value (p ∷ ps) i = cond (same_symbol i p.0) ps (p ∷ without_value ps i)
+without_value = without_value_by same_symbol
 
 -- the property lists of the symbols that have one, each with a property in it
 abbrev pub Properties : Type 0
@@ -53,5 +67,8 @@ with_list m x (p ∷ ps) = finite.insert m x (p ∷ ps)
 abbrev pub symbol_code : Coded Symbol
 symbol_code = coded× name_code name_code
 
+abbrev pub plist_code : Coded Plist
+plist_code = coded_list (coded× symbol_code object_code)
+
 abbrev pub properties_code : Coded Properties
-properties_code = finite.code symbol_code (coded_list (coded× symbol_code object_code))
+properties_code = finite.code symbol_code plist_code

@@ -14,35 +14,38 @@ use Rattle.package_table.specs.Table.{Name}
 use Rattle.package_table.specs.Shown.{as_map}
 use Rattle.plist_state.specs.declared.symbol.Symbol.{Symbol}
 use Rattle.plist_state.specs.declared.property.Property.{Property}
+use Rattle.plist_state.specs.declared.property.NumberedProperty.{NumberedProperty}
 use Rattle.plist_state.specs.declared.stored.Stored.{Stored}
 use Rattle.plist_state.specs.Properties as properties
-use Rattle.plist_state.specs.Properties.{Plist}
-use Rattle.plist_state.specs.Lists.{NumberedLists, with_row}
+use Rattle.plist_state.specs.Lists.{NumberedPlist, NumberedLists, with_row}
 use Rattle.plist_state.specs.State.{Readtables, first_readtables, first_rest}
 
 abbrev pub symbol_of : Symbol → properties.Symbol
 symbol_of s = (s.home.items, s.name.items)
 
 abbrev pub property_of : Property → properties.Symbol × Object
-property_of p = (symbol_of p.indicator, object_of p.value)
+property_of p = ((p.home.now, p.name.now), object_of p.value.now)
 
-abbrev pub plist_of : Vec Property → Plist
-plist_of row = map property_of row.items
+abbrev pub numbered_property : NumberedProperty → ℕ × Object
+numbered_property p = (p.indicator, object_of p.value)
+
+abbrev pub plist_of : Vec NumberedProperty → NumberedPlist
+plist_of row = map numbered_property row.items
 
 -- the rows of properties, by the numbers of their symbols
 abbrev pub Rows : Type 0
-Rows = List (ℕ × Vec Property)
+Rows = List (ℕ × Vec NumberedProperty)
 
 -- The property lists in the rows. An empty row is none.
 abbrev pub lists_in : Rows → NumberedLists
 lists_in [] = finite.empty
 lists_in (e ∷ es) = with_row (lists_in es) e.0 (plist_of e.1)
 
-abbrev pub lists_of : BTreeMap ℕ (Vec Property) → NumberedLists
+abbrev pub lists_of : BTreeMap ℕ (Vec NumberedProperty) → NumberedLists
 lists_of rows = lists_in rows.entries
 
 -- the row of a number
-abbrev pub row_at : Rows → ℕ → Option (Vec Property)
+abbrev pub row_at : Rows → ℕ → Option (Vec NumberedProperty)
 row_at rows i = lookup (is_at (nat_cmp i)) rows
 
 -- how many properties there is memory for in the row of a number
@@ -58,6 +61,7 @@ pub record NumberedRest : Type 0 where
   pub readtables : Readtables
   pub current_package : Name
   pub current_readtable : Name
+  pub read_base : ℕ
 
 -- no properties
 abbrev pub first_numbered : NumberedRest
@@ -67,6 +71,7 @@ first_numbered =
       readtables = first_readtables;
       current_package = first_rest.current_package;
       current_readtable = first_rest.current_readtable;
+      read_base = first_rest.read_base;
     }
 
 abbrev pub rest_of : Stored → NumberedRest
@@ -76,4 +81,5 @@ rest_of s =
       readtables = readtables_of s.readtables;
       current_package = s.current_package.items;
       current_readtable = s.current_readtable.items;
+      read_base = s.read_base;
     }

@@ -54,7 +54,8 @@ pub record IsReadtables (t : packages.Table) (m : Readtables) : Type 0 where
   pub names : (n : Name) → IsTrue (finite.contains_key m n) → IsSymbol t (keyword, n)
   pub each : (n : Name) (r : readtable.Table) → finite.get m n ≡ Some r → IsNamed t r
 
--- The packages are sound, the symbols that have properties are there, and the current names name something.
+-- The packages are sound, the symbols that have properties are there, the current names name something, and numbers are
+-- read in a base from 2 to 36.
 pub record IsSound (s : WorldState) : Type 0 where
   pub packages : packages.IsSound s.packages
   pub symbols : (x : Symbol) → IsTrue (finite.contains_key s.properties x) → IsSymbol s.packages x
@@ -62,6 +63,8 @@ pub record IsSound (s : WorldState) : Type 0 where
   pub readtables : IsReadtables s.packages s.readtables
   pub current_package : IsPackage s.packages s.current_package
   pub current_readtable : IsTrue (finite.contains_key s.readtables s.current_readtable)
+  pub lowest_base : 2 ≤ s.read_base
+  pub highest_base : s.read_base ≤ 36
 
 -- a world is sound where its state is, and each state to which it can go back
 pub record IsSoundWorld (w : Worlds) : Type 0 where

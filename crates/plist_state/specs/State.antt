@@ -1,6 +1,6 @@
--- The state of a world: its packages, the property lists, the readtables by name, and which package and which readtable
--- are current.
-use Rattle.std.specs.Prelude.{List, codes}
+-- The state of a world: its packages, the property lists, the readtables by name, which package and which readtable are
+-- current, and in which base numbers are read.
+use Rattle.std.specs.Prelude.{ℕ, List, codes}
 use Rattle.std.specs.FinMap as finite
 use Rattle.readtable_core.specs.Tables as readtable
 use Rattle.package_table.specs.Table as packages
@@ -17,6 +17,8 @@ pub record Rest : Type 0 where
   pub readtables : Readtables
   pub current_package : Name
   pub current_readtable : Name
+  -- the base in which tokens are read as numbers (standard 23.1.1, *READ-BASE*)
+  pub read_base : ℕ
 
 pub record WorldState : Type 0 where
   pub packages : packages.Table
@@ -24,6 +26,7 @@ pub record WorldState : Type 0 where
   pub readtables : Readtables
   pub current_package : Name
   pub current_readtable : Name
+  pub read_base : ℕ
 
 abbrev pub state_with : packages.Table → Rest → WorldState
 state_with t r =
@@ -33,6 +36,7 @@ state_with t r =
       readtables = r.readtables;
       current_package = r.current_package;
       current_readtable = r.current_readtable;
+      read_base = r.read_base;
     }
 
 -- The state now, and the states that were marked, to which the world can go back.
@@ -50,6 +54,10 @@ user_name = codes "USER"
 abbrev pub first_readtables : Readtables
 first_readtables = finite.insert (finite.insert finite.empty standard_name readtable.standard) user_name readtable.standard
 
+-- the base in which numbers are read first
+abbrev pub first_base : ℕ
+first_base = 10
+
 -- no properties
 abbrev pub first_rest : Rest
 first_rest =
@@ -58,6 +66,7 @@ first_rest =
       readtables = first_readtables;
       current_package = packages.common_lisp_user;
       current_readtable = user_name;
+      read_base = first_base;
     }
 
 -- the first state

@@ -12,32 +12,31 @@ use Rattle.plist_state.specs.declared.note.PropertyChange.TheVariants.{Set, Adde
 use Rattle.plist_state.specs.declared.note.TableChange.{TableChange}
 use Rattle.plist_state.specs.declared.note.TableChange.TheVariants.{Over, Letters, Character}
 use Rattle.plist_state.specs.declared.note.Note.{Note}
-use Rattle.plist_state.specs.declared.note.Note.TheVariants.{Property, Made, Changed, InPackage, InReadtable}
-use Rattle.plist_state.specs.Properties.{Symbol, Plist}
-use Rattle.plist_state.specs.Lists.{row_of, with_row}
+use Rattle.plist_state.specs.declared.note.Note.TheVariants.{Property, Made, Changed, InPackage, InReadtable, InBase}
+use Rattle.plist_state.specs.Lists.{NumberedPlist, row_of, with_row}
 use Rattle.plist_state.specs.State.{Readtables}
-use Rattle.plist_state.specs.Shown.{property_of, NumberedRest}
+use Rattle.plist_state.specs.Shown.{numbered_property, NumberedRest}
 
 -- with the value at an index, if the list reaches so far
-abbrev pub with_value_at : Plist → ℕ → Object → Plist
+abbrev pub with_value_at : NumberedPlist → ℕ → Object → NumberedPlist
 with_value_at [] k x = []
 with_value_at (p ∷ ps) zero x = (p.0, x) ∷ ps
 with_value_at (p ∷ ps) (suc k) x = p ∷ with_value_at ps k x
 
 -- with the property before the one at an index, or last where the list does not reach so far
-abbrev pub with_inserted : Plist → ℕ → Symbol × Object → Plist
+abbrev pub with_inserted : NumberedPlist → ℕ → ℕ × Object → NumberedPlist
 with_inserted [] k p = p ∷ []
 with_inserted (q ∷ ps) zero p = p ∷ q ∷ ps
 with_inserted (q ∷ ps) (suc k) p = q ∷ with_inserted ps k p
 
 -- the list before the change
-abbrev pub list_before : PropertyChange → Plist → Plist
+abbrev pub list_before : PropertyChange → NumberedPlist → NumberedPlist
 list_before (Set index value) ps = with_value_at ps index (object_of value)
 list_before Added ps = take (length ps - 1) ps
-list_before (Removed index property) ps = with_inserted ps index (property_of property)
+list_before (Removed index property) ps = with_inserted ps index (numbered_property property)
 
 -- the change leads back from the later list to the one before
-abbrev pub GoesBack : Plist → Plist → PropertyChange → Type 0
+abbrev pub GoesBack : NumberedPlist → NumberedPlist → PropertyChange → Type 0
 GoesBack before later change = list_before change later ≡ before
 
 -- the readtable before the change
@@ -57,6 +56,7 @@ undone (Made name) r = record r { readtables = finite.remove r.readtables name.i
 undone (Changed name change) r = record r { readtables = tables_before r.readtables name.items change }
 undone (InPackage name) r = record r { current_package = name.items }
 undone (InReadtable name) r = record r { current_readtable = name.items }
+undone (InBase base) r = record r { read_base = base }
 
 -- the rest before all these changes: the last is undone first
 abbrev pub all_undone : List Note → NumberedRest → NumberedRest

@@ -1,5 +1,5 @@
 //! Changes, each with what it overwrote.
-use crate::Property;
+use crate::property::NumberedProperty;
 use lisp_object::Datum;
 use readtable_core::{Case, CharacterSlot, Readtable};
 
@@ -7,11 +7,17 @@ use readtable_core::{Case, CharacterSlot, Readtable};
 #[derive(Drop)]
 pub(crate) enum PropertyChange {
     /// The value at an index was set; before, this one was there.
-    Set { index: usize, value: Datum },
+    Set {
+        index: usize,
+        value: Datum,
+    },
     /// A property was added at the end.
     Added,
     /// This property was taken out, which stood at an index.
-    Removed { index: usize, property: Property },
+    Removed {
+        index: usize,
+        property: NumberedProperty,
+    },
 }
 
 /// What has changed in a readtable.
@@ -38,4 +44,6 @@ pub(crate) enum Note {
     InPackage(Vec<u8>),
     /// Another readtable became current; before, it was this one.
     InReadtable(Vec<u8>),
+    /// Numbers are read in another base; before, it was this one.
+    InBase(u8),
 }

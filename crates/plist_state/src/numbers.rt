@@ -12,11 +12,7 @@ use package_table::Packages;
 pub(crate) fn number_of(packages: &Packages, home: &[u8], name: &[u8]) -> Option<u32>
     ensures { result ≡ numbers.number_of (numbered packages.now) home.now name.now }
 {
-    packages.soundness();
-    match packages.numbers().number_of(home, name) {
-        Some(number) => Some(number as u32),
-        None => None,
-    }
+    packages.number_of(home, name)
 }
 
 /// The number of a symbol that is there. Takes no memory.

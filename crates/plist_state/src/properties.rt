@@ -5,7 +5,7 @@ ghost use Rattle.plist_state.specs.Changes.{property, with_property, without_pro
 ghost use Rattle.plist_state.specs.Shown.{symbol_of};
 ghost use Rattle.plist_state.specs.Sound.{IsSymbol, IsValue};
 
-use crate::numbers::number;
+use crate::numbers::{number, number_of};
 use crate::{Symbol, World, stored};
 use lisp_object::Datum;
 use std::alloc::AllocError;
@@ -29,12 +29,13 @@ impl World {
         ensures err { OnErr result (self.new ≡ self.old) }
     {
         self.packages.numbering();
-        let number = number(&self.packages, symbol);
+        let owner = number(&self.packages, symbol);
+        let indicator = number(&self.packages, &indicator);
         stored::put(
             self.alloc,
             &mut self.stored,
             &mut self.marks,
-            number,
+            owner,
             indicator,
             value,
         )
@@ -54,7 +55,10 @@ impl World {
         ensures err { OnErr result (self.new ≡ self.old) }
     {
         self.packages.numbering();
-        let number = number(&self.packages, symbol);
-        stored::remove(&mut self.stored, &mut self.marks, number, indicator)
+        let owner = number(&self.packages, symbol);
+        let Some(indicator) = number_of(&self.packages, indicator.home(), indicator.name()) else {
+            return Ok(false);
+        };
+        stored::remove(&mut self.stored, &mut self.marks, owner, indicator)
     }
 }

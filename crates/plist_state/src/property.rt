@@ -1,28 +1,17 @@
 //! Properties: indicators with values beside them.
-ghost use Rattle.std.specs.Prelude.{◌≡◌};
-
-use crate::Symbol;
 use lisp_object::Datum;
 
-/// A property: an indicator, and the value beside it (standard 10.1).
-#[derive(Debug, Drop)]
-pub struct Property {
-    pub indicator: Symbol,
-    pub value: Datum,
+/// A property, as a world has it: the home and the name of its indicator, and the value beside it (standard 10.1).
+#[derive(Clone, Copy, Debug)]
+pub struct Property<'a> {
+    pub home: &'a [u8],
+    pub name: &'a [u8],
+    pub value: &'a Datum,
 }
 
-impl Property {
-    /// The indicator.
-    pub fn indicator(&self) -> &Symbol
-        ensures { result.now ≡ self.now.indicator }
-    {
-        &self.indicator
-    }
-
-    /// The value beside the indicator.
-    pub fn value(&self) -> &Datum
-        ensures { result.now ≡ self.now.value }
-    {
-        &self.value
-    }
+/// A property, as it is kept: the number of its indicator, and the value beside it.
+#[derive(Drop)]
+pub(crate) struct NumberedProperty {
+    pub(crate) indicator: u32,
+    pub(crate) value: Datum,
 }

@@ -8,7 +8,8 @@ ghost use Rattle.plist_state.specs.Readers.{readtable_names, borrowed_symbols, s
 ghost use Rattle.plist_state.specs.Shown.{lists_of, readtables_of};
 
 use crate::numbers::number_of;
-use crate::{Property, World, rows};
+use crate::property::NumberedProperty;
+use crate::{World, rows};
 use lisp_object::{Bytes, Items};
 use package_table::Packages;
 use readtable_core::Readtable;
@@ -28,7 +29,7 @@ fn names(alloc: Global, tables: &BTreeMap<Vec<u8>, Readtable>) -> Result<Items<B
 // Whether the symbol of this home and name has properties.
 fn has_properties(
     packages: &Packages,
-    rows: &BTreeMap<u32, Vec<Property>>,
+    rows: &BTreeMap<u32, Vec<NumberedProperty>>,
     home: &[u8],
     name: &[u8],
 ) -> bool
@@ -45,7 +46,7 @@ fn has_properties(
 fn push_owners<'a>(
     alloc: Global,
     packages: &'a Packages,
-    rows: &BTreeMap<u32, Vec<Property>>,
+    rows: &BTreeMap<u32, Vec<NumberedProperty>>,
     home: &'a [u8],
     symbols: &mut Vec<(&'a [u8], &'a [u8])>,
 ) -> Result<(), AllocError>
@@ -67,7 +68,7 @@ fn push_owners<'a>(
 fn owners<'a>(
     alloc: Global,
     packages: &'a Packages,
-    rows: &BTreeMap<u32, Vec<Property>>,
+    rows: &BTreeMap<u32, Vec<NumberedProperty>>,
 ) -> Result<Vec<(&'a [u8], &'a [u8])>, AllocError>
     ensures { IfOk result (λ symbols. borrowed_symbols symbols.items
         ≡ finite.keys (lists (numbered packages.now) (lists_of rows.now))) }

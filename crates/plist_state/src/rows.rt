@@ -4,40 +4,34 @@ ghost use Rattle.std.specs.List.{position};
 ghost use Rattle.std.specs.Option.{option_map};
 ghost use Rattle.std.specs.FinMap as finite;
 ghost use Rattle.lisp_object.specs.Datum.{object_of, is_proper};
-ghost use Rattle.plist_state.specs.Properties.{with_value, without_value, value_at, same_symbol};
-ghost use Rattle.plist_state.specs.Lists.{row_of, value_in, with_row, with_value_in, without_value_in};
-ghost use Rattle.plist_state.specs.Shown.{symbol_of, property_of, plist_of, lists_of, row_at, room_at};
+ghost use Rattle.plist_state.specs.Properties.{value_by, with_value_by, without_value_by};
+ghost use Rattle.plist_state.specs.Lists.{same_number, row_of, value_in, with_row, with_value_in, without_value_in};
+ghost use Rattle.plist_state.specs.Shown.{numbered_property, plist_of, lists_of, row_at, room_at};
 ghost use Rattle.plist_state.specs.Undoing.{list_before, GoesBack};
 ghost use Rattle.plist_state.specs.Kept.{IsProperRow, IsProperRows, IsProperChange, IsWider};
 
 use crate::note::PropertyChange;
-use crate::{Property, Symbol};
+use crate::property::NumberedProperty;
 use lisp_object::Datum;
 use std::alloc::{AllocError, Global};
-use std::cmp::Ordering;
 use std::collections::BTreeMap;
 use std::mem;
 
-// Whether the two are one symbol.
-fn is_same(a: &Symbol, b: &Symbol) -> bool
-    ensures { result ≡ same_symbol (symbol_of a.now) (symbol_of b.now) }
-{
-    matches!(a.cmp(b), Ordering::Equal)
-}
-
 // The index of the indicator in a row.
-fn index_of(row: &[Property], indicator: &Symbol) -> Option<usize>
-    ensures { result
-        ≡ position (λ p. same_symbol (symbol_of indicator.now) (symbol_of p.indicator)) row.now }
+fn index_of(row: &[NumberedProperty], indicator: u32) -> Option<usize>
+    ensures { result ≡ position (λ p. same_number indicator p.indicator) row.now }
 {
     row.iter()
-        .position(|property| is_same(indicator, &property.indicator))
+        .position(|property| indicator == property.indicator)
 }
 
 /// The properties of the symbol of a number.
-pub(crate) fn row<'a>(rows: &'a BTreeMap<u32, Vec<Property>>, number: u32) -> &'a [Property]
+pub(crate) fn row<'a>(
+    rows: &'a BTreeMap<u32, Vec<NumberedProperty>>,
+    number: u32,
+) -> &'a [NumberedProperty]
     requires { IsProperRows rows.now.entries }
-    ensures list { map property_of result.now ≡ row_of (lists_of rows.now) number }
+    ensures list { map numbered_property result.now ≡ row_of (lists_of rows.now) number }
     ensures proper { All (λ p. is_proper p.value ≡ true) result.now }
 {
     match rows.get(&number) {
@@ -47,7 +41,7 @@ pub(crate) fn row<'a>(rows: &'a BTreeMap<u32, Vec<Property>>, number: u32) -> &'
 }
 
 /// Whether the symbol of a number has properties.
-pub(crate) fn has_properties(rows: &BTreeMap<u32, Vec<Property>>, number: u32) -> bool
+pub(crate) fn has_properties(rows: &BTreeMap<u32, Vec<NumberedProperty>>, number: u32) -> bool
     ensures { result ≡ finite.contains_key (lists_of rows.now) number }
 {
     match rows.get(&number) {
@@ -58,13 +52,13 @@ pub(crate) fn has_properties(rows: &BTreeMap<u32, Vec<Property>>, number: u32) -
 
 /// The value beside an indicator in the property list of the symbol of a number.
 pub(crate) fn value<'a>(
-    rows: &'a BTreeMap<u32, Vec<Property>>,
+    rows: &'a BTreeMap<u32, Vec<NumberedProperty>>,
     number: u32,
-    indicator: &Symbol,
+    indicator: u32,
 ) -> Option<&'a Datum>
     requires { IsProperRows rows.now.entries }
     ensures value { option_map (λ d. object_of d.now) result
-        ≡ value_at (row_of (lists_of rows.now) number) (symbol_of indicator.now) }
+        ≡ value_in (lists_of rows.now) number indicator }
     ensures proper { IfSome result (λ d. is_proper d.now ≡ true) }
 {
     let row = row(rows, number);
@@ -76,37 +70,38 @@ pub(crate) fn value<'a>(
 
 // Sets the value beside an indicator in a row, in its place or last.
 fn write(
-    row: &mut Vec<Property>,
-    indicator: Symbol,
+    row: &mut Vec<NumberedProperty>,
+    indicator: u32,
     value: Datum,
 ) -> Result<PropertyChange, AllocError>
     requires proper { is_proper value ≡ true }
     ensures ok { IfOk result
-        (λ _. plist_of row.new ≡ with_value (plist_of row.old) (symbol_of indicator) (object_of value)) }
+        (λ _. plist_of row.new
+        ≡ with_value_by same_number (plist_of row.old) indicator (object_of value)) }
     ensures back { IfOk result (GoesBack (plist_of row.old) (plist_of row.new)) }
     ensures values { IsProperRow row.old → IsProperRow row.new }
     ensures former { IsProperRow row.old → IfOk result IsProperChange }
     ensures room { vec_capacity row.old ≤ vec_capacity row.new }
     ensures err { OnErr result (row.new.items ≡ row.old.items) }
 {
-    match index_of(row.as_slice(), &indicator) {
+    match index_of(row.as_slice(), indicator) {
         Some(index) => {
             let value = mem::replace(&mut row[index].value, value);
             Ok(PropertyChange::Set { index, value })
         }
         None => {
-            row.push(Property { indicator, value })?;
+            row.push(NumberedProperty { indicator, value })?;
             Ok(PropertyChange::Added)
         }
     }
 }
 
 // Takes a property out of a row.
-fn cut(row: &mut Vec<Property>, indicator: &Symbol) -> Option<PropertyChange>
+fn cut(row: &mut Vec<NumberedProperty>, indicator: u32) -> Option<PropertyChange>
     ensures after { plist_of row.new
-        ≡ without_value (plist_of row.old) (symbol_of indicator.now) }
+        ≡ without_value_by same_number (plist_of row.old) indicator }
     ensures had { is_some result
-        ≡ is_some (value_at (plist_of row.old) (symbol_of indicator.now)) }
+        ≡ is_some (value_by same_number (plist_of row.old) indicator) }
     ensures back { IfSome result (GoesBack (plist_of row.old) (plist_of row.new)) }
     ensures values { IsProperRow row.old → IsProperRow row.new }
     ensures former { IsProperRow row.old → IfSome result IsProperChange }
@@ -122,7 +117,7 @@ fn cut(row: &mut Vec<Property>, indicator: &Symbol) -> Option<PropertyChange>
 }
 
 // Takes a change of a row back. There is memory for what it was.
-fn revert(row: &mut Vec<Property>, change: PropertyChange)
+fn revert(row: &mut Vec<NumberedProperty>, change: PropertyChange)
     requires former { IsProperChange change }
     requires room { length (list_before change (plist_of row.old)) ≤ vec_capacity row.old }
     ensures after { plist_of row.new ≡ list_before change (plist_of row.old) }
@@ -150,7 +145,7 @@ fn revert(row: &mut Vec<Property>, change: PropertyChange)
 // An empty row for a number that has none.
 fn add_row(
     alloc: Global,
-    rows: &mut BTreeMap<u32, Vec<Property>>,
+    rows: &mut BTreeMap<u32, Vec<NumberedProperty>>,
     number: u32,
 ) -> Result<(), AllocError>
     ensures there { OnOk result (IsSome (row_at rows.new.entries number)) }
@@ -170,16 +165,16 @@ fn add_row(
 
 // Sets the value beside an indicator in the row of a number, which is there.
 fn write_at(
-    rows: &mut BTreeMap<u32, Vec<Property>>,
+    rows: &mut BTreeMap<u32, Vec<NumberedProperty>>,
     number: u32,
-    indicator: Symbol,
+    indicator: u32,
     value: Datum,
 ) -> Result<PropertyChange, AllocError>
     requires proper { is_proper value ≡ true }
     requires row { IsSome (row_at rows.old.entries number) }
     requires values { IsProperRows rows.old.entries }
     ensures ok { IfOk result (λ _. lists_of rows.new
-        ≡ with_value_in (lists_of rows.old) number (symbol_of indicator) (object_of value)) }
+        ≡ with_value_in (lists_of rows.old) number indicator (object_of value)) }
     ensures back { IfOk result
         (GoesBack (row_of (lists_of rows.old) number) (row_of (lists_of rows.new) number)) }
     ensures former { IfOk result IsProperChange }
@@ -198,15 +193,15 @@ fn write_at(
 /// Sets the value beside an indicator of the symbol of a number, in its place or last.
 pub(crate) fn put(
     alloc: Global,
-    rows: &mut BTreeMap<u32, Vec<Property>>,
+    rows: &mut BTreeMap<u32, Vec<NumberedProperty>>,
     number: u32,
-    indicator: Symbol,
+    indicator: u32,
     value: Datum,
 ) -> Result<PropertyChange, AllocError>
     requires proper { is_proper value ≡ true }
     requires values { IsProperRows rows.old.entries }
     ensures ok { IfOk result (λ _. lists_of rows.new
-        ≡ with_value_in (lists_of rows.old) number (symbol_of indicator) (object_of value)) }
+        ≡ with_value_in (lists_of rows.old) number indicator (object_of value)) }
     ensures back { IfOk result
         (GoesBack (row_of (lists_of rows.old) number) (row_of (lists_of rows.new) number)) }
     ensures former { IfOk result IsProperChange }
@@ -219,15 +214,15 @@ pub(crate) fn put(
 
 /// Takes the property of an indicator out of the list of the symbol of a number, if it is there.
 pub(crate) fn remove(
-    rows: &mut BTreeMap<u32, Vec<Property>>,
+    rows: &mut BTreeMap<u32, Vec<NumberedProperty>>,
     number: u32,
-    indicator: &Symbol,
+    indicator: u32,
 ) -> Option<PropertyChange>
     requires values { IsProperRows rows.old.entries }
     ensures after { lists_of rows.new
-        ≡ without_value_in (lists_of rows.old) number (symbol_of indicator.now) }
+        ≡ without_value_in (lists_of rows.old) number indicator }
     ensures had { is_some result
-        ≡ is_some (value_in (lists_of rows.old) number (symbol_of indicator.now)) }
+        ≡ is_some (value_in (lists_of rows.old) number indicator) }
     ensures back { IfSome result
         (GoesBack (row_of (lists_of rows.old) number) (row_of (lists_of rows.new) number)) }
     ensures former { IfSome result IsProperChange }
@@ -241,7 +236,7 @@ pub(crate) fn remove(
 
 /// Takes a change of the property list of the symbol of a number back. There is memory for what it was.
 pub(crate) fn take_back(
-    rows: &mut BTreeMap<u32, Vec<Property>>,
+    rows: &mut BTreeMap<u32, Vec<NumberedProperty>>,
     number: u32,
     change: PropertyChange,
 )

@@ -2,32 +2,37 @@
 ghost use Rattle.std.specs.Prelude.{◌≡◌, ◌≢◌, ◌≤◌, true, Ok, Err, is_some, IfOk, IfErr, OnOk, OnErr};
 ghost use Rattle.std.specs.FinMap as finite;
 ghost use Rattle.lisp_object.specs.Datum.{object_of, is_proper};
-ghost use Rattle.plist_state.specs.Properties.{with_value, without_value, value_at};
 ghost use Rattle.plist_state.specs.State.{first_readtables};
 ghost use Rattle.plist_state.specs.Lists.{value_in, with_value_in, without_value_in};
-ghost use Rattle.plist_state.specs.Shown.{symbol_of, first_numbered, rest_of, readtables_of};
+ghost use Rattle.plist_state.specs.Shown.{first_numbered, rest_of, readtables_of};
 ghost use Rattle.plist_state.specs.Kept.{IsProperRows, IsWider};
 ghost use Rattle.plist_state.specs.Journal.{marks_of, Continues};
 
 use crate::journal::{push_note, reserve_note};
 use crate::note::Note;
+use crate::property::NumberedProperty;
+use crate::rows;
 use crate::tables::{STANDARD, USER};
-use crate::{Property, Symbol, rows};
 use lisp_object::Datum;
 use package_table::standardized::COMMON_LISP_USER;
 use readtable_core::Readtable;
 use std::alloc::{AllocError, Global};
 use std::collections::BTreeMap;
 
-/// A row of properties for each symbol that ever had one, by its number, the readtables by name, and the two current names.
+/// A row of properties for each symbol that ever had one, by its number, the readtables by name, the two current names, and
+/// the base in which numbers are read.
 /// A row that was emptied stays, so that to go back takes no memory: the symbol has no property list then.
 #[derive(Drop)]
 pub(crate) struct Stored {
-    pub(crate) properties: BTreeMap<u32, Vec<Property>>,
+    pub(crate) properties: BTreeMap<u32, Vec<NumberedProperty>>,
     pub(crate) readtables: BTreeMap<Vec<u8>, Readtable>,
     pub(crate) current_package: Vec<u8>,
     pub(crate) current_readtable: Vec<u8>,
+    pub(crate) read_base: u8,
 }
+
+// The base in which numbers are read first.
+const FIRST_BASE: u8 = 10;
 
 // The first readtables: STANDARD and USER.
 fn first_readtables(alloc: Global) -> Result<BTreeMap<Vec<u8>, Readtable>, AllocError>
@@ -52,6 +57,7 @@ pub(crate) fn first_stored(alloc: Global) -> Result<Stored, AllocError>
         readtables,
         current_package: Vec::from_slice(alloc, COMMON_LISP_USER)?,
         current_readtable: Vec::from_slice(alloc, USER)?,
+        read_base: FIRST_BASE,
     })
 }
 
@@ -61,15 +67,14 @@ pub(crate) fn put(
     stored: &mut Stored,
     marks: &mut Vec<Vec<Note>>,
     number: u32,
-    indicator: Symbol,
+    indicator: u32,
     value: Datum,
 ) -> Result<(), AllocError>
     requires proper { is_proper value ≡ true }
     requires values { IsProperRows stored.old.properties.entries }
     ensures ok { let r = rest_of stored.old in
         OnOk result (rest_of stored.new ≡ record r {
-          properties
-              = with_value_in r.properties number (symbol_of indicator) (object_of value);
+          properties = with_value_in r.properties number indicator (object_of value);
         }) }
     ensures err { OnErr result (rest_of stored.new ≡ rest_of stored.old) }
     ensures wider { IsWider stored.old.properties.entries stored.new.properties.entries }
@@ -89,18 +94,17 @@ pub(crate) fn remove(
     stored: &mut Stored,
     marks: &mut Vec<Vec<Note>>,
     number: u32,
-    indicator: &Symbol,
+    indicator: u32,
 ) -> Result<bool, AllocError>
     requires { IsProperRows stored.old.properties.entries }
     ensures ok { let r = rest_of stored.old in
         OnOk result (rest_of stored.new ≡ record r {
-          properties
-              = without_value_in r.properties number (symbol_of indicator.now);
+          properties = without_value_in r.properties number indicator;
         }) }
     ensures had { IfOk result (λ had. had
-        ≡ is_some (value_in (rest_of stored.old).properties number (symbol_of indicator.now))) }
+        ≡ is_some (value_in (rest_of stored.old).properties number indicator)) }
     ensures absent { OnErr result
-        (is_some (value_in (rest_of stored.old).properties number (symbol_of indicator.now)) ≡ true) }
+        (is_some (value_in (rest_of stored.old).properties number indicator) ≡ true) }
     ensures err { OnErr result (rest_of stored.new ≡ rest_of stored.old) }
     ensures wider { IsWider stored.old.properties.entries stored.new.properties.entries }
     ensures marked { Continues (marks_of marks.old.items) (rest_of stored.old)

@@ -26,6 +26,7 @@ fn undo(stored: &mut Stored, note: Note)
         }
         Note::InPackage(name) => stored.current_package = name,
         Note::InReadtable(name) => stored.current_readtable = name,
+        Note::InBase(base) => stored.read_base = base,
     }
 }
 

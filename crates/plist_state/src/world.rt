@@ -1,32 +1,43 @@
 //! The world, and what is asked of it.
-ghost use Rattle.std.specs.Prelude.{◌≡◌, [], true, map, All, IfOk, IfSome};
+ghost use Rattle.std.specs.Prelude.{◌≡◌, [], true, IfOk, IfSome};
 ghost use Rattle.std.specs.Option.{option_map};
 ghost use Rattle.std.specs.FinMap as finite;
 ghost use Rattle.lisp_object.specs.Datum.{object_of, is_proper};
 ghost use Rattle.plist_state.specs.Changes.{plist, property};
-ghost use Rattle.plist_state.specs.Shown.{symbol_of, property_of};
+ghost use Rattle.plist_state.specs.Shown.{symbol_of};
 ghost use Rattle.plist_state.specs.Sound.{IsSoundWorld};
 ghost use Rattle.plist_state.specs.State.{initial};
 
 use crate::note::Note;
 use crate::numbers::number_of;
 use crate::stored::{Stored, first_stored};
-use crate::{Property, Symbol, rows, tables};
+use crate::{PropertyList, Symbol, rows, tables};
 use lisp_object::Datum;
-use package_table::Packages;
+use package_table::{Packages, Seed};
 use readtable_core::Readtable;
 use std::alloc::{AllocError, Global};
 use std::marker::Model;
 
 /// A world: packages, the property lists of symbols, readtables by name, the current package and the current readtable.
 /// Contracts see its state, and after it the list of the states that were marked.
-#[derive(Drop)]
 pub struct World {
     pub(crate) alloc: Global,
     pub(crate) packages: Packages,
     pub(crate) stored: Stored,
     // What changed in the rest since each mark, up to the next one. The packages have marks of their own, as many.
     pub(crate) marks: Vec<Vec<Note>>,
+}
+
+// A call, so that a crate above does not see what is kept at each exit of a function that owns a world.
+impl Drop for World {
+    fn drop(self) {
+        let World {
+            alloc: _,
+            packages: _,
+            stored: _,
+            marks: _,
+        } = self;
+    }
 }
 
 impl Model for World {
@@ -50,7 +61,14 @@ impl World {
     pub fn new(alloc: Global) -> Result<World, AllocError>
         ensures { IfOk result (λ world. world ≡ (initial, [])) }
     {
-        let packages = Packages::new(alloc)?;
+        World::with_seed(alloc, Seed::fixed())
+    }
+
+    /// The same, where names are hashed by this seed (`Packages::with_seed`).
+    pub fn with_seed(alloc: Global, seed: Seed) -> Result<World, AllocError>
+        ensures { IfOk result (λ world. world ≡ (initial, [])) }
+    {
+        let packages = Packages::with_seed(alloc, seed)?;
         packages.soundness();
         Ok(World {
             alloc,
@@ -101,29 +119,32 @@ impl World {
             ≡ property self.now.0 (symbol_of symbol.now) (symbol_of indicator.now) }
         ensures proper { IfSome result (λ d. is_proper d.now ≡ true) }
     {
-        match number_of(&self.packages, symbol.home(), symbol.name()) {
-            Some(number) => rows::value(&self.stored.properties, number, indicator),
-            None => None,
-        }
+        self.packages.numbering();
+        let Some(owner) = number_of(&self.packages, symbol.home(), symbol.name()) else {
+            return None;
+        };
+        let Some(indicator) = number_of(&self.packages, indicator.home(), indicator.name()) else {
+            return None;
+        };
+        rows::value(&self.stored.properties, owner, indicator)
     }
 
-    /// The property list of a symbol, the indicators in the order in which they were first set (standard 10.2,
-    /// `symbol-plist`). Takes no memory.
-    pub fn plist(&self, symbol: &Symbol) -> &[Property]
-        ensures list { map property_of result.now ≡ plist self.now.0 (symbol_of symbol.now) }
-        ensures proper { All (λ p. is_proper p.value ≡ true) result.now }
+    /// The property list of a symbol (standard 10.2, `symbol-plist`). Takes no memory.
+    pub fn plist(&self, symbol: &Symbol) -> PropertyList<'_>
+        ensures { result ≡ plist self.now.0 (symbol_of symbol.now) }
     {
         self.plist_of(symbol.home(), symbol.name())
     }
 
     /// The same of the symbol of this home and name. Takes no memory.
-    pub fn plist_of(&self, home: &[u8], name: &[u8]) -> &[Property]
-        ensures list { map property_of result.now ≡ plist self.now.0 (home.now, name.now) }
-        ensures proper { All (λ p. is_proper p.value ≡ true) result.now }
+    pub fn plist_of(&self, home: &[u8], name: &[u8]) -> PropertyList<'_>
+        ensures { result ≡ plist self.now.0 (home.now, name.now) }
     {
         match number_of(&self.packages, home, name) {
-            Some(number) => rows::row(&self.stored.properties, number),
-            None => &[],
+            Some(number) => {
+                PropertyList::new(&self.packages, rows::row(&self.stored.properties, number))
+            }
+            None => PropertyList::new(&self.packages, &[]),
         }
     }
 }

@@ -2,3 +2,4 @@
 pub mod Numbered
 pub mod Replaying
 pub mod Covering
+pub mod Migrating

@@ -2,3 +2,4 @@
 pub mod Acceptance
 pub mod Files
 pub mod Answers
+pub mod Version1

@@ -1,9 +1,11 @@
-//! The theorem over any calls in a row and over any openings after them, and that files mean one world.
-ghost use Rattle.std.specs.Prelude.{◌≡◌, ◌↔◌, ℕ, ◌+◌, Bool, true, List, [], ◌++◌, take, Some, Err};
+//! The theorem over any calls in a row and over any openings after them, that files mean one world, and that files of version 1
+//! mean what they meant.
+ghost use Rattle.std.specs.Prelude.{◌≡◌, ◌↔◌, ℕ, ◌+◌, Bool, true, List, [], ◌++◌, take, Some, Ok, Err};
 ghost use Rattle.disk_trait.specs.Disk.{Image, IsFresh, IsHonest, Throughout};
 ghost use Rattle.gate_log.specs.Layout.{LogRecord};
-ghost use Rattle.prevalence_store.specs.meaning.Acceptance.{accepts, IsFormNumber};
+ghost use Rattle.prevalence_store.specs.meaning.Acceptance.{Acceptance, accepts, IsFormNumber};
 ghost use Rattle.prevalence_store.specs.meaning.Files.{MeansWorld};
+ghost use Rattle.prevalence_store.specs.meaning.Version1.{accepts1, MeansWorld1};
 ghost use Rattle.prevalence_store.specs.declared.mode.Mode.{Mode};
 ghost use Rattle.prevalence_store.specs.calls.Open.{IsNoWord, IsUnopened, limit_of};
 ghost use Rattle.prevalence_store.specs.Theorem.{Call, Headline, IsAfterSome, IsStoppedBetween};
@@ -24,6 +26,18 @@ pub fn one_world()
 pub fn fresh_files<D: Disk>()
     ensures { (functions : Functions) (disk : D)
         → IsFresh (D.state disk) → Keeps functions (D.state disk) initial }
+{}
+
+/// What version 1 accepted, and what files meant to a program of version 1, is accepted and meant as before, by worlds that
+/// read in base 10. So a store whose half in use is of version 1 opens with the world that it had.
+pub fn version_1_stays()
+    ensures forms { (functions : Functions) (world : WorldState) (mode : Mode) (text : List ℕ)
+        → (given : Acceptance) → world.read_base ≡ 10
+        → accepts1 functions world mode text ≡ Ok given
+        → (accepts functions world mode text ≡ Ok given) × (given.world.read_base ≡ 10) }
+    ensures files { (functions : Functions) (image : Image) (world : WorldState)
+        → MeansWorld1 functions image world
+        → MeansWorld functions image world × (world.read_base ≡ 10) }
 {}
 
 /// A form is refused under a number of 1 to 46 alone: the numbers from 60 on are those of the store.

@@ -15,9 +15,12 @@
 //!   the world after some of all the forms, from the first on, and after all that were acknowledged.
 //! - *Openings in a row* (`recoveries`): so does an opening after a device fault, or after a stop of the process while the machine
 //!   goes on, where a crash may leave more than one world; also where that opening is refused, or stopped itself.
+//! - *Files of version 1* (`version_1_stays`): what version 1 accepted and meant is accepted and meant the same. `open` reads
+//!   them, `execute` goes on in their half, and `snapshot` begins a half of version 2; what these survive is said above, of
+//!   files of both versions alike.
 //!
 //! Of every disk: each call returns; 60 comes exactly if the device's count of failures rose, and after it each call but
-//! `close`, `world`, `half`, `generation` and `record_count` answers 61; a refusal of 1 to 46, 64, 65 or 90 changes nothing.
+//! `close`, `world`, `half`, `version`, `generation` and `record_count` answers 61; a refusal of 1 to 46, 64, 65 or 90 changes nothing.
 //!
 //! - `Store::execute` answers what acceptance gives for a text in the world (`Executes`), each answer with its cause.
 //! - `Store::snapshot` starts the half that is not in use with the text of the world (`snapshot_text`), and changes neither
@@ -35,7 +38,8 @@
 //! - `session`: `serve`, and its parts: `input` and `output`, the streams; `answer`, what becomes of a form that was read;
 //!   `schedule`, when it takes snapshots.
 //! - `mode`, `step`, `outcome`, `open_fault`: the words of the calls. `failure`: why a form is not accepted.
-//! - `laws`: the headline, openings in a row, that an image means one world, and which numbers refuse a form.
+//! - `laws`: the headline, openings in a row, that an image means one world, that files of version 1 mean what they meant, and
+//!   which numbers refuse a form.
 #![tactic(auto)]
 
 mod commit;
@@ -50,7 +54,7 @@ mod setting;
 mod step;
 mod store;
 
-pub use laws::{form_numbers, fresh_files, headline, one_world, recoveries};
+pub use laws::{form_numbers, fresh_files, headline, one_world, recoveries, version_1_stays};
 pub use lisp_object::refusal::name_of as refusal_name;
 pub use mode::Mode;
 pub use open_fault::OpenFault;

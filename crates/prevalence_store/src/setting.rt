@@ -1,8 +1,8 @@
 // Under what a text is read, and what it begins with.
-ghost use Rattle.std.specs.Prelude.{◌≡◌, true, IfOk};
+ghost use Rattle.std.specs.Prelude.{◌≡◌, ◌≤◌, true, IfOk};
 ghost use Rattle.package_table.specs.Table.{IsPackage};
 ghost use Rattle.form_reader.specs.Reader.{IsOutcome};
-ghost use Rattle.prevalence_store.specs.meaning.Acceptance.{package_in, read_in, table_in};
+ghost use Rattle.prevalence_store.specs.meaning.Acceptance.{base_in, package_in, read_in, table_in};
 ghost use Rattle.user_macros.specs.Functions.{are_registered};
 
 use crate::mode::Mode;
@@ -35,6 +35,18 @@ pub(crate) fn package_in(world: &World, mode: Mode) -> &[u8]
     }
 }
 
+/// The base of the numbers of a text.
+pub(crate) fn base_in(world: &World, mode: Mode) -> u8
+    ensures base { result ≡ base_in world.now.0 mode }
+    ensures lowest_base { 2 ≤ result }
+    ensures highest_base { result ≤ 36 }
+{
+    match mode {
+        Mode::Current => world.read_base(),
+        Mode::Rescue => 10,
+    }
+}
+
 /// What a text begins with.
 pub(crate) fn begins<R: MacroFunctions>(
     alloc: Global,
@@ -54,6 +66,7 @@ pub(crate) fn begins<R: MacroFunctions>(
         alloc,
         Limits::form(),
         readtable,
+        base_in(world, mode),
         world.packages(),
         package,
         macros,

@@ -7,12 +7,12 @@ use disk_trait::MemoryDisk;
 use std::alloc::Global;
 use std::test::Fail;
 
-/// Half A after one form, 177 bytes.
+/// Half A after one form, 180 bytes.
 fn half_a(alloc: Global) -> Result<Vec<u8>, Trouble> {
     let calls = [session(b"(SETF (GET 'A 'B) 7)\n")];
     let Left { text: _, files } = left_after(alloc, MemoryDisk::new(alloc), AMPLE, &calls)?;
     let Files { a, b: _ } = files;
-    if a.len() == 177 {
+    if a.len() == 180 {
         Ok(a)
     } else {
         Err(Trouble::Length)
@@ -58,10 +58,10 @@ fn an_altered_byte_is_found(rt: HostRuntime) -> Result<(), Fail> {
         (2, 9, b"unopened 66\n"),
         (10, 0, b"unopened 62\n"),
         (15, 0x20, b"unopened 62\n"),
-        (151, 2, b"unopened 62\n"),
-        (155, 0x15, b"unopened 62\n"),
-        (156, 0x29, b"unopened 62\n"),
-        (176, 0xa5, b"unopened 62\n"),
+        (154, 2, b"unopened 62\n"),
+        (158, 0x15, b"unopened 62\n"),
+        (159, 0x29, b"unopened 62\n"),
+        (179, 0xa5, b"unopened 62\n"),
     ];
     // the byte that it has
     assert!(rt; opens_with_byte(rt.alloc(), 0, 0xa5, b"")?);
@@ -70,6 +70,25 @@ fn an_altered_byte_is_found(rt: HostRuntime) -> Result<(), Fail> {
             opens_with_byte(rt.alloc(), place, byte, wanted)?,
             "at {place}"
         );
+    }
+    Ok(())
+}
+
+/// Whether half A is as an empty one.
+fn is_as_empty(alloc: Global, a: &[u8]) -> Result<bool, Trouble> {
+    let world = told(alloc, disk_of(alloc, a, b"")?, &[Ask::World])?;
+    Ok(world == told(alloc, MemoryDisk::new(alloc), &[Ask::World])?)
+}
+
+#[test]
+fn a_half_whose_gate_is_closed_is_as_an_empty_one(rt: HostRuntime) -> Result<(), Fail> {
+    let alloc = rt.alloc();
+    for bytes in [
+        cut_to(alloc, 0)?,
+        cut_to(alloc, 1)?,
+        with_byte(alloc, 0, 0)?,
+    ] {
+        assert!(rt; is_as_empty(alloc, bytes.as_slice())?, "{bytes:?}");
     }
     Ok(())
 }
@@ -95,7 +114,7 @@ fn is_damaged_twice(alloc: Global) -> Result<bool, Trouble> {
 #[test]
 fn a_cut_file_is_found(rt: HostRuntime) -> Result<(), Fail> {
     let alloc = rt.alloc();
-    for length in [2, 3, 14, 15, 16, 100, 149, 150, 151, 155, 156, 170, 176] {
+    for length in [2, 3, 14, 15, 16, 100, 152, 153, 154, 158, 159, 173, 179] {
         assert!(rt; is_damaged(alloc, length)?, "at {length}");
     }
     assert!(rt; is_damaged_twice(alloc)?);
@@ -106,7 +125,7 @@ fn a_cut_file_is_found(rt: HostRuntime) -> Result<(), Fail> {
 fn two_generations(alloc: Global) -> Result<Files, Trouble> {
     let a = half_a(alloc)?;
     let mut b = with_byte(alloc, 10, 2)?;
-    if let Some(value) = b.get_mut(174) {
+    if let Some(value) = b.get_mut(177) {
         *value = b'9';
     }
     Ok(Files { a, b })
@@ -121,7 +140,7 @@ fn is_b_in_use(alloc: Global) -> Result<bool, Trouble> {
     Ok(
         found.text.as_slice() == b"9\nend\n".as_slice()
             && found.files.a == files.a
-            && found.files.b.len() == 177
+            && found.files.b.len() == 180
             && half.as_slice() == b"half B generation 2 records 1\n".as_slice(),
     )
 }
@@ -181,8 +200,8 @@ fn a_disk_that_is_refused_is_as_it_was(rt: HostRuntime) -> Result<(), Fail> {
         (whole.as_slice(), whole.as_slice(), AMPLE, b"unopened 62\n"),
         (cut.as_slice(), b"", AMPLE, b"unopened 62\n"),
         (other.as_slice(), b"", AMPLE, b"unopened 66\n"),
-        (b"", b"", 150, b"unopened 65\n"),
-        (whole.as_slice(), b"", 150, b""),
+        (b"", b"", 153, b"unopened 65\n"),
+        (whole.as_slice(), b"", 153, b""),
     ];
     for (a, b, limit, wanted) in cases {
         assert!(rt; opens_as(alloc, a, b, limit, wanted)?, "{wanted:?}");
@@ -193,7 +212,7 @@ fn a_disk_that_is_refused_is_as_it_was(rt: HostRuntime) -> Result<(), Fail> {
 
 /// The text of a session that gets the property where the gate of the record is closed.
 fn get_behind_a_gate(alloc: Global) -> Result<Vec<u8>, Trouble> {
-    let bytes = with_byte(alloc, 150, 0)?;
+    let bytes = with_byte(alloc, 153, 0)?;
     told(
         alloc,
         disk_of(alloc, bytes.as_slice(), b"")?,

@@ -7,7 +7,7 @@ use disk_trait::{Disk, MemoryDisk};
 use lisp_object::Datum;
 use prevalence_store::{Ending, Mode, Outcome, Step, Store};
 use std::alloc::Global;
-use std::io::{Read, Result as IoResult, Write};
+use std::io::{Error, Read, Result as IoResult, Write};
 use store_commands::{SixFunctions, write_half_line};
 
 /// A call of an open store, and the lines of it in the text.
@@ -23,17 +23,22 @@ pub enum Ask<'a> {
     Run(&'a [Step<'a>]),
     /// What the store tells of the half in use: `half A generation 1 records 0`.
     Half,
+    /// The version of the half in use: `version 2`.
+    Version,
     /// The text of the world, or `no world`.
     World,
 }
 
-/// A session: its mode, after how many forms it takes a snapshot, and its input, which comes in pieces of at most so many bytes.
+/// A session: its mode, after how many forms it takes a snapshot, and its input, which comes in pieces of at most so many bytes. Its
+/// reader fails after so many reads, and its writer after so many bytes.
 #[derive(Clone, Copy)]
 pub struct Serving<'a> {
     pub mode: Mode,
     pub every: u64,
     pub most: usize,
     pub input: &'a [u8],
+    pub reads: u64,
+    pub room: usize,
 }
 
 /// A session in a mode, of an input that comes at once.
@@ -43,6 +48,8 @@ pub fn session_in(mode: Mode, input: &[u8]) -> Ask<'_> {
         every: 0,
         most: usize::MAX,
         input,
+        reads: u64::MAX,
+        room: usize::MAX,
     })
 }
 
@@ -56,19 +63,47 @@ pub fn form(text: &[u8]) -> Ask<'_> {
     Ask::Form(Mode::Current, text)
 }
 
-/// Gives its text in pieces of at most so many bytes.
+/// Gives its text in pieces of at most so many bytes, and fails after so many reads.
 #[derive(Drop)]
-pub struct Pieces<'a> {
-    pub rest: &'a [u8],
-    pub most: usize,
+struct Pieces<'a> {
+    rest: &'a [u8],
+    most: usize,
+    reads: u64,
 }
 
 impl Read for Pieces<'_> {
     fn read(&mut self, buf: &mut [u8]) -> IoResult<usize> {
+        if self.reads == 0 {
+            return Err(Error::other("no more reads"));
+        }
+        self.reads -= 1;
         let count = buf.len().min(self.most).min(self.rest.len());
         buf[..count].copy_from_slice(&self.rest[..count]);
         self.rest = &self.rest[count..];
         Ok(count)
+    }
+}
+
+/// Keeps so many bytes, and then fails.
+#[derive(Drop)]
+struct Kept {
+    text: Vec<u8>,
+    room: usize,
+}
+
+impl Write for Kept {
+    fn write(&mut self, buf: &[u8]) -> IoResult<usize> {
+        if self.room == 0 {
+            return Err(Error::other("no more room"));
+        }
+        let count = buf.len().min(self.room);
+        self.text.write_all(&buf[..count])?;
+        self.room -= count;
+        Ok(count)
+    }
+
+    fn flush(&mut self) -> IoResult<()> {
+        Ok(())
     }
 }
 
@@ -99,26 +134,34 @@ fn outcome_line(text: &mut Vec<u8>, outcome: &Outcome) -> Result<(), Trouble> {
     }
 }
 
-/// How a session ends that writes into the text.
+/// How a session ends, and what it writes.
 fn serve<D: Disk>(
+    alloc: Global,
     store: &mut Store<D, ByName>,
     session: Serving<'_>,
-    text: &mut Vec<u8>,
-) -> Ending {
+) -> (Ending, Vec<u8>) {
     let mut reader = Pieces {
         rest: session.input,
         most: session.most,
+        reads: session.reads,
     };
-    store.serve(&mut reader, text, session.mode, session.every)
+    let mut writer = Kept {
+        text: Vec::new(alloc),
+        room: session.room,
+    };
+    let ending = store.serve(&mut reader, &mut writer, session.mode, session.every);
+    (ending, writer.text)
 }
 
 /// The lines of a session, and that of its end.
 fn session_lines<D: Disk>(
+    alloc: Global,
     store: &mut Store<D, ByName>,
     session: Serving<'_>,
     text: &mut Vec<u8>,
 ) -> Result<(), Trouble> {
-    let ending = serve(store, session, text);
+    let (ending, answers) = serve(alloc, store, session);
+    text.extend_from_slice(answers.as_slice())?;
     ending_line(text, ending)
 }
 
@@ -188,11 +231,12 @@ fn ask_one<D: Disk>(
     text: &mut Vec<u8>,
 ) -> Result<(), Trouble> {
     match call {
-        Ask::Serve(session) => session_lines(store, session, text),
+        Ask::Serve(session) => session_lines(alloc, store, session, text),
         Ask::Form(mode, form) => form_line(store, mode, form, text),
         Ask::Snapshot => snapshot_line(store, text),
         Ask::Run(steps) => run(store, steps, text),
         Ask::Half => half_line(store, text),
+        Ask::Version => number_line(text, "version", i128::from(store.version())),
         Ask::World => world_text(alloc, store, text),
     }
 }
@@ -216,12 +260,22 @@ pub enum Opening<D: Disk> {
     Refused(u16, D),
 }
 
-/// Opens a store over a disk.
+/// Opens a store over a disk with all macro functions.
 pub fn open<D: Disk + Drop>(alloc: Global, disk: D, limit: u64) -> Result<Opening<D>, Trouble> {
+    open_with(alloc, disk, ByName::new(alloc, SixFunctions::new()), limit)
+}
+
+/// Opens a store over a disk with these macro functions.
+fn open_with<D: Disk + Drop>(
+    alloc: Global,
+    disk: D,
+    macros: ByName,
+    limit: u64,
+) -> Result<Opening<D>, Trouble> {
     if disk.failures() > 0 {
         return Err(Trouble::Device);
     }
-    match Store::open(alloc, disk, ByName::new(alloc, SixFunctions::new()), limit) {
+    match Store::open(alloc, disk, macros, limit) {
         Ok(store) => Ok(Opening::Opened(store)),
         Err(unopened) => Ok(Opening::Refused(unopened.number, unopened.disk)),
     }
@@ -255,7 +309,24 @@ pub fn asked<D: Disk + Drop>(
     limit: u64,
     calls: &[Ask<'_>],
 ) -> Result<(Vec<u8>, D), Trouble> {
-    match open(alloc, disk, limit)? {
+    asked_with(
+        alloc,
+        disk,
+        ByName::new(alloc, SixFunctions::new()),
+        limit,
+        calls,
+    )
+}
+
+/// The same with these macro functions.
+pub fn asked_with<D: Disk + Drop>(
+    alloc: Global,
+    disk: D,
+    macros: ByName,
+    limit: u64,
+    calls: &[Ask<'_>],
+) -> Result<(Vec<u8>, D), Trouble> {
+    match open_with(alloc, disk, macros, limit)? {
         Opening::Opened(store) => asked_of(alloc, store, calls),
         Opening::Refused(number, disk) => {
             let mut text = Vec::new(alloc);

@@ -9,20 +9,43 @@ ghost use Rattle.store_commands.specs.MacroFunctions.{function_names, six_functi
 
 use readtable_core::{CharacterSlot, FnName, Readtable};
 use std::alloc::{AllocError, Global};
+use std::cell::Cell;
 use store_commands::{SixFunctions, macro_functions};
 use user_macros::{Answer, Call, Gather, MacroFunctions, Meaning};
 
-/// All six functions.
+/// All six functions. One call may find no memory.
 #[derive(Drop)]
 pub struct ByName {
     alloc: Global,
     meaning: SixFunctions,
+    calls_left: Cell<Option<u64>>,
 }
 
 impl ByName {
     /// The functions of this meaning, which allocate their answers so.
     pub fn new(alloc: Global, meaning: SixFunctions) -> ByName {
-        ByName { alloc, meaning }
+        ByName {
+            alloc,
+            meaning,
+            calls_left: Cell::new(None),
+        }
+    }
+
+    /// The same functions; the call of this number finds no memory. Calls are counted from 0.
+    pub fn short_once(alloc: Global, meaning: SixFunctions, call: u64) -> ByName {
+        ByName {
+            alloc,
+            meaning,
+            calls_left: Cell::new(Some(call)),
+        }
+    }
+
+    /// Whether this call finds no memory.
+    fn is_short(&self) -> bool {
+        let left = self.calls_left.get();
+        self.calls_left
+            .set(left.and_then(|count| count.checked_sub(1)));
+        left == Some(0)
     }
 
     fn covers_function(&self, function: Option<FnName>) -> bool
@@ -77,6 +100,9 @@ impl MacroFunctions for ByName {
     }
 
     fn call(&self, name: FnName, call: &Call) -> Result<Answer, AllocError> {
+        if self.is_short() {
+            return Err(AllocError);
+        }
         let name = name.as_bytes();
         if b"SQUARE".as_slice() == name {
             macro_functions::square(self.alloc, call)

@@ -1,8 +1,8 @@
-//! Calls of the store: its refusals, its limit, and a device that fails.
+//! Calls of the store: its refusals, and its limit.
 
-use crate::asked::{Ask, asked, form, session, session_in, told};
+use crate::asked::{Ask, asked, form, session_in, told};
 use crate::files::{AMPLE, Trouble, left_after};
-use disk_trait::{FuseDisk, MemoryDisk};
+use disk_trait::MemoryDisk;
 use prevalence_store::Mode;
 use std::alloc::Global;
 use std::test::Fail;
@@ -31,7 +31,7 @@ fn mode_bytes(alloc: Global, mode: Mode) -> Result<[Option<u8>; 2], Trouble> {
     ];
     let left = left_after(alloc, MemoryDisk::new(alloc), AMPLE, &calls)?;
     let a = left.files.a.as_slice();
-    Ok([a.get(151).copied(), a.get(177).copied()])
+    Ok([a.get(154).copied(), a.get(180).copied()])
 }
 
 #[test]
@@ -58,40 +58,7 @@ fn a_half_has_a_limit(rt: HostRuntime) -> Result<(), Fail> {
     let alloc = rt.alloc();
     // room for one record
     assert!(rt; fills(alloc, 202, b"accepted 7\nrefused 64\naccepted 7\n")?);
-    // 150 bytes have no room for a snapshot
-    assert!(rt; fills(alloc, 150, b"unopened 65\n")?);
-    Ok(())
-}
-
-/// What may come of a store over a device that stops.
-const KINDS: [&[u8]; 3] = [
-    b"unopened 60\n",
-    b"refused 60\nrefused 61\nstore 61\nno world\n",
-    b"accepted 7\naccepted 7\n7\nend\n",
-];
-
-/// Which of the three it is where the device passes so many calls.
-fn kind_of(alloc: Global, calls: u64) -> Result<Option<usize>, Trouble> {
-    let disk = FuseDisk::new(MemoryDisk::new(alloc), calls);
-    let asks = [form(SET), form(GET), session(GET), Ask::World];
-    let (text, _disk) = asked(alloc, disk, AMPLE, &asks)?;
-    Ok(
-        KINDS
-            .iter()
-            .position(|kind| text.as_slice().starts_with(kind)),
-    )
-}
-
-#[test]
-fn a_store_stops_at_a_device_fault(rt: HostRuntime) -> Result<(), Fail> {
-    let mut seen = [false; 3];
-    for calls in 0..64 {
-        let kind = kind_of(rt.alloc(), calls)?;
-        assert!(rt; kind.is_some(), "after {calls} calls");
-        for (place, is_seen) in seen.iter_mut().enumerate() {
-            *is_seen = *is_seen || kind == Some(place);
-        }
-    }
-    assert!(rt; seen == [true; 3], "{seen:?}");
+    // 153 bytes have no room for a snapshot
+    assert!(rt; fills(alloc, 153, b"unopened 65\n")?);
     Ok(())
 }

@@ -169,12 +169,12 @@ fn help_tells_how_it_is_called(rt: HostRuntime) -> Result<(), Fail> {
 
 /// Sessions over one folder, and how many bytes half A has after each.
 const KEPT: [(&str, usize); 4] = [
-    (" run DIR\n0\n", 151),
-    (" run DIR\n< (SETF (GET 'A 'B) 7)\n0\n7\n", 177),
-    (" run DIR\n< (GET 'A 'B)\n0\n7\n", 177),
+    (" run DIR\n0\n", 154),
+    (" run DIR\n< (SETF (GET 'A 'B) 7)\n0\n7\n", 180),
+    (" run DIR\n< (GET 'A 'B)\n0\n7\n", 180),
     (
         " run DIR\n< (GET 'A 'B)\n< )\n< (GET 'A 'B)\n1\n7\n! 4 STRAY-CLOSE\n",
-        177,
+        180,
     ),
 ];
 
@@ -239,7 +239,7 @@ fn files_stay_between_runs(rt: HostRuntime) -> Result<(), Fail> {
     };
     let whole = whole.as_slice();
     // the mode is Current
-    assert!(rt; whole.get(151) == Some(&0));
+    assert!(rt; whole.get(154) == Some(&0));
     let cut = whole.get(..100).unwrap_or(b"");
     assert!(rt; is_refused(&rt, folder, file, cut, b"3\nstandard error: ! 62 DAMAGED\n")?);
     let other = of_another_version(whole, rt.alloc())?;
@@ -307,7 +307,7 @@ $ dump DIR
 0
 (("COMMON-LISP-USER" ("COMMON-LISP") NIL NIL NIL) ("KEYWORD" NIL NIL NIL NIL))
 NIL
-("COMMON-LISP-USER" "USER" (("USER" "UPCASE" NIL)))
+("COMMON-LISP-USER" "USER" 10 (("USER" "UPCASE" NIL)))
 $ run DIR --snapshot-every 2
 < (FROB NEWSYM)
 0
@@ -316,7 +316,7 @@ $ dump DIR
 0
 (("COMMON-LISP-USER" ("COMMON-LISP") NIL NIL NIL) ("KEYWORD" NIL NIL NIL NIL))
 NIL
-("COMMON-LISP-USER" "USER" (("USER" "UPCASE" NIL)))
+("COMMON-LISP-USER" "USER" 10 (("USER" "UPCASE" NIL)))
 $ run DIR --snapshot-every 2
 < (SETF (GET 'A 'B) 1)
 < (SETF (GET 'A 'B) 2)
@@ -333,7 +333,7 @@ $ dump DIR
 0
 (("COMMON-LISP-USER" ("COMMON-LISP") ("A" "B") NIL NIL) ("KEYWORD" NIL NIL NIL NIL))
 ((A B 3))
-("COMMON-LISP-USER" "USER" (("USER" "UPCASE" NIL)))
+("COMMON-LISP-USER" "USER" 10 (("USER" "UPCASE" NIL)))
 $ verify DIR
 0
 half B generation 2 records 1

@@ -10,7 +10,7 @@ use std::io::Write;
 use std::mem;
 use std::test::Fail;
 
-/// A line of forms, with `;` between them, each in the world that those before it left; and a line with what is answered to the
+/// Rows: a line of forms, with `;` between them, each in the world that those before it left; and a line with what is answered to the
 /// last one: its value, after `=` where it is not logged and after `+` where it is, or the line of its refusal.
 const ROWS: &str = r#"
 7
@@ -31,8 +31,6 @@ T
 = "COMMON-LISP-USER"
 *READTABLE*
 = :USER
-*READ-BASE*
-! 30 NOT-A-FORM
 X
 ! 30 NOT-A-FORM
 #:X
@@ -341,7 +339,7 @@ fn row_holds(alloc: Global, forms: &mut Vec<u8>, line: Vec<u8>) -> Result<bool, 
 }
 
 /// The forms of the first row that does not hold.
-fn failing(alloc: Global, rows: &[u8]) -> Result<Option<Vec<u8>>, Trouble> {
+pub fn failing(alloc: Global, rows: &[u8]) -> Result<Option<Vec<u8>>, Trouble> {
     let mut forms = Vec::new(alloc);
     let mut line = Vec::new(alloc);
     for c in rows {

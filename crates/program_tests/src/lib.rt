@@ -7,9 +7,11 @@
 //! compares the text of what its calls gave with the one that is wanted.
 //!
 //! - `asked` calls a store, `by_name` has the macro functions, `files` the bytes of disks, `broken` streams that fail
-//! - `rows`, `evaluation`, `sessions`, `refusals`: what forms are answered
+//! - `rows`, `evaluation`, `read_base`, `sessions`, `refusals`: what forms are answered
 //! - `calls`, `silent`, `turns`, `snapshots`, `callers`: the calls of a store
-//! - `stopped`, `snapshot_crashes`, `altered`: devices that stop, crashes, files that were altered
+//! - `campaign`: a device that stops at each of its calls in turn, and each kind of crash after that; `stopped`: what exactly is
+//!   left of one form or snapshot; `altered`: files that were altered; `memory`: a macro function that finds no memory
+//! - `versions`: files of version 1
 //! - `macros`: the macro functions of the program
 //! - `commands`, by scripts of `runs`: the words of the program, its statuses, and real files
 #![tactic(auto)]
@@ -27,6 +29,8 @@ mod callers;
 #[cfg(test)]
 mod calls;
 #[cfg(test)]
+mod campaign;
+#[cfg(test)]
 mod commands;
 #[cfg(test)]
 mod evaluation;
@@ -36,6 +40,10 @@ mod files;
 mod long;
 #[cfg(test)]
 mod macros;
+#[cfg(test)]
+mod memory;
+#[cfg(test)]
+mod read_base;
 #[cfg(test)]
 mod refusals;
 #[cfg(test)]
@@ -47,10 +55,10 @@ mod sessions;
 #[cfg(test)]
 mod silent;
 #[cfg(test)]
-mod snapshot_crashes;
-#[cfg(test)]
 mod snapshots;
 #[cfg(test)]
 mod stopped;
 #[cfg(test)]
 mod turns;
+#[cfg(test)]
+mod versions;

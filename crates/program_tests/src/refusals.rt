@@ -47,11 +47,11 @@ fn long_and_deep_texts_are_refused(rt: HostRuntime) -> Result<(), Fail> {
             &[(b"! 22 TOO-DEEP\nreader 22\n", 1)],
         ),
         (
-            &[(b"(", 1), (b" ", 65_535), (b")", 1)],
+            &[(b"(", 1), (b" ", 1_048_575), (b")", 1)],
             &[(b"! 23 FORM-TOO-LONG\nreader 23\n", 1)],
         ),
         (
-            &[(b"(", 1), (b" ", 65_534), (b")", 1)],
+            &[(b"(", 1), (b" ", 1_048_574), (b")", 1)],
             &[(b"NIL\nend\n", 1)],
         ),
         (

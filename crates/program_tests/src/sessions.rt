@@ -45,7 +45,7 @@ fn are_left(alloc: Global, rows: &[Row]) -> Result<bool, Trouble> {
 }
 
 /// The header of a half of generation 1, and the first byte of its snapshot's length.
-const HEADER: &[u8] = b"\xa5\0\x01\0\0\0\0\0\0\0\x01\0\0\0\x87";
+const HEADER: &[u8] = b"\xa5\0\x02\0\0\0\0\0\0\0\x01\0\0\0\x8a";
 
 /// Whether two empty sessions leave half A as the first one started it, and half B empty.
 fn starts_half_a(alloc: Global) -> Result<bool, Trouble> {
@@ -53,7 +53,7 @@ fn starts_half_a(alloc: Global) -> Result<bool, Trouble> {
     let second = left_over(alloc, disk_with(alloc, &first.files)?, b"")?;
     Ok(
         first.files.b.is_empty()
-            && has(&first.files, 151, 0, HEADER)
+            && has(&first.files, 154, 0, HEADER)
             && second.files.a == first.files.a
             && first.text.as_slice() == b"end\n".as_slice()
             && second.text == first.text,
@@ -71,15 +71,15 @@ const KEPT: &[Row] = &[
         is_fresh: true,
         input: b"(SETF (GET 'A 'B) 7)\n",
         text: b"7\nend\n",
-        length: 177,
-        place: 150,
+        length: 180,
+        place: 153,
         bytes: b"\xa5\0\0\0\0\x14(SETF (GET 'A 'B) 7)\0",
     },
     Row {
         is_fresh: false,
         input: b"(GET 'A 'B)\n",
         text: b"7\nend\n",
-        length: 177,
+        length: 180,
         place: 0,
         bytes: HEADER,
     },
@@ -95,7 +95,7 @@ const BOTH: &[Row] = &[Row {
     is_fresh: true,
     input: b"(SETF (GET 'A 'B) 7)\n(GET 'A 'B)\n",
     text: b"7\n7\nend\n",
-    length: 177,
+    length: 180,
     place: 0,
     bytes: HEADER,
 }];

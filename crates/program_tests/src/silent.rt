@@ -16,7 +16,7 @@ fn is_told(alloc: Global, limit: u64, calls: &[Ask<'_>], wanted: &[u8]) -> Resul
 fn is_full(alloc: Global) -> Result<bool, Trouble> {
     is_told(
         alloc,
-        177,
+        180,
         &[
             session(b"(SETF (GET 'A 'B) 7)(GET 'A 'B)(REMPROP 'A 'A)"),
             Ask::Half,

@@ -65,7 +65,7 @@ const CASES: &[Case] = &[
         text: b"7\nstore 64\nhalf B generation 2 records 0\n",
     },
     Case {
-        limit: 220,
+        limit: 224,
         snapshot_every: 0,
         input: b"(PROGN (SETF (GET 'A 'B) '#200(1)) 1)(SETF (GET 'A 'C) 2)(SETF (GET 'A 'D) 3)",
         text: b"1\n2\nstore 65\nhalf A generation 1 records 2\n",
@@ -79,6 +79,8 @@ fn is_as_wanted(alloc: Global, case: &Case) -> Result<bool, Trouble> {
         every: case.snapshot_every,
         most: usize::MAX,
         input: case.input,
+        reads: u64::MAX,
+        room: usize::MAX,
     };
     let calls = [Ask::Serve(session), Ask::Half];
     let (text, _disk) = asked(alloc, MemoryDisk::new(alloc), case.limit, &calls)?;
@@ -108,18 +110,18 @@ fn snapshots_are_taken_in_turn_and_for_room(rt: HostRuntime) -> Result<(), Fail>
         assert!(rt; is_as_wanted(alloc, case)?, "{place}");
     }
     let cases: [(usize, &[u8], [usize; 2]); 5] = [
-        (0, b"", [151, 0]),
-        (1, b"accepted 7\n", [177, 0]),
-        (3, b"accepted 7\nrefused 64\naccepted 7\n", [177, 0]),
+        (0, b"", [154, 0]),
+        (1, b"accepted 7\n", [180, 0]),
+        (3, b"accepted 7\nrefused 64\naccepted 7\n", [180, 0]),
         (
             4,
             b"accepted 7\nrefused 64\naccepted 7\nsnapshotted\n",
-            [177, 163],
+            [180, 166],
         ),
         (
             5,
             b"accepted 7\nrefused 64\naccepted 7\nsnapshotted\naccepted 8\n",
-            [177, 189],
+            [180, 192],
         ),
     ];
     for (count, wanted, sizes) in cases {

@@ -1,8 +1,9 @@
-//! A device that stops, and what a crash then leaves.
+//! What a crash leaves of a form, or of a snapshot, that a device stops at each of its own calls.
 
 use crate::asked::{Ask, asked, form, session, told};
-use crate::files::{AMPLE, Trouble, crashed};
-use disk_trait::{Crash, FuseDisk, MemoryDisk, OnceDisk};
+use crate::campaign::{Stop, closed_half, device_calls, stopped};
+use crate::files::{AMPLE, Files, Trouble, crashed, files_of};
+use disk_trait::{Crash, MemoryDisk};
 use std::alloc::Global;
 use std::test::Fail;
 
@@ -10,87 +11,34 @@ const SET: &[u8] = b"(SETF (GET 'A 'B) 8)";
 
 const GET: &[u8] = b"(GET 'A 'B)";
 
-/// A disk whose store has the property 7.
-fn prepared(alloc: Global) -> Result<MemoryDisk, Trouble> {
+const CRASHES: [Crash; 4] = [
+    Crash::Kept,
+    Crash::Lost,
+    Crash::Filled(0xa5),
+    Crash::Filled(0),
+];
+
+/// Files whose store has the property 7 in half A.
+fn prepared(alloc: Global) -> Result<Files, Trouble> {
     let calls = [session(b"(SETF (GET 'A 'B) 7)\n")];
     let (_text, disk) = asked(alloc, MemoryDisk::new(alloc), AMPLE, &calls)?;
-    Ok(disk)
+    files_of(alloc, disk)
 }
 
-/// The text of calls over its device, which passes so many calls of its own, and the disk then.
-fn fused(alloc: Global, passed: u64, calls: &[Ask<'_>]) -> Result<(Vec<u8>, MemoryDisk), Trouble> {
-    let disk = FuseDisk::new(prepared(alloc)?, passed);
-    let (text, disk) = asked(alloc, disk, AMPLE, calls)?;
-    Ok((text, disk.into_inner()))
-}
-
-/// How many device calls its opening takes.
-fn opening(alloc: Global) -> Result<u64, Trouble> {
-    for passed in 0..64 {
-        let (text, _disk) = fused(alloc, passed, &[])?;
-        if text.is_empty() {
-            return Ok(passed);
-        }
-    }
-    Err(Trouble::Device)
-}
-
-/// What a session that gets the property answers after a crash.
-fn get_after(alloc: Global, disk: MemoryDisk, kind: Crash) -> Result<Vec<u8>, Trouble> {
-    told(alloc, crashed(disk, kind)?, &[session(GET)])
-}
-
-/// Whether calls over a device that passes so many have this text, and the session after a crash this one.
-fn leaves(
-    alloc: Global,
-    passed: u64,
-    calls: &[Ask<'_>],
-    kind: Crash,
-    wanted: &[u8],
-    property: &[u8],
-) -> Result<bool, Trouble> {
-    let (text, disk) = fused(alloc, passed, calls)?;
-    let left = get_after(alloc, disk, kind)?;
-    Ok(text.as_slice() == wanted && left.as_slice() == property)
-}
-
-/// Whether a form and the next one are answered so where so many calls of the append pass, and the property is this one after a
-/// crash.
-fn is_set(
-    alloc: Global,
-    opening: u64,
-    passed: u64,
-    kind: Crash,
-    property: &[u8],
-) -> Result<bool, Trouble> {
-    let wanted: &[u8] = if passed == 4 {
-        b"accepted 8\naccepted 8\n"
-    } else {
-        b"refused 60\nrefused 61\n"
-    };
-    leaves(
-        alloc,
-        opening.saturating_add(passed),
-        &[form(SET), form(GET)],
-        kind,
-        wanted,
-        property,
-    )
+/// What a session that gets the property answers after a form that stops, and then a crash.
+fn get_after(alloc: Global, files: &Files, stop: Stop, kind: Crash) -> Result<Vec<u8>, Trouble> {
+    let left = stopped(alloc, files, stop, &[form(SET)])?;
+    told(alloc, crashed(left.disk, kind)?, &[session(GET)])
 }
 
 #[test]
-fn a_form_that_stops_is_there_or_not(rt: HostRuntime) -> Result<(), Fail> {
+fn a_form_is_there_from_its_last_write_on(rt: HostRuntime) -> Result<(), Fail> {
     let alloc = rt.alloc();
-    let opening = opening(alloc)?;
-    // the calls of the append that pass, and the property after each kind of crash
-    let kinds = [
-        Crash::Kept,
-        Crash::Lost,
-        Crash::Filled(0xa5),
-        Crash::Filled(0),
-    ];
+    let files = prepared(alloc)?;
+    let opening = device_calls(alloc, &files, &[])?;
     let seven: &[u8] = b"7\nend\n";
     let eight: &[u8] = b"8\nend\n";
+    // the calls of the append that pass, and the property after each kind of crash
     let cases: [(u64, [&[u8]; 4]); 5] = [
         (0, [seven, seven, seven, seven]),
         (1, [seven, seven, seven, seven]),
@@ -98,76 +46,77 @@ fn a_form_that_stops_is_there_or_not(rt: HostRuntime) -> Result<(), Fail> {
         (3, [eight, seven, eight, seven]),
         (4, [eight, eight, eight, eight]),
     ];
-    for (passed, left) in cases {
-        for (kind, property) in kinds.into_iter().zip(left) {
-            assert!(rt;
-                is_set(alloc, opening, passed, kind, property)?,
-                "{passed} {kind:?}"
-            );
+    for (passed, wanted) in cases {
+        let stop = Stop::From(opening.saturating_add(passed));
+        for (kind, property) in CRASHES.into_iter().zip(wanted) {
+            let found = get_after(alloc, &files, stop, kind)?;
+            assert!(rt; found.as_slice() == property, "{passed} {kind:?}");
         }
     }
     Ok(())
 }
 
-/// Whether one call of the append fails, and then the property is this one.
-fn is_set_once(alloc: Global, opening: u64, passed: u64, property: &[u8]) -> Result<bool, Trouble> {
-    let disk = OnceDisk::new(prepared(alloc)?, opening.saturating_add(passed));
-    let (text, disk) = asked(alloc, disk, AMPLE, &[form(SET), form(GET)])?;
-    let left = told(alloc, disk.into_inner(), &[session(GET)])?;
-    Ok(text.as_slice() == b"refused 60\nrefused 61\n".as_slice() && left.as_slice() == property)
+/// What a session that gets the property answers after one call of a form failed, and no crash came.
+fn get_after_one(alloc: Global, files: &Files, call: u64) -> Result<Vec<u8>, Trouble> {
+    let left = stopped(alloc, files, Stop::Once(call), &[form(SET)])?;
+    told(alloc, left.disk, &[session(GET)])
 }
 
 #[test]
 fn one_call_fails_and_no_crash_comes(rt: HostRuntime) -> Result<(), Fail> {
     let alloc = rt.alloc();
-    let opening = opening(alloc)?;
+    let files = prepared(alloc)?;
+    let opening = device_calls(alloc, &files, &[])?;
     let cases: [(u64, &[u8]); 4] = [
         (0, b"7\nend\n"),
         (1, b"7\nend\n"),
         (2, b"7\nend\n"),
         (3, b"8\nend\n"),
     ];
-    for (passed, property) in cases {
-        assert!(rt; is_set_once(alloc, opening, passed, property)?, "{passed}");
+    for (call, property) in cases {
+        let found = get_after_one(alloc, &files, opening.saturating_add(call))?;
+        assert!(rt; found.as_slice() == property, "{call}");
     }
     Ok(())
 }
 
-/// What a session of three forms writes where so many of them are logged, and the property then.
-const LINES: [(&[u8], &[u8]); 4] = [
-    (b"store 60\n", b"7\nend\n"),
-    (b"1\nstore 60\n", b"1\nend\n"),
-    (b"1\n2\nstore 60\n", b"2\nend\n"),
-    (b"1\n2\n3\nend\n", b"3\nend\n"),
-];
+/// The line on the half in use after a snapshot that stops, and then a crash.
+fn half_after(alloc: Global, files: &Files, stop: Stop, kind: Crash) -> Result<Vec<u8>, Trouble> {
+    let left = stopped(alloc, files, stop, &[Ask::Snapshot])?;
+    told(alloc, crashed(left.disk, kind)?, &[Ask::Half])
+}
 
-/// Whether the last line that was written is in the store after a crash, or the next one.
-fn holds_lines(alloc: Global, opening: u64, passed: u64, kind: Crash) -> Result<bool, Trouble> {
-    let input = b"(SETF (GET 'A 'B) 1)(SETF (GET 'A 'B) 2)(SETF (GET 'A 'B) 3)";
-    let (text, disk) = fused(alloc, opening.saturating_add(passed), &[session(input)])?;
-    let left = get_after(alloc, disk, kind)?;
-    // each append is four device calls
-    let lines = (passed / 4) as usize;
-    let Some((wanted, last)) = LINES.get(lines) else {
-        return Ok(false);
-    };
-    let is_next = LINES
-        .get(lines.saturating_add(1))
-        .is_some_and(|(_, next)| left.as_slice() == *next);
-    Ok(text.as_slice() == *wanted && (left.as_slice() == *last || is_next))
+/// The first stop of a snapshot after which another half is in use than should be: the old one until the last write has passed and
+/// the crash kept it, or all calls have.
+fn other_half(alloc: Global, files: &Files) -> Result<Option<(u64, Crash)>, Trouble> {
+    let opening = device_calls(alloc, files, &[])?;
+    let end = device_calls(alloc, files, &[Ask::Snapshot])?;
+    for passed in opening..end.saturating_add(1) {
+        for kind in CRASHES {
+            let is_kept = matches!(kind, Crash::Kept | Crash::Filled(0xa5));
+            let is_taken = passed == end || (is_kept && passed.saturating_add(1) == end);
+            let wanted: &[u8] = if is_taken {
+                b"half B generation 2 records 0\n"
+            } else {
+                b"half A generation 1 records 1\n"
+            };
+            let found = half_after(alloc, files, Stop::From(passed), kind)?;
+            if found.as_slice() != wanted {
+                return Ok(Some((passed, kind)));
+            }
+        }
+    }
+    Ok(None)
 }
 
 #[test]
-fn each_line_that_was_written_is_in_the_store(rt: HostRuntime) -> Result<(), Fail> {
+fn a_snapshot_is_taken_at_its_last_write(rt: HostRuntime) -> Result<(), Fail> {
     let alloc = rt.alloc();
-    let opening = opening(alloc)?;
-    for passed in 0..13 {
-        for kind in [Crash::Kept, Crash::Lost] {
-            assert!(rt;
-                holds_lines(alloc, opening, passed, kind)?,
-                "{passed} {kind:?}"
-            );
-        }
+    let fresh = prepared(alloc)?;
+    let closed = closed_half(alloc, &fresh)?;
+    for files in [&fresh, &closed] {
+        let found = other_half(alloc, files)?;
+        assert!(rt; found.is_none(), "{found:?}");
     }
     Ok(())
 }

@@ -1,6 +1,8 @@
 //! Rows: forms, empty texts and refusals with their offsets, a byte at a time, and the laws.
+ghost use Rattle.std.specs.Prelude.{◌≤◌};
 ghost use Rattle.package_table.specs.Table.{IsPackage};
 
+mod bases;
 mod calls;
 mod hostile;
 mod trial;
@@ -22,7 +24,7 @@ use user_macros::{MacroFunctions, Macros};
 #[test]
 fn limits_and_laws(rt: HostRuntime) {
     let rows = [
-        (Limits::form(), 65_536, 4_096, 100),
+        (Limits::form(), 1_048_576, 4_096, 100),
         (Limits::snapshot(), 4_294_967_295, 8_192, 104),
     ];
     for (limits, text, token, nesting) in rows {
@@ -48,6 +50,14 @@ fn limits_and_laws(rt: HostRuntime) {
 
 // What a text begins with in the standard readtable, where `]` is whitespace.
 pub fn read(rt: &HostRuntime, text: &[u8]) -> Result<ReadOutcome, Fail> {
+    read_in(rt, 10, text)
+}
+
+// The same where numbers are in this base.
+fn read_in(rt: &HostRuntime, base: u8, text: &[u8]) -> Result<ReadOutcome, Fail> {
+    if base < 2 || base > 36 {
+        return Err(Fail::from("no base"));
+    }
     let mut table = Readtable::standard(rt.alloc())?;
     table.copy_syntax(b']', b' ')?;
     let packages = Packages::new(rt.alloc())?;
@@ -60,6 +70,7 @@ pub fn read(rt: &HostRuntime, text: &[u8]) -> Result<ReadOutcome, Fail> {
         rt.alloc(),
         limits,
         &table,
+        base,
         &packages,
         current,
         &macros,
@@ -229,47 +240,55 @@ fn told_at_end(outcome: &ReadOutcome) -> Told {
 fn answers_to<R: MacroFunctions>(
     alloc: Global,
     readtable: &Readtable,
+    base: u8,
     packages: &Packages,
     current: &[u8],
     macros: &R,
     text: &[u8],
 ) -> Result<(Told, Told), AllocError>
     requires answers { R.answers macros.now }
+    requires lowest_base { 2 ≤ base }
+    requires highest_base { base ≤ 36 }
     requires current { IsPackage packages.now.0 current.now }
 {
     let mut reader = FormReader::new(alloc, Limits::form());
     let mut last = Told::Nothing;
     for byte in text {
-        last = told_at_step(&reader.step(*byte, readtable, packages, current, macros)?);
+        last = told_at_step(&reader.step(*byte, readtable, base, packages, current, macros)?);
     }
-    let outcome = reader.finish(readtable, packages, current, macros)?;
+    let outcome = reader.finish(readtable, base, packages, current, macros)?;
     Ok((last, told_at_end(&outcome)))
 }
 
 // The same in the first packages and the standard readtable.
-fn last_answers(rt: &HostRuntime, text: &[u8]) -> Result<(Told, Told), Fail> {
+fn last_answers(rt: &HostRuntime, base: u8, text: &[u8]) -> Result<(Told, Told), Fail> {
+    if base < 2 || base > 36 {
+        return Err(Fail::from("no base"));
+    }
     let table = Readtable::standard(rt.alloc())?;
     let packages = Packages::new(rt.alloc())?;
     let macros = Macros::new(rt.alloc(), Notes::new());
     let Some(current) = packages.find(b"COMMON-LISP-USER") else {
         return Err(Fail::from("no package"));
     };
-    Ok(answers_to(rt.alloc(), &table, &packages, current, &macros, text)?)
+    Ok(answers_to(rt.alloc(), &table, base, &packages, current, &macros, text)?)
 }
 
 #[test]
 fn a_reader_answers_before_the_next_byte(rt: HostRuntime) -> Result<(), Fail> {
-    assert!(rt; last_answers(&rt, b"'")?.0 == Told::Nothing);
-    assert!(rt; last_answers(&rt, b"'A")?.0 == Told::Nothing);
-    assert!(rt; last_answers(&rt, b"'A(")? == (Told::Form(0, 2, 2), Told::Nothing));
+    assert!(rt; last_answers(&rt, 10, b"'")?.0 == Told::Nothing);
+    assert!(rt; last_answers(&rt, 10, b"'A")?.0 == Told::Nothing);
+    assert!(rt; last_answers(&rt, 10, b"'A(")? == (Told::Form(0, 2, 2), Told::Nothing));
+    assert!(rt; last_answers(&rt, 16, b"'1/0 ")?.0 == Told::Refused(9, 4));
+    assert!(rt; last_answers(&rt, 36, b"'1e")?.1 == Told::Form(0, 3, 3));
     Ok(())
 }
 
 #[test]
 fn a_refusal_is_answered_again(rt: HostRuntime) -> Result<(), Fail> {
     let refused = Told::Refused(2, 1);
-    assert!(rt; last_answers(&rt, b"A")?.0 == Told::Nothing);
-    assert!(rt; last_answers(&rt, b"A\xC3")?.0 == refused);
-    assert!(rt; last_answers(&rt, b"A\xC3B")? == (refused, refused));
+    assert!(rt; last_answers(&rt, 10, b"A")?.0 == Told::Nothing);
+    assert!(rt; last_answers(&rt, 10, b"A\xC3")?.0 == refused);
+    assert!(rt; last_answers(&rt, 10, b"A\xC3B")? == (refused, refused));
     Ok(())
 }

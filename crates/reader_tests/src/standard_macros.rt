@@ -77,8 +77,8 @@ const PRINTED: &str = "\
 #:|| => #:||
 #:a\\:b => #:|A:B|";
 
-// The printed text of an object in the first packages.
-fn shown(alloc: Global, datum: &Datum) -> Result<Vec<u8>, Fail> {
+/// The printed text of an object in the first packages.
+pub fn shown(alloc: Global, datum: &Datum) -> Result<Vec<u8>, Fail> {
     let packages = Packages::new(alloc)?;
     let Some(current) = packages.find(b"COMMON-LISP-USER") else {
         return Err(Fail::from("no package"));

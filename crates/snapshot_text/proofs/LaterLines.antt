@@ -1,5 +1,6 @@
 -- The second and the third line of a text, as they are read in a world that has what the lines before them say.
-use Rattle.std.proofs.Common.{◌≡◌, ℕ, ◌≤◌, List, length, Option, sym, subst}
+use Rattle.std.proofs.Common.{◌≡◌, ℕ, ◌≤◌, List, length, Some, sym, subst}
+use Rattle.lisp_object.specs.Object.{Object}
 use Rattle.readtable_core.specs.Tables.{standard}
 use Rattle.user_macros.specs.declared.call.Gather.{Gather}
 use Rattle.user_macros.specs.Calls.{MacroCall, MacroAnswer}
@@ -10,19 +11,20 @@ use Rattle.plist_state.specs.State.{WorldState}
 use Rattle.plist_state.specs.Sound.{IsSound}
 use Rattle.snapshot_text.specs.Built.{with_packages_of, with_properties_of}
 use Rattle.world_text.specs.Lines.{snapshot_limits, IsLineRead}
-use Rattle.world_text.specs.Snapshot.{properties_object, tables_object}
+use Rattle.world_text.specs.Snapshot.{properties_object, tables_object_in}
 use Rattle.world_text.proofs.LinesRead.{second_read, third_read}
 use Rattle.user_macros.specs.Functions.{Functions}
 
 module _ (functions : Functions) (s : WorldState) (sound : IsSound s) (w : WorldState) where
   pub second_line : w ≡ with_packages_of s → length (printed s.packages common_lisp_user (properties_object s)) ≤ 4294967295 → (rest : List ℕ)
-      → IsLineRead (setting_of snapshot_limits standard w.packages common_lisp_user functions) s.packages (properties_object s) rest
+      → IsLineRead (setting_of snapshot_limits standard 10 w.packages common_lisp_user functions) s.packages (properties_object s) rest
   second_line old fits rest =
-      subst (λ (v : WorldState). IsLineRead (setting_of snapshot_limits standard v.packages common_lisp_user functions) s.packages (properties_object s) rest) (sym old)
+      subst (λ (v : WorldState). IsLineRead (setting_of snapshot_limits standard 10 v.packages common_lisp_user functions) s.packages (properties_object s) rest) (sym old)
       (second_read functions s sound fits rest)
 
-  pub third_line : w ≡ with_properties_of s → length (printed s.packages common_lisp_user (tables_object s)) ≤ 4294967295 → (rest : List ℕ)
-      → IsLineRead (setting_of snapshot_limits standard w.packages common_lisp_user functions) s.packages (tables_object s) rest
-  third_line old fits rest =
-      subst (λ (v : WorldState). IsLineRead (setting_of snapshot_limits standard v.packages common_lisp_user functions) s.packages (tables_object s) rest) (sym old)
-      (third_read functions s sound fits rest)
+  pub third_line : (version : ℕ) (third : Object) → tables_object_in version s ≡ Some third → w ≡ with_properties_of s
+      → length (printed s.packages common_lisp_user third) ≤ 4294967295 → (rest : List ℕ)
+      → IsLineRead (setting_of snapshot_limits standard 10 w.packages common_lisp_user functions) s.packages third rest
+  third_line version third is old fits rest =
+      subst (λ (v : WorldState). IsLineRead (setting_of snapshot_limits standard 10 v.packages common_lisp_user functions) s.packages third rest) (sym old)
+      (third_read functions s sound version third is fits rest)

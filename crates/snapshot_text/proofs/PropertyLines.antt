@@ -80,7 +80,7 @@ module _ (functions : Functions) where
 
   pub row_read : (s : WorldState) → IsSound s → (n : ℕ) (now : WorldState) → IsUpTo s n now → n < length (symbols_with_properties s)
       → length (row_text s n) ≤ 4294967295 → (rest : List ℕ)
-      → reads (setting_of snapshot_limits standard now.packages common_lisp_user functions) (row_text s n ++ (text_after s (n + 1) ++ rest))
+      → reads (setting_of snapshot_limits standard 10 now.packages common_lisp_user functions) (row_text s n ++ (text_after s (n + 1) ++ rest))
       ≡ form (row_of s (symbol_at s n)) 0 (length (row_text s n)) (row_next s n rest)
   unfolding row_next
   row_read s sound n now so_far few fits rest =
@@ -89,7 +89,7 @@ module _ (functions : Functions) where
       let good = row_good s sound x (key_at s n few) in
       let deep = plist_depth s sound x in
       let same : now.packages ≡ s.packages = ap (λ (w : WorldState). w.packages) so_far.rest in
-      ap (λ t. reads (setting_of snapshot_limits standard t common_lisp_user functions) (row_text s n ++ (text_after s (n + 1) ++ rest))) same
+      ap (λ t. reads (setting_of snapshot_limits standard 10 t common_lisp_user functions) (row_text s n ++ (text_after s (n + 1) ++ rest))) same
       ∙ object_read_back snapshot_limits s.packages common_lisp_user functions sound.packages (omega arith) y
       (good.sound, good_symbols s.packages y good, tokens_short s.packages common_lisp_user sound.packages y good.sound good.known)
       (omega arith) fits (text_after s (n + 1) ++ rest)

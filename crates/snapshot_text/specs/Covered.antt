@@ -1,5 +1,5 @@
 -- Which functions the readtables of a state name.
-use Rattle.std.specs.Prelude.{◌≡◌, ◌≢◌, ℕ, ◌≤◌, Bool, false, List, length}
+use Rattle.std.specs.Prelude.{◌≡◌, ◌≢◌, ℕ, ◌≤◌, Bool, false, List, Some, length}
 use Rattle.std.specs.List.{list_all}
 use Rattle.readtable_core.specs.Named.{functions_of}
 use Rattle.user_macros.specs.Registry.{is_covered}
@@ -8,16 +8,16 @@ use Rattle.plist_state.specs.Readers.{readtable_names}
 use Rattle.plist_state.specs.Sound.{IsSound}
 use Rattle.snapshot_text.specs.declared.error.SnapshotError.{SnapshotError}
 use Rattle.snapshot_text.specs.declared.error.SnapshotError.TheVariants.{Damaged, MissingFunction, OutOfMemory}
-use Rattle.world_text.specs.Snapshot.{table_named, snapshot}
+use Rattle.world_text.specs.Snapshot.{table_named, snapshot_in}
 
 -- each function that a readtable of the state names is standard, STD-DISPATCH or registered
 abbrev pub are_covered : List (List ℕ) → WorldState → Bool
 are_covered registered s = list_all (λ n. list_all (is_covered registered) (functions_of (table_named s n))) (readtable_names s)
 
--- Why bytes are refused: they are the text of no sound state; or of one that names a function which is not there. That memory
--- ran out is no word on them.
-abbrev pub IsRefused : List (List ℕ) → List ℕ → SnapshotError → Type 0
-IsRefused registered bytes Damaged = (s : WorldState) → IsSound s → length bytes ≤ 4294967295 → snapshot s ≢ bytes
-IsRefused registered bytes MissingFunction =
-    (s : WorldState) × IsSound s × (snapshot s ≡ bytes) × (length bytes ≤ 4294967295) × (are_covered registered s ≡ false)
-IsRefused registered bytes OutOfMemory = Unit {0}
+-- Why bytes are refused: they are the text of no sound state in this version; or of one that names a function which is not
+-- there. That memory ran out is no word on them.
+abbrev pub IsRefused : List (List ℕ) → ℕ → List ℕ → SnapshotError → Type 0
+IsRefused registered version bytes Damaged = (s : WorldState) → IsSound s → length bytes ≤ 4294967295 → snapshot_in version s ≢ Some bytes
+IsRefused registered version bytes MissingFunction =
+    (s : WorldState) × IsSound s × (snapshot_in version s ≡ Some bytes) × (length bytes ≤ 4294967295) × (are_covered registered s ≡ false)
+IsRefused registered version bytes OutOfMemory = Unit {0}

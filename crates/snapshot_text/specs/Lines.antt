@@ -12,9 +12,9 @@ use Rattle.plist_state.specs.State.{WorldState}
 use Rattle.lisp_reading.specs.Setting.{Setting, setting_of}
 use Rattle.world_text.specs.Lines.{snapshot_limits}
 
--- under what a line is read in a world: the limits of a snapshot, the standard readtable, and COMMON-LISP-USER
+-- under what a line is read in a world: the limits of a snapshot, the standard readtable, base 10, and COMMON-LISP-USER
 abbrev pub line_setting : WorldState → Functions → Setting
-line_setting now functions = setting_of snapshot_limits standard now.packages common_lisp_user functions
+line_setting now functions = setting_of snapshot_limits standard 10 now.packages common_lisp_user functions
 
 -- What was read is this object, which ends at this offset; or memory ran out.
 abbrev pub IsFirst : Object → ℕ → Result (Datum × ℕ) BuildError → Type 0

@@ -1,12 +1,14 @@
 //! Snapshots as text.
 //!
 //! The text of a world is three printed objects: its packages, its property lists and its readtables (`snapshot` of
-//! world_text, whose `write` gives it). `read` gives a world whose text the bytes are, with no function missing, or says why not:
-//! what it refuses is the text of no sound state, or of one that names a missing function, but where memory runs out
-//! (specs/Covered.antt). The law `one_text_one_state` of world_text says that no other sound state has that text.
+//! world_text, whose `write` gives it). There are two versions of it, and `read` is told which one the bytes are of
+//! (`snapshot_in`). It gives a world whose text the bytes are, with no function missing, or says why not: what it refuses is the
+//! text of no sound state, or of one that names a missing function, but where memory runs out (specs/Covered.antt). The law
+//! `one_text_one_state` of world_text says that no other sound state has that text.
 //!
-//! - `reader`: `read`; `source`: what it reads from; `lines`: the objects of a text, one at a time; `property_lines`: the line
-//!   of property lists, of which one row is in memory at a time
+//! - `reader`: `read`, and `read_with_seed`, which hashes the names of the world by a seed; `source`: what it reads
+//!   from; `lines`: the objects of a text, one at a time; `property_lines`: the line of property lists, of which one row
+//!   is in memory at a time
 //! - `package_parts` (over `own_parts`), `property_parts`, `table_parts`: a world made from data, by its own calls; `parts`:
 //!   texts, lists and numbers in data; `known`: which data may be stored
 //! - `error`: `SnapshotError`
@@ -25,7 +27,7 @@ mod source;
 mod table_parts;
 
 pub use error::SnapshotError;
-pub use reader::read;
+pub use reader::{read, read_with_seed};
 pub use world_text::{
-    one_text_one_state, printed_objects_read_back, snapshot_lines_are_read, write,
+    one_text_one_state, printed_objects_read_back, snapshot_lines_are_read, write, write_in,
 };

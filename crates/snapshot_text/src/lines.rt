@@ -16,6 +16,9 @@ use package_table::standardized::COMMON_LISP_USER;
 use plist_state::World;
 use user_macros::MacroFunctions;
 
+// The base of the numbers in a snapshot, whatever that of a world is.
+const BASE: u8 = 10;
+
 // The object with which a part of the text begins, and its end there.
 fn first_object<R: MacroFunctions>(
     source: &Source<'_, R>,
@@ -35,6 +38,7 @@ fn first_object<R: MacroFunctions>(
         source.alloc,
         limits,
         source.table,
+        BASE,
         packages,
         COMMON_LISP_USER,
         source.macros,

@@ -1,11 +1,12 @@
 //! The world of a text.
-ghost use Rattle.std.specs.Prelude.{◌≡◌, ◌≤◌, ℕ, List, [], ◌++◌, true, length, drop, IfOk, IfErr};
+ghost use Rattle.std.specs.Prelude.{◌≡◌, ◌≤◌, ℕ, List, [], ◌++◌, Some, true, length, drop, IfOk, IfErr, OnOk};
 ghost use Rattle.readtable_core.specs.Tables.{standard};
 ghost use Rattle.plist_state.specs.State.{WorldState, initial};
 ghost use Rattle.snapshot_text.specs.Built.{with_packages_of, with_properties_of};
 ghost use Rattle.plist_state.specs.Sound.{IsSound as IsSoundState};
 ghost use Rattle.snapshot_text.specs.Covered.{are_covered, IsRefused};
-ghost use Rattle.world_text.specs.Snapshot.{packages_object, tables_object, line, snapshot};
+ghost use Rattle.world_text.specs.Snapshot.{packages_object, tables_object_in, line, snapshot_in};
+ghost use Rattle.lisp_object.specs.Object.{Object};
 ghost use Rattle.snapshot_text.specs.Answers.{Makes, OrNoMemory};
 
 use crate::SnapshotError;
@@ -15,11 +16,11 @@ use crate::package_parts::make_packages;
 use crate::property_lines::read_properties;
 use crate::source::Source;
 use crate::table_parts::put_tables;
-use plist_state::World;
+use plist_state::{Seed, World};
 use readtable_core::Readtable;
 use std::alloc::{AllocError, Global};
 use user_macros::MacroFunctions;
-use world_text::{table_named, write};
+use world_text::{table_named, write_in};
 
 // The most bytes in the text of a snapshot.
 const MOST_BYTES: usize = 4_294_967_295;
@@ -48,26 +49,51 @@ fn read_packages<R: MacroFunctions>(
 // Makes the readtables of the line that begins at `at`, in a world that has the packages and the properties.
 fn read_tables<R: MacroFunctions>(
     source: &Source<'_, R>,
+    version: u16,
     world: &mut World,
     at: usize,
 ) -> Result<(), BuildError>
     requires answers { R.answers source.now.macros.now }
     requires table { source.now.table.now ≡ standard }
-    ensures { (s : WorldState) (rest : List ℕ) → IsSoundState s
-        → length source.now.bytes.now ≤ 4294967295
-        → drop at source.now.bytes.now ≡ line s.packages (tables_object s) ++ rest
+    ensures { (s : WorldState) (third : Object) (rest : List ℕ) → IsSoundState s
+        → length source.now.bytes.now ≤ 4294967295 → tables_object_in version s ≡ Some third
+        → drop at source.now.bytes.now ≡ line s.packages third ++ rest
         → world.old.0 ≡ with_properties_of s → OrNoMemory (world.new.0 ≡ s) result }
 {
     let (tables, _) = next_object(source, world, at)?;
-    put_tables(world, &tables)?;
+    put_tables(world, version, &tables)?;
     Ok(())
 }
 
-// A world made from the three lines of a text. From the text of a sound state the state is made.
-fn built<R: MacroFunctions>(alloc: Global, bytes: &[u8], macros: &R) -> Result<World, BuildError>
+// Makes the packages, the properties and the readtables of the lines of a text of this version, in a new world.
+fn fill<R: MacroFunctions>(
+    source: &Source<'_, R>,
+    version: u16,
+    world: &mut World,
+) -> Result<(), BuildError>
+    requires answers { R.answers source.now.macros.now }
+    requires table { source.now.table.now ≡ standard }
+    ensures { (s : WorldState) → IsSoundState s → length source.now.bytes.now ≤ 4294967295
+        → snapshot_in version s ≡ Some source.now.bytes.now → world.old.0 ≡ initial
+        → OrNoMemory (world.new.0 ≡ s) result }
+{
+    let at = read_packages(source, world, 0)?;
+    let at = read_properties(source, world, at)?;
+    read_tables(source, version, world, at)?;
+    Ok(())
+}
+
+// A world made from the three lines of a text of this version. From the text of a sound state the state is made.
+fn built<R: MacroFunctions>(
+    alloc: Global,
+    version: u16,
+    bytes: &[u8],
+    macros: &R,
+    seed: Seed,
+) -> Result<World, BuildError>
     requires { R.answers macros.now }
     ensures { (s : WorldState) → IsSoundState s → length bytes.now ≤ 4294967295
-        → snapshot s ≡ bytes.now → Makes result (λ world. world.0 ≡ s) }
+        → snapshot_in version s ≡ Some bytes.now → Makes result (λ world. world.0 ≡ s) }
 {
     let standard = Readtable::standard(alloc)?;
     let source = Source {
@@ -76,10 +102,8 @@ fn built<R: MacroFunctions>(alloc: Global, bytes: &[u8], macros: &R) -> Result<W
         macros,
         bytes,
     };
-    let mut world = World::new(alloc)?;
-    let at = read_packages(&source, &mut world, 0)?;
-    let at = read_properties(&source, &mut world, at)?;
-    read_tables(&source, &mut world, at)?;
+    let mut world = World::with_seed(alloc, seed)?;
+    fill(&source, version, &mut world)?;
     Ok(world)
 }
 
@@ -102,39 +126,94 @@ fn is_covered<R: MacroFunctions>(
     Ok(true)
 }
 
-/// The world of which these bytes are the text, with nothing marked, where the functions that its readtables name are standard
-/// or among `macros`. Only the text that `write` gives is read.
+// Looks whether these bytes are the text of the world that was built from them, with no function missing.
+fn approve<R: MacroFunctions>(
+    alloc: Global,
+    version: u16,
+    bytes: &[u8],
+    macros: &R,
+    world: &World,
+) -> Result<(), SnapshotError>
+    requires built { (s : WorldState) → IsSoundState s → snapshot_in version s ≡ Some bytes.now
+        → world.now.0 ≡ s }
+    requires size { length bytes.now ≤ 4294967295 }
+    ensures text { OnOk result (snapshot_in version world.now.0 ≡ Some bytes.now) }
+    ensures covered { OnOk result (are_covered (R.functions macros.now).names world.now.0 ≡ true) }
+    ensures refused { IfErr result
+        (IsRefused (R.functions macros.now).names version bytes.now) }
+{
+    world.soundness();
+    // what was built from the bytes of no text has another one, or none in this version
+    let Some(text) = write_in(alloc, version, world)? else {
+        return Err(SnapshotError::Damaged);
+    };
+    if text.as_slice() != bytes {
+        return Err(SnapshotError::Damaged);
+    }
+    if !is_covered(alloc, world, macros)? {
+        return Err(SnapshotError::MissingFunction);
+    }
+    Ok(())
+}
+
+/// The world of which these bytes are the text in a half of this version, 1 or 2, with nothing marked, where the functions that
+/// its readtables name are standard or among `macros`. Only the text that `write_in` gives is read. A text of version 1 has no
+/// base for numbers: its world reads in base 10.
 ///
 /// # Errors
 /// `MissingFunction` where the bytes are the text of a world, and one of its readtables names a function that is neither
-/// standard nor registered; `OutOfMemory` where memory runs out; `Damaged` where the bytes are the text of no world that is
-/// sound and within the size.
+/// standard nor registered; `OutOfMemory` where memory runs out; `Damaged` where the bytes are, in this version, the text of no
+/// world that is sound and within the size.
 pub fn read<R: MacroFunctions>(
     alloc: Global,
+    version: u16,
     bytes: &[u8],
     macros: &R,
 ) -> Result<World, SnapshotError>
     requires { R.answers macros.now }
-    ensures text { IfOk result (λ world. snapshot world.0 ≡ bytes.now) }
-    ensures only { IfOk result (λ world. (s : WorldState) → IsSoundState s → snapshot s ≡ bytes.now
-        → s ≡ world.0) }
+    ensures text { IfOk result (λ world. snapshot_in version world.0 ≡ Some bytes.now) }
+    ensures only { IfOk result (λ world. (s : WorldState) → IsSoundState s
+        → snapshot_in version s ≡ Some bytes.now → s ≡ world.0) }
     ensures size { IfOk result (λ world. length bytes.now ≤ 4294967295) }
     ensures covered { IfOk result (λ world. are_covered (R.functions macros.now).names world.0
         ≡ true) }
     ensures unmarked { IfOk result (λ world. world.1 ≡ []) }
-    ensures refused { IfErr result (IsRefused (R.functions macros.now).names bytes.now) }
+    ensures refused { IfErr result
+        (IsRefused (R.functions macros.now).names version bytes.now) }
+{
+    read_with_seed(alloc, version, bytes, macros, Seed::fixed())
+}
+
+/// The same, where the names of the world are hashed by this seed (`World::with_seed`).
+///
+/// # Errors
+/// Those of `read`.
+pub fn read_with_seed<R: MacroFunctions>(
+    alloc: Global,
+    version: u16,
+    bytes: &[u8],
+    macros: &R,
+    seed: Seed,
+) -> Result<World, SnapshotError>
+    requires { R.answers macros.now }
+    ensures text { IfOk result (λ world. snapshot_in version world.0 ≡ Some bytes.now) }
+    ensures only { IfOk result (λ world. (s : WorldState) → IsSoundState s
+        → snapshot_in version s ≡ Some bytes.now → s ≡ world.0) }
+    ensures size { IfOk result (λ world. length bytes.now ≤ 4294967295) }
+    ensures covered { IfOk result (λ world. are_covered (R.functions macros.now).names world.0
+        ≡ true) }
+    ensures unmarked { IfOk result (λ world. world.1 ≡ []) }
+    ensures refused { IfErr result
+        (IsRefused (R.functions macros.now).names version bytes.now) }
 {
     if bytes.len() > MOST_BYTES {
         return Err(SnapshotError::Damaged);
     }
-    let mut world = built(alloc, bytes, macros)?;
+    let mut world = built(alloc, version, bytes, macros, seed)?;
     world.settle();
     world.soundness();
-    if write(alloc, &world)?.as_slice() != bytes {
-        return Err(SnapshotError::Damaged);
+    match approve(alloc, version, bytes, macros, &world) {
+        Ok(()) => Ok(world),
+        Err(error) => Err(error),
     }
-    if !is_covered(alloc, &world, macros)? {
-        return Err(SnapshotError::MissingFunction);
-    }
-    Ok(world)
 }

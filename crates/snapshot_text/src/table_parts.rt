@@ -1,5 +1,5 @@
 //! The readtables of a world, made from the third object of a snapshot.
-ghost use Rattle.std.specs.Prelude.{◌≡◌, ◌<◌, ℕ, List, [], ◌∷◌, true, unwrap_or, IsTrue, IsFalse};
+ghost use Rattle.std.specs.Prelude.{◌≡◌, ◌<◌, ◌≤◌, ℕ, List, [], ◌∷◌, Some, true, unwrap_or, IsTrue, IsFalse};
 ghost use Rattle.lisp_object.specs.Object.{text, list_of};
 ghost use Rattle.lisp_object.specs.Datum.{object_of, is_proper};
 ghost use Rattle.readtable_core.specs.declared.table.Case.{Case};
@@ -10,9 +10,10 @@ ghost use Rattle.readtable_core.specs.Tables.{CharacterEntry, entry_at};
 ghost use Rattle.readtable_core.specs.Sound.{is_dispatching};
 ghost use Rattle.readtable_core.specs.Changes.{macro_syntax, with_entry, with_function};
 ghost use Rattle.package_table.specs.Table.{Name, keyword};
-ghost use Rattle.plist_state.specs.State.{WorldState};
+ghost use Rattle.plist_state.specs.State.{WorldState, first_base};
+ghost use Rattle.plist_state.specs.Changes.{with_base};
 ghost use Rattle.plist_state.specs.Sound.{IsSymbol, IsNamed, IsSound as IsSoundState};
-ghost use Rattle.world_text.specs.Snapshot.{number, dispatch_objects, entry_object, entry_objects, readtable_object, readtables_object, tables_object};
+ghost use Rattle.world_text.specs.Snapshot.{number, dispatch_objects, entry_object, entry_objects, readtable_object, readtables_object, tables_object, tables_object_1, tables_object_in};
 ghost use Rattle.snapshot_text.specs.Built.{with_table, with_properties_of, with_readtables_of, CanBeMade, IsWritable, IsSubFunction, IsNamedEntry};
 ghost use Rattle.snapshot_text.specs.Answers.{OrNoMemory, Succeeds};
 
@@ -213,27 +214,70 @@ fn put_readtables(world: &mut World, readtables: &Datum) -> Result<(), BuildErro
     Ok(())
 }
 
-// Sets what is current, in a world that has its packages and readtables.
+// Sets what is current, in a world that has its packages and readtables. It reads in base 10.
 fn put_current(world: &mut World, home: &Datum, table: &Datum) -> Result<(), BuildError>
     ensures { (s : WorldState) → IsSoundState s → is_proper home.now ≡ true
         → object_of home.now ≡ text s.current_package → is_proper table.now ≡ true
         → object_of table.now ≡ text s.current_readtable → world.old.0 ≡ with_readtables_of s
-        → OrNoMemory (world.new.0 ≡ s) result }
+        → OrNoMemory (world.new.0 ≡ with_base s first_base) result }
 {
     world.set_current_package(text_in(home)?.as_slice())?;
     world.set_current_readtable(text_in(table)?.as_slice())?;
     Ok(())
 }
 
-/// Makes the readtables of the third object of a snapshot, and what is current, in a world that has its packages.
-pub(crate) fn put_tables(world: &mut World, tables: &Datum) -> Result<(), BuildError>
+// Sets the base in which numbers are read.
+fn put_base(world: &mut World, base: &Datum) -> Result<(), BuildError>
+    ensures { is_proper base.now ≡ true → (n : ℕ) → object_of base.now ≡ number n → 2 ≤ n → n ≤ 36
+        → OrNoMemory (world.new.0 ≡ with_base world.old.0 n) result }
+{
+    let base = character_in(base)?;
+    if base < 2 || base > 36 {
+        return Err(BuildError::Damaged);
+    }
+    world.set_read_base(base)?;
+    Ok(())
+}
+
+// Makes the readtables of the third object of version 1, and what is current.
+fn put_tables_1(world: &mut World, tables: &Datum) -> Result<(), BuildError>
     ensures { (s : WorldState) → IsSoundState s → is_proper tables.now ≡ true
-        → object_of tables.now ≡ tables_object s → world.old.0 ≡ with_properties_of s
-        → OrNoMemory (world.new.0 ≡ s) result }
+        → object_of tables.now ≡ tables_object_1 s → s.read_base ≡ first_base
+        → world.old.0 ≡ with_properties_of s → OrNoMemory (world.new.0 ≡ s) result }
 {
     let [package, readtable, readtables] = items_in(tables)? else {
         return Err(BuildError::Damaged);
     };
     put_readtables(world, readtables)?;
-    put_current(world, package, readtable)
+    put_current(world, package, readtable)?;
+    Ok(())
+}
+
+// The same of version 2, which has the base too.
+fn put_tables_2(world: &mut World, tables: &Datum) -> Result<(), BuildError>
+    ensures { (s : WorldState) → IsSoundState s → is_proper tables.now ≡ true
+        → object_of tables.now ≡ tables_object s → world.old.0 ≡ with_properties_of s
+        → OrNoMemory (world.new.0 ≡ s) result }
+{
+    let [package, readtable, base, readtables] = items_in(tables)? else {
+        return Err(BuildError::Damaged);
+    };
+    put_readtables(world, readtables)?;
+    put_current(world, package, readtable)?;
+    put_base(world, base)?;
+    Ok(())
+}
+
+/// Makes the readtables of the third object of a snapshot of this version, what is current, and the base of numbers, in a world
+/// that has its packages.
+pub(crate) fn put_tables(world: &mut World, version: u16, tables: &Datum) -> Result<(), BuildError>
+    ensures { (s : WorldState) → IsSoundState s → is_proper tables.now ≡ true
+        → tables_object_in version s ≡ Some (object_of tables.now)
+        → world.old.0 ≡ with_properties_of s → OrNoMemory (world.new.0 ≡ s) result }
+{
+    if version == 1 {
+        put_tables_1(world, tables)
+    } else {
+        put_tables_2(world, tables)
+    }
 }

@@ -8,6 +8,7 @@
 //!
 //! - `call`: `Gather`, `Gathered`, `Call`, `Answer`
 //! - `meaning`: the trait `Meaning`
+//! - `no_functions`: the meaning of a program that has none
 //! - `functions`: the trait `MacroFunctions`, in which the crates above are generic
 //! - `registry`: `Macros`, `MacroFn`, `Refusal`, `Cause`
 //! - `stored`: a stored function and its fact
@@ -24,11 +25,13 @@ mod call;
 pub mod example;
 mod functions;
 mod meaning;
+mod no_functions;
 mod registry;
 mod stored;
 
 pub use call::{Answer, Call, Gather, Gathered};
 pub use functions::MacroFunctions;
 pub use meaning::Meaning;
+pub use no_functions::NoFunctions;
 pub use registry::{Cause, Macros, Refusal};
 pub use stored::MacroFn;

@@ -154,9 +154,10 @@ fn are_numbered(packages: &Packages) -> bool {
     let mut seen = [false; 53];
     for (owner, names) in FIRST_SYMBOLS {
         for name in names {
-            let Some(number) = packages.numbers().number_of(owner, name) else {
+            let Some(number) = packages.number_of(owner, name) else {
                 return false;
             };
+            let number = number as usize;
             if number >= 53 || seen[number] {
                 return false;
             }
@@ -209,25 +210,45 @@ fn are_named(alloc: Global, packages: &Packages, names: &[&[u8]]) -> bool {
     }
 }
 
+// Whether the packages are the first ones, by their names and lists.
+fn are_first(alloc: Global, packages: &Packages) -> Result<bool, Fail> {
+    let all: [&[u8]; 3] = [COMMON_LISP, COMMON_LISP_USER, KEYWORD];
+    Ok(
+        lists(Ok(packages.names(alloc)?), &all)
+            && are_named(alloc, packages, &all)
+            && is_user_first(alloc, packages)
+            && are_numbered(packages)
+            && uses_nothing(alloc, packages, COMMON_LISP)
+            && !uses_nothing(alloc, packages, CL)
+            && packages.externals(alloc, COMMON_LISP)?.len() == 31
+            && packages.own(alloc, KEYWORD)?.len() == 22,
+    )
+}
+
+// Whether the first packages have the symbols of the tables, and names mean what they say.
+fn are_as_in_the_tables(packages: &Packages) -> bool {
+    for (owner, names) in FIRST_SYMBOLS {
+        if !shows(packages, owner, names) {
+            return false;
+        }
+    }
+    for (name, package, locked) in NAMES {
+        if !names(packages, name, package, locked) {
+            return false;
+        }
+    }
+    for (prefix, name, one, two) in PREFIXED {
+        if !prefixed(packages, prefix, name, one, two) || !means(packages, prefix, name, two) {
+            return false;
+        }
+    }
+    true
+}
+
 #[test]
 fn first_packages(rt: HostRuntime) -> Result<(), Fail> {
     let alloc = rt.alloc();
     let packages = Packages::new(alloc)?.copy(alloc)?;
-    let all: [&[u8]; 3] = [COMMON_LISP, COMMON_LISP_USER, KEYWORD];
-    assert!(rt; lists(Ok(packages.names(alloc)?), &all) && are_named(alloc, &packages, &all));
-    assert!(rt; is_user_first(alloc, &packages) && are_numbered(&packages));
-    assert!(rt; uses_nothing(alloc, &packages, COMMON_LISP) && !uses_nothing(alloc, &packages, CL));
-    assert_eq!(rt; packages.externals(alloc, COMMON_LISP)?.len(), 31);
-    assert_eq!(rt; packages.own(alloc, KEYWORD)?.len(), 22);
-    for (owner, names) in FIRST_SYMBOLS {
-        assert!(rt; shows(&packages, owner, names));
-    }
-    for (name, package, locked) in NAMES {
-        assert!(rt; names(&packages, name, package, locked));
-    }
-    for (prefix, name, one, two) in PREFIXED {
-        assert!(rt; prefixed(&packages, prefix, name, one, two));
-        assert!(rt; means(&packages, prefix, name, two));
-    }
+    assert!(rt; are_first(alloc, &packages)? && are_as_in_the_tables(&packages));
     Ok(())
 }

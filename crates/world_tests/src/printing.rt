@@ -79,12 +79,10 @@ fn text_of(alloc: Global, packages: &Packages, kind: &str) -> Result<Vec<u8>, Fa
     text_in(alloc, &datum, packages, "CL-USER")
 }
 
-#[test]
-fn symbols(rt: HostRuntime) -> Result<(), Fail> {
-    let alloc = rt.alloc();
-    let mut packages = Packages::new(alloc)?;
+// Whether the symbols of a table are printed as it says, in packages where they are made.
+fn prints_symbols(alloc: Global, packages: &mut Packages) -> Result<bool, Fail> {
     for name in ["P", "q"] {
-        make(alloc, &mut packages, name)?;
+        make(alloc, packages, name)?;
     }
     // the current package, the home and the name of a symbol, and its text
     let rows = [
@@ -107,16 +105,22 @@ fn symbols(rt: HostRuntime) -> Result<(), Fail> {
         ("CL-USER", "COMMON-LISP-USER", r"a|\", r"|a\|\\|"),
     ];
     for (_, home, name, _) in rows {
-        intern(alloc, &mut packages, home, name)?;
+        intern(alloc, packages, home, name)?;
     }
-    link(&mut packages)?;
+    link(packages)?;
     for (current, home, name, text) in rows {
-        let printed = symbol_in(alloc, &packages, current, home, name)?;
-        assert!(rt;
-            printed.as_slice() == text.as_bytes(),
-            "{name} in {current}"
-        );
+        let printed = symbol_in(alloc, packages, current, home, name)?;
+        if printed.as_slice() != text.as_bytes() {
+            return Ok(false);
+        }
     }
+    Ok(true)
+}
+
+#[test]
+fn symbols(rt: HostRuntime) -> Result<(), Fail> {
+    let mut packages = Packages::new(rt.alloc())?;
+    assert!(rt; prints_symbols(rt.alloc(), &mut packages)?);
     Ok(())
 }
 
@@ -150,10 +154,8 @@ fn made(alloc: Global, kind: &str) -> Result<Datum, AllocError> {
     }
 }
 
-#[test]
-fn objects(rt: HostRuntime) -> Result<(), Fail> {
-    let alloc = rt.alloc();
-    let packages = Packages::new(alloc)?;
+// Whether objects of each kind are printed as the tables say.
+fn prints_objects(alloc: Global, packages: &Packages) -> Result<bool, Fail> {
     for (kind, text) in [
         ("integer", "-170141183460469231731687303715884105728"),
         ("ratio", "-2/3"),
@@ -162,8 +164,10 @@ fn objects(rt: HostRuntime) -> Result<(), Fail> {
         ("list", r"((1 . 2) #(#\a) NIL #())"),
         ("nested", NESTED),
     ] {
-        let printed = text_of(alloc, &packages, kind)?;
-        assert!(rt; printed.as_slice() == text.as_bytes(), "{kind}");
+        let printed = text_of(alloc, packages, kind)?;
+        if printed.as_slice() != text.as_bytes() {
+            return Ok(false);
+        }
     }
     for (c, text) in [
         (8, r"#\Backspace"),
@@ -175,9 +179,18 @@ fn objects(rt: HostRuntime) -> Result<(), Fail> {
         (127, r"#\Rubout"),
         (b'a', r"#\a"),
     ] {
-        let printed = text_in(alloc, &Datum::Char(c), &packages, "CL-USER")?;
-        assert!(rt; printed.as_slice() == text.as_bytes());
+        let printed = text_in(alloc, &Datum::Char(c), packages, "CL-USER")?;
+        if printed.as_slice() != text.as_bytes() {
+            return Ok(false);
+        }
     }
+    Ok(true)
+}
+
+#[test]
+fn objects(rt: HostRuntime) -> Result<(), Fail> {
+    let packages = Packages::new(rt.alloc())?;
+    assert!(rt; prints_objects(rt.alloc(), &packages)?);
     Ok(())
 }
 

@@ -1,12 +1,15 @@
 //! Texts of worlds, byte for byte.
+mod altered;
+mod versions;
+
 use lisp_object::{Bytes, Datum};
 use package_table::PackageError;
 use package_table::standardized::{COMMON_LISP_USER, KEYWORD};
-use plist_state::{STANDARD, Symbol, USER, World};
+use plist_state::{STANDARD, Seed, Symbol, USER, World};
 use readtable_core::{Case, FnName};
 use snapshot_text::{
-    SnapshotError, one_text_one_state, printed_objects_read_back, read, snapshot_lines_are_read,
-    write,
+    SnapshotError, one_text_one_state, printed_objects_read_back, read, read_with_seed,
+    snapshot_lines_are_read, write,
 };
 use std::alloc::{AllocError, Global};
 use std::test::Fail;
@@ -50,16 +53,16 @@ fn add_packages(world: &mut World) -> Result<(), PackageError> {
 }
 
 const FIRST_WORLD: &[u8] =
-    b"((\"COMMON-LISP-USER\" (\"COMMON-LISP\") NIL NIL NIL) (\"KEYWORD\" NIL NIL NIL NIL))\nNIL\n(\"COMMON-LISP-USER\" \"USER\" ((\"USER\" \"UPCASE\" NIL)))\n";
+    b"((\"COMMON-LISP-USER\" (\"COMMON-LISP\") NIL NIL NIL) (\"KEYWORD\" NIL NIL NIL NIL))\nNIL\n(\"COMMON-LISP-USER\" \"USER\" 10 ((\"USER\" \"UPCASE\" NIL)))\n";
 
 const WITH_PROPERTY: &[u8] =
-    b"((\"COMMON-LISP-USER\" (\"COMMON-LISP\") (\"A\" \"B\") NIL NIL) (\"KEYWORD\" NIL NIL NIL NIL))\n((A B 7))\n(\"COMMON-LISP-USER\" \"USER\" ((\"USER\" \"UPCASE\" NIL)))\n";
+    b"((\"COMMON-LISP-USER\" (\"COMMON-LISP\") (\"A\" \"B\") NIL NIL) (\"KEYWORD\" NIL NIL NIL NIL))\n((A B 7))\n(\"COMMON-LISP-USER\" \"USER\" 10 ((\"USER\" \"UPCASE\" NIL)))\n";
 
 const WITH_MACRO: &[u8] =
-    b"((\"COMMON-LISP-USER\" (\"COMMON-LISP\") NIL NIL NIL) (\"KEYWORD\" NIL (\"SQUARE\") NIL NIL))\nNIL\n(\"COMMON-LISP-USER\" \"USER\" ((\"USER\" \"UPCASE\" ((91 2 \"SQUARE\" NIL)))))\n";
+    b"((\"COMMON-LISP-USER\" (\"COMMON-LISP\") NIL NIL NIL) (\"KEYWORD\" NIL (\"SQUARE\") NIL NIL))\nNIL\n(\"COMMON-LISP-USER\" \"USER\" 10 ((\"USER\" \"UPCASE\" ((91 2 \"SQUARE\" NIL)))))\n";
 
 const WITH_PACKAGES: &[u8] =
-    b"((\"COMMON-LISP-USER\" (\"COMMON-LISP\") NIL NIL ((\"X\" \"P\"))) (\"KEYWORD\" NIL NIL NIL NIL) (\"P\" NIL (\"X\") (\"X\") NIL) (\"Q\" (\"P\") NIL NIL NIL))\nNIL\n(\"Q\" \"USER\" ((\"USER\" \"INVERT\" ((33 3 \"STD-DISPATCH\" NIL)))))\n";
+    b"((\"COMMON-LISP-USER\" (\"COMMON-LISP\") NIL NIL ((\"X\" \"P\"))) (\"KEYWORD\" NIL NIL NIL NIL) (\"P\" NIL (\"X\") (\"X\") NIL) (\"Q\" (\"P\") NIL NIL NIL))\nNIL\n(\"Q\" \"USER\" 10 ((\"USER\" \"INVERT\" ((33 3 \"STD-DISPATCH\" NIL)))))\n";
 
 // Whether this is the text of the world.
 fn is_text_of(alloc: Global, world: &World, text: &[u8]) -> Result<bool, Fail> {
@@ -69,24 +72,30 @@ fn is_text_of(alloc: Global, world: &World, text: &[u8]) -> Result<bool, Fail> {
 #[test]
 fn the_first_world(rt: HostRuntime) -> Result<(), Fail> {
     let world = World::new(rt.alloc())?;
-    assert!(rt; is_text_of(rt.alloc(), &world, FIRST_WORLD)? && FIRST_WORLD.len() == 135);
+    assert!(rt; is_text_of(rt.alloc(), &world, FIRST_WORLD)? && FIRST_WORLD.len() == 138);
+    Ok(())
+}
+
+// Interns two symbols, and gives the first a property by the second.
+fn add_property(alloc: Global, world: &mut World) -> Result<(), Fail> {
+    world.intern(COMMON_LISP_USER, b"A")?;
+    world.intern(COMMON_LISP_USER, b"B")?;
+    if put_seven(alloc, world, b"A", b"B").is_none() {
+        return Err(Fail::from("not put"));
+    }
     Ok(())
 }
 
 fn with_property(alloc: Global) -> Result<World, Fail> {
     let mut world = World::new(alloc)?;
-    world.intern(COMMON_LISP_USER, b"A")?;
-    world.intern(COMMON_LISP_USER, b"B")?;
-    if put_seven(alloc, &mut world, b"A", b"B").is_none() {
-        return Err(Fail::from("not put"));
-    }
+    add_property(alloc, &mut world)?;
     Ok(world)
 }
 
 #[test]
 fn a_property(rt: HostRuntime) -> Result<(), Fail> {
     let world = with_property(rt.alloc())?;
-    assert!(rt; is_text_of(rt.alloc(), &world, WITH_PROPERTY)? && WITH_PROPERTY.len() == 147);
+    assert!(rt; is_text_of(rt.alloc(), &world, WITH_PROPERTY)? && WITH_PROPERTY.len() == 150);
     Ok(())
 }
 
@@ -102,16 +111,21 @@ fn with_macro(alloc: Global) -> Result<World, Fail> {
 #[test]
 fn a_macro_character(rt: HostRuntime) -> Result<(), Fail> {
     let world = with_macro(rt.alloc())?;
-    assert!(rt; is_text_of(rt.alloc(), &world, WITH_MACRO)? && WITH_MACRO.len() == 160);
+    assert!(rt; is_text_of(rt.alloc(), &world, WITH_MACRO)? && WITH_MACRO.len() == 163);
+    Ok(())
+}
+
+fn add_packages_and_dispatch(world: &mut World) -> Result<(), Fail> {
+    add_packages(world)?;
+    world.make_dispatch(USER, b'!', true)?;
+    world.set_case(USER, Case::Invert)?;
+    world.set_current_package(b"Q")?;
     Ok(())
 }
 
 fn with_packages(alloc: Global) -> Result<World, Fail> {
     let mut world = World::new(alloc)?;
-    add_packages(&mut world)?;
-    world.make_dispatch(USER, b'!', true)?;
-    world.set_case(USER, Case::Invert)?;
-    world.set_current_package(b"Q")?;
+    add_packages_and_dispatch(&mut world)?;
     Ok(world)
 }
 
@@ -122,44 +136,49 @@ fn packages_and_dispatch(rt: HostRuntime) -> Result<(), Fail> {
     Ok(())
 }
 
-// The text of the world that is read from a text, or the number of the refusal.
-fn read_back(alloc: Global, bytes: &[u8]) -> Result<Result<Vec<u8>, u16>, Fail> {
+// The text of the world that is read from a text of version 2, or the number of the refusal.
+pub(crate) fn read_back(alloc: Global, bytes: &[u8]) -> Result<Result<Vec<u8>, u16>, Fail> {
     let macros = Macros::new(alloc, Notes::new());
-    match read(alloc, bytes, &macros) {
+    match read(alloc, 2, bytes, &macros) {
         Ok(world) => Ok(Ok(write(alloc, &world)?)),
         Err(refusal) => Ok(Err(refusal.number())),
     }
 }
 
 // Whether the text is that of a world, which is read.
-fn is_read(alloc: Global, bytes: &[u8]) -> Result<bool, Fail> {
+pub(crate) fn is_read(alloc: Global, bytes: &[u8]) -> Result<bool, Fail> {
     Ok(match read_back(alloc, bytes)? {
         Ok(text) => text.as_slice() == bytes,
         Err(_) => false,
     })
 }
 
-// A world with something in each part.
-fn full_world(alloc: Global) -> Result<World, Fail> {
-    let mut world = World::new(alloc)?;
-    add_packages(&mut world)?;
+// Adds something in each part of a world.
+fn fill(alloc: Global, world: &mut World) -> Result<(), Fail> {
+    add_packages(world)?;
     for name in [b"A".as_slice(), b"b|c", b""] {
         let name = Bytes::from_slice(alloc, name)?;
         if name.is_ascii() {
             world.intern(COMMON_LISP_USER, name.as_slice())?;
         }
-        put_seven(alloc, &mut world, name.as_slice(), b"A");
-        put_seven(alloc, &mut world, b"A", name.as_slice());
+        put_seven(alloc, world, name.as_slice(), b"A");
+        put_seven(alloc, world, b"A", name.as_slice());
     }
     world.make_dispatch(USER, b'!', true)?;
     world.set_syntax_from_char(USER, b'x', STANDARD, b' ')?;
     world.set_case(USER, Case::Preserve)?;
+    Ok(())
+}
+
+// A world with something in each part.
+fn full_world(alloc: Global) -> Result<World, Fail> {
+    let mut world = World::new(alloc)?;
+    fill(alloc, &mut world)?;
     Ok(world)
 }
 
-// A world with more readtables, and functions on characters and sub-characters.
-fn world_of_tables(alloc: Global) -> Result<World, Fail> {
-    let mut world = full_world(alloc)?;
+// Adds a readtable, and functions on characters and sub-characters.
+fn add_tables(world: &mut World) -> Result<(), Fail> {
     for (c, d) in [
         (b'A', b'#'),
         (b'B', b'|'),
@@ -174,6 +193,12 @@ fn world_of_tables(alloc: Global) -> Result<World, Fail> {
     }
     world.set_current_readtable(b"UPCASE")?;
     world.set_current_package(b"P")?;
+    Ok(())
+}
+
+fn world_of_tables(alloc: Global) -> Result<World, Fail> {
+    let mut world = full_world(alloc)?;
+    add_tables(&mut world)?;
     Ok(world)
 }
 
@@ -213,27 +238,34 @@ const USES_ITSELF: &[u8] =
 const NOT_PRESENT: &[u8] =
     b"((\"COMMON-LISP-USER\" (\"COMMON-LISP\") NIL (\"A\") NIL) (\"KEYWORD\" NIL NIL NIL NIL))";
 
-const TABLES: &[u8] = b"(\"COMMON-LISP-USER\" \"USER\" ((\"USER\" \"UPCASE\" NIL)))";
+const TABLES: &[u8] = b"(\"COMMON-LISP-USER\" \"USER\" 10 ((\"USER\" \"UPCASE\" NIL)))";
 
 // A number, and the lines of a text that is refused so; the words are those of `line_of`. Two texts have an empty line more.
 const REFUSED: &str = r#"62|||
 62|NIL|NIL|NIL
-62|FIRST|NIL|("COMMON-LISP-USER" "USER" (("USER" "UPCASE"  NIL)))
-62|FIRST|NIL|("COMMON-LISP-USER" "USER" (("USER" "UPCASE" NIL)))|
-62|FIRST|NIL|("P" "USER" (("USER" "UPCASE" NIL)))
-62|FIRST|NIL|("COMMON-LISP-USER" "STANDARD" NIL)
-62|FIRST|NIL|("COMMON-LISP-USER" "USER" (("USER" "UPCASE" ((40 2 "STD-LIST" NIL)))))
-62|FIRST|NIL|("COMMON-LISP-USER" "USER" (("USER" "UPCASE" ((91 2 "SQUARE" NIL)))))
-62|FIRST|NIL|("COMMON-LISP-USER" "USER" (("USER" "UPCASE" ((33 3 "STD-DISPATCH" ((53 "STD-LIST")))))))
-63|KEYWORDS|NIL|("COMMON-LISP-USER" "USER" (("USER" "UPCASE" ((91 2 "SQUARE" NIL)))))
-63|KEYWORDS|NIL|("COMMON-LISP-USER" "USER" (("USER" "UPCASE" ((33 3 "STD-DISPATCH" ((91 "STD-FOO")))))))
-62|KEYWORDS|NIL|("COMMON-LISP-USER" "USER" (("USER" "UPCASE" ((91 2 "SQUARE" NIL)))))|
+62|FIRST|NIL|("COMMON-LISP-USER" "USER" 10 (("USER" "UPCASE"  NIL)))
+62|FIRST|NIL|("COMMON-LISP-USER" "USER" 10 (("USER" "UPCASE" NIL)))|
+62|FIRST|NIL|("P" "USER" 10 (("USER" "UPCASE" NIL)))
+62|FIRST|NIL|("COMMON-LISP-USER" "STANDARD" 10 NIL)
+62|FIRST|NIL|("COMMON-LISP-USER" "USER" 10 (("USER" "UPCASE" ((40 2 "STD-LIST" NIL)))))
+62|FIRST|NIL|("COMMON-LISP-USER" "USER" 10 (("USER" "UPCASE" ((91 2 "SQUARE" NIL)))))
+62|FIRST|NIL|("COMMON-LISP-USER" "USER" 10 (("USER" "UPCASE" ((33 3 "STD-DISPATCH" ((53 "STD-LIST")))))))
+63|KEYWORDS|NIL|("COMMON-LISP-USER" "USER" 10 (("USER" "UPCASE" ((91 2 "SQUARE" NIL)))))
+63|KEYWORDS|NIL|("COMMON-LISP-USER" "USER" 10 (("USER" "UPCASE" ((33 3 "STD-DISPATCH" ((91 "STD-FOO")))))))
+62|KEYWORDS|NIL|("COMMON-LISP-USER" "USER" 10 (("USER" "UPCASE" ((91 2 "SQUARE" NIL)))))|
 62|FIRST|((T T))|TABLES
 62|NO_NAME|NIL|TABLES
 62|NICKNAME|NIL|TABLES
 62|USES_NOTHING|NIL|TABLES
 62|USES_ITSELF|NIL|TABLES
-62|NOT_PRESENT|NIL|TABLES"#;
+62|NOT_PRESENT|NIL|TABLES
+62|FIRST|NIL|("COMMON-LISP-USER" "USER" (("USER" "UPCASE" NIL)))
+62|FIRST|NIL|("COMMON-LISP-USER" "USER" 1 (("USER" "UPCASE" NIL)))
+62|FIRST|NIL|("COMMON-LISP-USER" "USER" 37 (("USER" "UPCASE" NIL)))
+62|FIRST|NIL|("COMMON-LISP-USER" "USER" -10 (("USER" "UPCASE" NIL)))
+62|FIRST|NIL|("COMMON-LISP-USER" "USER" "10" (("USER" "UPCASE" NIL)))
+62|FIRST|NIL|("COMMON-LISP-USER" "USER" 10. (("USER" "UPCASE" NIL)))
+62|FIRST|NIL|("COMMON-LISP-USER" "USER" (("USER" "UPCASE" NIL)) 10)"#;
 
 // The line of a word, and else the word.
 fn line_of(word: &str) -> &[u8] {
@@ -278,65 +310,35 @@ fn other_texts_are_refused(rt: HostRuntime) -> Result<(), Fail> {
     Ok(())
 }
 
-// Whether an altered text is that of a world; nothing where it is neither that nor refused.
-fn is_another(alloc: Global, altered: &[u8]) -> Result<Option<bool>, Fail> {
-    Ok(match read_back(alloc, altered)? {
-        Ok(again) if again.as_slice() == altered => Some(true),
-        Err(62) | Err(63) => Some(false),
-        _ => None,
-    })
-}
-
-// A text with one byte altered in this way.
-fn altered_at(alloc: Global, text: &[u8], offset: usize, bits: u8) -> Result<Vec<u8>, AllocError> {
-    let mut altered = Vec::from_slice(alloc, text)?;
-    if let Some(byte) = altered.get_mut(offset) {
-        *byte ^= bits;
-    }
-    Ok(altered)
-}
-
-// The number of texts that are read among those where one byte is altered in this way. Each is refused, or is the text of a
-// world.
-fn read_altered(alloc: Global, text: &[u8], bits: u8) -> Result<Option<usize>, Fail> {
-    let mut count = 0usize;
-    for offset in 0..text.len() {
-        let altered = altered_at(alloc, text, offset, bits)?;
-        match is_another(alloc, altered.as_slice())? {
-            Some(true) => count = count.saturating_add(1),
-            Some(false) => {}
-            None => return Ok(None),
-        }
-    }
-    Ok(Some(count))
+fn set_other_names(world: &mut World) -> Result<(), Fail> {
+    world.set_current_package(b"P")?;
+    world.set_current_readtable(STANDARD)?;
+    Ok(())
 }
 
 // The text of a world with something in each part, and with other current ones than the first.
-fn full_text(alloc: Global) -> Result<Vec<u8>, Fail> {
+pub(crate) fn full_text(alloc: Global) -> Result<Vec<u8>, Fail> {
     let mut world = full_world(alloc)?;
-    world.set_current_package(b"P")?;
-    world.set_current_readtable(STANDARD)?;
+    set_other_names(&mut world)?;
     Ok(write(alloc, &world)?)
 }
 
-// Whether the text is damaged.
-fn is_damaged(alloc: Global, text: &[u8]) -> Result<bool, Fail> {
-    Ok(matches!(read_back(alloc, text)?, Err(62)))
+// Whether the text is that of a world, which is read under this seed.
+fn is_read_with(alloc: Global, text: &[u8], seed: Seed) -> Result<bool, Fail> {
+    let macros = Macros::new(alloc, Notes::new());
+    Ok(match read_with_seed(alloc, 2, text, &macros, seed) {
+        Ok(world) => write(alloc, &world)?.as_slice() == text,
+        Err(_) => false,
+    })
 }
 
-// With each byte altered the text is refused, or is that of another world. Cut anywhere, it is refused.
+// A text is read under any seed.
 #[test]
-fn altered_texts(rt: HostRuntime) -> Result<(), Fail> {
+fn texts_under_seeds(rt: HostRuntime) -> Result<(), Fail> {
     let alloc = rt.alloc();
     let text = full_text(alloc)?;
-    let text = text.as_slice();
-    assert!(rt; is_read(alloc, text)?);
-    for bits in [1, 2, 16, 128] {
-        let count = read_altered(alloc, text, bits)?;
-        assert!(rt; matches!(count, Some(n) if n > 0 || bits > 1));
-    }
-    for length in 0..text.len() {
-        assert!(rt; is_damaged(alloc, &text[..length])?);
+    for seed in [Seed::fixed(), Seed::new(0, 0), Seed::draw(&rt)?] {
+        assert!(rt; is_read_with(alloc, text.as_slice(), seed)?);
     }
     Ok(())
 }

@@ -158,17 +158,33 @@ fn has_readtables(alloc: Global, world: &World, names: &[&[u8]]) -> Result<bool,
     Ok(lists(&world.readtable_names(alloc)?, names))
 }
 
+// Whether each call is answered as its row says.
+fn all_answered(world: &mut World) -> bool {
+    for row in CALLS.split('\n') {
+        if !answers(world, row) {
+            return false;
+        }
+    }
+    true
+}
+
+// Whether a new world has the first readtables, and after the calls those that they leave.
+fn keeps_readtables(alloc: Global, world: &mut World) -> Result<bool, Fail> {
+    if !has_readtables(alloc, world, &[STANDARD, USER])? || world.current_readtable() != USER {
+        return Ok(false);
+    }
+    Ok(
+        all_answered(world)
+            && is_changed(world)
+            && world.current_readtable() == STANDARD
+            && has_readtables(alloc, world, &[STANDARD, b"UPCASE", USER])?,
+    )
+}
+
 #[test]
 fn readtables(rt: HostRuntime) -> Result<(), Fail> {
-    let alloc = rt.alloc();
-    let mut world = World::new(alloc)?;
-    assert!(rt; has_readtables(alloc, &world, &[STANDARD, USER])?);
-    assert!(rt; world.current_readtable() == USER);
-    for row in CALLS.split('\n') {
-        assert!(rt; answers(&mut world, row), "{row}");
-    }
-    assert!(rt; is_changed(&world) && world.current_readtable() == STANDARD);
-    assert!(rt; has_readtables(alloc, &world, &[STANDARD, b"UPCASE", USER])?);
+    let mut world = World::new(rt.alloc())?;
+    assert!(rt; keeps_readtables(rt.alloc(), &mut world)?);
     Ok(())
 }
 
@@ -205,10 +221,10 @@ fn is_number(value: Option<&Datum>, number: i128) -> bool {
 
 // Whether the symbol has these two properties, in this order.
 fn has(world: &World, symbol: &Symbol, first: i128, second: i128) -> bool {
-    match world.plist(symbol) {
-        [one, two] => is_number(Some(&one.value), first) && is_number(Some(&two.value), second),
-        _ => false,
-    }
+    let properties = world.plist(symbol);
+    properties.len() == 2
+        && is_number(Some(properties.at(0).value), first)
+        && is_number(Some(properties.at(1).value), second)
 }
 
 // How many symbols have properties, and how many packages they are of.
@@ -225,20 +241,36 @@ fn put_to_list(alloc: Global, world: &mut World, name: &[u8], number: i128) -> O
     put(world, &list, indicator, number)
 }
 
-#[test]
-fn properties(rt: HostRuntime) -> Result<(), Fail> {
-    let alloc = rt.alloc();
-    let mut world = World::new(alloc)?;
-    assert!(rt; counts(alloc, &world)? == (0, 0));
+// Sets properties of LIST, one of them twice, and tells whether each was set.
+fn all_put(alloc: Global, world: &mut World) -> bool {
+    for (name, number) in [(b"GET".as_slice(), 1), (b"IF", 2), (b"GET", 3)] {
+        if put_to_list(alloc, world, name, number).is_none() {
+            return false;
+        }
+    }
+    true
+}
+
+// Whether a new world has no properties, and then those of LIST that are set, until one is removed.
+fn keeps_properties(alloc: Global, world: &mut World) -> Result<bool, Fail> {
     let list = Symbol::from_bytes(alloc, COMMON_LISP, b"LIST")?;
     let get = Symbol::from_bytes(alloc, COMMON_LISP, b"GET")?;
-    assert!(rt; remove(&mut world, &list, &get) == Some(false));
-    for (name, number) in [(b"GET".as_slice(), 1), (b"IF", 2), (b"GET", 3)] {
-        assert!(rt; put_to_list(alloc, &mut world, name, number).is_some());
-    }
-    assert!(rt; is_number(world.get(&list, &get), 3) && has(&world, &list, 3, 2));
-    assert!(rt; counts(alloc, &world)? == (1, 1));
-    assert!(rt; remove(&mut world, &list, &get) == Some(true) && world.get(&list, &get).is_none());
+    Ok(
+        counts(alloc, world)? == (0, 0)
+            && remove(world, &list, &get) == Some(false)
+            && all_put(alloc, world)
+            && is_number(world.get(&list, &get), 3)
+            && has(world, &list, 3, 2)
+            && counts(alloc, world)? == (1, 1)
+            && remove(world, &list, &get) == Some(true)
+            && world.get(&list, &get).is_none(),
+    )
+}
+
+#[test]
+fn properties(rt: HostRuntime) -> Result<(), Fail> {
+    let mut world = World::new(rt.alloc())?;
+    assert!(rt; keeps_properties(rt.alloc(), &mut world)?);
     Ok(())
 }
 
@@ -255,15 +287,19 @@ fn with_package(world: &mut World) -> Result<[bool; 4], PackageError> {
     Ok([interned, exported, used, imported])
 }
 
+// Whether a new world is in COMMON-LISP-USER, and then in a package that was made, and in no other.
+fn keeps_packages(world: &mut World) -> bool {
+    world.current_package() == COMMON_LISP_USER
+        && with_package(world) == Ok([true; 4])
+        && world.set_current_package(b"CL") == Err(PackageError::NoSuchPackage)
+        && world.set_current_package(b"P") == Ok(())
+        && world.current_package() == b"P".as_slice()
+        && world.make(b"CL") == Err(PackageError::PackageExists)
+}
+
 #[test]
 fn packages(rt: HostRuntime) -> Result<(), Fail> {
     let mut world = World::new(rt.alloc())?;
-    assert!(rt; world.current_package() == COMMON_LISP_USER);
-    assert_eq!(rt; with_package(&mut world), Ok([true; 4]));
-    assert!(rt; world.set_current_package(b"CL") == Err(PackageError::NoSuchPackage));
-    assert!(rt;
-        world.set_current_package(b"P") == Ok(()) && world.current_package() == b"P".as_slice()
-    );
-    assert!(rt; world.make(b"CL") == Err(PackageError::PackageExists));
+    assert!(rt; keeps_packages(&mut world));
     Ok(())
 }

@@ -1,5 +1,5 @@
 -- What is found at each character with which printed text begins, under the standard readtable.
-use Rattle.std.proofs.Common.{◌≡◌, ℕ, ◌+◌, ◌-◌, ◌<◌, ◌≤◌, Bool, true, false, List, [], ◌∷◌, Option, Some, None, Ok, Err, refl, ap, ◌∙◌, arith}
+use Rattle.std.proofs.Common.{◌≡◌, ℕ, ◌+◌, ◌-◌, ◌<◌, ◌≤◌, Bool, true, false, List, [], ◌∷◌, Some, None, Ok, Err, refl, ap, ◌∙◌, arith}
 use Rattle.std.specs.Prelude.{codes}
 use Rattle.std.proofs.lemmas.List.Elements.{All-nil, All-cons}
 use Rattle.token_scan.specs.declared.mark.Mark.TheVariants.{Plain}
@@ -15,8 +15,6 @@ use Rattle.readtable_core.proofs.Standard.{standard_syntax_at}
 use Rattle.token_scan.specs.declared.mark.Mark.{Mark}
 use Rattle.token_scan.specs.Tokens.{ScannedBytes}
 use Rattle.token_meaning.specs.Numerals.{is_empty}
-use Rattle.user_macros.specs.declared.call.Gather.{Gather}
-use Rattle.user_macros.specs.Calls.{MacroCall, MacroAnswer}
 use Rattle.package_table.specs.Table.{Name, Table as Packages}
 use Rattle.std_macros.specs.declared.kind.Standard.{Standard}
 use Rattle.std_macros.specs.declared.kind.Standard.TheVariants.{List as AList, String, Char, Vector, Uninterned}
@@ -56,7 +54,7 @@ no_alone _ e = absurd cc
 module _ (limits : Limits) (packages : Packages) (current : Name) (functions : Functions) where
   -- reading under the standard readtable
   abbrev pub under : Setting
-  under = setting_of limits standard packages current functions
+  under = setting_of limits standard 10 packages current functions
 
   abbrev pub begun : ℕ → ℕ → List ℕ → Read Found
   begun d at cs = run standard limits (attempt under d) at cs

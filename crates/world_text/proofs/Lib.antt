@@ -13,6 +13,7 @@ pub mod Whole
 pub mod Worlds
 pub mod RowsByKey
 pub mod SameProperties
+pub mod Versions
 pub mod SameTables
 pub mod PackageEntries
 pub mod SamePackages

@@ -1,9 +1,7 @@
 -- The lines of the text of a sound state are read as their objects.
-use Rattle.std.proofs.Common.{◌≡◌, ℕ, ◌+◌, ◌≤◌, List, [], ◌∷◌, ◌++◌, length, append_assoc, Option, ap, subst, sym, ◌∙◌, arith}
+use Rattle.std.proofs.Common.{◌≡◌, ℕ, ◌+◌, ◌≤◌, List, [], ◌∷◌, ◌++◌, length, append_assoc, Some, ap, subst, sym, ◌∙◌, arith}
 use Rattle.lisp_object.specs.Object.{Object, object_depth}
 use Rattle.readtable_core.specs.Tables.{standard}
-use Rattle.user_macros.specs.declared.call.Gather.{Gather}
-use Rattle.user_macros.specs.Calls.{MacroCall, MacroAnswer}
 use Rattle.package_table.specs.Table as packages
 use Rattle.package_table.specs.Table.{Table, common_lisp_user}
 use Rattle.canon_printer.specs.Printed.{printed}
@@ -13,9 +11,9 @@ use Rattle.plist_state.specs.State.{WorldState}
 use Rattle.plist_state.specs.Sound.{IsSound}
 use Rattle.world_text.specs.Lines.{snapshot_limits, IsLineRead}
 use Rattle.world_text.specs.Tokens.{ends_with_token}
-use Rattle.world_text.specs.Snapshot.{packages_object, properties_object, tables_object}
+use Rattle.world_text.specs.Snapshot.{packages_object, properties_object, tables_object_in}
 use Rattle.world_text.proofs.Whole.{object_read_back}
-use Rattle.world_text.proofs.WithinLimits.{tokens_short, packages_depth, properties_depth, tables_depth}
+use Rattle.world_text.proofs.WithinLimits.{tokens_short, packages_depth, properties_depth, third_depth}
 use Rattle.world_text.proofs.PlainObjects.{plain_printed}
 use Rattle.world_text.proofs.PlainLines.{plain_packages, plain_third}
 use Rattle.world_text.proofs.OneLine.{IsGood, good_symbols, plain_good, properties_good, ends_line}
@@ -23,7 +21,7 @@ use Rattle.user_macros.specs.Functions.{Functions}
 
 module _ (functions : Functions) where
   abbrev under : Table → Setting
-  under t = setting_of snapshot_limits standard t common_lisp_user functions
+  under t = setting_of snapshot_limits standard 10 t common_lisp_user functions
 
   read_line : (t : Table) → packages.IsSound t → (x : Object) → IsGood t x → object_depth x ≤ 104 → length (printed t common_lisp_user x) ≤ 4294967295 → (rest : List ℕ)
       → IsLineRead (under t) t x rest
@@ -47,5 +45,7 @@ module _ (functions : Functions) where
     pub second_read : length (printed s.packages common_lisp_user (properties_object s)) ≤ 4294967295 → (rest : List ℕ) → IsLineRead (under s.packages) s.packages (properties_object s) rest
     second_read fits rest = read_line s.packages sound.packages (properties_object s) (properties_good s sound) (properties_depth s sound) fits rest
 
-    pub third_read : length (printed s.packages common_lisp_user (tables_object s)) ≤ 4294967295 → (rest : List ℕ) → IsLineRead (under s.packages) s.packages (tables_object s) rest
-    third_read fits rest = read_line s.packages sound.packages (tables_object s) (plain_good s.packages sound.packages (tables_object s) (plain_third s sound)) (tables_depth s) fits rest
+    pub third_read : (version : ℕ) (third : Object) → tables_object_in version s ≡ Some third → length (printed s.packages common_lisp_user third) ≤ 4294967295 → (rest : List ℕ)
+        → IsLineRead (under s.packages) s.packages third rest
+    third_read version third is fits rest =
+        read_line s.packages sound.packages third (plain_good s.packages sound.packages third (plain_third s sound version third is)) (third_depth version s third is) fits rest

@@ -1,12 +1,10 @@
 -- Lists and vectors: what is read in them, under the standard readtable.
-use Rattle.std.proofs.Common.{◌≡◌, ℕ, ◌+◌, ◌<◌, ◌≤◌, Bool, true, false, not, List, [], ◌∷◌, ◌++◌, Option, Some, None, Ok, refl, sym, ap, ◌∙◌, arith}
+use Rattle.std.proofs.Common.{◌≡◌, ℕ, ◌+◌, ◌<◌, ◌≤◌, Bool, true, false, not, List, [], ◌∷◌, ◌++◌, Some, None, Ok, refl, sym, ap, ◌∙◌, arith}
 use Rattle.std.specs.Prelude.{◌==◌}
 use Rattle.std.proofs.lemmas.Bool.{not-true}
 use Rattle.lisp_object.specs.Object as o
 use Rattle.lisp_object.specs.Object.{Object, pairs, list_of}
 use Rattle.readtable_core.specs.Tables.{standard}
-use Rattle.user_macros.specs.declared.call.Gather.{Gather}
-use Rattle.user_macros.specs.Calls.{MacroCall, MacroAnswer}
 use Rattle.package_table.specs.Table.{Name, Table as Packages}
 use Rattle.std_macros.specs.Values.{Material, list_value, vector_value}
 use Rattle.lisp_reading.specs.declared.limits.Limits.{Limits}

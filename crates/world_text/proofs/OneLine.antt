@@ -13,7 +13,6 @@ use Rattle.lisp_object.specs.Object.{Object, IsSound, OfSymbol, AllAtoms, object
 use Rattle.lisp_object.proofs.Atoms.{atoms_weaker}
 use Rattle.readtable_core.specs.Tables.{standard}
 use Rattle.token_scan.specs.Spelling.{may_end}
-use Rattle.user_macros.specs.Calls.{no_value}
 use Rattle.package_table.specs.Table as packages
 use Rattle.package_table.specs.Table.{Name, Table, common_lisp_user}
 use Rattle.canon_printer.specs.Printed.{printed}
@@ -89,7 +88,7 @@ module _ (t : Table) (sound : packages.IsSound t) where
 
   read_line : (limits : Limits) → 0 < limits.token → (x : Object) → IsGood t x → object_depth x ≤ limits.nesting → length (printed t common_lisp_user x) ≤ limits.text
       → AreTokensWithin t common_lisp_user limits.token x → (rest : List ℕ)
-      → reads (setting_of limits standard t common_lisp_user no_functions) (printed t common_lisp_user x ++ 10 ∷ rest)
+      → reads (setting_of limits standard 10 t common_lisp_user no_functions) (printed t common_lisp_user x ++ 10 ∷ rest)
       ≡ form x 0 (length (printed t common_lisp_user x)) (length (printed t common_lisp_user x) + space_at standard (ends_with_token x) (10 ∷ rest))
   read_line limits room x good deep fits few rest =
       object_read_back limits t common_lisp_user no_functions sound room x (good.sound, good_symbols t x good, few) deep fits (10 ∷ rest) (ends_line rest)
@@ -105,7 +104,7 @@ module _ (t : Table) (sound : packages.IsSound t) where
       } in
       let first = read_line limits (omega arith) x gx (omega arith) (omega arith) (weaker t common_lisp_user bx.0 (bx.0 + by.0 + 1) (omega arith) x bx.1) rest in
       let second = read_line limits (omega arith) y gy (omega arith) (omega arith) (weaker t common_lisp_user by.0 (bx.0 + by.0 + 1) (omega arith) y by.1) more in
-      same_form x y (sym first ∙ ap (reads (setting_of limits standard t common_lisp_user no_functions)) e ∙ second)
+      same_form x y (sym first ∙ ap (reads (setting_of limits standard 10 t common_lisp_user no_functions)) e ∙ second)
     where
       same_form : (x y : Object) {a b c d : ℕ} → form x 0 a b ≡ form y 0 c d → x ≡ y
       same_form x y e = cc

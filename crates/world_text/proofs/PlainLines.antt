@@ -1,5 +1,5 @@
 -- The first and the third object of a snapshot are of texts, numbers and NIL.
-use Rattle.std.proofs.Common.{◌≡◌, ℕ, zero, suc, ◌+◌, ◌≤◌, ◌<◌, Bool, true, false, not, List, [], ◌∷◌, ◌++◌, map, filter, get_or, Some, None, IsTrue, refl, arith, unwrap_or}
+use Rattle.std.proofs.Common.{◌≡◌, ℕ, zero, suc, ◌+◌, ◌≤◌, ◌<◌, Bool, true, false, not, List, [], ◌∷◌, ◌++◌, map, filter, get_or, Some, None, IsTrue, refl, sym, subst, inl, inr, arith, unwrap_or}
 use Rattle.std.specs.Prelude.{length, nat_le, Option, if◌then◌else◌}
 use Rattle.std.specs.List.{flat_map, range_with_len}
 use Rattle.std.specs.Str.{bytes_eq}
@@ -25,9 +25,10 @@ use Rattle.package_table.specs.Readers.{package_names, used_names, imports}
 use Rattle.plist_state.specs.State.{WorldState, standard_name}
 use Rattle.plist_state.specs.Sound.{IsSound}
 use Rattle.plist_state.specs.Readers.{readtable_names}
-use Rattle.world_text.specs.Snapshot.{made_names, shown_names, imported_name, package_object, packages_object, number, dispatch_object, dispatch_objects, entry_object, entry_objects, readtable_object, table_named, tables_object}
+use Rattle.world_text.specs.Snapshot.{made_names, shown_names, imported_name, package_object, packages_object, number, dispatch_object, dispatch_objects, entry_object, entry_objects, readtable_object, table_named, readtables_object, tables_object_in}
 use Rattle.world_text.proofs.Ascii.{is_ascii_name, are_ascii_names, all_filtered, package_names_ascii, used_names_ascii, made_names_ascii, shown_names_ascii, imports_ascii}
 use Rattle.world_text.proofs.Worlds.{readtable_names_ascii, current_package_ascii, current_readtable_ascii}
+use Rattle.world_text.proofs.Versions.{third_by}
 use Rattle.world_text.proofs.PlainObjects.{IsPlain, ArePlain, plain_nil, plain_list, plain_text, plain_texts, plain_imports}
 
 -- ---- packages
@@ -131,9 +132,24 @@ module _ (s : WorldState) (sound : IsSound s) where
       let both = and_parts (is_ascii_name n) (are_ascii_names ns) e in
       (plain_readtable n (table_named s n) both.0 (named_sound n), plain_tables ns both.1)
 
-  pub plain_third : IsPlain (tables_object s)
-  plain_third =
+  plain_readtables : IsPlain (readtables_object s)
+  plain_readtables =
       let names = filter (λ n. not (bytes_eq n standard_name)) (readtable_names s) in
-      let tables = plain_list (map (λ n. readtable_object n (table_named s n)) names)
-      (plain_tables names (all_filtered is_ascii_name (λ n. not (bytes_eq n standard_name)) (readtable_names s) (readtable_names_ascii s sound))) in
-      (plain_text s.current_package (current_package_ascii s sound), (plain_text s.current_readtable (current_readtable_ascii s sound), (tables, plain_nil)))
+      plain_list (map (λ n. readtable_object n (table_named s n)) names)
+      (plain_tables names (all_filtered is_ascii_name (λ n. not (bytes_eq n standard_name)) (readtable_names s) (readtable_names_ascii s sound)))
+
+  plain_package_name : IsPlain (o.text s.current_package)
+  plain_package_name = plain_text s.current_package (current_package_ascii s sound)
+
+  plain_readtable_name : IsPlain (o.text s.current_readtable)
+  plain_readtable_name = plain_text s.current_readtable (current_readtable_ascii s sound)
+
+  plain_base : IsPlain (number s.read_base)
+  plain_base = let highest = sound.highest_base in plain_number s.read_base (omega arith)
+
+  pub plain_third : (version : ℕ) (x : Object) → tables_object_in version s ≡ Some x → IsPlain x
+  plain_third version x is =
+      elim (third_by version s x is) [
+        | inl second ↦ subst IsPlain (sym second.1) (plain_package_name, (plain_readtable_name, (plain_base, (plain_readtables, plain_nil))))
+        | inr first ↦ subst IsPlain (sym first.2) (plain_package_name, (plain_readtable_name, (plain_readtables, plain_nil)))
+      ]

@@ -1,4 +1,4 @@
--- Sound states with one object of their readtables have the same readtables, and the same current names.
+-- Sound states with one object of their readtables have the same readtables, the same current names and the same base.
 use Rattle.std.proofs.Common.{◌≡◌, ℕ, inl, inr, suc, zero, ◌+◌, ◌≤◌, ◌<◌, Bool, true, false, not, List, [], ◌∷◌, ◌++◌, length, get_or, map, filter, Some, None, refl, sym, ap, ◌∙◌, arith, unwrap_or}
 use Rattle.std.specs.Prelude.{ℤ, pos, negsuc, Option, cond, is_some, option_map, ◌==◌, ◌||◌, if◌then◌else◌}
 use Rattle.std.specs.List.{list_any, flat_map, range_with_len}
@@ -23,7 +23,8 @@ use Rattle.package_table.specs.Table.{Name, name_cmp}
 use Rattle.plist_state.specs.State.{WorldState, standard_name}
 use Rattle.plist_state.specs.Sound.{IsSound}
 use Rattle.plist_state.proofs.Orders.{name_total, name_exact, one_name}
-use Rattle.world_text.specs.Snapshot.{number, dispatch_object, dispatch_objects, entry_object, entry_objects, readtable_object, table_named, readtables_object, tables_object}
+use Rattle.world_text.specs.Snapshot.{number, dispatch_object, dispatch_objects, entry_object, entry_objects, readtable_object, table_named, readtables_object, tables_object, tables_object_1, tables_object_in}
+use Rattle.world_text.proofs.Versions.{IsThird, third_by}
 use Rattle.world_text.proofs.RowsByKey.{rows, same_rows, filtered_rows, same_list, same_options}
 
 -- ---- rows that begin with a number
@@ -221,15 +222,35 @@ same_readtables s t sound_s sound_t e =
     names : WorldState → List Name
     names u = finite.keys u.readtables
 
--- the readtables and the current names
+-- the readtables, the current names and the base
 pub record HaveSameTables (s t : WorldState) : Type 0 where
   pub readtables : s.readtables ≡ t.readtables
   pub current_package : s.current_package ≡ t.current_package
   pub current_readtable : s.current_readtable ≡ t.current_readtable
+  pub read_base : s.read_base ≡ t.read_base
 
-pub same_third : (s t : WorldState) → IsSound s → IsSound t → tables_object s ≡ tables_object t → HaveSameTables s t
-same_third s t sound_s sound_t e =
+same_second : (s t : WorldState) → IsSound s → IsSound t → tables_object s ≡ tables_object t → HaveSameTables s t
+same_second s t sound_s sound_t e =
     let objects : readtables_object s ≡ readtables_object t = cc in
     let in_package : s.current_package ≡ t.current_package = cc in
     let in_readtable : s.current_readtable ≡ t.current_readtable = cc in
-    record { readtables = same_readtables s t sound_s sound_t objects; current_package = in_package; current_readtable = in_readtable }
+    let in_base : s.read_base ≡ t.read_base = cc in
+    record { readtables = same_readtables s t sound_s sound_t objects; current_package = in_package; current_readtable = in_readtable; read_base = in_base }
+
+same_first : (s t : WorldState) → IsSound s → IsSound t → s.read_base ≡ t.read_base → tables_object_1 s ≡ tables_object_1 t → HaveSameTables s t
+same_first s t sound_s sound_t base e =
+    let objects : readtables_object s ≡ readtables_object t = cc in
+    let in_package : s.current_package ≡ t.current_package = cc in
+    let in_readtable : s.current_readtable ≡ t.current_readtable = cc in
+    record { readtables = same_readtables s t sound_s sound_t objects; current_package = in_package; current_readtable = in_readtable; read_base = base }
+
+-- the same third object of one version
+pub same_third : (version : ℕ) (s t : WorldState) (x : Object) → IsSound s → IsSound t
+    → tables_object_in version s ≡ Some x → tables_object_in version t ≡ Some x → HaveSameTables s t
+same_third version s t x sound_s sound_t in_s in_t = both (third_by version s x in_s) (third_by version t x in_t)
+  where
+    both : IsThird version s x → IsThird version t x → HaveSameTables s t
+    both (inl a) (inl b) = same_second s t sound_s sound_t (sym a.1 ∙ b.1)
+    both (inl a) (inr b) = absurd (omega (arith, a.0, b.0))
+    both (inr a) (inl b) = absurd (omega (arith, a.0, b.0))
+    both (inr a) (inr b) = same_first s t sound_s sound_t (a.1 ∙ sym b.1) (sym a.2 ∙ b.2)

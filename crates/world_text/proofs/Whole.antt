@@ -1,5 +1,5 @@
 -- Each object is read back from its printed text.
-use Rattle.std.proofs.Common.{◌≡◌, ℕ, zero, suc, ◌+◌, ◌-◌, ◌<◌, ◌≤◌, Bool, true, false, not, List, [], ◌∷◌, ◌++◌, length, append_assoc, Option, Ok, refl, sym, ap, subst, ◌∙◌, arith}
+use Rattle.std.proofs.Common.{◌≡◌, ℕ, zero, suc, ◌+◌, ◌-◌, ◌<◌, ◌≤◌, Bool, true, false, not, List, [], ◌∷◌, ◌++◌, length, append_assoc, Ok, refl, sym, ap, subst, ◌∙◌, arith}
 use Rattle.std.specs.Prelude.{◌==◌, if◌then◌else◌, codes}
 use Rattle.std.specs.List.{list_any}
 use Rattle.std.proofs.lemmas.Bool.{both_ways, eqb-true, not_from_false}
@@ -18,8 +18,6 @@ use Rattle.token_scan.specs.Tokens.{token_in}
 use Rattle.token_meaning.specs.Numerals.{is_empty}
 use Rattle.token_meaning.specs.Folding.{in_upper_case}
 use Rattle.token_meaning.specs.Meanings.{is_package_marker}
-use Rattle.user_macros.specs.declared.call.Gather.{Gather}
-use Rattle.user_macros.specs.Calls.{MacroCall, MacroAnswer}
 use Rattle.package_table.specs.Table.{Name, Table as Packages, IsSound}
 use Rattle.std_macros.specs.Values.{Value, marked, letters, character_of, character_or_refused, uninterned_of, is_own_name, given}
 use Rattle.std_macros.specs.declared.kind.Standard.TheVariants.{String, Char, Uninterned}

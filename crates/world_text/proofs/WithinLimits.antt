@@ -1,5 +1,5 @@
 -- The objects of a snapshot are within the limits under which it is read: tokens of 8,192 characters, and nesting of 104.
-use Rattle.std.proofs.Common.{◌≡◌, ℕ, suc, ◌+◌, ◌≤◌, ◌<◌, ◌^◌, Bool, true, false, not, List, [], ◌∷◌, ◌++◌, map, filter, length, Some, None, get_or, unwrap_or, refl, arith}
+use Rattle.std.proofs.Common.{◌≡◌, ℕ, suc, ◌+◌, ◌≤◌, ◌<◌, ◌^◌, Bool, true, false, not, List, [], ◌∷◌, ◌++◌, map, filter, length, Some, None, get_or, unwrap_or, refl, sym, subst, inl, inr, arith}
 use Rattle.std.specs.Prelude.{ℤ, pos, negsuc, All, codes, decimal, ◌==◌, ◌&&◌, if◌then◌else◌, FitsSigned, Option}
 use Rattle.std.specs.Fmt.{signed_decimal}
 use Rattle.std.specs.Int.{w128}
@@ -27,7 +27,8 @@ use Rattle.plist_state.specs.Readers.{readtable_names, symbols_with_properties}
 use Rattle.plist_state.specs.Sound as state
 use Rattle.plist_state.specs.Sound.{IsKnown, IsValue}
 use Rattle.world_text.specs.Tokens.{token_length, AreTokensWithin}
-use Rattle.world_text.specs.Snapshot.{texts, made_names, shown_names, imported_name, package_object, packages_object, symbol_object, plist_object, properties_object, number, dispatch_object, dispatch_objects, entry_object, entry_objects, readtable_object, table_named, tables_object}
+use Rattle.world_text.specs.Snapshot.{texts, made_names, shown_names, imported_name, package_object, packages_object, symbol_object, plist_object, properties_object, number, dispatch_object, dispatch_objects, entry_object, entry_objects, readtable_object, table_named, readtables_object, tables_object, tables_object_1, tables_object_in}
+use Rattle.world_text.proofs.Versions.{third_by}
 
 -- ---- tokens
 
@@ -160,8 +161,20 @@ entries_deep t = each_deep (λ c. entry_object c (entry_at t c)) 3 (λ c. entry_
 readtable_depth : (n : Name) (t : readtable.Table) → object_depth (readtable_object n t) ≤ 5
 readtable_depth n t = let entries = list_depth 3 (entry_objects t) (entries_deep t) in omega arith
 
-pub tables_depth : (s : WorldState) → object_depth (tables_object s) ≤ 104
+tables_depth : (s : WorldState) → object_depth (readtables_object s) ≤ 6
 tables_depth s =
     let ns = filter (λ n. not (bytes_eq n standard_name)) (readtable_names s) in
-    let tables = list_depth 5 (map (λ n. readtable_object n (table_named s n)) ns) (each_deep (λ n. readtable_object n (table_named s n)) 5 (λ n. readtable_depth n (table_named s n)) ns) in
-    omega arith
+    list_depth 5 (map (λ n. readtable_object n (table_named s n)) ns) (each_deep (λ n. readtable_object n (table_named s n)) 5 (λ n. readtable_depth n (table_named s n)) ns)
+
+third_of_four : (s : WorldState) → object_depth (tables_object s) ≤ 104
+third_of_four s = let deep = tables_depth s in omega arith
+
+third_of_three : (s : WorldState) → object_depth (tables_object_1 s) ≤ 104
+third_of_three s = let deep = tables_depth s in omega arith
+
+pub third_depth : (version : ℕ) (s : WorldState) (x : Object) → tables_object_in version s ≡ Some x → object_depth x ≤ 104
+third_depth version s x is =
+    elim (third_by version s x is) [
+      | inl second ↦ subst (λ y. object_depth y ≤ 104) (sym second.1) (third_of_four s)
+      | inr first ↦ subst (λ y. object_depth y ≤ 104) (sym first.2) (third_of_three s)
+    ]

@@ -1,8 +1,10 @@
--- The text of a snapshot, version 1: three objects that hold the packages, the property lists and the readtables of a state,
--- each printed in COMMON-LISP-USER and followed by a newline. What structure there is, is of texts and numbers; NIL is the
--- empty list. Names are sorted by their bytes, as the maps of a state are.
-use Rattle.std.specs.Prelude.{ℕ, pos, not, if◌then◌else◌, List, [], ◌∷◌, ◌++◌, map, filter, get_or, Option, Some, None, unwrap_or}
+-- The text of a snapshot: three objects that hold the packages, the property lists and the readtables of a state, each
+-- printed in COMMON-LISP-USER and followed by a newline. What structure there is, is of texts and numbers; NIL is the empty
+-- list. Names are sorted by their bytes, as the maps of a state are. The text of version 2 is the one that is written; version
+-- 1, which has no base for numbers, is still read.
+use Rattle.std.specs.Prelude.{ℕ, pos, ◌==◌, ◌&&◌, not, if◌then◌else◌, List, [], ◌∷◌, ◌++◌, map, filter, get_or, Option, Some, None, unwrap_or}
 use Rattle.std.specs.List.{flat_map, range_with_len}
+use Rattle.std.specs.Option.{option_map}
 use Rattle.std.specs.Str.{bytes_eq}
 use Rattle.std.specs.FinMap as finite
 use Rattle.lisp_object.specs.Object.{Object, integer, text, symbol, pair, list_of}
@@ -92,15 +94,36 @@ abbrev pub readtables_object : WorldState → Object
 readtables_object s =
     list_of (map (λ n. readtable_object n (table_named s n)) (filter (λ n. not (bytes_eq n standard_name)) (readtable_names s)))
 
--- the current package and readtable, and the readtables
+-- ---- the third object
+
+-- the current package and readtable, the base in which numbers are read, and the readtables
 abbrev pub tables_object : WorldState → Object
-tables_object s = list_of (text s.current_package ∷ text s.current_readtable ∷ readtables_object s ∷ [])
+tables_object s =
+    list_of (text s.current_package ∷ text s.current_readtable ∷ number s.read_base ∷ readtables_object s ∷ [])
+
+-- the same in version 1
+abbrev pub tables_object_1 : WorldState → Object
+tables_object_1 s = list_of (text s.current_package ∷ text s.current_readtable ∷ readtables_object s ∷ [])
+
+-- In a half of this version. Version 1 has no base: it has the states that read in base 10, and no other.
+abbrev pub tables_object_in : ℕ → WorldState → Option Object
+tables_object_in version s =
+    if version == 2 then Some (tables_object s)
+    else (if version == 1 && s.read_base == 10 then Some (tables_object_1 s) else None)
 
 -- ---- the text
 
 abbrev pub line : Table → Object → List ℕ
 line packages x = printed packages common_lisp_user x ++ 10 ∷ []
 
--- the text of a state
+-- with this for the third object
+abbrev pub snapshot_with : WorldState → Object → List ℕ
+snapshot_with s third = line s.packages (packages_object s.packages) ++ line s.packages (properties_object s) ++ line s.packages third
+
+-- the text of a state, as it is written: version 2
 abbrev pub snapshot : WorldState → List ℕ
-snapshot s = line s.packages (packages_object s.packages) ++ line s.packages (properties_object s) ++ line s.packages (tables_object s)
+snapshot s = snapshot_with s (tables_object s)
+
+-- the text of a state in a half of this version, if it has one
+abbrev pub snapshot_in : ℕ → WorldState → Option (List ℕ)
+snapshot_in version s = option_map (snapshot_with s) (tables_object_in version s)

@@ -1,12 +1,14 @@
 //! The text of a world: what it is, how it is written, and that it is read back.
 //!
 //! The text is three printed objects: the packages, the property lists and the readtables (`snapshot` of
-//! specs/Snapshot.antt), and `write` gives exactly this text. The law `one_text_one_state` says that it is the text of one sound
-//! state, and `snapshot_lines_are_read` that each of its lines is read. `printed_objects_read_back` is the law of any object: its
+//! specs/Snapshot.antt), and `write` gives exactly this text. That is version 2. The text of version 1, in which halves were
+//! written before, has no base for numbers, and so it is that of the worlds that read in base 10; `write_in` gives the text of
+//! either. The law `one_text_one_state` says that a text of a version is that of one sound state, and
+//! `snapshot_lines_are_read` that each of its lines is read. `printed_objects_read_back` is the law of any object: its
 //! printed text is read, under the standard readtable and in the same packages, as the same object. What it asks of the tokens in
 //! the text, specs/Tokens.antt says. snapshot_text reads the text.
 //!
-//! - `writer`: `write`; `package_rows`, `property_rows`: packages and property lists as text, `table_rows`: readtables as data;
+//! - `writer`: `write`, `write_in`; `package_rows`, `property_rows`: packages and property lists as text, `table_rows`: readtables as data;
 //!   `texts`: lists of texts; `printing`: data printed at the end of a text
 //! - `laws`: `printed_objects_read_back`, `one_text_one_state`, `snapshot_lines_are_read`
 #![tactic(auto)]
@@ -21,4 +23,4 @@ mod writer;
 
 pub use laws::{one_text_one_state, printed_objects_read_back, snapshot_lines_are_read};
 pub use table_rows::table_named;
-pub use writer::write;
+pub use writer::{write, write_in};

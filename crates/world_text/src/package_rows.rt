@@ -224,7 +224,32 @@ fn push_later(
     Ok(())
 }
 
-/// Adds the printed list of all packages but COMMON-LISP. One list of names is in memory at a time.
+// Adds the printed list of all packages but COMMON-LISP, beside those that are there from the first. One list of names is in
+// memory at a time.
+fn push_beside(
+    alloc: Global,
+    text: &mut Vec<u8>,
+    packages: &Packages,
+    first: &Packages,
+) -> Result<(), AllocError>
+    requires { first.now.0 ≡ initial_packages }
+    ensures { OnOk result (text.new.items
+        ≡ text.old.items ++ object_text packages.now.0 (packages_object packages.now.0)) }
+{
+    packages.soundness();
+    let names = packages.names(alloc)?;
+    let others = but_common_lisp(alloc, names.as_slice())?;
+    let [one, later @ ..] = others.as_slice() else {
+        return push_printed(alloc, text, Datum::nil(alloc)?, packages);
+    };
+    text.push(b'(')?;
+    push_package(alloc, text, packages, first, one)?;
+    push_later(alloc, text, packages, first, later)?;
+    text.push(b')')?;
+    Ok(())
+}
+
+/// Adds the printed list of all packages but COMMON-LISP.
 pub(crate) fn push_packages(
     alloc: Global,
     text: &mut Vec<u8>,
@@ -233,16 +258,6 @@ pub(crate) fn push_packages(
     ensures { OnOk result (text.new.items
         ≡ text.old.items ++ object_text packages.now.0 (packages_object packages.now.0)) }
 {
-    packages.soundness();
     let first = Packages::new(alloc)?;
-    let names = packages.names(alloc)?;
-    let others = but_common_lisp(alloc, names.as_slice())?;
-    let [one, later @ ..] = others.as_slice() else {
-        return push_printed(alloc, text, Datum::nil(alloc)?, packages);
-    };
-    text.push(b'(')?;
-    push_package(alloc, text, packages, &first, one)?;
-    push_later(alloc, text, packages, &first, later)?;
-    text.push(b')')?;
-    Ok(())
+    push_beside(alloc, text, packages, &first)
 }

@@ -1,15 +1,14 @@
 //! The property lists of a snapshot: each as data, and all as text.
-ghost use Rattle.std.specs.Prelude.{◌≡◌, ◌∷◌, [], ◌++◌, ◌&&◌, true, map, All, IfOk, OnOk};
+ghost use Rattle.std.specs.Prelude.{◌≡◌, ◌++◌, ◌&&◌, true, IfOk, OnOk};
 ghost use Rattle.std.specs.List.{list_all, flat_map};
 ghost use Rattle.lisp_object.specs.Datum.{object_of, is_proper};
 ghost use Rattle.lisp_object.specs.Ascii.{is_ascii};
-ghost use Rattle.plist_state.specs.Shown.{property_of};
 ghost use Rattle.world_text.specs.Snapshot.{symbol_object, plist_object, properties_object};
 ghost use Rattle.world_text.specs.Texts.{later_text, object_text, row_of};
 
 use crate::printing::push_printed;
 use lisp_object::{Bytes, Datum};
-use plist_state::{Property, World};
+use plist_state::{PropertyList, World};
 use std::alloc::{AllocError, Global};
 
 // The symbol of this home and name as a datum.
@@ -26,22 +25,20 @@ fn plist_datum(
     alloc: Global,
     home: &[u8],
     name: &[u8],
-    properties: &[Property],
+    properties: &PropertyList<'_>,
 ) -> Result<Datum, AllocError>
     ensures object { IfOk result
-        (λ d. object_of d ≡ plist_object (home.now, name.now) (map property_of properties.now)) }
+        (λ d. object_of d ≡ plist_object (home.now, name.now) properties.now) }
     ensures proper { list_all is_ascii home.now && list_all is_ascii name.now ≡ true
-        → list_all (λ p. list_all is_ascii (property_of p).0.0 && list_all is_ascii
-        (property_of p).0.1) properties.now ≡ true
-        → All (λ p. is_proper p.value ≡ true) properties.now
+        → list_all (λ p. list_all is_ascii p.0.0 && list_all is_ascii p.0.1) properties.now ≡ true
         → IfOk result (λ d. is_proper d ≡ true) }
 {
     let mut items = Vec::new(alloc);
     items.push(symbol_datum(alloc, home, name)?)?;
-    for property in properties {
-        let indicator = property.indicator();
-        items.push(symbol_datum(alloc, indicator.home(), indicator.name())?)?;
-        items.push(property.value().copy(alloc)?)?;
+    for index in 0..properties.len() {
+        let property = properties.at(index);
+        items.push(symbol_datum(alloc, property.home, property.name)?)?;
+        items.push(property.value.copy(alloc)?)?;
     }
     Datum::list(alloc, items, None)
 }
@@ -53,7 +50,7 @@ fn row_of(alloc: Global, world: &World, home: &[u8], name: &[u8]) -> Result<Datu
         → IfOk result (λ d. is_proper d ≡ true) }
 {
     world.soundness();
-    plist_datum(alloc, home, name, world.plist_of(home, name))
+    plist_datum(alloc, home, name, &world.plist_of(home, name))
 }
 
 // Adds the printed row of a symbol.

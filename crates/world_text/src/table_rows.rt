@@ -9,7 +9,7 @@ ghost use Rattle.readtable_core.specs.Characters.{syntax_number};
 ghost use Rattle.readtable_core.specs.Named.{same_entry};
 ghost use Rattle.readtable_core.specs.Tables.{entry_at, standard};
 ghost use Rattle.plist_state.specs.State.{standard_name};
-ghost use Rattle.world_text.specs.Snapshot.{table_named, readtables_object, tables_object, number, dispatch_object, dispatch_objects, entry_object, entry_objects, readtable_object};
+ghost use Rattle.world_text.specs.Snapshot.{table_named, readtables_object, tables_object, tables_object_1, number, dispatch_object, dispatch_objects, entry_object, entry_objects, readtable_object};
 
 use crate::texts::{list_of_three, text_of};
 use lisp_object::{Bytes, Datum};
@@ -276,9 +276,22 @@ fn readtable_text(alloc: Global, world: &World) -> Result<Datum, AllocError>
     text_of(alloc, world.current_readtable())
 }
 
-// The current package, the current readtable, and the readtables.
+/// The current package, the current readtable, the base of numbers, and the readtables.
 pub(crate) fn tables_of(alloc: Global, world: &World) -> Result<Datum, AllocError>
     ensures object { IfOk result (λ d. object_of d ≡ tables_object world.now.0) }
+    ensures proper { IfOk result (λ d. is_proper d ≡ true) }
+{
+    let mut items = Vec::new(alloc);
+    items.push(package_text(alloc, world)?)?;
+    items.push(readtable_text(alloc, world)?)?;
+    items.push(number_of(world.read_base()))?;
+    items.push(readtables_of(alloc, world)?)?;
+    Datum::list(alloc, items, None)
+}
+
+/// The same in version 1, which has no base.
+pub(crate) fn tables_of_1(alloc: Global, world: &World) -> Result<Datum, AllocError>
+    ensures object { IfOk result (λ d. object_of d ≡ tables_object_1 world.now.0) }
     ensures proper { IfOk result (λ d. is_proper d ≡ true) }
 {
     let package = package_text(alloc, world)?;

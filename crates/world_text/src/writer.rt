@@ -1,12 +1,14 @@
 //! The text of a world.
 ghost use Rattle.std.specs.Prelude.{◌≡◌, [], ◌∷◌, ◌++◌, true, IfOk, OnOk};
+ghost use Rattle.std.specs.Option.{option_map};
 ghost use Rattle.lisp_object.specs.Datum.{object_of, is_proper};
-ghost use Rattle.world_text.specs.Snapshot.{line, packages_object, properties_object, snapshot};
+ghost use Rattle.world_text.specs.Snapshot.{line, packages_object, properties_object, tables_object_1};
+ghost use Rattle.world_text.specs.Snapshot.{snapshot, snapshot_in, snapshot_with};
 
 use crate::package_rows::push_packages;
 use crate::printing::push_printed;
 use crate::property_rows::push_properties;
-use crate::table_rows::tables_of;
+use crate::table_rows::{tables_of, tables_of_1};
 use lisp_object::Datum;
 use package_table::Packages;
 use plist_state::World;
@@ -57,18 +59,59 @@ fn push_property_line(alloc: Global, text: &mut Vec<u8>, world: &World) -> Resul
     end_line(text)
 }
 
+// The lines of the packages and of the property lists.
+fn first_lines(alloc: Global, world: &World) -> Result<Vec<u8>, AllocError>
+    ensures { let s = world.now.0 in IfOk result (λ text. text.items
+        ≡ line s.packages (packages_object s.packages) ++ line s.packages (properties_object s)) }
+{
+    let mut text = Vec::new(alloc);
+    push_package_line(alloc, &mut text, world.packages())?;
+    push_property_line(alloc, &mut text, world)?;
+    Ok(text)
+}
+
 /// The text of a snapshot of the world as it is now: its packages, its property lists and its readtables, each an object
-/// printed in COMMON-LISP-USER (standard 22.1.3) and followed by a newline. Marked states are not in it.
+/// printed in COMMON-LISP-USER (standard 22.1.3) and followed by a newline. Marked states are not in it. It is version 2.
 ///
 /// # Errors
 /// Out of memory.
 pub fn write(alloc: Global, world: &World) -> Result<Vec<u8>, AllocError>
     ensures { IfOk result (λ text. text.items ≡ snapshot world.now.0) }
 {
-    let packages = world.packages();
-    let mut text = Vec::new(alloc);
-    push_package_line(alloc, &mut text, packages)?;
-    push_property_line(alloc, &mut text, world)?;
-    push_line(alloc, &mut text, tables_of(alloc, world)?, packages)?;
+    let mut text = first_lines(alloc, world)?;
+    push_line(alloc, &mut text, tables_of(alloc, world)?, world.packages())?;
     Ok(text)
+}
+
+// The same in version 1.
+fn write_1(alloc: Global, world: &World) -> Result<Vec<u8>, AllocError>
+    ensures { IfOk result (λ text. text.items
+        ≡ snapshot_with world.now.0 (tables_object_1 world.now.0)) }
+{
+    let mut text = first_lines(alloc, world)?;
+    push_line(
+        alloc,
+        &mut text,
+        tables_of_1(alloc, world)?,
+        world.packages(),
+    )?;
+    Ok(text)
+}
+
+/// The text of the world in a half of this version, 1 or 2, if it has one: version 1 has no base for numbers, and is the text
+/// of worlds that read in base 10 alone.
+///
+/// # Errors
+/// Out of memory.
+pub fn write_in(alloc: Global, version: u16, world: &World) -> Result<Option<Vec<u8>>, AllocError>
+    ensures { IfOk result (λ text.
+        option_map (λ t. t.items) text ≡ snapshot_in version world.now.0) }
+{
+    if version == 2 {
+        return Ok(Some(write(alloc, world)?));
+    }
+    if version == 1 && world.read_base() == 10 {
+        return Ok(Some(write_1(alloc, world)?));
+    }
+    Ok(None)
 }

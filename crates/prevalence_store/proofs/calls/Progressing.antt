@@ -58,6 +58,7 @@ module _ (functions : Functions) {D R : Type 0} (state : D → State) (sound : (
   both_extended : IsExtended state old mid xs → IsExtended state mid new ys → IsExtended state old new (xs ++ ys)
   both_extended one two = record {
     half = two.half ∙ one.half;
+    version = two.version ∙ one.version;
     generation = two.generation ∙ one.generation;
     record_count = let sum = length-append xs ys in let a = one.record_count in let b = two.record_count in omega arith;
     size = let sum = sum_by-append (λ (entry : LogRecord). 6 + length entry.text) xs ys in let a = one.size in let b = two.size in omega arith;
@@ -83,6 +84,7 @@ module _ (functions : Functions) {D R : Type 0} (state : D → State) (sound : (
     first = two.first;
     first_is = after-append functions w v xs two.earlier here ∙ two.first_is;
     half = two.half ∙ ap (half_after two.snapshots) one.half;
+    version = two.version;
     generation = let a = one.generation in let b = two.generation in omega arith;
     record_count = two.record_count;
     size = two.size;
@@ -101,6 +103,7 @@ module _ (functions : Functions) {D R : Type 0} (state : D → State) (sound : (
     first = one.first;
     first_is = one.first_is;
     half = two.half ∙ one.half;
+    version = two.version ∙ one.version;
     generation = two.generation ∙ one.generation;
     record_count = let sum = length-append one.later ys in let a = one.record_count in let b = two.record_count in omega arith;
     size = let sum = sum_by-append (λ (entry : LogRecord). 6 + length entry.text) one.later ys in let a = one.size in let b = two.size in omega arith;
@@ -118,6 +121,7 @@ module _ (functions : Functions) {D R : Type 0} (state : D → State) (sound : (
     first = two.first;
     first_is = after-append functions w v xs two.earlier here ∙ two.first_is;
     half = two.half ∙ ap (half_after two.snapshots) one.half ∙ sym (half_after_both two.snapshots one.snapshots (two.snapshots + one.snapshots) old.half refl);
+    version = two.version;
     generation = let a = one.generation in let b = two.generation in omega arith;
     record_count = two.record_count;
     size = two.size;

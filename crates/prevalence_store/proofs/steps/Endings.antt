@@ -64,6 +64,7 @@ module _ (functions : Functions) where
           failures = refl;
           log = inl (record {
             half = refl;
+            version = refl;
             generation = refl;
             record_count = omega arith;
             size = omega arith;

@@ -84,6 +84,7 @@ module _ (functions : Functions) where
         failures = logs.failures;
         log = inl (record {
           half = logs.half;
+          version = logs.version;
           generation = logs.generation;
           record_count = logs.record_count;
           size = let size = logs.size in omega arith;

@@ -30,7 +30,7 @@ use Rattle.plist_state.specs.Sound.{IsSound}
 use Rattle.plist_state.specs.State.{WorldState}
 use Rattle.prevalence_store.specs.declared.session.input.Pending.{Pending}
 use Rattle.prevalence_store.specs.declared.mode.Mode.{Mode}
-use Rattle.prevalence_store.specs.meaning.Acceptance.{between, form_limits, package_in, read_in, setting_in, table_in}
+use Rattle.prevalence_store.specs.meaning.Acceptance.{base_in, between, form_limits, package_in, read_in, setting_in, table_in}
 use Rattle.user_macros.specs.Functions.{Functions, are_registered, named_among}
 use Rattle.prevalence_store.specs.steps.Input.{HasForm, IsLastForm, IsPending}
 use Rattle.prevalence_store.specs.steps.Answer.{BeginsWith}
@@ -38,14 +38,14 @@ use Rattle.prevalence_store.proofs.calls.Executing.{form_places, own_whole}
 use Rattle.prevalence_store.proofs.steps.Fitting.{among_same, fits_in}
 
 -- the setting of a call, with the functions that are registered, is that of the world
-pub called_setting : (w : WorldState) (mode : Mode) (functions registered : Functions) (limits : Limits) (table : Table) (packages : Packages) (current : Name)
+pub called_setting : (w : WorldState) (mode : Mode) (functions registered : Functions) (limits : Limits) (table : Table) (base : ℕ) (packages : Packages) (current : Name)
     → registered ≡ named_among registered.names functions → are_registered functions registered ≡ true
     → ((name : List ℕ) → IsTrue (is_among registered.names name) → IsTrue (is_among functions.names name))
-    → limits ≡ form_limits → table ≡ table_in w mode → packages ≡ w.packages → current ≡ package_in w mode
-    → setting_of limits table packages current registered ≡ setting_in functions w mode
-called_setting w mode functions registered limits table packages current meant whole known limits_is table_is packages_is current_is =
-    (λ i. setting_of (limits_is i) (table_is i) (packages_is i) (current_is i) (meant i))
-    ∙ setting_same form_limits (table_in w mode) w.packages (package_in w mode) functions registered.names
+    → limits ≡ form_limits → table ≡ table_in w mode → base ≡ base_in w mode → packages ≡ w.packages → current ≡ package_in w mode
+    → setting_of limits table base packages current registered ≡ setting_in functions w mode
+called_setting w mode functions registered limits table base packages current meant whole known limits_is table_is base_is packages_is current_is =
+    (λ i. setting_of (limits_is i) (table_is i) (base_is i) (packages_is i) (current_is i) (meant i))
+    ∙ setting_same form_limits (table_in w mode) (base_in w mode) w.packages (package_in w mode) functions registered.names
     (among_same functions.names registered.names whole known)
 
 -- ---- no bytes

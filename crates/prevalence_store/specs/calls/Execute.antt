@@ -51,6 +51,7 @@ module _ {D R : Type 0} (state : D → State) (old new : StoreView D R) where
   pub record Logs (mode : Mode) (text : List ℕ) (world : WorldState) : Type 0 where
     pub left : new.world ≡ Some world
     pub half : new.half ≡ old.half
+    pub version : new.version ≡ old.version
     pub generation : new.generation ≡ old.generation
     pub record_count : new.record_count ≡ old.record_count + 1
     pub size : new.size ≡ old.size + (6 + length text)
@@ -71,6 +72,7 @@ module _ {D R : Type 0} (state : D → State) (old new : StoreView D R) where
   pub record DeviceFails (alone : Half) : Type 0 where
     pub unknown : new.world ≡ None
     pub half : new.half ≡ old.half
+    pub version : new.version ≡ old.version
     pub generation : new.generation ≡ old.generation
     pub record_count : new.record_count ≡ old.record_count
     pub size : new.size ≡ old.size

@@ -4,7 +4,7 @@ use Rattle.std.specs.List.{sum_by}
 use Rattle.disk_trait.specs.Disk.{State, IsHonest}
 use Rattle.disk_trait.specs.Half.{opposite_of}
 use Rattle.disk_trait.specs.declared.half.Half.{Half}
-use Rattle.gate_log.specs.Layout.{Contents, LogRecord}
+use Rattle.gate_log.specs.Layout.{Contents, LogRecord, written_version}
 use Rattle.lisp_object.specs.declared.refusal.TheConstants.{DEVICE, LOG_FULL, SNAPSHOT_TOO_LARGE, INPUT, OUTPUT, NO_MEMORY}
 use Rattle.prevalence_store.specs.declared.mode.Mode.{Mode}
 use Rattle.prevalence_store.specs.declared.outcome.Ending.{Ending}
@@ -37,12 +37,13 @@ half_after (suc snapshots) half = opposite_of (half_after snapshots half)
 
 -- what a half holds that was begun with the text of a world, so many generations after these contents, and these records after it
 abbrev pub contents_after : Contents → ℕ → WorldState → List LogRecord → Contents
-contents_after k snapshots first entries = record { version = 1; generation = k.generation + snapshots; snapshot = snapshot first; entries = entries }
+contents_after k snapshots first entries = record { version = written_version; generation = k.generation + snapshots; snapshot = snapshot first; entries = entries }
 
 module _ {D R : Type 0} (state : D → State) (old new : StoreView D R) where
   -- No snapshot was taken: the half that was in use has these records more.
   pub record IsExtended (taken : List LogRecord) : Type 0 where
     pub half : new.half ≡ old.half
+    pub version : new.version ≡ old.version
     pub generation : new.generation ≡ old.generation
     pub record_count : new.record_count ≡ old.record_count + length taken
     pub size : new.size ≡ old.size + room_of taken
@@ -66,6 +67,7 @@ module _ {D R : Type 0} (state : D → State) (old new : StoreView D R) where
     pub first : WorldState
     pub first_is : after functions world earlier ≡ Some first
     pub half : new.half ≡ half_after snapshots old.half
+    pub version : new.version ≡ written_version
     pub generation : new.generation ≡ old.generation + snapshots
     pub record_count : new.record_count ≡ length later
     pub size : new.size ≡ 16 + length (snapshot first) + room_of later

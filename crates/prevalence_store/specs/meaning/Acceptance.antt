@@ -1,7 +1,7 @@
 -- Which texts a world accepts as forms, and the world after a list of forms.
-use Rattle.std.specs.Prelude.{ℕ, ◌==◌, ◌-◌, Bool, if◌then◌else◌, List, [], ◌∷◌, length, take, drop, Option, None, Some, Result, Ok, Err, unwrap_or}
+use Rattle.std.specs.Prelude.{ℕ, ◌==◌, ◌-◌, Bool, true, if◌then◌else◌, List, [], ◌∷◌, length, take, drop, Option, None, Some, Result, Ok, Err, unwrap_or}
 use Rattle.std.specs.FinMap as finite
-use Rattle.gate_log.specs.Layout.{LogRecord}
+use Rattle.gate_log.specs.Layout.{LogRecord, form_limit}
 use Rattle.lisp_object.specs.Object.{Object}
 use Rattle.lisp_object.specs.declared.refusal.TheConstants.{END_OF_FILE, TEXT_LEFT_OVER}
 use Rattle.readtable_core.specs.Tables.{Table, standard}
@@ -11,7 +11,7 @@ use Rattle.lisp_reading.specs.declared.limits.Limits.{Limits}
 use Rattle.lisp_reading.specs.Setting.{Setting, setting_of}
 use Rattle.lisp_reading.specs.Reading.{Outcome as Reading, form, empty, refused, reads}
 use Rattle.lisp_operators.specs.Evaluation.{Evaluation}
-use Rattle.form_eval.specs.Acceptance.{accept}
+use Rattle.form_eval.specs.Acceptance.{accept_by}
 use Rattle.prevalence_store.specs.declared.mode.Mode.{Mode}
 use Rattle.prevalence_store.specs.declared.mode.Mode.TheVariants.{Current, Rescue}
 use Rattle.user_macros.specs.Functions.{Functions}
@@ -25,9 +25,23 @@ pub record Acceptance : Type 0 where
   pub wrote : Bool
   pub text : List ℕ
 
+-- What may differ between versions in how a form is read and evaluated.
+pub record Rules : Type 0 where
+  -- the most bytes of a form, or of one discarded call before it
+  pub text_limit : ℕ
+  -- *READ-BASE* has a value, and is a place of SETF
+  pub based : Bool
+
+-- the rules in force; `specs/meaning/Version1.antt` has those of version 1
+abbrev pub rules_in_force : Rules
+rules_in_force = record { text_limit = form_limit; based = true }
+
 -- the limits of a form, in bytes, characters and open calls
+abbrev pub limits_by : Rules → Limits
+limits_by by = record { text = by.text_limit; token = 4096; nesting = 100 }
+
 abbrev pub form_limits : Limits
-form_limits = record { text = 65536; token = 4096; nesting = 100 }
+form_limits = limits_by rules_in_force
 
 -- the readtable under which a text is read: the world's current one; or, to get out of a readtable that has become unusable,
 -- the standard one
@@ -40,14 +54,25 @@ abbrev pub package_in : WorldState → Mode → Name
 package_in world Current = world.current_package
 package_in world Rescue = common_lisp_user
 
+-- and the base of its numbers: the world's; or 10
+abbrev pub base_in : WorldState → Mode → ℕ
+base_in world Current = world.read_base
+base_in world Rescue = 10
+
 -- under what a text is read
+abbrev pub setting_by : Rules → Functions → WorldState → Mode → Setting
+setting_by by functions world mode =
+    setting_of (limits_by by) (table_in world mode) (base_in world mode) world.packages (package_in world mode) functions
+
 abbrev pub setting_in : Functions → WorldState → Mode → Setting
-setting_in functions world mode =
-    setting_of form_limits (table_in world mode) world.packages (package_in world mode) functions
+setting_in functions world mode = setting_by rules_in_force functions world mode
 
 -- what a text begins with, as it is read in this world and mode
+abbrev pub read_by : Rules → Functions → WorldState → Mode → List ℕ → Reading
+read_by by functions world mode text = reads (setting_by by functions world mode) text
+
 abbrev pub read_in : Functions → WorldState → Mode → List ℕ → Reading
-read_in functions world mode text = reads (setting_in functions world mode) text
+read_in functions world mode text = read_by rules_in_force functions world mode text
 
 -- the bytes from one offset to another
 abbrev pub between : ℕ → ℕ → List ℕ → List ℕ
@@ -59,15 +84,22 @@ acceptance_of text (Ok done) = Ok (record { value = done.value; world = done.sta
 acceptance_of text (Err number) = Err number
 
 -- by what was read: a text without an object is refused, and one with more after it
+abbrev pub accepted_by : Rules → Functions → WorldState → List ℕ → Reading → Result Acceptance ℕ
+accepted_by by functions world text (form object start end next) =
+    if next == length text then acceptance_of (between start end text) (accept_by by.based functions.names world object)
+    else Err TEXT_LEFT_OVER
+accepted_by by functions world text empty = Err END_OF_FILE
+accepted_by by functions world text (refused number at) = Err number
+
 abbrev pub accepted_of : Functions → WorldState → List ℕ → Reading → Result Acceptance ℕ
-accepted_of functions world text (form object start end next) =
-    if next == length text then acceptance_of (between start end text) (accept functions.names world object) else Err TEXT_LEFT_OVER
-accepted_of functions world text empty = Err END_OF_FILE
-accepted_of functions world text (refused number at) = Err number
+accepted_of functions world text read = accepted_by rules_in_force functions world text read
 
 -- What a text gives in a world: the form is read whole, its symbols are interned, and then it is evaluated.
+abbrev pub accepts_by : Rules → Functions → WorldState → Mode → List ℕ → Result Acceptance ℕ
+accepts_by by functions world mode text = accepted_by by functions world text (read_by by functions world mode text)
+
 abbrev pub accepts : Functions → WorldState → Mode → List ℕ → Result Acceptance ℕ
-accepts functions world mode text = accepted_of functions world text (read_in functions world mode text)
+accepts functions world mode text = accepts_by rules_in_force functions world mode text
 
 -- the byte that says in which mode a record is read
 abbrev pub kind_of : Mode → ℕ
@@ -86,10 +118,13 @@ abbrev pub records_of : Bool → Mode → List ℕ → List LogRecord
 records_of wrote mode text = if wrote then logged mode text ∷ [] else []
 
 -- The world after these records, each accepted in the world that the ones before it left. None if one is not accepted.
+abbrev pub after_by : Rules → Functions → WorldState → List LogRecord → Option WorldState
+after_by by functions world [] = Some world
+after_by by functions world (entry ∷ entries) =
+    elim (accepts_by by functions world (mode_of entry.kind) entry.text) [ Ok given ↦ after_by by functions given.world entries | Err number ↦ None ]
+
 abbrev pub after : Functions → WorldState → List LogRecord → Option WorldState
-after functions world [] = Some world
-after functions world (entry ∷ entries) =
-    elim (accepts functions world (mode_of entry.kind) entry.text) [ Ok given ↦ after functions given.world entries | Err number ↦ None ]
+after functions world entries = after_by rules_in_force functions world entries
 
 -- the number under which the first of these records that is not accepted is refused
 abbrev pub first_refusal : Functions → WorldState → List LogRecord → Option ℕ

@@ -7,7 +7,7 @@ ghost use Rattle.user_macros.specs.Functions.{Functions, are_registered};
 ghost use Rattle.prevalence_store.specs.steps.Input.{IsPending, IsSoundFed, Feeds, Finishes, FeedsPart};
 
 use crate::mode::Mode;
-use crate::setting::{package_in, readtable_in};
+use crate::setting::{base_in, package_in, readtable_in};
 use form_reader::{Advance, FormReader, Limits, ReadOutcome};
 use lisp_object::Datum;
 use plist_state::World;
@@ -249,7 +249,8 @@ fn step_in<R: MacroFunctions>(
     ensures sound { IfOk result IsSoundStep }
 {
     let package = package_in(world, mode);
-    reader.step(byte, readtable, world.packages(), package, macros)
+    let base = base_in(world, mode);
+    reader.step(byte, readtable, base, world.packages(), package, macros)
 }
 
 // The end of the text to a reader, as the world reads in this mode.
@@ -270,5 +271,6 @@ fn finish_in<R: MacroFunctions>(
 {
     let readtable = readtable_in(world, mode);
     let package = package_in(world, mode);
-    reader.finish(readtable, world.packages(), package, macros)
+    let base = base_in(world, mode);
+    reader.finish(readtable, base, world.packages(), package, macros)
 }

@@ -1,5 +1,5 @@
 // Steps one after the other.
-ghost use Rattle.std.specs.Prelude.{◌≡◌, true, IfOk, OnErr};
+ghost use Rattle.std.specs.Prelude.{◌≡◌, [], true, IfOk, OnErr};
 ghost use Rattle.std.specs.List.{All};
 ghost use Rattle.plist_state.specs.State.{WorldState};
 ghost use Rattle.prevalence_store.specs.calls.Execute.{IsProperOutcome, SurvivesAs};
@@ -22,7 +22,8 @@ impl<D: Disk, R: MacroFunctions> Store<D, R> {
     ///
     /// # Errors
     ///
-    /// If there is no room for all outcomes. It is taken first, so that nothing has been done then.
+    /// If there is no room for all outcomes. It is taken first, so that nothing has been done then, and the world
+    /// survives.
     pub fn run(&mut self, steps: &[Step]) -> Result<Vec<Outcome>, AllocError>
         requires answers { R.answers self.old.macros }
         requires whole { are_registered R.Meaning.functions (R.functions self.old.macros) ≡ true }
@@ -34,6 +35,8 @@ impl<D: Disk, R: MacroFunctions> Store<D, R> {
             (acknowledged_in_steps R.Meaning.functions world steps.now outcomes.items)) }
         ensures proper { IfOk result (λ outcomes. All IsProperOutcome outcomes.items) }
         ensures unchanged { OnErr result (self.new ≡ self.old) }
+        ensures nothing_taken { (world : WorldState) → OnErr result
+            (SurvivesAs R.Meaning.functions D.state self.old self.new world [] 0) }
         ensures honest { (D.state self.new.disk).honest ≡ (D.state self.old.disk).honest }
         ensures macros { self.new.macros ≡ self.old.macros }
     {

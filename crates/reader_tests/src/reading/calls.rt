@@ -44,6 +44,7 @@ fn read_with(
         rt.alloc(),
         limits,
         &table,
+        10,
         &packages,
         current,
         &macros,
@@ -133,6 +134,11 @@ fn symbols_of_no_package(rt: HostRuntime) -> Result<(), Fail> {
         move |_call: &Call| symbol(alloc, b"CL-USER", b"X"),
     )?;
     assert!(rt; refusal(&read_with(&rt, nickname, function, b"(!)")?) == (21, 2));
+    let function: MacroFn = Box::new(
+        rt.alloc(),
+        move |_call: &Call| symbol(alloc, b"CL-USER", b"X"),
+    )?;
+    assert!(rt; refusal(&read_with(&rt, nickname, function, b"!")?) == (21, 1));
     Ok(())
 }
 

@@ -283,12 +283,9 @@ fn keeps_limits(packages: &mut Packages) -> bool {
         && answer(packages, Call::BackTo(0)) == Ok(true)
         && !packages.is_full_of_symbols()
         && packages.resolve_internal(COMMON_LISP_USER, last) == Ok(Resolved::New(COMMON_LISP_USER))
-        && packages
-            .numbers()
-            .number_of(COMMON_LISP_USER, last)
-            .is_none()
+        && packages.number_of(COMMON_LISP_USER, last).is_none()
         && makes_symbols(packages)
-        && packages.numbers().number_of(COMMON_LISP_USER, last) == Some(986_895)
+        && packages.number_of(COMMON_LISP_USER, last) == Some(986_895)
         && answers(packages, AT_LIMITS)
 }
 
@@ -297,16 +294,33 @@ fn marks_nest(alloc: Global) -> Result<bool, AllocError> {
     Ok(answers(&mut packages, MARKS))
 }
 
+// Whether each call on new packages is answered so, up to the longest names.
+fn keeps_writes(alloc: Global, packages: &mut Packages) -> Result<bool, Fail> {
+    Ok(
+        answers(packages, WRITES)
+            && packages.resolve_external(KEYWORD, b"K") == Ok(KEYWORD)
+            && is_r_at_last(alloc, packages)
+            && imports_of_r(alloc, packages)
+            && keeps_lengths(alloc, packages)?,
+    )
+}
+
 #[test]
 fn writes(rt: HostRuntime) -> Result<(), Fail> {
-    let alloc = rt.alloc();
-    let mut packages = Packages::new(alloc)?;
-    assert!(rt; answers(&mut packages, WRITES));
-    assert_eq!(rt; packages.resolve_external(KEYWORD, b"K"), Ok(KEYWORD));
-    assert!(rt; is_r_at_last(alloc, &packages) && imports_of_r(alloc, &packages));
-    assert!(rt; keeps_lengths(alloc, &mut packages)?);
-    assert!(rt; marks_nest(alloc)?);
-    let mut packages = Packages::new(alloc)?;
+    let mut packages = Packages::new(rt.alloc())?;
+    assert!(rt; keeps_writes(rt.alloc(), &mut packages)?);
+    Ok(())
+}
+
+#[test]
+fn marks(rt: HostRuntime) -> Result<(), Fail> {
+    assert!(rt; marks_nest(rt.alloc())?);
+    Ok(())
+}
+
+#[test]
+fn limits(rt: HostRuntime) -> Result<(), Fail> {
+    let mut packages = Packages::new(rt.alloc())?;
     assert!(rt; keeps_limits(&mut packages));
     Ok(())
 }

@@ -2,7 +2,7 @@
 use super::{answer, put, remove, words_of};
 use package_table::Packages;
 use package_table::standardized::COMMON_LISP;
-use plist_state::{Property, Symbol, World};
+use plist_state::{PropertyList, Symbol, World};
 use readtable_core::Readtable;
 use std::alloc::Global;
 use std::test::Fail;
@@ -97,12 +97,13 @@ fn same_packages(alloc: Global, a: &Packages, b: &Packages) -> bool {
 }
 
 // The same properties in the same order.
-fn same_plist(a: &[Property], b: &[Property]) -> bool {
+fn same_plist(a: &PropertyList<'_>, b: &PropertyList<'_>) -> bool {
     if a.len() != b.len() {
         return false;
     }
-    for (p, q) in a.iter().zip(b) {
-        if p.indicator != q.indicator || p.value != q.value {
+    for index in 0..a.len() {
+        let (p, q) = (a.at(index), b.at(index));
+        if p.home != q.home || p.name != q.name || p.value != q.value {
             return false;
         }
     }
@@ -118,7 +119,7 @@ fn same_properties(alloc: Global, a: &World, b: &World) -> bool {
         let Ok(symbol) = Symbol::from_bytes(alloc, home.as_slice(), name.as_slice()) else {
             return false;
         };
-        if !same_plist(a.plist(&symbol), b.plist(&symbol)) {
+        if !same_plist(&a.plist(&symbol), &b.plist(&symbol)) {
             return false;
         }
     }
@@ -160,17 +161,22 @@ fn is_same(alloc: Global, a: &World, b: &World) -> bool {
         && same_readtables(alloc, a, b)
 }
 
-// Whether this is the first world after the first steps, with nothing marked.
-fn is_after(alloc: Global, world: &World, count: usize) -> bool {
-    let Ok(mut other) = World::new(alloc) else {
-        return false;
-    };
+// Carries out the first steps.
+fn take_steps(world: &mut World, alloc: Global, count: usize) -> bool {
     for step in STEPS.split('\n').take(count) {
-        if carry_out(&mut other, alloc, step).is_none() {
+        if carry_out(world, alloc, step).is_none() {
             return false;
         }
     }
-    is_same(alloc, world, &other)
+    true
+}
+
+// Whether this is the first world after the first steps, with nothing marked.
+fn is_after(alloc: Global, world: &World, count: usize) -> bool {
+    match World::new(alloc) {
+        Ok(mut other) => take_steps(&mut other, alloc, count) && is_same(alloc, world, &other),
+        Err(_) => false,
+    }
 }
 
 fn back_to(world: &mut World, mark: usize) -> bool {
@@ -211,15 +217,24 @@ fn goes_back(world: &mut World, alloc: Global, gap: usize) -> bool {
     true
 }
 
+// Whether marks nest in a new world, and none of them stays when it is settled.
+fn keeps_marks(world: &mut World, alloc: Global, gap: usize, count: usize) -> bool {
+    if !goes_back(world, alloc, gap) || world.mark_count() != count {
+        return false;
+    }
+    world.settle();
+    world.mark_count() == 0
+        && is_after(alloc, world, COUNT)
+        && world.mark() == Ok(0)
+        && back_to(world, 0)
+}
+
 #[test]
 fn marks_nest(rt: HostRuntime) -> Result<(), Fail> {
     let alloc = rt.alloc();
     for (gap, count) in [(1, COUNT), (3, 9), (COUNT, 1)] {
         let mut world = World::new(alloc)?;
-        assert!(rt; goes_back(&mut world, alloc, gap) && world.mark_count() == count);
-        world.settle();
-        assert!(rt; world.mark_count() == 0 && is_after(alloc, &world, COUNT));
-        assert!(rt; world.mark()? == 0 && back_to(&mut world, 0));
+        assert!(rt; keeps_marks(&mut world, alloc, gap, count));
     }
     Ok(())
 }

@@ -6,9 +6,8 @@ use plist_state::{Symbol, World};
 use std::alloc::Global;
 use std::test::Fail;
 
-// A world where the later names were interned first, and COMMON-LISP-USER has a symbol of another home.
-fn world_of(alloc: Global) -> Result<World, PackageError> {
-    let mut world = World::new(alloc)?;
+// Interns the later names first, and gives COMMON-LISP-USER a symbol of another home.
+fn add_symbols(world: &mut World) -> Result<(), PackageError> {
     world.make(b"P")?;
     for (home, name) in [
         (b"P".as_slice(), b"Y".as_slice()),
@@ -23,7 +22,7 @@ fn world_of(alloc: Global) -> Result<World, PackageError> {
         return Err(PackageError::NotAccessible);
     }
     let _changed = world.import(COMMON_LISP_USER, b"P", b"X")?;
-    Ok(world)
+    Ok(())
 }
 
 // Sets the property LIST of a symbol to a number.
@@ -67,28 +66,50 @@ const OWNERS: [(&[u8], &[u8]); 5] = [
 // Whether each symbol has the number that was put at it.
 fn have_their_own(world: &World) -> bool {
     PUT.iter().enumerate().all(|(index, (home, name))| {
-        matches!(world.plist_of(home, name), [property] if super::is_number(Some(property.value()), index as i128))
+        let properties = world.plist_of(home, name);
+        properties.len() == 1 && super::is_number(Some(properties.at(0).value), index as i128)
     })
 }
 
-#[test]
-fn symbols_that_have_properties_are_in_order(rt: HostRuntime) -> Result<(), Fail> {
-    let alloc = rt.alloc();
-    let mut world = world_of(alloc)?;
-    assert!(rt; are_owners(alloc, &world, &[]));
+// Sets the properties, and tells whether each was set.
+fn all_put(alloc: Global, world: &mut World) -> bool {
     for (index, (home, name)) in PUT.iter().enumerate() {
-        assert!(rt; put_at(alloc, &mut world, home, name, index as i128).is_some());
+        if put_at(alloc, world, home, name, index as i128).is_none() {
+            return false;
+        }
     }
-    assert!(rt; are_owners(alloc, &world, &OWNERS) && have_their_own(&world));
-    // a symbol without properties, and names of no symbol
+    true
+}
+
+// Whether a symbol without properties has none, nor have names of no symbol.
+fn others_have_none(world: &World) -> bool {
     for (home, name) in [
         (COMMON_LISP_USER, b"B".as_slice()),
         (b"P", b"A"),
         (b"NO", b"X"),
     ] {
-        assert!(rt; world.plist_of(home, name).is_empty());
+        if !world.plist_of(home, name).is_empty() {
+            return false;
+        }
     }
-    assert!(rt; remove_at(alloc, &mut world, b"KEYWORD", b"K") == Some(true));
-    assert!(rt; are_owners(alloc, &world, &[OWNERS[0], OWNERS[1], OWNERS[3], OWNERS[4]]));
+    true
+}
+
+// Whether the owners are in order, while properties are set and removed.
+fn keeps_order(alloc: Global, world: &mut World) -> bool {
+    add_symbols(world).is_ok()
+        && are_owners(alloc, world, &[])
+        && all_put(alloc, world)
+        && are_owners(alloc, world, &OWNERS)
+        && have_their_own(world)
+        && others_have_none(world)
+        && remove_at(alloc, world, b"KEYWORD", b"K") == Some(true)
+        && are_owners(alloc, world, &[OWNERS[0], OWNERS[1], OWNERS[3], OWNERS[4]])
+}
+
+#[test]
+fn symbols_that_have_properties_are_in_order(rt: HostRuntime) -> Result<(), Fail> {
+    let mut world = World::new(rt.alloc())?;
+    assert!(rt; keeps_order(rt.alloc(), &mut world));
     Ok(())
 }

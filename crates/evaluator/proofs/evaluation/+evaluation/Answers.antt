@@ -2,13 +2,13 @@
 use Rattle.std.proofs.Common.{◌≡◌, ◌≤◌, ◌+◌, [], ◌∷◌, ◌||◌, true, All, drop, map, length, refl, sym, ap, subst, ◌∙◌, arith}
 use Rattle.lisp_object.specs.Object.{list_of}
 use Rattle.lisp_object.specs.Datum.{object_of}
-use Rattle.lisp_object.proofs.Objects.{object_of-Integer, object_of-Rational, object_of-Char, object_of-Text, object_of-Vector}
+use Rattle.lisp_object.proofs.Objects.{object_of-Symbol, object_of-Integer, object_of-Rational, object_of-Char, object_of-Text, object_of-Vector}
 use Rattle.std.proofs.lemmas.List.{map-append}
 use Rattle.lisp_object.specs.declared.datum.Datum.TheViews.{sized-List, the_lemmas}
 use Rattle.lisp_object.proofs.datum.Datum.TheLaws.{the_size}
 use Rattle.evaluator.specs.declared.operation.Operation.TheVariants.{Quote}
 use Rattle.lisp_operators.specs.Kinds.{is_pair}
-use Rattle.evaluator.specs.Gathered.{arguments_of, parts, followed}
+use Rattle.evaluator.specs.Gathered.{arguments_of, parts, followed, subforms}
 use Rattle.evaluator.specs.Value.{value, action_value}
 use Rattle.evaluator.specs.Operations.{action_of, least}
 use Rattle.lisp_operators.specs.Evaluated.{IsArgument, Answers, done}
@@ -184,3 +184,7 @@ pub subforms-returns-in-List-clause-gives : goal.subforms-returns-in-List-clause
 subforms-returns-in-List-clause-gives t c =
     subforms_given c.args.names.now c.args.world.now.0 c.extended.new.world.0 c.args.place.now c.in-List.items c.as_slice.result.now c.in-List.tail (map object_of c.args.values.values.items) c.args.values.wrote c.extended.result
     c.in-List.is c.requires.place.proper c.as_slice.ensures c.extended.ensures.gives
+
+pub subforms-returns-in-Symbol-clause-gives : goal.subforms-returns-in-Symbol-clause-gives
+subforms-returns-in-Symbol-clause-gives t c =
+    ap (subforms c.args.names.now (map object_of c.args.values.values.items) c.args.values.wrote c.args.world.now.0) (ap object_of c.in-Symbol.is ∙ object_of-Symbol c.in-Symbol.package c.in-Symbol.name)

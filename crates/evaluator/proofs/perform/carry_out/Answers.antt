@@ -15,4 +15,4 @@ pub returns-in-Progn-clause-gives : goal.returns-in-Progn-clause-gives
 returns-in-Progn-clause-gives c =
     let s = c.args.world.now.0 in
     let xs = map object_of c.args.values.items in
-    subst (λ o. Answers done c.last.result s (function_of c.args.names.now o c.args.is_case xs s)) (sym c.in-Progn.is) (c.last.ensures.gives s)
+    subst (λ o. Answers done c.last.result s (function_of c.args.names.now o c.args.place xs s)) (sym c.in-Progn.is) (c.last.ensures.gives s)

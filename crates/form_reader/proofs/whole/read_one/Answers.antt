@@ -9,7 +9,7 @@ use Rattle.form_reader.proofs.whole.read_one.Goals as goal
 
 pub loop-byte-preserved : goal.loop-byte-preserved
 loop-byte-preserved g c =
-    let under : Limits → Setting = λ limits. setting_of limits c.args.readtable.now c.args.packages.now.0 c.args.current.now
+    let under : Limits → Setting = λ limits. setting_of limits c.args.readtable.now c.args.base c.args.packages.now.0 c.args.current.now
     (g.R.MacroFunctions.functions c.args.macros.now) in
     record {
       limits = c.in_ok-step.ensures.limits ∙ c.loop-byte.invariant.limits;
@@ -26,7 +26,7 @@ loop-byte-preserved g c =
 
 pub returns-in-Form-clause-outcome : goal.returns-in-Form-clause-outcome
 returns-in-Form-clause-outcome g c =
-    let under : Limits → Setting = λ limits. setting_of limits c.args.readtable.now c.args.packages.now.0 c.args.current.now
+    let under : Limits → Setting = λ limits. setting_of limits c.args.readtable.now c.args.base c.args.packages.now.0 c.args.current.now
     (g.R.MacroFunctions.functions c.args.macros.now) in
     decided_form under c.loop-byte.reader.limits c.args.limits c.loop-byte.reader c.step.new.self c.args.bytes.now c.loop-byte.byte-index _ c.in_ok-step.field-0
     c.in-Form.datum c.in-Form.start c.in-Form.end c.in-Form.next c.in-Form.is c.in_ok-step.ensures.sound c.loop-byte.invariant.limits c.loop-byte.invariant.after
@@ -34,7 +34,7 @@ returns-in-Form-clause-outcome g c =
 
 pub returns-in-Refused-clause-outcome : goal.returns-in-Refused-clause-outcome
 returns-in-Refused-clause-outcome g c =
-    let under : Limits → Setting = λ limits. setting_of limits c.args.readtable.now c.args.packages.now.0 c.args.current.now
+    let under : Limits → Setting = λ limits. setting_of limits c.args.readtable.now c.args.base c.args.packages.now.0 c.args.current.now
     (g.R.MacroFunctions.functions c.args.macros.now) in
     decided_refusal under c.loop-byte.reader.limits c.args.limits c.loop-byte.reader c.step.new.self c.args.bytes.now c.loop-byte.byte-index _ c.in_ok-step.field-0
     c.in-Refused.code c.in-Refused.at c.in-Refused.is c.loop-byte.invariant.limits c.loop-byte.invariant.after

@@ -9,7 +9,7 @@ abbrev pub invariant-loop-byte : goal.invariant-loop-byte
 invariant-loop-byte g l = record {
   limits : l.reader.limits ≡ l.fn.limits;
   count : fed l.reader ≡ l.byte-index;
-  after : IsAfter (setting_of l.fn.limits l.readtable l.packages.0 l.current (g.R.MacroFunctions.functions l.macros))
+  after : IsAfter (setting_of l.fn.limits l.readtable l.fn.base l.packages.0 l.current (g.R.MacroFunctions.functions l.macros))
       l.reader (take l.byte-index l.bytes);
   blank : 0 < l.fn.limits.text → list_all (is_whitespace l.readtable) l.bytes ≡ true → IsBetween l.reader;
 }

@@ -1,6 +1,12 @@
+use Rattle.std.proofs.Common.{All, sym, subst}
+use Rattle.lisp_object.specs.Object as object
+use Rattle.plist_state.specs.Properties.{Plist}
 use Rattle.plist_state.specs.Shown.{symbol_of}
+use Rattle.lisp_operators.specs.Evaluated.{object_of_symbol}
 use Rattle.lisp_operators.proofs.PropertyRows.{indicators_sound}
 use Rattle.lisp_operators.proofs.properties.symbol_plist.Goals as goal
 
-pub in_turn-requires-clause-indicators : goal.in_turn-requires-clause-indicators
-in_turn-requires-clause-indicators c = indicators_sound c.args.world.now.0 (symbol_of c.in_ok-symbol.symbol) c.plist-row.result.now c.soundness.ensures.present c.plist-row.ensures.list
+pub in_turn-requires : goal.in_turn-requires
+in_turn-requires c =
+    subst (λ (ps : Plist). All (λ p. object.IsSound (object_of_symbol p.0)) ps) (sym c.plist-row.ensures)
+    (indicators_sound c.args.world.now.0 (symbol_of c.in_ok-symbol.symbol) c.soundness.ensures.present)

@@ -1,6 +1,6 @@
 use Rattle.std.proofs.Common.{is_some, map, sym, ap, ◌∙◌}
 use Rattle.std.specs.List.{position}
-use Rattle.plist_state.specs.Shown.{symbol_of, property_of}
+use Rattle.plist_state.specs.Shown.{numbered_property}
 use Rattle.plist_state.specs.Undoing.{with_inserted}
 use Rattle.plist_state.proofs.Indices.{has, IsFirstAt, IsAbsent, first_at, absent, inserted-removed}
 use Rattle.plist_state.proofs.rows.cut.Goals as goal
@@ -8,33 +8,33 @@ use Rattle.plist_state.proofs.rows.cut.Goals as goal
 pub returns-in-Some-clause-after : goal.returns-in-Some-clause-after
 returns-in-Some-clause-after c =
     let items = c.args.row.now.items in
-    let i = symbol_of c.args.indicator.now in
+    let i = c.args.indicator in
     let at : IsFirstAt items i c.in-Some.index = first_at items i c.in-Some.index (ap (position (has i)) (sym c.as_slice.ensures.value) ∙ sym c.in-Some.ensures) in
-    ap (map property_of) c.remove-property.ensures.items ∙ at.cut
+    ap (map numbered_property) c.remove-property.ensures.items ∙ at.cut
 
 pub returns-in-Some-clause-had : goal.returns-in-Some-clause-had
 returns-in-Some-clause-had c =
     let items = c.args.row.now.items in
-    let i = symbol_of c.args.indicator.now in
+    let i = c.args.indicator in
     let at : IsFirstAt items i c.in-Some.index = first_at items i c.in-Some.index (ap (position (has i)) (sym c.as_slice.ensures.value) ∙ sym c.in-Some.ensures) in
     sym (ap is_some (at.stands c.remove-property.result))
 
 pub returns-in-Some-clause-back : goal.returns-in-Some-clause-back
 returns-in-Some-clause-back c =
     let items = c.args.row.now.items in
-    let i = symbol_of c.args.indicator.now in
+    let i = c.args.indicator in
     let at : IsFirstAt items i c.in-Some.index = first_at items i c.in-Some.index (ap (position (has i)) (sym c.as_slice.ensures.value) ∙ sym c.in-Some.ensures) in
-    ap (λ xs. with_inserted (map property_of xs) c.in-Some.index (property_of c.remove-property.result)) c.remove-property.ensures.items
+    ap (λ xs. with_inserted (map numbered_property xs) c.in-Some.index (numbered_property c.remove-property.result)) c.remove-property.ensures.items
     ∙ inserted-removed items c.in-Some.index c.remove-property.result at.within c.remove-property.ensures.value
 
 pub returns-in-None-clause-after : goal.returns-in-None-clause-after
 returns-in-None-clause-after c =
-    let i = symbol_of c.args.indicator.now in
+    let i = c.args.indicator in
     let none : IsAbsent c.args.row.now.items i = absent c.args.row.now.items i (ap (position (has i)) (sym c.as_slice.ensures.value) ∙ sym c.in-None.ensures) in
     sym none.uncut
 
 pub returns-in-None-clause-had : goal.returns-in-None-clause-had
 returns-in-None-clause-had c =
-    let i = symbol_of c.args.indicator.now in
+    let i = c.args.indicator in
     let none : IsAbsent c.args.row.now.items i = absent c.args.row.now.items i (ap (position (has i)) (sym c.as_slice.ensures.value) ∙ sym c.in-None.ensures) in
     sym (ap is_some none.stands)

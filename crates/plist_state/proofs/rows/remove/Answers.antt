@@ -1,8 +1,8 @@
 use Rattle.std.proofs.Common.{◌≡◌, [], is_some, sym, ap, subst, ◌∙◌}
 use Rattle.std.specs.Prelude.{IfSome}
-use Rattle.plist_state.specs.Properties.{Plist, value_at, without_value}
-use Rattle.plist_state.specs.Lists.{row_of}
-use Rattle.plist_state.specs.Shown.{symbol_of, lists_of, lists_in}
+use Rattle.plist_state.specs.Properties.{value_by, without_value_by}
+use Rattle.plist_state.specs.Lists.{NumberedPlist, same_number, row_of}
+use Rattle.plist_state.specs.Shown.{lists_of, lists_in}
 use Rattle.plist_state.specs.Undoing.{list_before}
 use Rattle.plist_state.proofs.ListRows.{written, lists_made, list_now, row_shown, none_shown, proper_shown, with_row_same, some_in}
 use Rattle.plist_state.proofs.rows.remove.Goals as goal
@@ -10,18 +10,18 @@ use Rattle.plist_state.proofs.rows.remove.Goals as goal
 pub returns-in-Some-clause-after : goal.returns-in-Some-clause-after
 returns-in-Some-clause-after c =
     lists_made c.args.rows.now.entries _ c.args.number c.in-Some.row.now c.cut.new.row c.in-Some.ensures.value (c.get_mut.follows.holds c.cut.new.row).0 c.cut.ensures.room c.cut.ensures.values
-    (λ ps. without_value ps (symbol_of c.args.indicator.now)) c.cut.ensures.after
+    (λ ps. without_value_by same_number ps c.args.indicator) c.cut.ensures.after
 
 pub returns-in-Some-clause-had : goal.returns-in-Some-clause-had
 returns-in-Some-clause-had c =
     c.cut.ensures.had
-    ∙ ap (λ ps. is_some (value_at ps (symbol_of c.args.indicator.now))) (sym (row_shown c.args.rows.now.entries c.args.number c.in-Some.row.now c.in-Some.ensures.value))
+    ∙ ap (λ ps. is_some (value_by same_number ps c.args.indicator)) (sym (row_shown c.args.rows.now.entries c.args.number c.in-Some.row.now c.in-Some.ensures.value))
 
 pub returns-in-Some-clause-back : goal.returns-in-Some-clause-back
 returns-in-Some-clause-back c =
     let new = list_now c.args.rows.now.entries _ c.args.number c.in-Some.row.now c.cut.new.row c.in-Some.ensures.value (c.get_mut.follows.holds c.cut.new.row).0 c.cut.ensures.room c.cut.ensures.values in
     let old = row_shown c.args.rows.now.entries c.args.number c.in-Some.row.now c.in-Some.ensures.value in
-    subst (λ (p : Plist × Plist). IfSome c.cut.result (λ change. list_before change p.0 ≡ p.1)) (λ i. (sym new i, sym old i)) c.cut.ensures.back
+    subst (λ (p : NumberedPlist × NumberedPlist). IfSome c.cut.result (λ change. list_before change p.0 ≡ p.1)) (λ i. (sym new i, sym old i)) c.cut.ensures.back
 
 pub returns-in-Some-clause-former : goal.returns-in-Some-clause-former
 returns-in-Some-clause-former c =
@@ -37,8 +37,8 @@ returns-in-None-clause-after c =
     let x = c.args.number in
     let none : row_of (lists_in rows) x ≡ [] = none_shown rows c.args.number c.in-None.ensures.value in
     ap lists_of c.get_mut.follows.holds-at-none
-    ∙ sym (with_row_same (lists_in rows) x _ (some_in rows) (ap (λ ps. without_value ps (symbol_of c.args.indicator.now)) none ∙ sym none))
+    ∙ sym (with_row_same (lists_in rows) x _ (some_in rows) (ap (λ ps. without_value_by same_number ps c.args.indicator) none ∙ sym none))
 
 pub returns-in-None-clause-had : goal.returns-in-None-clause-had
 returns-in-None-clause-had c =
-    sym (ap (λ ps. is_some (value_at ps (symbol_of c.args.indicator.now))) (none_shown c.args.rows.now.entries c.args.number c.in-None.ensures.value))
+    sym (ap (λ ps. is_some (value_by same_number ps c.args.indicator)) (none_shown c.args.rows.now.entries c.args.number c.in-None.ensures.value))

@@ -4,8 +4,8 @@ use Rattle.std.proofs.lemmas.Bool.{false≢true}
 use Rattle.std.proofs.lemmas.List.{length-map}
 use Rattle.std.proofs.lemmas.List.Elements.{All-append, All-cons, All-take, All-drop, All-same}
 use Rattle.lisp_object.specs.Datum.{object_of, is_proper}
-use Rattle.plist_state.specs.declared.property.Property.{Property}
-use Rattle.plist_state.specs.Shown.{property_of, plist_of}
+use Rattle.plist_state.specs.declared.property.NumberedProperty.{NumberedProperty}
+use Rattle.plist_state.specs.Shown.{numbered_property, plist_of}
 use Rattle.plist_state.specs.Undoing.{list_before}
 use Rattle.plist_state.proofs.Indices.{shown-set, with_value_at-past, shown-insert, length-inserted}
 use Rattle.plist_state.specs.Kept.{IsProperChange}
@@ -18,16 +18,16 @@ returns-then-index-len-clause-after c =
 
 pub returns-else-index-len-clause-after : goal.returns-else-index-len-clause-after
 returns-else-index-len-clause-after c =
-    let past : length (plist_of c.args.row.now) ≤ c.in-Set.index = omega (arith, length-map c.args.row.now.items property_of) in
+    let past : length (plist_of c.args.row.now) ≤ c.in-Set.index = omega (arith, length-map c.args.row.now.items numbered_property) in
     sym (ap (λ change. list_before change (plist_of c.args.row.now)) c.in-Set.is ∙ with_value_at-past (plist_of c.args.row.now) c.in-Set.index (object_of c.in-Set.value) past)
 
 pub unreachable-requires : goal.unreachable-requires
 unreachable-requires c =
     let row = c.args.row.now in
     let sum : length (list_before c.args.change (plist_of row)) ≡ suc (length (plist_of row)) =
-    ap (λ change. length (list_before change (plist_of row))) c.in-Removed.is ∙ length-inserted (plist_of row) c.in-Removed.index (property_of c.in-Removed.property) in
+    ap (λ change. length (list_before change (plist_of row))) c.in-Removed.is ∙ length-inserted (plist_of row) c.in-Removed.index (numbered_property c.in-Removed.property) in
     let room : length (list_before c.args.change (plist_of row)) ≤ vec_capacity row = c.requires.room in
-    let free : vec_len row < vec_capacity row = omega (arith, sum, room, length-map row.items property_of, row.ok.0) in
+    let free : vec_len row < vec_capacity row = omega (arith, sum, room, length-map row.items numbered_property, row.ok.0) in
     let done : IsOk c.insert.result = c.insert.ensures.succeeds free in
     absurd (false≢true (subst (λ r. IsOk r) c.in-Err.is done))
 
@@ -35,14 +35,14 @@ pub returns-in_default-clause-after : goal.returns-in_default-clause-after
 returns-in_default-clause-after c =
     let row = c.args.row.now in
     let index : c.min-index.result ≡ min c.in-Removed.index (length row.items) = c.min-index.ensures ∙ ap (min c.in-Removed.index) (c.len-in-Removed.ensures ∙ row.ok.0) in
-    ap (map property_of) c.in_default.ensures.items
+    ap (map numbered_property) c.in_default.ensures.items
     ∙ shown-insert row.items c.in-Removed.index c.min-index.result c.in-Removed.property index
     ∙ sym (ap (λ change. list_before change (plist_of row)) c.in-Removed.is)
 
 pub returns-in_default-clause-values : goal.returns-in_default-clause-values
 returns-in_default-clause-values c = λ old.
     let row = c.args.row.now in
-    let P = λ (p : Property). is_proper p.value ≡ true in
+    let P = λ (p : NumberedProperty). is_proper p.value ≡ true in
     All-same P c.insert.new.self.items _ c.in_default.ensures.items
     (All-append P _ _ (All-take P c.min-index.result row.items old)
     (All-cons P c.in-Removed.property _ (subst IsProperChange c.in-Removed.is c.requires.former) (All-drop P c.min-index.result row.items old)))

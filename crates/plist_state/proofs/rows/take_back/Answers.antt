@@ -1,7 +1,6 @@
 use Rattle.std.proofs.Common.{◌≡◌, ◌≤◌, [], ◌∷◌, length, refl, sym, ap, ◌∙◌, arith}
 use Rattle.std.specs.Prelude.{vec_capacity}
-use Rattle.plist_state.specs.Properties.{Plist}
-use Rattle.plist_state.specs.Lists.{row_of}
+use Rattle.plist_state.specs.Lists.{NumberedPlist, row_of}
 use Rattle.plist_state.specs.Shown.{plist_of, lists_of, lists_in, room_at}
 use Rattle.plist_state.specs.Undoing.{list_before}
 use Rattle.plist_state.proofs.ListRows.{written, lists_made, row_shown, none_shown, room_shown, no_room, with_row_same, some_in}
@@ -37,6 +36,6 @@ returns-in_default-clause-after c =
     ap lists_of c.get_mut.follows.holds-at-none
     ∙ sym (with_row_same (lists_in rows) x _ (some_in rows) (empty ∙ sym none))
   where
-    no_items : (ps : Plist) → length ps ≤ 0 → ps ≡ []
+    no_items : (ps : NumberedPlist) → length ps ≤ 0 → ps ≡ []
     no_items [] h = refl
     no_items (p ∷ ps) h = absurd (omega (arith, h))

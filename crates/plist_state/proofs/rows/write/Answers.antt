@@ -2,7 +2,7 @@ use Rattle.std.proofs.Common.{map, sym, ap, ◌∙◌}
 use Rattle.std.proofs.lemmas.List.{map_push}
 use Rattle.lisp_object.specs.Datum.{object_of}
 use Rattle.std.specs.List.{position}
-use Rattle.plist_state.specs.Shown.{symbol_of, property_of, plist_of}
+use Rattle.plist_state.specs.Shown.{numbered_property, plist_of}
 use Rattle.plist_state.specs.Undoing.{with_value_at}
 use Rattle.plist_state.proofs.Indices.{has, first_at, absent, shown-set, with_value_at-same, with_value_at-twice}
 use Rattle.plist_state.proofs.rows.write.Goals as goal
@@ -10,9 +10,9 @@ use Rattle.plist_state.proofs.rows.write.Goals as goal
 pub returns-in_ok-push-in-None-clause-ok : goal.returns-in_ok-push-in-None-clause-ok
 returns-in_ok-push-in-None-clause-ok c =
     let items = c.args.row.now.items in
-    let i = symbol_of c.args.indicator in
-    ap (map property_of) c.in_ok-push-in-None.ensures.items
-    ∙ map_push property_of items (record { indicator = c.args.indicator; value = c.args.value })
+    let i = c.args.indicator in
+    ap (map numbered_property) c.in_ok-push-in-None.ensures.items
+    ∙ map_push numbered_property items (record { indicator = c.args.indicator; value = c.args.value })
     ∙ sym ((absent items i (ap (position (has i)) (sym c.as_slice.ensures.value) ∙ sym c.in-None.ensures)).written (object_of c.args.value))
 
 pub returns-in-Some-clause-ok : goal.returns-in-Some-clause-ok
@@ -20,7 +20,7 @@ returns-in-Some-clause-ok c =
     let items = c.args.row.now.items in
     shown-set items c.in-Some.index c.index_mut.result.now c.replace-value.new.dest c.index_mut.ensures.value
     ∙ ap (λ v. with_value_at (plist_of c.args.row.now) c.in-Some.index (object_of v)) c.replace-value.ensures.after
-    ∙ sym ((first_at items (symbol_of c.args.indicator) c.in-Some.index (ap (position (has (symbol_of c.args.indicator))) (sym c.as_slice.ensures.value) ∙ sym c.in-Some.ensures)).written (object_of c.args.value))
+    ∙ sym ((first_at items c.args.indicator c.in-Some.index (ap (position (has c.args.indicator)) (sym c.as_slice.ensures.value) ∙ sym c.in-Some.ensures)).written (object_of c.args.value))
 
 pub returns-in-Some-clause-back : goal.returns-in-Some-clause-back
 returns-in-Some-clause-back c =

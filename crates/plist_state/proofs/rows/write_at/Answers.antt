@@ -2,8 +2,9 @@ use Rattle.std.proofs.Common.{map, sym, ap, subst, ◌∙◌}
 use Rattle.std.specs.Option.{IsSome}
 use Rattle.std.proofs.lemmas.Bool.{false≢true}
 use Rattle.lisp_object.specs.Datum.{object_of}
-use Rattle.plist_state.specs.Properties.{with_value}
-use Rattle.plist_state.specs.Shown.{symbol_of, property_of, plist_of}
+use Rattle.plist_state.specs.Properties.{with_value_by}
+use Rattle.plist_state.specs.Lists.{same_number}
+use Rattle.plist_state.specs.Shown.{numbered_property, plist_of}
 use Rattle.plist_state.specs.Undoing.{list_before}
 use Rattle.plist_state.proofs.ListRows.{written, lists_made, list_now, written_same, row_shown, proper_shown}
 use Rattle.plist_state.proofs.rows.write_at.Goals as goal
@@ -15,7 +16,7 @@ unreachable-requires c =
 pub returns-in-Ok-clause-ok : goal.returns-in-Ok-clause-ok
 returns-in-Ok-clause-ok c =
     lists_made c.args.rows.now.entries _ c.args.number c.in-Some.row.now c.write.new.row c.in-Some.ensures.value (c.get_mut.follows.holds c.write.new.row).0 c.write.ensures.room c.write.ensures.values
-    (λ ps. with_value ps (symbol_of c.args.indicator) (object_of c.args.value)) c.in-Ok.ensures.ok
+    (λ ps. with_value_by same_number ps c.args.indicator (object_of c.args.value)) c.in-Ok.ensures.ok
 
 pub returns-in-Ok-clause-back : goal.returns-in-Ok-clause-back
 returns-in-Ok-clause-back c =
@@ -40,4 +41,4 @@ pub returns-in-Err-clause-err : goal.returns-in-Err-clause-err
 returns-in-Err-clause-err c =
     written_same c.args.rows.now.entries _ c.args.number (plist_of c.write.new.row)
     (written c.args.rows.now.entries _ c.args.number c.in-Some.row.now c.write.new.row c.in-Some.ensures.value (c.get_mut.follows.holds c.write.new.row).0 c.write.ensures.room c.write.ensures.values)
-    (ap (λ xs. map property_of xs) c.in-Err.ensures.err ∙ sym (row_shown c.args.rows.now.entries c.args.number c.in-Some.row.now c.in-Some.ensures.value))
+    (ap (λ xs. map numbered_property xs) c.in-Err.ensures.err ∙ sym (row_shown c.args.rows.now.entries c.args.number c.in-Some.row.now c.in-Some.ensures.value))

@@ -1,8 +1,7 @@
 use Rattle.std.proofs.Common.{◌≡◌, ℕ, false, is_some, rules, ap, sym}
-use Rattle.plist_state.specs.Properties as properties
-use Rattle.plist_state.specs.Properties.{without_value}
-use Rattle.plist_state.specs.Lists.{NumberedLists, row_of}
-use Rattle.plist_state.specs.Shown.{Rows, symbol_of, rest_of, lists_in}
+use Rattle.plist_state.specs.Properties.{without_value_by}
+use Rattle.plist_state.specs.Lists.{NumberedLists, same_number, row_of}
+use Rattle.plist_state.specs.Shown.{Rows, rest_of, lists_in}
 use Rattle.plist_state.specs.Journal.{marks_of}
 use Rattle.plist_state.proofs.Notes.{property_noted}
 use Rattle.plist_state.proofs.Lists.{without-absent, none_shown_as}
@@ -13,11 +12,11 @@ pub returns-then-is_none-clause-ok : goal.returns-then-is_none-clause-ok
 returns-then-is_none-clause-ok c =
     let rows : Rows = c.args.stored.now.properties.entries in
     let x : ℕ = c.args.number in
-    let i : properties.Symbol = symbol_of c.args.indicator.now in
+    let i : ℕ = c.args.indicator in
     let none : is_some c.value.result ≡ false = search rules in
     ap (λ (m : NumberedLists). record (rest_of c.args.stored.now) { properties = m })
-    (sym (with_row_same (lists_in rows) x (without_value (row_of (lists_in rows) x) i) (some_in rows)
-    (without-absent (row_of (lists_in rows) x) i (none_shown_as _ c.value.result _ c.value.ensures.value none))))
+    (sym (with_row_same (lists_in rows) x (without_value_by same_number (row_of (lists_in rows) x) i) (some_in rows)
+    (without-absent same_number (row_of (lists_in rows) x) i (none_shown_as _ c.value.result _ c.value.ensures.value none))))
 
 pub returns-clause-marked : goal.returns-clause-marked
 returns-clause-marked c =

@@ -1,6 +1,5 @@
 use Rattle.std.proofs.Common.{◌≤◌, length, subst}
-use Rattle.plist_state.specs.Properties.{Plist}
-use Rattle.plist_state.specs.Lists.{row_of}
+use Rattle.plist_state.specs.Lists.{NumberedPlist, row_of}
 use Rattle.plist_state.specs.Shown.{rest_of, lists_of, room_at}
 use Rattle.plist_state.specs.Undoing.{list_before, undone}
 use Rattle.plist_state.specs.Journal.{Fits}
@@ -11,5 +10,5 @@ pub take_back-requires-clause-room : goal.take_back-requires-clause-room
 take_back-requires-clause-room c =
     let rows = c.args.stored.now.properties in
     let x = c.in-Property.number in
-    subst (λ (ps : Plist). length ps ≤ room_at rows.entries x) (row-with_row (lists_of rows) x (list_before c.in-Property.change (row_of (lists_of rows) x)))
+    subst (λ (ps : NumberedPlist). length ps ≤ room_at rows.entries x) (row-with_row (lists_of rows) x (list_before c.in-Property.change (row_of (lists_of rows) x)))
     (subst (λ note. Fits rows.entries (undone note (rest_of c.args.stored.now))) c.in-Property.is c.requires.room x)

@@ -8,4 +8,4 @@ pub returns-clause-properties : goal.returns-clause-properties
 returns-clause-properties c s functions rest sound fits = second_read functions s sound fits rest
 
 pub returns-clause-tables : goal.returns-clause-tables
-returns-clause-tables c s functions rest sound fits = third_read functions s sound fits rest
+returns-clause-tables c version s third functions rest sound is fits = third_read functions s sound version third is fits rest

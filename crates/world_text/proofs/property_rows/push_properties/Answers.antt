@@ -1,4 +1,4 @@
-use Rattle.std.proofs.Common.{◌∷◌, ◌++◌, [], length, take, drop, get_or, sym, ap, refl, ◌∙◌}
+use Rattle.std.proofs.Common.{◌∷◌, ◌++◌, [], length, take, drop, get_or, sym, ap, ◌∙◌}
 use Rattle.std.specs.Prelude.{◌-◌}
 use Rattle.std.proofs.lemmas.Bool.{and_parts}
 use Rattle.lisp_object.specs.Object.{list_of}

@@ -1,8 +1,8 @@
-use Rattle.world_text.proofs.ThreeLines.{three_lines}
+use Rattle.world_text.specs.Snapshot.{tables_object}
+use Rattle.world_text.proofs.ThreeLines.{third_line}
 use Rattle.world_text.proofs.writer.write.Goals as goal
 
 pub returns : goal.returns
 returns c =
-    three_lines c.args.world.now.0 c.packages-packages.result.now.0 _ c.new-text.result.items c.push_package_line.new.text.items c.push_property_line.new.text.items c.push_line.new.text.items
-    c.packages-packages.ensures c.in_ok-tables_of.ensures.object
-    c.new-text.ensures.items c.in_ok-push_package_line.ensures c.in_ok-push_property_line.ensures c.in_ok-push_line.ensures
+    third_line c.args.world.now.0 c.packages.result.now.0 _ (tables_object c.args.world.now.0) c.in_ok-text.text.items c.push_line.new.text.items
+    c.packages.ensures c.in_ok-tables_of.ensures.object c.in_ok-text.ensures c.in_ok-push_line.ensures

@@ -11,7 +11,7 @@ use Rattle.form_reader.proofs.reader.FormReader.step.Goals as goal
 
 pub returns-in-Ok-GoesOn-clause-steps : goal.returns-in-Ok-GoesOn-clause-steps
 returns-in-Ok-GoesOn-clause-steps g c = λ bytes after.
-    let setting = setting_of c.args.self.now.limits c.args.readtable.now c.args.packages.now.0 c.args.current.now
+    let setting = setting_of c.args.self.now.limits c.args.readtable.now c.args.base c.args.packages.now.0 c.args.current.now
     (g.R.MacroFunctions.functions c.args.macros.now) in
     went_on setting c.args.self.now c.args.self.now c.args.self.now c.in-Open.position bytes c.args.byte c.args.self.now.frames c.in_place.new.position
     (subst (λ (s : ReaderState). IsAfterIn setting c.args.self.now s bytes) c.in-Open.is after)
@@ -21,7 +21,7 @@ returns-in-Ok-GoesOn-clause-steps g c = λ bytes after.
 
 pub returns-in-Ok-Passed-clause-steps : goal.returns-in-Ok-Passed-clause-steps
 returns-in-Ok-Passed-clause-steps g c = λ bytes after.
-    let setting = setting_of c.args.self.now.limits c.args.readtable.now c.args.packages.now.0 c.args.current.now
+    let setting = setting_of c.args.self.now.limits c.args.readtable.now c.args.base c.args.packages.now.0 c.args.current.now
     (g.R.MacroFunctions.functions c.args.macros.now) in
     went_past setting c.args.self.now c.args.self.now c.args.self.now c.in-Open.position bytes c.args.byte c.args.self.now.frames c.in_place.new.position
     (subst (λ (s : ReaderState). IsAfterIn setting c.args.self.now s bytes) c.in-Open.is after)
@@ -31,7 +31,7 @@ returns-in-Ok-Passed-clause-steps g c = λ bytes after.
 
 pub returns-in-Ok-Refused-clause-steps : goal.returns-in-Ok-Refused-clause-steps
 returns-in-Ok-Refused-clause-steps g c = λ bytes after.
-    let setting = setting_of c.args.self.now.limits c.args.readtable.now c.args.packages.now.0 c.args.current.now
+    let setting = setting_of c.args.self.now.limits c.args.readtable.now c.args.base c.args.packages.now.0 c.args.current.now
     (g.R.MacroFunctions.functions c.args.macros.now) in (
       gave_up setting c.args.self.now c.args.self.now c.args.self.now c.in-Open.position bytes c.args.byte c.args.self.now.frames c.in-Ok-Refused.code (c.args.self.now.start + c.args.self.now.at)
           (subst (λ (s : ReaderState). IsAfterIn setting c.args.self.now s bytes) c.in-Open.is after)
@@ -44,14 +44,14 @@ leave-requires-clause-open g c = (c.in_place.new.position, refl)
 
 pub invariant_of-self-in-Ok-Left : goal.invariant_of-self-in-Ok-Left
 invariant_of-self-in-Ok-Left g c =
-    let setting = setting_of c.args.self.now.limits c.args.readtable.now c.args.packages.now.0 c.args.current.now
+    let setting = setting_of c.args.self.now.limits c.args.readtable.now c.args.base c.args.packages.now.0 c.args.current.now
     (g.R.MacroFunctions.functions c.args.macros.now) in
     let stays = left_there setting c.args.self.now.frames c.args.self.now.start c.args.self.now.at c.args.byte c.in-Open.position c.in_place.new.position c.in-Ok-Left.field-0 [] c.in-Ok-Left.field-0-is (c.in-Ok-Left.ensures.feeds []) in
     record { standing = subst (λ (s : ReaderState). IsTrue (is_standing c.args.self.now.limits c.args.self.now.frames c.args.self.now.at s)) (c.in-Open.is ∙ ap Open (sym stays)) c.args.self.now.standing }
 
 pub returns-in-Ok-Left-clause-steps : goal.returns-in-Ok-Left-clause-steps
 returns-in-Ok-Left-clause-steps g c = λ bytes after.
-    let setting = setting_of c.args.self.now.limits c.args.readtable.now c.args.packages.now.0 c.args.current.now
+    let setting = setting_of c.args.self.now.limits c.args.readtable.now c.args.base c.args.packages.now.0 c.args.current.now
     (g.R.MacroFunctions.functions c.args.macros.now) in
     let stays = left_there setting c.args.self.now.frames c.args.self.now.start c.args.self.now.at c.args.byte c.in-Open.position c.in_place.new.position c.in-Ok-Left.field-0 [] c.in-Ok-Left.field-0-is (c.in-Ok-Left.ensures.feeds []) in
     c.leave.ensures.steps bytes (subst (λ (s : ReaderState). IsAfterIn setting c.args.self.now s bytes) (c.in-Open.is ∙ ap Open (sym stays)) after)

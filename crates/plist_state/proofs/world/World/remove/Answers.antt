@@ -1,24 +1,46 @@
-use Rattle.std.proofs.Common.{◌≡◌, true, refl, sym, subst, is_some}
+use Rattle.std.proofs.Common.{◌≡◌, Option, Some, None, true, refl, sym, ap, subst, is_some, ◌∙◌}
 use Rattle.std.specs.Prelude.{IfOk, OnErr}
+use Rattle.lisp_object.specs.Object.{Object}
 use Rattle.package_table.specs.Table.{symbol_count}
-use Rattle.package_table.specs.Numbers.{numbered}
-use Rattle.plist_state.specs.Properties.{Plist, value_at, without_value}
+use Rattle.package_table.specs.Numbers.{numbered, number_of}
+use Rattle.plist_state.specs.Properties as properties
+use Rattle.plist_state.specs.Properties.{without_value, without_value_by}
+use Rattle.plist_state.specs.Changes.{property}
 use Rattle.plist_state.specs.State.{Worlds}
 use Rattle.plist_state.specs.Shown.{NumberedRest, symbol_of, rest_of}
 use Rattle.plist_state.specs.Sound.{IsSymbol, IsSound}
-use Rattle.plist_state.specs.Lists.{IsOwned}
+use Rattle.plist_state.specs.Lists.{same_number, row_of, IsNumber, named, IsOwned}
 use Rattle.plist_state.specs.Journal.{marks_of}
 use Rattle.plist_state.specs.Marked.{state_in}
-use Rattle.plist_state.proofs.InState.{with_changed_row, state_listed, world_listed, world_same_err, row_seen}
+use Rattle.plist_state.proofs.InState.{with_changed_row, state_listed, world_listed, world_same_err, property_seen, no_property, property_out}
 use Rattle.plist_state.proofs.KeptWorld.{kept_rest}
 use Rattle.plist_state.proofs.Listed.{owned_put}
+use Rattle.plist_state.proofs.Lists.{all_without}
 use Rattle.plist_state.proofs.Marking.{kept_continued}
+use Rattle.plist_state.proofs.Named.{without_named}
 use Rattle.plist_state.proofs.Notes.{fits_now}
 use Rattle.plist_state.proofs.Soundness.{sound_removed}
 use Rattle.plist_state.proofs.world.World.remove.Goals as goal
 
-pub number-number-requires : goal.number-number-requires
-number-number-requires c = subst (λ (w : Worlds). IsSymbol w.0.packages (symbol_of c.args.symbol.now)) (sym c.self.view_is) c.requires
+pub number-owner-requires : goal.number-owner-requires
+number-owner-requires c = subst (λ (w : Worlds). IsSymbol w.0.packages (symbol_of c.args.symbol.now)) (sym c.self.view_is) c.requires
+
+pub returns-in_default-clause-ok : goal.returns-in_default-clause-ok
+returns-in_default-clause-ok c =
+    let x : properties.Symbol = symbol_of c.args.symbol.now in
+    let i : properties.Symbol = symbol_of c.args.indicator.now in
+    let s = numbered c.self.inside.packages in
+    let none : number_of s i.0 i.1 ≡ None = (λ k. number_of s (sym c.home.ensures k) (sym c.name.ensures k)) ∙ sym c.in_default.ensures in
+    let absent : property c.args.self.now.0 x i ≡ None = no_property c.self.inside c.self.invariant c.args.self.now c.self.view_is x i c.number-owner.result c.number-owner.ensures none in
+    sym (property_out c.self.inside c.self.invariant c.args.self.now c.self.view_is x i absent)
+
+pub returns-in_default-clause-had : goal.returns-in_default-clause-had
+returns-in_default-clause-had c =
+    let x : properties.Symbol = symbol_of c.args.symbol.now in
+    let i : properties.Symbol = symbol_of c.args.indicator.now in
+    let s = numbered c.self.inside.packages in
+    let none : number_of s i.0 i.1 ≡ None = (λ k. number_of s (sym c.home.ensures k) (sym c.name.ensures k)) ∙ sym c.in_default.ensures in
+    sym (ap is_some (no_property c.self.inside c.self.invariant c.args.self.now c.self.view_is x i c.number-owner.result c.number-owner.ensures none))
 
 pub invariant_of-self : goal.invariant_of-self
 invariant_of-self c =
@@ -26,27 +48,41 @@ invariant_of-self c =
     let s = numbered a.packages in
     let r : NumberedRest = rest_of a.stored in
     let u : NumberedRest = rest_of c.remove.new.stored in
-    let x = symbol_of c.args.symbol.now in
-    let i = symbol_of c.args.indicator.now in
-    let made : NumberedRest = with_changed_row r c.number-number.result (λ ps. without_value ps i) in
+    let x : properties.Symbol = symbol_of c.args.symbol.now in
+    let i : properties.Symbol = symbol_of c.args.indicator.now in
+    let n = c.number-owner.result in
+    let j = c.in-Some.indicator in
+    let row = row_of r.properties n in
+    let is : number_of s i.0 i.1 ≡ Some j = (λ k. number_of s (sym c.home.ensures k) (sym c.name.ensures k)) ∙ sym c.in-Some.ensures in
+    let made : NumberedRest = with_changed_row r n (λ ps. without_value_by same_number ps j) in
     let at_home : IsSymbol s.0 x = subst (λ (w : Worlds). IsSymbol w.0.packages x) (sym c.self.view_is) c.requires in
+    let same : named s (without_value_by same_number row j) ≡ without_value (named s row) i =
+    without_named s (symbol_count s.0) c.numbering.ensures i j is row (c.self.invariant.owned.indicators n) in
     record {
       values = c.remove.ensures.wider.values c.self.invariant.values;
       owned = kept_rest c.remove.result (λ q. IsOwned s q.properties) r made u c.remove.ensures.ok c.remove.ensures.err c.self.invariant.owned
-          (owned_put s r.properties x c.number-number.result _ c.number-number.ensures c.self.invariant.owned);
+          (owned_put s (symbol_count s.0) c.numbering.ensures r.properties x n _ c.number-owner.ensures
+          (all_without same_number (λ p. IsNumber s p.0) row j (c.self.invariant.owned.indicators n)) c.self.invariant.owned);
       marked = kept_continued a.packages.1.marked (marks_of a.marks.items) r a.stored.properties.entries c.self.invariant.marked (marks_of c.remove.new.marks.items) u c.remove.new.stored.properties.entries
           c.remove.ensures.marked (fits_now a.stored.properties.entries r refl) c.remove.ensures.wider;
       sound = kept_rest c.remove.result (λ q. IsSound (state_in s q)) r made u c.remove.ensures.ok c.remove.ensures.err c.self.invariant.sound
-          (subst IsSound (sym (state_listed s (symbol_count s.0) c.numbering.ensures x c.number-number.result c.number-number.ensures r (λ ps. without_value ps i)))
+          (subst IsSound (sym (state_listed s (symbol_count s.0) c.numbering.ensures x n c.number-owner.ensures r (λ ps. without_value_by same_number ps j) (λ ps. without_value ps i) same))
           (sound_removed (state_in s r) x i c.self.invariant.sound at_home));
     }
 
 pub returns-clause-ok : goal.returns-clause-ok
 returns-clause-ok c =
     let a = c.self.inside in
+    let s = numbered a.packages in
+    let i : properties.Symbol = symbol_of c.args.indicator.now in
+    let n = c.number-owner.result in
+    let j = c.in-Some.indicator in
+    let is : number_of s i.0 i.1 ≡ Some j = (λ k. number_of s (sym c.home.ensures k) (sym c.name.ensures k)) ∙ sym c.in-Some.ensures in
     world_listed c.remove.result a.packages (marks_of a.marks.items) (marks_of c.remove.new.marks.items) (rest_of a.stored) (rest_of c.remove.new.stored) c.remove.ensures.marked.same
-    c.args.self.now c.self.view_is (symbol_count a.packages.0) c.numbering.ensures (symbol_of c.args.symbol.now) c.number-number.result c.number-number.ensures
-    (λ ps. without_value ps (symbol_of c.args.indicator.now)) c.remove.ensures.ok
+    c.args.self.now c.self.view_is (symbol_count s.0) c.numbering.ensures (symbol_of c.args.symbol.now) n c.number-owner.ensures
+    (λ ps. without_value_by same_number ps j) (λ ps. without_value ps i)
+    (without_named s (symbol_count s.0) c.numbering.ensures i j is (row_of (rest_of a.stored).properties n) (c.self.invariant.owned.indicators n))
+    c.remove.ensures.ok
 
 pub returns-clause-err : goal.returns-clause-err
 returns-clause-err c =
@@ -56,12 +92,20 @@ returns-clause-err c =
 
 pub returns-clause-had : goal.returns-clause-had
 returns-clause-had c =
-    let i = symbol_of c.args.indicator.now in
-    subst (λ (ps : Plist). IfOk c.remove.result (λ had. had ≡ is_some (value_at ps i)))
-    (row_seen c.self.inside c.args.self.now c.self.view_is (symbol_of c.args.symbol.now) c.number-number.result c.number-number.ensures) c.remove.ensures.had
+    let x : properties.Symbol = symbol_of c.args.symbol.now in
+    let i : properties.Symbol = symbol_of c.args.indicator.now in
+    let s = numbered c.self.inside.packages in
+    let is : number_of s i.0 i.1 ≡ Some c.in-Some.indicator = (λ k. number_of s (sym c.home.ensures k) (sym c.name.ensures k)) ∙ sym c.in-Some.ensures in
+    subst (λ (o : Option Object). IfOk c.remove.result (λ had. had ≡ is_some o))
+    (property_seen c.self.inside c.self.invariant c.args.self.now c.self.view_is x i (symbol_count s.0) c.numbering.ensures c.number-owner.result c.in-Some.indicator c.number-owner.ensures is)
+    c.remove.ensures.had
 
 pub returns-clause-absent : goal.returns-clause-absent
 returns-clause-absent c =
-    let i = symbol_of c.args.indicator.now in
-    subst (λ (ps : Plist). OnErr c.remove.result (is_some (value_at ps i) ≡ true))
-    (row_seen c.self.inside c.args.self.now c.self.view_is (symbol_of c.args.symbol.now) c.number-number.result c.number-number.ensures) c.remove.ensures.absent
+    let x : properties.Symbol = symbol_of c.args.symbol.now in
+    let i : properties.Symbol = symbol_of c.args.indicator.now in
+    let s = numbered c.self.inside.packages in
+    let is : number_of s i.0 i.1 ≡ Some c.in-Some.indicator = (λ k. number_of s (sym c.home.ensures k) (sym c.name.ensures k)) ∙ sym c.in-Some.ensures in
+    subst (λ (o : Option Object). OnErr c.remove.result (is_some o ≡ true))
+    (property_seen c.self.inside c.self.invariant c.args.self.now c.self.view_is x i (symbol_count s.0) c.numbering.ensures c.number-owner.result c.in-Some.indicator c.number-owner.ensures is)
+    c.remove.ensures.absent

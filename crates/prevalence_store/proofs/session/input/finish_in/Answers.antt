@@ -9,5 +9,5 @@ pub returns : goal.returns
 returns g c = λ bytes.
     subst (λ (s : Setting). IsAfter s c.args.reader bytes → IfOk c.finish.result (λ outcome. IsOutcome outcome (reads s bytes)))
     (called_setting c.args.world.now.0 c.args.mode g.R.Meaning.Meaning.functions (g.R.MacroFunctions.functions c.args.macros.now)
-    _ _ _ _ (g.met.R.MacroFunctions.as_meant c.args.macros.now) c.requires.whole (g.met.R.MacroFunctions.known c.args.macros.now c.requires.answers) c.requires.limits c.readtable_in-readtable.ensures c.packages.ensures c.package_in-package.ensures.name)
+    _ _ _ _ _ (g.met.R.MacroFunctions.as_meant c.args.macros.now) c.requires.whole (g.met.R.MacroFunctions.known c.args.macros.now c.requires.answers) c.requires.limits c.readtable_in-readtable.ensures c.base_in-base.ensures.base c.packages.ensures c.package_in-package.ensures.name)
     (c.finish.ensures.outcome bytes)

@@ -1,4 +1,5 @@
-use Rattle.std.proofs.Common.{List, ◌+◌, [], ◌∷◌, ◌++◌, take, sym, subst, ◌∙◌, arith}
+use Rattle.std.proofs.Common.{List, ◌+◌, [], ◌∷◌, ◌++◌, take, Result, Ok, Err, refl, sym, subst, ◌∙◌, arith}
+use Rattle.std.specs.Prelude.{OnErr}
 use Rattle.std.specs.List.{All}
 use Rattle.std.proofs.lemmas.List.{take_all, take_more}
 use Rattle.std.proofs.lemmas.List.Elements.{All-append, All-cons, All-nil}
@@ -8,6 +9,7 @@ use Rattle.prevalence_store.specs.declared.step.Step.{Step}
 use Rattle.prevalence_store.specs.declared.mode.Mode.TheVariants.{Current}
 use Rattle.prevalence_store.specs.declared.step.Step.TheVariants.{Form}
 use Rattle.prevalence_store.specs.calls.Run.{TakesSteps}
+use Rattle.prevalence_store.proofs.Surviving.{unchanged_survives}
 use Rattle.prevalence_store.proofs.calls.Running.{steps_more, steps_survive}
 use Rattle.prevalence_store.proofs.store.Store.run.Goals as goal
 
@@ -33,6 +35,15 @@ steps-preserved g c =
       honest = c.step-outcome.ensures.honest ∙ so_far.honest;
       macros = c.step-outcome.ensures.macros ∙ so_far.macros;
     }
+
+on_err : {T E P : Type 0} (result : Result T E) → P → OnErr result P
+on_err (Ok value) holds = tt
+on_err (Err error) holds = holds
+
+pub returns-in_err-outcomes-clause-nothing_taken : goal.returns-in_err-outcomes-clause-nothing_taken
+returns-in_err-outcomes-clause-nothing_taken g c = λ w.
+    on_err c.from_residual.result
+    (unchanged_survives g.R.Meaning.Meaning.functions g.D.Disk.state g.met.D.Disk.sound c.args.self.now c.args.self.now w refl)
 
 pub returns-clause-survives : goal.returns-clause-survives
 returns-clause-survives g c = λ w.

@@ -1,0 +1,15 @@
+use Rattle.std.proofs.Common.{◌<◌, ℕ, List, length, position, sym, ap, subst, ◌∙◌}
+use Rattle.package_sets.specs.Kept.{Kept, pair_eq}
+use Rattle.package_sets.specs.Good.{IsGood}
+use Rattle.package_sets.specs.Shown.{kept_of}
+use Rattle.package_sets.proofs.Growing.{good_external}
+use Rattle.package_sets.proofs.sets.PackageSets.show.Goals as goal
+
+pub invariant_of-self-2 : goal.invariant_of-self-2
+invariant_of-self-2 c =
+    let k : Kept = kept_of c.self.inside in
+    let owner = subst (λ (k : Kept). c.args.owner < length k.packages) (sym c.self.view_is) c.requires.owner in
+    let symbol = subst (λ (k : Kept). c.args.symbol < length k.symbols) (sym c.self.view_is) c.requires.symbol in
+    let none = ap (λ (k : Kept). position (pair_eq (c.args.owner, c.args.symbol)) k.externals) c.self.view_is ∙ c.requires.absent in
+    subst (λ (ps : List (ℕ × ℕ)). IsGood (record k { externals = ps })) (sym c.in_ok-push.ensures.ok)
+    (good_external k c.self.invariant c.args.owner c.args.symbol owner symbol none)

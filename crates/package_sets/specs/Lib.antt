@@ -1,0 +1,6 @@
+pub mod Changes
+pub mod Good
+pub mod Groups
+pub mod Hashing
+pub mod Kept
+pub mod Shown

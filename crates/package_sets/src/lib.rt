@@ -1,0 +1,33 @@
+//! What is kept of the packages, by numbers. Each thing is in a list that only grows, and its position there is its
+//! number.
+//!
+//! Contracts see `PackageSets` as a `Kept` (specs/Kept.antt): the names of symbols, the packages, the symbols, and
+//! what is imported, external and used, each a list. `IsGood` (specs/Good.antt) holds of it always: nothing is in a
+//! list twice, and each number is that of something that is there. specs/Changes.antt says what each call adds. After
+//! a call that fails nothing has changed. To go back to an earlier state is to cut each list to the length that it had
+//! (`cut`): `sizes` says how long they are, in 24 bytes.
+//!
+//! - `sets`: `PackageSets`, a copy of them, their lengths and going back; `look_ups` and `changes`: their calls
+//! - `names`: `Names`, each once; `pairs`: `Pairs` of numbers, each once, and the positions of those with the same
+//!   first
+//! - `seed`: `Seed`, with which both are hashed: names come from clients, who must not know where they fall; `hasher`:
+//!   how
+#![tactic(auto)]
+
+mod changes;
+mod hasher;
+mod look_ups;
+mod names;
+mod pair;
+mod pairs;
+mod seed;
+mod sets;
+mod sizes;
+
+pub use hasher::WordHasher;
+pub use names::Names;
+pub use pair::Pair;
+pub use pairs::Pairs;
+pub use seed::Seed;
+pub use sets::PackageSets;
+pub use sizes::Sizes;

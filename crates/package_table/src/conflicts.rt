@@ -1,0 +1,163 @@
+//! Whether a package finds another symbol than a given one by its name.
+ghost use Rattle.std.specs.Prelude.{◌≡◌, ◌<◌, ◌&&◌, false, nat_lt, is_some, length, position};
+ghost use Rattle.package_sets.specs.Kept.{name_at, pair_eq};
+ghost use Rattle.package_table.specs.Table.{IsJoined, IsPackage, IsSound};
+ghost use Rattle.package_table.specs.Reached.{reaches, share_user};
+ghost use Rattle.package_table.specs.Changes.{finds_this, finds_other, user_finds_other, finds_other_than_shown};
+ghost use Rattle.package_table.specs.Meaning.{finds_another, numbered_of, package_in, shown_positions, shown_symbol};
+ghost use Rattle.package_table.specs.Adds.{IsPlaced};
+
+use crate::limits::LOCKED_PACKAGES;
+use crate::look_ups::{found_number, home_name, home_of, is_shown_in, number_in};
+use package_sets::PackageSets;
+
+/// Whether `owner` finds the symbol of this home and name.
+pub(crate) fn finds_this(sets: &PackageSets, owner: &[u8], home: &[u8], name: &[u8]) -> bool
+    requires { IsJoined (numbered_of sets.now).0 }
+    ensures { result ≡ finds_this (numbered_of sets.now).0 owner.now home.now name.now }
+{
+    match home_of(sets, owner, name) {
+        Some(other) => other == home,
+        None => false,
+    }
+}
+
+/// Whether `owner` finds another symbol than that of this home by its name.
+pub(crate) fn finds_other(sets: &PackageSets, owner: &[u8], home: &[u8], name: &[u8]) -> bool
+    requires { IsJoined (numbered_of sets.now).0 }
+    ensures { result ≡ finds_other (numbered_of sets.now).0 owner.now home.now name.now }
+{
+    match home_of(sets, owner, name) {
+        Some(other) => other != home,
+        None => false,
+    }
+}
+
+// Whether a package uses both others.
+fn uses_both(sets: &PackageSets, user: u32, owner: u32, other: u32) -> bool
+    ensures { let uses = sets.now.uses in
+        result ≡ (is_some (position (pair_eq (user, owner)) uses)
+        && is_some (position (pair_eq (user, other)) uses)) }
+{
+    sets.is_used(user, owner) && sets.is_used(user, other)
+}
+
+// Whether there is a package that uses both.
+fn share_user(sets: &PackageSets, owner: u32, other: u32) -> bool
+    requires owner { owner < length sets.now.packages }
+    requires other { other < length sets.now.packages }
+    ensures { let packages = sets.now.packages in
+        result ≡ share_user (numbered_of sets.now).0 (name_at packages owner)
+        (name_at packages other) }
+{
+    sets.goodness();
+    for user in 0..sets.package_count() {
+        if uses_both(sets, user, owner, other) {
+            return true;
+        }
+    }
+    false
+}
+
+// Whether the package `holder` has another symbol by the name, which a package that
+// uses `owner` finds.
+fn reaches(sets: &PackageSets, owner: u32, home: &[u8], name: u32, holder: u32) -> bool
+    requires owner { owner < length sets.now.packages }
+    requires name { name < length sets.now.names }
+    requires holder { holder < length sets.now.packages }
+    ensures { let k = sets.now in let at = name_at k.packages in
+        result ≡ reaches (numbered_of k).0 (at owner) home.now (name_at k.names name)
+        (at holder, package_in k holder) }
+{
+    sets.goodness();
+    let Some(symbol) = number_in(sets, holder, name) else {
+        return false;
+    };
+    if home_name(sets, symbol) == home {
+        return false;
+    }
+    if sets.is_used(holder, owner) {
+        return true;
+    }
+    is_shown_in(sets, holder, symbol) && share_user(sets, owner, holder)
+}
+
+/// Whether a package that uses `owner` finds another symbol than that of this home by its name. The look-up of the name
+/// goes once over the packages, and on only from those that have another symbol there.
+pub(crate) fn user_finds_other(sets: &PackageSets, owner: &[u8], home: &[u8], name: &[u8]) -> bool
+    requires { IsSound (numbered_of sets.now).0 }
+    ensures { result ≡ user_finds_other (numbered_of sets.now).0 owner.now home.now name.now }
+{
+    sets.goodness();
+    let Some(owner) = sets.find_package(owner) else {
+        return false;
+    };
+    let Some(name) = sets.find_name(name) else {
+        return false;
+    };
+    for holder in 0..sets.package_count() {
+        if reaches(sets, owner, home, name, holder) {
+            return true;
+        }
+    }
+    false
+}
+
+// Whether a package finds another symbol by the name of this one.
+fn finds_another(sets: &PackageSets, owner: u32, symbol: u32) -> bool
+    requires { symbol < length sets.now.symbols }
+    ensures { result ≡ finds_another sets.now owner symbol }
+{
+    sets.goodness();
+    match found_number(sets, owner, sets.symbol(symbol).second) {
+        Some(other) => home_name(sets, other) != home_name(sets, symbol),
+        None => false,
+    }
+}
+
+/// Where the external symbols of a package are: at home in it, if it is locked, and else among what is external.
+pub(crate) fn shown_positions(sets: &PackageSets, owner: u32) -> &[u32]
+    ensures { result.now ≡ shown_positions sets.now owner }
+{
+    if owner < LOCKED_PACKAGES {
+        sets.own(owner)
+    } else {
+        sets.externals_of(owner)
+    }
+}
+
+/// The symbol of such a place.
+pub(crate) fn shown_symbol(sets: &PackageSets, owner: u32, position: u32) -> u32
+    requires { nat_lt owner 2 ≡ false → position < length sets.now.externals }
+    ensures { result ≡ shown_symbol sets.now owner position }
+{
+    if owner < LOCKED_PACKAGES {
+        position
+    } else {
+        sets.external_at(position).second
+    }
+}
+
+/// Whether `owner` finds another symbol by the name of one that is external in `used`. Looks at the external symbols
+/// alone.
+pub(crate) fn finds_other_than_shown(sets: &PackageSets, owner: &[u8], used: &[u8]) -> bool
+    requires owner { IsPackage (numbered_of sets.now).0 owner.now }
+    requires used { IsPackage (numbered_of sets.now).0 used.now }
+    requires sound { IsSound (numbered_of sets.now).0 }
+    requires placed { IsPlaced sets.now }
+    ensures { result ≡ finds_other_than_shown (numbered_of sets.now).0 owner.now used.now }
+{
+    sets.goodness();
+    let Some(owner) = sets.find_package(owner) else {
+        unreachable!()
+    };
+    let Some(used) = sets.find_package(used) else {
+        unreachable!()
+    };
+    for position in shown_positions(sets, used) {
+        if finds_another(sets, owner, shown_symbol(sets, used, *position)) {
+            return true;
+        }
+    }
+    false
+}

@@ -1,0 +1,25 @@
+use Rattle.std.proofs.Common.{refl}
+use Rattle.package_table.specs.Numbers.{numbered}
+use Rattle.plist_state.specs.declared.note.Note.TheVariants.{InBase}
+use Rattle.plist_state.specs.Shown.{NumberedRest, rest_of}
+use Rattle.plist_state.specs.Journal.{marks_of}
+use Rattle.plist_state.specs.Marked.{state_in}
+use Rattle.plist_state.proofs.ListRows.{wider_same}
+use Rattle.plist_state.proofs.Notes.{continues_noted, fits_now}
+use Rattle.plist_state.proofs.Marking.{kept_continued}
+use Rattle.plist_state.proofs.Soundness.{sound_base}
+use Rattle.plist_state.proofs.world.World.set_read_base.Goals as goal
+
+pub invariant_of-self-2 : goal.invariant_of-self-2
+invariant_of-self-2 c =
+    let a = c.self.inside in
+    let r : NumberedRest = rest_of a.stored in
+    let u : NumberedRest = record r { read_base = c.args.base } in
+    record {
+      values = c.self.invariant.values;
+      owned = c.self.invariant.owned;
+      sound = sound_base (state_in (numbered a.packages) r) c.args.base c.self.invariant.sound c.requires.lowest_base c.requires.highest_base;
+      marked = kept_continued a.packages.1.marked (marks_of a.marks.items) r a.stored.properties.entries c.self.invariant.marked (marks_of c.push_note.new.marks.items) u a.stored.properties.entries
+          (continues_noted (marks_of a.marks.items) _ (marks_of c.push_note.new.marks.items) (InBase r.read_base) r u c.in_ok-reserve_note.ensures.same c.push_note.ensures tt refl)
+          (fits_now a.stored.properties.entries r refl) (wider_same a.stored.properties.entries a.stored.properties.entries refl);
+    }

@@ -1,0 +1,8 @@
+use Rattle.world_text.proofs.ThreeLines.{two_lines}
+use Rattle.world_text.proofs.writer.first_lines.Goals as goal
+
+pub returns : goal.returns
+returns c =
+    two_lines c.args.world.now.0 c.packages.result.now.0 c.new-text.result.items c.push_package_line.new.text.items c.push_property_line.new.text.items
+    c.packages.ensures
+    c.new-text.ensures.items c.in_ok-push_package_line.ensures c.in_ok-push_property_line.ensures
