@@ -4,5 +4,8 @@ pub mod FoundWords
 pub mod Fronts
 pub mod Reports
 pub mod Sessions
+pub mod Snapshots
 pub mod Statuses
 pub mod Tasks
+pub mod Turns
+pub mod Upgrades

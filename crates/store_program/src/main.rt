@@ -10,9 +10,11 @@ use lisp_object::refusal::NO_MEMORY;
 use readtable_core::FnName;
 use std::alloc::AllocError;
 use std::env;
-use std::io::{ErrorKind, Write};
+use std::io::{ErrorKind, IsTerminal, Write};
 use std::process::ExitCode;
-use store_commands::{SixFunctions, Status, end_with, macro_functions, program};
+use store_commands::{
+    Console, SixFunctions, Status, end_with, macro_functions, program, program_at_terminal,
+};
 use user_macros::{Answer, Call, Cause, MacroFn, MacroFunctions, Macros, Refusal};
 
 // The words that the program was started with, or the status where they are not had: they are no text, or there is no memory.
@@ -31,13 +33,23 @@ fn serve<M: MacroFunctions + Drop, F: Write>(rt: &HostRuntime, macros: M, faults
     requires answers { M.answers macros }
     requires whole { are_registered M.Meaning.functions (M.functions macros) ≡ true }
 {
+    let mut input = rt.stdin();
+    let mut output = rt.stdout();
     match words_given(rt) {
+        Ok(words) if input.is_terminal() => {
+            let console = Console {
+                input: &mut input,
+                output: &mut output,
+                prompts: &mut rt.stderr(),
+            };
+            program_at_terminal(rt, macros, words.as_slice(), console, faults)
+        }
         Ok(words) => program(
             rt,
             macros,
             words.as_slice(),
-            &mut rt.stdin(),
-            &mut rt.stdout(),
+            &mut input,
+            &mut output,
             faults,
         ),
         Err(Status::WordsRefused) => {

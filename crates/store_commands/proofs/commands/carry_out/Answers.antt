@@ -1,16 +1,11 @@
-use Rattle.std.proofs.Common.{rules, inl, refl}
-use Rattle.lisp_object.specs.declared.refusal.TheConstants.{DEVICE}
-use Rattle.store_commands.specs.declared.status.Status.TheVariants.{Fault}
+use Rattle.std.proofs.Common.{rules, refl}
+use Rattle.store_commands.proofs.Statuses.{host_status}
 use Rattle.store_commands.proofs.Tasks.{performs_nothing, performs_on}
 use Rattle.store_commands.proofs.commands.carry_out.Goals as goal
 
-pub returns-then-is_empty : goal.returns-then-is_empty
-returns-then-is_empty g c =
-    performs_nothing _ _ _ _ g.I.Read.remaining g.O.Write.contents _ _ _ _ c.args.asked.folder.now c.args.asked.task (Fault DEVICE) (inl refl) (refl, refl)
-
 pub returns-in_default : goal.returns-in_default
 returns-in_default g c =
-    performs_nothing _ _ _ _ g.I.Read.remaining g.O.Write.contents _ _ _ _ c.args.asked.folder.now c.args.asked.task (Fault DEVICE) (inl refl) (refl, refl)
+    performs_nothing _ _ _ _ g.I.Read.remaining g.O.Write.contents _ _ _ _ c.args.asked.folder.now c.args.asked.task _ (search rules) (refl, refl)
 
 pub returns : goal.returns
 returns g c =
