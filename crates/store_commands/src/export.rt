@@ -15,7 +15,7 @@ use prevalence_store::{Store, Unopened};
 use std::alloc::Global;
 use std::io::Write;
 use user_macros::MacroFunctions;
-use world_forms::{Content, export};
+use world_forms::{Content, all_forms};
 
 /// Writes the forms that make the world of the store that a disk holds. Answers how that ended, and a line for each property that
 /// no form can set. The disk is given back as the opening left it, and the macro functions.
@@ -66,7 +66,7 @@ fn write_forms<D: Disk, M, O: Write>(
     let Some(world) = store.world() else {
         return (Status::Fault(REOPEN), Vec::new(alloc));
     };
-    let Ok(exported) = export(alloc, world, content) else {
+    let Ok(exported) = all_forms(alloc, world, content) else {
         return (Status::Fault(NO_MEMORY), Vec::new(alloc));
     };
     if write_out(output, exported.forms.as_slice()).is_err() {

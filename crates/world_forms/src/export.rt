@@ -21,7 +21,7 @@ pub enum Content {
 /// The forms of a world.
 #[derive(Drop)]
 pub struct Export {
-    /// The forms, each with a newline after it.
+    /// The forms, with a newline between each two: none after the last, which would be read under the readtable of the world.
     pub forms: Vec<u8>,
     /// The properties that no form can set, since a form has limits: a line each, of the symbol and its indicator.
     pub left_out: Vec<u8>,
@@ -31,7 +31,7 @@ pub struct Export {
 ///
 /// # Errors
 /// Out of memory.
-pub fn export(alloc: Global, world: &World, content: Content) -> Result<Export, AllocError> {
+pub fn all_forms(alloc: Global, world: &World, content: Content) -> Result<Export, AllocError> {
     let mut forms = Vec::new(alloc);
     let mut left_out = Vec::new(alloc);
     if content == Content::World {
@@ -60,7 +60,7 @@ fn push_current(forms: &mut Vec<u8>, world: &World, content: Content) -> Result<
         push_symbol(forms, KEYWORD, world.current_readtable())?;
         forms.push(b')')?;
     }
-    forms.extend_from_slice(b")\n")
+    forms.extend_from_slice(b")")
 }
 
 /// Adds a number of at most two digits.

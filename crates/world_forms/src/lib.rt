@@ -4,7 +4,7 @@
 //! external symbols and uses; then the properties, the readtables, and at last what is current. Without the readtables they are
 //! Common Lisp, but for what packages of another Lisp are called. No clause says what the forms make: tests do.
 //!
-//! - `export`: `export`, `Export`; `packages`, `properties`, `readtables`: their forms; `texts`: names, texts and characters in a form
+//! - `export`: `all_forms`, `Export`; `packages`, `properties`, `readtables`: their forms; `texts`: names, texts and characters in a form
 #![tactic(auto)]
 
 mod export;
@@ -13,4 +13,4 @@ mod properties;
 mod readtables;
 mod texts;
 
-pub use export::{Content, Export, export};
+pub use export::{Content, Export, all_forms};
