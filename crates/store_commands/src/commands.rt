@@ -266,11 +266,15 @@ where
         input,
         output,
     );
+    (status, told_after(status, left_out, &disk))
+}
+
+// What is to be told on standard error after a task.
+fn told_after(status: Status, left_out: Vec<u8>, disk: &HostDisk) -> Told {
     if status == Status::LeftOut {
-        (status, Told::LeftOut(left_out))
-    } else {
-        (status, cause_of(&disk))
+        return Told::LeftOut(left_out);
     }
+    cause_of(disk)
 }
 
 // The cause of a fault of the device, if there was one.

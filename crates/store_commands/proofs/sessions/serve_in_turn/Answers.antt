@@ -1,3 +1,4 @@
+use Rattle.std.proofs.Common.{◌∙◌}
 use Rattle.store_commands.proofs.Turns.{first_turn, turn_after}
 use Rattle.store_commands.proofs.sessions.serve_in_turn.Goals as goal
 
