@@ -77,7 +77,7 @@ fn write_forms<D: Disk, M, O: Write>(
 
 // Writes forms.
 fn write_exported<O: Write>(exported: &Export, output: &mut O) -> Status
-    ensures { TellsForms result (O.contents output.old) (O.contents output.new) exported.now.forms }
+    ensures { TellsForms result (O.contents output.old) (O.contents output.new) exported.now.forms.items }
 {
     match write_out(output, exported.forms.as_slice()) {
         Ok(()) if exported.left_out.is_empty() => Status::Done,

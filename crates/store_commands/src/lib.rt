@@ -40,7 +40,7 @@ pub use session::{HALF_LIMIT, serve_on};
 pub use sessions::sessions_on;
 pub use snapshot::snapshot_on;
 pub use status::Status;
-pub use terminal::{Answers, Console, Sessions, Terminal};
+pub use terminal::{Answers, Sessions, Terminal};
 pub use told::end_with;
 pub use upgrade::upgrade_on;
 pub use words::{Report, Task};
