@@ -279,8 +279,8 @@ $ verify DIR
 0
 half B generation 4 records 0
 $- snapshot DIR
-0
-half A generation 5 records 0
+3
+standard error: ! 63 MISSING-MACRO
 ";
 
 #[test]

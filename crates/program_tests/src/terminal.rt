@@ -86,7 +86,11 @@ const ROWS: [Row; 10] = [
         b"7\n",
         b"0\nhalf A generation 1 records 1\n--\n",
     ),
-    ("run", b"7\n", b"2\n--\nerror: "),
+    (
+        "--version",
+        b"7\n",
+        b"0\nstore_program 0.1.0, files of version 2\n--\n",
+    ),
     (
         "run /dev/null",
         b"7\n",
@@ -99,7 +103,7 @@ fn a_terminal_has_sessions_in_a_row(rt: HostRuntime) -> Result<(), Fail> {
     let folder = folder_for(&rt, "terminal")?;
     for (words, input, wanted) in ROWS {
         let text = text_of(&rt, folder.as_str(), words, input)?;
-        assert!(rt; text.starts_with(wanted), "{words} {text:?}");
+        assert!(rt; text.as_slice() == wanted, "{words} {text:?}");
     }
     fs::remove_dir_all(&rt, folder.as_str())?;
     Ok(())
