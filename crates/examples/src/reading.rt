@@ -23,6 +23,7 @@ pub enum ReadingError {
 pub fn read_and_print(alloc: Global, text: &[u8]) -> Result<Vec<u8>, ReadingError> {
     let readtable = Readtable::standard(alloc)?;
     let packages = Packages::new(alloc)?;
+    packages.soundness();
     let macros = Macros::new(alloc, NoFunctions);
     let current = COMMON_LISP_USER;
     let limits = Limits::form();

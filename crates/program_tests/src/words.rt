@@ -61,7 +61,7 @@ Options:
       --data      Leave the readtables out, so that another Lisp can load the forms
   -h, --help      Print help
 
-Over a new store
+Over a new store the forms make the same world:
 $ snapshot --help
 Takes a snapshot, and tells the half in use
 
