@@ -3,7 +3,7 @@ pub mod CommandLineLaws
 pub mod FoundWords
 pub mod Fronts
 pub mod Reports
-pub mod Sessions
+pub mod SessionLaws
 pub mod Snapshots
 pub mod Statuses
 pub mod Tasks

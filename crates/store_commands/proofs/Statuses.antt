@@ -7,7 +7,7 @@ use Rattle.prevalence_store.specs.declared.outcome.Ending.{Ending}
 use Rattle.prevalence_store.specs.declared.outcome.Ending.TheVariants.{End, Reader, Store}
 use Rattle.store_commands.specs.declared.status.Status.{Status}
 use Rattle.store_commands.specs.declared.status.Status.TheVariants.{Done, Helped, ReaderRefused, WordsRefused, LeftOut, Fault}
-use Rattle.store_commands.specs.Commands.{is_of_opening}
+use Rattle.store_commands.specs.Commands.{IsEarlyFault, is_of_opening}
 use Rattle.store_commands.specs.Status.{EndsAfter, HasFaultNumber, IsAfterOneOf, IsAfterWords, IsCarriedOut, IsFaultNumber, IsOfWords, TakesWords, status_of_ending, status_of_host}
 use Rattle.lisp_object.specs.declared.refusal.TheConstants.{DEVICE, NO_MEMORY, OUTPUT}
 use Rattle.disk_trait.specs.declared.host.HostError.{HostError}
@@ -41,12 +41,20 @@ pub ending_at : (status given : Status) (ending : Ending) (number : ℕ) → sta
 ending_at status given ending number same is fault = ending_is ending number (sym is ∙ sym same ∙ fault)
 
 -- of files that were not opened
-pub host_status : (error : HostError) → (status_of_host error ≡ Fault DEVICE) ⊎ (status_of_host error ≡ Fault NO_MEMORY)
-host_status host.OutOfMemory = inr refl
-host_status host.Locked = inl refl
-host_status host.NoStore = inl refl
-host_status host.NoName = inl refl
-host_status (host.System error) = inl refl
+host_status : (error : HostError) → IsEarlyFault (status_of_host error)
+host_status host.OutOfMemory = inl refl
+host_status host.Locked = inr (inr refl)
+host_status host.NoStore = inr (inr refl)
+host_status host.NoName = inr (inr refl)
+host_status (host.System error) = inr (inr refl)
+
+pub early_after : (status : Status) (error : HostError) → status ≡ status_of_host error → IsEarlyFault status
+early_after status error is = subst IsEarlyFault (sym is) (host_status error)
+
+pub taken_early : (status : Status) → IsEarlyFault status → TakesWords status
+taken_early status (inl is) = subst TakesWords (sym is) tt
+taken_early status (inr (inl is)) = subst TakesWords (sym is) tt
+taken_early status (inr (inr is)) = subst TakesWords (sym is) tt
 
 -- ---- after words that have mistakes
 

@@ -21,7 +21,7 @@ use Rattle.store_commands.specs.declared.words.Report.TheVariants.{Dump, Verify}
 use Rattle.store_commands.specs.declared.words.Task.{Task}
 use Rattle.store_commands.specs.declared.words.Task.TheVariants.{Export, Run, Snapshot, Tell, Upgrade}
 use Rattle.store_commands.proofs.Reports.{report_breaks, report_writes, text_fault, text_of_no_opening, text_taken}
-use Rattle.store_commands.proofs.Sessions.{answers_input, broken_at, fault_of_session, no_opening_at, nothing_written, number_of_opening, reads_to_end}
+use Rattle.store_commands.proofs.SessionLaws.{answers_input, broken_at, fault_of_session, no_opening_at, nothing_written, number_of_opening, reads_to_end}
 use Rattle.store_commands.proofs.Snapshots.{snapshot_breaks, snapshot_fault, snapshot_of_no_opening, snapshot_taken, snapshot_writes}
 use Rattle.store_commands.proofs.Upgrades.{forms_break, forms_fault, forms_of_no_opening, forms_taken, forms_written, upgrade_breaks, upgrade_fault, upgrade_of_no_opening, upgrade_taken, upgrade_writes}
 use Rattle.world_forms.specs.declared.export.Content.{Content}

@@ -19,7 +19,7 @@ module _ (functions : Functions) (mode : Mode) (every : ℕ) {D R : Type 0} (sta
       → InTurn functions mode every state old mid world held between (Reader number)
       → ((left : WorldState) → mid.world ≡ Some left → OneSession functions mode every state mid new left between written ending)
       → InTurn functions mode every state old new world held written ending
-  next_turn mid new between written number ending (numbers, start, first, before, earlier, had, has, served) next =
+  next_turn mid new between written number ending (numbers, start, first, before, earlier, (had, has, served)) next =
       let left = served.serves.ends.after.left in (
         number ∷ numbers,
         mid,

@@ -1,5 +1,6 @@
 -- From an upgrade, and from an export, to what the commands promise.
-use Rattle.std.proofs.Common.{◌≡◌, ◌≢◌, ℕ, Bool, true, false, ◌==◌, List, [], ◌++◌, Option, Some, refl, sym, ap, subst, ◌∙◌, append-nil}
+use Rattle.std.proofs.Common.{◌≡◌, ℕ, true, List, [], ◌++◌, Option, Some, refl, sym, ap, subst, ◌∙◌, inl, inr, append-nil}
+use Rattle.std.proofs.lemmas.Bool.{cases_eq}
 use Rattle.disk_trait.specs.Disk.{State}
 use Rattle.plist_state.specs.State.{WorldState}
 use Rattle.prevalence_store.specs.calls.Snapshot.{Snapshots}
@@ -22,11 +23,10 @@ module _ (functions : Functions) {D R : Type 0} (state : D → State) (old new :
   -- what became of a snapshot that was taken, or not
   either : (outcome : Outcome) (P : Type 0) → Upgrades functions state old new world outcome
       → (Snapshots functions state old new world outcome → P) → (outcome ≡ Snapshotted → P) → P
-  either outcome P upgrades taken none = go (old.version == 1) refl
-    where
-      go : (b : Bool) → (old.version == 1) ≡ b → P
-      go true is = taken (upgrades.first cc)
-      go false is = none (upgrades.later cc).1
+  either outcome P upgrades taken none = elim (cases_eq old.version 1) [
+    | inl first ↦ taken (upgrades.first first)
+    | inr later ↦ none (upgrades.later later).1
+  ]
 
   pub upgrade_has_no_value : (outcome : Outcome) → Upgrades functions state old new world outcome → HasNoValue outcome
   upgrade_has_no_value outcome upgrades =

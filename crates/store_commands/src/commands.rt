@@ -14,7 +14,7 @@ use crate::session::serve_on;
 use crate::sessions::sessions_on;
 use crate::snapshot::snapshot_on;
 use crate::status::Status;
-use crate::terminal::{Answers, Console, Terminal};
+use crate::terminal::{Answers, Terminal};
 use crate::told::{Told, end_with, end_with_told};
 use crate::upgrade::upgrade_on;
 use crate::words::{Asked, Task, asked_in};
@@ -90,12 +90,14 @@ where
 
 /// Does what the words ask for, as `program`, where the input is a terminal. `run` is sessions in a row on one open store then: after
 /// a refusal of the reader the rest of the line is dropped, and the next session begins; the status is that of the last one.
-/// Before each line a prompt goes to the console's `prompts`.
+/// Before each line a prompt goes to `prompts`.
 pub fn program_at_terminal<R, M, S, I, O, P, F>(
     rt: &R,
     macros: M,
     words: &[S],
-    console: Console<'_, I, O, P>,
+    input: &mut I,
+    output: &mut O,
+    prompts: &mut P,
     faults: &mut F,
 ) -> Status
 where
@@ -113,11 +115,11 @@ where
 {
     match asked_in(rt.alloc(), words) {
         Ok(asked) => {
-            let (status, told) = carry_out_at_terminal(rt, macros, asked, console);
+            let (status, told) = carry_out_at_terminal(rt, macros, asked, input, output, prompts);
             end_with_told(faults, status, &told)
         }
-        Err(error) => {
-            let status = answer_words(&error, console.output, faults);
+        Err(refusal) => {
+            let status = answer_words(&refusal, output, faults);
             end_with(faults, status)
         }
     }
@@ -128,7 +130,9 @@ fn carry_out_at_terminal<R, M, I, O, P>(
     rt: &R,
     macros: M,
     asked: Asked<'_>,
-    console: Console<'_, I, O, P>,
+    input: &mut I,
+    output: &mut O,
+    prompts: &mut P,
 ) -> (Status, Told)
 where
     R: Files<File = File> + RandomSource + AllocGlobal,
@@ -143,8 +147,17 @@ where
         Task::Run {
             mode,
             snapshot_every,
-        } => sit(rt, macros, asked, mode, snapshot_every, console),
-        _ => carry_out(rt, macros, asked, console.input, console.output),
+        } => sit(
+            rt,
+            macros,
+            asked,
+            mode,
+            snapshot_every,
+            input,
+            output,
+            prompts,
+        ),
+        _ => carry_out(rt, macros, asked, input, output),
     }
 }
 
@@ -155,7 +168,9 @@ fn sit<R, M, I, O, P>(
     asked: Asked<'_>,
     mode: Mode,
     snapshot_every: u64,
-    console: Console<'_, I, O, P>,
+    input: &mut I,
+    output: &mut O,
+    prompts: &mut P,
 ) -> (Status, Told)
 where
     R: Files<File = File> + RandomSource + AllocGlobal,
@@ -174,11 +189,6 @@ where
         Ok(disk) => disk,
         Err(error) => return (Status::of_host(&error), Told::Cause(error)),
     };
-    let Console {
-        input,
-        output,
-        prompts,
-    } = console;
     let answered = Cell::new(false);
     let mut terminal = Terminal::new(input, prompts, &answered);
     let mut answers = Answers::new(output, &answered);
@@ -266,11 +276,15 @@ where
         input,
         output,
     );
+    (status, told_after(status, left_out, &disk))
+}
+
+// What is to be told on standard error after a task.
+fn told_after(status: Status, left_out: Vec<u8>, disk: &HostDisk) -> Told {
     if status == Status::LeftOut {
-        (status, Told::LeftOut(left_out))
-    } else {
-        (status, cause_of(&disk))
+        return Told::LeftOut(left_out);
     }
+    cause_of(disk)
 }
 
 // The cause of a fault of the device, if there was one.

@@ -15,7 +15,7 @@ use prevalence_store::{Store, Unopened};
 use std::alloc::Global;
 use std::io::Write;
 use user_macros::MacroFunctions;
-use world_forms::{Content, all_forms};
+use world_forms::{Content, Export, all_forms};
 
 /// Writes the forms that make the world of the store that a disk holds. Answers how that ended, and a line for each property that
 /// no form can set. The disk is given back as the opening left it, and the macro functions.
@@ -66,16 +66,22 @@ fn write_forms<D: Disk, M, O: Write>(
     let Some(world) = store.world() else {
         return (Status::Fault(REOPEN), Vec::new(alloc));
     };
-    let Ok(exported) = all_forms(alloc, world, content) else {
-        return (Status::Fault(NO_MEMORY), Vec::new(alloc));
-    };
-    if write_out(output, exported.forms.as_slice()).is_err() {
-        return (Status::Fault(OUTPUT), Vec::new(alloc));
+    match all_forms(alloc, world, content) {
+        Ok(exported) => {
+            let status = write_exported(&exported, output);
+            (status, exported.left_out)
+        }
+        Err(_) => (Status::Fault(NO_MEMORY), Vec::new(alloc)),
     }
-    let status = if exported.left_out.is_empty() {
-        Status::Done
-    } else {
-        Status::LeftOut
-    };
-    (status, exported.left_out)
+}
+
+// Writes forms.
+fn write_exported<O: Write>(exported: &Export, output: &mut O) -> Status
+    ensures { TellsForms result (O.contents output.old) (O.contents output.new) exported.now.forms.items }
+{
+    match write_out(output, exported.forms.as_slice()) {
+        Ok(()) if exported.left_out.is_empty() => Status::Done,
+        Ok(()) => Status::LeftOut,
+        Err(_) => Status::Fault(OUTPUT),
+    }
 }

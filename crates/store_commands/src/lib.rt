@@ -3,11 +3,12 @@
 //!
 //! - `program` does what the words of the command line ask for, and answers a `Status`; `program_at_terminal` the same at a terminal,
 //!   where `run` is sessions in a row (module `commands`).
-//! - `serve_on` serves forms over any disk, `snapshot_on` takes a snapshot, `upgrade_on` takes one of files of version 1, `export_on` writes the forms that make the world, and `report_on` writes what is told of a store (modules
-//!   `session`, `snapshot` and `report`).
+//! - `serve_on` serves forms over any disk, `snapshot_on` takes a snapshot, `upgrade_on` takes one of files of version 1, `export_on`
+//!   writes the forms that make the world, and `report_on` writes what is told of a store (modules `session`, `snapshot`, `upgrade`,
+//!   `export` and `report`).
 //! - `sessions_on` serves sessions in a row (module `sessions`), and `terminal` has the input that asks for them, with its prompts.
-//! - `words` has the command line: `run DIR [--rescue] [--snapshot-every N]`, `snapshot DIR`, `upgrade DIR`, `export DIR [--data]`, `dump DIR` and `verify DIR`, each
-//!   with `--existing`; `help` has the texts of its help.
+//! - `words` has the command line: `run DIR [--rescue] [--snapshot-every N]`, `snapshot DIR`, `upgrade DIR`, `export DIR [--data]`,
+//!   `dump DIR` and `verify DIR`, each with `--existing`; `help` has the texts of its help.
 //! - `fault` writes the line of a fault, and that with its cause; `half_line` that on the half in use.
 //! - `meaning` says what the macro functions of the program mean, and `macro_functions` has those that compute an object.
 #![tactic(auto)]
@@ -39,7 +40,7 @@ pub use session::{HALF_LIMIT, serve_on};
 pub use sessions::sessions_on;
 pub use snapshot::snapshot_on;
 pub use status::Status;
-pub use terminal::{Answers, Console, Sessions, Terminal};
+pub use terminal::{Answers, Sessions, Terminal};
 pub use told::end_with;
 pub use upgrade::upgrade_on;
 pub use words::{Report, Task};

@@ -15,9 +15,9 @@ use user_macros::MacroFunctions;
 /// How many bytes each of the two files of a store may have.
 pub const HALF_LIMIT: u64 = 1_073_741_824;
 
-/// A session over the store that a disk holds, with these macro functions, in this mode, and with names hashed by this seed. After each `snapshot_every` forms
-/// that were logged it takes a snapshot, and never where that is 0. The disk is given back as the store left it, and the macro
-/// functions.
+/// A session over the store that a disk holds, with these macro functions, in this mode, and with names hashed by this seed. After
+/// each `snapshot_every` forms that were logged it takes a snapshot, and never if that is 0. The disk is given back as the store
+/// left it, and the macro functions.
 ///
 /// # Errors
 ///

@@ -16,14 +16,6 @@ const INNER_PROMPT: &[u8] = b". ";
 
 const WELCOME: &[u8] = b"Type a form and Enter; Ctrl-D ends.\n";
 
-/// The streams of a terminal: forms come from one, answers go to another, and prompts to a third.
-#[derive(Drop)]
-pub struct Console<'a, I, O, P> {
-    pub input: &'a mut I,
-    pub output: &'a mut O,
-    pub prompts: &'a mut P,
-}
-
 /// An input of sessions in a row.
 pub trait Sessions: Read {
     /// After a session that the reader ended: whether another one follows. The rest of the line is dropped.

@@ -1,6 +1,6 @@
 // The command line.
 ghost use Rattle.std.specs.Prelude.{◌≡◌, ◌⊎◌, Bool, Some, false, map, option_and_then, option_map, IfOk, IfErr};
-ghost use Rattle.clap.specs.Words.{FailsBy, Text, app_of, found_of, kind_of, rows_of, rule_of, subcommand_rows_of};
+ghost use Rattle.clap.specs.Words.{FailsBy, Text, app_of, found_of, kind_of, rows_of, rule_of, subcommand_rows_of, with_subcommand};
 ghost use Rattle.clap.specs.declared.builder.command.Command.TheViews.{out-Command as fields_of};
 ghost use Rattle.clap.specs.declared.error.kind.ErrorKind.TheVariants.{MissingRequiredArgument, OutOfMemory};
 ghost use Rattle.store_commands.specs.declared.words.Task.{Task};
@@ -176,26 +176,51 @@ fn bare_command<'a>(alloc: Global) -> Command<'a>
         .subcommand_required(true)
 }
 
+// Adds a command that has nothing but its folder.
+fn with_command<'a>(
+    alloc: Global,
+    program: Command<'a>,
+    name: &'a str,
+    about: &'a str,
+    usage: &'a str,
+    help: &'a str,
+) -> Result<Command<'a>, AllocError>
+    ensures { IfOk result (λ command. app_of command
+        ≡ with_subcommand (app_of program.entry) (folder_line name.entry.now).top) }
+{
+    let command = folder_command(alloc, name, about, usage, help)?;
+    program.subcommand(command)
+}
+
 fn whole_command<'a>(alloc: Global) -> Result<Command<'a>, AllocError>
     ensures { IfOk result (λ command. app_of command ≡ command_line) }
 {
     let run = run_command(alloc)?;
+    let with_run = bare_command(alloc).subcommand(run)?;
     let about = "Takes a snapshot, and tells the half in use";
-    let snapshot = folder_command(alloc, SNAPSHOT, about, SNAPSHOT_USAGE, SNAPSHOT_HELP)?;
+    let with_snapshot = with_command(
+        alloc,
+        with_run,
+        SNAPSHOT,
+        about,
+        SNAPSHOT_USAGE,
+        SNAPSHOT_HELP,
+    )?;
     let about = "Makes files of version 1 files of version 2";
-    let upgrade = folder_command(alloc, UPGRADE, about, UPGRADE_USAGE, UPGRADE_HELP)?;
+    let with_upgrade = with_command(
+        alloc,
+        with_snapshot,
+        UPGRADE,
+        about,
+        UPGRADE_USAGE,
+        UPGRADE_HELP,
+    )?;
     let export = export_command(alloc)?;
+    let with_export = with_upgrade.subcommand(export)?;
     let about = "Writes the text of the world";
-    let dump = folder_command(alloc, DUMP, about, DUMP_USAGE, DUMP_HELP)?;
+    let with_dump = with_command(alloc, with_export, DUMP, about, DUMP_USAGE, DUMP_HELP)?;
     let about = "Tells the half in use, its generation and how many records it has";
-    let verify = folder_command(alloc, VERIFY, about, VERIFY_USAGE, VERIFY_HELP)?;
-    bare_command(alloc)
-        .subcommand(run)?
-        .subcommand(snapshot)?
-        .subcommand(upgrade)?
-        .subcommand(export)?
-        .subcommand(dump)?
-        .subcommand(verify)
+    with_command(alloc, with_dump, VERIFY, about, VERIFY_USAGE, VERIFY_HELP)
 }
 
 // Whether a flag is there, by its value.

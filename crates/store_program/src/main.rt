@@ -13,7 +13,7 @@ use std::env;
 use std::io::{ErrorKind, IsTerminal, Write};
 use std::process::ExitCode;
 use store_commands::{
-    Console, SixFunctions, Status, end_with, macro_functions, program, program_at_terminal,
+    SixFunctions, Status, end_with, macro_functions, program, program_at_terminal,
 };
 use user_macros::{Answer, Call, Cause, MacroFn, MacroFunctions, Macros, Refusal};
 
@@ -37,12 +37,16 @@ fn serve<M: MacroFunctions + Drop, F: Write>(rt: &HostRuntime, macros: M, faults
     let mut output = rt.stdout();
     match words_given(rt) {
         Ok(words) if input.is_terminal() => {
-            let console = Console {
-                input: &mut input,
-                output: &mut output,
-                prompts: &mut rt.stderr(),
-            };
-            program_at_terminal(rt, macros, words.as_slice(), console, faults)
+            let mut prompts = rt.stderr();
+            program_at_terminal(
+                rt,
+                macros,
+                words.as_slice(),
+                &mut input,
+                &mut output,
+                &mut prompts,
+                faults,
+            )
         }
         Ok(words) => program(
             rt,

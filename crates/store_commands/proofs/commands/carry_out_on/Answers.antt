@@ -31,3 +31,18 @@ returns-in-Ok-export_on g c =
 pub returns-in-Ok-report_on : goal.returns-in-Ok-report_on
 returns-in-Ok-report_on g c =
     does_tell _ _ _ _ g.I.Read.remaining g.O.Write.contents _ _ _ _ _ _ c.args.task c.in-Ok-report_on.status c.in-Tell.report c.in-Tell.is c.in-Ok-report_on.ensures.reports refl
+
+pub returns-in-Err-upgrade_on : goal.returns-in-Err-upgrade_on
+returns-in-Err-upgrade_on g c =
+    does_not _ _ _ _ g.I.Read.remaining g.O.Write.contents _ _ _ _ _ _ c.in-Err-upgrade_on.unopened.disk c.args.task _ c.in-Err-upgrade_on.unopened.number
+    c.without_store-in-Err-upgrade_on.ensures.status c.without_store-in-Err-upgrade_on.ensures.disk c.in-Err-upgrade_on.ensures.refused.0 (refl, c.in-Err-upgrade_on.ensures.refused.1)
+
+pub returns-in-Err-export_on : goal.returns-in-Err-export_on
+returns-in-Err-export_on g c =
+    does_not _ _ _ _ g.I.Read.remaining g.O.Write.contents _ _ _ _ _ _ c.in-Err-export_on.unopened.disk c.args.task _ c.in-Err-export_on.unopened.number
+    c.without_store-in-Err-export_on.ensures.status c.without_store-in-Err-export_on.ensures.disk c.in-Err-export_on.ensures.refused.0 (refl, c.in-Err-export_on.ensures.refused.1)
+
+pub returns-in-Err-report_on : goal.returns-in-Err-report_on
+returns-in-Err-report_on g c =
+    does_not _ _ _ _ g.I.Read.remaining g.O.Write.contents _ _ _ _ _ _ c.in-Err-report_on.unopened.disk c.args.task _ c.in-Err-report_on.unopened.number
+    c.without_store-in-Err-report_on.ensures.status c.without_store-in-Err-report_on.ensures.disk c.in-Err-report_on.ensures.refused.0 (refl, c.in-Err-report_on.ensures.refused.1)

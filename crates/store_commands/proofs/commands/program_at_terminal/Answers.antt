@@ -12,5 +12,5 @@ returns-in-Ok-clause-ends g c =
 
 pub returns-in-Err-clause-ends : goal.returns-in-Err-clause-ends
 returns-in-Err-clause-ends g c =
-    ends_after (faults_of (map g.S.AsStr.text c.args.words.now)) (kind_of c.in-Err.error) c.end_with.result c.in-Err.ensures.faults
-    (subst (IsAfterWords (kind_of c.in-Err.error)) (sym c.end_with.ensures.status) c.answer_words-status.ensures.status)
+    ends_after (faults_of (map g.S.AsStr.text c.args.words.now)) (kind_of c.in-Err.refusal) c.end_with.result c.in-Err.ensures.faults
+    (subst (IsAfterWords (kind_of c.in-Err.refusal)) (sym c.end_with.ensures.status) c.answer_words-status.ensures.status)

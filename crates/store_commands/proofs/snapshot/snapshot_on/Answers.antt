@@ -1,8 +1,8 @@
 use Rattle.store_commands.proofs.Snapshots.{no_value}
 use Rattle.store_commands.proofs.snapshot.snapshot_on.Goals as goal
 
-pub write_outcome-requires-no_value : goal.write_outcome-requires-no_value
-write_outcome-requires-no_value g c =
+pub write_outcome-status-requires : goal.write_outcome-status-requires
+write_outcome-status-requires g c =
     let opened = c.in_ok-store.ensures.opened in
     no_value g.M.Meaning.Meaning.functions g.D.Disk.state c.in_ok-store.store c.snapshot-outcome.new.self opened.world c.snapshot-outcome.result
     (c.snapshot-outcome.ensures.answer opened.world opened.known)
