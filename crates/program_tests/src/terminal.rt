@@ -5,7 +5,7 @@ use crate::runs::{folder_for, words_of};
 use std::fs;
 use std::io::Write;
 use std::test::Fail;
-use store_commands::{Console, SixFunctions, program_at_terminal};
+use store_commands::{SixFunctions, program_at_terminal};
 
 /// What came of a program at a terminal, where this was typed: its status, its answers, its prompts and its faults.
 fn typed(rt: &HostRuntime, words: &[&str], input: &[u8]) -> (u8, Vec<u8>, Vec<u8>, Vec<u8>) {
@@ -14,14 +14,17 @@ fn typed(rt: &HostRuntime, words: &[&str], input: &[u8]) -> (u8, Vec<u8>, Vec<u8
     let mut output = Vec::new(alloc);
     let mut prompts = Vec::new(alloc);
     let mut faults = Vec::new(alloc);
-    let console = Console {
-        input: &mut reader,
-        output: &mut output,
-        prompts: &mut prompts,
-    };
     let macros = ByName::new(alloc, SixFunctions::new());
-    let status = program_at_terminal(rt, macros, words, console, &mut faults).code();
-    (status, output, prompts, faults)
+    let status = program_at_terminal(
+        rt,
+        macros,
+        words,
+        &mut reader,
+        &mut output,
+        &mut prompts,
+        &mut faults,
+    );
+    (status.code(), output, prompts, faults)
 }
 
 /// The text of it: the status and the answers, and after a line of hyphens the prompts and the faults.
