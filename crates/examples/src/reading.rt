@@ -19,7 +19,8 @@ pub enum ReadingError {
     Memory(#[from] AllocError),
 }
 
-/// The object that a text begins with, as it is printed.
+/// The object that a text begins with, as it is printed. Reading interns no symbol: one that the packages do not have is printed
+/// after its home.
 pub fn read_and_print(alloc: Global, text: &[u8]) -> Result<Vec<u8>, ReadingError> {
     let readtable = Readtable::standard(alloc)?;
     let packages = Packages::new(alloc)?;
