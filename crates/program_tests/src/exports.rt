@@ -29,7 +29,7 @@ fn is_made_again(rt: &HostRuntime, folder: &str, copy: &str) -> Result<bool, Fai
 }
 
 /// Sessions over one folder, each with its words: after each the world is exported.
-const SESSIONS: [(&str, &[u8]); 7] = [
+const SESSIONS: [(&str, &[u8]); 8] = [
     ("run DIR", b""),
     (
         "run DIR",
@@ -46,6 +46,10 @@ const SESSIONS: [(&str, &[u8]); 7] = [
     (
         "run DIR",
         b"(COPY-READTABLE :STANDARD :|r s|)(SETF (READTABLE-CASE :|r s|) :INVERT)(SET-MACRO-CHARACTER #\\[ :SQUARE NIL :|r s|)",
+    ),
+    (
+        "run DIR",
+        b"(SET-SYNTAX-FROM-CHAR #\\! #\\')(SET-SYNTAX-FROM-CHAR #\\% #\\#)(SET-SYNTAX-FROM-CHAR #\\& #\\Rubout)(SETF (GET :K 'C) '|a|)",
     ),
     (
         "run DIR",
