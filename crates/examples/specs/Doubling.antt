@@ -1,9 +1,8 @@
 -- A macro function of one's own: DOUBLE reads an object and answers twice the integer; it refuses anything else.
-use Rattle.std.specs.Prelude.{ℕ, ◌*ℤ◌, pos, if◌then◌else◌, List, [], ◌∷◌, Option, Some, None, codes}
+use Rattle.std.specs.Prelude.{◌*ℤ◌, pos, if◌then◌else◌, [], ◌∷◌, Some, None, codes}
 use Rattle.readtable_core.specs.Names.{same_name}
 use Rattle.lisp_object.specs.Object.{integer}
 use Rattle.lisp_operators.specs.Properties.{is_in_range}
-use Rattle.user_macros.specs.declared.call.Gather.{Gather}
 use Rattle.user_macros.specs.declared.call.Gather.TheVariants.{Next}
 use Rattle.user_macros.specs.Calls.{Material, one, MacroAnswer, value, refused}
 use Rattle.user_macros.specs.Functions.{Functions}

@@ -9,7 +9,7 @@ use thiserror::Error;
 use user_macros::{Macros, NoFunctions};
 
 /// How many bytes each of the two files of the store may have.
-const HALF_LIMIT: u64 = 1 << 20;
+pub const HALF_LIMIT: u64 = 1 << 20;
 
 /// One more than the number that the store has, or 1.
 const COUNT: &[u8] = b"(IF (GET 'N 'VALUE) (INCF (GET 'N 'VALUE)) (SETF (GET 'N 'VALUE) 1))";

@@ -4,14 +4,14 @@ ghost use Rattle.user_macros.specs.Calls.{answer_of, call_of, material_of};
 ghost use Rattle.user_macros.specs.Sound.{IsSoundCall};
 ghost use Rattle.examples.specs.Doubling.{doubled, doubling};
 
-use crate::folder::StoreError;
+use crate::folder::{HALF_LIMIT, StoreError};
 use disk_trait::MemoryDisk;
 use lisp_object::Datum;
 use prevalence_store::{Ending, Mode, Store};
 use readtable_core::FnName;
 use std::alloc::{AllocError, Global};
 use std::io::Write;
-use user_macros::{Answer, Call, Gather, Gathered, MacroFn, Macros, Meaning};
+use user_macros::{Answer, Call, Gather, Gathered, MacroFn, MacroFunctions, Macros, Meaning};
 
 /// The functions of this program: DOUBLE alone.
 #[derive(Drop)]
@@ -76,7 +76,18 @@ pub fn serve_doubled<W: Write>(alloc: Global, output: &mut W) -> Result<(), Stor
     if macros.register(names[0], function).is_err() {
         return Err(StoreError::Memory(AllocError));
     }
-    let mut store = match Store::open(alloc, MemoryDisk::new(alloc), macros, 1 << 20) {
+    serve(alloc, macros, output)
+}
+
+// Serves the forms with these macro functions.
+fn serve<M: MacroFunctions + Drop, W: Write>(
+    alloc: Global,
+    macros: M,
+    output: &mut W,
+) -> Result<(), StoreError>
+    requires { M.answers macros }
+{
+    let mut store = match Store::open(alloc, MemoryDisk::new(alloc), macros, HALF_LIMIT) {
         Ok(store) => store,
         Err(unopened) => return Err(StoreError::Refused(unopened.number)),
     };

@@ -14,7 +14,7 @@ use std::io::Write;
 
 fn main(rt: HostRuntime) -> Result<()> {
     let mut output = rt.stdout();
-    let read = reading::read_and_print(rt.alloc(), b"(A \"text\" #xFF . 1/2) and more")?;
+    let read = reading::read_and_print(rt.alloc(), b"(LIST \"text\" #xFF . 1/2) and more")?;
     output.write_all(read.as_slice())?;
     output.write_all(b"\n")?;
     let number = folder::next_number(&rt, "numbers")?;

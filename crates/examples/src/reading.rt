@@ -19,10 +19,12 @@ pub enum ReadingError {
     Memory(#[from] AllocError),
 }
 
-/// The object that a text begins with, as it is printed.
+/// The object that a text begins with, as it is printed. Reading interns no symbol: one that the packages do not have is printed
+/// after its home.
 pub fn read_and_print(alloc: Global, text: &[u8]) -> Result<Vec<u8>, ReadingError> {
     let readtable = Readtable::standard(alloc)?;
     let packages = Packages::new(alloc)?;
+    packages.soundness();
     let macros = Macros::new(alloc, NoFunctions);
     let current = COMMON_LISP_USER;
     let limits = Limits::form();

@@ -16,7 +16,7 @@ pub enum Stop {
 }
 
 /// The crashes after a stop. The first leaves the files as they read.
-const CRASHES: [Crash; 4] = [
+pub const CRASHES: [Crash; 4] = [
     Crash::Kept,
     Crash::Lost,
     Crash::Filled(0xa5),

@@ -50,6 +50,7 @@ pub fn all_forms(alloc: Global, world: &World, content: Content) -> Result<Expor
 /// One form that makes the package, and with the readtables the read base and the readtable, of a world current: the next one would
 /// be read under them.
 fn push_current(forms: &mut Vec<u8>, world: &World, content: Content) -> Result<(), AllocError> {
+    world.soundness();
     forms.extend_from_slice(b"(PROGN (IN-PACKAGE ")?;
     push_text(forms, world.current_package())?;
     forms.push(b')')?;

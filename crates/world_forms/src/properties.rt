@@ -1,4 +1,7 @@
 //! The forms that make the properties.
+ghost use Rattle.std.specs.Prelude.{◌≡◌, true};
+ghost use Rattle.lisp_object.specs.Datum.{is_proper};
+
 use crate::texts::push_symbol;
 use canon_printer::print;
 use form_reader::{Limits, ReadOutcome, read_one};

@@ -1,4 +1,6 @@
 //! The forms that make the readtables.
+ghost use Rattle.std.specs.Prelude.{◌<◌, IfSome};
+
 use crate::texts::{push_character, push_symbol};
 use package_table::Packages;
 use package_table::standardized::KEYWORD;
@@ -132,7 +134,10 @@ impl Forms<'_> {
             self.push_keyword(text, table.case().name())?;
             text.extend_from_slice(b")\n")?;
         }
-        for (entry, c) in table.entries().iter().zip(0..128u8) {
+        for c in 0..128u8 {
+            let Some(entry) = table.entries().get(usize::from(c)) else {
+                continue;
+            };
             if !table.same_entry(self.standard, c) {
                 self.push_entry(text, c, entry)?;
             }

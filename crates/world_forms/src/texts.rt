@@ -1,4 +1,6 @@
 //! Names, texts, symbols and characters as they stand in a form.
+ghost use Rattle.std.specs.Prelude.{◌<◌};
+
 use canon_printer::print;
 use lisp_object::Datum;
 use package_table::Packages;
