@@ -14,5 +14,5 @@ returns-in-Err g c =
 
 pub returns : goal.returns
 returns g c =
-    performs_on _ _ _ _ g.I.Read.remaining g.O.Write.contents _ _ _ _ c.in-Ok.disk c.carry_out_on-status.result.1 c.args.asked.folder.now c.args.asked.task c.carry_out_on-status.result.0
-    c.in-Ok.ensures.1 c.carry_out_on-status.ensures
+    performs_on _ _ _ _ g.I.Read.remaining g.O.Write.contents _ _ _ _ c.in-Ok-open_folder.disk c.carry_out_on-status.result.1 c.args.asked.folder.now c.args.asked.task c.carry_out_on-status.result.0
+    c.in-Ok-open_folder.ensures.1 c.carry_out_on-status.ensures

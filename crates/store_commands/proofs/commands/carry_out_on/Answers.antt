@@ -26,7 +26,7 @@ returns-in-Ok-upgrade_on g c =
 
 pub returns-in-Ok-export_on : goal.returns-in-Ok-export_on
 returns-in-Ok-export_on g c =
-    does_export _ _ _ _ g.I.Read.remaining g.O.Write.contents _ _ _ _ _ _ c.args.task c.in-Ok-export_on.status c.in-Export.field-0 c.in-Export.is c.in-Ok-export_on.ensures.exports refl
+    does_export _ _ _ _ g.I.Read.remaining g.O.Write.contents _ _ _ _ _ _ c.args.task c.in-Ok-export_on.status c.in-Export.content c.in-Export.is c.in-Ok-export_on.ensures.exports refl
 
 pub returns-in-Ok-report_on : goal.returns-in-Ok-report_on
 returns-in-Ok-report_on g c =

@@ -4,8 +4,10 @@ use Rattle.store_commands.proofs.snapshot.snapshot_on.Goals as goal
 pub write_outcome-status-requires : goal.write_outcome-status-requires
 write_outcome-status-requires g c =
     let opened = c.in_ok-store.ensures.opened in
-    no_value g.M.Meaning.Meaning.functions g.D.Disk.state c.in_ok-store.store c.snapshot-outcome.new.self opened.world c.snapshot-outcome.result
-    (c.snapshot-outcome.ensures.answer opened.world opened.known)
+    record {
+      no_value = no_value g.M.Meaning.Meaning.functions g.D.Disk.state c.in_ok-store.store c.snapshot-outcome.new.self opened.world c.snapshot-outcome.result
+          (c.snapshot-outcome.ensures.answer opened.world opened.known);
+    }
 
 pub returns-clause-snapshots : goal.returns-clause-snapshots
 returns-clause-snapshots g c =

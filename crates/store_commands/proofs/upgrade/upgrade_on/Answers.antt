@@ -4,8 +4,10 @@ use Rattle.store_commands.proofs.upgrade.upgrade_on.Goals as goal
 pub write_upgrade-status-requires : goal.write_upgrade-status-requires
 write_upgrade-status-requires g c =
     let opened = c.in_ok-store.ensures.opened in
-    upgrade_has_no_value g.M.Meaning.Meaning.functions g.D.Disk.state c.in_ok-store.store c.upgraded-outcome.new.store opened.world c.upgraded-outcome.result
-    (c.upgraded-outcome.ensures.upgrades opened.world opened.known)
+    record {
+      no_value = upgrade_has_no_value g.M.Meaning.Meaning.functions g.D.Disk.state c.in_ok-store.store c.upgraded-outcome.new.store opened.world c.upgraded-outcome.result
+          (c.upgraded-outcome.ensures.upgrades opened.world opened.known);
+    }
 
 pub returns-clause-upgrades : goal.returns-clause-upgrades
 returns-clause-upgrades g c =
