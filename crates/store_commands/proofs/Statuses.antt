@@ -9,7 +9,7 @@ use Rattle.store_commands.specs.declared.status.Status.{Status}
 use Rattle.store_commands.specs.declared.status.Status.TheVariants.{Done, Helped, ReaderRefused, WordsRefused, LeftOut, Fault}
 use Rattle.store_commands.specs.Commands.{IsEarlyFault, is_of_opening}
 use Rattle.store_commands.specs.Status.{EndsAfter, HasFaultNumber, IsAfterOneOf, IsAfterWords, IsCarriedOut, IsFaultNumber, IsOfWords, TakesWords, status_of_ending, status_of_host}
-use Rattle.lisp_object.specs.declared.refusal.TheConstants.{DEVICE, NO_MEMORY, OUTPUT}
+use Rattle.lisp_object.specs.declared.refusal.TheConstants.{NO_MEMORY, OUTPUT}
 use Rattle.disk_trait.specs.declared.host.HostError.{HostError}
 use Rattle.disk_trait.specs.declared.host.HostError.TheVariants as host
 

@@ -14,7 +14,7 @@ use Rattle.store_commands.specs.Session.{AnswersInput, IsBrokenOff, IsSession, R
 use Rattle.store_commands.specs.Status.{HasFaultNumber, IsCarriedOut, TakesWords, status_of_ending}
 use Rattle.store_commands.specs.Texts.{IsFront}
 use Rattle.store_commands.specs.declared.status.Status.{Status}
-use Rattle.store_commands.specs.declared.status.Status.TheVariants.{Fault, Helped, WordsRefused}
+use Rattle.store_commands.specs.declared.status.Status.TheVariants.{Fault, WordsRefused}
 use Rattle.store_commands.specs.declared.words.Report.TheVariants.{Dump, Verify}
 use Rattle.store_commands.specs.declared.words.Task.{Task}
 use Rattle.store_commands.specs.declared.words.Task.TheVariants.{Export, Run, Snapshot, Tell, Upgrade}

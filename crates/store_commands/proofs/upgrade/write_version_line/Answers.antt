@@ -1,6 +1,5 @@
-use Rattle.std.proofs.Common.{◌≡◌, ◌∙◌, ◌++◌, ◌∷◌, [], List, ℕ, ap, subst, codes}
+use Rattle.std.proofs.Common.{◌≡◌, ◌∙◌, ◌++◌, ap, subst}
 use Rattle.std.proofs.lemmas.Fmt.{contents_after_writes}
-use Rattle.std.specs.Prelude.{decimal}
 use Rattle.store_commands.specs.Report.{version_line}
 use Rattle.store_commands.specs.Texts.{WritesOut}
 use Rattle.store_commands.proofs.upgrade.write_version_line.Given as given
