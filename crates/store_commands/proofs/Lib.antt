@@ -1,4 +1,5 @@
 mod Answered
+pub mod AtTerminal
 pub mod CommandLineLaws
 pub mod FoundWords
 pub mod Fronts

@@ -8,9 +8,11 @@ use Rattle.plist_state.specs.State.{WorldState}
 use Rattle.world_text.specs.Snapshot.{snapshot}
 use Rattle.user_macros.specs.Functions.{Functions}
 use Rattle.prevalence_store.specs.calls.Open.{IsUnopened}
+use Rattle.prevalence_store.specs.declared.mode.Mode.{Mode}
 use Rattle.prevalence_store.specs.declared.outcome.Ending.{Ending}
 use Rattle.store_commands.specs.Report.{DumpsWorld, IsExport, IsReport, IsSnapshot, IsUpgrade, TellsHalf, TellsVersion, WritesForms, half_line, version_line}
 use Rattle.store_commands.specs.Session.{AnswersInput, IsBrokenOff, IsSession, ReadsToEnd, half_limit}
+use Rattle.store_commands.specs.Sessions.{AreSessions}
 use Rattle.store_commands.specs.Status.{HasFaultNumber, IsCarriedOut, TakesWords, status_of_ending}
 use Rattle.store_commands.specs.Texts.{IsFront}
 use Rattle.store_commands.specs.declared.status.Status.{Status}
@@ -122,6 +124,31 @@ module _ (functions : Functions) {D R : Type 0} (state : D → State) (macros : 
     -- after a fault
     pub breaks_off : (text had : List ℕ) (number : ℕ) → remaining input ≡ Some text → contents held ≡ Some had → status ≡ Fault number
         → TaskBreaksOff functions task text had (contents written)
+
+-- ---- at a terminal
+
+module _ (functions : Functions) {D R : Type 0} (state : D → State) (macros : R) (whole : Bool) (held written : Option (List ℕ)) where
+  -- Sessions in a row went so over the store that a disk holds, and the status is that of the last one; or the store is not opened,
+  -- and nothing is written. The first disk becomes the second.
+  abbrev pub SitsOn : D → D → Mode → ℕ → Status → Type 0
+  SitsOn disk back mode every status =
+      ((ending : Ending) × (status ≡ status_of_ending ending) × AreSessions functions mode every state disk macros held written ending back)
+      ⊎ (TellsUnopened functions state disk back whole status × (written ≡ held))
+
+  -- There is no memory, no seed, or the folder is not opened, and nothing is written; or they went so over some disk of this type.
+  abbrev pub Sits : Mode → ℕ → Status → Type 0
+  Sits mode every status =
+      (IsEarlyFault status × (written ≡ held)) ⊎ ((disk : D) × (back : D) × SitsOn disk back mode every status)
+
+module _ (functions : Functions) {D R : Type 0} (state : D → State) (macros : R) (whole : Bool)
+    {I O : Type 0} (remaining : I → Option (List ℕ)) (contents : O → Option (List ℕ)) (input left : I) (held written : O) where
+  -- `run` is sessions in a row there; each other task is as anywhere
+  abbrev pub PerformsAtTerminal : Text → Task → Status → Type 0
+  PerformsAtTerminal folder (Run mode every) status = Sits functions state macros whole (contents held) (contents written) mode every status
+  PerformsAtTerminal folder Snapshot status = Performs functions state macros whole remaining contents input left held written folder Snapshot status
+  PerformsAtTerminal folder Upgrade status = Performs functions state macros whole remaining contents input left held written folder Upgrade status
+  PerformsAtTerminal folder (Export content) status = Performs functions state macros whole remaining contents input left held written folder (Export content) status
+  PerformsAtTerminal folder (Tell report) status = Performs functions state macros whole remaining contents input left held written folder (Tell report) status
 
 -- The words have a mistake, or ask for help: no task is done, and nothing is read. Where they are refused, or memory ran out, nothing
 -- goes to the output.

@@ -4,7 +4,7 @@ ghost use Rattle.clap.specs.Words.{Text, kind_of};
 ghost use Rattle.user_macros.specs.Functions.{are_registered};
 ghost use Rattle.store_commands.specs.declared.words.Task.{Task};
 ghost use Rattle.store_commands.specs.CommandLine.{AsksFor, IsTaken, faults_of};
-ghost use Rattle.store_commands.specs.Commands.{DoesOn, Performs, PerformsNone};
+ghost use Rattle.store_commands.specs.Commands.{DoesOn, Performs, PerformsAtTerminal, PerformsNone, Sits};
 ghost use Rattle.store_commands.specs.Session.{TellsFault};
 ghost use Rattle.store_commands.specs.Status.{EndsAfter, HasFaultNumber, IsAfterWords, IsOfWords, IsQuiet, TakesWords};
 
@@ -14,7 +14,7 @@ use crate::session::serve_on;
 use crate::sessions::sessions_on;
 use crate::snapshot::snapshot_on;
 use crate::status::Status;
-use crate::terminal::{Answers, Terminal};
+use crate::terminal::Sessions;
 use crate::told::{Told, end_with, end_with_told};
 use crate::upgrade::upgrade_on;
 use crate::words::{Asked, Task, asked_in};
@@ -24,7 +24,6 @@ use lisp_object::refusal::{INPUT, NO_MEMORY, OUTPUT};
 use plist_state::Seed;
 use prevalence_store::{Mode, Unopened};
 use std::alloc::Global;
-use std::cell::Cell;
 use std::convert::AsStr;
 use std::fs::File;
 use std::io::{Read, Write};
@@ -90,32 +89,36 @@ where
 
 /// Does what the words ask for, as `program`, where the input is a terminal. `run` is sessions in a row on one open store then: after
 /// a refusal of the reader the rest of the line is dropped, and the next session begins; the status is that of the last one.
-/// Before each line a prompt goes to `prompts`.
-pub fn program_at_terminal<R, M, S, I, O, P, F>(
+pub fn program_at_terminal<R, M, S, I, O, F>(
     rt: &R,
     macros: M,
     words: &[S],
     input: &mut I,
     output: &mut O,
-    prompts: &mut P,
     faults: &mut F,
 ) -> Status
 where
     R: Files<File = File> + RandomSource + AllocGlobal,
     M: MacroFunctions + Drop,
     S: AsStr,
-    I: Read,
+    I: Sessions,
     O: Write,
-    P: Write,
     F: Write,
     requires answers { M.answers macros }
     ensures ends { EndsAfter (faults_of (map S.text words.now)) result }
+    ensures taken { (folder : Text) (existing : Bool) (task : Task)
+        → IsTaken (map S.text words.now) folder existing task
+        → PerformsAtTerminal M.Meaning.functions ⟦<HostDisk as Disk>⟧.state macros
+        (are_registered M.Meaning.functions (M.functions macros)) I.remaining O.contents
+        input.old input.new output.old output.new folder task result }
+    ensures untaken { (faults_of (map S.text words.now) ≡ [] → ⊥)
+        → PerformsNone input.old input.new output.old output.new result }
     ensures told { TellsFault result (F.contents faults.old) (F.contents faults.new) }
     ensures quiet { IsQuiet result → faults.new ≡ faults.old }
 {
     match asked_in(rt.alloc(), words) {
         Ok(asked) => {
-            let (status, told) = carry_out_at_terminal(rt, macros, asked, input, output, prompts);
+            let (status, told) = carry_out_at_terminal(rt, macros, asked, input, output);
             end_with_told(faults, status, &told)
         }
         Err(refusal) => {
@@ -126,43 +129,35 @@ where
 }
 
 // Carries a task out over the store in a folder, a session as sessions in a row.
-fn carry_out_at_terminal<R, M, I, O, P>(
+fn carry_out_at_terminal<R, M, I, O>(
     rt: &R,
     macros: M,
     asked: Asked<'_>,
     input: &mut I,
     output: &mut O,
-    prompts: &mut P,
 ) -> (Status, Told)
 where
     R: Files<File = File> + RandomSource + AllocGlobal,
     M: MacroFunctions + Drop,
-    I: Read,
+    I: Sessions,
     O: Write,
-    P: Write,
     requires answers { M.answers macros }
-    ensures { TakesWords result.0 }
+    ensures taken { TakesWords result.0 }
+    ensures performs { PerformsAtTerminal M.Meaning.functions ⟦<HostDisk as Disk>⟧.state macros
+        (are_registered M.Meaning.functions (M.functions macros)) I.remaining O.contents
+        input.old input.new output.old output.new asked.entry.folder.now asked.entry.task result.0 }
 {
     match asked.task {
         Task::Run {
             mode,
             snapshot_every,
-        } => sit(
-            rt,
-            macros,
-            asked,
-            mode,
-            snapshot_every,
-            input,
-            output,
-            prompts,
-        ),
+        } => sit(rt, macros, asked, mode, snapshot_every, input, output),
         _ => carry_out(rt, macros, asked, input, output),
     }
 }
 
 // Serves sessions in a row at a terminal over the store in a folder, and tells what is to be told of them on standard error.
-fn sit<R, M, I, O, P>(
+fn sit<R, M, I, O>(
     rt: &R,
     macros: M,
     asked: Asked<'_>,
@@ -170,16 +165,17 @@ fn sit<R, M, I, O, P>(
     snapshot_every: u64,
     input: &mut I,
     output: &mut O,
-    prompts: &mut P,
 ) -> (Status, Told)
 where
     R: Files<File = File> + RandomSource + AllocGlobal,
     M: MacroFunctions + Drop,
-    I: Read,
+    I: Sessions,
     O: Write,
-    P: Write,
     requires answers { M.answers macros }
-    ensures { TakesWords result.0 }
+    ensures taken { TakesWords result.0 }
+    ensures sits { Sits M.Meaning.functions ⟦<HostDisk as Disk>⟧.state macros
+        (are_registered M.Meaning.functions (M.functions macros)) (O.contents output.old) (O.contents output.new)
+        mode snapshot_every result.0 }
 {
     // the seed comes before the folder, so that nothing is made if there is none
     let Ok(seed) = Seed::draw(rt) else {
@@ -189,19 +185,15 @@ where
         Ok(disk) => disk,
         Err(error) => return (Status::of_host(&error), Told::Cause(error)),
     };
-    let answered = Cell::new(false);
-    let mut terminal = Terminal::new(input, prompts, &answered);
-    let mut answers = Answers::new(output, &answered);
-    let alloc = rt.alloc();
     match sessions_on(
-        alloc,
+        rt.alloc(),
         disk,
         macros,
         seed,
         mode,
         snapshot_every,
-        &mut terminal,
-        &mut answers,
+        input,
+        output,
     ) {
         Ok((ending, disk, _macros)) => (Status::of_ending(ending), cause_of(&disk)),
         Err(unopened) => (Status::Fault(unopened.number), cause_of(&unopened.disk)),

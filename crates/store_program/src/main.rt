@@ -9,11 +9,13 @@ ghost use Rattle.user_macros.specs.Functions.{are_registered};
 use lisp_object::refusal::NO_MEMORY;
 use readtable_core::FnName;
 use std::alloc::AllocError;
+use std::cell::Cell;
 use std::env;
 use std::io::{ErrorKind, IsTerminal, Write};
 use std::process::ExitCode;
 use store_commands::{
-    SixFunctions, Status, end_with, macro_functions, program, program_at_terminal,
+    Answers, SixFunctions, Status, Terminal, end_with, macro_functions, program,
+    program_at_terminal,
 };
 use user_macros::{Answer, Call, Cause, MacroFn, MacroFunctions, Macros, Refusal};
 
@@ -33,27 +35,16 @@ fn serve<M: MacroFunctions + Drop, F: Write>(rt: &HostRuntime, macros: M, faults
     requires answers { M.answers macros }
     requires whole { are_registered M.Meaning.functions (M.functions macros) ≡ true }
 {
-    let mut input = rt.stdin();
-    let mut output = rt.stdout();
     match words_given(rt) {
-        Ok(words) if input.is_terminal() => {
-            let mut prompts = rt.stderr();
-            program_at_terminal(
-                rt,
-                macros,
-                words.as_slice(),
-                &mut input,
-                &mut output,
-                &mut prompts,
-                faults,
-            )
+        Ok(words) if rt.stdin().is_terminal() => {
+            serve_at_terminal(rt, macros, words.as_slice(), faults)
         }
         Ok(words) => program(
             rt,
             macros,
             words.as_slice(),
-            &mut input,
-            &mut output,
+            &mut rt.stdin(),
+            &mut rt.stdout(),
             faults,
         ),
         Err(Status::WordsRefused) => {
@@ -62,6 +53,21 @@ fn serve<M: MacroFunctions + Drop, F: Write>(rt: &HostRuntime, macros: M, faults
         }
         Err(status) => end_with(faults, status),
     }
+}
+
+// The same at a terminal, whose prompts go to standard error.
+fn serve_at_terminal<M: MacroFunctions + Drop, F: Write>(
+    rt: &HostRuntime,
+    macros: M,
+    words: &[String],
+    faults: &mut F,
+) -> Status
+    requires answers { M.answers macros }
+{
+    let answered = Cell::new(false);
+    let mut input = Terminal::new(rt.stdin(), rt.stderr(), &answered);
+    let mut output = Answers::new(rt.stdout(), &answered);
+    program_at_terminal(rt, macros, words, &mut input, &mut output, faults)
 }
 
 // What comes of registering a function whose name is known and not taken: only memory can refuse it.
