@@ -23,10 +23,12 @@ class Terminal:
         os.close(slave)
         self.seen = {self.process.stdout: b"", self.process.stderr: b""}
 
-    def settle(self, seconds=0.3):
-        """Reads what comes until nothing has come for a while."""
+    def settle(self):
+        """Waits until something comes, and reads it until nothing has come for a while."""
+        seconds = 20
         while True:
             ready, _, _ = select.select(list(self.seen), [], [], seconds)
+            seconds = 0.3
             if not ready:
                 return
             some = False
@@ -67,7 +69,7 @@ def check(name, got, want):
 with tempfile.TemporaryDirectory() as room:
     store = os.path.join(room, "store")
     it = Terminal("run", store)
-    it.settle(1)
+    it.settle()
     check("welcome", it.seen[it.process.stderr].decode(), WELCOME + "> ")
     check("a form", it.type("(SETF (GET 'A 'B) 7)\n"), ("7\n", "> "))
     check("a token", it.type("12\n"), ("12\n", "> "))
@@ -87,23 +89,23 @@ with tempfile.TemporaryDirectory() as room:
     check("the end", it.end(), (("", "\n"), 0))
 
     it = Terminal("run", store, "--rescue")
-    it.settle(1)
+    it.settle()
     it.type(")\n")
     check("the status of the last session", it.end()[1], 0)
 
     it = Terminal("run", store)
-    it.settle(1)
+    it.settle()
     it.type("(LIST\n")
     last, status = it.end()
     check("the end inside a form", (last[0], status), ("! 1 END-OF-FILE\n", 1))
 
     it = Terminal("verify", store)
-    it.settle(1)
+    it.settle()
     told = (it.seen[it.process.stdout].decode()[:6], it.seen[it.process.stderr], it.process.wait(timeout=20))
     check("another command asks for nothing", told, ("half A", b"", 0))
 
     it = Terminal("run", store + "2", "--existing")
-    it.settle(1)
+    it.settle()
     check("a fault", (it.seen[it.process.stderr].decode(), it.process.wait(timeout=20)), ("! 60 DEVICE\nthere is no store in this folder\n", 3))
 
     piped = subprocess.run([program, "run", store], input=b"(GET 'A 'B)\n) 5\n", capture_output=True)
