@@ -2,26 +2,28 @@
 
 use crate::by_name::ByName;
 use crate::runs::{folder_for, words_of};
+use std::cell::Cell;
 use std::fs;
 use std::io::Write;
 use std::test::Fail;
-use store_commands::{SixFunctions, program_at_terminal};
+use store_commands::{Answers, SixFunctions, Terminal, program_at_terminal};
 
 /// What came of a program at a terminal, where this was typed: its status, its answers, its prompts and its faults.
 fn typed(rt: &HostRuntime, words: &[&str], input: &[u8]) -> (u8, Vec<u8>, Vec<u8>, Vec<u8>) {
     let alloc = rt.alloc();
-    let mut reader = input;
     let mut output = Vec::new(alloc);
     let mut prompts = Vec::new(alloc);
     let mut faults = Vec::new(alloc);
+    let answered = Cell::new(false);
+    let mut terminal = Terminal::new(input, &mut prompts, &answered);
+    let mut answers = Answers::new(&mut output, &answered);
     let macros = ByName::new(alloc, SixFunctions::new());
     let status = program_at_terminal(
         rt,
         macros,
         words,
-        &mut reader,
-        &mut output,
-        &mut prompts,
+        &mut terminal,
+        &mut answers,
         &mut faults,
     );
     (status.code(), output, prompts, faults)
