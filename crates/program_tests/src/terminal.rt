@@ -4,9 +4,26 @@ use crate::by_name::ByName;
 use crate::runs::{folder_for, words_of};
 use std::cell::Cell;
 use std::fs;
-use std::io::Write;
+use std::io::{Read, Write};
 use std::test::Fail;
 use store_commands::{Answers, SixFunctions, Terminal, program_at_terminal};
+
+/// The status of a program at a terminal, with these streams. They are parameters of types of their own, as the terminal would
+/// else hold borrows that last differently.
+fn sit<I: Read + Drop, O: Write + Drop, P: Write + Drop>(
+    rt: &HostRuntime,
+    words: &[&str],
+    input: I,
+    output: O,
+    prompts: P,
+    faults: &mut Vec<u8>,
+) -> u8 {
+    let answered = Cell::new(false);
+    let mut terminal = Terminal::new(input, prompts, &answered);
+    let mut answers = Answers::new(output, &answered);
+    let macros = ByName::new(rt.alloc(), SixFunctions::new());
+    program_at_terminal(rt, macros, words, &mut terminal, &mut answers, faults).code()
+}
 
 /// What came of a program at a terminal, where this was typed: its status, its answers, its prompts and its faults.
 fn typed(rt: &HostRuntime, words: &[&str], input: &[u8]) -> (u8, Vec<u8>, Vec<u8>, Vec<u8>) {
@@ -14,19 +31,8 @@ fn typed(rt: &HostRuntime, words: &[&str], input: &[u8]) -> (u8, Vec<u8>, Vec<u8
     let mut output = Vec::new(alloc);
     let mut prompts = Vec::new(alloc);
     let mut faults = Vec::new(alloc);
-    let answered = Cell::new(false);
-    let mut terminal = Terminal::new(input, &mut prompts, &answered);
-    let mut answers = Answers::new(&mut output, &answered);
-    let macros = ByName::new(alloc, SixFunctions::new());
-    let status = program_at_terminal(
-        rt,
-        macros,
-        words,
-        &mut terminal,
-        &mut answers,
-        &mut faults,
-    );
-    (status.code(), output, prompts, faults)
+    let status = sit(rt, words, input, &mut output, &mut prompts, &mut faults);
+    (status, output, prompts, faults)
 }
 
 /// The text of it: the status and the answers, and after a line of hyphens the prompts and the faults.
