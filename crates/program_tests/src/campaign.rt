@@ -98,13 +98,16 @@ fn acknowledged(text: &[u8], whole: &[u8]) -> Option<(usize, bool)> {
     Some((count, has_stopped))
 }
 
-const WORLD: [Ask<'static>; 1] = [Ask::World];
+/// The text of the world that a disk holds.
+fn world_of(alloc: Global, disk: MemoryDisk) -> Result<Vec<u8>, Trouble> {
+    told(alloc, disk, &[Ask::World])
+}
 
 /// The text of the world after forms over these files.
 fn world_after(alloc: Global, files: &Files, forms: &[Step<'_>]) -> Result<Vec<u8>, Trouble> {
     let disk = disk_with(alloc, files)?;
     let (_text, disk) = asked(alloc, disk, AMPLE, &[Ask::Run(forms)])?;
-    told(alloc, disk, &WORLD)
+    world_of(alloc, disk)
 }
 
 /// The texts of the worlds after none of the forms, after one, after two and so on.

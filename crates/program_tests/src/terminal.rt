@@ -2,26 +2,35 @@
 
 use crate::by_name::ByName;
 use crate::runs::{folder_for, words_of};
+use readtable_core::FnName;
 use std::cell::Cell;
 use std::fs;
 use std::io::{Read, Write};
 use std::test::Fail;
 use store_commands::{Answers, SixFunctions, Terminal, program_at_terminal};
+use user_macros::MacroFunctions;
 
 /// The status of a program at a terminal, with these streams. They are parameters of types of their own, as the terminal would
 /// else hold borrows that last differently.
-fn sit<I: Read + Drop, O: Write + Drop, P: Write + Drop>(
+fn sit<M, I, O, P>(
     rt: &HostRuntime,
+    macros: M,
     words: &[&str],
     input: I,
     output: O,
     prompts: P,
     faults: &mut Vec<u8>,
-) -> u8 {
+) -> u8
+where
+    M: MacroFunctions + Drop,
+    I: Read + Drop,
+    O: Write + Drop,
+    P: Write + Drop,
+    requires answers { M.answers macros }
+{
     let answered = Cell::new(false);
     let mut terminal = Terminal::new(input, prompts, &answered);
     let mut answers = Answers::new(output, &answered);
-    let macros = ByName::new(rt.alloc(), SixFunctions::new());
     program_at_terminal(rt, macros, words, &mut terminal, &mut answers, faults).code()
 }
 
@@ -31,7 +40,18 @@ fn typed(rt: &HostRuntime, words: &[&str], input: &[u8]) -> (u8, Vec<u8>, Vec<u8
     let mut output = Vec::new(alloc);
     let mut prompts = Vec::new(alloc);
     let mut faults = Vec::new(alloc);
-    let status = sit(rt, words, input, &mut output, &mut prompts, &mut faults);
+    // the borrow checker has to be told of the type of a name, which the macro functions hold
+    let _name = FnName::new(b"SQUARE");
+    let macros = ByName::new(alloc, SixFunctions::new());
+    let status = sit(
+        rt,
+        macros,
+        words,
+        input,
+        &mut output,
+        &mut prompts,
+        &mut faults,
+    );
     (status, output, prompts, faults)
 }
 
