@@ -137,6 +137,13 @@ def lengths(folder):
     yield "half B is closed, and long", folder.run(options=["--snapshot-every", "1"]), SERVED, b"8\n"
     want(os.path.getsize(folder.b) < 1000, "half B was not cut")
     folder.anew()
+    size = os.path.getsize(folder.a)
+    os.truncate(folder.a, 1 << 40)
+    got = folder.run()
+    os.truncate(folder.a, size)
+    # a half that is in use is read whole (docs/operating.md)
+    yield "half A is in use, and goes on past its records", got, OUT_OF_MEMORY, b"7\n"
+    folder.anew()
     with open(folder.b, "wb") as file:
         file.write(LATER + (10).to_bytes(4, "big"))
     got = folder.run()
