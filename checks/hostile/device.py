@@ -57,7 +57,7 @@ def disturbed(room, one, loaded, number, mode, kinds):
         want(got.status == 3 and got.err in told, where, "the fault was not told:", got)
     else:
         want(is_as_ever or got.status == 3, where, got)
-    kinds["as ever" if is_as_ever else "ended" if got.status == 99 else got.err.decode().strip()] += 1
+    kinds["as ever" if is_as_ever else "ended" if got.status == 99 else got.err.decode().strip() or "nothing can be told"] += 1
     check(room, one, got)
     return True
 

@@ -52,7 +52,7 @@ def two_processes(room):
     """A second process on the folder is refused; the first one goes on, and nothing of it is lost."""
     room.put(None)
     first = subprocess.Popen([room.program, "run", room.store], stdin=subprocess.PIPE, stdout=subprocess.PIPE, stderr=subprocess.PIPE)
-    half, end = os.path.join(room.store, "half-a"), time.monotonic() + 10
+    half, end = os.path.join(room.store, "half-a"), time.monotonic() + 60
     while not (os.path.exists(half) and os.path.getsize(half) == NEW_STORE) and time.monotonic() < end:
         time.sleep(0.01)
     for number in (1, 2):
