@@ -144,7 +144,7 @@ class Room:
 
     def run(self, words, text=b"", environment=None):
         command, *options = words
-        done = subprocess.run([self.program, command, self.store, *options], input=text, capture_output=True, timeout=120,
+        done = subprocess.run([self.program, command, self.store, *options], input=text, capture_output=True, timeout=600,
                               env=environment)
         return Answer(done.returncode, done.stdout, without_cause(done.stderr))
 
