@@ -177,8 +177,8 @@ def courses(room, names=()):
 def check(room, one, got):
     """What was answered is a prefix of what is answered undisturbed; the store is that of the forms that were answered, or of one more;
     it is whole, and takes a form."""
-    want(got.status >= 0, "the program died:", got)
-    want(one.ample.out.startswith(got.out), "the answers are no prefix:", got)
+    want(got.status >= 0, one.session.name, "the program died:", got)
+    want(one.ample.out.startswith(got.out), one.session.name, "the answers are no prefix:", got)
     answered = got.out.count(b"\n") if one.session.words[0] == "run" else 0
     check_world(room, one, answered)
 
@@ -189,10 +189,10 @@ def check_world(room, one, answered):
         return
     one.looked.add(left)
     dump = room.run(["dump"])
-    want(dump.status == 0, "no dump:", dump)
+    want(dump.status == 0, one.session.name, "no dump:", dump)
     prefixes = [count for count, text in one.dumps if text == dump.out]
-    want(any(answered <= count <= answered + 1 for count in prefixes), answered, "answered, and the world is that after", prefixes)
+    want(any(answered <= count <= answered + 1 for count in prefixes), one.session.name, answered, "answered, and the world is that after", prefixes)
     verified = room.run(["verify"])
-    want(verified.status == 0, "not verified:", verified)
+    want(verified.status == 0, one.session.name, "not verified:", verified)
     more = room.run(["run", "--rescue"], ONE_MORE)
-    want(more == Answer(0, b"9\n", b""), "one more form:", more)
+    want(more == Answer(0, b"9\n", b""), one.session.name, "one more form:", more)
