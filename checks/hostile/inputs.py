@@ -1,5 +1,5 @@
-"""Hostile texts under a limit of memory and of processor time: the program ends by itself, with an answer, a refusal of the reader or want of memory, and what it
-answered is in a store that opens."""
+"""Hostile texts under a limit of memory and of processor time: the program ends by itself, with an answer, a refusal of the reader or want
+of memory, and what it answered is in a store that opens."""
 import os
 import resource
 import subprocess

@@ -9,7 +9,7 @@ from store import library, want
 CRATES = ("log_tests", "reader_tests", "world_tests")
 
 # What the error names with which a test ends that met want of memory. A disk in memory that finds none answers with a fault of the device.
-ERRORS = (b"AllocError", b"OutOfMemory", b"DeviceFault")
+ERRORS = (b"AllocError", b"AllocFailed", b"OutOfMemory", b"DeviceFault")
 
 # A test that asks for memory as often is run a few times alone.
 MANY = 20_000
