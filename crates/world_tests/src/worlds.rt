@@ -316,7 +316,10 @@ fn keeps_packages(world: &mut World) -> Result<bool, PackageError> {
     if world.current_package() != COMMON_LISP_USER || with_package(world)? != [true; 4] {
         return Ok(false);
     }
-    let is_kept = is_refused(world.set_current_package(b"CL"), PackageError::NoSuchPackage)?;
+    let is_kept = is_refused(
+        world.set_current_package(b"CL"),
+        PackageError::NoSuchPackage,
+    )?;
     world.set_current_package(b"P")?;
     Ok(
         is_kept

@@ -38,12 +38,7 @@ copy USER UPCASE
 remove LIST LIST
 in-package COMMON-LISP-USER";
 
-fn import(
-    world: &mut World,
-    owner: &[u8],
-    home: &[u8],
-    name: &[u8],
-) -> Result<bool, PackageError> {
+fn import(world: &mut World, owner: &[u8], home: &[u8], name: &[u8]) -> Result<bool, PackageError> {
     if !world.packages().is_symbol(home, name) {
         return Ok(false);
     }

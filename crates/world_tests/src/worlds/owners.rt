@@ -51,11 +51,7 @@ fn remove_at(
 }
 
 // Whether these symbols have properties, in this order, and no others.
-fn are_owners(
-    alloc: Global,
-    world: &World,
-    wanted: &[(&[u8], &[u8])],
-) -> Result<bool, AllocError> {
+fn are_owners(alloc: Global, world: &World, wanted: &[(&[u8], &[u8])]) -> Result<bool, AllocError> {
     Ok(world.owners(alloc)?.as_slice() == wanted)
 }
 
