@@ -6,7 +6,7 @@ ghost use Rattle.user_macros.specs.Sound.{IsSoundCall};
 ghost use Rattle.reader_tests.specs.Trial.{trial_answer, makes, other_answer};
 
 use super::hostile::repeated;
-use super::trial::{Trial, counted, empty_list, name_of, named, symbol, tailed_list, wrapped};
+use super::trial::{Trial, counted, empty_list, name_of, named, symbol, wrapped};
 use super::{field, number};
 use form_reader::{Limits, ReadOutcome, read_one};
 use lisp_object::Datum;
@@ -227,8 +227,6 @@ fn answers_without_an_object(rt: HostRuntime) -> Result<(), Fail> {
     let alloc = rt.alloc();
     let improper = name_of(b"IMPROPER");
     let answers: MacroFn = Box::new(rt.alloc(), move |_call: &Call| Ok(empty_list(alloc)))?;
-    assert!(rt; refusal(&read_with(&rt, improper, answers, b"!")?) == (21, 1));
-    let answers: MacroFn = Box::new(rt.alloc(), move |_call: &Call| tailed_list(alloc))?;
     assert!(rt; refusal(&read_with(&rt, improper, answers, b"!")?) == (21, 1));
     let mute = name_of(b"MUTE");
     let nothing: MacroFn = Box::new(rt.alloc(), |_call: &Call| Ok(Answer::Nothing))?;

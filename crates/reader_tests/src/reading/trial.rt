@@ -9,7 +9,7 @@ ghost use Rattle.user_macros.specs.Calls.{answer_of, call_of, improper, value};
 ghost use Rattle.user_macros.specs.Sound.{IsSoundCall};
 ghost use Rattle.reader_tests.specs.Trial.{trial_functions, trial_names, later_rows, last_rows, way_among, count, named, wrapped};
 
-use lisp_object::{Boxed, Bytes, Datum, Items};
+use lisp_object::{Bytes, Datum, Items};
 use readtable_core::FnName;
 use std::alloc::{AllocError, Global};
 use user_macros::{Answer, Call, Gather, Gathered, Meaning};
@@ -211,20 +211,4 @@ pub fn empty_list(alloc: Global) -> Answer
         items: Items::new(alloc),
         tail: None,
     })
-}
-
-/// The list `(1 2)` whose second half is its tail, which is not proper.
-#[tactic(auto, using(lisp_object::proofs::Properness::proper_laws))]
-pub fn tailed_list(alloc: Global) -> Result<Answer, AllocError>
-    ensures { IfOk result (λ a. answer_of a ≡ improper) }
-{
-    let mut items = Items::new(alloc);
-    items.push(Datum::Integer(2))?;
-    let tail = Boxed::new(alloc, Datum::List { items, tail: None })?;
-    let mut items = Items::new(alloc);
-    items.push(Datum::Integer(1))?;
-    Ok(Answer::One(Datum::List {
-        items,
-        tail: Some(tail),
-    }))
 }
