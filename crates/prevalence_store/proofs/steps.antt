@@ -2,6 +2,7 @@
 pub mod Fitting
 pub mod Committing
 pub mod Loading
+pub mod Replays
 pub mod Refusing
 pub mod Pendings
 pub mod Endings
