@@ -28,8 +28,8 @@ returns-in_ok-own-in-Form-clause-feeds g c = λ bytes p.
     let steps = c.in_ok-step_in.ensures.steps bytes p.after in
     let places = fed_places functions w c.args.mode c.args.self.now bytes p c.args.byte c.step_in.new.reader c.in_ok-step_in.field-0 f.datum f.start f.end f.next f.is
     steps c.in_ok-step_in.ensures.begun in
-    has_form functions w c.args.mode c.args.self.now bytes p c.args.byte c.step_in.new.reader c.in_ok-step_in.field-0 f.datum f.start f.end f.next f.is steps
+    let has = has_form functions w c.args.mode c.args.self.now bytes p c.args.byte c.step_in.new.reader c.in_ok-step_in.field-0 f.datum f.start f.end f.next f.is steps
     _ c.in_ok-own-in-Form.own.items c.len.result places refl c.clear.ensures.items refl (c.step_in.ensures.limits ∙ p.limits)
     (omega (arith, kept_count functions w c.args.mode c.args.self.now bytes p, c.len.ensures, c.in_ok-push.ensures.len, c.args.self.now.text.ok.0))
     (c.in_ok-own-in-Form.ensures (bytes ++ c.args.byte ∷ [])
-    (c.as_slice.ensures.value ∙ c.in_ok-push.ensures.items ∙ kept_more c.args.self.now.text.items bytes c.args.byte c.args.self.now.dropped (dropped_within functions w c.args.mode c.args.self.now bytes p) p.kept))
+    (c.as_slice.ensures.value ∙ c.in_ok-push.ensures.items ∙ kept_more c.args.self.now.text.items bytes c.args.byte c.args.self.now.dropped (dropped_within functions w c.args.mode c.args.self.now bytes p) p.kept)) in (has, refl, refl)
