@@ -10,5 +10,6 @@ pub mod FormAnswers
 pub mod Pacing
 pub mod Renewing
 pub mod Pieces
+pub mod EndedAt
 pub mod Answering
 pub mod Inputs

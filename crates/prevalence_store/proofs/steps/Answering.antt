@@ -6,7 +6,6 @@ use Rattle.lisp_object.specs.Object.{Object}
 use Rattle.lisp_object.specs.declared.refusal.TheConstants.{INPUT}
 use Rattle.plist_state.specs.State.{WorldState}
 use Rattle.form_reader.specs.Reader.{MayGoOn}
-use Rattle.lisp_reading.specs.Reading.{refused}
 use Rattle.prevalence_store.specs.declared.session.input.Pending.{Pending}
 use Rattle.prevalence_store.specs.declared.mode.Mode.{Mode}
 use Rattle.prevalence_store.specs.declared.outcome.Ended.{Ended}
@@ -18,18 +17,18 @@ use Rattle.prevalence_store.specs.declared.outcome.Ending.TheVariants.{End, Read
 use Rattle.prevalence_store.specs.meaning.Acceptance.{read_in}
 use Rattle.user_macros.specs.Functions.{Functions}
 use Rattle.prevalence_store.specs.meaning.Answers.{Progress, after_forms, begun, onward}
-use Rattle.prevalence_store.specs.steps.Input.{HasForm, IsPending, HasRefusal}
+use Rattle.prevalence_store.specs.steps.Input.{HasForm, IsPending}
 use Rattle.prevalence_store.specs.calls.Pace.{EndsInPace, Paces, fill_of}
-use Rattle.prevalence_store.specs.calls.Serve.{Advances, IsAfter, IsPlace, IsUnaccepted, Serves, ServesInPace, StaysRefused, StopsStrict}
+use Rattle.prevalence_store.specs.calls.Serve.{Advances, IsAfter, IsPlace, Serves, ServesInPace, StaysRefused, StopsStrict}
 use Rattle.prevalence_store.specs.calls.Store.{StoreView}
-use Rattle.prevalence_store.specs.steps.Serve.{Answers, ComesTo, EndsAt, GoesOn, HasEnded, HasEndedAt, ServesStrict, ended_at}
+use Rattle.prevalence_store.specs.steps.Serve.{Answers, ComesTo, EndsAt, GoesOn, HasEnded, HasEndedAt, ServesStrict}
 use Rattle.prevalence_store.specs.steps.Course.{Course}
-use Rattle.prevalence_store.specs.steps.Answer.{AnswersFault, AnswersRead, PassesForm, StopsInForm}
-use Rattle.prevalence_store.proofs.steps.Pacing.{ends_after, fault_paced, paces_both}
+use Rattle.prevalence_store.specs.steps.Answer.{PassesForm}
+use Rattle.prevalence_store.proofs.steps.Pacing.{ends_after, paces_both}
 use Rattle.prevalence_store.specs.calls.Streams.{Writes}
 use Rattle.prevalence_store.proofs.calls.Progressing.{advance_both, forms_onward, serve_both}
 use Rattle.prevalence_store.proofs.Surviving.{unchanged_survives}
-use Rattle.prevalence_store.proofs.steps.Endings.{after_none, fault_answered, nothing, writes_nothing}
+use Rattle.prevalence_store.proofs.steps.Endings.{after_none, writes_nothing}
 use Rattle.prevalence_store.proofs.steps.Pieces.{longer, piece_whole, piece_left, next_is, after_form}
 
 module _ (functions : Functions) {D R : Type 0} (state : D → State) where
@@ -110,80 +109,6 @@ module _ (functions : Functions) {D R : Type 0} (state : D → State) where
   pending_again strict course later old new w mode text a b pending left goes v known =
       let same : goes.far.world ≡ v = let left_is = goes.advances.after.left in cc in
       (goes.bytes, subst (λ u. IsPending functions u mode pending goes.bytes) same goes.is_pending)
-
-  -- the session ended before any answer, whatever follows the text
-  pub ends_at_once : (strict : Bool) (course : Course) (old new : StoreView D R) (w : WorldState) (mode : Mode) (text : List ℕ) (a b : Option (List ℕ)) (number : ℕ)
-      → (stops : StopsInForm functions state old new w mode text a b number) × ServesInPace functions state course.pace old new w mode text a b (Store number) stops.serves
-      → HasEndedAt functions state strict course old new w mode text a b (ways.Store number)
-  ends_at_once strict course old new w mode text a b number is =
-      (record { serves = is.0.serves; paced = is.1; stays = λ output all. let one = is.0.in_form output in absurd (omega arith) }, λ is_strict. is.0.accepted)
-
-  -- the place of a refusal of the reader, before which no form was answered
-  place_at_once : (course : Course) (text : List ℕ) (start at : ℕ) (place : Place) → place.forms ≡ course.forms → place.start ≡ course.bytes + start → place.at ≡ course.bytes + at → start ≤ length text
-      → IsPlace course.forms course.bytes 0 text text at place
-  place_at_once course text start at place forms_is start_is at_is within = record { forms_are = forms_is; at_is = omega arith; begins = omega arith; ends = omega arith }
-
-  -- the reader refused the text, whatever follows it
-  pub fault_ended : (sound : (d : D) → IsHonest (state d) → IsSound (state d)) (strict : Bool) (course later : Course) (old new : StoreView D R) (w : WorldState) (mode : Mode) (text : List ℕ) (a b : Option (List ℕ)) (pending : Pending)
-      (number : ℕ) → old.world ≡ Some w → (refuses : HasRefusal functions w mode text number) → new ≡ old → (start : ℕ) (place : Place) → place.forms ≡ course.forms → place.start ≡ course.bytes + start
-      → place.at ≡ course.bytes + refuses.at → start ≤ length text → (ending : Ending) → AnswersFault number a b ending
-      → Answers functions state strict course later old new w mode text a b pending (Some (ended_at place ending))
-  unfolding fault_answered nothing
-  fault_ended sound strict course later old new w mode text a b pending number known refuses same start place forms_is start_is at_is within ending answers more = by_ending ending answers where
-    still : (others : List ℕ) → read_in functions w mode ((text ++ more) ++ others) ≡ refused number refuses.at
-    still others = ap (read_in functions w mode) (append_assoc text more others) ∙ refuses.reads (more ++ others)
-
-    longer_within : start ≤ length (text ++ more)
-    longer_within = let many = length-append text more in omega arith
-
-    by_ending : (e : Ending) → AnswersFault number a b e → HasEndedAt functions state strict course old new w mode (text ++ more) a b (ended_at place e)
-    by_ending End is = absurd is
-    by_ending (Reader code) is = (
-      record {
-        serves = fault_answered functions state sound old new w mode (text ++ more) a b known number refuses.at (refuses.reads more) same (Reader code) is;
-        paced = fault_paced functions state sound old new w mode (text ++ more) a b known number refuses.at (refuses.reads more) same (Reader code) is course.pace;
-        stays = λ others. (refl, (refuses.at, still others ∙ ap (λ n. refused n refuses.at) (sym is.0)));
-      },
-      λ is_strict. refl,
-      place_at_once course (text ++ more) start refuses.at place forms_is start_is at_is longer_within,
-    )
-    by_ending (Store code) (inl full) = (
-      record {
-        serves = fault_answered functions state sound old new w mode (text ++ more) a b known number refuses.at (refuses.reads more) same (Store code) (inl full);
-        paced = fault_paced functions state sound old new w mode (text ++ more) a b known number refuses.at (refuses.reads more) same (Store code) (inl full) course.pace;
-        stays = λ output all. (number, λ others. (refl, (refuses.at, still others)));
-      },
-      λ is_strict. refl,
-    )
-    by_ending (Store code) (inr memory) = (
-      record {
-        serves = fault_answered functions state sound old new w mode (text ++ more) a b known number refuses.at (refuses.reads more) same (Store code) (inr memory);
-        paced = fault_paced functions state sound old new w mode (text ++ more) a b known number refuses.at (refuses.reads more) same (Store code) (inr memory) course.pace;
-        stays = λ output all. (number, λ others. (refl, (refuses.at, still others)));
-      },
-      λ is_strict. refl,
-    )
-
-  -- the form that the text begins with was refused, and the session is strict
-  pub strict_ended : (wanted : Wanted) (mode : Mode) → wanted.mode ≡ mode → (course later : Course) (old new : StoreView D R) (w : WorldState) (text : List ℕ) (a b : Option (List ℕ)) (start next number : ℕ) (place : Place)
-      → AnswersRead functions state course later old new w wanted text a b start next (Err (ways.Unaccepted number place)) → start ≤ length text
-      → StopsStrict functions state old new w mode text a b course.pace course.forms course.bytes number place
-  strict_ended wanted mode same_mode course later old new w text a b start next number place (is_strict, (passes, (refuses, (forms_is, (start_is, at_is))))) within = record {
-    forms = 1;
-    far = passes.far;
-    advances = subst (λ (m : Mode). Advances functions state old new w m text a b 1 passes.far) same_mode passes.advances;
-    later = later.pace;
-    paced = passes.paced;
-    accepted = 0;
-    one_more = refl;
-    before = begun w text;
-    before_is = refl;
-    none_refused = refl;
-    start = start;
-    refuses = subst (λ (m : Mode). IsUnaccepted functions w m text number start) same_mode refuses;
-    is_place = place_at_once course text start start place forms_is start_is at_is within;
-    begins = start_is ∙ sym at_is;
-  }
 
   -- ---- one after the other
 

@@ -1,0 +1,184 @@
+-- How a session ends at what was read: at no memory, at a refusal of the reader, and in a form.
+use Rattle.std.proofs.Common.{◌≡◌, ℕ, ◌+◌, ◌≤◌, Bool, true, List, [], ◌++◌, length, Option, Some, Result, Ok, Err, inl, inr, refl, sym, ap, subst, ◌∙◌, append_assoc, length-append, arith}
+use Rattle.disk_trait.specs.Disk.{State, IsHonest, IsSound}
+use Rattle.lisp_object.specs.declared.refusal.TheConstants.{NO_MEMORY}
+use Rattle.lisp_reading.specs.Reading.{empty, refused}
+use Rattle.plist_state.specs.State.{WorldState}
+use Rattle.prevalence_store.specs.declared.mode.Mode.{Mode}
+use Rattle.prevalence_store.specs.declared.outcome.Ended.{Ended}
+use Rattle.prevalence_store.specs.declared.outcome.Ended.TheVariants as ways
+use Rattle.prevalence_store.specs.declared.outcome.Ending.{Ending}
+use Rattle.prevalence_store.specs.declared.outcome.Ending.TheVariants.{End, Reader, Store}
+use Rattle.prevalence_store.specs.declared.outcome.Place.{Place}
+use Rattle.prevalence_store.specs.declared.outcome.Wanted.{Wanted}
+use Rattle.prevalence_store.specs.declared.session.input.Pending.{Pending}
+use Rattle.prevalence_store.specs.meaning.Acceptance.{read_in}
+use Rattle.prevalence_store.specs.meaning.Answers.{begun}
+use Rattle.prevalence_store.specs.calls.Serve.{IsPlace, ServesInPace, StopsStrict}
+use Rattle.prevalence_store.specs.calls.Store.{StoreView}
+use Rattle.prevalence_store.specs.steps.Answer.{AnswersFault, AnswersRead, PassesForm, StopsInForm}
+use Rattle.prevalence_store.specs.steps.Course.{Course}
+use Rattle.prevalence_store.specs.steps.Input.{HasRefusal}
+use Rattle.prevalence_store.specs.steps.Serve.{Answers, EndsAt, HasEnded, HasEndedAt, ended_at}
+use Rattle.prevalence_store.proofs.steps.Endings.{done, fault_answered, no_memory, nothing}
+use Rattle.prevalence_store.proofs.steps.Pacing.{done_paced, fault_paced, no_memory_paced}
+use Rattle.user_macros.specs.Functions.{Functions}
+
+module _ (functions : Functions) {D R : Type 0} (state : D → State) where
+  -- the session ended before any answer, whatever follows the text
+  pub ends_at_once : (strict : Bool) (course : Course) (old new : StoreView D R) (w : WorldState) (mode : Mode) (text : List ℕ) (a b : Option (List ℕ)) (number : ℕ)
+      → (stops : StopsInForm functions state old new w mode text a b number) × ServesInPace functions state course.pace old new w mode text a b (Store number) stops.serves
+      → HasEndedAt functions state strict course old new w mode text a b (ways.Store number)
+  ends_at_once strict course old new w mode text a b number is =
+      (record { serves = is.0.serves; paced = is.1; stays = λ output all. let one = is.0.in_form output in absurd (omega arith) }, λ is_strict. is.0.accepted)
+
+  -- the place of a refusal of the reader, before which no form was answered
+  place_at_once : (course : Course) (text : List ℕ) (start at : ℕ) (place : Place) → place.forms ≡ course.forms → place.start ≡ course.bytes + start → place.at ≡ course.bytes + at → start ≤ length text
+      → IsPlace course.forms course.bytes 0 text text at place
+  place_at_once course text start at place forms_is start_is at_is within = record { forms_are = forms_is; at_is = omega arith; begins = omega arith; ends = omega arith }
+
+  -- the reader refused the text, whatever follows it
+  pub fault_ended : (sound : (d : D) → IsHonest (state d) → IsSound (state d)) (strict : Bool) (course later : Course) (old new : StoreView D R) (w : WorldState) (mode : Mode) (text : List ℕ) (a b : Option (List ℕ)) (pending : Pending)
+      (number : ℕ) → old.world ≡ Some w → (refuses : HasRefusal functions w mode text number) → new ≡ old → (start : ℕ) (place : Place) → place.forms ≡ course.forms → place.start ≡ course.bytes + start
+      → place.at ≡ course.bytes + refuses.at → start ≤ length text → (ending : Ending) → AnswersFault number a b ending
+      → Answers functions state strict course later old new w mode text a b pending (Some (ended_at place ending))
+  unfolding fault_answered nothing
+  fault_ended sound strict course later old new w mode text a b pending number known refuses same start place forms_is start_is at_is within ending answers more = by_ending ending answers where
+    still : (others : List ℕ) → read_in functions w mode ((text ++ more) ++ others) ≡ refused number refuses.at
+    still others = ap (read_in functions w mode) (append_assoc text more others) ∙ refuses.reads (more ++ others)
+
+    longer_within : start ≤ length (text ++ more)
+    longer_within = let many = length-append text more in omega arith
+
+    by_ending : (e : Ending) → AnswersFault number a b e → HasEndedAt functions state strict course old new w mode (text ++ more) a b (ended_at place e)
+    by_ending End is = absurd is
+    by_ending (Reader code) is = (
+      record {
+        serves = fault_answered functions state sound old new w mode (text ++ more) a b known number refuses.at (refuses.reads more) same (Reader code) is;
+        paced = fault_paced functions state sound old new w mode (text ++ more) a b known number refuses.at (refuses.reads more) same (Reader code) is course.pace;
+        stays = λ others. (refl, (refuses.at, still others ∙ ap (λ n. refused n refuses.at) (sym is.0)));
+      },
+      λ is_strict. refl,
+      place_at_once course (text ++ more) start refuses.at place forms_is start_is at_is longer_within,
+    )
+    by_ending (Store code) (inl full) = (
+      record {
+        serves = fault_answered functions state sound old new w mode (text ++ more) a b known number refuses.at (refuses.reads more) same (Store code) (inl full);
+        paced = fault_paced functions state sound old new w mode (text ++ more) a b known number refuses.at (refuses.reads more) same (Store code) (inl full) course.pace;
+        stays = λ output all. (number, λ others. (refl, (refuses.at, still others)));
+      },
+      λ is_strict. refl,
+    )
+    by_ending (Store code) (inr memory) = (
+      record {
+        serves = fault_answered functions state sound old new w mode (text ++ more) a b known number refuses.at (refuses.reads more) same (Store code) (inr memory);
+        paced = fault_paced functions state sound old new w mode (text ++ more) a b known number refuses.at (refuses.reads more) same (Store code) (inr memory) course.pace;
+        stays = λ output all. (number, λ others. (refl, (refuses.at, still others)));
+      },
+      λ is_strict. refl,
+    )
+
+  -- there is no memory for what was read
+  pub memory_ended : (sound : (d : D) → IsHonest (state d) → IsSound (state d)) (strict : Bool) (course : Course) (old : StoreView D R) (w : WorldState) (mode : Mode) (text : List ℕ) (held : Option (List ℕ)) → old.world ≡ Some w
+      → HasEndedAt functions state strict course old old w mode text held held (ways.Store NO_MEMORY)
+  unfolding no_memory nothing
+  memory_ended sound strict course old w mode text held known = (
+    record {
+      serves = no_memory functions state sound old old w mode text held held known refl refl;
+      paced = no_memory_paced functions state sound old old w mode text held held known refl refl course.pace;
+      stays = λ output. absurd (omega arith);
+    },
+    λ is_strict. refl,
+  )
+
+  pub memory_at_end : (sound : (d : D) → IsHonest (state d) → IsSound (state d)) (strict : Bool) (course : Course) (old : StoreView D R) (w : WorldState) (mode : Mode) (text : List ℕ) (held : Option (List ℕ)) → old.world ≡ Some w
+      → EndsAt functions state strict course old old w mode text held held (ways.Store NO_MEMORY)
+  unfolding no_memory nothing
+  memory_at_end sound strict course old w mode text held known = (
+    no_memory functions state sound old old w mode text held held known refl refl,
+    no_memory_paced functions state sound old old w mode text held held known refl refl course.pace,
+    λ is_strict. refl,
+  )
+
+  -- nothing is left at the end of the input
+  pub done_at_end : (sound : (d : D) → IsHonest (state d) → IsSound (state d)) (strict : Bool) (course : Course) (old : StoreView D R) (w : WorldState) (mode : Mode) (text : List ℕ) (held : Option (List ℕ)) → old.world ≡ Some w
+      → empty ≡ read_in functions w mode text → EndsAt functions state strict course old old w mode text held held ways.End
+  unfolding done nothing
+  done_at_end sound strict course old w mode text held known none = (
+    done functions state sound old old w mode text held held known refl refl none,
+    done_paced functions state sound old old w mode text held held known refl refl none course.pace,
+    λ is_strict. refl,
+  )
+
+  -- the reader refuses the text at the end of the input
+  pub fault_at_end : (sound : (d : D) → IsHonest (state d) → IsSound (state d)) (strict : Bool) (course : Course) (old new : StoreView D R) (w : WorldState) (mode : Mode) (text : List ℕ) (a b : Option (List ℕ)) (number at : ℕ)
+      → old.world ≡ Some w → (reads : read_in functions w mode text ≡ refused number at) → new ≡ old → (start : ℕ) (place : Place) → place.forms ≡ course.forms → place.start ≡ course.bytes + start → place.at ≡ course.bytes + at
+      → start ≤ length text → (ending : Ending) → AnswersFault number a b ending → EndsAt functions state strict course old new w mode text a b (ended_at place ending)
+  unfolding fault_answered nothing
+  fault_at_end sound strict course old new w mode text a b number at known reads same start place forms_is start_is at_is within End answers = absurd answers
+  fault_at_end sound strict course old new w mode text a b number at known reads same start place forms_is start_is at_is within (Reader code) answers = (
+    (
+      fault_answered functions state sound old new w mode text a b known number at reads same (Reader code) answers,
+      fault_paced functions state sound old new w mode text a b known number at reads same (Reader code) answers course.pace,
+      λ is_strict. refl,
+    ),
+    place_at_once course text start at place forms_is start_is at_is within,
+  )
+  fault_at_end sound strict course old new w mode text a b number at known reads same start place forms_is start_is at_is within (Store code) (inl full) = (
+    fault_answered functions state sound old new w mode text a b known number at reads same (Store code) (inl full),
+    fault_paced functions state sound old new w mode text a b known number at reads same (Store code) (inl full) course.pace,
+    λ is_strict. refl,
+  )
+  fault_at_end sound strict course old new w mode text a b number at known reads same start place forms_is start_is at_is within (Store code) (inr memory) = (
+    fault_answered functions state sound old new w mode text a b known number at reads same (Store code) (inr memory),
+    fault_paced functions state sound old new w mode text a b known number at reads same (Store code) (inr memory) course.pace,
+    λ is_strict. refl,
+  )
+
+  -- the form that the text begins with was refused, and the session is strict
+  strict_stops : (wanted : Wanted) (course later : Course) (old new : StoreView D R) (w : WorldState) (text : List ℕ) (a b : Option (List ℕ)) (start next number : ℕ) (place : Place)
+      → AnswersRead functions state course later old new w wanted text a b start next (Err (ways.Unaccepted number place)) → start ≤ length text
+      → StopsStrict functions state old new w wanted.mode text a b course.pace course.forms course.bytes number place
+  strict_stops wanted course later old new w text a b start next number place (is_strict, (passes, (refuses, (forms_is, (start_is, at_is))))) within = record {
+    forms = 1;
+    far = passes.far;
+    advances = passes.advances;
+    later = later.pace;
+    paced = passes.paced;
+    accepted = 0;
+    one_more = refl;
+    before = begun w text;
+    before_is = refl;
+    none_refused = refl;
+    start = start;
+    refuses = refuses;
+    is_place = place_at_once course text start start place forms_is start_is at_is within;
+    begins = start_is ∙ sym at_is;
+  }
+
+  -- the session ended in the form that the text begins with
+  pub read_ended : (wanted : Wanted) (course later : Course) (old new : StoreView D R) (w : WorldState) (text : List ℕ) (a b : Option (List ℕ)) (start next : ℕ) (ended : Ended)
+      → AnswersRead functions state course later old new w wanted text a b start next (Err ended) → start ≤ length text → HasEndedAt functions state wanted.strict course old new w wanted.mode text a b ended
+  read_ended wanted course later old new w text a b start next ways.End is within = absurd is
+  read_ended wanted course later old new w text a b start next (ways.Unreadable number place) is within = absurd is
+  read_ended wanted course later old new w text a b start next (ways.Unaccepted number place) is within = (is.0, strict_stops wanted course later old new w text a b start next number place is within)
+  read_ended wanted course later old new w text a b start next (ways.Store number) is within = ends_at_once wanted.strict course old new w wanted.mode text a b number is
+
+  pub read_at_end : (wanted : Wanted) (course later : Course) (old new : StoreView D R) (w : WorldState) (text : List ℕ) (a b : Option (List ℕ)) (start next : ℕ) (ended : Ended)
+      → AnswersRead functions state course later old new w wanted text a b start next (Err ended) → start ≤ length text → EndsAt functions state wanted.strict course old new w wanted.mode text a b ended
+  read_at_end wanted course later old new w text a b start next ways.End is within = absurd is
+  read_at_end wanted course later old new w text a b start next (ways.Unreadable number place) is within = absurd is
+  read_at_end wanted course later old new w text a b start next (ways.Unaccepted number place) is within = (is.0, strict_stops wanted course later old new w text a b start next number place is within)
+  read_at_end wanted course later old new w text a b start next (ways.Store number) is within = (is.0.serves, is.1, λ is_strict. is.0.accepted)
+
+  -- a form that was passed, by its offsets in the text
+  pub at_starts : (course later : Course) (old new : StoreView D R) (w : WorldState) (wanted : Wanted) (text : List ℕ) (a b : Option (List ℕ)) (start next from to refused : ℕ) → from ≡ start → to ≡ next
+      → PassesForm functions state course later old new w wanted text a b start next refused → PassesForm functions state course later old new w wanted text a b from to refused
+  at_starts course later old new w wanted text a b start next from to refused start_is next_is passes = record {
+    far = passes.far;
+    advances = passes.advances;
+    paced = passes.paced;
+    forms = passes.forms;
+    bytes = passes.bytes ∙ ap (λ n. course.bytes + n) (sym next_is);
+    refused_are = passes.refused_are;
+  }
