@@ -187,7 +187,7 @@ impl<D: Disk, R: MacroFunctions> Store<D, R> {
         };
         // what is answered is stored: a line comes after its record
         match write_line(writer, line.as_slice()) {
-            Ok(()) => Ok(answered(&answer)),
+            Ok(()) => Ok(answer_given(&answer)),
             Err(_) => Err(OUTPUT),
         }
     }
@@ -205,7 +205,7 @@ impl<D: Disk, R> Store<D, R> {
 }
 
 // What became of a form that has a line.
-fn answered(answer: &Result<Evaluated, Failure>) -> Answered
+fn answer_given(answer: &Result<Evaluated, Failure>) -> Answered
     ensures { result ≡ answered_of answer.now }
 {
     match answer {
