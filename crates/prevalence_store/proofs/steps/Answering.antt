@@ -187,7 +187,7 @@ module _ (functions : Functions) {D R : Type 0} (state : D → State) where
       -- a session over what is left, and the whole of it
       strict_both : (ending : Ending) → ServesStrict functions state strict later mid new p.world mode p.rest b c ending → ServesStrict functions state strict course old new w mode text a c ending
       unfolding serve_both
-      strict_both ending (served, (paced, accepted)) = (
+      strict_both ending (served, paced, accepted) = (
         serve_both functions state sound old mid new w mode text a b c first.forms p first.advances honest ending served,
         paced_both ending served paced,
         none_of served.answered.refused accepted,
@@ -211,7 +211,7 @@ module _ (functions : Functions) {D R : Type 0} (state : D → State) where
       serves_both : (ended : Ended) → HasEndedAt functions state strict later mid new p.world mode p.rest b c ended → HasEndedAt functions state strict course old new w mode text a c ended
       unfolding serve_both
       serves_both ways.End second = absurd second
-      serves_both (ways.Unreadable number place) (is, (accepted, at)) = (
+      serves_both (ways.Unreadable number place) (is, accepted, at) = (
         record {
           serves = serve_both functions state sound old mid new w mode text a b c first.forms p first.advances honest (Reader number) is.serves;
           paced = paced_both (Reader number) is.serves is.paced;

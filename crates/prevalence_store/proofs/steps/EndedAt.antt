@@ -139,7 +139,7 @@ module _ (functions : Functions) {D R : Type 0} (state : D → State) where
   strict_stops : (wanted : Wanted) (course later : Course) (old new : StoreView D R) (w : WorldState) (text : List ℕ) (a b : Option (List ℕ)) (start next number : ℕ) (place : Place)
       → AnswersRead functions state course later old new w wanted text a b start next (Err (ways.Unaccepted number place)) → start ≤ length text
       → StopsStrict functions state old new w wanted.mode text a b course.pace course.forms course.bytes number place
-  strict_stops wanted course later old new w text a b start next number place (is_strict, (passes, (refuses, (forms_is, (start_is, at_is))))) within = record {
+  strict_stops wanted course later old new w text a b start next number place (is_strict, passes, refuses, forms_is, start_is, at_is) within = record {
     forms = 1;
     far = passes.far;
     advances = passes.advances;

@@ -55,7 +55,7 @@ module _ (functions : Functions) {D R : Type 0} (state : D → State) (wanted : 
   -- a read failed
   pub unread_input : ServesStrict functions state wanted.strict first old new w wanted.mode text held written (Store INPUT) → HasLeft had before text → Keeps before has
       → ServesWanted functions state wanted old new w had has held written (ways.Store INPUT)
-  unread_input (served, (paced, accepted)) left keeps = (
+  unread_input (served, paced, accepted) left keeps = (
     record {
       text = text;
       serves = served;
@@ -78,17 +78,17 @@ module _ (functions : Functions) {D R : Type 0} (state : D → State) (wanted : 
         (one.1.1 ∙ ap (λ t. text ++ t) (then.1.1 ∙ none), then.1.0 ∙ ap (λ t. Some t) none)
 
     by_ending : (e : Ended) → EndsAt functions state wanted.strict first old new w wanted.mode text held written e → ServesWanted functions state wanted old new w had has held written e
-    by_ending ways.End (served, (paced, accepted)) = (
+    by_ending ways.End (served, paced, accepted) = (
       record { text = text; serves = served; paced = paced; reads = λ all is. let none = none_left all is in ([], none.0, (refl, none.1)) },
       accepted,
     )
-    by_ending (ways.Unreadable number place) ((served, (paced, accepted)), at) = (
+    by_ending (ways.Unreadable number place) ((served, paced, accepted), at) = (
       record { text = text; serves = served; paced = paced; reads = λ all is. let none = none_left all is in ([], none.0, (inl refl, none.1)) },
       accepted,
       at,
     )
     by_ending (ways.Unaccepted number place) (strict, stops) = (strict, text, stops, λ all is. let none = none_left all is in ([], none.0, none.1))
-    by_ending (ways.Store number) (served, (paced, accepted)) = (
+    by_ending (ways.Store number) (served, paced, accepted) = (
       record { text = text; serves = served; paced = paced; reads = λ all is. let none = none_left all is in ([], none.0, (λ output all_lines. inl refl, none.1)) },
       accepted,
     )
@@ -97,7 +97,7 @@ module _ (functions : Functions) {D R : Type 0} (state : D → State) (wanted : 
   pub decided_input : (ended : Ended) → HasEndedAt functions state wanted.strict first old new w wanted.mode text held written ended → HasLeft had has text
       → ServesWanted functions state wanted old new w had has held written ended
   decided_input ways.End is left = absurd is
-  decided_input (ways.Unreadable number place) (is, (accepted, at)) left = (
+  decided_input (ways.Unreadable number place) (is, accepted, at) left = (
     record {
       text = text;
       serves = is.serves;

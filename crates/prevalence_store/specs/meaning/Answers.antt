@@ -1,5 +1,5 @@
 -- What comes of the forms of a text, one after the other: the world, the records, and a line for each.
-use Rattle.std.specs.Prelude.{ℕ, suc, zero, List, [], ◌∷◌, ◌++◌, drop, Option, None, Some, Ok, Err, codes}
+use Rattle.std.specs.Prelude.{ℕ, ◌+◌, suc, zero, List, [], ◌∷◌, ◌++◌, drop, Option, None, Some, Ok, Err, codes}
 use Rattle.std.specs.Prelude.{decimal}
 use Rattle.std.specs.Option.{option_map, option_and_then}
 use Rattle.gate_log.specs.Layout.{LogRecord}
