@@ -10,6 +10,7 @@ pub mod FormAnswers
 pub mod Pacing
 pub mod Renewing
 pub mod Pieces
+pub mod Places
 pub mod EndedAt
 pub mod Answering
 pub mod Inputs

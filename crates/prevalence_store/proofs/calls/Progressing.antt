@@ -23,13 +23,11 @@ use Rattle.user_macros.specs.Functions.{Functions}
 
 onward_onward : (p q r : Progress) → onward (onward p q) r ≡ onward p (onward q r)
 onward_onward p q r =
-    let refused : (p.refused + q.refused) + r.refused ≡ p.refused + (q.refused + r.refused) = omega arith in
-    λ i. record { world = r.world; rest = r.rest; taken = append_assoc p.taken q.taken r.taken i; lines = append_assoc p.lines q.lines r.lines i; refused = refused i }
+    λ i. record { world = r.world; rest = r.rest; taken = append_assoc p.taken q.taken r.taken i; lines = append_assoc p.lines q.lines r.lines i; refused = append_assoc p.refused q.refused r.refused i }
 
 pub onward_begun : (p : Progress) → onward p (begun p.world p.rest) ≡ p
 onward_begun p =
-    let refused : p.refused + 0 ≡ p.refused = omega arith in
-    λ i. record { world = p.world; rest = p.rest; taken = append-nil p.taken i; lines = append-nil p.lines i; refused = refused i }
+    λ i. record { world = p.world; rest = p.rest; taken = append-nil p.taken i; lines = append-nil p.lines i; refused = append-nil p.refused i }
 
 -- one form more of the rest is one form more of the whole
 more_onward : (p q r : Progress) (one : Option Progress) → option_map (onward q) one ≡ Some r → option_map (onward (onward p q)) one ≡ Some (onward p r)

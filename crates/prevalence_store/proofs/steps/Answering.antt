@@ -73,11 +73,11 @@ module _ (functions : Functions) {D R : Type 0} (state : D → State) where
     advances = record {
       far_is = refl;
       lines = writes_nothing held held refl;
-      after = after_none functions state sound old old w mode text held held known text [] 0 refl;
+      after = after_none functions state sound old old w mode text held held known text [] [] refl;
       survives = unchanged_survives functions state sound old old w refl;
     };
     paced = (refl, refl);
-    comes = record { forms_are = refl; bytes_are = refl };
+    comes = record { forms_are = omega arith; bytes_are = refl };
     accepted = λ is_strict. refl;
     stays = λ more. refl;
     bytes = text;
@@ -95,13 +95,13 @@ module _ (functions : Functions) {D R : Type 0} (state : D → State) where
   -- a form that a piece decides was answered, and so many bytes of the piece were taken
   pub form_answered : (w : WorldState) (mode : Mode) (pending : Pending) (bytes piece : List ℕ) (n count : ℕ) (x : Object) (own : List ℕ) (left : Bool)
       → (has : HasForm functions w mode pending (bytes ++ take n piece) x own left) → n ≤ length piece → count + cond left 1 0 ≡ n → (wanted : Wanted) → wanted.mode ≡ mode → (course later : Course) (old new : StoreView D R)
-      (a b : Option (List ℕ)) (refused : ℕ) → PassesForm functions state course later old new w wanted (bytes ++ take n piece) a b has.start has.next refused → (wanted.strict ≡ true → refused ≡ 0)
+      (a b : Option (List ℕ)) (refusals : List ℕ) → PassesForm functions state course later old new w wanted (bytes ++ take n piece) a b has.start has.next refusals → (wanted.strict ≡ true → refusals ≡ [])
       → GoesOn functions state wanted.strict course later old new w mode (bytes ++ piece) a b pending (drop count piece)
-  form_answered w mode pending bytes piece n count x own left has within taken wanted same_mode course later old new a b refused passes accepted =
+  form_answered w mode pending bytes piece n count x own left has within taken wanted same_mode course later old new a b refusals passes accepted =
       let next = next_is functions w mode pending (bytes ++ take n piece) x own left has bytes piece n count refl within taken in
       subst (λ t. GoesOn functions state wanted.strict course later old new w mode (bytes ++ piece) a b pending t) (piece_left bytes piece n has.next count next (omega arith) within)
       (answered_within wanted.strict course later old new w mode a b pending bytes piece (drop has.next (bytes ++ take n piece)) n
-      (after_form functions w mode pending (bytes ++ take n piece) x own left has state wanted same_mode course later old new a b refused passes accepted))
+      (after_form functions w mode pending (bytes ++ take n piece) x own left has state wanted same_mode course later old new a b refusals passes accepted))
 
   -- what is pending after it
   pub pending_again : (strict : Bool) (course later : Course) (old new : StoreView D R) (w : WorldState) (mode : Mode) (text : List ℕ) (a b : Option (List ℕ)) (pending : Pending) (left : List ℕ)
@@ -121,8 +121,8 @@ module _ (functions : Functions) {D R : Type 0} (state : D → State) where
       abbrev rest : List ℕ
       rest = first.bytes ++ left
 
-      none_of : (n : ℕ) → (strict ≡ true → n ≡ 0) → strict ≡ true → p.refused + n ≡ 0
-      none_of n second is = let one = first.accepted is in let two = second is in omega arith
+      none_of : (refusals : List ℕ) → (strict ≡ true → refusals ≡ []) → strict ≡ true → p.refused ++ refusals ≡ []
+      none_of refusals second is = ap (λ l. l ++ refusals) (first.accepted is) ∙ second is
 
       goes_on_both : (after : Pending) (others : List ℕ) → GoesOn functions state strict later last mid new p.world mode rest b c after others
           → GoesOn functions state strict course last old new w mode text a c after others
@@ -194,10 +194,10 @@ module _ (functions : Functions) {D R : Type 0} (state : D → State) where
       )
 
       ends_both_at : (ended : Ended) → EndsAt functions state strict later mid new p.world mode p.rest b c ended → EndsAt functions state strict course old new w mode text a c ended
-      unfolding serve_both
+      unfolding serve_both strict_both
       ends_both_at ways.End second = strict_both End second
       ends_both_at (ways.Unreadable number place) (served, at) =
-          (strict_both (Reader number) served, place_both served.0.forms served.0.far.rest served.0.ends.at place at)
+          (strict_both (Reader number) served, (at.0, at.1, place_both served.0.forms served.0.far.rest at.0 place at.2))
       ends_both_at (ways.Unaccepted number place) (is, second) = (is, stops_both number place second is)
       ends_both_at (ways.Store number) second = strict_both (Store number) second
 
@@ -218,7 +218,7 @@ module _ (functions : Functions) {D R : Type 0} (state : D → State) where
           stays = refused_both is.serves.forms is.serves.far number is.stays;
         },
         none_of is.serves.answered.refused accepted,
-        place_both is.serves.forms is.serves.far.rest is.serves.ends.at place at,
+        (at.0, at.1, place_both is.serves.forms is.serves.far.rest at.0 place at.2),
       )
       serves_both (ways.Unaccepted number place) (is, second) = (is, stops_both number place second is)
       serves_both (ways.Store number) (is, accepted) = (

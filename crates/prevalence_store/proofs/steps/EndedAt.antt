@@ -1,6 +1,7 @@
 -- How a session ends at what was read: at no memory, at a refusal of the reader, and in a form.
 use Rattle.std.proofs.Common.{◌≡◌, ℕ, ◌+◌, ◌≤◌, Bool, true, List, [], ◌++◌, length, Option, Some, Result, Ok, Err, inl, inr, refl, sym, ap, subst, ◌∙◌, append_assoc, length-append, arith}
 use Rattle.disk_trait.specs.Disk.{State, IsHonest, IsSound}
+use Rattle.lisp_object.specs.Object.{Object}
 use Rattle.lisp_object.specs.declared.refusal.TheConstants.{NO_MEMORY}
 use Rattle.lisp_reading.specs.Reading.{empty, refused}
 use Rattle.plist_state.specs.State.{WorldState}
@@ -11,15 +12,19 @@ use Rattle.prevalence_store.specs.declared.outcome.Ending.{Ending}
 use Rattle.prevalence_store.specs.declared.outcome.Ending.TheVariants.{End, Reader, Store}
 use Rattle.prevalence_store.specs.declared.outcome.Place.{Place}
 use Rattle.prevalence_store.specs.declared.outcome.Wanted.{Wanted}
+use Rattle.prevalence_store.specs.declared.session.answer.Answered.{Answered}
+use Rattle.prevalence_store.specs.declared.session.answer.Answered.TheVariants.{Accepted, Refused}
 use Rattle.prevalence_store.specs.declared.session.input.Pending.{Pending}
 use Rattle.prevalence_store.specs.meaning.Acceptance.{read_in}
-use Rattle.prevalence_store.specs.meaning.Answers.{begun}
-use Rattle.prevalence_store.specs.calls.Serve.{IsPlace, ServesInPace, StopsStrict}
+use Rattle.prevalence_store.specs.meaning.Answers.{Progress, begun}
+use Rattle.prevalence_store.specs.calls.Pace.{Paces, fill_of}
+use Rattle.prevalence_store.specs.calls.Serve.{IsUnaccepted, ServesInPace, StopsStrict}
 use Rattle.prevalence_store.specs.calls.Store.{StoreView}
-use Rattle.prevalence_store.specs.steps.Answer.{AnswersFault, AnswersRead, PassesForm, StopsInForm}
-use Rattle.prevalence_store.specs.steps.Course.{Course}
+use Rattle.prevalence_store.specs.steps.Answer.{AnswersFault, AnswersForm, AnswersRead, BeginsWith, PassesForm, StopsInForm, TellsForm}
+use Rattle.prevalence_store.specs.steps.Course.{Course, pass}
 use Rattle.prevalence_store.specs.steps.Input.{HasRefusal}
 use Rattle.prevalence_store.specs.steps.Serve.{Answers, EndsAt, HasEnded, HasEndedAt, ended_at}
+use Rattle.prevalence_store.proofs.steps.Places.{place_at_once}
 use Rattle.prevalence_store.proofs.steps.Endings.{done, fault_answered, no_memory, nothing}
 use Rattle.prevalence_store.proofs.steps.Pacing.{done_paced, fault_paced, no_memory_paced}
 use Rattle.user_macros.specs.Functions.{Functions}
@@ -31,11 +36,6 @@ module _ (functions : Functions) {D R : Type 0} (state : D → State) where
       → HasEndedAt functions state strict course old new w mode text a b (ways.Store number)
   ends_at_once strict course old new w mode text a b number is =
       (record { serves = is.0.serves; paced = is.1; stays = λ output all. let one = is.0.in_form output in absurd (omega arith) }, λ is_strict. is.0.accepted)
-
-  -- the place of a refusal of the reader, before which no form was answered
-  place_at_once : (course : Course) (text : List ℕ) (start at : ℕ) (place : Place) → place.forms ≡ course.forms → place.start ≡ course.bytes + start → place.at ≡ course.bytes + at → start ≤ length text
-      → IsPlace course.forms course.bytes 0 text text at place
-  place_at_once course text start at place forms_is start_is at_is within = record { forms_are = forms_is; at_is = omega arith; begins = omega arith; ends = omega arith }
 
   -- the reader refused the text, whatever follows it
   pub fault_ended : (sound : (d : D) → IsHonest (state d) → IsSound (state d)) (strict : Bool) (course later : Course) (old new : StoreView D R) (w : WorldState) (mode : Mode) (text : List ℕ) (a b : Option (List ℕ)) (pending : Pending)
@@ -59,7 +59,7 @@ module _ (functions : Functions) {D R : Type 0} (state : D → State) where
         stays = λ others. (refl, (refuses.at, still others ∙ ap (λ n. refused n refuses.at) (sym is.0)));
       },
       λ is_strict. refl,
-      place_at_once course (text ++ more) start refuses.at place forms_is start_is at_is longer_within,
+      (refuses.at, refuses.reads more ∙ ap (λ n. refused n refuses.at) (sym is.0), place_at_once course (text ++ more) start refuses.at place forms_is start_is at_is longer_within),
     )
     by_ending (Store code) (inl full) = (
       record {
@@ -122,7 +122,7 @@ module _ (functions : Functions) {D R : Type 0} (state : D → State) where
       fault_paced functions state sound old new w mode text a b known number at reads same (Reader code) answers course.pace,
       λ is_strict. refl,
     ),
-    place_at_once course text start at place forms_is start_is at_is within,
+    (at, reads ∙ ap (λ n. refused n at) (sym answers.0), place_at_once course text start at place forms_is start_is at_is within),
   )
   fault_at_end sound strict course old new w mode text a b number at known reads same start place forms_is start_is at_is within (Store code) (inl full) = (
     fault_answered functions state sound old new w mode text a b known number at reads same (Store code) (inl full),
@@ -172,9 +172,9 @@ module _ (functions : Functions) {D R : Type 0} (state : D → State) where
   read_at_end wanted course later old new w text a b start next (ways.Store number) is within = (is.0.serves, is.1, λ is_strict. is.0.accepted)
 
   -- a form that was passed, by its offsets in the text
-  pub at_starts : (course later : Course) (old new : StoreView D R) (w : WorldState) (wanted : Wanted) (text : List ℕ) (a b : Option (List ℕ)) (start next from to refused : ℕ) → from ≡ start → to ≡ next
-      → PassesForm functions state course later old new w wanted text a b start next refused → PassesForm functions state course later old new w wanted text a b from to refused
-  at_starts course later old new w wanted text a b start next from to refused start_is next_is passes = record {
+  pub at_starts : (course later : Course) (old new : StoreView D R) (w : WorldState) (wanted : Wanted) (text : List ℕ) (a b : Option (List ℕ)) (start next from to : ℕ) (refusals : List ℕ) → from ≡ start → to ≡ next
+      → PassesForm functions state course later old new w wanted text a b start next refusals → PassesForm functions state course later old new w wanted text a b from to refusals
+  at_starts course later old new w wanted text a b start next from to refusals start_is next_is passes = record {
     far = passes.far;
     advances = passes.advances;
     paced = passes.paced;
@@ -182,3 +182,40 @@ module _ (functions : Functions) {D R : Type 0} (state : D → State) where
     bytes = passes.bytes ∙ ap (λ n. course.bytes + n) (sym next_is);
     refused_are = passes.refused_are;
   }
+
+  -- a form that was answered, and whose bytes were passed
+  pub passes_form : (course mid later : Course) (old new : StoreView D R) (w : WorldState) (wanted : Wanted) (text : List ℕ) (a b : Option (List ℕ)) (start next : ℕ) (answered : Answered)
+      → AnswersForm functions state old new w wanted.mode course.pace mid.pace text a b (Ok answered) → mid.forms ≡ course.forms → mid.bytes ≡ course.bytes → later ≡ pass next mid
+      → (far : Progress) × PassesForm functions state course later old new w wanted text a b start next far.refused × TellsForm functions w wanted.mode text far answered
+  passes_form course mid later old new w wanted text a b start next answered is forms bytes passed = (
+    is.0,
+    record {
+      far = is.0;
+      advances = is.1;
+      paced = subst (λ (k : Course). Paces functions old.limit w is.0.taken course.pace k.pace (fill_of old) (fill_of new)) (sym passed) is.2;
+      forms = ap (λ (k : Course). k.forms) passed ∙ ap (λ n. n + 1) forms;
+      bytes = ap (λ (k : Course). k.bytes) passed ∙ ap (λ n. n + next) bytes;
+      refused_are = refl;
+    },
+    is.3,
+  )
+
+  pub tells_accepted : (w : WorldState) (mode : Mode) (text : List ℕ) (far : Progress) (answered : Answered) → ((number : ℕ) → answered ≡ Refused number → ⊥) → TellsForm functions w mode text far answered → far.refused ≡ []
+  tells_accepted w mode text far (Accepted logged) other tells = tells
+  tells_accepted w mode text far (Refused number) other tells = absurd (other number refl)
+
+  -- it was refused where it begins
+  pub refused_there : (course later : Course) (old new : StoreView D R) (w : WorldState) (wanted : Wanted) (text : List ℕ) (a b : Option (List ℕ)) (x : Object) (own : List ℕ) (start next number : ℕ) (far : Progress) (place : Place)
+      → wanted.strict ≡ true → (passes : PassesForm functions state course later old new w wanted text a b start next far.refused) → TellsForm functions w wanted.mode text far (Refused number)
+      → (n : ℕ) (begins : BeginsWith functions w wanted.mode text x own n) → begins.start ≡ start → place.forms ≡ course.forms → place.start ≡ course.bytes + start → place.at ≡ course.bytes + start
+      → AnswersRead functions state course later old new w wanted text a b start next (Err (ways.Unaccepted number place))
+  refused_there course later old new w wanted text a b x own start next number far place strict passes tells n begins start_is forms_is first_is at_is =
+      let told = tells.1 in
+      let same : told.0 ≡ begins.start = let one = sym told.1.reads ∙ begins.reads in cc in (
+        strict,
+        subst (λ l. PassesForm functions state course later old new w wanted text a b start next l) tells.0 passes,
+        subst (λ k. IsUnaccepted functions w wanted.mode text number k) (same ∙ start_is) told.1,
+        forms_is,
+        first_is,
+        at_is,
+      )

@@ -76,7 +76,7 @@ module _ (functions : Functions) where
         → IsAfter functions state old new w (evaluated w mode own (drop next text) (Ok (done_of e given)))
     after_stores e given valued stores = by_wrote e.wrote stores where
       by_wrote : (wrote : Bool) → Stores state old new wrote mode own given
-          → IsAfter functions state old new w (record { world = given; rest = drop next text; taken = records_of wrote mode own; lines = value_line given (object_of e.value); refused = 0 })
+          → IsAfter functions state old new w (record { world = given; rest = drop next text; taken = records_of wrote mode own; lines = value_line given (object_of e.value); refused = [] })
       by_wrote true logs = record {
         left = logs.left;
         records = record_makes (done_of e given) valued;
@@ -98,8 +98,8 @@ module _ (functions : Functions) where
       by_wrote false same =
           let left : Some w ≡ Some given = sym known ∙ sym (ap (λ (s : StoreView D R). s.world) same.0) ∙ same.1 in
           let here : w ≡ given = cc in
-          subst (λ v. IsAfter functions state old new w (record { world = v; rest = drop next text; taken = []; lines = value_line given (object_of e.value); refused = 0 })) here
-          (after_none functions state sound old new w mode text held written known (drop next text) (value_line given (object_of e.value)) 0 same.0)
+          subst (λ v. IsAfter functions state old new w (record { world = v; rest = drop next text; taken = []; lines = value_line given (object_of e.value); refused = [] })) here
+          (after_none functions state sound old new w mode text held written known (drop next text) (value_line given (object_of e.value)) [] same.0)
 
     -- what it leaves in the half in use
     leaves : (wrote : Bool) (given : WorldState) → Stores state old new wrote mode own given
@@ -134,7 +134,7 @@ module _ (functions : Functions) where
           record {
             far_is = one_is (Err number) (of.cause w known);
             lines = subst (λ l. Writes held written l) is_line.line_of writes;
-            after = after_none functions state sound old new w mode text held written known (drop next text) (refusal_line number) 1 same;
+            after = after_none functions state sound old new w mode text held written known (drop next text) (refusal_line number) (number ∷ []) same;
             survives = unchanged_survives functions state sound old new w same;
           },
           refused_leaves same,
@@ -210,7 +210,7 @@ module _ (functions : Functions) where
                 some_left = some_first part.1 (last_line (read_in functions far.world mode far.rest)) part.3;
                 front = unwritten_front far.lines line part.0 part.1 (last_line (read_in functions far.world mode far.rest)) is_line.line_of part.2;
                 in_form = λ one. (part.1, part.3, sym is_line.line_of ∙ part.2);
-                after = after_none functions state sound old new w mode text held written known (drop next text) (refusal_line number) 1 same;
+                after = after_none functions state sound old new w mode text held written known (drop next text) (refusal_line number) (number ∷ []) same;
               }))))))),
           inr (inl (refl, inl refl, (false, refused_leaves same))),
         )
@@ -224,7 +224,7 @@ module _ (functions : Functions) where
     out_of_memory number memory same quiet = (
       record {
         serves = nothing functions state sound old new w mode text held written known (Store number) [] same (writes_nothing held written quiet)
-            (inr (inr (inr (inr (inr (inr (record { memory = memory; no_part = refl; after = after_none functions state sound old new w mode text held written known text [] 0 same })))))));
+            (inr (inr (inr (inr (inr (inr (record { memory = memory; no_part = refl; after = after_none functions state sound old new w mode text held written known text [] [] same })))))));
         in_form = λ output. absurd (omega arith);
         accepted = refl;
       },
@@ -258,7 +258,7 @@ module _ (functions : Functions) where
                 one_open = refl;
                 no_part = refl;
                 mid = old;
-                before = after_none functions state sound old old w mode text held held known text [] 0 refl;
+                before = after_none functions state sound old old w mode text held held known text [] [] refl;
                 record_ = logged mode own;
                 was_accepted = taken;
                 fits = why.1;

@@ -73,6 +73,10 @@ abbrev pub to_take : (before many : ℕ) → ℕ
 to_take zero many = many + many
 to_take (suc n) many = suc (many + many)
 
+-- the own text of a form, as a slice of the same bytes
+pub begins_as : (functions : Functions) (w : WorldState) (mode : Mode) (text : List ℕ) (x : Object) (own slice : List ℕ) (next : ℕ) (begins : BeginsWith functions w mode text x own next) → slice ≡ own → BeginsWith functions w mode text x slice next
+begins_as functions w mode text x own slice next begins same = record { start = begins.start; stop = begins.stop; reads = begins.reads; is_own = same ∙ begins.is_own }
+
 -- ---- a form that the bytes begin with, whatever follows them
 
 module _ (functions : Functions) (w : WorldState) (mode : Mode) (pending : Pending) (text : List ℕ) (x : Object) (own : List ℕ) (left : Bool)
@@ -102,6 +106,15 @@ module _ (functions : Functions) (w : WorldState) (mode : Mode) (pending : Pendi
 
   pub form_begins_here : (slice : List ℕ) → slice ≡ own → BeginsWith functions w mode text x slice has.next
   form_begins_here slice same = record { start = has.start; stop = has.stop; reads = reads_here; is_own = same ∙ has.is_own }
+
+  -- where they begin
+  pub begins_start : (slice more : List ℕ) (same : slice ≡ own) → (form_begins slice more same).start ≡ has.start
+  unfolding form_begins
+  begins_start slice more same = refl
+
+  pub begins_here_start : (slice : List ℕ) (same : slice ≡ own) → (form_begins_here slice same).start ≡ has.start
+  unfolding form_begins_here
+  begins_here_start slice same = refl
 
   one_form_of : (t : List ℕ) → read_in functions w mode t ≡ form x has.start has.stop has.next
       → after_forms functions 1 w mode t ≡ Some (evaluated w mode (between has.start has.stop t) (drop has.next t) given)
@@ -139,9 +152,9 @@ module _ (functions : Functions) (w : WorldState) (mode : Mode) (pending : Pendi
 
   module _ {D R : Type 0} (state : D → State) (wanted : Wanted) (same_mode : wanted.mode ≡ mode) (course later : Course) (old new : StoreView D R) (a b : Option (List ℕ)) where
     -- the form was answered, and what follows it is left
-    pub after_form : (refused : ℕ) → PassesForm functions state course later old new w wanted text a b has.start has.next refused → (wanted.strict ≡ true → refused ≡ 0)
+    pub after_form : (refusals : List ℕ) → PassesForm functions state course later old new w wanted text a b has.start has.next refusals → (wanted.strict ≡ true → refusals ≡ [])
         → GoesOn functions state wanted.strict course later old new w mode text a b pending (drop has.next text)
-    after_form refused passes accepted =
+    after_form refusals passes accepted =
         let far : Progress = passes.far in
         let far_is = subst (λ (m : Mode). after_forms functions 1 w m text ≡ Some far) same_mode passes.advances.far_is in
         let left = one_rest far far_is in
@@ -165,6 +178,10 @@ module _ (functions : Functions) (w : WorldState) (mode : Mode) (text : List ℕ
   pub last_begins : (slice : List ℕ) → slice ≡ own → BeginsWith functions w mode text x slice (length text)
   last_begins slice same = record { start = last.start; stop = last.stop; reads = last.reads; is_own = same ∙ last.is_own }
 
+  pub last_start : (slice : List ℕ) (same : slice ≡ own) → (last_begins slice same).start ≡ last.start
+  unfolding last_begins
+  last_start slice same = refl
+
   last_rest : (far : Progress) → after_forms functions 1 w mode text ≡ Some far → far.rest ≡ []
   last_rest far is =
       let given = accept functions.names w x in
@@ -173,9 +190,9 @@ module _ (functions : Functions) (w : WorldState) (mode : Mode) (text : List ℕ
       ap (λ (p : Progress). p.rest) same ∙ rest_evaluated w mode (between last.start last.stop text) (drop (length text) text) given ∙ drop_all (length text) text (omega arith)
 
   -- it was answered, and nothing is left
-  pub ended_form : {D R : Type 0} (state : D → State) (wanted : Wanted) → wanted.mode ≡ mode → (course later : Course) (old new : StoreView D R) (a b : Option (List ℕ)) (start next refused : ℕ)
-      → PassesForm functions state course later old new w wanted text a b start next refused → (wanted.strict ≡ true → refused ≡ 0) → ServesStrict functions state wanted.strict course old new w mode text a b End
-  ended_form state wanted same_mode course later old new a b start next refused passes accepted =
+  pub ended_form : {D R : Type 0} (state : D → State) (wanted : Wanted) → wanted.mode ≡ mode → (course later : Course) (old new : StoreView D R) (a b : Option (List ℕ)) (start next : ℕ) (refusals : List ℕ)
+      → PassesForm functions state course later old new w wanted text a b start next refusals → (wanted.strict ≡ true → refusals ≡ []) → ServesStrict functions state wanted.strict course old new w mode text a b End
+  ended_form state wanted same_mode course later old new a b start next refusals passes accepted =
       let far : Progress = passes.far in
       let advances = subst (λ (m : Mode). Advances functions state old new w m text a b 1 far) same_mode passes.advances in (
         record {

@@ -285,7 +285,7 @@ module _ (functions : Functions) {D R : Type 0} (state : D → State) (old new :
     pub one_more : forms ≡ accepted + 1
     pub before : Progress
     pub before_is : after_forms functions accepted world mode text ≡ Some before
-    pub none_refused : before.refused ≡ 0
+    pub none_refused : before.refused ≡ []
     pub start : ℕ
     pub refuses : IsUnaccepted functions before.world mode before.rest number start
     pub is_place : IsPlace forms_before bytes_before accepted text before.rest start place
@@ -293,17 +293,18 @@ module _ (functions : Functions) {D R : Type 0} (state : D → State) (old new :
 
   -- The reader refused what was left, at this place.
   abbrev pub RefusesAt : (forms_before bytes_before number : ℕ) → Serves functions state old new world mode text held written (Reader number) → Place → Type 0
-  RefusesAt forms_before bytes_before number served place = IsPlace forms_before bytes_before served.forms text served.far.rest served.ends.at place
+  RefusesAt forms_before bytes_before number served place =
+      (at : ℕ) × (read_in functions served.far.world mode served.far.rest ≡ refused number at) × IsPlace forms_before bytes_before served.forms text served.far.rest at place
 
 -- A session over what a reader gives, as it is wanted: as `ServesInput`, with the place of a refusal of the reader counted in the input;
 -- and if it is strict all forms whose lines were written whole were accepted, but the one at which it ended.
 abbrev pub ServesWanted : (functions : Functions) {D R : Type 0} (state : D → State) (wanted : Wanted) (old new : StoreView D R) (world : WorldState) (had has held written : Option (List ℕ)) → Ended → Type 0
 ServesWanted functions state wanted old new world had has held written ways.End =
     (served : ServesInput functions state wanted.snapshot_every old new world wanted.mode had has held written End)
-    × (wanted.strict ≡ true → served.serves.answered.refused ≡ 0)
+    × (wanted.strict ≡ true → served.serves.answered.refused ≡ [])
 ServesWanted functions state wanted old new world had has held written (ways.Unreadable number place) =
     (served : ServesInput functions state wanted.snapshot_every old new world wanted.mode had has held written (Reader number))
-    × (wanted.strict ≡ true → served.serves.answered.refused ≡ 0)
+    × (wanted.strict ≡ true → served.serves.answered.refused ≡ [])
     × RefusesAt functions state old new world wanted.mode served.text held written (first_pace wanted.snapshot_every) 0 0 number served.serves place
 ServesWanted functions state wanted old new world had has held written (ways.Unaccepted number place) =
     (wanted.strict ≡ true) × (text : List ℕ)
@@ -311,4 +312,4 @@ ServesWanted functions state wanted old new world had has held written (ways.Una
     × ((all : List ℕ) → had ≡ Some all → (left : List ℕ) × (all ≡ text ++ left) × (has ≡ Some left))
 ServesWanted functions state wanted old new world had has held written (ways.Store number) =
     (served : ServesInput functions state wanted.snapshot_every old new world wanted.mode had has held written (Store number))
-    × (wanted.strict ≡ true → served.serves.answered.refused ≡ 0)
+    × (wanted.strict ≡ true → served.serves.answered.refused ≡ [])

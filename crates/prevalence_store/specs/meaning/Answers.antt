@@ -1,5 +1,5 @@
 -- What comes of the forms of a text, one after the other: the world, the records, and a line for each.
-use Rattle.std.specs.Prelude.{ℕ, ◌+◌, suc, zero, List, [], ◌∷◌, ◌++◌, drop, Option, None, Some, Ok, Err, codes}
+use Rattle.std.specs.Prelude.{ℕ, suc, zero, List, [], ◌∷◌, ◌++◌, drop, Option, None, Some, Ok, Err, codes}
 use Rattle.std.specs.Prelude.{decimal}
 use Rattle.std.specs.Option.{option_map, option_and_then}
 use Rattle.gate_log.specs.Layout.{LogRecord}
@@ -23,21 +23,21 @@ abbrev pub refusal_line : ℕ → List ℕ
 refusal_line number = codes "! " ++ decimal number ++ 32 ∷ name_of number ++ 10 ∷ []
 
 -- How far a session has come: its world, the text that is left, the records of the forms that were accepted and wrote, the
--- lines of all forms, and how many of them were refused.
+-- lines of all forms, and the numbers of those that were refused.
 pub record Progress : Type 0 where
   pub world : WorldState
   pub rest : List ℕ
   pub taken : List LogRecord
   pub lines : List ℕ
-  pub refused : ℕ
+  pub refused : List ℕ
 
 -- before the first form
 abbrev pub begun : WorldState → List ℕ → Progress
-begun world text = record { world = world; rest = text; taken = []; lines = []; refused = 0 }
+begun world text = record { world = world; rest = text; taken = []; lines = []; refused = [] }
 
 -- and what came of the rest
 abbrev pub onward : Progress → Progress → Progress
-onward p q = record { world = q.world; rest = q.rest; taken = p.taken ++ q.taken; lines = p.lines ++ q.lines; refused = p.refused + q.refused }
+onward p q = record { world = q.world; rest = q.rest; taken = p.taken ++ q.taken; lines = p.lines ++ q.lines; refused = p.refused ++ q.refused }
 
 -- What comes of a form with this text of its own, after which this is left, by what its evaluation gave. A form that is refused
 -- leaves no record, nor does one that writes nothing.
@@ -47,9 +47,9 @@ evaluated world mode own rest (Ok done) = record {
   rest = rest;
   taken = records_of done.wrote mode own;
   lines = value_line done.state done.value;
-  refused = 0;
+  refused = [];
 }
-evaluated world mode own rest (Err number) = record { world = world; rest = rest; taken = []; lines = refusal_line number; refused = 1 }
+evaluated world mode own rest (Err number) = record { world = world; rest = rest; taken = []; lines = refusal_line number; refused = number ∷ [] }
 
 -- of what the text begins with, if that is a form
 abbrev pub one_form : Functions → WorldState → Mode → List ℕ → Reading → Option Progress

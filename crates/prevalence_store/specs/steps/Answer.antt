@@ -65,8 +65,8 @@ was_logged (Refused number) = false
 
 -- it was refused, or not
 abbrev pub TellsForm : Functions → WorldState → Mode → List ℕ → Progress → Answered → Type 0
-TellsForm functions world mode text far (Accepted logged) = far.refused ≡ 0
-TellsForm functions world mode text far (Refused number) = (far.refused ≡ 1) × ((start : ℕ) × IsUnaccepted functions world mode text number start)
+TellsForm functions world mode text far (Accepted logged) = far.refused ≡ []
+TellsForm functions world mode text far (Refused number) = (far.refused ≡ number ∷ []) × ((start : ℕ) × IsUnaccepted functions world mode text number start)
 
 module _ (functions : Functions) {D R : Type 0} (state : D → State) (old new : StoreView D R) (world : WorldState) (mode : Mode) where
   -- The session has ended in a form, with this number: if the output failed, in the line of that form.
@@ -74,7 +74,7 @@ module _ (functions : Functions) {D R : Type 0} (state : D → State) (old new :
     pub serves : Serves functions state old new world mode text held written (Store number)
     pub in_form : number ≡ OUTPUT → serves.forms ≡ serves.lines + 1
     -- what was answered whole was accepted
-    pub accepted : serves.answered.refused ≡ 0
+    pub accepted : serves.answered.refused ≡ []
 
   -- what is in the half in use of a form in which the session has ended: nothing, or its record if it left one
   abbrev pub EndsTry : (text : List ℕ) (held written : Option (List ℕ)) (number : ℕ) → StopsInForm text held written number → Type 0
@@ -119,20 +119,20 @@ module _ (functions : Functions) {D R : Type 0} (state : D → State) (old new :
 -- Of a form that was read: it was answered, and takes so many bytes; or the session has ended in it, at once or, if it is strict, as
 -- it was refused.
 module _ (functions : Functions) {D R : Type 0} (state : D → State) (course later : Course) (old new : StoreView D R) (world : WorldState) (wanted : Wanted) (text : List ℕ) (held written : Option (List ℕ)) (start next : ℕ) where
-  pub record PassesForm (refused : ℕ) : Type 0 where
+  pub record PassesForm (refusals : List ℕ) : Type 0 where
     pub far : Progress
     pub advances : Advances functions state old new world wanted.mode text held written 1 far
     pub paced : Paces functions old.limit world far.taken course.pace later.pace (fill_of old) (fill_of new)
     pub forms : later.forms ≡ course.forms + 1
     pub bytes : later.bytes ≡ course.bytes + next
-    pub refused_are : far.refused ≡ refused
+    pub refused_are : far.refused ≡ refusals
 
   abbrev pub AnswersRead : Result Unit Ended → Type 0
-  AnswersRead (Ok done) = (refused : ℕ) × PassesForm refused × (wanted.strict ≡ true → refused ≡ 0)
+  AnswersRead (Ok done) = (refusals : List ℕ) × PassesForm refusals × (wanted.strict ≡ true → refusals ≡ [])
   AnswersRead (Err ways.End) = ⊥
   AnswersRead (Err (ways.Unreadable number place)) = ⊥
   AnswersRead (Err (ways.Unaccepted number place)) =
-      (wanted.strict ≡ true) × PassesForm 1 × IsUnaccepted functions world wanted.mode text number start
+      (wanted.strict ≡ true) × PassesForm (number ∷ []) × IsUnaccepted functions world wanted.mode text number start
       × (place.forms ≡ course.forms) × (place.start ≡ course.bytes + start) × (place.at ≡ course.bytes + start)
   AnswersRead (Err (ways.Store number)) =
       (stops : StopsInForm functions state old new world wanted.mode text held written number)

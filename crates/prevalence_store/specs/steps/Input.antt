@@ -75,7 +75,7 @@ IsSoundFed (Refused number start at) = Unit {0}
 -- the places are among so many bytes
 abbrev pub IsWithin : ℕ → Fed → Type 0
 IsWithin many Nothing = Unit {0}
-IsWithin many (Form it left) = (it.start ≤ it.next) × (it.next ≤ many)
+IsWithin many (Form it left) = (it.start < it.next) × (it.next ≤ many)
 IsWithin many (Refused number start at) = (start ≤ many) × (at ≤ many)
 
 -- Of a piece some bytes were fed: the first of them that decides something is the last that was; if none does, all were. Before and

@@ -40,7 +40,7 @@ pub record GoesOn (functions : Functions) {D R : Type 0} (state : D → State) (
   pub advances : Advances functions state old new world mode text held written forms far
   pub paced : Paces functions old.limit world far.taken course.pace later.pace (fill_of old) (fill_of new)
   pub comes : Comes course later forms text far.rest
-  pub accepted : strict ≡ true → far.refused ≡ 0
+  pub accepted : strict ≡ true → far.refused ≡ []
   pub stays : (more : List ℕ) → after_forms functions forms world mode (text ++ more) ≡ Some (record far { rest = far.rest ++ more })
   pub bytes : List ℕ
   pub rest : far.rest ≡ bytes ++ left
@@ -67,7 +67,7 @@ module _ (functions : Functions) {D R : Type 0} (state : D → State) (strict : 
   ServesStrict ending =
       (served : Serves functions state old new world mode text held written ending)
       × ServesInPace functions state course.pace old new world mode text held written ending served
-      × (strict ≡ true → served.answered.refused ≡ 0)
+      × (strict ≡ true → served.answered.refused ≡ [])
 
   -- the same, with the place of a refusal
   abbrev pub EndsAt : Ended → Type 0
@@ -83,12 +83,12 @@ module _ (functions : Functions) {D R : Type 0} (state : D → State) (strict : 
   HasEndedAt ways.End = ⊥
   HasEndedAt (ways.Unreadable number place) =
       (is : HasEnded functions state course.pace old new world mode text held written (Reader number))
-      × (strict ≡ true → is.serves.answered.refused ≡ 0)
+      × (strict ≡ true → is.serves.answered.refused ≡ [])
       × RefusesAt functions state old new world mode text held written course.pace course.forms course.bytes number is.serves place
   HasEndedAt (ways.Unaccepted number place) =
       (strict ≡ true) × StopsStrict functions state old new world mode text held written course.pace course.forms course.bytes number place
   HasEndedAt (ways.Store number) =
-      (is : HasEnded functions state course.pace old new world mode text held written (Store number)) × (strict ≡ true → is.serves.answered.refused ≡ 0)
+      (is : HasEnded functions state course.pace old new world mode text held written (Store number)) × (strict ≡ true → is.serves.answered.refused ≡ [])
 
 module _ (functions : Functions) {D R : Type 0} (state : D → State) (strict : Bool) (course later : Course) (old new : StoreView D R) (world : WorldState) (mode : Mode) (text : List ℕ) (held written : Option (List ℕ)) (pending : Pending) where
   -- The session goes on; or it has ended, whatever follows the text.

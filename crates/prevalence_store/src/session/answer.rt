@@ -69,7 +69,7 @@ impl<D: Disk, R: MacroFunctions> Store<D, R> {
         form: &ReadForm,
     ) -> Result<(), Ended>
         requires form { IsFormOf R.Meaning.functions self.old.world wanted.mode form.now.datum form.now.own.items }
-        requires order { form.now.start ≤ form.now.next }
+        requires order { form.now.start < form.now.next }
         requires forms { (course_of course.old).forms ≤ (course_of course.old).bytes }
         requires room { (course_of course.old).bytes + form.now.next < 2 ^ 63 }
         ensures answers { (w : WorldState) → self.old.world ≡ Some w → (text : List ℕ) (next : ℕ)

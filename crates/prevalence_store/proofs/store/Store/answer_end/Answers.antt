@@ -1,11 +1,12 @@
 use Rattle.std.proofs.Common.{◌≡◌, ◌+◌, refl, sym, subst, ap, ◌∙◌, arith}
+use Rattle.form_reader.specs.Reader.{fed}
 use Rattle.lisp_object.specs.Datum.{object_of}
 use Rattle.prevalence_store.specs.declared.session.input.Fed.{Fed}
 use Rattle.prevalence_store.specs.steps.Course.{course_of}
 use Rattle.prevalence_store.specs.steps.Input.{Finishes, IsSoundFed, IsWithin}
 use Rattle.prevalence_store.specs.steps.Serve.{EndsAt, ended_at}
 use Rattle.prevalence_store.proofs.steps.EndedAt.{at_starts, done_at_end, fault_at_end, memory_at_end, read_at_end}
-use Rattle.prevalence_store.proofs.steps.Pieces.{ended_form, last_begins}
+use Rattle.prevalence_store.proofs.steps.Pieces.{ended_form, last_begins, last_start}
 use Rattle.prevalence_store.proofs.store.Store.answer_end.Goals as goal
 
 pub returns-in-Err-clause-ends : goal.returns-in-Err-clause-ends
@@ -18,11 +19,11 @@ returns-in-Nothing-clause-ends g c = λ w known bytes p.
     done_at_end functions g.D.Disk.state g.met.D.Disk.sound c.args.wanted.strict (course_of c.args.course.now) c.args.self.now w c.args.wanted.mode bytes (g.W.Write.contents c.args.writer.now) known
     (sym (subst (λ (f : Fed). Finishes functions w c.args.wanted.mode bytes f) c.in-Nothing.is (c.in-Ok.ensures.finishes w known bytes p)))
 
-pub place-requires-clause-start : goal.place-requires-clause-start
-place-requires-clause-start g c = let within = subst (λ (f : Fed). IsWithin _ f) c.in-Refused.is c.in-Ok.ensures.within in omega (arith, within.0, c.requires.count)
+pub place-place-requires-clause-start : goal.place-place-requires-clause-start
+place-place-requires-clause-start g c = let within = subst (λ (f : Fed). IsWithin (fed c.args.pending.reader) f) c.in-Refused.is c.in-Ok.ensures.within in omega (arith, within.0, c.requires.count)
 
-pub place-requires-clause-at : goal.place-requires-clause-at
-place-requires-clause-at g c = let within = subst (λ (f : Fed). IsWithin _ f) c.in-Refused.is c.in-Ok.ensures.within in omega (arith, within.1, c.requires.count)
+pub place-place-requires-clause-at : goal.place-place-requires-clause-at
+place-place-requires-clause-at g c = let within = subst (λ (f : Fed). IsWithin (fed c.args.pending.reader) f) c.in-Refused.is c.in-Ok.ensures.within in omega (arith, within.1, c.requires.count)
 
 pub returns-in-Refused-clause-ends : goal.returns-in-Refused-clause-ends
 returns-in-Refused-clause-ends g c = λ w known bytes p.
@@ -32,7 +33,7 @@ returns-in-Refused-clause-ends g c = λ w known bytes p.
     let written = g.W.Write.contents c.answer_fault.new.writer in
     let course = course_of c.args.course.now in
     let told = subst (λ (fed : Fed). Finishes functions w c.args.wanted.mode bytes fed) f.is (c.in-Ok.ensures.finishes w known bytes p) in
-    let within = subst (λ (fed : Fed). IsWithin _ fed) f.is c.in-Ok.ensures.within in
+    let within = subst (λ (fed : Fed). IsWithin (fed c.args.pending.reader) fed) f.is c.in-Ok.ensures.within in
     let place = c.place-place.ensures in
     subst (λ ended. EndsAt functions g.D.Disk.state c.args.wanted.strict course c.args.self.now c.answer_fault.new.self w c.args.wanted.mode bytes held written ended) (sym c.at.ensures)
     (fault_at_end functions g.D.Disk.state g.met.D.Disk.sound c.args.wanted.strict course c.args.self.now c.answer_fault.new.self w c.args.wanted.mode bytes held written f.number f.at known told
@@ -41,7 +42,7 @@ returns-in-Refused-clause-ends g c = λ w known bytes p.
 pub answer_read-requires : goal.answer_read-requires
 answer_read-requires g c =
     let f = c.in-Form in
-    let within = subst (λ (fed : Fed). IsWithin _ fed) f.is c.in-Ok.ensures.within in record {
+    let within = subst (λ (fed : Fed). IsWithin (fed c.args.pending.reader) fed) f.is c.in-Ok.ensures.within in record {
       form = record {
         known = c.requires.pending.known;
         read = λ w known.
@@ -57,16 +58,17 @@ answer_read-requires g c =
       room = omega (arith, within.1, c.requires.count);
     }
 
-pub returns-in-Err-answer_read-clause-ends : goal.returns-in-Err-answer_read-clause-ends
-returns-in-Err-answer_read-clause-ends g c = λ w known bytes p.
+pub returns-clause-ends : goal.returns-clause-ends
+returns-clause-ends g c = λ w known bytes p.
     let functions = g.R.Meaning.Meaning.functions in
     let f = c.in-Form in
     let last = subst (λ (fed : Fed). Finishes functions w c.args.wanted.mode bytes fed) f.is (c.in-Ok.ensures.finishes w known bytes p) in
-    let within = subst (λ (fed : Fed). IsWithin _ fed) f.is c.in-Ok.ensures.within in
+    let within = subst (λ (fed : Fed). IsWithin (fed c.args.pending.reader) fed) f.is c.in-Ok.ensures.within in
     read_at_end functions g.D.Disk.state c.args.wanted (course_of c.args.course.now) (course_of c.answer_read.new.course) c.args.self.now c.answer_read.new.self w bytes
     (g.W.Write.contents c.args.writer.now) (g.W.Write.contents c.answer_read.new.writer) f.form.start f.form.next c.in-Err-answer_read.ended
     (c.in-Err-answer_read.ensures.answers w known bytes _
-    (last_begins functions w c.args.wanted.mode bytes (object_of f.form.datum) f.form.own.items last.0 f.form.own.items refl) last.1)
+    (last_begins functions w c.args.wanted.mode bytes (object_of f.form.datum) f.form.own.items last.0 f.form.own.items refl)
+    (last_start functions w c.args.wanted.mode bytes (object_of f.form.datum) f.form.own.items last.0 f.form.own.items refl ∙ last.1))
     (let count = p.count in omega (arith, within.0, within.1, count))
 
 pub returns-in-Ok-answer_read-clause-ends : goal.returns-in-Ok-answer_read-clause-ends
@@ -75,6 +77,7 @@ returns-in-Ok-answer_read-clause-ends g c = λ w known bytes p.
     let f = c.in-Form in
     let last = subst (λ (fed : Fed). Finishes functions w c.args.wanted.mode bytes fed) f.is (c.in-Ok.ensures.finishes w known bytes p) in
     let passed = c.in-Ok-answer_read.ensures.answers w known bytes _
-    (last_begins functions w c.args.wanted.mode bytes (object_of f.form.datum) f.form.own.items last.0 f.form.own.items refl) last.1 in
+    (last_begins functions w c.args.wanted.mode bytes (object_of f.form.datum) f.form.own.items last.0 f.form.own.items refl)
+    (last_start functions w c.args.wanted.mode bytes (object_of f.form.datum) f.form.own.items last.0 f.form.own.items refl ∙ last.1) in
     ended_form functions w c.args.wanted.mode bytes (object_of f.form.datum) f.form.own.items last.0 g.D.Disk.state c.args.wanted refl (course_of c.args.course.now) (course_of c.answer_read.new.course) c.args.self.now c.answer_read.new.self
     (g.W.Write.contents c.args.writer.now) (g.W.Write.contents c.answer_read.new.writer) f.form.start f.form.next passed.0 passed.1 passed.2
