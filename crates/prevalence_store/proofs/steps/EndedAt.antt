@@ -29,6 +29,11 @@ use Rattle.prevalence_store.proofs.steps.Endings.{done, fault_answered, no_memor
 use Rattle.prevalence_store.proofs.steps.Pacing.{done_paced, fault_paced, no_memory_paced}
 use Rattle.user_macros.specs.Functions.{Functions}
 
+-- what was not refused, as it is told
+pub tells_accepted : (functions : Functions) (w : WorldState) (mode : Mode) (text : List ℕ) (far : Progress) (answered : Answered) → ((number : ℕ) → answered ≡ Refused number → ⊥) → TellsForm functions w mode text far answered → far.refused ≡ []
+tells_accepted functions w mode text far (Accepted logged) other tells = tells
+tells_accepted functions w mode text far (Refused number) other tells = absurd (other number refl)
+
 module _ (functions : Functions) {D R : Type 0} (state : D → State) where
   -- the session ended before any answer, whatever follows the text
   pub ends_at_once : (strict : Bool) (course : Course) (old new : StoreView D R) (w : WorldState) (mode : Mode) (text : List ℕ) (a b : Option (List ℕ)) (number : ℕ)
@@ -199,10 +204,6 @@ module _ (functions : Functions) {D R : Type 0} (state : D → State) where
     },
     is.3,
   )
-
-  pub tells_accepted : (w : WorldState) (mode : Mode) (text : List ℕ) (far : Progress) (answered : Answered) → ((number : ℕ) → answered ≡ Refused number → ⊥) → TellsForm functions w mode text far answered → far.refused ≡ []
-  tells_accepted w mode text far (Accepted logged) other tells = tells
-  tells_accepted w mode text far (Refused number) other tells = absurd (other number refl)
 
   -- it was refused where it begins
   pub refused_there : (course later : Course) (old new : StoreView D R) (w : WorldState) (wanted : Wanted) (text : List ℕ) (a b : Option (List ℕ)) (x : Object) (own : List ℕ) (start next number : ℕ) (far : Progress) (place : Place)

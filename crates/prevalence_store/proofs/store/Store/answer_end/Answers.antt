@@ -20,10 +20,10 @@ returns-in-Nothing-clause-ends g c = λ w known bytes p.
     (sym (subst (λ (f : Fed). Finishes functions w c.args.wanted.mode bytes f) c.in-Nothing.is (c.in-Ok.ensures.finishes w known bytes p)))
 
 pub place-place-requires-clause-start : goal.place-place-requires-clause-start
-place-place-requires-clause-start g c = let within = subst (λ (f : Fed). IsWithin (fed c.args.pending.reader) f) c.in-Refused.is c.in-Ok.ensures.within in omega (arith, within.0, c.requires.count)
+place-place-requires-clause-start g c = let within = subst (λ (given : Fed). IsWithin (fed c.args.pending.reader) given) c.in-Refused.is c.in-Ok.ensures.within in omega (arith, within.0, c.requires.count)
 
 pub place-place-requires-clause-at : goal.place-place-requires-clause-at
-place-place-requires-clause-at g c = let within = subst (λ (f : Fed). IsWithin (fed c.args.pending.reader) f) c.in-Refused.is c.in-Ok.ensures.within in omega (arith, within.1, c.requires.count)
+place-place-requires-clause-at g c = let within = subst (λ (given : Fed). IsWithin (fed c.args.pending.reader) given) c.in-Refused.is c.in-Ok.ensures.within in omega (arith, within.1, c.requires.count)
 
 pub returns-in-Refused-clause-ends : goal.returns-in-Refused-clause-ends
 returns-in-Refused-clause-ends g c = λ w known bytes p.
@@ -33,7 +33,7 @@ returns-in-Refused-clause-ends g c = λ w known bytes p.
     let written = g.W.Write.contents c.answer_fault.new.writer in
     let course = course_of c.args.course.now in
     let told = subst (λ (fed : Fed). Finishes functions w c.args.wanted.mode bytes fed) f.is (c.in-Ok.ensures.finishes w known bytes p) in
-    let within = subst (λ (fed : Fed). IsWithin (fed c.args.pending.reader) fed) f.is c.in-Ok.ensures.within in
+    let within = subst (λ (given : Fed). IsWithin (fed c.args.pending.reader) given) f.is c.in-Ok.ensures.within in
     let place = c.place-place.ensures in
     subst (λ ended. EndsAt functions g.D.Disk.state c.args.wanted.strict course c.args.self.now c.answer_fault.new.self w c.args.wanted.mode bytes held written ended) (sym c.at.ensures)
     (fault_at_end functions g.D.Disk.state g.met.D.Disk.sound c.args.wanted.strict course c.args.self.now c.answer_fault.new.self w c.args.wanted.mode bytes held written f.number f.at known told
@@ -42,7 +42,7 @@ returns-in-Refused-clause-ends g c = λ w known bytes p.
 pub answer_read-requires : goal.answer_read-requires
 answer_read-requires g c =
     let f = c.in-Form in
-    let within = subst (λ (fed : Fed). IsWithin (fed c.args.pending.reader) fed) f.is c.in-Ok.ensures.within in record {
+    let within = subst (λ (given : Fed). IsWithin (fed c.args.pending.reader) given) f.is c.in-Ok.ensures.within in record {
       form = record {
         known = c.requires.pending.known;
         read = λ w known.
@@ -63,7 +63,7 @@ returns-clause-ends g c = λ w known bytes p.
     let functions = g.R.Meaning.Meaning.functions in
     let f = c.in-Form in
     let last = subst (λ (fed : Fed). Finishes functions w c.args.wanted.mode bytes fed) f.is (c.in-Ok.ensures.finishes w known bytes p) in
-    let within = subst (λ (fed : Fed). IsWithin (fed c.args.pending.reader) fed) f.is c.in-Ok.ensures.within in
+    let within = subst (λ (given : Fed). IsWithin (fed c.args.pending.reader) given) f.is c.in-Ok.ensures.within in
     read_at_end functions g.D.Disk.state c.args.wanted (course_of c.args.course.now) (course_of c.answer_read.new.course) c.args.self.now c.answer_read.new.self w bytes
     (g.W.Write.contents c.args.writer.now) (g.W.Write.contents c.answer_read.new.writer) f.form.start f.form.next c.in-Err-answer_read.ended
     (c.in-Err-answer_read.ensures.answers w known bytes _

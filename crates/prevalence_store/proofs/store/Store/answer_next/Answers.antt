@@ -40,7 +40,7 @@ returns-in-Refused-clause-answers g c = λ w known bytes p.
     let course = course_of c.args.course.now in
     let f = c.in-Refused in
     let refuses = subst (λ (fed : Fed). Feeds functions w c.args.wanted.mode c.feed.new.pending text fed) f.is (c.in-Ok.ensures.feeds w known bytes p) in
-    let within = subst (λ (fed : Fed). IsWithin (fed c.args.pending.now.reader + c.in-Ok.part.count) fed) f.is c.in-Ok.ensures.part.places in
+    let within = subst (λ (given : Fed). IsWithin (fed c.args.pending.now.reader + c.in-Ok.part.count) given) f.is c.in-Ok.ensures.part.places in
     let many = length-append bytes (take n piece) in
     let taken = length-take-le n piece c.in-Ok.ensures.part.within in
     let place = c.place-place.ensures in
@@ -50,15 +50,15 @@ returns-in-Refused-clause-answers g c = λ w known bytes p.
     refuses.0 c.answer_fault.ensures.same f.start c.place-place.result place.0 place.1 (place.2 ∙ ap (λ k. course.bytes + k) (sym refuses.1)) (let count = p.count in omega (arith, within.0, many, taken, count)) c.answer_fault.result c.answer_fault.ensures.answers))
 
 pub place-place-requires-clause-start : goal.place-place-requires-clause-start
-place-place-requires-clause-start g c = let within = subst (λ (fed : Fed). IsWithin (fed c.args.pending.now.reader + c.in-Ok.part.count) fed) c.in-Refused.is c.in-Ok.ensures.part.places in omega (arith, within.0, c.requires.count, c.in-Ok.ensures.part.within)
+place-place-requires-clause-start g c = let within = subst (λ (given : Fed). IsWithin (fed c.args.pending.now.reader + c.in-Ok.part.count) given) c.in-Refused.is c.in-Ok.ensures.part.places in omega (arith, within.0, c.requires.count, c.in-Ok.ensures.part.within)
 
 pub place-place-requires-clause-at : goal.place-place-requires-clause-at
-place-place-requires-clause-at g c = let within = subst (λ (fed : Fed). IsWithin (fed c.args.pending.now.reader + c.in-Ok.part.count) fed) c.in-Refused.is c.in-Ok.ensures.part.places in omega (arith, within.1, c.requires.count, c.in-Ok.ensures.part.within)
+place-place-requires-clause-at g c = let within = subst (λ (given : Fed). IsWithin (fed c.args.pending.now.reader + c.in-Ok.part.count) given) c.in-Refused.is c.in-Ok.ensures.part.places in omega (arith, within.1, c.requires.count, c.in-Ok.ensures.part.within)
 
 pub answer_read-requires : goal.answer_read-requires
 answer_read-requires g c =
     let f = c.in-Form in
-    let within = subst (λ (fed : Fed). IsWithin (fed c.args.pending.now.reader + c.in-Ok.part.count) fed) f.is c.in-Ok.ensures.part.places in record {
+    let within = subst (λ (given : Fed). IsWithin (fed c.args.pending.now.reader + c.in-Ok.part.count) given) f.is c.in-Ok.ensures.part.places in record {
       form = record {
         known = c.requires.pending.known;
         read = λ w known.
@@ -87,7 +87,7 @@ returns-clause-answers g c = λ w known bytes p.
     let later = course_of c.answer_read.new.course in
     let f = c.in-Form in
     let has = subst (λ (fed : Fed). Feeds functions w c.args.wanted.mode c.feed.new.pending text fed) f.is (c.in-Ok.ensures.feeds w known bytes p) in
-    let within = subst (λ (fed : Fed). IsWithin (fed c.args.pending.now.reader + c.in-Ok.part.count) fed) f.is c.in-Ok.ensures.part.places in
+    let within = subst (λ (given : Fed). IsWithin (fed c.args.pending.now.reader + c.in-Ok.part.count) given) f.is c.in-Ok.ensures.part.places in
     ended_within functions g.D.Disk.state c.args.wanted.strict course later c.args.self.now c.answer_read.new.self w c.args.wanted.mode held written c.feed.new.pending bytes piece n c.in-Err-answer_read.ended
     (λ more. read_ended functions g.D.Disk.state c.args.wanted course later c.args.self.now c.answer_read.new.self w (text ++ more) held written f.form.start f.form.next c.in-Err-answer_read.ended
     (c.in-Err-answer_read.ensures.answers w known (text ++ more) has.0.next

@@ -41,7 +41,7 @@ returns-in_default-clause-answers g c = λ w known text next begins start_is.
     let again = begins_as functions w c.args.wanted.mode text (object_of it.datum) it.own.items c.as_slice-own.result.now next begins c.as_slice-own.ensures.value in
     let passed = passes_form functions g.D.Disk.state course mid later c.args.self.now c.answer_form.new.self w c.args.wanted text held written it.start it.next c.in-Ok.answered
     (c.in-Ok.ensures.answers w known text next again) refl refl c.pass.ensures in
-    (passed.0.refused, passed.1, λ strict. tells_accepted functions g.D.Disk.state w c.args.wanted.mode text passed.0 c.in-Ok.answered (λ number is. c.in_default.not-Refused is) passed.2)
+    (passed.0.refused, passed.1, λ strict. tells_accepted functions w c.args.wanted.mode text passed.0 c.in-Ok.answered (λ number is. c.in_default.not-Refused number is) passed.2)
 
 pub returns-else-wanted-clause-answers : goal.returns-else-wanted-clause-answers
 returns-else-wanted-clause-answers g c = λ w known text next begins start_is.
