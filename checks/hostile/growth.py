@@ -2,7 +2,7 @@
 import collections
 import os
 
-from store import DEVICE, NO_MEMORY, check, courses, library, want
+from store import NO_MEMORY, check, courses, library, want
 
 
 def run(room, every, names=()):
@@ -33,14 +33,12 @@ def disturbed(room, one, loaded, log, number, goes_on, kinds):
         want(got == one.ample, where, "none was refused, and yet", got)
         return False
     left = room.files()
-    want(got == one.ample or got.status == 3 and got.err in (NO_MEMORY, DEVICE), where, got)
+    want(got == one.ample or got.status == 3 and got.err == NO_MEMORY, where, got)
     want(not got.out or got.out.endswith(b"\n"), where, "a part of a line:", got)
     if got == one.ample:
         want(left == one.after, where, "other files")
         kinds["absorbed"] += 1
     else:
-        # while the files are opened, want of memory is told as a fault of the device, and nothing is written
-        want(got.err == NO_MEMORY or got.out == b"" and left in (one.before, [None, None], [b"", None], [b"", b""]), where, got)
         kinds[got.err.decode().strip()] += 1
     check(room, one, got)
     return True

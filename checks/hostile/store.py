@@ -88,6 +88,11 @@ def library(name, folder):
     return built
 
 
+def without_cause(faults):
+    """What was told of a fault, without the line with its cause."""
+    return DEVICE if faults.startswith(DEVICE) and faults.count(b"\n") == 2 else faults
+
+
 class Room:
     """A folder for one store and for logs."""
 
@@ -127,7 +132,7 @@ class Room:
         command, *options = words
         done = subprocess.run([self.program, command, self.store, *options], input=text, capture_output=True, timeout=120,
                               env=environment)
-        return Answer(done.returncode, done.stdout, done.stderr)
+        return Answer(done.returncode, done.stdout, without_cause(done.stderr))
 
 
 def course(room, session, before):

@@ -16,7 +16,7 @@ pub enum Stop {
 }
 
 /// The crashes after a stop. The first leaves the files as they read.
-const CRASHES: [Crash; 4] = [
+pub const CRASHES: [Crash; 4] = [
     Crash::Kept,
     Crash::Lost,
     Crash::Filled(0xa5),
@@ -98,11 +98,16 @@ fn acknowledged(text: &[u8], whole: &[u8]) -> Option<(usize, bool)> {
     Some((count, has_stopped))
 }
 
+/// The text of the world that a disk holds.
+fn world_of(alloc: Global, disk: MemoryDisk) -> Result<Vec<u8>, Trouble> {
+    told(alloc, disk, &[Ask::World])
+}
+
 /// The text of the world after forms over these files.
 fn world_after(alloc: Global, files: &Files, forms: &[Step<'_>]) -> Result<Vec<u8>, Trouble> {
     let disk = disk_with(alloc, files)?;
     let (_text, disk) = asked(alloc, disk, AMPLE, &[Ask::Run(forms)])?;
-    told(alloc, disk, &[Ask::World])
+    world_of(alloc, disk)
 }
 
 /// The texts of the worlds after none of the forms, after one, after two and so on.

@@ -1,171 +1,10 @@
-//! The program: its words, its statuses, and real files.
+//! The program over real files: its sessions, its other commands, and its statuses.
 
-use crate::runs::{Lack, Ran, difference_in, folder_for, holds, run, told, words_of};
+use crate::runs::{Lack, difference, difference_in, folder_for, holds, run, told};
+use disk_trait::{HostDisk, IfMissing};
 use std::alloc::{AllocError, Global};
 use std::fs;
 use std::test::Fail;
-
-/// The help.
-const HELP: &str = "A store for Lisp forms that keeps what it has answered
-
-Usage: ./pazturrok run DIR [--rescue] [--snapshot-every N]
-       ./pazturrok dump DIR
-       ./pazturrok verify DIR
-
-Commands:
-  run     Serves the forms of standard input to standard output
-  dump    Writes the text of the world
-  verify  Tells the half in use, its generation and how many records it has
-  help    Print this message or the help of the given subcommand(s)
-
-Options:
-  -h, --help  Print help
-
-DIR holds the two files of the store, half-a and half-b, of at most 1,073,741,824 bytes each.
-One process at a time serves a folder.
-
-A form is answered once its record has been synced. Stopped at any moment, a store on an honest
-disk opens again with the world that some first part of the accepted forms gives, and that
-part holds each form that was answered. README.md has the premises, and what is proved.
-
-With --snapshot-every N a snapshot is taken after each N forms that wrote: the text of the world goes into
-the file that is not in use, which is used from then on. One is also taken where a file is full.
-dump DIR writes the text of the world; verify DIR opens the store and tells which file is in use.
-
-With --rescue each form is read under the standard readtable in COMMON-LISP-USER, whatever readtable
-and package the store has. It is the way out of a readtable that can no longer be used:
-(COPY-READTABLE NIL :USER) makes :USER the standard one again.
-
-Macro functions, for SET-MACRO-CHARACTER and SET-DISPATCH-MACRO-CHARACTER:
-  :SQUARE  a vector of the objects up to the next ]
-  :CLOSE   refuses each call, as 20; for a ] that stands alone
-  :NOTE    discards what follows, up to the end of the line
-  :SKIP    discards the object that follows
-  :UNIT    a text of the characters up to the next }
-  :SCALE   the integer that follows, times the numeric argument
-
-Exit status:
-  0  the input was served to its end, or help was asked for
-  1  a text was refused by the reader, which ends the session; its line is the last answer
-  2  the words of the command line were refused
-  3  a fault of the folder, the files, the input, the output or the memory, with the line
-     ! <number> <NAME> on standard error; docs/operating.md says what to do
-";
-
-/// The help of `run`, up to what both have.
-const RUN_HELP: &str = "Serves the forms of standard input to standard output
-
-Usage: ./pazturrok run DIR [--rescue] [--snapshot-every N]
-
-Arguments:
-  <DIR>  The folder of the store, made where it is missing
-
-Options:
-      --rescue              Read each form under the standard readtable in COMMON-LISP-USER
-      --snapshot-every <N>  Take a snapshot after each N forms that write, N from 1 to 1,000,000
-  -h, --help                Print help
-
-DIR holds";
-
-/// Words that are judged: a status, and the words after the program's name; a status of 3 is of a folder that can't be opened.
-const JUDGED: &str = "\
-2
-2 walk /dev/null
-2 run
-2 run -store
-2 run --rescue
-2 run /dev/null --rescue=no
-2 run /dev/null --rescue --rescue
-2 run /dev/null --every 5
-2 run /dev/null more
-2 run /dev/null --snapshot-every
-2 run /dev/null --snapshot-every 0
-2 run /dev/null --snapshot-every 1000001
-2 run /dev/null --snapshot-every x
-2 run /dev/null --snapshot-every -1
-2 run /dev/null --snapshot-every 1 --snapshot-every 1
-2 dump
-2 dump /dev/null more
-2 dump /dev/null --snapshot-every 1
-2 verify
-2 verify /dev/null more
-2 verify /dev/null --rescue
-2 help walk
-3 run /dev/null
-3 run /dev/null --snapshot-every 1
-3 run /dev/null --snapshot-every 1000000
-3 run --snapshot-every=5 --rescue /dev/null
-3 dump /dev/null
-3 verify /dev/null
-0 --help
-0 help
-0 run --help
-0 dump /dev/null --help
-0 help verify";
-
-/// Whether these are the faults that are told of with a status, and nothing is written but where it is 0.
-fn is_told(found: &Ran) -> bool {
-    let told = found.faults.as_slice();
-    let is_told = match found.status {
-        0 => told.is_empty(),
-        2 => told.starts_with(b"error: "),
-        _ => told == b"! 60 DEVICE\n".as_slice(),
-    };
-    is_told && found.output.is_empty() == (found.status != 0)
-}
-
-/// Whether the words of a row are judged as it says.
-fn is_judged(rt: &HostRuntime, row: &'static str) -> Result<bool, AllocError> {
-    let (status, text) = row.split_once(' ').unwrap_or((row, ""));
-    let words = words_of(rt.alloc(), "", text)?;
-    let found = run(rt, Lack::Nothing, words.as_slice(), b"7");
-    Ok(status.parse() == Ok(found.status) && is_told(&found))
-}
-
-#[test]
-fn words_are_judged_first(rt: HostRuntime) -> Result<(), Fail> {
-    for row in JUDGED.split('\n') {
-        assert!(rt; is_judged(&rt, row)?, "{row}");
-    }
-    Ok(())
-}
-
-/// Words of which nothing is written: no words at all, and folders without a name.
-const SILENT: [(&[&str], u8); 4] = [
-    (&[], 2),
-    (&["store_program", "run", ""], 3),
-    (&["store_program", "dump", ""], 3),
-    (&["store_program", "verify", ""], 3),
-];
-
-/// Whether the words are judged with this status, and nothing is written.
-fn is_silent(rt: &HostRuntime, words: &[&str], status: u8) -> bool {
-    let found = run(rt, Lack::Nothing, words, b"7");
-    found.status == status && found.output.is_empty()
-}
-
-#[test]
-fn no_folder_is_the_present_one(rt: HostRuntime) -> Result<(), Fail> {
-    for (words, status) in SILENT {
-        assert!(rt; is_silent(&rt, words, status), "{words:?}");
-    }
-    assert!(rt; fs::metadata(&rt, "half-a").is_err());
-    Ok(())
-}
-
-#[test]
-fn help_tells_how_it_is_called(rt: HostRuntime) -> Result<(), Fail> {
-    let help = run(&rt, Lack::Nothing, &["store_program", "--help"], b"7");
-    assert!(rt; help.output.as_slice() == HELP.as_bytes());
-    let help = run(
-        &rt,
-        Lack::Nothing,
-        &["store_program", "run", "--help"],
-        b"7",
-    );
-    assert!(rt; help.output.starts_with(RUN_HELP.as_bytes()));
-    Ok(())
-}
 
 /// Sessions over one folder, and how many bytes half A has after each.
 const KEPT: [(&str, usize); 4] = [
@@ -352,13 +191,117 @@ fn a_store_is_dumped_and_verified(rt: HostRuntime) -> Result<(), Fail> {
     Ok(())
 }
 
+/// The text of a session over a file in place of a folder, and over a folder whose files another disk has open.
+fn barred(rt: &HostRuntime) -> Result<(Vec<u8>, Vec<u8>), Fail> {
+    let place = folder_for(rt, "barred")?;
+    let place = place.as_str();
+    fs::write(rt, place, "")?;
+    let over_file = told(rt, place, Lack::Nothing, "run DIR", b"7")?;
+    fs::remove_file(rt, place)?;
+    let Ok(_held) = HostDisk::open_files(rt, place, IfMissing::Make) else {
+        return Err(Fail::from("a folder that is not opened"));
+    };
+    let over_held = told(rt, place, Lack::Nothing, "verify DIR --existing", b"")?;
+    fs::remove_dir_all(rt, place)?;
+    Ok((over_file, over_held))
+}
+
 #[test]
-fn a_file_is_no_folder(rt: HostRuntime) -> Result<(), Fail> {
-    let file = folder_for(&rt, "file")?;
-    fs::write(&rt, file.as_str(), "")?;
-    let text = told(&rt, file.as_str(), Lack::Nothing, "run DIR", b"7")?;
-    fs::remove_file(&rt, file.as_str())?;
-    assert!(rt; text.as_slice() == b"3\nstandard error: ! 60 DEVICE\n".as_slice());
+fn the_cause_of_a_fault_is_told(rt: HostRuntime) -> Result<(), Fail> {
+    let (over_file, over_held) = barred(&rt)?;
+    let wanted: &[u8] = b"3\nstandard error: ! 60 DEVICE\nNot a directory (os error 20)\n";
+    assert!(rt; over_file.as_slice() == wanted);
+    let wanted: &[u8] = b"3\nstandard error: ! 60 DEVICE\nlocked by another process\n";
+    assert!(rt; over_held.as_slice() == wanted);
+    Ok(())
+}
+
+/// Where there is no store.
+const MISSING: &str = r"
+$ run DIR --existing
+< 7
+3
+standard error: ! 60 DEVICE
+there is no store in this folder
+$ snapshot --existing DIR
+3
+standard error: ! 60 DEVICE
+there is no store in this folder
+$ upgrade DIR --existing
+3
+standard error: ! 60 DEVICE
+there is no store in this folder
+$ export DIR --existing --data
+3
+standard error: ! 60 DEVICE
+there is no store in this folder
+$ dump DIR --existing
+3
+standard error: ! 60 DEVICE
+there is no store in this folder
+$ verify DIR --existing
+3
+standard error: ! 60 DEVICE
+there is no store in this folder
+";
+
+/// Snapshots, of a store that the first of them makes.
+const SNAPSHOTS: &str = r"
+$ snapshot DIR
+< 7
+0
+half B generation 2 records 0
+$ run DIR --existing
+< (SETF (GET 'A 'B) 7)
+0
+7
+$ verify DIR --existing
+0
+half B generation 2 records 1
+$ snapshot --existing DIR
+0
+half A generation 3 records 0
+$> snapshot DIR
+3
+standard error: ! 68 OUTPUT
+$ upgrade DIR
+< 7
+0
+version 2
+$> upgrade DIR
+3
+standard error: ! 68 OUTPUT
+$ run DIR --existing
+< (GET 'A 'B)
+0
+7
+$ verify DIR
+0
+half B generation 4 records 0
+$- snapshot DIR
+3
+standard error: ! 63 MISSING-MACRO
+";
+
+#[test]
+fn an_existing_store_is_there_already(rt: HostRuntime) -> Result<(), Fail> {
+    let folder = folder_for(&rt, "snapshots")?;
+    let run = difference(&rt, folder.as_str(), MISSING)?;
+    assert!(rt;
+        run.is_none() && fs::metadata(&rt, folder.as_str()).is_err(),
+        "{run:?}"
+    );
+    let run = difference_in(&rt, "snapshots", SNAPSHOTS)?;
+    assert!(rt; run.is_none(), "{run:?}");
+    Ok(())
+}
+
+#[test]
+fn a_hyphen_is_a_folder(rt: HostRuntime) -> Result<(), Fail> {
+    let found = run(&rt, Lack::Nothing, &["store_program", "run", "-"], b"7 ");
+    assert_eq!(rt; found.status, 0);
+    assert!(rt; fs::metadata(&rt, "-/half-a").is_ok());
+    fs::remove_dir_all(&rt, "-")?;
     Ok(())
 }
 

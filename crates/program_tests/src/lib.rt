@@ -11,9 +11,10 @@
 //! - `calls`, `silent`, `turns`, `snapshots`, `callers`: the calls of a store
 //! - `campaign`: a device that stops at each of its calls in turn, and each kind of crash after that; `stopped`: what exactly is
 //!   left of one form or snapshot; `altered`: files that were altered; `memory`: a macro function that finds no memory
-//! - `versions`: files of version 1
+//! - `versions`: files of version 1; `upgrades`: the command that makes files of version 2 of them
 //! - `macros`: the macro functions of the program
-//! - `commands`, by scripts of `runs`: the words of the program, its statuses, and real files
+//! - `words`: the words of the program; `commands`, by scripts of `runs`: its statuses, and real files; `exports`: the forms that
+//!   make a world; `terminal`: sessions in a row
 #![tactic(auto)]
 
 #[cfg(test)]
@@ -34,6 +35,8 @@ mod campaign;
 mod commands;
 #[cfg(test)]
 mod evaluation;
+#[cfg(test)]
+mod exports;
 #[cfg(test)]
 mod files;
 #[cfg(test)]
@@ -59,6 +62,12 @@ mod snapshots;
 #[cfg(test)]
 mod stopped;
 #[cfg(test)]
+mod terminal;
+#[cfg(test)]
 mod turns;
 #[cfg(test)]
+mod upgrades;
+#[cfg(test)]
 mod versions;
+#[cfg(test)]
+mod words;

@@ -90,11 +90,15 @@ pub fn words_of<'a>(
     Ok(words)
 }
 
-/// The text of what came of the program: its status on a line, what it wrote, and what it told of faults.
+/// The text of what came of the program: its status on a line, what it wrote, with a backslash after it if that does not end in a
+/// newline, and what it told of faults.
 fn text_of(alloc: Global, found: &Ran) -> Result<Vec<u8>, Fail> {
     let mut text = Vec::new(alloc);
     writeln!(text, "{}", found.status)?;
     text.extend_from_slice(found.output.as_slice())?;
+    if !text.ends_with(b"\n") {
+        text.extend_from_slice(b"\\\n")?;
+    }
     if !found.faults.is_empty() {
         text.extend_from_slice(b"standard error: ")?;
         text.extend_from_slice(found.faults.as_slice())?;
@@ -151,7 +155,7 @@ pub fn holds(rt: &HostRuntime, folder: &str, run: &'static str) -> Result<bool, 
 
 /// The first run of a script that has another text. The words of a run stand after `$`; then its input, each line after `<`; and
 /// its text. For `$<` the input fails, for `$>` the output takes nothing, and for `$-` no macro function is registered.
-fn difference(
+pub fn difference(
     rt: &HostRuntime,
     folder: &str,
     script: &'static str,

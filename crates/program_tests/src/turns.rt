@@ -4,6 +4,7 @@ use crate::asked::{Ask, Serving, session, told};
 use crate::by_name::ByName;
 use crate::files::{AMPLE, Trouble, left_after};
 use disk_trait::MemoryDisk;
+use plist_state::Seed;
 use prevalence_store::Mode;
 use std::alloc::Global;
 use std::cell::Cell;
@@ -89,6 +90,7 @@ fn watched(alloc: Global, input: &[u8]) -> (Option<u64>, bool, bool) {
         alloc,
         disk,
         macros,
+        Seed::fixed(),
         Mode::Current,
         0,
         &mut reader,
@@ -106,7 +108,7 @@ fn unflushed(alloc: Global, report: Report) -> (bool, bool) {
     };
     let macros = ByName::new(alloc, SixFunctions::new());
     let disk = MemoryDisk::new(alloc);
-    let _report = report_on(alloc, disk, macros, report, &mut writer);
+    let _report = report_on(alloc, disk, macros, Seed::fixed(), report, &mut writer);
     (writer.first.is_some(), seen.waits.get())
 }
 

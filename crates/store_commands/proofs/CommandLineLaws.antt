@@ -1,5 +1,5 @@
 -- What clap makes of the words of a command.
-use Rattle.std.proofs.Common.{if◌then◌else◌, ◌≡◌, ◌≢◌, ◌==◌, ◌∙◌, ◌&&◌, ◌⊎◌, ◌<◌, ◌≤◌, ◌++◌, ◌^◌, ◌-◌, ℕ, List, [], ◌∷◌, None, Some, codes, true, false, refl, rules, ap, sym, subst, inl, inr, arith}
+use Rattle.std.proofs.Common.{if◌then◌else◌, ◌≡◌, ◌≢◌, ◌==◌, ◌∙◌, ◌&&◌, ◌⊎◌, ◌<◌, ◌≤◌, ◌++◌, ◌^◌, ◌-◌, ℕ, Bool, List, [], ◌∷◌, None, Some, codes, true, false, refl, rules, ap, sym, subst, inl, inr, arith}
 use Rattle.std.proofs.lemmas.Str.Parse.{digit_from_value}
 use Rattle.std.specs.Str.Parse.{IsNumeral, digits_value, without_leading_plus}
 use Rattle.clap.specs.ValueTests.{is_unsigned_in}
@@ -12,10 +12,12 @@ use Rattle.clap.proofs.OnLiterals.{clap_on_literals}
 use Rattle.clap.proofs.ValueTestLemmas.{Accepts-accepts}
 use Rattle.prevalence_store.specs.declared.mode.Mode.{Mode}
 use Rattle.prevalence_store.specs.declared.mode.Mode.TheVariants.{Current, Rescue}
+use Rattle.world_forms.specs.declared.export.Content.{Content}
+use Rattle.world_forms.specs.declared.export.Content.TheVariants.{Data, World}
 use Rattle.store_commands.specs.declared.words.Task.{Task}
 use Rattle.store_commands.specs.declared.words.Report.TheVariants.{Dump, Verify}
-use Rattle.store_commands.specs.declared.words.Task.TheVariants.{Run, Tell}
-use Rattle.store_commands.specs.CommandLine.{AsksFor, IsLine, IsTaken, asked_in, command_line, every_of_number, faults_of, flag_for, missing_command}
+use Rattle.store_commands.specs.declared.words.Task.TheVariants.{Export, Run, Snapshot, Tell, Upgrade}
+use Rattle.store_commands.specs.CommandLine.{AsksFor, IsLine, IsTaken, asked_in, command_line, data_for, every_of_number, existing_for, faults_of, flag_for, missing_command}
 
 pub simple_line : is_simple command_line ≡ true
 unfolding clap_on_literals
@@ -26,50 +28,137 @@ unfolding clap_on_literals
 free_line = refl
 
 -- the words are taken, no mistake is in them, and they ask for this
-pub record IsRight (words : List Text) (folder : Text) (task : Task) : Type 0 where
+pub record IsRight (words : List Text) (folder : Text) (existing : Bool) (task : Task) : Type 0 where
   pub taken : takes command_line words ≡ true
   pub faultless : fault_of command_line words ≡ []
-  pub asked : asked_in words ≡ Some (folder, task)
+  pub asked : asked_in words ≡ Some (folder, existing, task)
 
 -- words that are written out but for the program's name, the folder and the number
 module _ (program : Text) (x : ℕ) (xs : Text) (e : (x == 45) ≡ false) where
-  right_dump : IsRight (program ∷ codes "dump" ∷ (x ∷ xs) ∷ []) (x ∷ xs) (Tell Dump)
+  right_snapshot_any : IsRight (program ∷ codes "snapshot" ∷ (x ∷ xs) ∷ []) (x ∷ xs) false Snapshot
   unfolding clap_on_literals
-  right_dump = record { taken = simp e; faultless = simp e; asked = simp e }
+  right_snapshot_any = record { taken = simp e; faultless = simp e; asked = simp e }
 
-  right_verify : IsRight (program ∷ codes "verify" ∷ (x ∷ xs) ∷ []) (x ∷ xs) (Tell Verify)
+  right_snapshot_existing : IsRight (program ∷ codes "snapshot" ∷ (x ∷ xs) ∷ codes "--existing" ∷ []) (x ∷ xs) true Snapshot
   unfolding clap_on_literals
-  right_verify = record { taken = simp e; faultless = simp e; asked = simp e }
+  right_snapshot_existing = record { taken = simp e; faultless = simp e; asked = simp e }
 
-  right_current : IsRight (program ∷ codes "run" ∷ (x ∷ xs) ∷ []) (x ∷ xs) (Run Current 0)
-  unfolding clap_on_literals
-  right_current = record { taken = simp e; faultless = simp e; asked = simp e }
+  right_snapshot : (existing : Bool) → IsRight (program ∷ codes "snapshot" ∷ (x ∷ xs) ∷ existing_for existing) (x ∷ xs) existing Snapshot
+  right_snapshot false = right_snapshot_any
+  right_snapshot true = right_snapshot_existing
 
-  right_rescue : IsRight (program ∷ codes "run" ∷ (x ∷ xs) ∷ codes "--rescue" ∷ []) (x ∷ xs) (Run Rescue 0)
+  right_upgrade_any : IsRight (program ∷ codes "upgrade" ∷ (x ∷ xs) ∷ []) (x ∷ xs) false Upgrade
   unfolding clap_on_literals
-  right_rescue = record { taken = simp e; faultless = simp e; asked = simp e }
+  right_upgrade_any = record { taken = simp e; faultless = simp e; asked = simp e }
+
+  right_upgrade_existing : IsRight (program ∷ codes "upgrade" ∷ (x ∷ xs) ∷ codes "--existing" ∷ []) (x ∷ xs) true Upgrade
+  unfolding clap_on_literals
+  right_upgrade_existing = record { taken = simp e; faultless = simp e; asked = simp e }
+
+  right_upgrade : (existing : Bool) → IsRight (program ∷ codes "upgrade" ∷ (x ∷ xs) ∷ existing_for existing) (x ∷ xs) existing Upgrade
+  right_upgrade false = right_upgrade_any
+  right_upgrade true = right_upgrade_existing
+
+  right_export_any : IsRight (program ∷ codes "export" ∷ (x ∷ xs) ∷ []) (x ∷ xs) false (Export World)
+  unfolding clap_on_literals
+  right_export_any = record { taken = simp e; faultless = simp e; asked = simp e }
+
+  right_export_existing : IsRight (program ∷ codes "export" ∷ (x ∷ xs) ∷ codes "--existing" ∷ []) (x ∷ xs) true (Export World)
+  unfolding clap_on_literals
+  right_export_existing = record { taken = simp e; faultless = simp e; asked = simp e }
+
+  right_data_any : IsRight (program ∷ codes "export" ∷ (x ∷ xs) ∷ codes "--data" ∷ []) (x ∷ xs) false (Export Data)
+  unfolding clap_on_literals
+  right_data_any = record { taken = simp e; faultless = simp e; asked = simp e }
+
+  right_data_existing : IsRight (program ∷ codes "export" ∷ (x ∷ xs) ∷ codes "--data" ∷ codes "--existing" ∷ []) (x ∷ xs) true (Export Data)
+  unfolding clap_on_literals
+  right_data_existing = record { taken = simp e; faultless = simp e; asked = simp e }
+
+  right_content : (content : Content) (existing : Bool)
+      → IsRight (program ∷ codes "export" ∷ (x ∷ xs) ∷ (data_for content ++ existing_for existing)) (x ∷ xs) existing (Export content)
+  right_content World false = right_export_any
+  right_content World true = right_export_existing
+  right_content Data false = right_data_any
+  right_content Data true = right_data_existing
+
+  right_dump_any : IsRight (program ∷ codes "dump" ∷ (x ∷ xs) ∷ []) (x ∷ xs) false (Tell Dump)
+  unfolding clap_on_literals
+  right_dump_any = record { taken = simp e; faultless = simp e; asked = simp e }
+
+  right_dump_existing : IsRight (program ∷ codes "dump" ∷ (x ∷ xs) ∷ codes "--existing" ∷ []) (x ∷ xs) true (Tell Dump)
+  unfolding clap_on_literals
+  right_dump_existing = record { taken = simp e; faultless = simp e; asked = simp e }
+
+  right_dump : (existing : Bool) → IsRight (program ∷ codes "dump" ∷ (x ∷ xs) ∷ existing_for existing) (x ∷ xs) existing (Tell Dump)
+  right_dump false = right_dump_any
+  right_dump true = right_dump_existing
+
+  right_verify_any : IsRight (program ∷ codes "verify" ∷ (x ∷ xs) ∷ []) (x ∷ xs) false (Tell Verify)
+  unfolding clap_on_literals
+  right_verify_any = record { taken = simp e; faultless = simp e; asked = simp e }
+
+  right_verify_existing : IsRight (program ∷ codes "verify" ∷ (x ∷ xs) ∷ codes "--existing" ∷ []) (x ∷ xs) true (Tell Verify)
+  unfolding clap_on_literals
+  right_verify_existing = record { taken = simp e; faultless = simp e; asked = simp e }
+
+  right_verify : (existing : Bool) → IsRight (program ∷ codes "verify" ∷ (x ∷ xs) ∷ existing_for existing) (x ∷ xs) existing (Tell Verify)
+  right_verify false = right_verify_any
+  right_verify true = right_verify_existing
+
+  right_current_any : IsRight (program ∷ codes "run" ∷ (x ∷ xs) ∷ []) (x ∷ xs) false (Run Current 0)
+  unfolding clap_on_literals
+  right_current_any = record { taken = simp e; faultless = simp e; asked = simp e }
+
+  right_current_existing : IsRight (program ∷ codes "run" ∷ (x ∷ xs) ∷ codes "--existing" ∷ []) (x ∷ xs) true (Run Current 0)
+  unfolding clap_on_literals
+  right_current_existing = record { taken = simp e; faultless = simp e; asked = simp e }
+
+  right_rescue_any : IsRight (program ∷ codes "run" ∷ (x ∷ xs) ∷ codes "--rescue" ∷ []) (x ∷ xs) false (Run Rescue 0)
+  unfolding clap_on_literals
+  right_rescue_any = record { taken = simp e; faultless = simp e; asked = simp e }
+
+  right_rescue_existing : IsRight (program ∷ codes "run" ∷ (x ∷ xs) ∷ codes "--rescue" ∷ codes "--existing" ∷ []) (x ∷ xs) true (Run Rescue 0)
+  unfolding clap_on_literals
+  right_rescue_existing = record { taken = simp e; faultless = rw e (rw e refl); asked = rw e (rw e refl) }
+
+  right_run : (mode : Mode) (existing : Bool) → IsRight (program ∷ codes "run" ∷ (x ∷ xs) ∷ (flag_for mode ++ existing_for existing)) (x ∷ xs) existing (Run mode 0)
+  right_run Current false = right_current_any
+  right_run Current true = right_current_existing
+  right_run Rescue false = right_rescue_any
+  right_run Rescue true = right_rescue_existing
 
   module _ (y : ℕ) (ys : Text) (d : (y == 45) ≡ false) (passes : is_unsigned_in 1 1000000 (y ∷ ys) ≡ true) where
-    -- what is left of each of the next two: the number passes
+    -- what is left of each of the next ones: the number passes
     left : (((is_unsigned_in 1 1000000 (y ∷ ys) && true) && true) && true) ≡ true
     left = rw passes refl
 
     left_kinds : or_else (or_else (or_else (if is_unsigned_in 1 1000000 (y ∷ ys) then [] else (ValueValidation ∷ [])) []) []) [] ≡ []
     left_kinds = rw passes refl
 
-    right_current_every : IsRight (program ∷ codes "run" ∷ (x ∷ xs) ∷ codes "--snapshot-every" ∷ (y ∷ ys) ∷ []) (x ∷ xs)
+    right_current_every_any : IsRight (program ∷ codes "run" ∷ (x ∷ xs) ∷ codes "--snapshot-every" ∷ (y ∷ ys) ∷ []) (x ∷ xs) false
         (Run Current (every_of_number (Some (y ∷ ys))))
     unfolding clap_on_literals
-    right_current_every = record { taken = simp (e, d) left; faultless = simp (e, d) left_kinds; asked = simp (e, d) }
-
-    right_rescue_every : IsRight (program ∷ codes "run" ∷ (x ∷ xs) ∷ codes "--rescue" ∷ codes "--snapshot-every" ∷ (y ∷ ys) ∷ []) (x ∷ xs)
-        (Run Rescue (every_of_number (Some (y ∷ ys))))
-    unfolding clap_on_literals
-    right_rescue_every = record {
-      taken = simp e (rw d (simp d left));
+    right_current_every_any = record {
+      taken = simp e (rw (d, d) left);
       faultless = simp e (rw (d, d) left_kinds);
       asked = simp e (rw (d, d) refl);
     }
+
+    right_rescue_every_any : IsRight (program ∷ codes "run" ∷ (x ∷ xs) ∷ codes "--rescue" ∷ codes "--snapshot-every" ∷ (y ∷ ys) ∷ []) (x ∷ xs) false
+        (Run Rescue (every_of_number (Some (y ∷ ys))))
+    unfolding clap_on_literals
+    right_rescue_every_any = record {
+      taken = simp e (rw (d, d) left);
+      faultless = simp e (rw (d, d) left_kinds);
+      asked = simp e (rw (d, d) refl);
+    }
+
+    right_every : (mode : Mode)
+        → IsRight (program ∷ codes "run" ∷ (x ∷ xs) ∷ (flag_for mode ++ codes "--snapshot-every" ∷ (y ∷ ys) ∷ [])) (x ∷ xs) false
+        (Run mode (every_of_number (Some (y ∷ ys))))
+    right_every Current = right_current_every_any
+    right_every Rescue = right_rescue_every_any
 
 differs : (x y : ℕ) → x ≢ y → (x == y) ≡ false
 differs x y apart = search rules
@@ -96,34 +185,35 @@ module _ (y : ℕ) (ys : Text) (numeral : IsNumeral 10 (y ∷ ys)) where
 
 module _ (program : Text) (x : ℕ) (xs : Text) (e : (x == 45) ≡ false) where
   right_number : (mode : Mode) (number : Text) (every : ℕ) → IsNumeral 10 number → digits_value 10 number ≡ every → 1 ≤ every → every ≤ 1000000
-      → IsRight (program ∷ codes "run" ∷ (x ∷ xs) ∷ (flag_for mode ++ codes "--snapshot-every" ∷ number ∷ [])) (x ∷ xs) (Run mode every)
+      → IsRight (program ∷ codes "run" ∷ (x ∷ xs) ∷ (flag_for mode ++ codes "--snapshot-every" ∷ number ∷ [])) (x ∷ xs) false (Run mode every)
   right_number mode [] every numeral is above below = let none : 0 < 0 = numeral.0 in absurd (omega arith)
-  right_number Current (y ∷ ys) every numeral is above below =
-      subst (λ n. IsRight (program ∷ codes "run" ∷ (x ∷ xs) ∷ codes "--snapshot-every" ∷ (y ∷ ys) ∷ []) (x ∷ xs) (Run Current n)) (number_is y ys numeral every is above below)
-      (right_current_every program x xs e y ys (differs y 45 (no_hyphen y ys numeral)) (in_range y ys numeral 1 1000000 every is above below (omega arith)))
-  right_number Rescue (y ∷ ys) every numeral is above below =
-      subst (λ n. IsRight (program ∷ codes "run" ∷ (x ∷ xs) ∷ codes "--rescue" ∷ codes "--snapshot-every" ∷ (y ∷ ys) ∷ []) (x ∷ xs) (Run Rescue n)) (number_is y ys numeral every is above below)
-      (right_rescue_every program x xs e y ys (differs y 45 (no_hyphen y ys numeral)) (in_range y ys numeral 1 1000000 every is above below (omega arith)))
+  right_number mode (y ∷ ys) every numeral is above below =
+      subst (λ n. IsRight (program ∷ codes "run" ∷ (x ∷ xs) ∷ (flag_for mode ++ codes "--snapshot-every" ∷ (y ∷ ys) ∷ [])) (x ∷ xs) false (Run mode n))
+      (number_is y ys numeral every is above below)
+      (right_every program x xs e y ys (differs y 45 (no_hyphen y ys numeral)) (in_range y ys numeral 1 1000000 every is above below (omega arith)) mode)
 
-  right_plain : (line : List Text) (task : Task) → IsLine line (x ∷ xs) task → IsRight (program ∷ line) (x ∷ xs) task
-  right_plain line (Tell Dump) is = rw is (right_dump program x xs e)
-  right_plain line (Tell Verify) is = rw is (right_verify program x xs e)
-  right_plain line (Run Current every) (option, line_is, inl none) = rw (line_is, none.0, none.1) (right_current program x xs e)
-  right_plain line (Run Rescue every) (option, line_is, inl none) = rw (line_is, none.0, none.1) (right_rescue program x xs e)
-  right_plain line (Run mode every) (option, line_is, inr given) = rw (line_is, given.1) (right_number mode given.0 every given.2 given.3 given.4 given.5)
+  right_plain : (line : List Text) (existing : Bool) (task : Task) → IsLine line (x ∷ xs) existing task → IsRight (program ∷ line) (x ∷ xs) existing task
+  right_plain line existing Snapshot is = rw is (right_snapshot program x xs e existing)
+  right_plain line existing Upgrade is = rw is (right_upgrade program x xs e existing)
+  right_plain line existing (Export content) is = rw is (right_content program x xs e content existing)
+  right_plain line existing (Tell Dump) is = rw is (right_dump program x xs e existing)
+  right_plain line existing (Tell Verify) is = rw is (right_verify program x xs e existing)
+  right_plain line false (Run mode every) (option, line_is, inl none) = rw (line_is, none.0, none.1) (right_run program x xs e mode false)
+  right_plain line false (Run mode every) (option, line_is, inr given) = rw (line_is, given.1) (right_number mode given.0 every given.2 given.3 given.4 given.5)
+  right_plain line true (Run mode every) (none, line_is) = rw (line_is, none) (right_run program x xs e mode true)
 
-pub right_line : (words : List Text) (folder : Text) (task : Task) → AsksFor words folder task → IsRight words folder task
-right_line words [] task asks = absurd asks.4
-right_line words (x ∷ xs) task asks = rw asks.2 (right_plain asks.0 x xs (differs x 45 asks.4) asks.1 task asks.3)
+pub right_line : (words : List Text) (folder : Text) (existing : Bool) (task : Task) → AsksFor words folder existing task → IsRight words folder existing task
+right_line words [] existing task asks = absurd asks.4
+right_line words (x ∷ xs) existing task asks = rw asks.2 (right_plain asks.0 x xs (differs x 45 asks.4) asks.1 existing task asks.3)
 
 -- where clap finds no mistake in the words, and they ask for something, there is none
-pub no_faults : (words : List Text) (folder : Text) (task : Task) → fault_of command_line words ≡ [] → asked_in words ≡ Some (folder, task) → faults_of words ≡ []
-no_faults words folder task none asked = ap (λ (kinds : Kinds). or_else kinds (missing_command (asked_in words))) none ∙ ap missing_command asked
+pub no_faults : (words : List Text) (folder : Text) (existing : Bool) (task : Task) → fault_of command_line words ≡ [] → asked_in words ≡ Some (folder, existing, task) → faults_of words ≡ []
+no_faults words folder existing task none asked = ap (λ (kinds : Kinds). or_else kinds (missing_command (asked_in words))) none ∙ ap missing_command asked
 
-pub line_is_taken : (words : List Text) (folder : Text) (task : Task) → AsksFor words folder task → IsTaken words folder task
-line_is_taken words folder task asks =
-    let right = right_line words folder task asks in
-    (no_faults words folder task right.faultless right.asked, right.asked)
+pub line_is_taken : (words : List Text) (folder : Text) (existing : Bool) (task : Task) → AsksFor words folder existing task → IsTaken words folder existing task
+line_is_taken words folder existing task asks =
+    let right = right_line words folder existing task asks in
+    (no_faults words folder existing task right.faultless right.asked, right.asked)
 
 -- what clap refuses is refused
 among_first : (first next : Kinds) (kind : ErrorKind) → IsAmong kind first → IsAmong kind (or_else first next)

@@ -14,9 +14,10 @@ use Rattle.clap.proofs.WalkLemmas.{first_value-rows, one_text-rows}
 use Rattle.clap.specs.declared.parser.matches.ArgMatches.{ArgMatches}
 use Rattle.clap.specs.declared.parser.matches.ArgMatches.TheViews.{out-ArgMatches, out-SubCommand}
 use Rattle.std.specs.Box.{box_value}
+use Rattle.world_forms.specs.declared.export.Content.{Content}
 use Rattle.store_commands.specs.declared.words.Task.{Task}
-use Rattle.store_commands.specs.declared.words.Task.TheVariants.{Run}
-use Rattle.store_commands.specs.CommandLine.{asked_of, every_of_number, mode_of_flag, task_of}
+use Rattle.store_commands.specs.declared.words.Task.TheVariants.{Export, Run}
+use Rattle.store_commands.specs.CommandLine.{Asked, asked_of, content_of_flag, every_of_number, is_set, mode_of_flag, task_of}
 
 -- a number that was read is the one that the text writes
 number_read : (E : Type 0) (text : Text) (n : ℕ) → ParsesUnsigned {E = E} 64 10 text (Ok n) → n ≡ every_of_number (Some text)
@@ -51,6 +52,11 @@ pub run_found : (name : Text) (f : Found) (flag : Option Text) (mode : Mode) (ev
 run_found name f flag mode every is mode_is flag_is every_is =
     rw (is, mode_is, flag_is ∙ first_value-rows f (codes "rescue"), every_is) refl
 
+-- the command `export` that was found
+pub export_found : (name : Text) (f : Found) (flag : Option Text) (content : Content) → name ≡ codes "export" → content ≡ content_of_flag flag
+    → flag ≡ first_value f (codes "data") → Some (Export content) ≡ task_of (name, rows_of f)
+export_found name f flag content is content_is flag_is = rw (is, content_is, flag_is ∙ first_value-rows f (codes "data")) refl
+
 -- the name and the rows of what was found, in one
 module _ {A B : Type 0} (label : A → B) (listing : A → List Row) where
   abbrev pair_of : A → B × List Row
@@ -65,27 +71,27 @@ module _ {A B : Type 0} (label : A → B) (listing : A → List Row) where
       rw (name_is, rows_are) refl
 
 -- what was found asks for this
-pub asked_found : (m : ArgMatches) (name : Text) (f : Found) (folder : Option Text) (task : Option Task) → Some name ≡ subcommand_name_of m
-    → Some (rows_of f) ≡ option_map (λ (p : Text × List Row). p.1) (subcommand_rows_of m) → folder ≡ first_value f (codes "DIR") → task ≡ task_of (name, rows_of f)
-    → option_and_then (λ at. option_map (λ (t : Task). (at, t)) task) folder ≡ option_and_then asked_of (subcommand_rows_of m)
-asked_found m name f folder task named listed folder_is task_is =
+pub asked_found : (m : ArgMatches) (name : Text) (f : Found) (folder flag : Option Text) (existing : Bool) (task : Option Task)
+    → Some name ≡ subcommand_name_of m → Some (rows_of f) ≡ option_map (λ (p : Text × List Row). p.1) (subcommand_rows_of m)
+    → folder ≡ first_value f (codes "DIR") → existing ≡ is_set flag → flag ≡ first_value f (codes "existing") → task ≡ task_of (name, rows_of f)
+    → option_and_then (λ at. option_map (λ (t : Task). (at, existing, t)) task) folder ≡ option_and_then asked_of (subcommand_rows_of m)
+asked_found m name f folder flag existing task named listed folder_is existing_is flag_is task_is =
     rw (
       ← named_found (λ b. (out-SubCommand (box_value b)).name.now) (λ b. rows_of (found_of (out-SubCommand (box_value b)).matches)) (out-ArgMatches m).subcommand name (rows_of f) named listed,
       folder_is ∙ first_value-rows f (codes "DIR"),
+      existing_is ∙ ap is_set (flag_is ∙ first_value-rows f (codes "existing")),
       task_is,
     ) refl
 
--- the words ask for one thing, of one folder
-pub same_folder : (asked : Option (Text × Task)) (a b : Text) (t u : Task) → asked ≡ Some (a, t) → asked ≡ Some (b, u) → a ≡ b
-same_folder None a b t u one other = absurd (cc)
-same_folder (Some at) a b t u one other =
-    let first : at.0 ≡ a = ap (λ (o : Option (Text × Task)). elim o [ None ↦ at.0 | Some p ↦ p.0 ]) one in
-    let second : at.0 ≡ b = ap (λ (o : Option (Text × Task)). elim o [ None ↦ at.0 | Some p ↦ p.0 ]) other in
-    sym first ∙ second
+abbrev task_in : Asked → Task
+task_in (folder, existing, task) = task
 
-pub same_task : (asked : Option (Text × Task)) (a b : Text) (t u : Task) → asked ≡ Some (a, t) → asked ≡ Some (b, u) → t ≡ u
-same_task None a b t u one other = absurd (cc)
-same_task (Some at) a b t u one other =
-    let first : at.1 ≡ t = ap (λ (o : Option (Text × Task)). elim o [ None ↦ at.1 | Some p ↦ p.1 ]) one in
-    let second : at.1 ≡ u = ap (λ (o : Option (Text × Task)). elim o [ None ↦ at.1 | Some p ↦ p.1 ]) other in
-    sym first ∙ second
+-- the words ask for one thing, of one folder
+module _ (asked : Option Asked) (a b : Text) (m n : Bool) (t u : Task) where
+  pub same_folder : asked ≡ Some (a, m, t) → asked ≡ Some (b, n, u) → a ≡ b
+  same_folder one other = let both : ◌≡◌ {A = Option Asked} (Some (a, m, t)) (Some (b, n, u)) = sym one ∙ other in
+      ap (λ (o : Option Asked). elim o [ None ↦ a | Some p ↦ p.0 ]) both
+
+  pub same_task : asked ≡ Some (a, m, t) → asked ≡ Some (b, n, u) → t ≡ u
+  same_task one other = let both : ◌≡◌ {A = Option Asked} (Some (a, m, t)) (Some (b, n, u)) = sym one ∙ other in
+      ap (λ (o : Option Asked). elim o [ None ↦ t | Some p ↦ task_in p ]) both

@@ -1,8 +1,12 @@
 mod Answered
+pub mod AtTerminal
 pub mod CommandLineLaws
 pub mod FoundWords
 pub mod Fronts
 pub mod Reports
-pub mod Sessions
+pub mod SessionLaws
+pub mod Snapshots
 pub mod Statuses
 pub mod Tasks
+pub mod Turns
+pub mod Upgrades

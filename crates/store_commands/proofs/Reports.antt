@@ -12,7 +12,7 @@ use Rattle.store_commands.specs.Status.{HasFaultNumber, IsFaultNumber, TakesWord
 use Rattle.store_commands.specs.Texts.{TellsText, WritesOut}
 use Rattle.store_commands.specs.declared.fault.Unwritten.{Unwritten}
 use Rattle.store_commands.specs.declared.status.Status.{Status}
-use Rattle.store_commands.specs.declared.status.Status.TheVariants.{Done, Helped, ReaderRefused, WordsRefused, Fault}
+use Rattle.store_commands.specs.declared.status.Status.TheVariants.{Done, Helped, ReaderRefused, WordsRefused, LeftOut, Fault}
 use Rattle.store_commands.specs.declared.words.Report.{Report}
 use Rattle.store_commands.specs.declared.words.Report.TheVariants.{Dump, Verify}
 use Rattle.store_commands.specs.declared.words.Task.TheVariants.{Tell}
@@ -38,6 +38,7 @@ module _ (held written : Option (List ℕ)) (text : List ℕ) where
   text_taken Helped told = absurd told
   text_taken ReaderRefused told = absurd told
   text_taken WordsRefused told = absurd told
+  text_taken LeftOut told = absurd told
 
   -- no text ends with a number of an opening
   numbers_of_text : (given : ℕ) → TellsText (Fault given) held written text → is_of_opening given ≡ true → ⊥
@@ -57,6 +58,7 @@ module _ (held written : Option (List ℕ)) (text : List ℕ) where
   text_fault Helped told = absurd told
   text_fault ReaderRefused told = absurd told
   text_fault WordsRefused told = absurd told
+  text_fault LeftOut told = absurd told
 
   -- a fault left the first part of it
   front_of_text : (number : ℕ) (had : List ℕ) → held ≡ Some had → TellsText (Fault number) held written text → (front : List ℕ) × (rest : List ℕ) × (text ≡ front ++ rest) × (written ≡ Some (had ++ front))
@@ -74,6 +76,7 @@ module _ (functions : Functions) {D R : Type 0} (state : D → State) (disk : D)
   dump_writes Helped told = tt
   dump_writes ReaderRefused told = absurd told.tells
   dump_writes WordsRefused told = tt
+  dump_writes LeftOut told = absurd told.tells
 
   verify_writes : (status : Status) → IsReport functions state Verify disk macros held written status back → TellsHalf status had written
   verify_writes Done told = (told.opened.half, told.opened.generation, told.opened.record_count, told.tells had holds)
@@ -81,6 +84,7 @@ module _ (functions : Functions) {D R : Type 0} (state : D → State) (disk : D)
   verify_writes Helped told = tt
   verify_writes ReaderRefused told = absurd told.tells
   verify_writes WordsRefused told = tt
+  verify_writes LeftOut told = absurd told.tells
 
   -- what a report writes that ends well, and one that is broken off
   pub report_writes : (report : Report) (status : Status) (input : List ℕ) → IsReport functions state report disk macros held written status back

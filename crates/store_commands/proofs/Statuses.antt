@@ -6,10 +6,12 @@ use Rattle.clap.specs.declared.error.kind.ErrorKind.TheVariants.{OutOfMemory}
 use Rattle.prevalence_store.specs.declared.outcome.Ending.{Ending}
 use Rattle.prevalence_store.specs.declared.outcome.Ending.TheVariants.{End, Reader, Store}
 use Rattle.store_commands.specs.declared.status.Status.{Status}
-use Rattle.store_commands.specs.declared.status.Status.TheVariants.{Done, Helped, ReaderRefused, WordsRefused, Fault}
-use Rattle.store_commands.specs.Commands.{is_of_opening}
-use Rattle.store_commands.specs.Status.{EndsAfter, HasFaultNumber, IsAfterOneOf, IsAfterWords, IsCarriedOut, IsFaultNumber, IsOfWords, TakesWords, status_of_ending}
+use Rattle.store_commands.specs.declared.status.Status.TheVariants.{Done, Helped, ReaderRefused, WordsRefused, LeftOut, Fault}
+use Rattle.store_commands.specs.Commands.{IsEarlyFault, is_of_opening}
+use Rattle.store_commands.specs.Status.{EndsAfter, HasFaultNumber, IsAfterOneOf, IsAfterWords, IsCarriedOut, IsFaultNumber, IsOfWords, TakesWords, status_of_ending, status_of_host}
 use Rattle.lisp_object.specs.declared.refusal.TheConstants.{NO_MEMORY, OUTPUT}
+use Rattle.disk_trait.specs.declared.host.HostError.{HostError}
+use Rattle.disk_trait.specs.declared.host.HostError.TheVariants as host
 
 -- of a session
 of_session : (ending : Ending) → TakesWords (status_of_ending ending)
@@ -37,6 +39,22 @@ ending_is (Store code) number is = let same : code ≡ number = cc in ap (λ n. 
 
 pub ending_at : (status given : Status) (ending : Ending) (number : ℕ) → status ≡ given → given ≡ status_of_ending ending → status ≡ Fault number → ending ≡ Store number
 ending_at status given ending number same is fault = ending_is ending number (sym is ∙ sym same ∙ fault)
+
+-- of files that were not opened
+host_status : (error : HostError) → IsEarlyFault (status_of_host error)
+host_status host.OutOfMemory = inl refl
+host_status host.Locked = inr (inr refl)
+host_status host.NoStore = inr (inr refl)
+host_status host.NoName = inr (inr refl)
+host_status (host.System error) = inr (inr refl)
+
+pub early_after : (status : Status) (error : HostError) → status ≡ status_of_host error → IsEarlyFault status
+early_after status error is = subst IsEarlyFault (sym is) (host_status error)
+
+pub taken_early : (status : Status) → IsEarlyFault status → TakesWords status
+taken_early status (inl is) = subst TakesWords (sym is) tt
+taken_early status (inr (inl is)) = subst TakesWords (sym is) tt
+taken_early status (inr (inr is)) = subst TakesWords (sym is) tt
 
 -- ---- after words that have mistakes
 
@@ -73,6 +91,7 @@ other_number number given is other of = true≢false (sym of ∙ ap is_of_openin
 pub words_carry_out : (status : Status) → IsOfWords status → IsCarriedOut status → ⊥
 words_carry_out Done none carried = none
 words_carry_out ReaderRefused none carried = none
+words_carry_out LeftOut none carried = none
 words_carry_out Helped of (inl is) = absurd (cc)
 words_carry_out Helped of (inr is) = absurd (cc)
 words_carry_out WordsRefused of (inl is) = absurd (cc)
@@ -87,6 +106,7 @@ number_of_words number (inr output) = subst IsFaultNumber (sym output) (inr (inl
 pub fault_of_words : (status : Status) → IsOfWords status → HasFaultNumber status
 fault_of_words Done of = absurd of
 fault_of_words ReaderRefused of = absurd of
+fault_of_words LeftOut of = absurd of
 fault_of_words Helped of = λ number is. absurd (cc)
 fault_of_words WordsRefused of = λ number is. absurd (cc)
 fault_of_words (Fault given) of = λ number is. let same : given ≡ number = cc in subst IsFaultNumber same (number_of_words given of)
@@ -98,6 +118,7 @@ opening_of_words given (inr output) = other_number given OUTPUT output refl
 pub words_open : (status : Status) → IsOfWords status → (number : ℕ) → status ≡ Fault number → is_of_opening number ≡ true → ⊥
 words_open Done none number is of = none
 words_open ReaderRefused none number is of = none
+words_open LeftOut none number is of = none
 words_open Helped told number is of = absurd (cc)
 words_open WordsRefused told number is of = absurd (cc)
 words_open (Fault given) told number is of = let same : given ≡ number = cc in opening_of_words given told (ap is_of_opening same ∙ of)

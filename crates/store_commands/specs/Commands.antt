@@ -2,39 +2,51 @@
 use Rattle.std.specs.Prelude.{◌≡◌, ◌==◌, ◌||◌, ◌⊎◌, ℕ, Bool, true, false, List, [], Option, Some}
 use Rattle.disk_trait.specs.Disk.{State}
 use Rattle.disk_trait.specs.declared.half.Half.{Half}
-use Rattle.lisp_object.specs.declared.refusal.TheConstants.{DEVICE, DAMAGED, MISSING_MACRO, VERSION, NO_MEMORY}
+use Rattle.lisp_object.specs.declared.refusal.TheConstants.{DEVICE, DAMAGED, MISSING_MACRO, VERSION, INPUT, NO_MEMORY}
 use Rattle.clap.specs.Words.{Text}
 use Rattle.plist_state.specs.State.{WorldState}
 use Rattle.world_text.specs.Snapshot.{snapshot}
 use Rattle.user_macros.specs.Functions.{Functions}
 use Rattle.prevalence_store.specs.calls.Open.{IsUnopened}
+use Rattle.prevalence_store.specs.declared.mode.Mode.{Mode}
 use Rattle.prevalence_store.specs.declared.outcome.Ending.{Ending}
-use Rattle.store_commands.specs.Report.{DumpsWorld, IsReport, TellsHalf, half_line}
+use Rattle.store_commands.specs.Report.{DumpsWorld, IsExport, IsReport, IsSnapshot, IsUpgrade, TellsHalf, TellsVersion, WritesForms, half_line, version_line}
 use Rattle.store_commands.specs.Session.{AnswersInput, IsBrokenOff, IsSession, ReadsToEnd, half_limit}
+use Rattle.store_commands.specs.Sessions.{AreSessions}
 use Rattle.store_commands.specs.Status.{HasFaultNumber, IsCarriedOut, TakesWords, status_of_ending}
 use Rattle.store_commands.specs.Texts.{IsFront}
 use Rattle.store_commands.specs.declared.status.Status.{Status}
-use Rattle.store_commands.specs.declared.status.Status.TheVariants.{Fault, Helped, WordsRefused}
+use Rattle.store_commands.specs.declared.status.Status.TheVariants.{Fault, WordsRefused}
 use Rattle.store_commands.specs.declared.words.Report.TheVariants.{Dump, Verify}
 use Rattle.store_commands.specs.declared.words.Task.{Task}
-use Rattle.store_commands.specs.declared.words.Task.TheVariants.{Run, Tell}
+use Rattle.store_commands.specs.declared.words.Task.TheVariants.{Export, Run, Snapshot, Tell, Upgrade}
 
 -- nothing was read, and nothing written
 abbrev pub IsUntouched : {I O : Type 0} → I → I → O → O → Type 0
 IsUntouched input left held written = (left ≡ input) × (written ≡ held)
 
+-- before the store is opened: there is no memory for the words, no seed is had, or the folder is not opened
+abbrev pub IsEarlyFault : Status → Type 0
+IsEarlyFault status = (status ≡ Fault NO_MEMORY) ⊎ ((status ≡ Fault INPUT) ⊎ (status ≡ Fault DEVICE))
+
 -- numbers that nothing but the opening of a store answers
 abbrev pub is_of_opening : ℕ → Bool
 is_of_opening number = number == DAMAGED || (number == MISSING_MACRO || number == VERSION)
 
--- `dump` and `verify` read nothing
+-- `run` alone reads
 abbrev pub reads_input : Task → Bool
 reads_input (Run mode every) = true
+reads_input Snapshot = false
+reads_input Upgrade = false
+reads_input (Export content) = false
 reads_input (Tell report) = false
 
 -- `run` that ends well reads to the end; the other commands read nothing
 abbrev pub TaskReads : Task → Status → List ℕ → Option (List ℕ) → Type 0
 TaskReads (Run mode every) status input left = ReadsToEnd status left
+TaskReads Snapshot status input left = left ≡ Some input
+TaskReads Upgrade status input left = left ≡ Some input
+TaskReads (Export content) status input left = left ≡ Some input
 TaskReads (Tell report) status input left = left ≡ Some input
 
 -- ---- over the files of a folder, of which no clause can say what they hold
@@ -43,12 +55,18 @@ module _ (functions : Functions) where
   -- what a command writes where it ends well
   abbrev pub TaskWrites : Task → Status → List ℕ → List ℕ → Option (List ℕ) → Type 0
   TaskWrites (Run mode every) status input held written = AnswersInput functions mode status input held written
+  TaskWrites Snapshot status input held written = TellsHalf status held written
+  TaskWrites Upgrade status input held written = TellsVersion status held written
+  TaskWrites (Export content) status input held written = WritesForms status held written
   TaskWrites (Tell Dump) status input held written = DumpsWorld status held written
   TaskWrites (Tell Verify) status input held written = TellsHalf status held written
 
   -- what a command wrote that met a fault is the first part of what it would have written, over the store of some world
   abbrev pub TaskBreaksOff : Task → List ℕ → List ℕ → Option (List ℕ) → Type 0
   TaskBreaksOff (Run mode every) input held written = IsBrokenOff functions mode input held written
+  TaskBreaksOff Snapshot input held written = (half : Half) × (generation : ℕ) × (records : ℕ) × IsFront held written (half_line half generation records)
+  TaskBreaksOff Upgrade input held written = (version : ℕ) × IsFront held written (version_line version)
+  TaskBreaksOff (Export content) input held written = (forms : List ℕ) × IsFront held written forms
   TaskBreaksOff (Tell Dump) input held written = (world : WorldState) × IsFront held written (snapshot world)
   TaskBreaksOff (Tell Verify) input held written = (half : Half) × (generation : ℕ) × (records : ℕ) × IsFront held written (half_line half generation records)
 
@@ -62,12 +80,18 @@ TellsUnopened functions state disk back whole status =
 -- by two functions.
 module _ (functions : Functions) {D R : Type 0} (state : D → State) (macros : R) (whole : Bool)
     {I O : Type 0} (remaining : I → Option (List ℕ)) (contents : O → Option (List ℕ)) (input left : I) (held written : O) where
-  -- It was carried out over the store that a disk holds: a session went so, and the status is that of its ending; or something was
-  -- told of the store. The disk is left as the store that was closed left it.
+  -- It was carried out over the store that a disk holds: a session went so, and the status is that of its ending; or a snapshot was
+  -- taken, the store was upgraded or exported, or something was told of it. The disk is left as the store that was closed left it.
   abbrev pub CarriesOut : D → D → Task → Status → Type 0
   CarriesOut disk back (Run mode every) status =
       (ending : Ending) × (status ≡ status_of_ending ending)
       × IsSession functions mode every state disk macros (remaining input) (remaining left) (contents held) (contents written) ending back
+  CarriesOut disk back Snapshot status =
+      IsSnapshot functions state disk macros (contents held) (contents written) status back × (left ≡ input)
+  CarriesOut disk back Upgrade status =
+      IsUpgrade functions state disk macros (contents held) (contents written) status back × (left ≡ input)
+  CarriesOut disk back (Export content) status =
+      IsExport functions state disk macros (contents held) (contents written) status back × (left ≡ input)
   CarriesOut disk back (Tell report) status =
       IsReport functions state report disk macros (contents held) (contents written) status back × (left ≡ input)
 
@@ -77,11 +101,11 @@ module _ (functions : Functions) {D R : Type 0} (state : D → State) (macros : 
   DoesOn disk back task status =
       CarriesOut disk back task status ⊎ (TellsUnopened functions state disk back whole status × IsUntouched input left held written)
 
-  -- There is no memory, or the folder is not opened, and nothing is read or written; or it is done over some disk of this type. That
-  -- the files of this disk are those of the folder is not said here.
+  -- There is no memory, no seed, or the folder is not opened, and nothing is read or written; or it is done over some disk of this
+  -- type. That the files of this disk are those of the folder is not said here.
   abbrev pub Does : Task → Status → Type 0
   Does task status =
-      (((status ≡ Fault NO_MEMORY) ⊎ (status ≡ Fault DEVICE)) × IsUntouched input left held written)
+      (IsEarlyFault status × IsUntouched input left held written)
       ⊎ ((disk : D) × (back : D) × DoesOn disk back task status)
 
   -- A task, for the store in a folder, was done, and this is the status.
@@ -90,7 +114,7 @@ module _ (functions : Functions) {D R : Type 0} (state : D → State) (macros : 
     -- neither is help written nor are the words refused
     pub taken : TakesWords status
     -- no folder has an empty name
-    pub nameless : folder ≡ [] → ((status ≡ Fault DEVICE) ⊎ (status ≡ Fault NO_MEMORY)) × IsUntouched input left held written
+    pub nameless : folder ≡ [] → IsEarlyFault status × IsUntouched input left held written
     pub unread : reads_input task ≡ false → left ≡ input
     pub unopened : (number : ℕ) → status ≡ Fault number → is_of_opening number ≡ true → IsUntouched input left held written
     pub fault : HasFaultNumber status
@@ -100,6 +124,31 @@ module _ (functions : Functions) {D R : Type 0} (state : D → State) (macros : 
     -- after a fault
     pub breaks_off : (text had : List ℕ) (number : ℕ) → remaining input ≡ Some text → contents held ≡ Some had → status ≡ Fault number
         → TaskBreaksOff functions task text had (contents written)
+
+-- ---- at a terminal
+
+module _ (functions : Functions) {D R : Type 0} (state : D → State) (macros : R) (whole : Bool) (held written : Option (List ℕ)) where
+  -- Sessions in a row went so over the store that a disk holds, and the status is that of the last one; or the store is not opened,
+  -- and nothing is written. The first disk becomes the second.
+  abbrev pub SitsOn : D → D → Mode → ℕ → Status → Type 0
+  SitsOn disk back mode every status =
+      ((ending : Ending) × (status ≡ status_of_ending ending) × AreSessions functions mode every state disk macros held written ending back)
+      ⊎ (TellsUnopened functions state disk back whole status × (written ≡ held))
+
+  -- There is no memory, no seed, or the folder is not opened, and nothing is written; or they went so over some disk of this type.
+  abbrev pub Sits : Mode → ℕ → Status → Type 0
+  Sits mode every status =
+      (IsEarlyFault status × (written ≡ held)) ⊎ ((disk : D) × (back : D) × SitsOn disk back mode every status)
+
+module _ (functions : Functions) {D R : Type 0} (state : D → State) (macros : R) (whole : Bool)
+    {I O : Type 0} (remaining : I → Option (List ℕ)) (contents : O → Option (List ℕ)) (input left : I) (held written : O) where
+  -- `run` is sessions in a row there; each other task is as anywhere
+  abbrev pub PerformsAtTerminal : Text → Task → Status → Type 0
+  PerformsAtTerminal folder (Run mode every) status = Sits functions state macros whole (contents held) (contents written) mode every status
+  PerformsAtTerminal folder Snapshot status = Performs functions state macros whole remaining contents input left held written folder Snapshot status
+  PerformsAtTerminal folder Upgrade status = Performs functions state macros whole remaining contents input left held written folder Upgrade status
+  PerformsAtTerminal folder (Export content) status = Performs functions state macros whole remaining contents input left held written folder (Export content) status
+  PerformsAtTerminal folder (Tell report) status = Performs functions state macros whole remaining contents input left held written folder (Tell report) status
 
 -- The words have a mistake, or ask for help: no task is done, and nothing is read. Where they are refused, or memory ran out, nothing
 -- goes to the output.

@@ -1,5 +1,5 @@
--- What `dump` and `verify` tell of a store.
-use Rattle.std.specs.Prelude.{◌≡◌, ℕ, List, [], ◌∷◌, ◌++◌, Option, Some, codes, decimal}
+-- What `dump`, `verify`, `snapshot`, `upgrade` and `export` tell of a store.
+use Rattle.std.specs.Prelude.{◌≡◌, ◌≢◌, ℕ, List, [], ◌∷◌, ◌++◌, Option, Some, codes, decimal}
 use Rattle.disk_trait.specs.Disk.{State}
 use Rattle.disk_trait.specs.declared.half.Half.{Half}
 use Rattle.disk_trait.specs.declared.half.Half.TheVariants.{A, B}
@@ -7,11 +7,15 @@ use Rattle.plist_state.specs.State.{WorldState}
 use Rattle.world_text.specs.Snapshot.{snapshot}
 use Rattle.user_macros.specs.Functions.{Functions}
 use Rattle.prevalence_store.specs.calls.Open.{IsOpened}
+use Rattle.prevalence_store.specs.calls.Snapshot.{Snapshots}
 use Rattle.prevalence_store.specs.calls.Store.{StoreView}
+use Rattle.prevalence_store.specs.declared.outcome.Outcome.{Outcome}
+use Rattle.prevalence_store.specs.declared.outcome.Outcome.TheVariants.{Accepted, Snapshotted, Refused}
+use Rattle.prevalence_store.specs.calls.Streams.{Writes}
 use Rattle.store_commands.specs.Texts.{TellsText}
 use Rattle.store_commands.specs.Session.{half_limit}
 use Rattle.store_commands.specs.declared.status.Status.{Status}
-use Rattle.store_commands.specs.declared.status.Status.TheVariants.{Done, Helped, ReaderRefused, WordsRefused, Fault}
+use Rattle.store_commands.specs.declared.status.Status.TheVariants.{Done, Helped, ReaderRefused, WordsRefused, LeftOut, Fault}
 use Rattle.store_commands.specs.declared.words.Report.{Report}
 use Rattle.store_commands.specs.declared.words.Report.TheVariants.{Dump, Verify}
 
@@ -41,6 +45,76 @@ pub record IsReport (functions : Functions) {D R : Type 0} (state : D → State)
   pub tells : TellsText status held written (text_of report opened is_opened.world)
   pub disk_is : back ≡ opened.disk
 
+-- no form was accepted
+abbrev pub HasNoValue : Outcome → Type 0
+HasNoValue (Accepted value) = ⊥
+HasNoValue Snapshotted = Unit {0}
+HasNoValue (Refused number) = Unit {0}
+
+-- After a snapshot the line on the half in use is written, which is the one that holds it; if it was refused, nothing.
+abbrev pub TellsSnapshot : Outcome → {D R : Type 0} → StoreView D R → Status → Option (List ℕ) → Option (List ℕ) → Type 0
+TellsSnapshot (Accepted value) store status held written = ⊥
+TellsSnapshot Snapshotted store status held written = TellsText status held written (half_line_of store)
+TellsSnapshot (Refused number) store status held written = (status ≡ Fault number) × (written ≡ held)
+
+-- The store that a disk holds was opened with these macro functions, it took a snapshot, which was told, and it was closed: this is
+-- its disk.
+pub record IsSnapshot (functions : Functions) {D R : Type 0} (state : D → State) (disk : D) (macros : R)
+    (held written : Option (List ℕ)) (status : Status) (back : D) : Type 0 where
+  pub opened : StoreView D R
+  pub is_opened : IsOpened functions state disk macros half_limit opened
+  pub closed : StoreView D R
+  pub outcome : Outcome
+  pub snapshots : Snapshots functions state opened closed is_opened.world outcome
+  pub tells : TellsSnapshot outcome closed status held written
+  pub disk_is : back ≡ closed.disk
+
+-- the line on the version of the half in use
+abbrev pub version_line : ℕ → List ℕ
+version_line version = codes "version " ++ (decimal version ++ 10 ∷ [])
+
+-- After an upgrade the line on the version is written; if its snapshot was refused, nothing.
+abbrev pub TellsUpgrade : Outcome → {D R : Type 0} → StoreView D R → Status → Option (List ℕ) → Option (List ℕ) → Type 0
+TellsUpgrade (Accepted value) store status held written = ⊥
+TellsUpgrade Snapshotted store status held written = TellsText status held written (version_line store.version)
+TellsUpgrade (Refused number) store status held written = (status ≡ Fault number) × (written ≡ held)
+
+-- A snapshot was taken where the half in use was of version 1, and nothing was done else.
+pub record Upgrades (functions : Functions) {D R : Type 0} (state : D → State) (old new : StoreView D R) (world : WorldState) (outcome : Outcome) : Type 0 where
+  pub first : old.version ≡ 1 → Snapshots functions state old new world outcome
+  pub later : old.version ≢ 1 → (new ≡ old) × (outcome ≡ Snapshotted)
+
+-- The store that a disk holds was opened with these macro functions, it was upgraded, which was told, and it was closed: this is its
+-- disk.
+pub record IsUpgrade (functions : Functions) {D R : Type 0} (state : D → State) (disk : D) (macros : R)
+    (held written : Option (List ℕ)) (status : Status) (back : D) : Type 0 where
+  pub opened : StoreView D R
+  pub is_opened : IsOpened functions state disk macros half_limit opened
+  pub closed : StoreView D R
+  pub outcome : Outcome
+  pub upgrades : Upgrades functions state opened closed is_opened.world outcome
+  pub tells : TellsUpgrade outcome closed status held written
+  pub disk_is : back ≡ closed.disk
+
+-- All forms were written, or all but what no form can make; or a part of them, as of every text.
+abbrev pub TellsForms : Status → Option (List ℕ) → Option (List ℕ) → List ℕ → Type 0
+TellsForms LeftOut held written forms = Writes held written forms
+TellsForms Done held written forms = TellsText Done held written forms
+TellsForms (Fault number) held written forms = TellsText (Fault number) held written forms
+TellsForms Helped held written forms = ⊥
+TellsForms ReaderRefused held written forms = ⊥
+TellsForms WordsRefused held written forms = ⊥
+
+-- The store that a disk holds was opened with these macro functions, forms were written, and it was closed: this is its disk. That
+-- they make its world is not said.
+pub record IsExport (functions : Functions) {D R : Type 0} (state : D → State) (disk : D) (macros : R)
+    (held written : Option (List ℕ)) (status : Status) (back : D) : Type 0 where
+  pub opened : StoreView D R
+  pub is_opened : IsOpened functions state disk macros half_limit opened
+  pub forms : List ℕ
+  pub tells : TellsForms status held written forms
+  pub disk_is : back ≡ opened.disk
+
 -- ---- over the files of a folder, of which no clause can say what they hold
 
 -- so far as it ends well, the output has the text of some world more
@@ -49,6 +123,7 @@ DumpsWorld Done held written = (world : WorldState) × (written ≡ Some (held +
 DumpsWorld ReaderRefused held written = ⊥
 DumpsWorld Helped held written = Unit {0}
 DumpsWorld WordsRefused held written = Unit {0}
+DumpsWorld LeftOut held written = ⊥
 DumpsWorld (Fault number) held written = Unit {0}
 
 -- and the line on some half
@@ -57,4 +132,23 @@ TellsHalf Done held written = (half : Half) × (generation : ℕ) × (records : 
 TellsHalf ReaderRefused held written = ⊥
 TellsHalf Helped held written = Unit {0}
 TellsHalf WordsRefused held written = Unit {0}
+TellsHalf LeftOut held written = ⊥
 TellsHalf (Fault number) held written = Unit {0}
+
+-- and the line on some version
+abbrev pub TellsVersion : Status → List ℕ → Option (List ℕ) → Type 0
+TellsVersion Done held written = (version : ℕ) × (written ≡ Some (held ++ version_line version))
+TellsVersion ReaderRefused held written = ⊥
+TellsVersion Helped held written = Unit {0}
+TellsVersion WordsRefused held written = Unit {0}
+TellsVersion LeftOut held written = ⊥
+TellsVersion (Fault number) held written = Unit {0}
+
+-- and some forms
+abbrev pub WritesForms : Status → List ℕ → Option (List ℕ) → Type 0
+WritesForms Done held written = (forms : List ℕ) × (written ≡ Some (held ++ forms))
+WritesForms LeftOut held written = (forms : List ℕ) × (written ≡ Some (held ++ forms))
+WritesForms ReaderRefused held written = ⊥
+WritesForms Helped held written = Unit {0}
+WritesForms WordsRefused held written = Unit {0}
+WritesForms (Fault number) held written = Unit {0}

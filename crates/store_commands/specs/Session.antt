@@ -1,6 +1,7 @@
 -- What a session over a disk does, and what it has written. Of what the files of a folder hold no clause can say a thing.
-use Rattle.std.specs.Prelude.{◌≡◌, ◌⊎◌, ℕ, List, [], ◌++◌, Option, Some}
+use Rattle.std.specs.Prelude.{◌≡◌, ◌≢◌, ◌⊎◌, ℕ, List, [], ◌∷◌, ◌++◌, All, Option, Some}
 use Rattle.disk_trait.specs.Disk.{State}
+use Rattle.lisp_object.specs.declared.refusal.TheConstants.{DEVICE}
 use Rattle.lisp_reading.specs.Reading.{empty, refused}
 use Rattle.plist_state.specs.State.{WorldState}
 use Rattle.prevalence_store.specs.declared.mode.Mode.{Mode}
@@ -13,7 +14,7 @@ use Rattle.prevalence_store.specs.calls.Serve.{ServesInput}
 use Rattle.prevalence_store.specs.calls.Store.{StoreView}
 use Rattle.prevalence_store.specs.calls.Streams.{Writes, WritesPart}
 use Rattle.store_commands.specs.declared.status.Status.{Status}
-use Rattle.store_commands.specs.declared.status.Status.TheVariants.{Done, Helped, ReaderRefused, WordsRefused, Fault}
+use Rattle.store_commands.specs.declared.status.Status.TheVariants.{Done, Helped, ReaderRefused, WordsRefused, LeftOut, Fault}
 
 -- how many bytes each of the two files of a store may have
 abbrev pub half_limit : ℕ
@@ -61,15 +62,23 @@ module _ (functions : Functions) (mode : Mode) where
       × ((place : ℕ) × (read_in functions lines.far.world mode lines.far.rest ≡ refused number place))
   AnswersInput Helped input held written = Unit {0}
   AnswersInput WordsRefused input held written = Unit {0}
+  AnswersInput LeftOut input held written = ⊥
   AnswersInput (Fault number) input held written = Unit {0}
 
--- After a fault its line was written; or, where that failed, a part of it from its front.
+-- What is told of a fault: its line, and after that of the device perhaps one more, with the cause.
+abbrev pub IsFaultText : ℕ → List ℕ → Type 0
+IsFaultText number text =
+    (text ≡ refusal_line number)
+    ⊎ ((number ≡ DEVICE) × (cause : List ℕ) × All (λ byte. byte ≢ 10) cause × (text ≡ refusal_line number ++ (cause ++ 10 ∷ [])))
+
+-- After a fault that is told, and after an export what was left out of it; or, if that failed, a part of it from its front.
 abbrev pub TellsFault : Status → Option (List ℕ) → Option (List ℕ) → Type 0
-TellsFault (Fault number) held written = Writes held written (refusal_line number) ⊎ WritesPart held written (refusal_line number)
+TellsFault (Fault number) held written = (text : List ℕ) × IsFaultText number text × (Writes held written text ⊎ WritesPart held written text)
 TellsFault Done held written = Unit {0}
 TellsFault Helped held written = Unit {0}
 TellsFault ReaderRefused held written = Unit {0}
 TellsFault WordsRefused held written = Unit {0}
+TellsFault LeftOut held written = (text : List ℕ) × (Writes held written text ⊎ WritesPart held written text)
 
 -- at the end of the input nothing of it is left
 abbrev pub ReadsToEnd : Status → Option (List ℕ) → Type 0
@@ -77,4 +86,5 @@ ReadsToEnd Done left = left ≡ Some []
 ReadsToEnd ReaderRefused left = Unit {0}
 ReadsToEnd Helped left = Unit {0}
 ReadsToEnd WordsRefused left = Unit {0}
+ReadsToEnd LeftOut left = Unit {0}
 ReadsToEnd (Fault number) left = Unit {0}

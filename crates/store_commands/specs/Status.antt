@@ -3,12 +3,14 @@ use Rattle.std.specs.Prelude.{◌≡◌, ◌≤◌, ◌⊎◌, ℕ, [], ◌∷�
 use Rattle.clap.specs.Words.{Kinds}
 use Rattle.clap.specs.declared.error.kind.ErrorKind.{ErrorKind}
 use Rattle.clap.specs.declared.error.kind.ErrorKind.TheVariants.{DisplayHelp, DisplayVersion, OutOfMemory}
+use Rattle.disk_trait.specs.declared.host.HostError.{HostError}
+use Rattle.disk_trait.specs.declared.host.HostError.TheVariants as host
 use Rattle.lisp_object.specs.declared.refusal.TheConstants.{DEVICE, DAMAGED, OUTPUT, NO_MEMORY}
 use Rattle.prevalence_store.specs.declared.outcome.Ending.{Ending}
 use Rattle.prevalence_store.specs.declared.outcome.Ending.TheVariants.{End, Reader, Store}
 use Rattle.store_commands.specs.declared.fault.Unwritten.{Unwritten}
 use Rattle.store_commands.specs.declared.status.Status.{Status}
-use Rattle.store_commands.specs.declared.status.Status.TheVariants.{Done, Helped, ReaderRefused, WordsRefused, Fault}
+use Rattle.store_commands.specs.declared.status.Status.TheVariants.{Done, Helped, ReaderRefused, WordsRefused, LeftOut, Fault}
 
 -- the exit status
 abbrev pub code_of : Status → ℕ
@@ -16,6 +18,7 @@ code_of Done = 0
 code_of Helped = 0
 code_of ReaderRefused = 1
 code_of WordsRefused = 2
+code_of LeftOut = 3
 code_of (Fault number) = 3
 
 -- after a session
@@ -28,6 +31,11 @@ status_of_ending (Store number) = Fault number
 abbrev pub status_of_output : Result Unit Unwritten → Status
 status_of_output (Ok written) = Done
 status_of_output (Err unwritten) = Fault OUTPUT
+
+-- after files that were not opened
+abbrev pub status_of_host : HostError → Status
+status_of_host host.OutOfMemory = Fault NO_MEMORY
+status_of_host _ = Fault DEVICE
 
 -- after words that gave no command: help that was asked for, out of memory, or words that are refused
 abbrev pub status_of_kind : ErrorKind → Status
@@ -58,6 +66,7 @@ TakesWords Helped = ⊥
 TakesWords WordsRefused = ⊥
 TakesWords Done = Unit {0}
 TakesWords ReaderRefused = Unit {0}
+TakesWords LeftOut = Unit {0}
 TakesWords (Fault number) = Unit {0}
 
 -- after words that gave no command: that of their kind of error, or a fault of the output where help was not written
@@ -68,6 +77,7 @@ IsAfterWords kind status = (status ≡ status_of_kind kind) ⊎ ((status_of_kind
 abbrev pub IsOfWords : Status → Type 0
 IsOfWords Done = ⊥
 IsOfWords ReaderRefused = ⊥
+IsOfWords LeftOut = ⊥
 IsOfWords Helped = Unit {0}
 IsOfWords WordsRefused = Unit {0}
 IsOfWords (Fault number) = (number ≡ NO_MEMORY) ⊎ (number ≡ OUTPUT)

@@ -1,36 +1,48 @@
 // What the words of the command line ask for.
-ghost use Rattle.std.specs.Prelude.{◌≡◌, ◌⊎◌, ◌<◌, ◌-◌, ◌^◌, [], map};
+ghost use Rattle.std.specs.Prelude.{◌≡◌, ◌≢◌, ◌⊎◌, ◌<◌, ◌-◌, ◌^◌, Bool, [], map, IfOk};
 ghost use Rattle.clap.specs.Words.{Text, kind_of};
 ghost use Rattle.user_macros.specs.Functions.{are_registered};
 ghost use Rattle.store_commands.specs.declared.words.Task.{Task};
 ghost use Rattle.store_commands.specs.CommandLine.{AsksFor, IsTaken, faults_of};
-ghost use Rattle.store_commands.specs.Commands.{DoesOn, Performs, PerformsNone};
+ghost use Rattle.store_commands.specs.Commands.{DoesOn, Performs, PerformsAtTerminal, PerformsNone, Sits};
 ghost use Rattle.store_commands.specs.Session.{TellsFault};
-ghost use Rattle.store_commands.specs.Status.{EndsAfter, HasFaultNumber, IsAfterWords, IsOfWords, IsQuiet};
+ghost use Rattle.store_commands.specs.Status.{EndsAfter, HasFaultNumber, IsAfterWords, IsOfWords, IsQuiet, TakesWords};
 
-use crate::fault::write_fault;
+use crate::export::export_on;
 use crate::report::report_on;
 use crate::session::serve_on;
+use crate::sessions::sessions_on;
+use crate::snapshot::snapshot_on;
 use crate::status::Status;
+use crate::terminal::Sessions;
+use crate::told::{Told, end_with, end_with_told};
+use crate::upgrade::upgrade_on;
 use crate::words::{Asked, Task, asked_in};
 use clap::Error;
-use disk_trait::{Disk, HostDisk};
-use lisp_object::refusal::{DEVICE, NO_MEMORY, OUTPUT};
+use disk_trait::{Disk, HostDisk, HostError, IfMissing};
+use lisp_object::refusal::{INPUT, NO_MEMORY, OUTPUT};
+use plist_state::Seed;
+use prevalence_store::{Mode, Unopened};
 use std::alloc::Global;
 use std::convert::AsStr;
 use std::fs::File;
 use std::io::{Read, Write};
+use std::random::RandomSource;
 use std::rt::Files;
 use user_macros::MacroFunctions;
 
 /// Does what the words ask for, with these macro functions; the first word is the program's name.
 ///
 /// Each command is over the store in the folder DIR. `run DIR` serves `input` to `output` in the mode Current; with `--rescue`
-/// in the mode Rescue, and with `--snapshot-every N` it takes a snapshot after each N forms that were logged. `dump DIR` writes
-/// the text of the world to `output`, and `verify DIR` the line on the half in use; they read nothing.
+/// in the mode Rescue, and with `--snapshot-every N` it takes a snapshot after each N forms that were logged. `snapshot DIR` takes
+/// a snapshot and writes the line on the half in use to `output`, `upgrade DIR` the version after it has taken one of files of
+/// version 1, `export DIR` the forms that make the world, `dump DIR` its text, and `verify DIR` the line on
+/// the half in use; they read nothing. A folder without a store gets one, or is a fault with `--existing`.
 ///
-/// Faults are found in this order: the words, DIR, the opening of the store, the command. A text on words that are refused, or
-/// the line of a fault, goes to `faults`; help that was asked for goes to `output`. What is written to `output` is flushed.
+/// Names are hashed by a seed that is drawn from `rt`; if it has no random bytes, the status is that of a fault of the input.
+/// Faults are found in this order: the words, the seed, DIR, the opening of the store, the command. A text on words that are refused, or
+/// the line of a fault, and after that of the device one with its cause, goes to `faults`; help and the version that was asked for
+/// go to `output`. What is written to `output` is flushed.
 pub fn program<R, M, S, I, O, F>(
     rt: &R,
     macros: M,
@@ -40,17 +52,19 @@ pub fn program<R, M, S, I, O, F>(
     faults: &mut F,
 ) -> Status
 where
-    R: Files<File = File> + AllocGlobal,
+    R: Files<File = File> + RandomSource + AllocGlobal,
     M: MacroFunctions + Drop,
     S: AsStr,
     I: Read,
     O: Write,
     F: Write,
     requires answers { M.answers macros }
-    ensures words { (folder : Text) (task : Task) → AsksFor (map S.text words.now) folder task
-        → IsTaken (map S.text words.now) folder task }
+    ensures words { (folder : Text) (existing : Bool) (task : Task)
+        → AsksFor (map S.text words.now) folder existing task
+        → IsTaken (map S.text words.now) folder existing task }
     ensures ends { EndsAfter (faults_of (map S.text words.now)) result }
-    ensures taken { (folder : Text) (task : Task) → IsTaken (map S.text words.now) folder task
+    ensures taken { (folder : Text) (existing : Bool) (task : Task)
+        → IsTaken (map S.text words.now) folder existing task
         → Performs M.Meaning.functions ⟦<HostDisk as Disk>⟧.state macros
         (are_registered M.Meaning.functions (M.functions macros)) I.remaining O.contents
         input.old input.new output.old output.new folder task result }
@@ -61,23 +75,129 @@ where
     ensures quiet { IsQuiet result → faults.new ≡ faults.old }
 {
     // The words come first: if they are refused, no folder is opened and nothing is read.
-    let status = match asked_in(rt.alloc(), words) {
-        Ok(asked) => carry_out(rt, macros, asked, input, output),
-        Err(error) => answer_words(&error, output, faults),
-    };
-    end_with(faults, status)
+    match asked_in(rt.alloc(), words) {
+        Ok(asked) => {
+            let (status, told) = carry_out(rt, macros, asked, input, output);
+            end_with_told(faults, status, &told)
+        }
+        Err(error) => {
+            let status = answer_words(&error, output, faults);
+            end_with(faults, status)
+        }
+    }
 }
 
-/// Ends so: after a fault its line is written.
-pub fn end_with<F: Write>(faults: &mut F, status: Status) -> Status
-    ensures status { result ≡ status }
-    ensures told { TellsFault status (F.contents faults.old) (F.contents faults.new) }
-    ensures quiet { IsQuiet status ⊎ (status ≡ Status.WordsRefused) → faults.new ≡ faults.old }
+/// Does what the words ask for, as `program`, where the input is a terminal. `run` is sessions in a row on one open store then: after
+/// a refusal of the reader the rest of the line is dropped, and the next session begins; the status is that of the last one.
+pub fn program_at_terminal<R, M, S, I, O, F>(
+    rt: &R,
+    macros: M,
+    words: &[S],
+    input: &mut I,
+    output: &mut O,
+    faults: &mut F,
+) -> Status
+where
+    R: Files<File = File> + RandomSource + AllocGlobal,
+    M: MacroFunctions + Drop,
+    S: AsStr,
+    I: Sessions,
+    O: Write,
+    F: Write,
+    requires answers { M.answers macros }
+    ensures ends { EndsAfter (faults_of (map S.text words.now)) result }
+    ensures taken { (folder : Text) (existing : Bool) (task : Task)
+        → IsTaken (map S.text words.now) folder existing task
+        → PerformsAtTerminal M.Meaning.functions ⟦<HostDisk as Disk>⟧.state macros
+        (are_registered M.Meaning.functions (M.functions macros)) I.remaining O.contents
+        input.old input.new output.old output.new folder task result }
+    ensures untaken { (faults_of (map S.text words.now) ≡ [] → ⊥)
+        → PerformsNone input.old input.new output.old output.new result }
+    ensures told { TellsFault result (F.contents faults.old) (F.contents faults.new) }
+    ensures quiet { IsQuiet result → faults.new ≡ faults.old }
 {
-    if let Status::Fault(number) = status {
-        let _ = write_fault(faults, number);
+    match asked_in(rt.alloc(), words) {
+        Ok(asked) => {
+            let (status, told) = carry_out_at_terminal(rt, macros, asked, input, output);
+            end_with_told(faults, status, &told)
+        }
+        Err(refusal) => {
+            let status = answer_words(&refusal, output, faults);
+            end_with(faults, status)
+        }
     }
-    status
+}
+
+// Carries a task out over the store in a folder, a session as sessions in a row.
+fn carry_out_at_terminal<R, M, I, O>(
+    rt: &R,
+    macros: M,
+    asked: Asked<'_>,
+    input: &mut I,
+    output: &mut O,
+) -> (Status, Told)
+where
+    R: Files<File = File> + RandomSource + AllocGlobal,
+    M: MacroFunctions + Drop,
+    I: Sessions,
+    O: Write,
+    requires answers { M.answers macros }
+    ensures taken { TakesWords result.0 }
+    ensures performs { PerformsAtTerminal M.Meaning.functions ⟦<HostDisk as Disk>⟧.state macros
+        (are_registered M.Meaning.functions (M.functions macros)) I.remaining O.contents
+        input.old input.new output.old output.new asked.entry.folder.now asked.entry.task result.0 }
+{
+    match asked.task {
+        Task::Run {
+            mode,
+            snapshot_every,
+        } => sit(rt, macros, asked, mode, snapshot_every, input, output),
+        _ => carry_out(rt, macros, asked, input, output),
+    }
+}
+
+// Serves sessions in a row at a terminal over the store in a folder, and tells what is to be told of them on standard error.
+fn sit<R, M, I, O>(
+    rt: &R,
+    macros: M,
+    asked: Asked<'_>,
+    mode: Mode,
+    snapshot_every: u64,
+    input: &mut I,
+    output: &mut O,
+) -> (Status, Told)
+where
+    R: Files<File = File> + RandomSource + AllocGlobal,
+    M: MacroFunctions + Drop,
+    I: Sessions,
+    O: Write,
+    requires answers { M.answers macros }
+    ensures taken { TakesWords result.0 }
+    ensures sits { Sits M.Meaning.functions ⟦<HostDisk as Disk>⟧.state macros
+        (are_registered M.Meaning.functions (M.functions macros)) (O.contents output.old) (O.contents output.new)
+        mode snapshot_every result.0 }
+{
+    // the seed comes before the folder, so that nothing is made if there is none
+    let Ok(seed) = Seed::draw(rt) else {
+        return (Status::Fault(INPUT), Told::Nothing);
+    };
+    let disk = match open_folder(rt, asked) {
+        Ok(disk) => disk,
+        Err(error) => return (Status::of_host(&error), Told::Cause(error)),
+    };
+    match sessions_on(
+        rt.alloc(),
+        disk,
+        macros,
+        seed,
+        mode,
+        snapshot_every,
+        input,
+        output,
+    ) {
+        Ok((ending, disk, _macros)) => (Status::of_ending(ending), cause_of(&disk)),
+        Err(unopened) => (Status::Fault(unopened.number), cause_of(&unopened.disk)),
+    }
 }
 
 // Words that gave no command: the text on them is written.
@@ -112,44 +232,92 @@ fn write_help<O: Write>(help: &Error, output: &mut O) -> Status
     }
 }
 
-// Carries a task out over the store in a folder. The store is closed after it, and its files are let go.
+// Carries a task out over the store in a folder, and tells what is to be told of it on standard error. The store is closed after it,
+// and its files are let go.
 fn carry_out<R, M, I, O>(
     rt: &R,
     macros: M,
     asked: Asked<'_>,
     input: &mut I,
     output: &mut O,
-) -> Status
+) -> (Status, Told)
 where
-    R: Files<File = File> + AllocGlobal,
+    R: Files<File = File> + RandomSource + AllocGlobal,
     M: MacroFunctions + Drop,
     I: Read,
     O: Write,
     requires answers { M.answers macros }
     ensures { Performs M.Meaning.functions ⟦<HostDisk as Disk>⟧.state macros
         (are_registered M.Meaning.functions (M.functions macros)) I.remaining O.contents
-        input.old input.new output.old output.new asked.entry.folder.now asked.entry.task result }
+        input.old input.new output.old output.new asked.entry.folder.now asked.entry.task result.0 }
+{
+    // the seed comes before the folder, so that nothing is made if there is none
+    let Ok(seed) = Seed::draw(rt) else {
+        return (Status::Fault(INPUT), Told::Nothing);
+    };
+    let disk = match open_folder(rt, asked) {
+        Ok(disk) => disk,
+        Err(error) => return (Status::of_host(&error), Told::Cause(error)),
+    };
+    let (status, disk, left_out) = carry_out_on(
+        rt.alloc(),
+        disk,
+        macros,
+        seed,
+        asked.task,
+        input,
+        output,
+    );
+    (status, told_after(status, left_out, &disk))
+}
+
+// What is to be told on standard error after a task.
+fn told_after(status: Status, left_out: Vec<u8>, disk: &HostDisk) -> Told {
+    if status == Status::LeftOut {
+        return Told::LeftOut(left_out);
+    }
+    cause_of(disk)
+}
+
+// The cause of a fault of the device, if there was one.
+fn cause_of(disk: &HostDisk) -> Told {
+    match disk.cause() {
+        Some(error) => Told::Cause(HostError::System(error)),
+        None => Told::Nothing,
+    }
+}
+
+// Opens the files of a folder, which has a name.
+fn open_folder<R: Files<File = File> + RandomSource + AllocGlobal>(
+    rt: &R,
+    asked: Asked<'_>,
+) -> Result<HostDisk, HostError>
+    ensures { IfOk result (λ disk. ((⟦<HostDisk as Disk>⟧.state disk).failures ≡ 0)
+        × (asked.entry.folder.now ≢ [])) }
 {
     // no folder has an empty name, and files under it would be those of the present folder
     if asked.folder.is_empty() {
-        return Status::Fault(DEVICE);
+        return Err(HostError::NoName);
     }
-    let Ok(disk) = HostDisk::open(rt, asked.folder) else {
-        return Status::Fault(DEVICE);
+    let if_missing = if asked.existing {
+        IfMissing::Refuse
+    } else {
+        IfMissing::Make
     };
-    let (status, _disk) = carry_out_on(rt.alloc(), disk, macros, asked.task, input, output);
-    status
+    HostDisk::open_files(rt, asked.folder, if_missing)
 }
 
-// Carries a task out over the store that a disk holds, and gives the disk back as the store left it.
+// Carries a task out over the store that a disk holds, and gives the disk back as the store left it, and a line for each property
+// that was left out of an export.
 fn carry_out_on<D, M, I, O>(
     alloc: Global,
     disk: D,
     macros: M,
+    seed: Seed,
     task: Task,
     input: &mut I,
     output: &mut O,
-) -> (Status, D)
+) -> (Status, D, Vec<u8>)
 where
     D: Disk + Drop,
     M: MacroFunctions + Drop,
@@ -165,13 +333,46 @@ where
         Task::Run {
             mode,
             snapshot_every,
-        } => match serve_on(alloc, disk, macros, mode, snapshot_every, input, output) {
-            Ok((ending, disk, _macros)) => (Status::of_ending(ending), disk),
-            Err(unopened) => (Status::Fault(unopened.number), unopened.disk),
+        } => match serve_on(
+            alloc,
+            disk,
+            macros,
+            seed,
+            mode,
+            snapshot_every,
+            input,
+            output,
+        ) {
+            Ok((ending, disk, _macros)) => (Status::of_ending(ending), disk, Vec::new(alloc)),
+            Err(unopened) => without_store(alloc, unopened),
         },
-        Task::Tell(report) => match report_on(alloc, disk, macros, report, output) {
-            Ok((status, disk, _macros)) => (status, disk),
-            Err(unopened) => (Status::Fault(unopened.number), unopened.disk),
+        Task::Snapshot => match snapshot_on(alloc, disk, macros, seed, output) {
+            Ok((status, disk, _macros)) => (status, disk, Vec::new(alloc)),
+            Err(unopened) => without_store(alloc, unopened),
+        },
+        Task::Upgrade => match upgrade_on(alloc, disk, macros, seed, output) {
+            Ok((status, disk, _macros)) => (status, disk, Vec::new(alloc)),
+            Err(unopened) => without_store(alloc, unopened),
+        },
+        Task::Export(content) => match export_on(alloc, disk, macros, seed, content, output) {
+            Ok((status, disk, _macros, left_out)) => (status, disk, left_out),
+            Err(unopened) => without_store(alloc, unopened),
+        },
+        Task::Tell(report) => match report_on(alloc, disk, macros, seed, report, output) {
+            Ok((status, disk, _macros)) => (status, disk, Vec::new(alloc)),
+            Err(unopened) => without_store(alloc, unopened),
         },
     }
+}
+
+// A store was not opened: the status, and the disk.
+fn without_store<D: Drop, M: Drop>(alloc: Global, unopened: Unopened<D, M>) -> (Status, D, Vec<u8>)
+    ensures status { result.0 ≡ Status.Fault unopened.number }
+    ensures disk { result.1 ≡ unopened.disk }
+{
+    (
+        Status::Fault(unopened.number),
+        unopened.disk,
+        Vec::new(alloc),
+    )
 }

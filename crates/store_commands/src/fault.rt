@@ -1,9 +1,12 @@
-// The line of a fault, and how a text is written.
+// The line of a fault, that with its cause, and how a text is written.
+ghost use Rattle.std.specs.Prelude.{◌≢◌, ℕ, List, [], ◌∷◌, ◌++◌, All};
 ghost use Rattle.prevalence_store.specs.meaning.Answers.{refusal_line};
+ghost use Rattle.store_commands.specs.Session.{IsFaultText};
 ghost use Rattle.store_commands.specs.Texts.{WritesOut, WritesText};
 
-use arrayvec::ArrayString;
-use lisp_object::refusal::name_of;
+use arrayvec::{ArrayString, ArrayVec};
+use disk_trait::HostError;
+use lisp_object::refusal::{DEVICE, name_of};
 use std::fmt::Write as WriteText;
 use std::io::Write;
 
@@ -24,6 +27,43 @@ pub fn write_fault<W: Write>(faults: &mut W, number: u16) -> Result<(), Unwritte
         return Err(Unwritten);
     };
     write_text(faults, line.as_bytes())
+}
+
+/// Writes what is told of a fault: its line, and after that of the device a line with the cause, if it is known.
+pub fn write_fault_with_cause<W: Write>(
+    faults: &mut W,
+    number: u16,
+    cause: Option<&HostError>,
+) -> Result<(), Unwritten>
+    ensures { (text : List ℕ) × IsFaultText number text
+        × WritesText result (W.contents faults.old) (W.contents faults.new) text }
+{
+    if write_fault(faults, number).is_err() {
+        return Err(Unwritten);
+    }
+    match cause {
+        Some(cause) if number == DEVICE => write_cause(faults, cause),
+        _ => Ok(()),
+    }
+}
+
+// Writes a line with a cause. It takes no memory; a cause that is too long is cut.
+fn write_cause<W: Write>(faults: &mut W, cause: &HostError) -> Result<(), Unwritten>
+    ensures { (line : List ℕ) × All (λ byte. byte ≢ 10) line
+        × WritesText result (W.contents faults.old) (W.contents faults.new) (line ++ 10 ∷ []) }
+{
+    let mut text = ArrayString::<400>::new();
+    let _ = write!(text, "{cause}");
+    let mut line = ArrayVec::<u8, 401>::new();
+    'bytes: for byte in text.as_bytes() {
+        if line.len() == 400 {
+            break;
+        }
+        // the cause is one line, whatever the system's words are
+        line.push(if *byte == b'\n' { b' ' } else { *byte });
+    }
+    line.push(b'\n');
+    write_text(faults, line.as_slice())
 }
 
 /// Writes a text whole, or a part of it from its front.

@@ -1,28 +1,46 @@
 //! The commands of the program, as a library: over a store whose files are in a folder they serve forms, write the text of the
 //! world, or tell the half in use.
 //!
-//! - `program` does what the words of the command line ask for, and answers a `Status` (module `commands`).
-//! - `serve_on` serves forms over any disk, and `report_on` writes what is told of a store (modules `session` and `report`).
-//! - `words` has the command line: `run DIR [--rescue] [--snapshot-every N]`, `dump DIR` and `verify DIR`.
-//! - `fault` writes the line of a fault, `half_line` that on the half in use.
+//! - `program` does what the words of the command line ask for, and answers a `Status`; `program_at_terminal` the same at a terminal,
+//!   where `run` is sessions in a row (module `commands`).
+//! - `serve_on` serves forms over any disk, `snapshot_on` takes a snapshot, `upgrade_on` takes one of files of version 1, `export_on`
+//!   writes the forms that make the world, and `report_on` writes what is told of a store (modules `session`, `snapshot`, `upgrade`,
+//!   `export` and `report`).
+//! - `sessions_on` serves sessions in a row (module `sessions`), and `terminal` has the input that asks for them, with its prompts.
+//! - `words` has the command line: `run DIR [--rescue] [--snapshot-every N]`, `snapshot DIR`, `upgrade DIR`, `export DIR [--data]`,
+//!   `dump DIR` and `verify DIR`, each with `--existing`; `help` has the texts of its help.
+//! - `fault` writes the line of a fault, and that with its cause; `half_line` that on the half in use.
 //! - `meaning` says what the macro functions of the program mean, and `macro_functions` has those that compute an object.
 #![tactic(auto)]
 
 mod commands;
+mod export;
 mod fault;
 mod half_line;
+mod help;
 pub mod macro_functions;
 mod meaning;
 mod report;
 mod session;
+mod sessions;
+mod snapshot;
 mod status;
+mod terminal;
+mod told;
+mod upgrade;
 mod words;
 
-pub use commands::{end_with, program};
-pub use fault::{Unwritten, write_fault};
+pub use commands::{program, program_at_terminal};
+pub use export::export_on;
+pub use fault::{Unwritten, write_fault, write_fault_with_cause};
 pub use half_line::write_half_line;
 pub use meaning::SixFunctions;
 pub use report::report_on;
 pub use session::{HALF_LIMIT, serve_on};
+pub use sessions::sessions_on;
+pub use snapshot::snapshot_on;
 pub use status::Status;
+pub use terminal::{Answers, Sessions, Terminal};
+pub use told::end_with;
+pub use upgrade::upgrade_on;
 pub use words::{Report, Task};

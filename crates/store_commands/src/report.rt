@@ -15,6 +15,7 @@ use crate::status::Status;
 use crate::words::Report;
 use disk_trait::Disk;
 use lisp_object::refusal::{NO_MEMORY, OUTPUT, REOPEN};
+use plist_state::Seed;
 use prevalence_store::{Store, Unopened};
 use std::alloc::Global;
 use std::io::Write;
@@ -30,6 +31,7 @@ pub fn report_on<D, M, O>(
     alloc: Global,
     disk: D,
     macros: M,
+    seed: Seed,
     report: Report,
     output: &mut O,
 ) -> Result<(Status, D, M), Unopened<D, M>>
@@ -47,7 +49,7 @@ where
         × (output.new ≡ output.old)) }
     ensures given_back { IfErr result (λ e. e.macros ≡ macros) }
 {
-    let store = Store::open(alloc, disk, macros, HALF_LIMIT)?;
+    let store = Store::open_with_seed(alloc, disk, macros, HALF_LIMIT, seed)?;
     let status = write_report(alloc, &store, report, output);
     let (disk, macros) = store.close();
     Ok((status, disk, macros))
@@ -86,8 +88,8 @@ fn write_world<D: Disk, M, O: Write>(alloc: Global, store: &Store<D, M>, output:
     status_of_output(write_out(output, text.as_slice()))
 }
 
-// Writes the line on the half in use of an open store.
-fn write_half<D: Disk, M, O: Write>(store: &Store<D, M>, output: &mut O) -> Status
+/// Writes the line on the half in use of an open store, and answers how that ended.
+pub(crate) fn write_half<D: Disk, M, O: Write>(store: &Store<D, M>, output: &mut O) -> Status
     ensures { TellsText result (O.contents output.old) (O.contents output.new)
         (half_line_of store.now) }
 {
@@ -100,8 +102,8 @@ fn write_half<D: Disk, M, O: Write>(store: &Store<D, M>, output: &mut O) -> Stat
     status_of_output(written)
 }
 
-// How the program ends after a text that was written.
-fn status_of_output(written: Result<(), Unwritten>) -> Status
+/// How the program ends after a text that was written.
+pub(crate) fn status_of_output(written: Result<(), Unwritten>) -> Status
     ensures { result ≡ status_of_output written }
 {
     match written {

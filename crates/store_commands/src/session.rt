@@ -6,6 +6,7 @@ ghost use Rattle.store_commands.specs.Commands.{IsUntouched};
 ghost use Rattle.store_commands.specs.Session.{IsSession, half_limit};
 
 use disk_trait::Disk;
+use plist_state::Seed;
 use prevalence_store::{Ending, Mode, Store, Unopened};
 use std::alloc::Global;
 use std::io::{Read, Write};
@@ -14,9 +15,9 @@ use user_macros::MacroFunctions;
 /// How many bytes each of the two files of a store may have.
 pub const HALF_LIMIT: u64 = 1_073_741_824;
 
-/// A session over the store that a disk holds, with these macro functions and in this mode. After each `snapshot_every` forms
-/// that were logged it takes a snapshot, and never where that is 0. The disk is given back as the store left it, and the macro
-/// functions.
+/// A session over the store that a disk holds, with these macro functions, in this mode, and with names hashed by this seed. After
+/// each `snapshot_every` forms that were logged it takes a snapshot, and never if that is 0. The disk is given back as the store
+/// left it, and the macro functions.
 ///
 /// # Errors
 ///
@@ -25,6 +26,7 @@ pub fn serve_on<D, M, I, O>(
     alloc: Global,
     disk: D,
     macros: M,
+    seed: Seed,
     mode: Mode,
     snapshot_every: u64,
     input: &mut I,
@@ -46,7 +48,7 @@ where
         × IsUntouched input.old input.new output.old output.new) }
     ensures given_back { IfErr result (λ e. e.macros ≡ macros) }
 {
-    let mut store = Store::open(alloc, disk, macros, HALF_LIMIT)?;
+    let mut store = Store::open_with_seed(alloc, disk, macros, HALF_LIMIT, seed)?;
     let ending = store.serve(input, output, mode, snapshot_every);
     let (disk, macros) = store.close();
     Ok((ending, disk, macros))

@@ -1,9 +1,10 @@
 // How the program ends.
 ghost use Rattle.std.specs.Prelude.{◌≡◌};
-ghost use Rattle.store_commands.specs.Status.{code_of, status_of_ending, status_of_kind};
+ghost use Rattle.store_commands.specs.Status.{code_of, status_of_ending, status_of_host, status_of_kind};
 
 use clap::error::ErrorKind;
-use lisp_object::refusal::NO_MEMORY;
+use disk_trait::HostError;
+use lisp_object::refusal::{DEVICE, NO_MEMORY};
 use prevalence_store::Ending;
 
 /// How the program ended.
@@ -11,19 +12,21 @@ use prevalence_store::Ending;
 pub enum Status {
     /// The command was carried out: the input was served to its end, or the text that was asked for was written.
     Done,
-    /// The help that was asked for was written.
+    /// The help or the version that was asked for was written.
     Helped,
     /// The reader refused a form, which ended the session.
     ReaderRefused,
     /// The words of the command line were refused.
     WordsRefused,
+    /// What no form can make was left out of an export; the rest was written.
+    LeftOut,
     /// A fault, with its number: 60 to 68, or 90.
     Fault(u16),
 }
 
 impl Status {
     /// The exit status: 0 where the command was carried out and after help, 1 after a refusal of the reader, 2 for words that
-    /// are refused, 3 after a fault.
+    /// are refused, 3 after a fault and where something was left out of an export.
     pub fn code(self) -> u8
         ensures { result ≡ code_of self }
     {
@@ -31,7 +34,7 @@ impl Status {
             Status::Done | Status::Helped => 0,
             Status::ReaderRefused => 1,
             Status::WordsRefused => 2,
-            Status::Fault(_) => 3,
+            Status::LeftOut | Status::Fault(_) => 3,
         }
     }
 
@@ -43,6 +46,16 @@ impl Status {
             Ending::End => Status::Done,
             Ending::Reader(_) => Status::ReaderRefused,
             Ending::Store(number) => Status::Fault(number),
+        }
+    }
+
+    /// The status after files that were not opened, for this reason.
+    pub fn of_host(error: &HostError) -> Status
+        ensures { result ≡ status_of_host error.now }
+    {
+        match error {
+            HostError::OutOfMemory => Status::Fault(NO_MEMORY),
+            _ => Status::Fault(DEVICE),
         }
     }
 

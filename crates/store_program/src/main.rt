@@ -9,10 +9,14 @@ ghost use Rattle.user_macros.specs.Functions.{are_registered};
 use lisp_object::refusal::NO_MEMORY;
 use readtable_core::FnName;
 use std::alloc::AllocError;
+use std::cell::Cell;
 use std::env;
-use std::io::{ErrorKind, Write};
+use std::io::{ErrorKind, IsTerminal, Write};
 use std::process::ExitCode;
-use store_commands::{SixFunctions, Status, end_with, macro_functions, program};
+use store_commands::{
+    Answers, SixFunctions, Status, Terminal, end_with, macro_functions, program,
+    program_at_terminal,
+};
 use user_macros::{Answer, Call, Cause, MacroFn, MacroFunctions, Macros, Refusal};
 
 // The words that the program was started with, or the status where they are not had: they are no text, or there is no memory.
@@ -32,6 +36,9 @@ fn serve<M: MacroFunctions + Drop, F: Write>(rt: &HostRuntime, macros: M, faults
     requires whole { are_registered M.Meaning.functions (M.functions macros) ≡ true }
 {
     match words_given(rt) {
+        Ok(words) if rt.stdin().is_terminal() => {
+            serve_at_terminal(rt, macros, words.as_slice(), faults)
+        }
         Ok(words) => program(
             rt,
             macros,
@@ -46,6 +53,21 @@ fn serve<M: MacroFunctions + Drop, F: Write>(rt: &HostRuntime, macros: M, faults
         }
         Err(status) => end_with(faults, status),
     }
+}
+
+// The same at a terminal, whose prompts go to standard error.
+fn serve_at_terminal<M: MacroFunctions + Drop, F: Write>(
+    rt: &HostRuntime,
+    macros: M,
+    words: &[String],
+    faults: &mut F,
+) -> Status
+    requires answers { M.answers macros }
+{
+    let answered = Cell::new(false);
+    let mut input = Terminal::new(rt.stdin(), rt.stderr(), &answered);
+    let mut output = Answers::new(rt.stdout(), &answered);
+    program_at_terminal(rt, macros, words, &mut input, &mut output, faults)
 }
 
 // What comes of registering a function whose name is known and not taken: only memory can refuse it.

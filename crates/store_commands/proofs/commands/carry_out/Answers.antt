@@ -1,18 +1,18 @@
-use Rattle.std.proofs.Common.{rules, inl, refl}
-use Rattle.lisp_object.specs.declared.refusal.TheConstants.{DEVICE}
-use Rattle.store_commands.specs.declared.status.Status.TheVariants.{Fault}
+use Rattle.std.proofs.Common.{inl, inr, refl}
+use Rattle.store_commands.proofs.Statuses.{early_after}
 use Rattle.store_commands.proofs.Tasks.{performs_nothing, performs_on}
 use Rattle.store_commands.proofs.commands.carry_out.Goals as goal
 
-pub returns-then-is_empty : goal.returns-then-is_empty
-returns-then-is_empty g c =
-    performs_nothing _ _ _ _ g.I.Read.remaining g.O.Write.contents _ _ _ _ c.args.asked.folder.now c.args.asked.task (Fault DEVICE) (inl refl) (refl, refl)
-
 pub returns-in_default : goal.returns-in_default
 returns-in_default g c =
-    performs_nothing _ _ _ _ g.I.Read.remaining g.O.Write.contents _ _ _ _ c.args.asked.folder.now c.args.asked.task (Fault DEVICE) (inl refl) (refl, refl)
+    performs_nothing _ _ _ _ g.I.Read.remaining g.O.Write.contents _ _ _ _ c.args.asked.folder.now c.args.asked.task _ (inr (inl refl)) (refl, refl)
+
+pub returns-in-Err : goal.returns-in-Err
+returns-in-Err g c =
+    performs_nothing _ _ _ _ g.I.Read.remaining g.O.Write.contents _ _ _ _ c.args.asked.folder.now c.args.asked.task _
+    (early_after c.of_host.result c.in-Err.error c.of_host.ensures) (refl, refl)
 
 pub returns : goal.returns
 returns g c =
-    performs_on _ _ _ _ g.I.Read.remaining g.O.Write.contents _ _ _ _ c.in-Ok.disk c.carry_out_on-status.result.1 c.args.asked.folder.now c.args.asked.task c.carry_out_on-status.result.0
-    (λ none. absurd (search rules)) c.carry_out_on-status.ensures
+    performs_on _ _ _ _ g.I.Read.remaining g.O.Write.contents _ _ _ _ c.in-Ok-open_folder.disk c.carry_out_on-status.result.1 c.args.asked.folder.now c.args.asked.task c.carry_out_on-status.result.0
+    c.in-Ok-open_folder.ensures.1 c.carry_out_on-status.ensures

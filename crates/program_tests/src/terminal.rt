@@ -1,0 +1,141 @@
+//! Sessions in a row at a terminal: what is answered, and which prompts are written.
+
+use crate::by_name::ByName;
+use crate::runs::{folder_for, words_of};
+use readtable_core::FnName;
+use std::cell::Cell;
+use std::fs;
+use std::io::{Read, Write};
+use std::test::Fail;
+use store_commands::{Answers, SixFunctions, Terminal, program_at_terminal};
+use user_macros::MacroFunctions;
+
+/// The status of a program at a terminal, with these streams. They are parameters of types of their own, as the terminal would
+/// else hold borrows that last differently.
+fn sit<M, I, O, P>(
+    rt: &HostRuntime,
+    macros: M,
+    words: &[&str],
+    input: I,
+    output: O,
+    prompts: P,
+    faults: &mut Vec<u8>,
+) -> u8
+where
+    M: MacroFunctions + Drop,
+    I: Read + Drop,
+    O: Write + Drop,
+    P: Write + Drop,
+    requires answers { M.answers macros }
+{
+    let answered = Cell::new(false);
+    let mut terminal = Terminal::new(input, prompts, &answered);
+    let mut answers = Answers::new(output, &answered);
+    program_at_terminal(rt, macros, words, &mut terminal, &mut answers, faults).code()
+}
+
+/// What came of a program at a terminal, where this was typed: its status, its answers, its prompts and its faults.
+fn typed(rt: &HostRuntime, words: &[&str], input: &[u8]) -> (u8, Vec<u8>, Vec<u8>, Vec<u8>) {
+    let alloc = rt.alloc();
+    let mut output = Vec::new(alloc);
+    let mut prompts = Vec::new(alloc);
+    let mut faults = Vec::new(alloc);
+    // the borrow checker has to be told of the type of a name, which the macro functions hold
+    let _name = FnName::new(b"SQUARE");
+    let macros = ByName::new(alloc, SixFunctions::new());
+    let status = sit(
+        rt,
+        macros,
+        words,
+        input,
+        &mut output,
+        &mut prompts,
+        &mut faults,
+    );
+    (status, output, prompts, faults)
+}
+
+/// The text of it: the status and the answers, and after a line of hyphens the prompts and the faults.
+fn text_of(
+    rt: &HostRuntime,
+    folder: &str,
+    words: &'static str,
+    input: &[u8],
+) -> Result<Vec<u8>, Fail> {
+    let words = words_of(rt.alloc(), folder, words)?;
+    let (status, output, prompts, faults) = typed(rt, words.as_slice(), input);
+    let mut text = Vec::new(rt.alloc());
+    writeln!(text, "{status}")?;
+    text.extend_from_slice(output.as_slice())?;
+    text.extend_from_slice(b"--\n")?;
+    text.extend_from_slice(prompts.as_slice())?;
+    text.extend_from_slice(faults.as_slice())?;
+    Ok(text)
+}
+
+/// Words, what is typed, and the text that is wanted.
+type Row = (&'static str, &'static [u8], &'static [u8]);
+
+const ROWS: [Row; 10] = [
+    (
+        "run DIR",
+        b"(SETF (GET 'A 'B) 7)\n12\n\n",
+        b"0\n7\n12\n--\nType a form and Enter; Ctrl-D ends.\n> > > > \n",
+    ),
+    (
+        "run DIR",
+        b"; a remark\n(LIST 1\n 2) (LIST\n)\n",
+        b"0\n(1 2)\nNIL\n--\nType a form and Enter; Ctrl-D ends.\n> > . . > \n",
+    ),
+    (
+        "run DIR",
+        b"10.5 (SETF (GET 'A 'B) 8)\n(GET 'A 'B)\n",
+        b"0\n! 7 FLOAT-TOKEN\n7\n--\nType a form and Enter; Ctrl-D ends.\n> Line 1, column 5: the rest of the line is dropped, and a new session begins.\n> > \n",
+    ),
+    (
+        "run DIR --existing",
+        b"(FROB)\n )\n",
+        b"0\n! 31 UNKNOWN-OPERATOR\n! 4 STRAY-CLOSE\n--\nType a form and Enter; Ctrl-D ends.\n> > Line 2, column 2: the rest of the line is dropped, and a new session begins.\n> \n",
+    ),
+    (
+        "run DIR",
+        b") 7",
+        b"1\n! 4 STRAY-CLOSE\n--\nType a form and Enter; Ctrl-D ends.\n> Line 1, column 1: the rest of the line is dropped, and a new session begins.\n",
+    ),
+    (
+        "run DIR --snapshot-every 1",
+        b"(SETF (GET 'A 'B)\n",
+        b"1\n! 1 END-OF-FILE\n--\nType a form and Enter; Ctrl-D ends.\n> . \n",
+    ),
+    (
+        "run DIR --rescue",
+        b"(GET 'A 'B)\n",
+        b"0\n7\n--\nType a form and Enter; Ctrl-D ends.\n> > \n",
+    ),
+    (
+        "verify DIR",
+        b"7\n",
+        b"0\nhalf A generation 1 records 1\n--\n",
+    ),
+    (
+        "--version",
+        b"7\n",
+        b"0\nstore_program 0.1.0, files of version 2\n--\n",
+    ),
+    (
+        "run /dev/null",
+        b"7\n",
+        b"3\n--\n! 60 DEVICE\nNot a directory (os error 20)\n",
+    ),
+];
+
+#[test]
+fn a_terminal_has_sessions_in_a_row(rt: HostRuntime) -> Result<(), Fail> {
+    let folder = folder_for(&rt, "terminal")?;
+    for (words, input, wanted) in ROWS {
+        let text = text_of(&rt, folder.as_str(), words, input)?;
+        assert!(rt; text.as_slice() == wanted, "{words} {text:?}");
+    }
+    fs::remove_dir_all(&rt, folder.as_str())?;
+    Ok(())
+}

@@ -1,0 +1,114 @@
+-- From an upgrade, and from an export, to what the commands promise.
+use Rattle.std.proofs.Common.{◌≡◌, ℕ, true, List, [], Option, Some, refl, sym, ap, subst, ◌∙◌, inl, inr, append-nil}
+use Rattle.std.proofs.lemmas.Bool.{cases_eq}
+use Rattle.disk_trait.specs.Disk.{State}
+use Rattle.plist_state.specs.State.{WorldState}
+use Rattle.prevalence_store.specs.calls.Snapshot.{Snapshots}
+use Rattle.prevalence_store.specs.calls.Store.{StoreView}
+use Rattle.prevalence_store.specs.declared.outcome.Outcome.{Outcome}
+use Rattle.prevalence_store.specs.declared.outcome.Outcome.TheVariants.{Accepted, Snapshotted, Refused}
+use Rattle.user_macros.specs.Functions.{Functions}
+use Rattle.world_forms.specs.declared.export.Content.{Content}
+use Rattle.store_commands.specs.Commands.{TaskBreaksOff, is_of_opening}
+use Rattle.store_commands.specs.Report.{HasNoValue, TellsForms, TellsUpgrade, TellsVersion, Upgrades, WritesForms, version_line}
+use Rattle.store_commands.specs.Status.{HasFaultNumber, TakesWords}
+use Rattle.store_commands.specs.Texts.{TellsText}
+use Rattle.store_commands.specs.declared.status.Status.{Status}
+use Rattle.store_commands.specs.declared.status.Status.TheVariants.{Done, Helped, ReaderRefused, WordsRefused, LeftOut, Fault}
+use Rattle.store_commands.specs.declared.words.Task.TheVariants.{Export, Upgrade}
+use Rattle.store_commands.proofs.Reports.{text_fault, text_front, text_of_no_opening, text_taken}
+use Rattle.store_commands.proofs.Snapshots.{no_value, refused_fault, refused_opening}
+
+module _ (functions : Functions) {D R : Type 0} (state : D → State) (old new : StoreView D R) (world : WorldState) where
+  -- what became of a snapshot that was taken, or not
+  either : (outcome : Outcome) (P : Type 0) → Upgrades functions state old new world outcome
+      → (Snapshots functions state old new world outcome → P) → (outcome ≡ Snapshotted → P) → P
+  either outcome P upgrades taken none = elim (cases_eq old.version 1) [
+    | inl first ↦ taken (upgrades.first first)
+    | inr later ↦ none (upgrades.later later).1
+  ]
+
+  pub upgrade_has_no_value : (outcome : Outcome) → Upgrades functions state old new world outcome → HasNoValue outcome
+  upgrade_has_no_value outcome upgrades =
+      either outcome (HasNoValue outcome) upgrades (no_value functions state old new world outcome) (λ is. subst HasNoValue (sym is) tt)
+
+  module _ (held written : Option (List ℕ)) where
+    pub upgrade_taken : (outcome : Outcome) (status : Status) → TellsUpgrade outcome new status held written → TakesWords status
+    upgrade_taken (Accepted value) status none = absurd none
+    upgrade_taken Snapshotted status told = text_taken held written (version_line new.version) status told
+    upgrade_taken (Refused number) status told = subst TakesWords (sym told.0) tt
+
+    refused_is : (given : ℕ) → Upgrades functions state old new world (Refused given) → Snapshots functions state old new world (Refused given)
+    refused_is given upgrades = either (Refused given) (Snapshots functions state old new world (Refused given)) upgrades (λ why. why) (λ is. absurd (cc))
+
+    pub upgrade_fault : (outcome : Outcome) (status : Status) → Upgrades functions state old new world outcome
+        → TellsUpgrade outcome new status held written → HasFaultNumber status
+    upgrade_fault (Accepted value) status upgrades told = absurd told
+    upgrade_fault Snapshotted status upgrades told = text_fault held written (version_line new.version) status told
+    upgrade_fault (Refused given) status upgrades told = refused_fault functions state old new world given status (refused_is given upgrades) told.0
+
+    pub upgrade_of_no_opening : (outcome : Outcome) (status : Status) (number : ℕ) → status ≡ Fault number
+        → Upgrades functions state old new world outcome → TellsUpgrade outcome new status held written → is_of_opening number ≡ true → ⊥
+    upgrade_of_no_opening (Accepted value) status number is upgrades told of = told
+    upgrade_of_no_opening Snapshotted status number is upgrades told of = text_of_no_opening held written (version_line new.version) status number is told of
+    upgrade_of_no_opening (Refused given) status number is upgrades told of =
+        refused_opening functions state old new world given number (refused_is given upgrades) (sym told.0 ∙ is) of
+
+    module _ (had : List ℕ) (holds : held ≡ Some had) where
+      version_told : (status : Status) → TellsText status held written (version_line new.version) → TellsVersion status had written
+      version_told Done told = (new.version, told had holds)
+      version_told (Fault number) told = tt
+      version_told Helped told = tt
+      version_told ReaderRefused told = absurd told
+      version_told WordsRefused told = tt
+      version_told LeftOut told = absurd told
+
+      pub upgrade_writes : (outcome : Outcome) (status : Status) → TellsUpgrade outcome new status held written → TellsVersion status had written
+      upgrade_writes (Accepted value) status none = absurd none
+      upgrade_writes Snapshotted status told = version_told status told
+      upgrade_writes (Refused number) status told = subst (λ (s : Status). TellsVersion s had written) (sym told.0) tt
+
+      pub upgrade_breaks : (outcome : Outcome) (status : Status) (number : ℕ) (input : List ℕ) → status ≡ Fault number
+          → TellsUpgrade outcome new status held written → TaskBreaksOff functions Upgrade input had written
+      upgrade_breaks (Accepted value) status number input is none = absurd none
+      upgrade_breaks Snapshotted status number input is told =
+          (new.version, text_front held written (version_line new.version) status number had holds is told)
+      upgrade_breaks (Refused given) status number input is told =
+          (0, ([], version_line 0, refl, told.1 ∙ holds ∙ ap (λ l. Some l) (sym (append-nil had))))
+
+-- ---- forms that were written
+
+module _ (held written : Option (List ℕ)) (forms : List ℕ) where
+  pub forms_taken : (status : Status) → TellsForms status held written forms → TakesWords status
+  forms_taken LeftOut told = tt
+  forms_taken Done told = tt
+  forms_taken (Fault number) told = tt
+  forms_taken Helped told = absurd told
+  forms_taken ReaderRefused told = absurd told
+  forms_taken WordsRefused told = absurd told
+
+  pub forms_fault : (status : Status) → TellsForms status held written forms → HasFaultNumber status
+  forms_fault LeftOut told = λ number is. absurd (cc)
+  forms_fault Done told = λ number is. absurd (cc)
+  forms_fault (Fault number) told = text_fault held written forms (Fault number) told
+  forms_fault Helped told = absurd told
+  forms_fault ReaderRefused told = absurd told
+  forms_fault WordsRefused told = absurd told
+
+  pub forms_of_no_opening : (status : Status) (number : ℕ) → status ≡ Fault number → TellsForms status held written forms → is_of_opening number ≡ true → ⊥
+  forms_of_no_opening status number is told =
+      text_of_no_opening held written forms (Fault number) number refl (subst (λ (s : Status). TellsForms s held written forms) is told)
+
+  module _ (had : List ℕ) (holds : held ≡ Some had) where
+    pub forms_written : (status : Status) → TellsForms status held written forms → WritesForms status had written
+    forms_written LeftOut told = (forms, told had holds)
+    forms_written Done told = (forms, told had holds)
+    forms_written (Fault number) told = tt
+    forms_written Helped told = absurd told
+    forms_written ReaderRefused told = absurd told
+    forms_written WordsRefused told = absurd told
+
+    pub forms_break : (functions : Functions) (content : Content) (status : Status) (number : ℕ) (input : List ℕ) → status ≡ Fault number
+        → TellsForms status held written forms → TaskBreaksOff functions (Export content) input had written
+    forms_break functions content status number input is told =
+        (forms, text_front held written forms (Fault number) number had holds refl (subst (λ (s : Status). TellsForms s held written forms) is told))

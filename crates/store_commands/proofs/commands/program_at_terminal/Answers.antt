@@ -1,0 +1,48 @@
+use Rattle.std.proofs.Common.{◌∙◌, inl, map, refl, subst, sym}
+use Rattle.clap.specs.Words.{Kinds, kind_of}
+use Rattle.store_commands.specs.CommandLine.{asked_in, faults_of}
+use Rattle.store_commands.specs.Status.{EndsAfter, IsAfterWords, IsCarriedOut, TakesWords}
+use Rattle.store_commands.proofs.AtTerminal.{moved_there, nothing_there}
+use Rattle.store_commands.proofs.FoundWords.{same_folder, same_task}
+use Rattle.store_commands.proofs.Statuses.{ends_after, memory_at, only_memory, words_carry_out, words_open}
+use Rattle.store_commands.proofs.commands.program_at_terminal.Goals as goal
+
+pub returns-in-Ok-clause-ends : goal.returns-in-Ok-clause-ends
+returns-in-Ok-clause-ends g c =
+    subst (λ (kinds : Kinds). EndsAfter kinds c.end_with_told.result) (sym c.in-Ok.ensures.faults)
+    (subst TakesWords (sym c.end_with_told.ensures.status) c.carry_out_at_terminal-status.ensures.taken)
+
+pub returns-in-Ok-clause-taken : goal.returns-in-Ok-clause-taken
+returns-in-Ok-clause-taken g c = λ folder existing task taken.
+    let asked = asked_in (map g.S.AsStr.text c.args.words.now) in
+    let same = same_folder asked c.in-Ok.asked.folder.now folder c.in-Ok.asked.existing existing c.in-Ok.asked.task task c.in-Ok.ensures.asked taken.1 in
+    let likewise = same_task asked c.in-Ok.asked.folder.now folder c.in-Ok.asked.existing existing c.in-Ok.asked.task task c.in-Ok.ensures.asked taken.1 in
+    moved_there _ _ _ _ g.I.Read.remaining g.O.Write.contents _ _ _ _ folder c.in-Ok.asked.folder.now task c.in-Ok.asked.task c.end_with_told.result
+    c.carry_out_at_terminal-status.result.0 (sym same) (sym likewise) c.end_with_told.ensures.status c.carry_out_at_terminal-status.ensures.performs
+
+pub returns-in-Err-clause-ends : goal.returns-in-Err-clause-ends
+returns-in-Err-clause-ends g c =
+    ends_after (faults_of (map g.S.AsStr.text c.args.words.now)) (kind_of c.in-Err.refusal) c.end_with.result c.in-Err.ensures.faults
+    (subst (IsAfterWords (kind_of c.in-Err.refusal)) (sym c.end_with.ensures.status) c.answer_words-status.ensures.status)
+
+pub returns-in-Err-clause-taken : goal.returns-in-Err-clause-taken
+returns-in-Err-clause-taken g c = λ folder existing task taken.
+    let memory = only_memory (faults_of (map g.S.AsStr.text c.args.words.now)) (kind_of c.in-Err.refusal) taken.0 c.in-Err.ensures.faults in
+    let ended = memory_at c.end_with.result c.answer_words-status.result (kind_of c.in-Err.refusal) c.end_with.ensures.status memory c.answer_words-status.ensures.status in
+    nothing_there _ _ _ _ g.I.Read.remaining g.O.Write.contents _ _ _ _ folder task c.end_with.result (inl ended)
+    (refl, c.answer_words-status.ensures.memory (sym c.end_with.ensures.status ∙ ended))
+
+pub returns-in-Ok-clause-untaken : goal.returns-in-Ok-clause-untaken
+returns-in-Ok-clause-untaken g c = λ some. absurd (some c.in-Ok.ensures.faults)
+
+pub returns-in-Err-clause-untaken : goal.returns-in-Err-clause-untaken
+returns-in-Err-clause-untaken g c = λ some.
+    let told = c.answer_words-status.ensures in
+    let is = c.end_with.ensures.status in
+    record {
+      unread = refl;
+      not_carried_out = λ carried. words_carry_out _ told.of_words (subst IsCarriedOut is carried);
+      no_opening = λ number fault of. words_open _ told.of_words number (sym is ∙ fault) of;
+      refused = λ refused. told.refused (sym is ∙ refused);
+      memory = λ memory. told.memory (sym is ∙ memory);
+    }

@@ -1,0 +1,12 @@
+use Rattle.std.proofs.Common.{◌≡◌, Some}
+use Rattle.plist_state.specs.State.{WorldState}
+use Rattle.store_commands.specs.Sessions.{InTurn}
+use Rattle.store_commands.proofs.sessions.serve_in_turn.Given as goal
+
+-- the sessions so far, the last of which ended so
+abbrev pub invariant-sessions : goal.invariant-sessions
+invariant-sessions g l =
+    (l.store.macros ≡ l.fn.store.macros)
+    × ((world : WorldState) → l.fn.store.world ≡ Some world
+    → InTurn g.M.Meaning.Meaning.functions l.fn.mode l.fn.snapshot_every g.D.Disk.state l.fn.store l.store world
+    (g.O.Write.contents l.fn.output) (g.O.Write.contents l.output) l.ending)

@@ -1,0 +1,41 @@
+// The texts of the help.
+
+/// How the program is called.
+pub const USAGE: &str =
+    "./pazturrok run DIR [--existing] [--rescue] [--snapshot-every N]\n       ./pazturrok snapshot DIR [--existing]\n       ./pazturrok upgrade DIR [--existing]\n       ./pazturrok export DIR [--existing] [--data]\n       ./pazturrok dump DIR [--existing]\n       ./pazturrok verify DIR [--existing]";
+
+/// How each command is called.
+pub const RUN_USAGE: &str = "./pazturrok run DIR [--existing] [--rescue] [--snapshot-every N]";
+
+pub const SNAPSHOT_USAGE: &str = "./pazturrok snapshot DIR [--existing]";
+
+pub const UPGRADE_USAGE: &str = "./pazturrok upgrade DIR [--existing]";
+
+pub const EXPORT_USAGE: &str = "./pazturrok export DIR [--existing] [--data]";
+
+pub const DUMP_USAGE: &str = "./pazturrok dump DIR [--existing]";
+
+pub const VERIFY_USAGE: &str = "./pazturrok verify DIR [--existing]";
+
+/// The end of the help: a first form, the statuses, and where the documents are.
+pub const PROGRAM_HELP: &str =
+    "A first form, in a new folder:\n  echo \"(SETF (GET 'APPLE 'PRICE) 7)\" | ./pazturrok run store\n\nDIR holds the two files of the store, half-a and half-b. One process at a time serves it.\n\nExit status:\n  0  the command was carried out, or help or the version was asked for\n  1  a text was refused by the reader, which ends the session; its line is the last answer\n  2  the words of the command line were refused\n  3  a fault of the folder, the files, the input, the output or the memory, with the line\n     ! <number> <NAME> on standard error, and after 60 a line with its cause; or something was\n     left out of an export\n\nDocuments, beside ./pazturrok: README.md to begin with; docs/evaluation.md for every operator,\ndocs/reading.md for the syntax, docs/refusals.md for the numbers, docs/operating.md for faults,\nsnapshots and backups, docs/protocol.md for programs that talk to a store.";
+
+/// The end of the help of each command.
+pub const RUN_HELP: &str =
+    "A first form, in a new folder:\n  echo \"(SETF (GET 'APPLE 'PRICE) 7)\" | ./pazturrok run store\n\nA form is answered once its record has been synced. Stopped at any moment, a store on an honest\ndisk opens again with the world that a prefix of the accepted forms gives, and that prefix holds\neach form that was answered. README.md has the premises, and what is proved.\n\nWith --snapshot-every N a snapshot is taken after each N forms that wrote: the text of the world\ngoes into the file that is not in use, which is used from then on. One is also taken if a file is\nfull. A file has at most 1,073,741,824 bytes.\n\nWith --rescue each form is read under the standard readtable in COMMON-LISP-USER, whatever readtable\nand package the store has. It is the way out of a readtable that can no longer be used:\n(COPY-READTABLE NIL :USER) makes :USER the standard one again.\n\nMacro functions, for SET-MACRO-CHARACTER and SET-DISPATCH-MACRO-CHARACTER:\n  :SQUARE  a vector of the objects up to the next ]\n  :CLOSE   refuses each call, as 20; for a ] that stands alone\n  :NOTE    discards what follows, up to the end of the line\n  :SKIP    discards the object that follows\n  :UNIT    a text of the characters up to the next }\n  :SCALE   the integer that follows, times the numeric argument\n\nDocuments: docs/evaluation.md for every operator, docs/reading.md for the syntax, docs/refusals.md\nfor the numbers, docs/operating.md for faults, docs/protocol.md for programs.";
+
+pub const SNAPSHOT_HELP: &str =
+    "The text of the world goes into the file that is not in use, which is used from then on, with no\nrecords: so the next opening has none to carry out again. The line on it is written, as by verify:\n  ./pazturrok snapshot store\n  half B generation 2 records 0\n\nDocuments: docs/operating.md, \"Snapshots\".";
+
+pub const UPGRADE_HELP: &str =
+    "If the file in use is of version 1, a snapshot is taken, which is of version 2. The version is written then:\n  ./pazturrok upgrade store\n  version 2\n\nA store of version 1 is served as it is, and becomes one of version 2 at its next snapshot. An older\nprogram does not read files of version 2.\n\nDocuments: docs/operating.md, docs/files.md.";
+
+pub const EXPORT_HELP: &str =
+    "Over a new store the forms make the same world:\n  ./pazturrok export store > forms\n  ./pazturrok run copy < forms\n\nWith --data the readtables are left out, and the forms are Common Lisp. A property that no form can\nset, as its text would be longer than a form may be, is left out: its symbol and its indicator are told on\nstandard error, and the status is 3.\n\nDocuments: docs/operating.md.";
+
+pub const DUMP_HELP: &str =
+    "The text is that of a snapshot: the packages, the property lists and the readtables. Two stores\nhave the same world if they give the same text:\n  ./pazturrok dump store\n\nDocuments: docs/files.md, docs/operating.md.";
+
+pub const VERIFY_HELP: &str =
+    "The store is opened, which finds all damage that an opening finds, and one line is written:\n  ./pazturrok verify store --existing\n  half A generation 1 records 120\n\nDocuments: docs/operating.md, \"Snapshots\".";

@@ -1,0 +1,96 @@
+// Files of version 1 become files of version 2.
+ghost use Rattle.std.specs.Prelude.{◌≡◌, ◌<◌, ◌-◌, ◌^◌, Some, IfOk, IfErr};
+ghost use Rattle.plist_state.specs.State.{WorldState};
+ghost use Rattle.prevalence_store.specs.calls.Open.{IsUnopened};
+ghost use Rattle.user_macros.specs.Functions.{are_registered};
+ghost use Rattle.store_commands.specs.Report.{HasNoValue, IsUpgrade, TellsUpgrade, Upgrades, version_line};
+ghost use Rattle.store_commands.specs.Session.{half_limit};
+ghost use Rattle.store_commands.specs.Texts.{WritesOut};
+
+use crate::fault::{Unwritten, write_out};
+use crate::report::status_of_output;
+use crate::session::HALF_LIMIT;
+use crate::status::Status;
+use arrayvec::ArrayString;
+use disk_trait::Disk;
+use plist_state::Seed;
+use prevalence_store::{Outcome, Store, Unopened};
+use std::alloc::Global;
+use std::fmt::Write as WriteText;
+use std::io::Write;
+use user_macros::MacroFunctions;
+
+/// Takes a snapshot of the store that a disk holds if its half in use is of version 1, and writes the line on the version. Answers
+/// how that ended. The disk is given back as the store left it, and the macro functions.
+///
+/// # Errors
+///
+/// Those of opening the store. Nothing is written then, and the disk and the macro functions are given back.
+pub fn upgrade_on<D, M, O>(
+    alloc: Global,
+    disk: D,
+    macros: M,
+    seed: Seed,
+    output: &mut O,
+) -> Result<(Status, D, M), Unopened<D, M>>
+where
+    D: Disk,
+    M: MacroFunctions,
+    O: Write,
+    requires room { (D.state disk).failures < 2 ^ 64 - 1 }
+    requires answers { M.answers macros }
+    ensures upgrades { IfOk result (λ p. IsUpgrade M.Meaning.functions D.state
+        disk macros (O.contents output.old) (O.contents output.new) p.0 p.1) }
+    ensures kept { IfOk result (λ p. p.2 ≡ macros) }
+    ensures refused { IfErr result (λ e. IsUnopened M.Meaning.functions D.state disk
+        (are_registered M.Meaning.functions (M.functions macros)) half_limit e.number e.disk
+        × (output.new ≡ output.old)) }
+    ensures given_back { IfErr result (λ e. e.macros ≡ macros) }
+{
+    let mut store = Store::open_with_seed(alloc, disk, macros, HALF_LIMIT, seed)?;
+    let outcome = upgraded(&mut store);
+    let status = write_upgrade(&store, &outcome, output);
+    let (disk, macros) = store.close();
+    Ok((status, disk, macros))
+}
+
+// Takes a snapshot if the half in use is of version 1.
+fn upgraded<D: Disk, M: MacroFunctions>(store: &mut Store<D, M>) -> Outcome
+    ensures upgrades { (world : WorldState) → store.old.world ≡ Some world
+        → Upgrades M.Meaning.functions D.state store.old store.new world result }
+    ensures macros { store.new.macros ≡ store.old.macros }
+{
+    if store.version() == 1 {
+        store.snapshot()
+    } else {
+        Outcome::Snapshotted
+    }
+}
+
+// Tells what became of an upgrade, and answers how that ended.
+fn write_upgrade<D: Disk, M, O: Write>(
+    store: &Store<D, M>,
+    outcome: &Outcome,
+    output: &mut O,
+) -> Status
+    requires no_value { HasNoValue outcome.now }
+    ensures { TellsUpgrade outcome.now store.now result (O.contents output.old) (O.contents output.new) }
+{
+    match outcome {
+        Outcome::Snapshotted => status_of_output(write_version_line(output, store.version())),
+        Outcome::Refused(number) => Status::Fault(*number),
+        Outcome::Accepted(_) => unreachable!(),
+    }
+}
+
+// Writes the line on a version, and flushes it.
+fn write_version_line<W: Write>(output: &mut W, version: u16) -> Result<(), Unwritten>
+    ensures { WritesOut result (W.contents output.old) (W.contents output.new)
+        (version_line version) }
+{
+    let mut line = ArrayString::<24>::new();
+    let Ok(()) = writeln!(line, "version {version}") else {
+        return Err(Unwritten);
+    };
+    write_out(output, line.as_bytes())
+}

@@ -1,0 +1,16 @@
+//! The forms that make a world: given one after the other to a new store, they leave a world with the same text.
+//!
+//! They are read under the standard readtable, in base 10, in COMMON-LISP-USER. First come the packages, with their symbols, imports,
+//! external symbols and uses; then the properties, the readtables, and at last what is current. Without the readtables they are
+//! Common Lisp, but for what packages of another Lisp are called. No clause says what the forms make: tests do.
+//!
+//! - `export`: `all_forms`, `Export`; `packages`, `properties`, `readtables`: their forms; `texts`: names, texts and characters in a form
+#![tactic(auto)]
+
+mod export;
+mod packages;
+mod properties;
+mod readtables;
+mod texts;
+
+pub use export::{Content, Export, all_forms};
