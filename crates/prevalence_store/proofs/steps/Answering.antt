@@ -21,7 +21,7 @@ use Rattle.prevalence_store.specs.steps.Input.{HasForm, IsPending}
 use Rattle.prevalence_store.specs.calls.Pace.{EndsInPace, Paces, fill_of}
 use Rattle.prevalence_store.specs.calls.Serve.{Advances, IsAfter, IsPlace, Serves, ServesInPace, StaysRefused, StopsStrict}
 use Rattle.prevalence_store.specs.calls.Store.{StoreView}
-use Rattle.prevalence_store.specs.steps.Serve.{Answers, ComesTo, EndsAt, GoesOn, HasEnded, HasEndedAt, ServesStrict}
+use Rattle.prevalence_store.specs.steps.Serve.{Answers, ComesTo, EndsAt, GoesOn, HasEndedAt, ServesStrict}
 use Rattle.prevalence_store.specs.steps.Course.{Course}
 use Rattle.prevalence_store.specs.steps.Answer.{PassesForm}
 use Rattle.prevalence_store.proofs.steps.Pacing.{ends_after, paces_both}

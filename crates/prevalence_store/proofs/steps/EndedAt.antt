@@ -1,5 +1,5 @@
 -- How a session ends at what was read: at no memory, at a refusal of the reader, and in a form.
-use Rattle.std.proofs.Common.{◌≡◌, ℕ, ◌+◌, ◌≤◌, Bool, true, List, [], ◌++◌, length, Option, Some, Result, Ok, Err, inl, inr, refl, sym, ap, subst, ◌∙◌, append_assoc, length-append, arith}
+use Rattle.std.proofs.Common.{◌≡◌, ℕ, ◌+◌, ◌≤◌, Bool, true, List, [], ◌++◌, length, Option, Some, Ok, Err, inl, inr, refl, sym, ap, subst, ◌∙◌, append_assoc, length-append, arith}
 use Rattle.disk_trait.specs.Disk.{State, IsHonest, IsSound}
 use Rattle.lisp_object.specs.Object.{Object}
 use Rattle.lisp_object.specs.declared.refusal.TheConstants.{NO_MEMORY}
@@ -23,7 +23,7 @@ use Rattle.prevalence_store.specs.calls.Store.{StoreView}
 use Rattle.prevalence_store.specs.steps.Answer.{AnswersFault, AnswersForm, AnswersRead, BeginsWith, PassesForm, StopsInForm, TellsForm}
 use Rattle.prevalence_store.specs.steps.Course.{Course, pass}
 use Rattle.prevalence_store.specs.steps.Input.{HasRefusal}
-use Rattle.prevalence_store.specs.steps.Serve.{Answers, EndsAt, HasEnded, HasEndedAt, ended_at}
+use Rattle.prevalence_store.specs.steps.Serve.{Answers, EndsAt, HasEndedAt, ended_at}
 use Rattle.prevalence_store.proofs.steps.Places.{place_at_once}
 use Rattle.prevalence_store.proofs.steps.Endings.{done, fault_answered, no_memory, nothing}
 use Rattle.prevalence_store.proofs.steps.Pacing.{done_paced, fault_paced, no_memory_paced}

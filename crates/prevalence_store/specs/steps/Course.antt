@@ -1,5 +1,5 @@
 -- How far a session has come.
-use Rattle.std.specs.Prelude.{◌≡◌, ℕ, ◌+◌, ◌≤◌, List, length}
+use Rattle.std.specs.Prelude.{◌≡◌, ℕ, ◌+◌, List, length}
 use Rattle.prevalence_store.specs.declared.session.course.Course.{Course as CourseOf}
 use Rattle.prevalence_store.specs.calls.Pace.{Pace, first_pace}
 use Rattle.prevalence_store.specs.steps.Schedule.{pace_of}

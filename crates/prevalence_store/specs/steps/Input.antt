@@ -8,7 +8,6 @@ use Rattle.lisp_reading.specs.Reading.{form, empty, refused}
 use Rattle.prevalence_store.specs.declared.session.input.Pending.{Pending}
 use Rattle.prevalence_store.specs.declared.session.input.Fed.{Fed}
 use Rattle.prevalence_store.specs.declared.session.input.FedPiece.{FedPiece}
-use Rattle.prevalence_store.specs.declared.session.input.ReadForm.{ReadForm}
 use Rattle.prevalence_store.specs.declared.session.input.Fed.TheVariants.{Nothing, Form, Refused}
 use Rattle.prevalence_store.specs.declared.mode.Mode.{Mode}
 use Rattle.prevalence_store.specs.meaning.Acceptance.{between, form_limits, read_in, setting_in}

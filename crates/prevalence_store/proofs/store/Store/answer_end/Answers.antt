@@ -1,11 +1,11 @@
-use Rattle.std.proofs.Common.{◌≡◌, ◌+◌, refl, sym, subst, ap, ◌∙◌, arith}
+use Rattle.std.proofs.Common.{refl, sym, subst, ◌∙◌, arith}
 use Rattle.form_reader.specs.Reader.{fed}
 use Rattle.lisp_object.specs.Datum.{object_of}
 use Rattle.prevalence_store.specs.declared.session.input.Fed.{Fed}
 use Rattle.prevalence_store.specs.steps.Course.{course_of}
 use Rattle.prevalence_store.specs.steps.Input.{Finishes, IsSoundFed, IsWithin}
-use Rattle.prevalence_store.specs.steps.Serve.{EndsAt, ended_at}
-use Rattle.prevalence_store.proofs.steps.EndedAt.{at_starts, done_at_end, fault_at_end, memory_at_end, read_at_end}
+use Rattle.prevalence_store.specs.steps.Serve.{EndsAt}
+use Rattle.prevalence_store.proofs.steps.EndedAt.{done_at_end, fault_at_end, memory_at_end, read_at_end}
 use Rattle.prevalence_store.proofs.steps.Pieces.{ended_form, last_begins, last_start}
 use Rattle.prevalence_store.proofs.store.Store.answer_end.Goals as goal
 

@@ -1,6 +1,4 @@
-use Rattle.std.proofs.Common.{◌≡◌, Bool, Option, None, Some, ℕ, subst, sym}
-use Rattle.plist_state.specs.State.{WorldState}
-use Rattle.prevalence_store.specs.steps.Answer.{was_logged}
+use Rattle.std.proofs.Common.{Bool, Option, None, Some, ℕ, subst}
 use Rattle.prevalence_store.specs.steps.Schedule.{RenewsAfterForm, pace_of}
 use Rattle.prevalence_store.proofs.steps.Renewing.{not_renewed_after, renewed_after}
 use Rattle.prevalence_store.proofs.store.Store.answer_form.Goals as goal

@@ -1,4 +1,4 @@
-use Rattle.std.proofs.Common.{◌≡◌, [], ◌++◌, ◌+◌, ◌-◌, Some, take, refl, subst, sym, ap, ◌∙◌, length-append, arith}
+use Rattle.std.proofs.Common.{[], ◌++◌, ◌+◌, ◌-◌, Some, take, refl, subst, sym, ap, ◌∙◌, length-append, arith}
 use Rattle.std.proofs.lemmas.List.{length-take-le}
 use Rattle.form_reader.specs.Reader.{fed}
 use Rattle.lisp_object.specs.Datum.{object_of}

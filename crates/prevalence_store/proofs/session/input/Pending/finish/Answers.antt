@@ -2,7 +2,7 @@ use Rattle.std.proofs.Common.{arith, ◌∙◌}
 use Rattle.lisp_object.specs.Datum.{object_of}
 use Rattle.prevalence_store.specs.meaning.Acceptance.{read_in}
 use Rattle.prevalence_store.proofs.calls.Executing.{form_places, form_read}
-use Rattle.prevalence_store.proofs.steps.Pendings.{kept_count, last_form, last_places, last_refused_within}
+use Rattle.prevalence_store.proofs.steps.Pendings.{kept_count, last_form, last_places}
 use Rattle.prevalence_store.proofs.session.input.Pending.finish.Goals as goal
 
 pub own_text-requires-clause-kept : goal.own_text-requires-clause-kept
