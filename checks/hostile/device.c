@@ -1,7 +1,8 @@
 /* Loaded before a program: its Nth call to the system fails (DEVICE_AT=N, from 1). DEVICE_MODE says how: `e5` with the error 5 (any
-   number) and nothing done, `E5` so from then on for all calls of this kind, `s` half of the bytes, `t` half of the bytes and then the
-   error 5, `x` the process ends before it, `y` after it, `h` after half of it. How many calls there were and which one failed is written to the file
-   DEVICE_LOG at the end. DEVICE_TRACE is a file that gets what was written, cut and synced, and the answers. Built without headers. */
+   number) and nothing done, `E5` so from then on for all calls of this kind, `i4` so at every second write, read and sync of a file from
+   it on, `s` half of the bytes, `t` half of the bytes and then the error 5, `x` the process ends before it, `y` after it, `h` after half
+   of it. How many calls there were and which one failed is written to the file DEVICE_LOG at the end. DEVICE_TRACE is a file that gets
+   what was opened, locked, written, cut and synced, and the answers. Built without headers. */
 typedef unsigned long size_t;
 typedef long off_t;
 extern long syscall(long, ...);
@@ -52,7 +53,9 @@ static void traced(char call, int file, off_t place, const void *bytes, size_t l
 }
 
 static int is_hit(char call) {
+    if (mode == 'i' && call != 'w' && call != 'r' && call != 's') return 0;
     count++;
+    if (mode == 'i') return count >= at && (count - at) % 2 == 0;
     if (mode == 'E' && hit == call) return 1;
     if (count != at) return 0;
     hit = call;
@@ -61,9 +64,8 @@ static int is_hit(char call) {
 
 static long failed(int number) { *__errno_location() = number; return -1; }
 
-
 #define BEGIN(call) int now = is_hit(call); \
-    if (now && (mode == 'e' || mode == 'E')) return failed(error); \
+    if (now && (mode == 'e' || mode == 'E' || mode == 'i')) return failed(error); \
     if (now && mode == 'x') { note(); _exit(99); }
 #define END if (now && mode == 't') return failed(EIO); \
     if (now && (mode == 'y' || mode == 'h')) { note(); _exit(99); }
@@ -123,6 +125,7 @@ int statx(int folder, const char *name, int flags, unsigned mask, void *found) {
 int flock(int file, int operation) {
     BEGIN('f')
     int result = (int)syscall(FLOCK, file, operation);
+    if (!result) traced('f', file, 0, 0, 0);
     END
     return result;
 }

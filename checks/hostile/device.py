@@ -1,11 +1,17 @@
-"""Each call to the system failing, short, torn, or the last one of the process."""
+"""Each call to the system failing, short, torn, interrupted, or the last one of the process."""
 import collections
 
-from store import check, courses, library, want
+from store import DEVICE, INPUT, OUTPUT, check, courses, library, want
 
 # an error once, want of room, an interrupt, an error from then on, half of the bytes, half of them and an error; the end of the process
 # before the call, after it, and in it
 MODES = ("e5", "e28", "e4", "E5", "s", "t", "x", "y", "h")
+
+# a fault of the device: of a write of a half, a sync, a cut, a read, a lock; then of standard input and of standard output
+TOLD = {"w": DEVICE, "s": DEVICE, "c": DEVICE, "r": DEVICE, "f": DEVICE, "R": INPUT, "W": OUTPUT}
+
+# calls that are made again after an interrupt
+AGAIN = "wrs"
 
 
 def run(room, every, names=()):
@@ -17,22 +23,47 @@ def run(room, every, names=()):
             number = 1
             while disturbed(room, one, loaded, number, mode, kinds):
                 number += every
+        for number in (1, 2):
+            interrupted(room, one, loaded, number, kinds)
     return sum(kinds.values()), dict(kinds)
 
 
-def disturbed(room, one, loaded, number, mode, kinds):
-    """Whether the call of this number was reached."""
+def run_with(room, one, loaded, number, mode):
+    """What comes of a session of which the call of this number is disturbed, and the letter of that call."""
     room.put(one.before)
     log = room.path("calls")
     environment = {"LD_PRELOAD": loaded, "DEVICE_AT": str(number), "DEVICE_MODE": mode, "DEVICE_LOG": log}
     got = room.run(one.session.words, one.session.text, environment)
     with open(log, encoding="ascii") as file:
         _, hit = file.read().split()
+    return got, hit
+
+
+def disturbed(room, one, loaded, number, mode, kinds):
+    """Whether the call of this number was reached."""
+    got, hit = run_with(room, one, loaded, number, mode)
     where = f"{one.session.name}, call {number} ({hit}) {mode}:"
     if hit == "-":
         want(got == one.ample, where, "no call was disturbed, and yet", got)
         return False
-    want(got == one.ample or got.status in (3, 99), where, got)
-    kinds["as ever" if got == one.ample else "ended" if got.status == 99 else got.err.decode().strip()] += 1
+    is_as_ever = got == one.ample
+    if mode in ("x", "y", "h"):
+        want(got.status == 99, where, "the process was ended, and yet", got)
+    elif mode == "s" or mode == "e4" and hit in AGAIN:
+        want(is_as_ever, where, "it was not tried again:", got)
+    elif mode != "e4" and hit in TOLD:
+        # where all writes fail, nothing can be told
+        told = (TOLD[hit], b"") if mode == "E5" and hit == "W" else (TOLD[hit],)
+        want(got.status == 3 and got.err in told, where, "the fault was not told:", got)
+    else:
+        want(is_as_ever or got.status == 3, where, got)
+    kinds["as ever" if is_as_ever else "ended" if got.status == 99 else got.err.decode().strip() or "nothing can be told"] += 1
     check(room, one, got)
     return True
+
+
+def interrupted(room, one, loaded, number, kinds):
+    """Every second write, read and sync is interrupted, from this one on. Nothing is seen of it."""
+    got, _ = run_with(room, one, loaded, number, "i4")
+    want(got == one.ample and room.files() == one.after, one.session.name, "every second call interrupted:", got)
+    kinds["as ever"] += 1

@@ -4,7 +4,7 @@ import random
 
 from store import check_world, courses, library, want
 
-NAMES = ("property", "brackets", "snapshots", "more snapshots", "operators")
+NAMES = ("property", "brackets", "snapshots", "more snapshots", "a closed half", "operators")
 
 
 class File:
@@ -13,6 +13,7 @@ class File:
     def __init__(self, held):
         self.synced = self.now = held
         self.pending = []
+        self.syncs = 0
 
     def write(self, place, held):
         self.pending.append((place, place + len(held), False))
@@ -24,6 +25,7 @@ class File:
 
     def sync(self):
         self.synced, self.pending = self.now, []
+        self.syncs += 1
 
     def left(self, kind, dice):
         """What a crash of this kind leaves: all, nothing, or any bytes where something was written, and any length in between."""
@@ -59,7 +61,7 @@ class File:
 
 
 def traced(room, one, loaded):
-    """The calls of a session: what was opened, written, cut, synced and answered."""
+    """The calls of a session: what was opened, locked, written, cut, synced and answered."""
     trace = room.path("trace")
     room.put(one.before)
     got = room.run(one.session.words, one.session.text, {"LD_PRELOAD": loaded, "DEVICE_TRACE": trace})
@@ -81,22 +83,34 @@ def run(room, times, names=()):
     dice = random.Random(5)
     images, told = 0, {}
     for one in courses(room, names or NAMES):
-        before = images
-        files = [File(held or b"") for held in one.before or (b"", b"")]
-        opened, answered = {}, 0
-        images += crashed(room, one, files, answered, times, dice, "the start")
-        for number, (call, file, place, held) in enumerate(traced(room, one, loaded)):
-            if call == "o":
-                opened[file] = {b"half-a": files[0], b"half-b": files[1]}.get(os.path.basename(held))
-            elif call == "a":
-                answered += held.count(b"\n") if file == 1 else 0
-            elif opened.get(file):
-                target = opened[file]
-                {"w": lambda: target.write(place, held), "c": lambda: target.cut(place), "s": target.sync}[call]()
-                images += crashed(room, one, files, answered, times, dice, f"call {number}")
-        want([file.now for file in files] == one.after, one.session.name, "the trace is not that of the files")
-        told[one.session.name] = images - before
+        told[one.session.name] = images_of(room, one, loaded, times, dice)
+        images += told[one.session.name]
     return images, told
+
+
+def images_of(room, one, loaded, times, dice):
+    """How many images of a session there were."""
+    halves = [File(held or b"") for held in one.before or (b"", b"")]
+    files = {b"half-a": halves[0], b"half-b": halves[1], os.path.basename(room.store).encode(): File(b"")}
+    opened, locked, answered = {}, set(), 0
+    images = crashed(room, one, halves, answered, times, dice, "the start")
+    for number, (call, file, place, held) in enumerate(traced(room, one, loaded)):
+        name = opened.get(file)
+        if call == "o":
+            opened[file] = os.path.basename(held)
+        elif call == "f":
+            locked.add(name)
+        elif call == "a" and file == 1:
+            # a standard stream has a number up to 2, and what is meant for it may not get into a file
+            want(locked == {b"half-a", b"half-b"} and min(opened) > 2, one.session.name, "answered with", opened, locked)
+            answered += held.count(b"\n")
+        elif name in files:
+            target = files[name]
+            {"w": lambda: target.write(place, held), "c": lambda: target.cut(place), "s": target.sync}[call]()
+            images += crashed(room, one, halves, answered, times, dice, f"call {number}")
+    want([half.now for half in halves] == one.after, one.session.name, "the trace is not that of the files")
+    want(files[os.path.basename(room.store).encode()].syncs > 0, one.session.name, "the folder was not synced")
+    return images
 
 
 def crashed(room, one, files, answered, times, dice, moment):

@@ -1,40 +1,67 @@
-"""Each test of a built tests binary with a growth of memory refused: it passes, or ends with that error, and no assertion fails."""
+"""Each test of a built tests binary with growths of memory refused: it passes, or ends with that error, and no assertion fails."""
 import collections
 import os
 import subprocess
 
 from store import library, want
 
-ERRORS = (b"AllocError", b"OutOfMemory", b"Memory")
+# Only tests of these crates, whose helpers hand errors on: elsewhere an assertion may fail for want of memory alone.
+CRATES = ("log_tests", "reader_tests", "world_tests")
+
+# What the error names with which a test ends that met want of memory. A disk in memory that finds none answers with a fault of the device.
+ERRORS = (b"AllocError", b"AllocFailed", b"OutOfMemory", b"DeviceFault")
+
+# A test that asks for memory as often is run a few times alone.
+MANY = 20_000
+FEW = 2
 
 
-def run(room, binaries, most):
-    """At most so many growths of each test. Gives how many runs there were, and what came of them."""
+def binaries(crates):
+    """The tests binaries that the gate left in a folder of crates, of which none may be missing."""
+    found = [os.path.join(crates, name, "out", name + "_tests") for name in CRATES]
+    for path in found:
+        want(os.path.isfile(path), path, "is missing: `rt ci` makes it")
+    return found
+
+
+def run(room, paths, most):
+    """At most so many growths of each test, each second one with all that come after it. Gives how many runs there were, and what came."""
     loaded = library("growth", room.folder)
-    log = room.path("growths")
     kinds = collections.Counter()
-    for binary in binaries:
-        listed = subprocess.run([binary, "--list"], capture_output=True, text=True, check=True).stdout
+    for path in paths:
+        listed = subprocess.run([path, "--list"], capture_output=True, text=True, check=True).stdout
         for test in [line.split(": ")[0] for line in listed.splitlines() if line.endswith(": test")]:
-            total = growths(binary, test, {"LD_PRELOAD": loaded, "GROWTH_LOG": log}, log)
-            for number in range(1, total + 1, max(1, total // most)):
-                kinds[outcome(binary, test, loaded, number)] += 1
+            total = growths(room, path, test, loaded)
+            step = max(1, -(-total // (most if total < MANY else min(most, FEW))))
+            for index, number in enumerate(range(1, total + 1, step)):
+                kinds[outcome(room, path, test, loaded, number, index % 2 == 1)] += 1
     return sum(kinds.values()), dict(kinds)
 
 
-def growths(binary, test, environment, log):
-    done = subprocess.run([binary, test], capture_output=True, env=environment, timeout=600)
-    want(done.returncode == 0, binary, test, "undisturbed:", done.returncode, done.stderr)
+def tried(room, path, test, environment):
+    """A run of one test, whose files go into the room."""
+    return subprocess.run([path, test], capture_output=True, timeout=600, env={"TMPDIR": room.folder, **environment})
+
+
+def growths(room, path, test, loaded):
+    """How often a test asks for memory."""
+    log = room.path("growths")
+    done = tried(room, path, test, {"LD_PRELOAD": loaded, "GROWTH_LOG": log})
+    want(done.returncode == 0, os.path.basename(path), test, "undisturbed:", done.returncode, done.stderr)
     with open(log, encoding="ascii") as file:
         total, _ = map(int, file.read().split())
     os.unlink(log)
     return total
 
 
-def outcome(binary, test, loaded, number):
-    done = subprocess.run([binary, test], capture_output=True, env={"LD_PRELOAD": loaded, "GROWTH_AT": str(number)}, timeout=600)
-    said = done.stderr + done.stdout
-    where = f"{os.path.basename(binary)}, {test}, growth {number}:"
-    want(done.returncode in (0, 101), where, done.returncode, said[-300:])
-    want(done.returncode == 0 or any(error in said for error in ERRORS), where, said[-300:])
+def outcome(room, path, test, loaded, number, goes_on):
+    environment = {"LD_PRELOAD": loaded, "GROWTH_AT": str(number)}
+    if goes_on:
+        environment["GROWTH_ON"] = "1"
+    done = tried(room, path, test, environment)
+    room.sweep()
+    where = f"{os.path.basename(path)}, {test}, growth {number}{' and on' if goes_on else ''}:"
+    want(done.returncode in (0, 101), where, done.returncode, done.stderr[-300:])
+    is_error = done.stderr.startswith(b"error: ") and any(error in done.stderr for error in ERRORS)
+    want(done.returncode == 0 or is_error, where, done.stderr[-300:])
     return "passed" if done.returncode == 0 else "out of memory"

@@ -26,7 +26,9 @@ fn what_is_refused_gives_the_function_back(rt: HostRuntime) -> Result<(), Fail> 
     };
     assert!(rt; refusal.cause == Cause::Unknown);
     let Refusal { cause: _, function } = refusal;
-    assert!(rt; macros.register(name, function).is_ok());
+    if let Err(refusal) = macros.register(name, function) {
+        return Err(refusal.cause.into());
+    }
     let again: MacroFn = Box::new(rt.alloc(), |_call: &Call| Ok(Answer::Nothing))?;
     let Err(refusal) = macros.register(name, again) else {
         return Err(Fail::from("a taken name"));
@@ -49,13 +51,13 @@ fn whole_and_covering(rt: HostRuntime) -> Result<(), Fail> {
     assert!(rt; table.set_dispatch(b'@', b's', name).is_ok());
     assert!(rt; !macros.covers(&table));
     let note: MacroFn = Box::new(rt.alloc(), |_call: &Call| Ok(Answer::Nothing))?;
-    assert!(rt; macros.register(FnName::new(b"NOTE").unwrap(), note).is_ok());
+    if let Err(refusal) = macros.register(FnName::new(b"NOTE").unwrap(), note) {
+        return Err(refusal.cause.into());
+    }
     let close: MacroFn = Box::new(rt.alloc(), |_call: &Call| Ok(Answer::Refused(1)))?;
-    assert!(rt;
-        macros
-            .register(FnName::new(b"CLOSE").unwrap(), close)
-            .is_ok()
-    );
+    if let Err(refusal) = macros.register(FnName::new(b"CLOSE").unwrap(), close) {
+        return Err(refusal.cause.into());
+    }
     assert!(rt; !macros.is_whole() && !macros.covers(&table));
     let function: MacroFn = Box::new(
         rt.alloc(),
@@ -63,7 +65,9 @@ fn whole_and_covering(rt: HostRuntime) -> Result<(), Fail> {
             requires { IsSoundCall call.now }
         { Ok(scale(call)) },
     )?;
-    assert!(rt; macros.register(name, function).is_ok());
+    if let Err(refusal) = macros.register(name, function) {
+        return Err(refusal.cause.into());
+    }
     assert!(rt; macros.is_whole() && macros.covers(&table));
     assert!(rt; macros.meaning().names().len() == 3);
     assert!(rt; macros.gather_of(name) == Some(Gather::Next));

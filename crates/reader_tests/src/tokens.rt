@@ -83,8 +83,8 @@ fn numbers(rt: HostRuntime) -> Result<(), Fail> {
         ),
     ];
     for (text, base, numerator, denominator) in rows {
-        let found = number_of(rt.alloc(), text, base);
-        assert!(rt; found == Ok(Some((numerator, denominator))), "{text:?}");
+        let found = number_of(rt.alloc(), text, base)?;
+        assert!(rt; found == Some((numerator, denominator)), "{text:?}");
     }
     // Digits alone: a point and an escape are in no rational.
     let rationals: [(&[Mark], u8, Option<Result<(i128, u128), u16>>); 6] = [
@@ -114,9 +114,13 @@ fn numbers(rt: HostRuntime) -> Result<(), Fail> {
 }
 
 // What a token that has no meaning is refused as.
-fn refusal_of(alloc: Global, text: &[u8]) -> Result<Option<MeaningError>, AllocError> {
+fn refusal_of(alloc: Global, text: &[u8]) -> Result<Option<MeaningRefusal>, MeaningError> {
     let marks = plain(alloc, text)?;
-    Ok(read(alloc, marks.as_slice(), 10).err())
+    match read(alloc, marks.as_slice(), 10) {
+        Ok(_) => Ok(None),
+        Err(MeaningError::Refused(refusal)) => Ok(Some(refusal)),
+        Err(error) => Err(error),
+    }
 }
 
 #[test]
@@ -156,8 +160,8 @@ fn refusals(rt: HostRuntime) -> Result<(), Fail> {
         (b":", MeaningRefusal::PackageMarkers, 10),
     ];
     for (text, refusal, number) in rows {
+        assert!(rt; refusal_of(rt.alloc(), text)? == Some(refusal), "{text:?}");
         let error = MeaningError::Refused(refusal);
-        assert!(rt; refusal_of(rt.alloc(), text)? == Some(error), "{text:?}");
         assert!(rt; error.number() == number, "{text:?}");
     }
     assert_eq!(rt; MeaningError::OutOfMemory.number(), 90);
@@ -205,8 +209,8 @@ fn means(alloc: Global, marks: &[Mark], wanted: Named<'_>) -> Result<bool, Meani
     }
 }
 
-fn is_dot(alloc: Global, marks: &[Mark]) -> bool {
-    matches!(read(alloc, marks, 10), Ok(TokenMeaning::Dot))
+fn is_dot(alloc: Global, marks: &[Mark]) -> Result<bool, MeaningError> {
+    Ok(matches!(read(alloc, marks, 10)?, TokenMeaning::Dot))
 }
 
 // Whether the text in this case is this one.
@@ -246,9 +250,9 @@ fn names(rt: HostRuntime) -> Result<(), Fail> {
         ),
     ];
     for (marks, name) in rows {
-        assert!(rt; means(rt.alloc(), marks, name) == Ok(true), "{marks:?}");
+        assert!(rt; means(rt.alloc(), marks, name)?, "{marks:?}");
     }
-    assert!(rt; is_dot(rt.alloc(), &[Mark::Plain(b'.')]));
+    assert!(rt; is_dot(rt.alloc(), &[Mark::Plain(b'.')])?);
     let rows: [(Case, &[u8], &[u8]); 7] = [
         (Case::Upcase, b"aB-1", b"AB-1"),
         (Case::Downcase, b"aB-1", b"ab-1"),

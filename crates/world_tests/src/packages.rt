@@ -106,11 +106,8 @@ const PREFIXED: [(
     (b"", b"X", Err(11), Err(11)),
 ];
 
-// Whether a list was given that has exactly these names.
-fn lists(list: Result<Items<Bytes>, PackageError>, names: &[&[u8]]) -> bool {
-    let Ok(list) = list else {
-        return false;
-    };
+// Whether a list has exactly these names.
+fn lists(list: &Items<Bytes>, names: &[&[u8]]) -> bool {
     for (at, listed) in list.as_slice().iter().enumerate() {
         let Some(name) = names.get(at) else {
             return false;
@@ -122,20 +119,24 @@ fn lists(list: Result<Items<Bytes>, PackageError>, names: &[&[u8]]) -> bool {
     list.len() == names.len()
 }
 
-fn uses_nothing(alloc: Global, packages: &Packages, owner: &[u8]) -> bool {
-    lists(packages.uses(alloc, owner), &[])
+// Whether there is a package of this name, and it uses none.
+fn uses_nothing(alloc: Global, packages: &Packages, owner: &[u8]) -> Result<bool, PackageError> {
+    match packages.uses(alloc, owner) {
+        Ok(list) => Ok(list.is_empty()),
+        Err(PackageError::NoSuchPackage) => Ok(false),
+        Err(error) => Err(error),
+    }
 }
 
 // COMMON-LISP-USER has no symbols, and uses COMMON-LISP.
-fn is_user_first(alloc: Global, packages: &Packages) -> bool {
+fn is_user_first(alloc: Global, packages: &Packages) -> Result<bool, PackageError> {
     let user = COMMON_LISP_USER;
-    let Ok(imports) = packages.imports(alloc, user) else {
-        return false;
-    };
-    lists(packages.uses(alloc, user), &[COMMON_LISP])
-        && lists(packages.own(alloc, user), &[])
-        && lists(packages.externals(alloc, user), &[])
-        && imports.is_empty()
+    Ok(
+        lists(&packages.uses(alloc, user)?, &[COMMON_LISP])
+            && packages.own(alloc, user)?.is_empty()
+            && packages.externals(alloc, user)?.is_empty()
+            && packages.imports(alloc, user)?.is_empty(),
+    )
 }
 
 // Whether these are symbols of `owner` and external there.
@@ -203,23 +204,20 @@ fn prefixed(
 }
 
 // Whether the packages have these names.
-fn are_named(alloc: Global, packages: &Packages, names: &[&[u8]]) -> bool {
-    match packages.package_names(alloc) {
-        Ok(found) => found.as_slice() == names,
-        Err(_) => false,
-    }
+fn are_named(alloc: Global, packages: &Packages, names: &[&[u8]]) -> Result<bool, Fail> {
+    Ok(packages.package_names(alloc)?.as_slice() == names)
 }
 
 // Whether the packages are the first ones, by their names and lists.
 fn are_first(alloc: Global, packages: &Packages) -> Result<bool, Fail> {
     let all: [&[u8]; 3] = [COMMON_LISP, COMMON_LISP_USER, KEYWORD];
     Ok(
-        lists(Ok(packages.names(alloc)?), &all)
-            && are_named(alloc, packages, &all)
-            && is_user_first(alloc, packages)
+        lists(&packages.names(alloc)?, &all)
+            && are_named(alloc, packages, &all)?
+            && is_user_first(alloc, packages)?
             && are_numbered(packages)
-            && uses_nothing(alloc, packages, COMMON_LISP)
-            && !uses_nothing(alloc, packages, CL)
+            && uses_nothing(alloc, packages, COMMON_LISP)?
+            && !uses_nothing(alloc, packages, CL)?
             && packages.externals(alloc, COMMON_LISP)?.len() == 31
             && packages.own(alloc, KEYWORD)?.len() == 22,
     )

@@ -5,7 +5,7 @@ mod versions;
 use lisp_object::{Bytes, Datum};
 use package_table::PackageError;
 use package_table::standardized::{COMMON_LISP_USER, KEYWORD};
-use plist_state::{STANDARD, Seed, Symbol, USER, World};
+use plist_state::{ReadtableError, STANDARD, Seed, Symbol, USER, World};
 use readtable_core::{Case, FnName};
 use snapshot_text::{
     SnapshotError, one_text_one_state, printed_objects_read_back, read, read_with_seed,
@@ -16,26 +16,35 @@ use std::test::Fail;
 use user_macros::Macros;
 use user_macros::example::Notes;
 
-// Makes `[` a macro character of USER, where the function is the name of a keyword.
-fn set_bracket(world: &mut World, name: &[u8]) -> Option<()> {
-    let function = FnName::new(name)?;
+// Makes `[` a macro character of USER, and tells whether the function is the name of a keyword.
+fn set_bracket(world: &mut World, name: &[u8]) -> Result<bool, ReadtableError> {
+    let Some(function) = FnName::new(name) else {
+        return Ok(false);
+    };
     if function.is_dispatch() || !world.packages().is_symbol(KEYWORD, name) {
-        return None;
+        return Ok(false);
     }
-    world.set_macro(USER, b'[', function, false).ok()
+    world.set_macro(USER, b'[', function, false)?;
+    Ok(true)
 }
 
-// Gives a symbol of COMMON-LISP-USER the property 7.
-fn put_seven(alloc: Global, world: &mut World, name: &[u8], indicator: &[u8]) -> Option<()> {
-    let symbol = Symbol::from_bytes(alloc, COMMON_LISP_USER, name).ok()?;
-    let indicator = Symbol::from_bytes(alloc, COMMON_LISP_USER, indicator).ok()?;
+// Gives a symbol of COMMON-LISP-USER the property 7, and tells whether both symbols are there.
+fn put_seven(
+    alloc: Global,
+    world: &mut World,
+    name: &[u8],
+    indicator: &[u8],
+) -> Result<bool, AllocError> {
+    let symbol = Symbol::from_bytes(alloc, COMMON_LISP_USER, name)?;
+    let indicator = Symbol::from_bytes(alloc, COMMON_LISP_USER, indicator)?;
     let packages = world.packages();
     if !packages.is_symbol(symbol.home(), symbol.name())
         || !packages.is_symbol(indicator.home(), indicator.name())
     {
-        return None;
+        return Ok(false);
     }
-    world.put(&symbol, indicator, Datum::Integer(7)).ok()
+    world.put(&symbol, indicator, Datum::Integer(7))?;
+    Ok(true)
 }
 
 // A package P with an external symbol X, which COMMON-LISP-USER imports, and which a package Q uses.
@@ -80,7 +89,7 @@ fn the_first_world(rt: HostRuntime) -> Result<(), Fail> {
 fn add_property(alloc: Global, world: &mut World) -> Result<(), Fail> {
     world.intern(COMMON_LISP_USER, b"A")?;
     world.intern(COMMON_LISP_USER, b"B")?;
-    if put_seven(alloc, world, b"A", b"B").is_none() {
+    if !put_seven(alloc, world, b"A", b"B")? {
         return Err(Fail::from("not put"));
     }
     Ok(())
@@ -102,7 +111,7 @@ fn a_property(rt: HostRuntime) -> Result<(), Fail> {
 fn with_macro(alloc: Global) -> Result<World, Fail> {
     let mut world = World::new(alloc)?;
     world.intern(KEYWORD, b"SQUARE")?;
-    if set_bracket(&mut world, b"SQUARE").is_none() {
+    if !set_bracket(&mut world, b"SQUARE")? {
         return Err(Fail::from("not set"));
     }
     Ok(world)
@@ -141,6 +150,7 @@ pub(crate) fn read_back(alloc: Global, bytes: &[u8]) -> Result<Result<Vec<u8>, u
     let macros = Macros::new(alloc, Notes::new());
     match read(alloc, 2, bytes, &macros) {
         Ok(world) => Ok(Ok(write(alloc, &world)?)),
+        Err(SnapshotError::OutOfMemory) => Err(SnapshotError::OutOfMemory.into()),
         Err(refusal) => Ok(Err(refusal.number())),
     }
 }
@@ -161,8 +171,8 @@ fn fill(alloc: Global, world: &mut World) -> Result<(), Fail> {
         if name.is_ascii() {
             world.intern(COMMON_LISP_USER, name.as_slice())?;
         }
-        put_seven(alloc, world, name.as_slice(), b"A");
-        put_seven(alloc, world, b"A", name.as_slice());
+        put_seven(alloc, world, name.as_slice(), b"A")?;
+        put_seven(alloc, world, b"A", name.as_slice())?;
     }
     world.make_dispatch(USER, b'!', true)?;
     world.set_syntax_from_char(USER, b'x', STANDARD, b' ')?;
@@ -326,10 +336,8 @@ pub(crate) fn full_text(alloc: Global) -> Result<Vec<u8>, Fail> {
 // Whether the text is that of a world, which is read under this seed.
 fn is_read_with(alloc: Global, text: &[u8], seed: Seed) -> Result<bool, Fail> {
     let macros = Macros::new(alloc, Notes::new());
-    Ok(match read_with_seed(alloc, 2, text, &macros, seed) {
-        Ok(world) => write(alloc, &world)?.as_slice() == text,
-        Err(_) => false,
-    })
+    let world = read_with_seed(alloc, 2, text, &macros, seed)?;
+    Ok(write(alloc, &world)?.as_slice() == text)
 }
 
 // A text is read under any seed.

@@ -7,7 +7,7 @@ use package_table::PackageError;
 use package_table::standardized::{COMMON_LISP, COMMON_LISP_USER, KEYWORD};
 use plist_state::{ReadtableError, STANDARD, Symbol, USER, World};
 use readtable_core::{Case, FnName, Syntax};
-use std::alloc::Global;
+use std::alloc::{AllocError, Global};
 use std::test::Fail;
 
 // Calls on readtables by their names: that they succeed, or the number of the refusal.
@@ -119,15 +119,16 @@ pub(crate) fn answer(world: &mut World, words: &[&str; 5]) -> Option<Result<(), 
     }
 }
 
-// Whether the call of a row is answered as the row wants.
-fn answers(world: &mut World, row: &str) -> bool {
+// Whether the call of a row is answered as the row wants. Want of memory is an error.
+fn answers(world: &mut World, row: &str) -> Result<bool, ReadtableError> {
     let Some((wanted, call)) = row.split_once(' ') else {
-        return false;
+        return Ok(false);
     };
     match answer(world, &words_of(call)) {
-        Some(Ok(())) => wanted == "ok",
-        Some(Err(error)) => wanted.parse() == Ok(error.number()),
-        None => false,
+        Some(Ok(())) => Ok(wanted == "ok"),
+        Some(Err(ReadtableError::OutOfMemory)) => Err(ReadtableError::OutOfMemory),
+        Some(Err(error)) => Ok(wanted.parse() == Ok(error.number())),
+        None => Ok(false),
     }
 }
 
@@ -159,13 +160,13 @@ fn has_readtables(alloc: Global, world: &World, names: &[&[u8]]) -> Result<bool,
 }
 
 // Whether each call is answered as its row says.
-fn all_answered(world: &mut World) -> bool {
+fn all_answered(world: &mut World) -> Result<bool, ReadtableError> {
     for row in CALLS.split('\n') {
-        if !answers(world, row) {
-            return false;
+        if !answers(world, row)? {
+            return Ok(false);
         }
     }
-    true
+    Ok(true)
 }
 
 // Whether a new world has the first readtables, and after the calls those that they leave.
@@ -174,7 +175,7 @@ fn keeps_readtables(alloc: Global, world: &mut World) -> Result<bool, Fail> {
         return Ok(false);
     }
     Ok(
-        all_answered(world)
+        all_answered(world)?
             && is_changed(world)
             && world.current_readtable() == STANDARD
             && has_readtables(alloc, world, &[STANDARD, b"UPCASE", USER])?,
@@ -188,28 +189,34 @@ fn readtables(rt: HostRuntime) -> Result<(), Fail> {
     Ok(())
 }
 
-// Sets a property to a number, where both symbols are there.
+// Sets a property to a number, and tells whether both symbols are there.
 pub(crate) fn put(
     world: &mut World,
     symbol: &Symbol,
     indicator: Symbol,
     number: i128,
-) -> Option<()> {
+) -> Result<bool, AllocError> {
     let there = world.packages().is_symbol(symbol.home(), symbol.name());
     let known = world
         .packages()
         .is_symbol(indicator.home(), indicator.name());
     if !there || !known {
-        return None;
+        return Ok(false);
     }
-    world.put(symbol, indicator, Datum::Integer(number)).ok()
+    world.put(symbol, indicator, Datum::Integer(number))?;
+    Ok(true)
 }
 
-pub(crate) fn remove(world: &mut World, symbol: &Symbol, indicator: &Symbol) -> Option<bool> {
+// Removes a property, and tells whether it was there, where the symbol is.
+pub(crate) fn remove(
+    world: &mut World,
+    symbol: &Symbol,
+    indicator: &Symbol,
+) -> Result<Option<bool>, AllocError> {
     if !world.packages().is_symbol(symbol.home(), symbol.name()) {
-        return None;
+        return Ok(None);
     }
-    world.remove(symbol, indicator).ok()
+    Ok(Some(world.remove(symbol, indicator)?))
 }
 
 fn is_number(value: Option<&Datum>, number: i128) -> bool {
@@ -235,20 +242,25 @@ fn counts(alloc: Global, world: &World) -> Result<(usize, usize), Fail> {
 }
 
 // Sets a property of LIST, whose indicator has this name, to a number.
-fn put_to_list(alloc: Global, world: &mut World, name: &[u8], number: i128) -> Option<()> {
-    let list = Symbol::from_bytes(alloc, COMMON_LISP, b"LIST").ok()?;
-    let indicator = Symbol::from_bytes(alloc, COMMON_LISP, name).ok()?;
+fn put_to_list(
+    alloc: Global,
+    world: &mut World,
+    name: &[u8],
+    number: i128,
+) -> Result<bool, AllocError> {
+    let list = Symbol::from_bytes(alloc, COMMON_LISP, b"LIST")?;
+    let indicator = Symbol::from_bytes(alloc, COMMON_LISP, name)?;
     put(world, &list, indicator, number)
 }
 
 // Sets properties of LIST, one of them twice, and tells whether each was set.
-fn all_put(alloc: Global, world: &mut World) -> bool {
+fn all_put(alloc: Global, world: &mut World) -> Result<bool, AllocError> {
     for (name, number) in [(b"GET".as_slice(), 1), (b"IF", 2), (b"GET", 3)] {
-        if put_to_list(alloc, world, name, number).is_none() {
-            return false;
+        if !put_to_list(alloc, world, name, number)? {
+            return Ok(false);
         }
     }
-    true
+    Ok(true)
 }
 
 // Whether a new world has no properties, and then those of LIST that are set, until one is removed.
@@ -257,12 +269,12 @@ fn keeps_properties(alloc: Global, world: &mut World) -> Result<bool, Fail> {
     let get = Symbol::from_bytes(alloc, COMMON_LISP, b"GET")?;
     Ok(
         counts(alloc, world)? == (0, 0)
-            && remove(world, &list, &get) == Some(false)
-            && all_put(alloc, world)
+            && remove(world, &list, &get)? == Some(false)
+            && all_put(alloc, world)?
             && is_number(world.get(&list, &get), 3)
             && has(world, &list, 3, 2)
             && counts(alloc, world)? == (1, 1)
-            && remove(world, &list, &get) == Some(true)
+            && remove(world, &list, &get)? == Some(true)
             && world.get(&list, &get).is_none(),
     )
 }
@@ -287,19 +299,38 @@ fn with_package(world: &mut World) -> Result<[bool; 4], PackageError> {
     Ok([interned, exported, used, imported])
 }
 
+// Whether a call is refused so. Want of memory is an error.
+fn is_refused(
+    answer: Result<(), PackageError>,
+    refusal: PackageError,
+) -> Result<bool, PackageError> {
+    match answer {
+        Ok(()) => Ok(false),
+        Err(PackageError::OutOfMemory) => Err(PackageError::OutOfMemory),
+        Err(error) => Ok(error == refusal),
+    }
+}
+
 // Whether a new world is in COMMON-LISP-USER, and then in a package that was made, and in no other.
-fn keeps_packages(world: &mut World) -> bool {
-    world.current_package() == COMMON_LISP_USER
-        && with_package(world) == Ok([true; 4])
-        && world.set_current_package(b"CL") == Err(PackageError::NoSuchPackage)
-        && world.set_current_package(b"P") == Ok(())
-        && world.current_package() == b"P".as_slice()
-        && world.make(b"CL") == Err(PackageError::PackageExists)
+fn keeps_packages(world: &mut World) -> Result<bool, PackageError> {
+    if world.current_package() != COMMON_LISP_USER || with_package(world)? != [true; 4] {
+        return Ok(false);
+    }
+    let is_kept = is_refused(
+        world.set_current_package(b"CL"),
+        PackageError::NoSuchPackage,
+    )?;
+    world.set_current_package(b"P")?;
+    Ok(
+        is_kept
+            && world.current_package() == b"P".as_slice()
+            && is_refused(world.make(b"CL"), PackageError::PackageExists)?,
+    )
 }
 
 #[test]
 fn packages(rt: HostRuntime) -> Result<(), Fail> {
     let mut world = World::new(rt.alloc())?;
-    assert!(rt; keeps_packages(&mut world));
+    assert!(rt; keeps_packages(&mut world)?);
     Ok(())
 }

@@ -1,5 +1,5 @@
 //! Halves of each version: what is found in them, what an append makes of them, and what a start.
-use super::{AMPLE, Step, taken};
+use super::{AMPLE, Step, stepped};
 use disk_trait::{Disk, Half, MemoryDisk};
 use gate_log::Halves;
 use std::alloc::Global;
@@ -27,12 +27,13 @@ const WRITTEN: u16 = 2;
 type Shown = (u16, Half, u64, u64);
 
 /// What an opening shows, and the disk.
-fn shown(alloc: Global, disk: MemoryDisk) -> Option<(MemoryDisk, Shown)> {
+fn shown(alloc: Global, disk: MemoryDisk) -> Result<(MemoryDisk, Shown), Fail> {
     if disk.failures() == u64::MAX {
-        return None;
+        return Err(Fail::from("no call may fail any more"));
     }
-    let Ok(log) = Halves::open(alloc, disk, AMPLE) else {
-        return None;
+    let log = match Halves::open(alloc, disk, AMPLE) {
+        Ok(log) => log,
+        Err(error) => return Err(error.refusal.into()),
     };
     let shown = (
         log.version(),
@@ -40,7 +41,7 @@ fn shown(alloc: Global, disk: MemoryDisk) -> Option<(MemoryDisk, Shown)> {
         log.generation(),
         log.record_count(),
     );
-    Some((log.into_disk(), shown))
+    Ok((log.into_disk(), shown))
 }
 
 /// The first bytes of a half.
@@ -54,14 +55,8 @@ fn bytes_of(alloc: Global, disk: &mut MemoryDisk, half: Half) -> Result<Vec<u8>,
 }
 
 /// Takes a step. Gives the disk, and what an opening shows then.
-fn stepped(alloc: Global, disk: MemoryDisk, step: Step) -> Result<(MemoryDisk, Shown), Fail> {
-    let Some((disk, true)) = taken(alloc, disk, step) else {
-        return Err(Fail::from("the step was not taken"));
-    };
-    let Some(left) = shown(alloc, disk) else {
-        return Err(Fail::from("not opened again"));
-    };
-    Ok(left)
+fn shown_after(alloc: Global, disk: MemoryDisk, step: Step) -> Result<(MemoryDisk, Shown), Fail> {
+    shown(alloc, stepped(alloc, disk, step)?)
 }
 
 #[test]
@@ -70,10 +65,10 @@ fn a_half_keeps_its_version_until_the_next_start(rt: HostRuntime) -> Result<(), 
     for (version, first, logged) in [(1, FIRST, FIRST_LOGGED), (2, SECOND, SECOND_LOGGED)] {
         let mut disk = MemoryDisk::new(alloc);
         disk.write_at(Half::A, 0, first)?;
-        let (mut disk, found) = stepped(alloc, disk, Step::Append)?;
+        let (mut disk, found) = shown_after(alloc, disk, Step::Append)?;
         assert_eq!(rt; found, (version, Half::A, 1, 1));
         assert_eq!(rt; bytes_of(alloc, &mut disk, Half::A)?.as_slice(), logged);
-        let (mut disk, found) = stepped(alloc, disk, Step::Start)?;
+        let (mut disk, found) = shown_after(alloc, disk, Step::Start)?;
         assert_eq!(rt; found, (WRITTEN, Half::B, 2, 0));
         assert_eq!(rt; bytes_of(alloc, &mut disk, Half::A)?.as_slice(), logged);
         assert_eq!(rt; bytes_of(alloc, &mut disk, Half::B)?.as_slice(), NEXT);

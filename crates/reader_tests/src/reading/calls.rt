@@ -29,8 +29,8 @@ fn read_with(
         → answer_of a ≡ trial_answer name (call_of call.now) }
 {
     let mut macros = Macros::new(rt.alloc(), Trial::new());
-    if macros.register(name, function).is_err() {
-        return Err(Fail::from("not registered"));
+    if let Err(refusal) = macros.register(name, function) {
+        return Err(refusal.cause.into());
     }
     let mut table = Readtable::standard(rt.alloc())?;
     table.set_macro(b'!', name, false);

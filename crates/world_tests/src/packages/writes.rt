@@ -127,8 +127,8 @@ same use P Q
 changes mark
 changes back-to 0";
 
-// Whether the packages changed, or the number of the refusal; 0 for a call that may not be made.
-fn answer(packages: &mut Packages, call: Call<'_>) -> Result<bool, u16> {
+// Whether the packages changed, or the number of the refusal; 0 for a call that may not be made. Want of memory is an error.
+fn answer(packages: &mut Packages, call: Call<'_>) -> Result<Result<bool, u16>, AllocError> {
     let answer = match call {
         Call::Make(name) if is_ascii(name) => packages.make(name).map(|_| true),
         Call::Intern(owner, name) if is_ascii(name) => packages
@@ -148,9 +148,13 @@ fn answer(packages: &mut Packages, call: Call<'_>) -> Result<bool, u16> {
             packages.settle();
             Ok(true)
         }
-        _ => return Err(0),
+        _ => return Ok(Err(0)),
     };
-    answer.map_err(PackageError::number)
+    match answer {
+        Ok(has_changed) => Ok(Ok(has_changed)),
+        Err(PackageError::OutOfMemory) => Err(AllocError),
+        Err(error) => Ok(Err(error.number())),
+    }
 }
 
 // The call of a row.
@@ -179,7 +183,7 @@ fn wanted_of(word: &str) -> Result<bool, u16> {
 }
 
 // Whether each call is answered so.
-fn answers(packages: &mut Packages, rows: &str) -> bool {
+fn answers(packages: &mut Packages, rows: &str) -> Result<bool, AllocError> {
     for row in rows.split('\n') {
         let mut words = [""; 5];
         for (at, word) in row.split(' ').enumerate() {
@@ -187,33 +191,32 @@ fn answers(packages: &mut Packages, rows: &str) -> bool {
                 words[at] = word;
             }
         }
-        if answer(packages, call_of(&words)) != wanted_of(words[0]) {
-            return false;
+        if answer(packages, call_of(&words))? != wanted_of(words[0]) {
+            return Ok(false);
         }
     }
-    true
+    Ok(true)
 }
 
 // R has no symbol of its own, an external X, and imports X of Q and Y of P.
-fn is_r_at_last(alloc: Global, packages: &Packages) -> bool {
+fn is_r_at_last(alloc: Global, packages: &Packages) -> Result<bool, PackageError> {
     let r = b"R".as_slice();
-    let (Ok(own), Ok(externals)) = (packages.own(alloc, r), packages.externals(alloc, r)) else {
-        return false;
-    };
-    own.is_empty() && externals.len() == 1 && packages.is_external(r, b"X")
+    let own = packages.own(alloc, r)?;
+    let externals = packages.externals(alloc, r)?;
+    Ok(own.is_empty() && externals.len() == 1 && packages.is_external(r, b"X"))
 }
 
-fn imports_of_r(alloc: Global, packages: &Packages) -> bool {
-    let Ok(imports) = packages.imports(alloc, b"R") else {
-        return false;
-    };
+fn imports_of_r(alloc: Global, packages: &Packages) -> Result<bool, PackageError> {
+    let imports = packages.imports(alloc, b"R")?;
     let [first, second] = imports.as_slice() else {
-        return false;
+        return Ok(false);
     };
-    first.0.as_slice() == b"X".as_slice()
-        && first.1.as_slice() == b"Q".as_slice()
-        && second.0.as_slice() == b"Y".as_slice()
-        && second.1.as_slice() == b"P".as_slice()
+    Ok(
+        first.0.as_slice() == b"X".as_slice()
+            && first.1.as_slice() == b"Q".as_slice()
+            && second.0.as_slice() == b"Y".as_slice()
+            && second.1.as_slice() == b"P".as_slice(),
+    )
 }
 
 // A name of five letters, another for each number below 16^5.
@@ -227,34 +230,34 @@ fn keeps_lengths(alloc: Global, packages: &mut Packages) -> Result<bool, AllocEr
     let name = vec![in alloc; b'A'; MAX_SYMBOL_NAME + 1]?;
     let name = name.as_slice();
     Ok(
-        answer(packages, Call::Make(&name[..MAX_PACKAGE_NAME + 1])) == Err(46)
-            && answer(packages, Call::Make(&name[..MAX_PACKAGE_NAME])) == Ok(true)
-            && answer(packages, Call::Intern(COMMON_LISP, name)) == Err(36)
-            && answer(packages, Call::Intern(KEYWORD, name)) == Err(46)
-            && answer(packages, Call::Intern(KEYWORD, &name[..MAX_SYMBOL_NAME])) == Ok(true),
+        answer(packages, Call::Make(&name[..MAX_PACKAGE_NAME + 1]))? == Err(46)
+            && answer(packages, Call::Make(&name[..MAX_PACKAGE_NAME]))? == Ok(true)
+            && answer(packages, Call::Intern(COMMON_LISP, name))? == Err(36)
+            && answer(packages, Call::Intern(KEYWORD, name))? == Err(46)
+            && answer(packages, Call::Intern(KEYWORD, &name[..MAX_SYMBOL_NAME]))? == Ok(true),
     )
 }
 
 // Whether packages can be made up to the limit.
-fn makes_packages(packages: &mut Packages) -> bool {
+fn makes_packages(packages: &mut Packages) -> Result<bool, AllocError> {
     for i in 3..MAX_PACKAGES as u64 {
         let name = name_of(i);
-        if answer(packages, Call::Make(&name)) != Ok(true) {
-            return false;
+        if answer(packages, Call::Make(&name))? != Ok(true) {
+            return Ok(false);
         }
     }
-    true
+    Ok(true)
 }
 
 // Whether symbols of COMMON-LISP-USER can be made up to the limit.
-fn makes_symbols(packages: &mut Packages) -> bool {
+fn makes_symbols(packages: &mut Packages) -> Result<bool, AllocError> {
     for i in 53..MAX_SYMBOLS {
         let name = name_of(i);
-        if answer(packages, Call::Intern(COMMON_LISP_USER, &name)) != Ok(true) {
-            return false;
+        if answer(packages, Call::Intern(COMMON_LISP_USER, &name))? != Ok(true) {
+            return Ok(false);
         }
     }
-    true
+    Ok(true)
 }
 
 // What is asked at the limits: an imported symbol is none more.
@@ -272,35 +275,38 @@ same intern COMMON-LISP-USER PAPAP
 changes import AAAAP COMMON-LISP-USER PAPAP";
 
 // Whether all packages and symbols can be made, and the symbols again after going back.
-fn keeps_limits(packages: &mut Packages) -> bool {
+fn keeps_limits(packages: &mut Packages) -> Result<bool, AllocError> {
     let last = b"PAPAP";
-    !packages.is_full_of_packages()
-        && makes_packages(packages)
-        && packages.is_full_of_packages()
-        && answer(packages, Call::Mark) == Ok(true)
-        && makes_symbols(packages)
-        && packages.is_full_of_symbols()
-        && answer(packages, Call::BackTo(0)) == Ok(true)
-        && !packages.is_full_of_symbols()
-        && packages.resolve_internal(COMMON_LISP_USER, last) == Ok(Resolved::New(COMMON_LISP_USER))
-        && packages.number_of(COMMON_LISP_USER, last).is_none()
-        && makes_symbols(packages)
-        && packages.number_of(COMMON_LISP_USER, last) == Some(986_895)
-        && answers(packages, AT_LIMITS)
+    let new = Ok(Resolved::New(COMMON_LISP_USER));
+    Ok(
+        !packages.is_full_of_packages()
+            && makes_packages(packages)?
+            && packages.is_full_of_packages()
+            && answer(packages, Call::Mark)? == Ok(true)
+            && makes_symbols(packages)?
+            && packages.is_full_of_symbols()
+            && answer(packages, Call::BackTo(0))? == Ok(true)
+            && !packages.is_full_of_symbols()
+            && packages.resolve_internal(COMMON_LISP_USER, last) == new
+            && packages.number_of(COMMON_LISP_USER, last).is_none()
+            && makes_symbols(packages)?
+            && packages.number_of(COMMON_LISP_USER, last) == Some(986_895)
+            && answers(packages, AT_LIMITS)?,
+    )
 }
 
 fn marks_nest(alloc: Global) -> Result<bool, AllocError> {
     let mut packages = Packages::new(alloc)?;
-    Ok(answers(&mut packages, MARKS))
+    answers(&mut packages, MARKS)
 }
 
 // Whether each call on new packages is answered so, up to the longest names.
 fn keeps_writes(alloc: Global, packages: &mut Packages) -> Result<bool, Fail> {
     Ok(
-        answers(packages, WRITES)
+        answers(packages, WRITES)?
             && packages.resolve_external(KEYWORD, b"K") == Ok(KEYWORD)
-            && is_r_at_last(alloc, packages)
-            && imports_of_r(alloc, packages)
+            && is_r_at_last(alloc, packages)?
+            && imports_of_r(alloc, packages)?
             && keeps_lengths(alloc, packages)?,
     )
 }
@@ -321,6 +327,6 @@ fn marks(rt: HostRuntime) -> Result<(), Fail> {
 #[test]
 fn limits(rt: HostRuntime) -> Result<(), Fail> {
     let mut packages = Packages::new(rt.alloc())?;
-    assert!(rt; keeps_limits(&mut packages));
+    assert!(rt; keeps_limits(&mut packages)?);
     Ok(())
 }

@@ -1,6 +1,6 @@
 //! Texts of version 1, as it wrote them, beside those of version 2; and the base of numbers in them.
 use plist_state::World;
-use snapshot_text::{read, write, write_in};
+use snapshot_text::{SnapshotError, read, write, write_in};
 use std::alloc::Global;
 use std::test::Fail;
 use user_macros::Macros;
@@ -18,18 +18,23 @@ const PROPERTY_1: &[u8] =
 const PROPERTY_2: &[u8] =
     b"((\"COMMON-LISP-USER\" (\"COMMON-LISP\") (\"A\" \"B\") NIL NIL) (\"KEYWORD\" NIL NIL NIL NIL))\n((A B 7))\n(\"COMMON-LISP-USER\" \"USER\" 10 ((\"USER\" \"UPCASE\" NIL)))\n";
 
-// The world of a text of this version, if there is one.
-fn world_of(alloc: Global, version: u16, text: &[u8]) -> Option<World> {
+// The world of a text of this version, if there is one. Want of memory is an error.
+fn world_of(alloc: Global, version: u16, text: &[u8]) -> Result<Option<World>, SnapshotError> {
     let macros = Macros::new(alloc, Notes::new());
-    read(alloc, version, text, &macros).ok()
+    match read(alloc, version, text, &macros) {
+        Ok(world) => Ok(Some(world)),
+        Err(SnapshotError::OutOfMemory) => Err(SnapshotError::OutOfMemory),
+        Err(_) => Ok(None),
+    }
 }
 
 // The number with which a text of this version is refused, or 0.
-fn refusal_of(alloc: Global, version: u16, text: &[u8]) -> u16 {
+fn refusal_of(alloc: Global, version: u16, text: &[u8]) -> Result<u16, SnapshotError> {
     let macros = Macros::new(alloc, Notes::new());
     match read(alloc, version, text, &macros) {
-        Ok(_) => 0,
-        Err(refusal) => refusal.number(),
+        Ok(_) => Ok(0),
+        Err(SnapshotError::OutOfMemory) => Err(SnapshotError::OutOfMemory),
+        Err(refusal) => Ok(refusal.number()),
     }
 }
 
@@ -53,7 +58,7 @@ fn has_both(alloc: Global, world: &World, first: &[u8], second: &[u8]) -> Result
 
 // Whether a text of version 1 is that of a world which reads in base 10 and has the other text in version 2.
 fn becomes(alloc: Global, first: &[u8], second: &[u8]) -> Result<bool, Fail> {
-    match world_of(alloc, 1, first) {
+    match world_of(alloc, 1, first)? {
         Some(world) => has_both(alloc, &world, first, second),
         None => Ok(false),
     }
@@ -79,17 +84,17 @@ fn texts_of_another_version(rt: HostRuntime) -> Result<(), Fail> {
         (9, FIRST_2),
         (1, b"".as_slice()),
     ] {
-        assert_eq!(rt; refusal_of(rt.alloc(), version, text), 62);
+        assert_eq!(rt; refusal_of(rt.alloc(), version, text)?, 62);
     }
     Ok(())
 }
 
 // The base in which the world of a text reads, or 0 where there is none.
-fn base_of(alloc: Global, text: &[u8]) -> u8 {
-    match world_of(alloc, 2, text) {
+fn base_of(alloc: Global, text: &[u8]) -> Result<u8, SnapshotError> {
+    Ok(match world_of(alloc, 2, text)? {
         Some(world) => world.read_base(),
         None => 0,
-    }
+    })
 }
 
 // Whether the world that reads in this base is read back, and has a text in version 1 where the base is 10 alone.
@@ -99,7 +104,7 @@ fn keeps_base(alloc: Global, world: &mut World, base: u8) -> Result<bool, Fail> 
     }
     world.set_read_base(base)?;
     let text = write(alloc, world)?;
-    let read = base_of(alloc, text.as_slice());
+    let read = base_of(alloc, text.as_slice())?;
     Ok(read == base && write_in(alloc, 1, world)?.is_some() == (base == 10))
 }
 

@@ -3,7 +3,7 @@ use super::{put, remove};
 use package_table::PackageError;
 use package_table::standardized::{COMMON_LISP, COMMON_LISP_USER, KEYWORD};
 use plist_state::{Symbol, World};
-use std::alloc::Global;
+use std::alloc::{AllocError, Global};
 use std::test::Fail;
 
 // Interns the later names first, and gives COMMON-LISP-USER a symbol of another home.
@@ -26,25 +26,33 @@ fn add_symbols(world: &mut World) -> Result<(), PackageError> {
 }
 
 // Sets the property LIST of a symbol to a number.
-fn put_at(alloc: Global, world: &mut World, home: &[u8], name: &[u8], number: i128) -> Option<()> {
-    let symbol = Symbol::from_bytes(alloc, home, name).ok()?;
-    let list = Symbol::from_bytes(alloc, COMMON_LISP, b"LIST").ok()?;
+fn put_at(
+    alloc: Global,
+    world: &mut World,
+    home: &[u8],
+    name: &[u8],
+    number: i128,
+) -> Result<bool, AllocError> {
+    let symbol = Symbol::from_bytes(alloc, home, name)?;
+    let list = Symbol::from_bytes(alloc, COMMON_LISP, b"LIST")?;
     put(world, &symbol, list, number)
 }
 
 // Removes it, and tells whether it was there.
-fn remove_at(alloc: Global, world: &mut World, home: &[u8], name: &[u8]) -> Option<bool> {
-    let symbol = Symbol::from_bytes(alloc, home, name).ok()?;
-    let list = Symbol::from_bytes(alloc, COMMON_LISP, b"LIST").ok()?;
+fn remove_at(
+    alloc: Global,
+    world: &mut World,
+    home: &[u8],
+    name: &[u8],
+) -> Result<Option<bool>, AllocError> {
+    let symbol = Symbol::from_bytes(alloc, home, name)?;
+    let list = Symbol::from_bytes(alloc, COMMON_LISP, b"LIST")?;
     remove(world, &symbol, &list)
 }
 
 // Whether these symbols have properties, in this order, and no others.
-fn are_owners(alloc: Global, world: &World, wanted: &[(&[u8], &[u8])]) -> bool {
-    match world.owners(alloc) {
-        Ok(owners) => owners.as_slice() == wanted,
-        Err(_) => false,
-    }
+fn are_owners(alloc: Global, world: &World, wanted: &[(&[u8], &[u8])]) -> Result<bool, AllocError> {
+    Ok(world.owners(alloc)?.as_slice() == wanted)
 }
 
 const PUT: [(&[u8], &[u8]); 5] = [
@@ -72,13 +80,13 @@ fn have_their_own(world: &World) -> bool {
 }
 
 // Sets the properties, and tells whether each was set.
-fn all_put(alloc: Global, world: &mut World) -> bool {
+fn all_put(alloc: Global, world: &mut World) -> Result<bool, AllocError> {
     for (index, (home, name)) in PUT.iter().enumerate() {
-        if put_at(alloc, world, home, name, index as i128).is_none() {
-            return false;
+        if !put_at(alloc, world, home, name, index as i128)? {
+            return Ok(false);
         }
     }
-    true
+    Ok(true)
 }
 
 // Whether a symbol without properties has none, nor have names of no symbol.
@@ -96,20 +104,22 @@ fn others_have_none(world: &World) -> bool {
 }
 
 // Whether the owners are in order, while properties are set and removed.
-fn keeps_order(alloc: Global, world: &mut World) -> bool {
-    add_symbols(world).is_ok()
-        && are_owners(alloc, world, &[])
-        && all_put(alloc, world)
-        && are_owners(alloc, world, &OWNERS)
-        && have_their_own(world)
-        && others_have_none(world)
-        && remove_at(alloc, world, b"KEYWORD", b"K") == Some(true)
-        && are_owners(alloc, world, &[OWNERS[0], OWNERS[1], OWNERS[3], OWNERS[4]])
+fn keeps_order(alloc: Global, world: &mut World) -> Result<bool, Fail> {
+    add_symbols(world)?;
+    Ok(
+        are_owners(alloc, world, &[])?
+            && all_put(alloc, world)?
+            && are_owners(alloc, world, &OWNERS)?
+            && have_their_own(world)
+            && others_have_none(world)
+            && remove_at(alloc, world, b"KEYWORD", b"K")? == Some(true)
+            && are_owners(alloc, world, &[OWNERS[0], OWNERS[1], OWNERS[3], OWNERS[4]])?,
+    )
 }
 
 #[test]
 fn symbols_that_have_properties_are_in_order(rt: HostRuntime) -> Result<(), Fail> {
     let mut world = World::new(rt.alloc())?;
-    assert!(rt; keeps_order(rt.alloc(), &mut world));
+    assert!(rt; keeps_order(rt.alloc(), &mut world)?);
     Ok(())
 }

@@ -1,0 +1,194 @@
+"""Odd folders: what is told of them, and that the store is as it was. As root alone, who may make devices and be somebody else."""
+import ctypes
+import os
+import shutil
+import socket
+import stat
+import subprocess
+
+from store import DEVICE, NO_MEMORY, Answer, want, without_cause
+
+SET = b"(SETF (GET 'A 'B) 8)\n(GET 'A 'B)\n"
+GET = b"(GET 'A 'B)\n"
+SERVED = Answer(0, b"8\n8\n", b"")
+FAULT = Answer(3, b"", DEVICE)
+OUT_OF_MEMORY = Answer(3, b"", NO_MEMORY)
+DAMAGED = Answer(3, b"", b"! 62 DAMAGED\n")
+NOBODY = 65_534
+# An open half of a later generation: version 1, generation 9, and the length of its text.
+LATER = b"\xa5\0\1" + (9).to_bytes(8, "big")
+
+
+class Folder:
+    """A store in which the property is 7."""
+
+    def __init__(self, room, name="store"):
+        self.room, self.path = room, room.path(name)
+        self.a, self.b = (os.path.join(self.path, half) for half in ("half-a", "half-b"))
+
+    def anew(self):
+        if os.path.islink(self.path):
+            os.unlink(self.path)
+        shutil.rmtree(self.path, ignore_errors=True)
+        served = self.run(text=b"(SETF (GET 'A 'B) 7)\n")
+        want(served == Answer(0, b"7\n", b""), "a new store:", served)
+
+    def run(self, path=None, options=(), text=SET, **more):
+        done = subprocess.run([self.room.program, "run", path or self.path, *options], input=text, capture_output=True, timeout=120, **more)
+        return Answer(done.returncode, done.stdout, without_cause(done.stderr))
+
+    def other_half(self, make):
+        """What is told of a store whose half B was made so; it is taken away again."""
+        self.anew()
+        os.unlink(self.b)
+        make(self.b)
+        got = self.run(options=["--snapshot-every", "1"])
+        if os.path.isdir(self.b):
+            os.rmdir(self.b)
+        elif os.path.lexists(self.b):
+            os.unlink(self.b)
+        return got
+
+
+def a_socket(path):
+    made = socket.socket(socket.AF_UNIX)
+    made.bind(os.path.relpath(path))
+    made.close()
+
+
+def other_files(folder):
+    """What stands in place of half B, and what is told then. Each is refused, and nothing is written."""
+    for name, make in (
+        ("a folder", os.mkdir),
+        ("a pipe", os.mkfifo),
+        ("a device", lambda path: os.mknod(path, stat.S_IFCHR | 0o666, os.makedev(1, 3))),
+        ("a link to /dev/full", lambda path: os.symlink("/dev/full", path)),
+        ("a link to /dev/zero", lambda path: os.symlink("/dev/zero", path)),
+        ("a socket", a_socket),
+        ("a link to half A", lambda path: os.symlink("half-a", path)),
+        ("half A by another name", lambda path: os.link(folder.a, path)),
+        ("a link into a folder that is missing", lambda path: os.symlink("nowhere/x", path)),
+        ("a link to itself", lambda path: os.symlink("half-b", path)),
+    ):
+        yield "half B is " + name, folder.other_half(make), FAULT, b"7\n"
+
+
+def other_names(folder):
+    """Names of the folder."""
+    folder.anew()
+    real = folder.path + "-real"
+    shutil.rmtree(real, ignore_errors=True)
+    os.rename(folder.path, real)
+    os.symlink(real, folder.path)
+    yield "the folder is a link", folder.run(), SERVED, b"8\n"
+    folder.anew()
+    yield "a name with a slash", folder.run(folder.path + "/"), SERVED, b"8\n"
+    folder.anew()
+    yield "a name with dots", folder.run(os.path.join(folder.path, "..", os.path.basename(folder.path), ".")), SERVED, b"8\n"
+    folder.anew()
+    yield "the folder is half A", folder.run(folder.a), FAULT, b"7\n"
+    yield "the parent is missing", folder.run(os.path.join(folder.path + "-new", "x", "y")), SERVED, b"7\n"
+    shutil.rmtree(folder.path + "-new")
+    yield "a name of 300 bytes", folder.run(folder.path + "x" * 300), FAULT, b"7\n"
+    yield "a name of 6,000 bytes", folder.run(os.path.join(folder.path, "y/" * 3000 + "z")), FAULT, b"7\n"
+    yield "a name with a newline", folder.run(folder.path + "-a\nb"), SERVED, b"7\n"
+    shutil.rmtree(folder.path + "-a\nb")
+
+
+def rights(folder):
+    """What somebody else may do."""
+
+    def nobody():
+        os.setgid(NOBODY)
+        os.setuid(NOBODY)
+
+    os.chmod(folder.room.folder, 0o755)
+    for name, of_folder, of_a, of_b, wanted, after in (
+        ("nothing may be written", 0o555, 0o444, 0o444, FAULT, b"7\n"),
+        ("half B may not be written", 0o777, 0o666, 0o444, FAULT, b"7\n"),
+        ("half B is missing, and may not be made", 0o755, 0o666, None, FAULT, b"7\n"),
+        ("all may be written", 0o777, 0o666, 0o666, SERVED, b"8\n"),
+        ("the folder may not be read", 0o311, 0o666, 0o666, FAULT, b"7\n"),
+    ):
+        folder.anew()
+        os.chmod(folder.a, of_a)
+        if of_b is None:
+            os.unlink(folder.b)
+        else:
+            os.chmod(folder.b, of_b)
+        os.chmod(folder.path, of_folder)
+        got = folder.run(preexec_fn=nobody)
+        os.chmod(folder.path, 0o755)
+        yield name, got, wanted, after
+
+
+def lengths(folder):
+    """Files that are missing, or longer than what they hold."""
+    folder.anew()
+    os.unlink(folder.a)
+    # as in a new folder: the model of a crash allows it (docs/operating.md)
+    yield "half A is missing, and half B is empty", folder.run(text=GET), Answer(0, b"NIL\n", b""), b"NIL\n"
+    folder.anew()
+    folder.run(options=["--snapshot-every", "1"])
+    os.unlink(folder.a)
+    yield "half A is missing, and half B is in use", folder.run(text=GET), Answer(0, b"8\n", b""), b"8\n"
+    folder.anew()
+    os.truncate(folder.b, 1 << 40)
+    yield "half B is closed, and long", folder.run(options=["--snapshot-every", "1"]), SERVED, b"8\n"
+    want(os.path.getsize(folder.b) < 1000, "half B was not cut")
+    folder.anew()
+    size = os.path.getsize(folder.a)
+    os.truncate(folder.a, 1 << 40)
+    got = folder.run()
+    os.truncate(folder.a, size)
+    # a half that is in use is read whole (docs/operating.md)
+    yield "half A is in use, and goes on past its records", got, OUT_OF_MEMORY, b"7\n"
+    folder.anew()
+    with open(folder.b, "wb") as file:
+        file.write(LATER + (10).to_bytes(4, "big"))
+    got = folder.run()
+    os.truncate(folder.b, 0)
+    yield "half B is open, and ends before its text", got, DAMAGED, b"7\n"
+    folder.anew()
+    with open(folder.a, "rb") as file:
+        held = file.read()
+    with open(folder.b, "wb") as file:
+        file.write(held[:3] + bytes(8) + held[11:])
+    got = folder.run()
+    os.truncate(folder.b, 0)
+    yield "half B is open, of generation 0", got, DAMAGED, b"7\n"
+
+
+def full_system(folder):
+    """A file system of 64 kB: the write that finds no room is told, and each answered form is there."""
+    place = folder.room.path("small")
+    os.makedirs(place, exist_ok=True)
+    system = ctypes.CDLL(None, use_errno=True)
+    if system.mount(b"none", place.encode(), b"tmpfs", 0, b"size=64k") != 0:
+        print("campaign: folders: no file system can be mounted here", flush=True)
+        return
+    try:
+        path = os.path.join(place, "store")
+        got = folder.run(path, text=b"".join(b"(SETF (GET 'A 'B) %d)\n" % number for number in range(1, 3001)))
+        count = got.out.count(b"\n")
+        want(got.status == 3 and got.err == DEVICE and 0 < count < 3000, "a full file system:", got.status, got.err, count)
+        found = folder.run(path, text=GET)
+        want(found in (Answer(0, b"%d\n" % count, b""), Answer(0, b"%d\n" % (count + 1), b"")), count, "answered, and then", found)
+        yield "a full file system", FAULT, FAULT, None
+    finally:
+        system.umount(place.encode())
+
+
+def run(room):
+    """Gives how many folders were tried."""
+    if os.geteuid() != 0:
+        return 0, {"as root alone": 0}
+    folder, count = Folder(room), 0
+    os.chdir(room.folder)
+    for rows in (other_files, other_names, rights, lengths, full_system):
+        for name, got, wanted, after in rows(folder):
+            want(got == wanted, name + ":", got)
+            found = after and folder.run(text=GET)
+            want(not after or found == Answer(0, after, b""), name, "and then", found)
+            count += 1
+    return count, {"as wanted": count}
