@@ -1,4 +1,4 @@
-use Rattle.std.proofs.Common.{◌≡◌, ◌<◌, ◌∙◌, ℕ, [], true, length, sym, ap, arith}
+use Rattle.std.proofs.Common.{◌≡◌, ◌<◌, ◌∙◌, [], true, length, sym, ap, arith}
 use Rattle.std.specs.Prelude.{bytes_eq}
 use Rattle.package_sets.specs.Kept.{name_at}
 use Rattle.package_sets.proofs.Places.{position_is}

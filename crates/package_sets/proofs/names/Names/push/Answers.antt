@@ -1,4 +1,4 @@
-use Rattle.std.proofs.Common.{◌≡◌, ◌++◌, ◌∷◌, [], ℕ, sym, ap, ◌∙◌, map, position, if◌then◌else◌}
+use Rattle.std.proofs.Common.{◌≡◌, ◌++◌, ◌∷◌, [], sym, ap, ◌∙◌, map, position, if◌then◌else◌}
 use Rattle.std.specs.Prelude.{bytes_eq, None}
 use Rattle.package_sets.specs.declared.name.KeptName.{KeptName}
 use Rattle.std.proofs.lemmas.List.{map-append}
