@@ -8,6 +8,7 @@ use Rattle.std.specs.Global.{Vec}
 use Rattle.std.specs.Vec.{vec_len}
 use Rattle.std.specs.List.{position_or_len, list_any, IsDistinct, AllByRecursion, AllZip, each_same}
 use Rattle.std.proofs.lemmas.List.{length-map}
+use Rattle.std.proofs.lemmas.List.Sums.{position_or_len_is}
 
 module _ {X Y : Type 0} (f : X → Y) where
   pub position_or_len-map : (p : Y → Bool) (xs : List X) → position_or_len p (map f xs) ≡ position_or_len (λ x. p (f x)) xs
@@ -20,6 +21,12 @@ module _ {X Y : Type 0} (f : X → Y) where
   pub any-map : (p : Y → Bool) (xs : List X) → list_any p (map f xs) ≡ list_any (λ x. p (f x)) xs
   any-map p [] = refl
   any-map p (x ∷ xs) = ap (λ b. p (f x) || b) (any-map p xs)
+
+  pub copied_by : (xs ys : List X) → AllZip (λ x y. f y ≡ f x) xs ys → map f ys ≡ map f xs
+  copied_by [] [] all = refl
+  copied_by [] (y ∷ ys) all = absurd all
+  copied_by (x ∷ xs) [] all = absurd all
+  copied_by (x ∷ xs) (y ∷ ys) all = λ i. all.0 i ∷ copied_by xs ys all.1 i
 
   apart-map : (e : Y → Y → Bool) (x : X) (xs : List X) → AllByRecursion (λ y. e (f x) (f y) ≡ false) xs → AllByRecursion (λ y. e (f x) y ≡ false) (map f xs)
   apart-map e x [] h = h
@@ -47,6 +54,13 @@ module _ {X : Type 0} (p : X → Bool) where
         | true ↦ λ h. absurd (omega (arith, h))
         | false ↦ λ h. any_within xs (omega (arith, h))
       ] (omega (arith, h))
+
+  -- the place of the first that passes
+  pub position_is : (xs : List X) (i : ℕ) (d : X) → i < length xs → ((k : ℕ) → k < i → p (get_or xs k d) ≡ false) → p (get_or xs i d) ≡ true → position p xs ≡ Some i
+  position_is xs i d within before here =
+      let place = position_or_len_is p xs i d (omega (arith, within)) before (λ _. here) in
+      let so : nat_lt (position_or_len p xs) (length xs) ≡ true = grind arith in
+      ap (λ b. cond b (Some (position_or_len p xs)) None) so ∙ ap Some place
 
   pub none_any : (xs : List X) → position p xs ≡ None → list_any p xs ≡ false
   none_any xs none = any_within xs (none_within xs none)

@@ -1,6 +1,5 @@
 pub mod Changes
 pub mod Good
 pub mod Groups
-pub mod Hashing
 pub mod Kept
 pub mod Shown

@@ -8,15 +8,14 @@
 //! (`cut`): `sizes` says how long they are, in 24 bytes.
 //!
 //! - `sets`: `PackageSets`, a copy of them, their lengths and going back; `look_ups` and `changes`: their calls
-//! - `names`: `Names`, each once; `pairs`: `Pairs` of numbers, each once, and the positions of those with the same
-//!   first
-//! - `seed`: `Seed`, with which both are hashed: names come from clients, who must not know where they fall; `hasher`:
-//!   how
+//! - `names`: `Names`, each once, and `name`: one of them; `pairs`: `Pairs` of numbers, each once, and the positions of
+//!   those with the same first, and `pair`: one of them
+//! - `seed`: `Seed`, with which both are hashed: names come from clients, who must not know where they fall
 #![tactic(auto)]
 
 mod changes;
-mod hasher;
 mod look_ups;
+mod name;
 mod names;
 mod pair;
 mod pairs;
@@ -24,7 +23,6 @@ mod seed;
 mod sets;
 mod sizes;
 
-pub use hasher::WordHasher;
 pub use names::Names;
 pub use pair::Pair;
 pub use pairs::Pairs;

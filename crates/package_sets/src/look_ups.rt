@@ -5,6 +5,9 @@ ghost use Rattle.package_sets.specs.Groups.{pair_of};
 
 use crate::{PackageSets, Pair};
 
+// Packages are made after those of the standard, of which names speak most.
+const STANDARDIZED_PACKAGES: u32 = 3;
+
 impl PackageSets {
     /// How many names of symbols there are.
     pub fn name_count(&self) -> u32
@@ -38,7 +41,7 @@ impl PackageSets {
     pub fn find_package(&self, name: &[u8]) -> Option<u32>
         ensures { result ≡ position (bytes_eq name.now) self.now.packages }
     {
-        self.packages.find(name)
+        self.packages.find_from_front(STANDARDIZED_PACKAGES, name)
     }
 
     /// The number of the symbol that is at home in `home` and has this name, both given by their numbers.

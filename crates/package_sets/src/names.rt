@@ -5,6 +5,7 @@ ghost use Rattle.package_sets.specs.Good.{AreDistinctNames};
 ghost use Rattle.package_sets.specs.Changes.{number_in, with_name};
 
 use crate::Seed;
+use crate::name::{KeptName, SoughtName};
 use indexmap::IndexSet;
 use std::alloc::{AllocError, Global};
 use std::marker::Model;
@@ -12,7 +13,7 @@ use std::marker::Model;
 /// Names, each once, and fewer than 2^32. Contracts see the list of them: the position of a name is its number.
 #[derive(Drop)]
 pub struct Names {
-    set: IndexSet<Vec<u8>, Seed>,
+    set: IndexSet<KeptName, Seed>,
 }
 
 impl Model for Names {
@@ -24,7 +25,7 @@ impl Model for Names {
 
     ghost coded = { coded_list name_code };
 
-    ghost view = { λ a. map (λ k. k.items) a.set.keys };
+    ghost view = { λ a. map (λ k. k.bytes.items) a.set.keys };
 
     ghost invariant = { λ a. length a.set.keys < 2 ^ 32 };
 }
@@ -65,10 +66,22 @@ impl Names {
     pub fn find(&self, name: &[u8]) -> Option<u32>
         ensures { result ≡ position (bytes_eq name.now) self.now }
     {
-        match self.set.get_index_of(name) {
+        match self.set.get_index_of(SoughtName { bytes: name }) {
             Some(number) => Some(number as u32),
             None => None,
         }
+    }
+
+    /// The same. The first names, `front` of them, are compared with it before it is hashed.
+    pub fn find_from_front(&self, front: u32, name: &[u8]) -> Option<u32>
+        ensures { result ≡ position (bytes_eq name.now) self.now }
+    {
+        for number in 0..self.len().min(front) {
+            if name == self.at(number) {
+                return Some(number);
+            }
+        }
+        self.find(name)
     }
 
     /// The name of a number. Takes no memory.
@@ -76,7 +89,7 @@ impl Names {
         requires { number < length self.now }
         ensures { result.now ≡ name_at self.now number }
     {
-        self.set[number as usize].as_slice()
+        self.set[number as usize].bytes.as_slice()
     }
 
     /// Adds a name that is not there. After a failure nothing has changed.
@@ -88,8 +101,8 @@ impl Names {
         if self.set.len() >= u32::MAX as usize {
             return Err(AllocError);
         }
-        let name = Vec::from_slice(alloc, name)?;
-        if let Err(_) = self.set.insert_full(name) {
+        let bytes = Vec::from_slice(alloc, name)?;
+        if let Err(_) = self.set.insert_full(KeptName { bytes }) {
             return Err(AllocError);
         }
         Ok(())
@@ -104,8 +117,8 @@ impl Names {
         if self.set.len() >= u32::MAX as usize {
             return Err(AllocError);
         }
-        let name = Vec::from_slice(alloc, name)?;
-        let Ok(added) = self.set.insert_full(name) else {
+        let bytes = Vec::from_slice(alloc, name)?;
+        let Ok(added) = self.set.insert_full(KeptName { bytes }) else {
             return Err(AllocError);
         };
         Ok(added.0 as u32)

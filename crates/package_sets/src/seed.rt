@@ -1,5 +1,4 @@
 //! What names and numbers are hashed with.
-use crate::WordHasher;
 use std::hash::{BuildHasher, DefaultHasher, Hasher};
 use std::io;
 use std::random::RandomSource;
@@ -8,18 +7,16 @@ use std::random::RandomSource;
 #[derive(Clone, Copy)]
 pub struct Seed {
     // The words are written to it.
-    start: WordHasher,
+    start: DefaultHasher,
 }
 
 impl Seed {
     /// The seed of two words.
     pub fn new(first: u64, second: u64) -> Seed {
-        let mut words = DefaultHasher::new();
-        words.write_u64(first);
-        words.write_u64(second);
-        Seed {
-            start: WordHasher::after(words),
-        }
+        let mut start = DefaultHasher::new();
+        start.write_u64(first);
+        start.write_u64(second);
+        Seed { start }
     }
 
     /// The same seed each time: for names that are not chosen by others, and for tests.
@@ -40,12 +37,12 @@ impl Seed {
 }
 
 impl BuildHasher for Seed {
-    type Hasher = WordHasher;
+    type Hasher = DefaultHasher;
 
     ghost build_hasher = { λ s. s.start };
 
     #[inline(always)]
-    fn build_hasher(&self) -> WordHasher {
+    fn build_hasher(&self) -> DefaultHasher {
         self.start
     }
 }

@@ -12,7 +12,8 @@
 //! call leaves the list as it is. A mark copies nothing. Each call that writes makes room for a note first, then moves what it
 //! overwrites into the note (`Note`), and notes it under the newest mark (`journal`); `back_to` undoes the notes, the last first
 //! (`undo`), and takes no memory: a row that was emptied stays, with its memory, and the journal's invariant (`IsJournal`
-//! of specs/Journal.antt) says that each row has memory for what is put back. The packages have a journal of their own.
+//! of specs/Journal.antt) says that each row has memory for what is put back. The packages have marks of their own, which cut
+//! their lists.
 //!
 //! Property lists are kept by the numbers that package_table gives to symbols, and in them each indicator is such a number
 //! too. What is kept is a `NumberedRest` (specs/Shown.antt), of which the definitions of the journal speak; `lists` of

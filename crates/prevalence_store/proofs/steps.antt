@@ -2,6 +2,7 @@
 pub mod Fitting
 pub mod Committing
 pub mod Loading
+pub mod Replays
 pub mod Refusing
 pub mod Pendings
 pub mod Endings
@@ -9,5 +10,7 @@ pub mod FormAnswers
 pub mod Pacing
 pub mod Renewing
 pub mod Pieces
+pub mod Places
+pub mod EndedAt
 pub mod Answering
 pub mod Inputs

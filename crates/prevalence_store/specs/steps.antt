@@ -6,4 +6,5 @@ pub mod Input
 pub mod Output
 pub mod Answer
 pub mod Schedule
+pub mod Course
 pub mod Serve

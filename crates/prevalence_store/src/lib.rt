@@ -28,6 +28,8 @@
 //! - `Store::run` gives per step what these two answer in the state that the steps before it left (`TakesSteps`).
 //! - `Store::serve` is told by one relation (`Serves`): how many forms were taken and answered, in which mode, what of the
 //!   lines was written, what the log holds then (`IsAfter`), and a case for each ending with its cause.
+//! - `Store::serve_wanted` is `serve` with the place of a refusal, counted in the input (`IsPlace`), and with an end at the first
+//!   form that is refused if that is wanted (`ServesWanted`).
 //! - `refusal_name` gives the name of a refusal by its number, empty for a number that is none.
 //!
 //! # Modules
@@ -36,7 +38,7 @@
 //!   `replay` makes the world again from the records of a log; `setting` says under what a text is read, by the mode, and what it
 //!   begins with (`form_reader`).
 //! - `session`: `serve`, and its parts: `input` and `output`, the streams; `answer`, what becomes of a form that was read;
-//!   `schedule`, when it takes snapshots.
+//!   `schedule`, when it takes snapshots; `course`, how far it has come.
 //! - `mode`, `step`, `outcome`, `open_fault`: the words of the calls. `failure`: why a form is not accepted.
 //! - `laws`: the headline, openings in a row, that an image means one world, that files of version 1 mean what they meant, and
 //!   which numbers refuse a form.
@@ -58,6 +60,6 @@ pub use laws::{form_numbers, fresh_files, headline, one_world, recoveries, versi
 pub use lisp_object::refusal::name_of as refusal_name;
 pub use mode::Mode;
 pub use open_fault::OpenFault;
-pub use outcome::{Ending, Outcome};
+pub use outcome::{Ended, Ending, Outcome, Place, Wanted};
 pub use step::Step;
 pub use store::{Store, Unopened};

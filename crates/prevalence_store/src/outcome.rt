@@ -1,5 +1,8 @@
 // How calls of the store end.
+ghost use Rattle.std.specs.Prelude.{◌≡◌};
+ghost use Rattle.prevalence_store.specs.steps.Serve.{ended_at};
 
+use crate::mode::Mode;
 use lisp_object::Datum;
 
 /// What became of a form, or of a snapshot.
@@ -20,6 +23,55 @@ pub enum Ending {
     End,
     /// At a refusal of the reader, with its number, which was answered: where the next form begins is undecided.
     Reader(u16),
+    /// At a fault of the store, the input or the output, with its number, which was not answered.
+    Store(u16),
+}
+
+impl Ending {
+    /// How the session ended, with the place of a refusal of the reader.
+    pub(crate) fn at(self, place: Place) -> Ended
+        ensures { result ≡ ended_at place self }
+    {
+        match self {
+            Ending::End => Ended::End,
+            Ending::Reader(number) => Ended::Unreadable(number, place),
+            Ending::Store(number) => Ended::Store(number),
+        }
+    }
+}
+
+/// What a session is asked to do.
+#[derive(Clone, Copy, Debug, PartialEq, Eq)]
+pub struct Wanted {
+    /// How its forms are read.
+    pub mode: Mode,
+    /// After so many forms that were logged it takes a snapshot; never if this is 0.
+    pub snapshot_every: u64,
+    /// Whether the first form whose evaluation is refused ends the session.
+    pub strict: bool,
+}
+
+/// Where a session ended in its input.
+#[derive(Clone, Copy, Debug, PartialEq, Eq)]
+pub struct Place {
+    /// How many forms come before the one that was refused.
+    pub forms: u64,
+    /// How many bytes of the input come before what the reader has of it: before its text, or a comment before it.
+    pub start: u64,
+    /// How many bytes of the input come before the place of the refusal.
+    pub at: u64,
+}
+
+/// How a session ended, and where.
+#[derive(Clone, Copy, Debug, PartialEq, Eq)]
+pub enum Ended {
+    /// At the end of the input.
+    End,
+    /// At a refusal of the reader, with its number, which was answered: where the next form begins is undecided.
+    Unreadable(u16, Place),
+    /// At a form whose evaluation was refused, with this number, which was answered; only if the session is strict. The
+    /// place is where the form begins.
+    Unaccepted(u16, Place),
     /// At a fault of the store, the input or the output, with its number, which was not answered.
     Store(u16),
 }

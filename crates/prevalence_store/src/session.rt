@@ -1,6 +1,7 @@
 // A session over an input and an output.
 
 mod answer;
+pub(crate) mod course;
 pub(crate) mod input;
 pub(crate) mod output;
 pub(crate) mod schedule;

@@ -1,5 +1,5 @@
 -- How the turns of a session join.
-use Rattle.std.proofs.Common.{◌≡◌, ℕ, zero, suc, ◌+◌, ◌⊎◌, List, [], ◌∷◌, ◌++◌, length, Option, None, Some, IsTrue, refl, sym, ap, ap₂, subst, ◌∙◌, inl, inr, append_assoc, append-nil, arith, length-append}
+use Rattle.std.proofs.Common.{◌≡◌, ℕ, zero, suc, ◌+◌, ◌⊎◌, List, [], ◌∷◌, ◌++◌, length, Option, None, Some, IsTrue, refl, sym, ap, subst, ◌∙◌, inl, inr, append_assoc, append-nil, arith, length-append}
 use Rattle.std.specs.Option.{option_map, option_and_then}
 use Rattle.std.proofs.lemmas.List.Sums.{sum_by-append}
 use Rattle.disk_trait.specs.Disk.{State, IsHonest, IsSound}
@@ -23,12 +23,11 @@ use Rattle.user_macros.specs.Functions.{Functions}
 
 onward_onward : (p q r : Progress) → onward (onward p q) r ≡ onward p (onward q r)
 onward_onward p q r =
-    ap₂ (λ taken lines. record { world = r.world; rest = r.rest; taken = taken; lines = lines })
-    (append_assoc p.taken q.taken r.taken) (append_assoc p.lines q.lines r.lines)
+    λ i. record { world = r.world; rest = r.rest; taken = append_assoc p.taken q.taken r.taken i; lines = append_assoc p.lines q.lines r.lines i; refused = append_assoc p.refused q.refused r.refused i }
 
 pub onward_begun : (p : Progress) → onward p (begun p.world p.rest) ≡ p
 onward_begun p =
-    ap₂ (λ taken lines. record { world = p.world; rest = p.rest; taken = taken; lines = lines }) (append-nil p.taken) (append-nil p.lines)
+    λ i. record { world = p.world; rest = p.rest; taken = append-nil p.taken i; lines = append-nil p.lines i; refused = append-nil p.refused i }
 
 -- one form more of the rest is one form more of the whole
 more_onward : (p q r : Progress) (one : Option Progress) → option_map (onward q) one ≡ Some r → option_map (onward (onward p q)) one ≡ Some (onward p r)

@@ -1,19 +1,18 @@
 -- What version 1 accepted, and what files meant to it, is accepted and meant as before.
 --     form_stays      a form
 --     files_stay      files
-use Rattle.std.proofs.Common.{◌≡◌, ℕ, ◌==◌, ◌≤◌, Bool, true, false, List, [], ◌∷◌, length, Option, None, Some, Result, Ok, Err, refl, sym, ap, subst, ◌∙◌, inl, inr, arith}
+use Rattle.std.proofs.Common.{◌≡◌, ℕ, ◌==◌, Bool, true, false, List, [], ◌∷◌, length, Option, None, Some, Result, Ok, Err, refl, sym, ap, subst, ◌∙◌, inl, inr, arith}
 use Rattle.std.specs.Prelude.{if◌then◌else◌}
 use Rattle.disk_trait.specs.Disk.{Image}
 use Rattle.gate_log.specs.Layout.{Contents, LogRecord, form_limit}
-use Rattle.gate_log.specs.Log as gated
 use Rattle.lisp_object.specs.Object.{Object}
-use Rattle.lisp_object.specs.declared.refusal.TheConstants.{END_OF_FILE, TEXT_LEFT_OVER}
-use Rattle.lisp_operators.specs.Evaluation.{Done, Evaluation}
-use Rattle.lisp_reading.specs.Reading.{Outcome as Reading, form, empty, refused, reads}
+use Rattle.lisp_object.specs.declared.refusal.TheConstants.{TEXT_LEFT_OVER}
+use Rattle.lisp_operators.specs.Evaluation.{Evaluation}
+use Rattle.lisp_reading.specs.Reading.{Outcome as Reading, form, empty, refused}
 use Rattle.lisp_reading.proofs.Widening.{form_widens}
 use Rattle.form_eval.specs.Acceptance.{accept_by}
 use Rattle.form_eval.proofs.Accepted.{accepted_without_base}
-use Rattle.plist_state.specs.State.{WorldState, initial}
+use Rattle.plist_state.specs.State.{WorldState}
 use Rattle.world_text.specs.Snapshot.{snapshot_in}
 use Rattle.world_text.proofs.Versions.{text_with, third_by}
 use Rattle.prevalence_store.specs.declared.mode.Mode.{Mode}

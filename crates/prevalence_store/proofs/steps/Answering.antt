@@ -1,40 +1,44 @@
 -- How what was answered joins, and that it stays whatever follows the text.
-use Rattle.std.proofs.Common.{◌≡◌, ℕ, ◌+◌, ◌≤◌, Bool, cond, List, [], ◌++◌, length, take, drop, Option, None, Some, Result, Ok, Err, inl, inr, refl, sym, ap, subst, ◌∙◌, append_assoc, append-nil, arith}
+use Rattle.std.proofs.Common.{◌≡◌, ℕ, ◌+◌, ◌≤◌, Bool, true, cond, List, [], ◌++◌, length, take, drop, Option, None, Some, Result, Ok, Err, inl, inr, refl, sym, ap, subst, ◌∙◌, append_assoc, append-nil, length-append, arith}
 use Rattle.std.proofs.lemmas.List.{take-append-drop}
 use Rattle.disk_trait.specs.Disk.{State, IsHonest, IsSound}
 use Rattle.lisp_object.specs.Object.{Object}
 use Rattle.lisp_object.specs.declared.refusal.TheConstants.{INPUT}
 use Rattle.plist_state.specs.State.{WorldState}
 use Rattle.form_reader.specs.Reader.{MayGoOn}
-use Rattle.lisp_reading.specs.Reading.{refused}
 use Rattle.prevalence_store.specs.declared.session.input.Pending.{Pending}
 use Rattle.prevalence_store.specs.declared.mode.Mode.{Mode}
+use Rattle.prevalence_store.specs.declared.outcome.Ended.{Ended}
+use Rattle.prevalence_store.specs.declared.outcome.Ended.TheVariants as ways
+use Rattle.prevalence_store.specs.declared.outcome.Place.{Place}
+use Rattle.prevalence_store.specs.declared.outcome.Wanted.{Wanted}
 use Rattle.prevalence_store.specs.declared.outcome.Ending.{Ending}
 use Rattle.prevalence_store.specs.declared.outcome.Ending.TheVariants.{End, Reader, Store}
 use Rattle.prevalence_store.specs.meaning.Acceptance.{read_in}
 use Rattle.user_macros.specs.Functions.{Functions}
 use Rattle.prevalence_store.specs.meaning.Answers.{Progress, after_forms, begun, onward}
-use Rattle.prevalence_store.specs.steps.Input.{HasForm, IsPending, HasRefusal}
-use Rattle.prevalence_store.specs.calls.Pace.{EndsInPace, Pace, Paces, fill_of}
-use Rattle.prevalence_store.specs.calls.Serve.{Advances, IsAfter, Serves, ServesInPace, StaysRefused}
+use Rattle.prevalence_store.specs.steps.Input.{HasForm, IsPending}
+use Rattle.prevalence_store.specs.calls.Pace.{EndsInPace, Paces, fill_of}
+use Rattle.prevalence_store.specs.calls.Serve.{Advances, IsAfter, IsPlace, Serves, ServesInPace, StaysRefused, StopsStrict}
 use Rattle.prevalence_store.specs.calls.Store.{StoreView}
-use Rattle.prevalence_store.specs.steps.Serve.{Answers, GoesOn, HasEnded, StaysEnded, ComesTo}
-use Rattle.prevalence_store.specs.steps.Answer.{AnswersFault, AnswersForm, StopsInForm}
-use Rattle.prevalence_store.proofs.steps.Pacing.{ends_after, fault_paced, paces_both}
+use Rattle.prevalence_store.specs.steps.Serve.{Answers, ComesTo, EndsAt, GoesOn, HasEndedAt, ServesStrict}
+use Rattle.prevalence_store.specs.steps.Course.{Course}
+use Rattle.prevalence_store.specs.steps.Answer.{PassesForm}
+use Rattle.prevalence_store.proofs.steps.Pacing.{ends_after, paces_both}
 use Rattle.prevalence_store.specs.calls.Streams.{Writes}
 use Rattle.prevalence_store.proofs.calls.Progressing.{advance_both, forms_onward, serve_both}
 use Rattle.prevalence_store.proofs.Surviving.{unchanged_survives}
-use Rattle.prevalence_store.proofs.steps.Endings.{after_none, fault_answered, nothing, writes_nothing}
-use Rattle.prevalence_store.proofs.steps.Pieces.{longer, InPace, piece_whole, piece_left, next_is, after_form}
+use Rattle.prevalence_store.proofs.steps.Endings.{after_none, writes_nothing}
+use Rattle.prevalence_store.proofs.steps.Pieces.{longer, piece_whole, piece_left, next_is, after_form}
 
 module _ (functions : Functions) {D R : Type 0} (state : D → State) where
   after_longer : (old new : StoreView D R) (w : WorldState) (far : Progress) (more : List ℕ) → IsAfter functions state old new w far → IsAfter functions state old new w (longer far more)
   after_longer old new w far more a = record { left = a.left; records = a.records; limit = a.limit; macros = a.macros; failures = a.failures; log = a.log }
 
   -- the same forms, of a text that goes on
-  pub extended : (pace later : Pace) (old new : StoreView D R) (w : WorldState) (mode : Mode) (text : List ℕ) (a b : Option (List ℕ)) (pending : Pending) (left more : List ℕ)
-      → GoesOn functions state pace later old new w mode text a b pending left → GoesOn functions state pace later old new w mode (text ++ more) a b pending (left ++ more)
-  extended pace later old new w mode text a b pending left more goes = record {
+  pub extended : (strict : Bool) (course later : Course) (old new : StoreView D R) (w : WorldState) (mode : Mode) (text : List ℕ) (a b : Option (List ℕ)) (pending : Pending) (left more : List ℕ)
+      → GoesOn functions state strict course later old new w mode text a b pending left → GoesOn functions state strict course later old new w mode (text ++ more) a b pending (left ++ more)
+  extended strict course later old new w mode text a b pending left more goes = record {
     forms = goes.forms;
     far = longer goes.far more;
     advances = record {
@@ -44,6 +48,15 @@ module _ (functions : Functions) {D R : Type 0} (state : D → State) where
       survives = goes.advances.survives;
     };
     paced = goes.paced;
+    comes = record {
+      forms_are = goes.comes.forms_are;
+      bytes_are =
+          let is = goes.comes.bytes_are in
+          let longer_rest = length-append goes.far.rest more in
+          let longer_text = length-append text more in
+          omega arith;
+    };
+    accepted = goes.accepted;
     stays = λ others. ap (after_forms functions goes.forms w mode) (append_assoc text more others) ∙ goes.stays (more ++ others)
         ∙ ap (λ rest. Some (record goes.far { rest = rest })) (sym (append_assoc goes.far.rest more others));
     bytes = goes.bytes;
@@ -52,18 +65,20 @@ module _ (functions : Functions) {D R : Type 0} (state : D → State) where
   }
 
   -- nothing was answered yet
-  pub nothing_answered : ((d : D) → IsHonest (state d) → IsSound (state d)) → (pace : Pace) (old : StoreView D R) (w : WorldState) (mode : Mode) (text : List ℕ) (held : Option (List ℕ)) (pending : Pending)
-      → old.world ≡ Some w → IsPending functions w mode pending text → GoesOn functions state pace pace old old w mode text held held pending []
-  nothing_answered sound pace old w mode text held pending known is = record {
+  pub nothing_answered : ((d : D) → IsHonest (state d) → IsSound (state d)) → (strict : Bool) (course : Course) (old : StoreView D R) (w : WorldState) (mode : Mode) (text : List ℕ) (held : Option (List ℕ)) (pending : Pending)
+      → old.world ≡ Some w → IsPending functions w mode pending text → GoesOn functions state strict course course old old w mode text held held pending []
+  nothing_answered sound strict course old w mode text held pending known is = record {
     forms = 0;
     far = begun w text;
     advances = record {
       far_is = refl;
       lines = writes_nothing held held refl;
-      after = after_none functions state sound old old w mode text held held known text [] refl;
+      after = after_none functions state sound old old w mode text held held known text [] [] refl;
       survives = unchanged_survives functions state sound old old w refl;
     };
     paced = (refl, refl);
+    comes = record { forms_are = omega arith; bytes_are = refl };
+    accepted = λ is_strict. refl;
     stays = λ more. refl;
     bytes = text;
     rest = sym (append-nil text);
@@ -71,75 +86,58 @@ module _ (functions : Functions) {D R : Type 0} (state : D → State) where
   }
 
   -- what was answered of what was fed of a piece, and what is left of it
-  pub answered_within : (pace later : Pace) (old new : StoreView D R) (w : WorldState) (mode : Mode) (a b : Option (List ℕ)) (pending : Pending) (bytes piece left : List ℕ) (n : ℕ)
-      → GoesOn functions state pace later old new w mode (bytes ++ take n piece) a b pending left → GoesOn functions state pace later old new w mode (bytes ++ piece) a b pending (left ++ drop n piece)
-  answered_within pace later old new w mode a b pending bytes piece left n goes =
-      subst (λ t. GoesOn functions state pace later old new w mode t a b pending (left ++ drop n piece)) (piece_whole bytes piece n)
-      (extended pace later old new w mode (bytes ++ take n piece) a b pending left (drop n piece) goes)
+  pub answered_within : (strict : Bool) (course later : Course) (old new : StoreView D R) (w : WorldState) (mode : Mode) (a b : Option (List ℕ)) (pending : Pending) (bytes piece left : List ℕ) (n : ℕ)
+      → GoesOn functions state strict course later old new w mode (bytes ++ take n piece) a b pending left → GoesOn functions state strict course later old new w mode (bytes ++ piece) a b pending (left ++ drop n piece)
+  answered_within strict course later old new w mode a b pending bytes piece left n goes =
+      subst (λ t. GoesOn functions state strict course later old new w mode t a b pending (left ++ drop n piece)) (piece_whole bytes piece n)
+      (extended strict course later old new w mode (bytes ++ take n piece) a b pending left (drop n piece) goes)
 
   -- a form that a piece decides was answered, and so many bytes of the piece were taken
   pub form_answered : (w : WorldState) (mode : Mode) (pending : Pending) (bytes piece : List ℕ) (n count : ℕ) (x : Object) (own : List ℕ) (left : Bool)
-      → HasForm functions w mode pending (bytes ++ take n piece) x own left → n ≤ length piece → count + cond left 1 0 ≡ n → (pace later : Pace) (old new : StoreView D R) (a b : Option (List ℕ))
-      → AnswersForm functions state old new w mode pace later (bytes ++ take n piece) a b None → GoesOn functions state pace later old new w mode (bytes ++ piece) a b pending (drop count piece)
-  form_answered w mode pending bytes piece n count x own left has within taken pace later old new a b answered =
+      → (has : HasForm functions w mode pending (bytes ++ take n piece) x own left) → n ≤ length piece → count + cond left 1 0 ≡ n → (wanted : Wanted) → wanted.mode ≡ mode → (course later : Course) (old new : StoreView D R)
+      (a b : Option (List ℕ)) (refusals : List ℕ) → PassesForm functions state course later old new w wanted (bytes ++ take n piece) a b has.start has.next refusals → (wanted.strict ≡ true → refusals ≡ [])
+      → GoesOn functions state wanted.strict course later old new w mode (bytes ++ piece) a b pending (drop count piece)
+  form_answered w mode pending bytes piece n count x own left has within taken wanted same_mode course later old new a b refusals passes accepted =
       let next = next_is functions w mode pending (bytes ++ take n piece) x own left has bytes piece n count refl within taken in
-      subst (λ t. GoesOn functions state pace later old new w mode (bytes ++ piece) a b pending t) (piece_left bytes piece n has.next count next (omega arith) within)
-      (answered_within pace later old new w mode a b pending bytes piece (drop has.next (bytes ++ take n piece)) n
-      (after_form functions w mode pending (bytes ++ take n piece) x own left has state pace later old new a b answered))
+      subst (λ t. GoesOn functions state wanted.strict course later old new w mode (bytes ++ piece) a b pending t) (piece_left bytes piece n has.next count next (omega arith) within)
+      (answered_within wanted.strict course later old new w mode a b pending bytes piece (drop has.next (bytes ++ take n piece)) n
+      (after_form functions w mode pending (bytes ++ take n piece) x own left has state wanted same_mode course later old new a b refusals passes accepted))
 
   -- what is pending after it
-  pub pending_again : (pace later : Pace) (old new : StoreView D R) (w : WorldState) (mode : Mode) (text : List ℕ) (a b : Option (List ℕ)) (pending : Pending) (left : List ℕ)
-      → GoesOn functions state pace later old new w mode text a b pending left → (v : WorldState) → new.world ≡ Some v → (bytes : List ℕ) × IsPending functions v mode pending bytes
-  pending_again pace later old new w mode text a b pending left goes v known =
+  pub pending_again : (strict : Bool) (course later : Course) (old new : StoreView D R) (w : WorldState) (mode : Mode) (text : List ℕ) (a b : Option (List ℕ)) (pending : Pending) (left : List ℕ)
+      → GoesOn functions state strict course later old new w mode text a b pending left → (v : WorldState) → new.world ≡ Some v → (bytes : List ℕ) × IsPending functions v mode pending bytes
+  pending_again strict course later old new w mode text a b pending left goes v known =
       let same : goes.far.world ≡ v = let left_is = goes.advances.after.left in cc in
       (goes.bytes, subst (λ u. IsPending functions u mode pending goes.bytes) same goes.is_pending)
 
-  -- the session ended before any answer, whatever follows the text
-  pub ends_at_once : (pace : Pace) (old new : StoreView D R) (w : WorldState) (mode : Mode) (text : List ℕ) (a b : Option (List ℕ)) (number : ℕ)
-      → (stops : StopsInForm functions state old new w mode text a b number) × ServesInPace functions state pace old new w mode text a b (Store number) stops.serves → HasEnded functions state pace old new w mode text a b (Store number)
-  ends_at_once pace old new w mode text a b number is = record { serves = is.0.serves; paced = is.1; stays = λ output all. let one = is.0.in_form output in absurd (omega arith) }
-
-  -- the reader refused the text, whatever follows it
-  pub fault_ended : (sound : (d : D) → IsHonest (state d) → IsSound (state d)) (pace later : Pace) (old new : StoreView D R) (w : WorldState) (mode : Mode) (text : List ℕ) (a b : Option (List ℕ)) (pending : Pending)
-      (number : ℕ) → old.world ≡ Some w → HasRefusal functions w mode text number → new ≡ old → (ending : Ending) → AnswersFault number a b ending
-      → Answers functions state pace later old new w mode text a b pending (Some ending)
-  unfolding fault_answered nothing
-  fault_ended sound pace later old new w mode text a b pending number known refuses same ending answers more = record {
-    serves = fault_answered functions state sound old new w mode (text ++ more) a b known number refuses.at (refuses.reads more) same ending answers;
-    paced = fault_paced functions state sound old new w mode (text ++ more) a b known number refuses.at (refuses.reads more) same ending answers pace;
-    stays = by_ending ending answers;
-  } where
-    still : (others : List ℕ) → read_in functions w mode ((text ++ more) ++ others) ≡ refused number refuses.at
-    still others = ap (read_in functions w mode) (append_assoc text more others) ∙ refuses.reads (more ++ others)
-
-    by_ending : (e : Ending) (is : AnswersFault number a b e)
-        → StaysEnded functions state pace old new w mode (text ++ more) a b e
-        (fault_answered functions state sound old new w mode (text ++ more) a b known number refuses.at (refuses.reads more) same e is)
-    by_ending End is = absurd is
-    by_ending (Reader code) is = λ others. (refl, (refuses.at, still others ∙ ap (λ n. refused n refuses.at) (sym is.0)))
-    by_ending (Store code) (inl full) = λ output all. (number, λ others. (refl, (refuses.at, still others)))
-    by_ending (Store code) (inr memory) = λ output all. (number, λ others. (refl, (refuses.at, still others)))
-
   -- ---- one after the other
 
-  module _ (sound : (d : D) → IsHonest (state d) → IsSound (state d)) (pace later last : Pace) (old mid new : StoreView D R) (w : WorldState) (mode : Mode) (a b c : Option (List ℕ)) (pending : Pending)
+  module _ (sound : (d : D) → IsHonest (state d) → IsSound (state d)) (strict : Bool) (course later last : Course) (old mid new : StoreView D R) (w : WorldState) (mode : Mode) (a b c : Option (List ℕ)) (pending : Pending)
       (honest : (state mid.disk).honest ≡ (state old.disk).honest) where
-    module _ (text : List ℕ) (left : List ℕ) (first : GoesOn functions state pace later old mid w mode text a b pending left) where
+    module _ (text : List ℕ) (left : List ℕ) (first : GoesOn functions state strict course later old mid w mode text a b pending left) where
       abbrev p : Progress
       p = first.far
 
       abbrev rest : List ℕ
       rest = first.bytes ++ left
 
-      goes_on_both : (after : Pending) (others : List ℕ) → GoesOn functions state later last mid new p.world mode rest b c after others
-          → GoesOn functions state pace last old new w mode text a c after others
+      none_of : (refusals : List ℕ) → (strict ≡ true → refusals ≡ []) → strict ≡ true → p.refused ++ refusals ≡ []
+      none_of refusals second is = ap (λ l. l ++ refusals) (first.accepted is) ∙ second is
+
+      goes_on_both : (after : Pending) (others : List ℕ) → GoesOn functions state strict later last mid new p.world mode rest b c after others
+          → GoesOn functions state strict course last old new w mode text a c after others
       goes_on_both after others second = record {
         forms = second.forms + first.forms;
         far = onward p second.far;
         advances = advance_both functions state sound old mid new w mode text a b c first.forms p first.advances honest second.forms (second.forms + first.forms) second.far refl
             (subst (λ t. Advances functions state mid new p.world mode t b c second.forms second.far) (sym first.rest) second.advances);
-        paced = paces_both functions old.limit w p.world p.taken second.far.taken pace later last (fill_of old) (fill_of mid) (fill_of new) first.advances.after.records first.paced
-            (subst (λ n. Paces functions n p.world second.far.taken later last (fill_of mid) (fill_of new)) first.advances.after.limit second.paced);
+        paced = paces_both functions old.limit w p.world p.taken second.far.taken course.pace later.pace last.pace (fill_of old) (fill_of mid) (fill_of new) first.advances.after.records first.paced
+            (subst (λ n. Paces functions n p.world second.far.taken later.pace last.pace (fill_of mid) (fill_of new)) first.advances.after.limit second.paced);
+        comes = record {
+          forms_are = let one = first.comes.forms_are in let two = second.comes.forms_are in omega arith;
+          bytes_are = let one = first.comes.bytes_are in let two = second.comes.bytes_are in let same = ap length first.rest in omega arith;
+        };
+        accepted = none_of second.far.refused second.accepted;
         stays = λ more. forms_onward functions second.forms first.forms (second.forms + first.forms) w mode (text ++ more) (longer p more) (longer second.far more) refl (first.stays more)
             (ap (λ t. after_forms functions second.forms p.world mode (t ++ more)) first.rest ∙ second.stays more);
         bytes = second.bytes;
@@ -147,81 +145,136 @@ module _ (functions : Functions) {D R : Type 0} (state : D → State) where
         is_pending = second.is_pending;
       }
 
-      pub paced_both : (ending : Ending) (served : Serves functions state mid new p.world mode p.rest b c ending) → ServesInPace functions state later mid new p.world mode p.rest b c ending served
-          → ServesInPace functions state pace old new w mode text a c ending (serve_both functions state sound old mid new w mode text a b c first.forms p first.advances honest ending served)
+      -- a place in what is left is one in the text
+      place_both : (forms : ℕ) (others : List ℕ) (at : ℕ) (place : Place) → IsPlace later.forms later.bytes forms p.rest others at place → IsPlace course.forms course.bytes (forms + first.forms) text others at place
+      place_both forms others at place is =
+          let one = first.comes.forms_are in
+          let bytes = first.comes.bytes_are in record {
+            forms_are = let two = is.forms_are in omega arith;
+            at_is = let two = is.at_is in omega arith;
+            begins = let two = is.begins in omega arith;
+            ends = let two = is.ends in omega arith;
+          }
+
+      stops_both : (number : ℕ) (place : Place) → StopsStrict functions state mid new p.world mode p.rest b c later.pace later.forms later.bytes number place → strict ≡ true
+          → StopsStrict functions state old new w mode text a c course.pace course.forms course.bytes number place
+      stops_both number place second is = record {
+        forms = second.forms + first.forms;
+        far = onward p second.far;
+        advances = advance_both functions state sound old mid new w mode text a b c first.forms p first.advances honest second.forms (second.forms + first.forms) second.far refl second.advances;
+        later = second.later;
+        paced = paces_both functions old.limit w p.world p.taken second.far.taken course.pace later.pace second.later (fill_of old) (fill_of mid) (fill_of new) first.advances.after.records first.paced
+            (subst (λ n. Paces functions n p.world second.far.taken later.pace second.later (fill_of mid) (fill_of new)) first.advances.after.limit second.paced);
+        accepted = second.accepted + first.forms;
+        one_more = let one = second.one_more in omega arith;
+        before = onward p second.before;
+        before_is = forms_onward functions second.accepted first.forms (second.accepted + first.forms) w mode text p second.before refl first.advances.far_is second.before_is;
+        none_refused = none_of second.before.refused (λ _. second.none_refused) is;
+        start = second.start;
+        refuses = second.refuses;
+        is_place = place_both second.accepted second.before.rest second.start place second.is_place;
+        begins = second.begins;
+      }
+
+      pub paced_both : (ending : Ending) (served : Serves functions state mid new p.world mode p.rest b c ending) → ServesInPace functions state later.pace mid new p.world mode p.rest b c ending served
+          → ServesInPace functions state course.pace old new w mode text a c ending (serve_both functions state sound old mid new w mode text a b c first.forms p first.advances honest ending served)
       unfolding serve_both
       paced_both ending served paced =
-          ends_after functions old.limit w mode p pace later (fill_of old) (fill_of mid) first.advances.after.records first.paced first.forms served.forms served.far served.lines served.answered
+          ends_after functions old.limit w mode p course.pace later.pace (fill_of old) (fill_of mid) first.advances.after.records first.paced first.forms served.forms served.far served.lines served.answered
           (fill_of new) ending
-          (subst (λ n. EndsInPace functions n p.world later (fill_of mid) mode served.forms served.far served.lines served.answered (fill_of new) ending) first.advances.after.limit paced)
+          (subst (λ n. EndsInPace functions n p.world later.pace (fill_of mid) mode served.forms served.far served.lines served.answered (fill_of new) ending) first.advances.after.limit paced)
 
-      serves_both : (ending : Ending) → HasEnded functions state later mid new p.world mode p.rest b c ending → HasEnded functions state pace old new w mode text a c ending
+      -- a session over what is left, and the whole of it
+      strict_both : (ending : Ending) → ServesStrict functions state strict later mid new p.world mode p.rest b c ending → ServesStrict functions state strict course old new w mode text a c ending
       unfolding serve_both
-      serves_both ending second = record {
-        serves = serve_both functions state sound old mid new w mode text a b c first.forms p first.advances honest ending second.serves;
-        paced = paced_both ending second.serves second.paced;
-        stays = by_ending ending second;
-      } where
-        refused_both : (forms : ℕ) (far : Progress) (code : ℕ) → StaysRefused functions p.world mode p.rest forms far code
-            → StaysRefused functions w mode text (forms + first.forms) (onward p far) code
-        refused_both forms far code is = λ more. (
-          forms_onward functions forms first.forms (forms + first.forms) w mode (text ++ more) (longer p more) (longer far more) refl (first.stays more) (is more).0,
-          (is more).1,
-        )
+      strict_both ending (served, paced, accepted) = (
+        serve_both functions state sound old mid new w mode text a b c first.forms p first.advances honest ending served,
+        paced_both ending served paced,
+        none_of served.answered.refused accepted,
+      )
 
-        by_ending : (e : Ending) (is : HasEnded functions state later mid new p.world mode p.rest b c e)
-            → StaysEnded functions state pace old new w mode text a c e
-            (serve_both functions state sound old mid new w mode text a b c first.forms p first.advances honest e is.serves)
-        by_ending End is = absurd is.stays
-        by_ending (Reader code) is = refused_both is.serves.forms is.serves.far code is.stays
-        by_ending (Store code) is = λ output all.
-            let same : is.serves.lines + first.forms ≡ is.serves.forms + first.forms = all in
-            let decided = is.stays output (omega arith) in
-            (decided.0, refused_both is.serves.forms is.serves.far decided.0 decided.1)
+      ends_both_at : (ended : Ended) → EndsAt functions state strict later mid new p.world mode p.rest b c ended → EndsAt functions state strict course old new w mode text a c ended
+      unfolding serve_both strict_both
+      ends_both_at ways.End second = strict_both End second
+      ends_both_at (ways.Unreadable number place) (served, at) =
+          (strict_both (Reader number) served, (at.0, at.1, place_both served.0.forms served.0.far.rest at.0 place at.2))
+      ends_both_at (ways.Unaccepted number place) (is, second) = (is, stops_both number place second is)
+      ends_both_at (ways.Store number) second = strict_both (Store number) second
 
-      pub ended_both : (ending : Ending) → HasEnded functions state later mid new p.world mode rest b c ending → HasEnded functions state pace old new w mode text a c ending
-      ended_both ending second = serves_both ending (subst (λ t. HasEnded functions state later mid new p.world mode t b c ending) (sym first.rest) second)
+      refused_both : (forms : ℕ) (far : Progress) (code : ℕ) → StaysRefused functions p.world mode p.rest forms far code
+          → StaysRefused functions w mode text (forms + first.forms) (onward p far) code
+      refused_both forms far code is = λ more. (
+        forms_onward functions forms first.forms (forms + first.forms) w mode (text ++ more) (longer p more) (longer far more) refl (first.stays more) (is more).0,
+        (is more).1,
+      )
+
+      serves_both : (ended : Ended) → HasEndedAt functions state strict later mid new p.world mode p.rest b c ended → HasEndedAt functions state strict course old new w mode text a c ended
+      unfolding serve_both
+      serves_both ways.End second = absurd second
+      serves_both (ways.Unreadable number place) (is, accepted, at) = (
+        record {
+          serves = serve_both functions state sound old mid new w mode text a b c first.forms p first.advances honest (Reader number) is.serves;
+          paced = paced_both (Reader number) is.serves is.paced;
+          stays = refused_both is.serves.forms is.serves.far number is.stays;
+        },
+        none_of is.serves.answered.refused accepted,
+        (at.0, at.1, place_both is.serves.forms is.serves.far.rest at.0 place at.2),
+      )
+      serves_both (ways.Unaccepted number place) (is, second) = (is, stops_both number place second is)
+      serves_both (ways.Store number) (is, accepted) = (
+        record {
+          serves = serve_both functions state sound old mid new w mode text a b c first.forms p first.advances honest (Store number) is.serves;
+          paced = paced_both (Store number) is.serves is.paced;
+          stays = λ output all.
+              let same : is.serves.lines + first.forms ≡ is.serves.forms + first.forms = all in
+              let decided = is.stays output (omega arith) in
+              (decided.0, refused_both is.serves.forms is.serves.far decided.0 decided.1);
+        },
+        none_of is.serves.answered.refused accepted,
+      )
+
+      pub ended_both : (ended : Ended) → HasEndedAt functions state strict later mid new p.world mode rest b c ended → HasEndedAt functions state strict course old new w mode text a c ended
+      ended_both ended second = serves_both ended (subst (λ t. HasEndedAt functions state strict later mid new p.world mode t b c ended) (sym first.rest) second)
 
     -- what was answered, and what became of what was left
-    pub answers_both : (text left : List ℕ) (first : GoesOn functions state pace later old mid w mode text a b pending left) (after : Pending) (result : Option Ending)
-        → Answers functions state later last mid new first.far.world mode (first.bytes ++ left) b c after result → Answers functions state pace last old new w mode text a c after result
+    pub answers_both : (text left : List ℕ) (first : GoesOn functions state strict course later old mid w mode text a b pending left) (after : Pending) (result : Option Ended)
+        → Answers functions state strict later last mid new first.far.world mode (first.bytes ++ left) b c after result → Answers functions state strict course last old new w mode text a c after result
     unfolding extended
     answers_both text left first after None second = goes_on_both text left first after [] second
-    answers_both text left first after (Some ending) second = λ more.
-        ended_both (text ++ more) (left ++ more) (extended pace later old mid w mode text a b pending left more first) ending
-        (subst (λ t. HasEnded functions state later mid new first.far.world mode t b c ending) (append_assoc first.bytes left more) (second more))
+    answers_both text left first after (Some ended) second = λ more.
+        ended_both (text ++ more) (left ++ more) (extended strict course later old mid w mode text a b pending left more first) ended
+        (subst (λ t. HasEndedAt functions state strict later mid new first.far.world mode t b c ended) (append_assoc first.bytes left more) (second more))
 
     -- what was left, and what a piece of it came to
-    pub next_both : (text rest : List ℕ) (first : GoesOn functions state pace later old mid w mode text a b pending rest) (after : Pending) (result : Result ℕ Ending)
-        → ComesTo functions state later last mid new first.far.world mode (first.bytes ++ rest) b c after rest result → ComesTo functions state pace last old new w mode text a c after rest result
+    pub next_both : (text rest : List ℕ) (first : GoesOn functions state strict course later old mid w mode text a b pending rest) (after : Pending) (result : Result ℕ Ended)
+        → ComesTo functions state strict later last mid new first.far.world mode (first.bytes ++ rest) b c after rest result → ComesTo functions state strict course last old new w mode text a c after rest result
     next_both text rest first after (Ok count) second = goes_on_both text rest first after (drop count rest) second
-    next_both text rest first after (Err ending) second = answers_both text rest first after (Some ending) second
+    next_both text rest first after (Err ended) second = answers_both text rest first after (Some ended) second
 
     -- more of the text, and what it came to
-    pub more_both : (text more : List ℕ) (first : GoesOn functions state pace later old mid w mode text a b pending []) (after : Pending) (result : Option Ending)
-        → Answers functions state later last mid new first.far.world mode (first.bytes ++ more) b c after result → Answers functions state pace last old new w mode (text ++ more) a c after result
+    pub more_both : (text more : List ℕ) (first : GoesOn functions state strict course later old mid w mode text a b pending []) (after : Pending) (result : Option Ended)
+        → Answers functions state strict later last mid new first.far.world mode (first.bytes ++ more) b c after result → Answers functions state strict course last old new w mode (text ++ more) a c after result
     unfolding extended
-    more_both text more first after result second = answers_both (text ++ more) more (extended pace later old mid w mode text a b pending [] more first) after result second
+    more_both text more first after result second = answers_both (text ++ more) more (extended strict course later old mid w mode text a b pending [] more first) after result second
 
     -- the end of the input, and what it came to
-    pub end_both : (text : List ℕ) (first : GoesOn functions state pace later old mid w mode text a b pending []) (ending : Ending)
-        → InPace functions state later mid new first.far.world mode first.bytes b c ending → InPace functions state pace old new w mode text a c ending
-    end_both text first ending second =
-        let whole = subst (λ t. InPace functions state later mid new first.far.world mode t b c ending) (sym (first.rest ∙ append-nil first.bytes)) second in
-        (serve_both functions state sound old mid new w mode text a b c first.forms first.far first.advances honest ending whole.0, paced_both text [] first ending whole.0 whole.1)
+    pub end_both : (text : List ℕ) (first : GoesOn functions state strict course later old mid w mode text a b pending []) (ended : Ended)
+        → EndsAt functions state strict later mid new first.far.world mode first.bytes b c ended → EndsAt functions state strict course old new w mode text a c ended
+    end_both text first ended second =
+        ends_both_at text [] first ended (subst (λ t. EndsAt functions state strict later mid new first.far.world mode t b c ended) (sym (first.rest ∙ append-nil first.bytes)) second)
 
   -- the session ended within a piece
-  pub ended_within : (pace later : Pace) (old new : StoreView D R) (w : WorldState) (mode : Mode) (a b : Option (List ℕ)) (after : Pending) (bytes piece : List ℕ) (n : ℕ) (ending : Ending)
-      → Answers functions state pace later old new w mode (bytes ++ take n piece) a b after (Some ending) → Answers functions state pace later old new w mode (bytes ++ piece) a b after (Some ending)
-  ended_within pace later old new w mode a b after bytes piece n ending ended more =
-      subst (λ t. HasEnded functions state pace old new w mode t a b ending)
+  pub ended_within : (strict : Bool) (course later : Course) (old new : StoreView D R) (w : WorldState) (mode : Mode) (a b : Option (List ℕ)) (after : Pending) (bytes piece : List ℕ) (n : ℕ) (ended : Ended)
+      → Answers functions state strict course later old new w mode (bytes ++ take n piece) a b after (Some ended) → Answers functions state strict course later old new w mode (bytes ++ piece) a b after (Some ended)
+  ended_within strict course later old new w mode a b after bytes piece n ended is more =
+      subst (λ t. HasEndedAt functions state strict course old new w mode t a b ended)
       (append_assoc bytes (take n piece) (drop n piece ++ more) ∙ ap (λ t. bytes ++ t) (sym (append_assoc (take n piece) (drop n piece) more) ∙ ap (λ t. t ++ more) (take-append-drop n piece))
-      ∙ sym (append_assoc bytes piece more)) (ended (drop n piece ++ more))
+      ∙ sym (append_assoc bytes piece more)) (is (drop n piece ++ more))
 
   -- a read failed after it
-  pub unread_after : (pace later : Pace) (old new : StoreView D R) (w : WorldState) (mode : Mode) (text : List ℕ) (a b : Option (List ℕ)) (pending : Pending)
-      → GoesOn functions state pace later old new w mode text a b pending [] → InPace functions state pace old new w mode text a b (Store INPUT)
-  unread_after pace later old new w mode text a b pending goes =
+  pub unread_after : (strict : Bool) (course later : Course) (old new : StoreView D R) (w : WorldState) (mode : Mode) (text : List ℕ) (a b : Option (List ℕ)) (pending : Pending)
+      → GoesOn functions state strict course later old new w mode text a b pending [] → ServesStrict functions state strict course old new w mode text a b (Store INPUT)
+  unread_after strict course later old new w mode text a b pending goes =
       let far : Progress = goes.far in (
         record {
           forms = goes.forms;
@@ -243,5 +296,6 @@ module _ (functions : Functions) {D R : Type 0} (state : D → State) where
             after = goes.advances.after;
           })))));
         },
-        inl (record { paced = (later, goes.paced); other = λ full. absurd (omega arith); fault = λ device. absurd (omega arith) }),
+        inl (record { paced = (later.pace, goes.paced); other = λ full. absurd (omega arith); fault = λ device. absurd (omega arith) }),
+        goes.accepted,
       )

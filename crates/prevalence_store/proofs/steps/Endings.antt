@@ -54,9 +54,9 @@ module _ (functions : Functions) where
   module _ {D R : Type 0} (state : D → State) (sound : (d : D) → IsHonest (state d) → IsSound (state d)) (old new : StoreView D R) (w : WorldState) (mode : Mode) (text : List ℕ) (held written : Option (List ℕ))
       (known : old.world ≡ Some w) where
     -- nothing was taken
-    pub after_none : (rest lines : List ℕ) → new ≡ old → IsAfter functions state old new w (record { world = w; rest = rest; taken = []; lines = lines })
-    after_none rest lines same =
-        subst (λ (s : StoreView D R). IsAfter functions state old s w (record { world = w; rest = rest; taken = []; lines = lines })) (sym same) (record {
+    pub after_none : (rest lines refusals : List ℕ) → new ≡ old → IsAfter functions state old new w (record { world = w; rest = rest; taken = []; lines = lines; refused = refusals })
+    after_none rest lines refusals same =
+        subst (λ (s : StoreView D R). IsAfter functions state old s w (record { world = w; rest = rest; taken = []; lines = lines; refused = refusals })) (sym same) (record {
           left = known;
           records = refl;
           limit = refl;
@@ -94,15 +94,15 @@ module _ (functions : Functions) where
 
     unfoldable pub no_memory : new ≡ old → written ≡ held → Serves functions state old new w mode text held written (Store NO_MEMORY)
     no_memory same quiet = nothing (Store NO_MEMORY) [] same (writes_nothing held written quiet)
-        (inr (inr (inr (inr (inr (inr (record { memory = refl; no_part = refl; after = after_none text [] same })))))))
+        (inr (inr (inr (inr (inr (inr (record { memory = refl; no_part = refl; after = after_none text [] [] same })))))))
 
     unfoldable pub done : new ≡ old → written ≡ held → empty ≡ read_in functions w mode text → Serves functions state old new w mode text held written End
     done same quiet is = nothing End [] same (writes_nothing held written quiet)
-        (record { all = refl; no_part = refl; nothing_left = sym is; after = after_none text [] same })
+        (record { all = refl; no_part = refl; nothing_left = sym is; after = after_none text [] [] same })
 
     pub unread : (number : ℕ) → number ≡ INPUT → MayGoOn text (read_in functions w mode text) → new ≡ old → written ≡ held → Serves functions state old new w mode text held written (Store number)
     unread number is more same quiet = nothing (Store number) [] same (writes_nothing held written quiet)
-        (inr (inr (inr (inr (inl (record { input = is; all = refl; no_part = refl; more = more; after = after_none text [] same }))))))
+        (inr (inr (inr (inr (inl (record { input = is; all = refl; no_part = refl; more = more; after = after_none text [] [] same }))))))
 
     -- the reader refused what the text begins with
     unfoldable pub fault_answered : (number at : ℕ) → read_in functions w mode text ≡ refused number at → new ≡ old → (ending : Ending) → AnswersFault number held written ending
@@ -110,11 +110,11 @@ module _ (functions : Functions) where
     fault_answered number at is same End answers = absurd answers
     fault_answered number at is same (Reader code) answers =
         nothing (Reader code) (refusal_line number) same answers.1
-        (record { all = refl; at = at; reads = subst (λ n. read_in functions w mode text ≡ refused n at) (sym answers.0) is; line = ap refusal_line (sym answers.0); after = after_none text [] same })
+        (record { all = refl; at = at; reads = subst (λ n. read_in functions w mode text ≡ refused n at) (sym answers.0) is; line = ap refusal_line (sym answers.0); after = after_none text [] [] same })
     fault_answered number at is same (Store code) (inl full) =
         let part = part_of held written (refusal_line number) (λ none. absurd (cc)) full.1 in
         nothing (Store code) part.0 same part.4
-        (inr (inr (inr (inr (inr (inl (record { output = full.0; unwritten = part.1; some_left = part.3; front = ap last_line is ∙ part.2; in_form = λ one. absurd (omega arith); after = after_none text [] same })))))))
+        (inr (inr (inr (inr (inr (inl (record { output = full.0; unwritten = part.1; some_left = part.3; front = ap last_line is ∙ part.2; in_form = λ one. absurd (omega arith); after = after_none text [] [] same })))))))
     fault_answered number at is same (Store code) (inr memory) =
         nothing (Store code) [] same (writes_nothing held written memory.1)
-        (inr (inr (inr (inr (inr (inr (record { memory = memory.0; no_part = refl; after = after_none text [] same })))))))
+        (inr (inr (inr (inr (inr (inr (record { memory = memory.0; no_part = refl; after = after_none text [] [] same })))))))

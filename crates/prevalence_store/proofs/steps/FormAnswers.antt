@@ -14,6 +14,7 @@ use Rattle.lisp_reading.specs.Reading.{form}
 use Rattle.plist_state.specs.State.{WorldState}
 use Rattle.prevalence_store.specs.declared.failure.Failure.{Failure}
 use Rattle.prevalence_store.specs.declared.failure.Failure.TheVariants.{Refused, Full, DeviceFault, OutOfMemory}
+use Rattle.prevalence_store.specs.declared.session.answer.Answered.{Answered}
 use Rattle.prevalence_store.specs.declared.mode.Mode.{Mode}
 use Rattle.prevalence_store.specs.declared.outcome.Ending.TheVariants.{Store}
 use Rattle.prevalence_store.specs.meaning.Acceptance.{after, between, logged, read_in, records_of}
@@ -28,7 +29,7 @@ use Rattle.prevalence_store.proofs.steps.Committing.{accepts-logged}
 use Rattle.prevalence_store.proofs.calls.Executing.{own_whole}
 use Rattle.prevalence_store.proofs.meaning.Replaying.{stepped}
 use Rattle.prevalence_store.specs.calls.Streams.{Writes, WritesPart}
-use Rattle.prevalence_store.specs.steps.Answer.{EndsTry, LeavesRecord, LogsAtOnce, StopsInForm, TriesForm, is_logged}
+use Rattle.prevalence_store.specs.steps.Answer.{EndsTry, LeavesRecord, LogsAtOnce, StopsInForm, TriesForm, answered_of}
 use Rattle.prevalence_store.specs.steps.Output.{IsLine, IsStop}
 use Rattle.prevalence_store.proofs.Surviving.{fewer_survive, unchanged_survives}
 use Rattle.user_macros.specs.Functions.{Functions}
@@ -75,7 +76,7 @@ module _ (functions : Functions) where
         → IsAfter functions state old new w (evaluated w mode own (drop next text) (Ok (done_of e given)))
     after_stores e given valued stores = by_wrote e.wrote stores where
       by_wrote : (wrote : Bool) → Stores state old new wrote mode own given
-          → IsAfter functions state old new w (record { world = given; rest = drop next text; taken = records_of wrote mode own; lines = value_line given (object_of e.value) })
+          → IsAfter functions state old new w (record { world = given; rest = drop next text; taken = records_of wrote mode own; lines = value_line given (object_of e.value); refused = [] })
       by_wrote true logs = record {
         left = logs.left;
         records = record_makes (done_of e given) valued;
@@ -97,8 +98,8 @@ module _ (functions : Functions) where
       by_wrote false same =
           let left : Some w ≡ Some given = sym known ∙ sym (ap (λ (s : StoreView D R). s.world) same.0) ∙ same.1 in
           let here : w ≡ given = cc in
-          subst (λ v. IsAfter functions state old new w (record { world = v; rest = drop next text; taken = []; lines = value_line given (object_of e.value) })) here
-          (after_none functions state sound old new w mode text held written known (drop next text) (value_line given (object_of e.value)) same.0)
+          subst (λ v. IsAfter functions state old new w (record { world = v; rest = drop next text; taken = []; lines = value_line given (object_of e.value); refused = [] })) here
+          (after_none functions state sound old new w mode text held written known (drop next text) (value_line given (object_of e.value)) [] same.0)
 
     -- what it leaves in the half in use
     leaves : (wrote : Bool) (given : WorldState) → Stores state old new wrote mode own given
@@ -114,7 +115,7 @@ module _ (functions : Functions) where
 
     -- the form is answered, and the session goes on
     form_is_answered : (answer : Result Evaluated Failure) (line : List ℕ) → TakesForm functions state old new mode own x answer → IsLine new answer line
-        → Writes held written line → TriesForm functions state old new w mode text held written (Ok (is_logged answer))
+        → Writes held written line → TriesForm functions state old new w mode text held written (Ok (answered_of answer))
     form_is_answered (Ok e) line of is_line writes =
         let given = of.accepted w known in (
           evaluated w mode own (drop next text) (Ok (done_of e given.0)),
@@ -125,6 +126,7 @@ module _ (functions : Functions) where
             survives = of.survives w;
           },
           leaves e.wrote given.0 given.2,
+          refl,
         )
     form_is_answered (Err (Refused number)) line of is_line writes =
         let same = of.unchanged refl in (
@@ -132,19 +134,20 @@ module _ (functions : Functions) where
           record {
             far_is = one_is (Err number) (of.cause w known);
             lines = subst (λ l. Writes held written l) is_line.line_of writes;
-            after = after_none functions state sound old new w mode text held written known (drop next text) (refusal_line number) same;
+            after = after_none functions state sound old new w mode text held written known (drop next text) (refusal_line number) (number ∷ []) same;
             survives = unchanged_survives functions state sound old new w same;
           },
           refused_leaves same,
+          (refl, (start, record { object = x; stop = stop; next = next; reads = is; refused = of.cause w known })),
         )
     form_is_answered (Err Full) line of is_line writes = absurd is_line.line_of
     form_is_answered (Err DeviceFault) line of is_line writes = absurd is_line.line_of
     form_is_answered (Err OutOfMemory) line of is_line writes = absurd is_line.line_of
 
     pub form_answered : (answer : Result Evaluated Failure) (line : List ℕ) → TakesForm functions state old new mode own x answer → IsLine new answer line
-        → Writes held written line → (wrote : Bool) → wrote ≡ is_logged answer → TriesForm functions state old new w mode text held written (Ok wrote)
-    form_answered answer line of is_line writes wrote same =
-        subst (λ b. TriesForm functions state old new w mode text held written (Ok b)) (sym same) (form_is_answered answer line of is_line writes)
+        → Writes held written line → (told : Answered) → told ≡ answered_of answer → TriesForm functions state old new w mode text held written (Ok told)
+    form_answered answer line of is_line writes told same =
+        subst (λ t. TriesForm functions state old new w mode text held written (Ok t)) (sym same) (form_is_answered answer line of is_line writes)
 
     -- one form was taken, and not answered whole
     unfoldable taken_only : (far : Progress) (part : List ℕ) (number : ℕ) (n : ℕ) → after_forms functions 1 w mode text ≡ Some far → Writes held written part
@@ -166,6 +169,7 @@ module _ (functions : Functions) where
         ends = ends;
       };
       in_form = λ output. refl;
+      accepted = refl;
     }
 
     -- the session has ended in the form, and this is left of it
@@ -206,7 +210,7 @@ module _ (functions : Functions) where
                 some_left = some_first part.1 (last_line (read_in functions far.world mode far.rest)) part.3;
                 front = unwritten_front far.lines line part.0 part.1 (last_line (read_in functions far.world mode far.rest)) is_line.line_of part.2;
                 in_form = λ one. (part.1, part.3, sym is_line.line_of ∙ part.2);
-                after = after_none functions state sound old new w mode text held written known (drop next text) (refusal_line number) same;
+                after = after_none functions state sound old new w mode text held written known (drop next text) (refusal_line number) (number ∷ []) same;
               }))))))),
           inr (inl (refl, inl refl, (false, refused_leaves same))),
         )
@@ -220,8 +224,9 @@ module _ (functions : Functions) where
     out_of_memory number memory same quiet = (
       record {
         serves = nothing functions state sound old new w mode text held written known (Store number) [] same (writes_nothing held written quiet)
-            (inr (inr (inr (inr (inr (inr (record { memory = memory; no_part = refl; after = after_none functions state sound old new w mode text held written known text [] same })))))));
+            (inr (inr (inr (inr (inr (inr (record { memory = memory; no_part = refl; after = after_none functions state sound old new w mode text held written known text [] [] same })))))));
         in_form = λ output. absurd (omega arith);
+        accepted = refl;
       },
       inl (memory, refl, ap (λ (s : StoreView D R). fill_of s) same),
     )
@@ -253,7 +258,7 @@ module _ (functions : Functions) where
                 one_open = refl;
                 no_part = refl;
                 mid = old;
-                before = after_none functions state sound old old w mode text held held known text [] refl;
+                before = after_none functions state sound old old w mode text held held known text [] [] refl;
                 record_ = logged mode own;
                 was_accepted = taken;
                 fits = why.1;

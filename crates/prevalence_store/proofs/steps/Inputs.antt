@@ -1,18 +1,19 @@
 -- What a session has read of its input.
-use Rattle.std.proofs.Common.{◌≡◌, ℕ, List, [], ◌++◌, Option, None, Some, refl, sym, ap, ◌∙◌, inl, inr, append_assoc, arith}
+use Rattle.std.proofs.Common.{◌≡◌, ℕ, false, List, [], ◌++◌, Option, None, Some, refl, sym, ap, subst, ◌∙◌, inl, inr, append_assoc, arith}
 use Rattle.std.specs.Io.KnownBytes.{Consumes, IsAtEnd, Keeps}
 use Rattle.disk_trait.specs.Disk.{State}
 use Rattle.lisp_object.specs.declared.refusal.TheConstants.{INPUT}
 use Rattle.plist_state.specs.State.{WorldState}
-use Rattle.prevalence_store.specs.declared.mode.Mode.{Mode}
+use Rattle.prevalence_store.specs.declared.outcome.Ended.{Ended}
+use Rattle.prevalence_store.specs.declared.outcome.Ended.TheVariants as ways
+use Rattle.prevalence_store.specs.declared.outcome.Wanted.{Wanted}
 use Rattle.prevalence_store.specs.declared.outcome.Ending.{Ending}
-use Rattle.prevalence_store.specs.declared.outcome.Ending.TheVariants.{End, Reader, Store}
+use Rattle.prevalence_store.specs.declared.outcome.Ending.TheVariants.{Store}
 use Rattle.user_macros.specs.Functions.{Functions}
-use Rattle.prevalence_store.specs.calls.Pace.{first_pace}
-use Rattle.prevalence_store.specs.calls.Serve.{HasRead, Serves, ServesInput}
+use Rattle.prevalence_store.specs.calls.Serve.{ServesInput, ServesWanted}
 use Rattle.prevalence_store.specs.calls.Store.{StoreView}
-use Rattle.prevalence_store.specs.steps.Serve.{HasEnded}
-use Rattle.prevalence_store.proofs.steps.Pieces.{InPace}
+use Rattle.prevalence_store.specs.steps.Course.{Course, first_course}
+use Rattle.prevalence_store.specs.steps.Serve.{EndsAt, HasEndedAt, ServesStrict, ending_of}
 
 -- what a reader had, is this text and what it has
 abbrev pub HasLeft : Option (List ℕ) → Option (List ℕ) → List ℕ → Type 0
@@ -47,46 +48,81 @@ left_both had old new text piece before took all is =
     let then = consumed old new first.0 piece first.1.0 took in
     (then.0, (then.1.0, first.1.1 ∙ ap (λ t. text ++ t) then.1.1 ∙ sym (append_assoc text piece then.0)))
 
-module _ (functions : Functions) {D R : Type 0} (state : D → State) (every : ℕ) (old new : StoreView D R) (w : WorldState) (mode : Mode) (held written : Option (List ℕ)) (had before has : Option (List ℕ)) (text : List ℕ) where
+module _ (functions : Functions) {D R : Type 0} (state : D → State) (wanted : Wanted) (old new : StoreView D R) (w : WorldState) (held written : Option (List ℕ)) (had before has : Option (List ℕ)) (text : List ℕ) where
+  abbrev first : Course
+  first = first_course wanted.snapshot_every
+
   -- a read failed
-  pub unread_input : InPace functions state (first_pace every) old new w mode text held written (Store INPUT) → HasLeft had before text → Keeps before has
-      → ServesInput functions state every old new w mode had has held written (Store INPUT)
-  unread_input serves left keeps = record {
-    text = text;
-    serves = serves.0;
-    paced = serves.1;
-    reads = λ all is. let first = left all is in (first.0, first.1.1, (λ output. absurd (omega arith), kept before has first.0 first.1.0 keeps));
-  }
+  pub unread_input : ServesStrict functions state wanted.strict first old new w wanted.mode text held written (Store INPUT) → HasLeft had before text → Keeps before has
+      → ServesWanted functions state wanted old new w had has held written (ways.Store INPUT)
+  unread_input (served, paced, accepted) left keeps = (
+    record {
+      text = text;
+      serves = served;
+      paced = paced;
+      reads = λ all is. let one = left all is in (one.0, one.1.1, (λ output. absurd (omega arith), kept before has one.0 one.1.0 keeps));
+    },
+    accepted,
+  )
 
   -- the input is at its end
-  pub ended_input : (ending : Ending) → InPace functions state (first_pace every) old new w mode text held written ending → HasLeft had before text → Consumes before has [] → IsAtEnd has
-      → ServesInput functions state every old new w mode had has held written ending
-  ended_input ending serves left took ends = record {
-    text = text;
-    serves = serves.0;
-    paced = serves.1;
-    reads = λ all is.
-        let first = left all is in
-        let then = consumed before has first.0 [] first.1.0 took in
+  pub ended_input : (ended : Ended) → EndsAt functions state wanted.strict first old new w wanted.mode text held written ended → HasLeft had before text → Consumes before has [] → IsAtEnd has
+      → ServesWanted functions state wanted old new w had has held written ended
+  ended_input ended at left took ends = by_ending ended at where
+    -- nothing is left of what the reader had
+    none_left : (all : List ℕ) → had ≡ Some all → (all ≡ text ++ []) × (has ≡ Some [])
+    none_left all is =
+        let one = left all is in
+        let then = consumed before has one.0 [] one.1.0 took in
         let none = at_end has then.0 then.1.0 ends in
-        ([], first.1.1 ∙ ap (λ t. text ++ t) (then.1.1 ∙ none), all_read ending serves.0 (then.1.0 ∙ ap (λ t. Some t) none));
-  } where
-    all_read : (e : Ending) (served : Serves functions state old new w mode text held written e) → has ≡ Some [] → HasRead functions state old new w mode text held written e served [] has
-    all_read End served is = (refl, is)
-    all_read (Reader number) served is = (inl refl, is)
-    all_read (Store number) served is = (λ output all. inl refl, is)
+        (one.1.1 ∙ ap (λ t. text ++ t) (then.1.1 ∙ none), then.1.0 ∙ ap (λ t. Some t) none)
+
+    by_ending : (e : Ended) → EndsAt functions state wanted.strict first old new w wanted.mode text held written e → ServesWanted functions state wanted old new w had has held written e
+    by_ending ways.End (served, paced, accepted) = (
+      record { text = text; serves = served; paced = paced; reads = λ all is. let none = none_left all is in ([], none.0, (refl, none.1)) },
+      accepted,
+    )
+    by_ending (ways.Unreadable number place) ((served, paced, accepted), at) = (
+      record { text = text; serves = served; paced = paced; reads = λ all is. let none = none_left all is in ([], none.0, (inl refl, none.1)) },
+      accepted,
+      at,
+    )
+    by_ending (ways.Unaccepted number place) (strict, stops) = (strict, text, stops, λ all is. let none = none_left all is in ([], none.0, none.1))
+    by_ending (ways.Store number) (served, paced, accepted) = (
+      record { text = text; serves = served; paced = paced; reads = λ all is. let none = none_left all is in ([], none.0, (λ output all_lines. inl refl, none.1)) },
+      accepted,
+    )
 
   -- the session ended before it
-  pub decided_input : (ending : Ending) → HasEnded functions state (first_pace every) old new w mode text held written ending → HasLeft had has text
-      → ServesInput functions state every old new w mode had has held written ending
-  decided_input ending ended left = record {
-    text = text;
-    serves = ended.serves;
-    paced = ended.paced;
-    reads = λ all is. let first = left all is in (first.0, first.1.1, some_read ending ended first.0 first.1.0);
-  } where
-    some_read : (e : Ending) (is : HasEnded functions state (first_pace every) old new w mode text held written e) (rest : List ℕ) → has ≡ Some rest
-        → HasRead functions state old new w mode text held written e is.serves rest has
-    some_read End is rest left_is = absurd is.stays
-    some_read (Reader number) is rest left_is = (inr is.stays, left_is)
-    some_read (Store number) is rest left_is = (λ output all. inr (is.stays output all), left_is)
+  pub decided_input : (ended : Ended) → HasEndedAt functions state wanted.strict first old new w wanted.mode text held written ended → HasLeft had has text
+      → ServesWanted functions state wanted old new w had has held written ended
+  decided_input ways.End is left = absurd is
+  decided_input (ways.Unreadable number place) (is, accepted, at) left = (
+    record {
+      text = text;
+      serves = is.serves;
+      paced = is.paced;
+      reads = λ all had_is. let one = left all had_is in (one.0, one.1.1, (inr is.stays, one.1.0));
+    },
+    accepted,
+    at,
+  )
+  decided_input (ways.Unaccepted number place) (strict, stops) left = (strict, text, stops, λ all is. let one = left all is in (one.0, one.1.1, one.1.0))
+  decided_input (ways.Store number) (is, accepted) left = (
+    record {
+      text = text;
+      serves = is.serves;
+      paced = is.paced;
+      reads = λ all had_is. let one = left all had_is in (one.0, one.1.1, (λ output all_lines. inr (is.stays output all_lines), one.1.0));
+    },
+    accepted,
+  )
+
+-- a session that is not strict, as it is served
+pub as_served : (functions : Functions) {D R : Type 0} (state : D → State) (wanted : Wanted) (old new : StoreView D R) (w : WorldState) (held written : Option (List ℕ)) (had has : Option (List ℕ)) (ended : Ended) (ending : Ending)
+    → ServesWanted functions state wanted old new w had has held written ended → wanted.strict ≡ false → ending_of ended ≡ ending → ServesInput functions state wanted.snapshot_every old new w wanted.mode had has held written ending
+as_served functions state wanted old new w held written had has ways.End ending served strict is = subst (λ e. ServesInput functions state wanted.snapshot_every old new w wanted.mode had has held written e) is served.0
+as_served functions state wanted old new w held written had has (ways.Unreadable number place) ending served strict is =
+    subst (λ e. ServesInput functions state wanted.snapshot_every old new w wanted.mode had has held written e) is served.0
+as_served functions state wanted old new w held written had has (ways.Unaccepted number place) ending served strict is = let is_strict = served.0 in absurd (cc)
+as_served functions state wanted old new w held written had has (ways.Store number) ending served strict is = subst (λ e. ServesInput functions state wanted.snapshot_every old new w wanted.mode had has held written e) is served.0

@@ -1,6 +1,5 @@
 -- What is pending of a session.
-use Rattle.std.proofs.Common.{◌≡◌, ℕ, ◌+◌, ◌-◌, ◌<◌, ◌≤◌, true, false, Bool, cond, List, [], ◌∷◌, ◌++◌, length, drop, take, append_assoc, Option, IsTrue, Ok, Err, nat_lt, refl, sym, ap, subst, ◌∙◌, arith, append-nil, length-append, length-drop}
-use Rattle.std.specs.List.{list_all}
+use Rattle.std.proofs.Common.{◌≡◌, ℕ, ◌+◌, ◌-◌, ◌<◌, ◌≤◌, true, false, Bool, cond, List, [], ◌∷◌, ◌++◌, length, drop, take, append_assoc, IsTrue, Ok, Err, nat_lt, refl, sym, ap, subst, ◌∙◌, arith, append-nil, length-append, length-drop}
 use Rattle.std.proofs.lemmas.Bool.{ltb-true, ltb-false}
 use Rattle.std.proofs.lemmas.List.{drop-append-le}
 use Rattle.lisp_object.specs.Object.{Object}
@@ -9,8 +8,7 @@ use Rattle.lisp_object.specs.declared.datum.Datum.{Datum}
 use Rattle.readtable_core.specs.Names.{is_among}
 use Rattle.readtable_core.specs.Tables.{Table}
 use Rattle.package_table.specs.Table.{Name, Table as Packages}
-use Rattle.user_macros.specs.declared.call.Gather.{Gather}
-use Rattle.user_macros.specs.Calls.{MacroCall, MacroAnswer}
+use Rattle.lisp_reading.proofs.Refusals.{refusal_stays}
 use Rattle.lisp_reading.specs.declared.found.Found.{Found}
 use Rattle.lisp_reading.specs.declared.found.Found.TheVariants.{Nothing as nothing, One as one, LoneDot as lone_dot, TheEnd as the_end}
 use Rattle.lisp_reading.specs.declared.limits.Limits.{Limits}
@@ -18,10 +16,10 @@ use Rattle.form_reader.specs.declared.reader.FormReader.{FormReader}
 use Rattle.form_reader.specs.declared.reader.ReaderState.{ReaderState}
 use Rattle.form_reader.specs.declared.reader.ReaderState.TheVariants.{Open, Refused, OutOfMemory}
 use Rattle.form_reader.specs.declared.reader.Advance.{Advance}
-use Rattle.form_reader.specs.declared.reader.Advance.TheVariants.{Form as AdvanceForm}
+use Rattle.form_reader.specs.declared.reader.Advance.TheVariants.{Form as AdvanceForm, Refused as AdvanceRefused}
 use Rattle.lisp_reading.specs.Plans.{Read}
 use Rattle.form_reader.specs.Reader.{begun, fed, limits_of, BeginsLater, IsAfter, IsAfterIn, MayGoOn, Steps}
-use Rattle.lisp_reading.specs.Reading.{form, empty, outcome, reads, reads_at}
+use Rattle.lisp_reading.specs.Reading.{form, empty, outcome, reads, reads_at, refused}
 use Rattle.lisp_reading.specs.Setting.{Setting, setting_of}
 use Rattle.lisp_reading.specs.Fitting.{IsFitting}
 use Rattle.lisp_reading.proofs.Forms.{reads_is, stood, the_end_there}
@@ -32,7 +30,7 @@ use Rattle.prevalence_store.specs.declared.session.input.Pending.{Pending}
 use Rattle.prevalence_store.specs.declared.mode.Mode.{Mode}
 use Rattle.prevalence_store.specs.meaning.Acceptance.{base_in, between, form_limits, package_in, read_in, setting_in, table_in}
 use Rattle.user_macros.specs.Functions.{Functions, are_registered, named_among}
-use Rattle.prevalence_store.specs.steps.Input.{HasForm, IsLastForm, IsPending}
+use Rattle.prevalence_store.specs.steps.Input.{HasForm, HasRefusal, IsLastForm, IsPending}
 use Rattle.prevalence_store.specs.steps.Answer.{BeginsWith}
 use Rattle.prevalence_store.proofs.calls.Executing.{form_places, own_whole}
 use Rattle.prevalence_store.proofs.steps.Fitting.{among_same, fits_in}
@@ -116,10 +114,18 @@ module _ (functions : Functions) (w : WorldState) (mode : Mode) (old : Pending) 
 
   -- the form that it is
   pub last_form : (x : Object) (own : List ℕ) (start stop next : ℕ) → read_in functions w mode bytes ≡ form x start stop next → own ≡ between start stop bytes
-      → IsLastForm functions w mode bytes x own
+      → (last : IsLastForm functions w mode bytes x own) × (last.start ≡ start) × (length bytes ≡ next)
   last_form x own start stop next is is_own =
       let ends : next ≡ length bytes = subst (MayGoOn bytes) is pending.more in
-      record { start = start; stop = stop; reads = is ∙ ap (form x start stop) ends; is_own = is_own }
+      (record { start = start; stop = stop; reads = is ∙ ap (form x start stop) ends; is_own = is_own }, refl, sym ends)
+
+  -- a refusal at the end of the input is within what is pending
+  pub last_refused_within : (number at : ℕ) → read_in functions w mode bytes ≡ refused number at → (old.dropped ≤ fed old.reader) × (at ≤ fed old.reader)
+  last_refused_within number at is =
+      let inside = (refusal_stays (setting_in functions w mode) bytes number at is).0 in
+      let count = pending.count in
+      let dropped = dropped_within in
+      (omega arith, omega arith)
 
   -- the places of a form that a byte more decides
   pub record FedPlaces (byte start stop next : ℕ) : Type 0 where
@@ -156,22 +162,42 @@ module _ (functions : Functions) (w : WorldState) (mode : Mode) (old : Pending) 
 
     pub has_form : (after : Pending) (own : List ℕ) (count : ℕ) → FedPlaces byte start stop next → after.reader ≡ new → after.text.items ≡ [] → after.dropped ≡ 0 → limits_of new ≡ form_limits
         → old.dropped + count ≡ length bytes + 1 → own ≡ between start stop (bytes ++ byte ∷ [])
-        → HasForm functions w mode after (bytes ++ byte ∷ []) (object_of datum) own (nat_lt (next - old.dropped) count)
+        → (has : HasForm functions w mode after (bytes ++ byte ∷ []) (object_of datum) own (nat_lt (next - old.dropped) count)) × (has.start ≡ start) × (has.next ≡ next)
     has_form after own count places reader none zero limits all is_own =
         let many : length (bytes ++ byte ∷ []) ≡ length bytes + 1 = length-append bytes (byte ∷ []) in
         let fresh = form_told.4 in
-        let fed_none : fed new ≡ 0 = let a = fresh.start in let b = fresh.at in omega arith in
-        record {
-          start = start;
-          stop = stop;
-          next = next;
-          reads = form_told.0;
-          is_own = is_own;
-          next_is = by_left next count (nat_lt (next - old.dropped) count) refl places all ∙ sym many;
-          none = λ later in_mode. none_pending functions later in_mode after (ap limits_of reader ∙ limits)
-              (subst (λ (r : FormReader). IsAfter (setting_in functions later in_mode) r []) (sym reader) (form_told.5 (setting_in functions later in_mode)))
-              (ap fed reader ∙ fed_none) (ap begun reader ∙ fresh.start) none zero;
-        }
+        let fed_none : fed new ≡ 0 = let a = fresh.start in let b = fresh.at in omega arith in (
+          record {
+            start = start;
+            stop = stop;
+            next = next;
+            reads = form_told.0;
+            is_own = is_own;
+            next_is = by_left next count (nat_lt (next - old.dropped) count) refl places all ∙ sym many;
+            none = λ later in_mode. none_pending functions later in_mode after (ap limits_of reader ∙ limits)
+                (subst (λ (r : FormReader). IsAfter (setting_in functions later in_mode) r []) (sym reader) (form_told.5 (setting_in functions later in_mode)))
+                (ap fed reader ∙ fed_none) (ap begun reader ∙ fresh.start) none zero;
+          },
+          refl,
+          refl,
+        )
+
+  -- a refusal that a byte more decides
+  module _ (byte : ℕ) (new : FormReader) (step : Advance) (number at : ℕ) (is : step ≡ AdvanceRefused number at) (steps : Steps (setting_in functions w mode) new (bytes ++ byte ∷ []) step) where
+    refusal_told : Steps (setting_in functions w mode) new (bytes ++ byte ∷ []) (AdvanceRefused number at)
+    refusal_told = subst (λ (s : Advance). Steps (setting_in functions w mode) new (bytes ++ byte ∷ []) s) is steps
+
+    pub has_refusal : (refuses : HasRefusal functions w mode (bytes ++ byte ∷ []) number) × (refuses.at ≡ at)
+    has_refusal = (record { at = at; reads = refusal_told.0 }, refl)
+
+    pub refused_within : (old.dropped ≤ fed old.reader + 1) × (at ≤ fed old.reader + 1)
+    refused_within =
+        let inside = (refusal_stays (setting_in functions w mode) ((bytes ++ byte ∷ []) ++ []) number at (refusal_told.0 [])).0 in
+        let none = ap length (append-nil (bytes ++ byte ∷ [])) in
+        let many = length-append bytes (byte ∷ []) in
+        let count = pending.count in
+        let dropped = dropped_within in
+        (omega arith, omega arith)
 
 -- ---- the form that a text begins with
 

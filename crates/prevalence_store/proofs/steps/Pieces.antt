@@ -1,5 +1,5 @@
 -- A form that the bytes of a piece decide, or the end of the input.
-use Rattle.std.proofs.Common.{◌≡◌, ◌⊎◌, ℕ, zero, suc, ◌+◌, ◌-◌, ◌<◌, ◌≤◌, Bool, cond, List, [], ◌++◌, length, take, drop, Option, None, Some, Ok, Err, inl, inr, refl, sym, ap, subst, ◌∙◌, append_assoc, append-nil, length-append, length-drop, arith}
+use Rattle.std.proofs.Common.{◌≡◌, ◌⊎◌, ℕ, zero, suc, ◌+◌, ◌-◌, ◌<◌, ◌≤◌, Bool, true, cond, List, [], ◌++◌, length, take, drop, Option, Some, Ok, Err, inl, inr, refl, sym, ap, subst, ◌∙◌, append_assoc, append-nil, length-append, length-drop, arith}
 use Rattle.std.proofs.lemmas.List.{take-append-drop, take-append-le, drop-append-le, drop_all, length-take-le}
 use Rattle.std.proofs.Math.Seq.{drop-append-add}
 use Rattle.disk_trait.specs.Disk.{State}
@@ -18,10 +18,12 @@ use Rattle.user_macros.specs.Functions.{Functions}
 use Rattle.prevalence_store.specs.meaning.Answers.{Progress, after_forms, evaluated, one_form}
 use Rattle.prevalence_store.specs.steps.Input.{HasForm, IsLastForm, IsPending}
 use Rattle.prevalence_store.specs.calls.Pace.{Pace}
-use Rattle.prevalence_store.specs.calls.Serve.{Serves, ServesInPace}
+use Rattle.prevalence_store.specs.calls.Serve.{Advances, Serves, ServesInPace}
 use Rattle.prevalence_store.specs.calls.Store.{StoreView}
-use Rattle.prevalence_store.specs.steps.Serve.{GoesOn, MovesOn}
-use Rattle.prevalence_store.specs.steps.Answer.{AnswersForm, BeginsWith}
+use Rattle.prevalence_store.specs.steps.Serve.{GoesOn, MovesOn, ServesStrict}
+use Rattle.prevalence_store.specs.declared.outcome.Wanted.{Wanted}
+use Rattle.prevalence_store.specs.steps.Course.{Course}
+use Rattle.prevalence_store.specs.steps.Answer.{BeginsWith, PassesForm}
 use Rattle.prevalence_store.proofs.calls.Executing.{form_places}
 use Rattle.prevalence_store.specs.calls.Streams.{Writes}
 use Rattle.prevalence_store.proofs.steps.Pendings.{reads_none}
@@ -71,6 +73,10 @@ abbrev pub to_take : (before many : ℕ) → ℕ
 to_take zero many = many + many
 to_take (suc n) many = suc (many + many)
 
+-- the own text of a form, as a slice of the same bytes
+pub begins_as : (functions : Functions) (w : WorldState) (mode : Mode) (text : List ℕ) (x : Object) (own slice : List ℕ) (next : ℕ) (begins : BeginsWith functions w mode text x own next) → slice ≡ own → BeginsWith functions w mode text x slice next
+begins_as functions w mode text x own slice next begins same = record { start = begins.start; stop = begins.stop; reads = begins.reads; is_own = same ∙ begins.is_own }
+
 -- ---- a form that the bytes begin with, whatever follows them
 
 module _ (functions : Functions) (w : WorldState) (mode : Mode) (pending : Pending) (text : List ℕ) (x : Object) (own : List ℕ) (left : Bool)
@@ -100,6 +106,15 @@ module _ (functions : Functions) (w : WorldState) (mode : Mode) (pending : Pendi
 
   pub form_begins_here : (slice : List ℕ) → slice ≡ own → BeginsWith functions w mode text x slice has.next
   form_begins_here slice same = record { start = has.start; stop = has.stop; reads = reads_here; is_own = same ∙ has.is_own }
+
+  -- where they begin
+  pub begins_start : (slice more : List ℕ) (same : slice ≡ own) → (form_begins slice more same).start ≡ has.start
+  unfolding form_begins
+  begins_start slice more same = refl
+
+  pub begins_here_start : (slice : List ℕ) (same : slice ≡ own) → (form_begins_here slice same).start ≡ has.start
+  unfolding form_begins_here
+  begins_here_start slice same = refl
 
   one_form_of : (t : List ℕ) → read_in functions w mode t ≡ form x has.start has.stop has.next
       → after_forms functions 1 w mode t ≡ Some (evaluated w mode (between has.start has.stop t) (drop has.next t) given)
@@ -135,25 +150,37 @@ module _ (functions : Functions) (w : WorldState) (mode : Mode) (pending : Pendi
       by_count zero is = inr (let order = stop_within.0 in let after = stop_within.1 in let many = before.count in omega arith, none)
       by_count (suc k) is = inl (omega arith)
 
-  module _ {D R : Type 0} (state : D → State) (pace later : Pace) (old new : StoreView D R) (a b : Option (List ℕ)) (answered : AnswersForm functions state old new w mode pace later text a b None) where
+  module _ {D R : Type 0} (state : D → State) (wanted : Wanted) (same_mode : wanted.mode ≡ mode) (course later : Course) (old new : StoreView D R) (a b : Option (List ℕ)) where
     -- the form was answered, and what follows it is left
-    pub after_form : GoesOn functions state pace later old new w mode text a b pending (drop has.next text)
-    after_form = record {
-      forms = 1;
-      far = answered.0;
-      advances = answered.1;
-      paced = answered.2;
-      stays = one_stays answered.0 answered.1.far_is;
-      bytes = [];
-      rest = one_rest answered.0 answered.1.far_is;
-      is_pending = has.none answered.0.world mode;
-    }
+    pub after_form : (refusals : List ℕ) → PassesForm functions state course later old new w wanted text a b has.start has.next refusals → (wanted.strict ≡ true → refusals ≡ [])
+        → GoesOn functions state wanted.strict course later old new w mode text a b pending (drop has.next text)
+    after_form refusals passes accepted =
+        let far : Progress = passes.far in
+        let far_is = subst (λ (m : Mode). after_forms functions 1 w m text ≡ Some far) same_mode passes.advances.far_is in
+        let left = one_rest far far_is in
+        let many : length far.rest ≡ length text - has.next = ap length left ∙ length-drop has.next text in
+        let within = next_within in record {
+          forms = 1;
+          far = far;
+          advances = subst (λ (m : Mode). Advances functions state old new w m text a b 1 far) same_mode passes.advances;
+          paced = passes.paced;
+          comes = record { forms_are = let is = passes.forms in omega arith; bytes_are = let is = passes.bytes in omega arith };
+          accepted = λ strict. passes.refused_are ∙ accepted strict;
+          stays = one_stays far far_is;
+          bytes = [];
+          rest = left;
+          is_pending = has.none far.world mode;
+        }
 
 -- ---- the form that ends the input
 
 module _ (functions : Functions) (w : WorldState) (mode : Mode) (text : List ℕ) (x : Object) (own : List ℕ) (last : IsLastForm functions w mode text x own) where
   pub last_begins : (slice : List ℕ) → slice ≡ own → BeginsWith functions w mode text x slice (length text)
   last_begins slice same = record { start = last.start; stop = last.stop; reads = last.reads; is_own = same ∙ last.is_own }
+
+  pub last_start : (slice : List ℕ) (same : slice ≡ own) → (last_begins slice same).start ≡ last.start
+  unfolding last_begins
+  last_start slice same = refl
 
   last_rest : (far : Progress) → after_forms functions 1 w mode text ≡ Some far → far.rest ≡ []
   last_rest far is =
@@ -163,11 +190,11 @@ module _ (functions : Functions) (w : WorldState) (mode : Mode) (text : List ℕ
       ap (λ (p : Progress). p.rest) same ∙ rest_evaluated w mode (between last.start last.stop text) (drop (length text) text) given ∙ drop_all (length text) text (omega arith)
 
   -- it was answered, and nothing is left
-  pub ended_form : {D R : Type 0} (state : D → State) (pace later : Pace) (old new : StoreView D R) (a b : Option (List ℕ)) → AnswersForm functions state old new w mode pace later text a b None
-      → InPace functions state pace old new w mode text a b End
-  ended_form state pace later old new a b answered =
-      let far : Progress = answered.0 in
-      let advances = answered.1 in (
+  pub ended_form : {D R : Type 0} (state : D → State) (wanted : Wanted) → wanted.mode ≡ mode → (course later : Course) (old new : StoreView D R) (a b : Option (List ℕ)) (start next : ℕ) (refusals : List ℕ)
+      → PassesForm functions state course later old new w wanted text a b start next refusals → (wanted.strict ≡ true → refusals ≡ []) → ServesStrict functions state wanted.strict course old new w mode text a b End
+  ended_form state wanted same_mode course later old new a b start next refusals passes accepted =
+      let far : Progress = passes.far in
+      let advances = subst (λ (m : Mode). Advances functions state old new w m text a b 1 far) same_mode passes.advances in (
         record {
           forms = 1;
           far = far;
@@ -187,5 +214,6 @@ module _ (functions : Functions) (w : WorldState) (mode : Mode) (text : List ℕ
             after = advances.after;
           };
         },
-        (later, answered.2),
+        (later.pace, passes.paced),
+        λ strict. passes.refused_are ∙ accepted strict,
       )

@@ -1,5 +1,5 @@
 -- How a session goes, and how it ends: one relation, with a case for each ending.
-use Rattle.std.specs.Prelude.{◌≡◌, ◌≢◌, ◌⊎◌, ℕ, zero, suc, ◌+◌, ◌≤◌, max, List, [], ◌∷◌, ◌++◌, length, Option, Some}
+use Rattle.std.specs.Prelude.{◌≡◌, ◌≢◌, ◌⊎◌, ℕ, zero, suc, ◌+◌, ◌≤◌, max, List, [], ◌∷◌, ◌++◌, length, Option, Some, Err, true}
 use Rattle.std.specs.List.{sum_by}
 use Rattle.disk_trait.specs.Disk.{State, IsHonest}
 use Rattle.disk_trait.specs.Half.{opposite_of}
@@ -7,15 +7,21 @@ use Rattle.disk_trait.specs.declared.half.Half.{Half}
 use Rattle.gate_log.specs.Layout.{Contents, LogRecord, written_version}
 use Rattle.lisp_object.specs.declared.refusal.TheConstants.{DEVICE, LOG_FULL, SNAPSHOT_TOO_LARGE, INPUT, OUTPUT, NO_MEMORY}
 use Rattle.prevalence_store.specs.declared.mode.Mode.{Mode}
+use Rattle.prevalence_store.specs.declared.outcome.Ended.{Ended}
+use Rattle.prevalence_store.specs.declared.outcome.Ended.TheVariants as ways
+use Rattle.prevalence_store.specs.declared.outcome.Place.{Place}
+use Rattle.prevalence_store.specs.declared.outcome.Wanted.{Wanted}
 use Rattle.prevalence_store.specs.declared.outcome.Ending.{Ending}
 use Rattle.prevalence_store.specs.declared.outcome.Ending.TheVariants.{End, Reader, Store}
 use Rattle.prevalence_store.specs.meaning.Acceptance.{after, read_in}
 use Rattle.prevalence_store.specs.calls.Execute.{DeviceFails, SurvivesAs}
 use Rattle.prevalence_store.specs.calls.Store.{LeavesAlone, StoreView, Describes}
 use Rattle.prevalence_store.specs.meaning.Answers.{Progress, after_forms, last_line, refusal_line}
-use Rattle.prevalence_store.specs.calls.Pace.{EndsInPace, IsOverIn, Pace, fill_of, first_pace}
+use Rattle.prevalence_store.specs.calls.Pace.{EndsInPace, IsOverIn, Pace, Paces, fill_of, first_pace}
+use Rattle.form_eval.specs.Acceptance.{accept}
+use Rattle.lisp_object.specs.Object.{Object}
 use Rattle.form_reader.specs.Reader.{MayGoOn}
-use Rattle.lisp_reading.specs.Reading.{empty, refused}
+use Rattle.lisp_reading.specs.Reading.{form, empty, refused}
 use Rattle.prevalence_store.specs.calls.Snapshot.{IsTooLarge}
 use Rattle.prevalence_store.specs.calls.Streams.{Writes}
 use Rattle.plist_state.specs.State.{WorldState}
@@ -247,3 +253,63 @@ pub record ServesInput (functions : Functions) {D R : Type 0} (state : D → Sta
   pub paced : ServesInPace functions state (first_pace every) old new world mode text held written ending serves
   pub reads : (all : List ℕ) → had ≡ Some all
       → (left : List ℕ) × (all ≡ text ++ left) × HasRead functions state old new world mode text held written ending serves left has
+
+-- ---- a session with places, which may be strict
+
+-- The text begins with a form, with this byte of it, and its evaluation is refused with this number.
+pub record IsUnaccepted (functions : Functions) (world : WorldState) (mode : Mode) (text : List ℕ) (number start : ℕ) : Type 0 where
+  pub object : Object
+  pub stop : ℕ
+  pub next : ℕ
+  pub reads : read_in functions world mode text ≡ form object start stop next
+  pub refused : accept functions.names world object ≡ Err number
+
+-- In a text of which so many forms were answered and this is left, before which came so many other forms and bytes: the place
+-- that is at these offsets in what is left.
+pub record IsPlace (forms_before bytes_before forms : ℕ) (text left : List ℕ) (at : ℕ) (place : Place) : Type 0 where
+  pub forms_are : place.forms ≡ forms + forms_before
+  pub at_is : place.at + length left ≡ bytes_before + length text + at
+  -- it begins in what is left
+  pub begins : bytes_before + length text ≤ place.start + length left
+  pub ends : place.start ≤ bytes_before + length text
+
+module _ (functions : Functions) {D R : Type 0} (state : D → State) (old new : StoreView D R) (world : WorldState) (mode : Mode) (text : List ℕ) (held written : Option (List ℕ)) (pace : Pace) where
+  -- The session ended as a form was refused: it was answered, and those before it were accepted.
+  pub record StopsStrict (forms_before bytes_before number : ℕ) (place : Place) : Type 0 where
+    pub forms : ℕ
+    pub far : Progress
+    pub advances : Advances functions state old new world mode text held written forms far
+    pub later : Pace
+    pub paced : Paces functions old.limit world far.taken pace later (fill_of old) (fill_of new)
+    pub accepted : ℕ
+    pub one_more : forms ≡ accepted + 1
+    pub before : Progress
+    pub before_is : after_forms functions accepted world mode text ≡ Some before
+    pub none_refused : before.refused ≡ []
+    pub start : ℕ
+    pub refuses : IsUnaccepted functions before.world mode before.rest number start
+    pub is_place : IsPlace forms_before bytes_before accepted text before.rest start place
+    pub begins : place.start ≡ place.at
+
+  -- The reader refused what was left, at this place.
+  abbrev pub RefusesAt : (forms_before bytes_before number : ℕ) → Serves functions state old new world mode text held written (Reader number) → Place → Type 0
+  RefusesAt forms_before bytes_before number served place =
+      (at : ℕ) × (read_in functions served.far.world mode served.far.rest ≡ refused number at) × IsPlace forms_before bytes_before served.forms text served.far.rest at place
+
+-- A session over what a reader gives, as it is wanted: as `ServesInput`, with the place of a refusal of the reader counted in the input;
+-- and if it is strict all forms whose lines were written whole were accepted, but the one at which it ended.
+abbrev pub ServesWanted : (functions : Functions) {D R : Type 0} (state : D → State) (wanted : Wanted) (old new : StoreView D R) (world : WorldState) (had has held written : Option (List ℕ)) → Ended → Type 0
+ServesWanted functions state wanted old new world had has held written ways.End =
+    (served : ServesInput functions state wanted.snapshot_every old new world wanted.mode had has held written End)
+    × (wanted.strict ≡ true → served.serves.answered.refused ≡ [])
+ServesWanted functions state wanted old new world had has held written (ways.Unreadable number place) =
+    (served : ServesInput functions state wanted.snapshot_every old new world wanted.mode had has held written (Reader number))
+    × (wanted.strict ≡ true → served.serves.answered.refused ≡ [])
+    × RefusesAt functions state old new world wanted.mode served.text held written (first_pace wanted.snapshot_every) 0 0 number served.serves place
+ServesWanted functions state wanted old new world had has held written (ways.Unaccepted number place) =
+    (wanted.strict ≡ true) × (text : List ℕ)
+    × StopsStrict functions state old new world wanted.mode text held written (first_pace wanted.snapshot_every) 0 0 number place
+    × ((all : List ℕ) → had ≡ Some all → (left : List ℕ) × (all ≡ text ++ left) × (has ≡ Some left))
+ServesWanted functions state wanted old new world had has held written (ways.Store number) =
+    (served : ServesInput functions state wanted.snapshot_every old new world wanted.mode had has held written (Store number))
+    × (wanted.strict ≡ true → served.serves.answered.refused ≡ [])

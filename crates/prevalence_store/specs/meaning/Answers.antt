@@ -22,21 +22,22 @@ value_line world x = printed world.packages world.current_package x ++ 10 ∷ []
 abbrev pub refusal_line : ℕ → List ℕ
 refusal_line number = codes "! " ++ decimal number ++ 32 ∷ name_of number ++ 10 ∷ []
 
--- How far a session has come: its world, the text that is left, the records of the forms that were accepted and wrote, and the
--- lines of all forms.
+-- How far a session has come: its world, the text that is left, the records of the forms that were accepted and wrote, the
+-- lines of all forms, and the numbers of those that were refused.
 pub record Progress : Type 0 where
   pub world : WorldState
   pub rest : List ℕ
   pub taken : List LogRecord
   pub lines : List ℕ
+  pub refused : List ℕ
 
 -- before the first form
 abbrev pub begun : WorldState → List ℕ → Progress
-begun world text = record { world = world; rest = text; taken = []; lines = [] }
+begun world text = record { world = world; rest = text; taken = []; lines = []; refused = [] }
 
 -- and what came of the rest
 abbrev pub onward : Progress → Progress → Progress
-onward p q = record { world = q.world; rest = q.rest; taken = p.taken ++ q.taken; lines = p.lines ++ q.lines }
+onward p q = record { world = q.world; rest = q.rest; taken = p.taken ++ q.taken; lines = p.lines ++ q.lines; refused = p.refused ++ q.refused }
 
 -- What comes of a form with this text of its own, after which this is left, by what its evaluation gave. A form that is refused
 -- leaves no record, nor does one that writes nothing.
@@ -46,8 +47,9 @@ evaluated world mode own rest (Ok done) = record {
   rest = rest;
   taken = records_of done.wrote mode own;
   lines = value_line done.state done.value;
+  refused = [];
 }
-evaluated world mode own rest (Err number) = record { world = world; rest = rest; taken = []; lines = refusal_line number }
+evaluated world mode own rest (Err number) = record { world = world; rest = rest; taken = []; lines = refusal_line number; refused = number ∷ [] }
 
 -- of what the text begins with, if that is a form
 abbrev pub one_form : Functions → WorldState → Mode → List ℕ → Reading → Option Progress

@@ -1,5 +1,5 @@
 -- What the answer to a form, and to a refusal of the reader, is to a session.
-use Rattle.std.specs.Prelude.{◌≡◌, ◌≢◌, ◌⊎◌, ℕ, ◌+◌, ◌≤◌, Bool, true, false, List, [], ◌∷◌, length, Option, None, Some, IsSome, Ok, Err, Result}
+use Rattle.std.specs.Prelude.{◌≡◌, ◌≢◌, ◌⊎◌, ℕ, ◌+◌, ◌≤◌, Bool, true, false, List, [], ◌∷◌, length, Option, Some, IsSome, Ok, Err, Result}
 use Rattle.disk_trait.specs.Disk.{State}
 use Rattle.gate_log.specs.Layout.{LogRecord}
 use Rattle.lisp_object.specs.Object.{Object, IsSound}
@@ -9,15 +9,22 @@ use Rattle.lisp_operators.specs.declared.evaluated.Evaluated.{Evaluated}
 use Rattle.lisp_object.specs.declared.refusal.TheConstants.{DEVICE, LOG_FULL, OUTPUT, NO_MEMORY}
 use Rattle.lisp_reading.specs.Reading.{form}
 use Rattle.prevalence_store.specs.declared.failure.Failure.{Failure}
+use Rattle.prevalence_store.specs.declared.failure.Failure.TheVariants as failure
+use Rattle.prevalence_store.specs.declared.session.answer.Answered.{Answered}
+use Rattle.prevalence_store.specs.declared.session.answer.Answered.TheVariants.{Accepted, Refused}
 use Rattle.prevalence_store.specs.declared.mode.Mode.{Mode}
+use Rattle.prevalence_store.specs.declared.outcome.Ended.{Ended}
+use Rattle.prevalence_store.specs.declared.outcome.Ended.TheVariants as ways
+use Rattle.prevalence_store.specs.declared.outcome.Wanted.{Wanted}
 use Rattle.prevalence_store.specs.declared.outcome.Ending.{Ending}
 use Rattle.prevalence_store.specs.declared.outcome.Ending.TheVariants.{End, Reader, Store}
 use Rattle.prevalence_store.specs.meaning.Acceptance.{between, read_in}
 use Rattle.prevalence_store.specs.meaning.Answers.{Progress, begun, refusal_line}
 use Rattle.prevalence_store.specs.calls.Pace.{Fill, LogsWithRoom, Pace, Paces, fill_of, longer_by}
-use Rattle.prevalence_store.specs.calls.Serve.{Advances, IsOver, Serves, ServesInPace}
+use Rattle.prevalence_store.specs.calls.Serve.{Advances, IsOver, IsUnaccepted, Serves, ServesInPace}
 use Rattle.prevalence_store.specs.calls.Store.{StoreView}
 use Rattle.prevalence_store.specs.calls.Streams.{Writes, WritesPart}
+use Rattle.prevalence_store.specs.steps.Course.{Course}
 use Rattle.plist_state.specs.State.{WorldState}
 use Rattle.user_macros.specs.Functions.{Functions}
 
@@ -44,16 +51,30 @@ LeavesRecord Logged taken fill now wrote =
 abbrev pub LogsAtOnce : ℕ → (fill now : Fill) → LogRecord → Type 0
 LogsAtOnce limit fill now entry = (fill.size + (6 + length entry.text) ≤ limit) × (now ≡ longer_by entry fill)
 
--- whether a form was logged
-abbrev pub is_logged : Result Evaluated Failure → Bool
-is_logged (Ok evaluated) = evaluated.wrote
-is_logged (Err failure) = false
+-- what became of a form that has a line
+abbrev pub answered_of : Result Evaluated Failure → Answered
+answered_of (Ok evaluated) = Accepted evaluated.wrote
+answered_of (Err (failure.Refused number)) = Refused number
+answered_of (Err failure.Full) = Accepted false
+answered_of (Err failure.DeviceFault) = Accepted false
+answered_of (Err failure.OutOfMemory) = Accepted false
+
+abbrev pub was_logged : Answered → Bool
+was_logged (Accepted logged) = logged
+was_logged (Refused number) = false
+
+-- it was refused, or not
+abbrev pub TellsForm : Functions → WorldState → Mode → List ℕ → Progress → Answered → Type 0
+TellsForm functions world mode text far (Accepted logged) = far.refused ≡ []
+TellsForm functions world mode text far (Refused number) = (far.refused ≡ number ∷ []) × ((start : ℕ) × IsUnaccepted functions world mode text number start)
 
 module _ (functions : Functions) {D R : Type 0} (state : D → State) (old new : StoreView D R) (world : WorldState) (mode : Mode) where
   -- The session has ended in a form, with this number: if the output failed, in the line of that form.
   pub record StopsInForm (text : List ℕ) (held written : Option (List ℕ)) (number : ℕ) : Type 0 where
     pub serves : Serves functions state old new world mode text held written (Store number)
     pub in_form : number ≡ OUTPUT → serves.forms ≡ serves.lines + 1
+    -- what was answered whole was accepted
+    pub accepted : serves.answered.refused ≡ []
 
   -- what is in the half in use of a form in which the session has ended: nothing, or its record if it left one
   abbrev pub EndsTry : (text : List ℕ) (held written : Option (List ℕ)) (number : ℕ) → StopsInForm text held written number → Type 0
@@ -65,32 +86,57 @@ module _ (functions : Functions) {D R : Type 0} (state : D → State) (old new :
 
   -- The form that the text begins with was answered; or it has no room, and nothing was done; or the session has ended in it,
   -- with this number.
-  abbrev pub TriesForm : List ℕ → Option (List ℕ) → Option (List ℕ) → Result Bool ℕ → Type 0
-  TriesForm text held written (Ok wrote) =
+  abbrev pub TriesForm : List ℕ → Option (List ℕ) → Option (List ℕ) → Result Answered ℕ → Type 0
+  TriesForm text held written (Ok answered) =
       (far : Progress) × Advances functions state old new world mode text held written 1 far
-      × LeavesRecord (LogsAtOnce old.limit (fill_of old) (fill_of new)) far.taken (fill_of old) (fill_of new) wrote
+      × LeavesRecord (LogsAtOnce old.limit (fill_of old) (fill_of new)) far.taken (fill_of old) (fill_of new) (was_logged answered)
+      × TellsForm functions world mode text far answered
   TriesForm text held written (Err number) =
       (number ≡ LOG_FULL → IsOver functions old world mode text)
       × (number ≢ LOG_FULL → (stops : StopsInForm text held written number) × EndsTry text held written number stops)
 
   -- The form that the text begins with was answered, if it had no room after a snapshot; or the session has ended in it, with
   -- this number. What follows it is not there yet.
-  abbrev pub FitsForm : List ℕ → Option (List ℕ) → Option (List ℕ) → Result Bool ℕ → Type 0
-  FitsForm text held written (Ok wrote) =
+  abbrev pub FitsForm : List ℕ → Option (List ℕ) → Option (List ℕ) → Result Answered ℕ → Type 0
+  FitsForm text held written (Ok answered) =
       (far : Progress) × Advances functions state old new world mode text held written 1 far
-      × LeavesRecord (λ entry. LogsWithRoom old.limit world entry (fill_of old) (fill_of new)) far.taken (fill_of old) (fill_of new) wrote
+      × LeavesRecord (λ entry. LogsWithRoom old.limit world entry (fill_of old) (fill_of new)) far.taken (fill_of old) (fill_of new) (was_logged answered)
+      × TellsForm functions world mode text far answered
   FitsForm text held written (Err number) =
       (stops : StopsInForm text held written number)
       × ((pace : Pace) → ServesInPace functions state pace old new world mode text held written (Store number) stops.serves)
 
   -- The form that the text begins with was answered, and what follows it is there; or the session has ended in it, with this
   -- number.
-  abbrev pub AnswersForm : (pace later : Pace) → List ℕ → Option (List ℕ) → Option (List ℕ) → Option ℕ → Type 0
-  AnswersForm pace later text held written None =
+  abbrev pub AnswersForm : (pace later : Pace) → List ℕ → Option (List ℕ) → Option (List ℕ) → Result Answered ℕ → Type 0
+  AnswersForm pace later text held written (Ok answered) =
       (far : Progress) × Advances functions state old new world mode text held written 1 far
       × Paces functions old.limit world far.taken pace later (fill_of old) (fill_of new)
-  AnswersForm pace later text held written (Some number) =
+      × TellsForm functions world mode text far answered
+  AnswersForm pace later text held written (Err number) =
       (stops : StopsInForm text held written number) × ServesInPace functions state pace old new world mode text held written (Store number) stops.serves
+
+-- Of a form that was read: it was answered, and takes so many bytes; or the session has ended in it, at once or, if it is strict, as
+-- it was refused.
+module _ (functions : Functions) {D R : Type 0} (state : D → State) (course later : Course) (old new : StoreView D R) (world : WorldState) (wanted : Wanted) (text : List ℕ) (held written : Option (List ℕ)) (start next : ℕ) where
+  pub record PassesForm (refusals : List ℕ) : Type 0 where
+    pub far : Progress
+    pub advances : Advances functions state old new world wanted.mode text held written 1 far
+    pub paced : Paces functions old.limit world far.taken course.pace later.pace (fill_of old) (fill_of new)
+    pub forms : later.forms ≡ course.forms + 1
+    pub bytes : later.bytes ≡ course.bytes + next
+    pub refused_are : far.refused ≡ refusals
+
+  abbrev pub AnswersRead : Result Unit Ended → Type 0
+  AnswersRead (Ok done) = (refusals : List ℕ) × PassesForm refusals × (wanted.strict ≡ true → refusals ≡ [])
+  AnswersRead (Err ways.End) = ⊥
+  AnswersRead (Err (ways.Unreadable number place)) = ⊥
+  AnswersRead (Err (ways.Unaccepted number place)) =
+      (wanted.strict ≡ true) × PassesForm (number ∷ []) × IsUnaccepted functions world wanted.mode text number start
+      × (place.forms ≡ course.forms) × (place.start ≡ course.bytes + start) × (place.at ≡ course.bytes + start)
+  AnswersRead (Err (ways.Store number)) =
+      (stops : StopsInForm functions state old new world wanted.mode text held written number)
+      × ServesInPace functions state course.pace old new world wanted.mode text held written (Store number) stops.serves
 
 -- A reader refusal ends the session: its line was written, or the writer failed in it, or there was no memory for it.
 abbrev pub AnswersFault : ℕ → Option (List ℕ) → Option (List ℕ) → Ending → Type 0

@@ -47,8 +47,9 @@ pub record HasRefusal (functions : Functions) (world : WorldState) (mode : Mode)
 -- what these bytes are, the last of which were fed now
 abbrev pub Feeds : Functions → WorldState → Mode → Pending → List ℕ → Fed → Type 0
 Feeds functions world mode pending bytes Nothing = IsPending functions world mode pending bytes
-Feeds functions world mode pending bytes (Form datum own left) = HasForm functions world mode pending bytes (object_of datum) own.items left
-Feeds functions world mode pending bytes (Refused number) = HasRefusal functions world mode bytes number
+Feeds functions world mode pending bytes (Form it left) =
+    (has : HasForm functions world mode pending bytes (object_of it.datum) it.own.items left) × (has.start ≡ it.start) × (has.next ≡ it.next)
+Feeds functions world mode pending bytes (Refused number start at) = (is : HasRefusal functions world mode bytes number) × (is.at ≡ at)
 
 -- the bytes are a form to their end, and this is its own text
 pub record IsLastForm (functions : Functions) (world : WorldState) (mode : Mode) (bytes : List ℕ) (object : Object) (own : List ℕ) : Type 0 where
@@ -60,14 +61,21 @@ pub record IsLastForm (functions : Functions) (world : WorldState) (mode : Mode)
 -- what the bytes are if none follow
 abbrev pub Finishes : Functions → WorldState → Mode → List ℕ → Fed → Type 0
 Finishes functions world mode bytes Nothing = read_in functions world mode bytes ≡ empty
-Finishes functions world mode bytes (Form datum own left) = IsLastForm functions world mode bytes (object_of datum) own.items
-Finishes functions world mode bytes (Refused number) = (at : ℕ) × (read_in functions world mode bytes ≡ refused number at)
+Finishes functions world mode bytes (Form it left) =
+    (last : IsLastForm functions world mode bytes (object_of it.datum) it.own.items) × (last.start ≡ it.start) × (length bytes ≡ it.next)
+Finishes functions world mode bytes (Refused number start at) = read_in functions world mode bytes ≡ refused number at
 
 -- a form has a proper datum, and a sound object
 abbrev pub IsSoundFed : Fed → Type 0
 IsSoundFed Nothing = Unit {0}
-IsSoundFed (Form datum own left) = (is_proper datum ≡ true) × IsSound (object_of datum)
-IsSoundFed (Refused number) = Unit {0}
+IsSoundFed (Form it left) = (is_proper it.datum ≡ true) × IsSound (object_of it.datum)
+IsSoundFed (Refused number start at) = Unit {0}
+
+-- the places are among so many bytes
+abbrev pub IsWithin : ℕ → Fed → Type 0
+IsWithin many Nothing = Unit {0}
+IsWithin many (Form it left) = (it.start < it.next) × (it.next ≤ many)
+IsWithin many (Refused number start at) = (start ≤ many) × (at ≤ many)
 
 -- Of a piece some bytes were fed: the first of them that decides something is the last that was; if none does, all were. Before and
 -- after it so many bytes are pending.
@@ -76,4 +84,5 @@ pub record FeedsPart (piece : List ℕ) (before after : ℕ) (part : FedPiece) :
   pub within : part.count ≤ length piece
   pub all : part.fed ≡ Nothing → part.count ≡ length piece
   pub sound : IsSoundFed part.fed
+  pub places : IsWithin (before + part.count) part.fed
   pub pending : after ≤ before + part.count

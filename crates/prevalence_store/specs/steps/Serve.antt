@@ -1,27 +1,46 @@
 -- What a piece of the input comes to in a session, up to the first byte that decides something.
-use Rattle.std.specs.Prelude.{◌≡◌, ◌⊎◌, ℕ, ◌+◌, ◌<◌, ◌≤◌, List, [], ◌++◌, drop, Option, None, Some, Ok, Err, Result}
+use Rattle.std.specs.Prelude.{◌≡◌, ◌⊎◌, ℕ, ◌+◌, ◌<◌, ◌≤◌, Bool, true, List, [], ◌++◌, drop, Option, None, Some, Ok, Err, Result}
 use Rattle.disk_trait.specs.Disk.{State}
 use Rattle.lisp_object.specs.declared.refusal.TheConstants.{OUTPUT}
 use Rattle.prevalence_store.specs.declared.session.input.Pending.{Pending}
 use Rattle.prevalence_store.specs.declared.mode.Mode.{Mode}
+use Rattle.prevalence_store.specs.declared.outcome.Ended.{Ended}
+use Rattle.prevalence_store.specs.declared.outcome.Ended.TheVariants as ways
+use Rattle.prevalence_store.specs.declared.outcome.Place.{Place}
 use Rattle.prevalence_store.specs.declared.outcome.Ending.{Ending}
 use Rattle.prevalence_store.specs.declared.outcome.Ending.TheVariants.{End, Reader, Store}
 use Rattle.prevalence_store.specs.meaning.Answers.{Progress, after_forms}
 use Rattle.prevalence_store.specs.calls.Pace.{Pace, Paces, fill_of}
 use Rattle.prevalence_store.specs.steps.Input.{IsPending}
-use Rattle.prevalence_store.specs.calls.Serve.{Advances, Serves, ServesInPace, StaysRefused}
+use Rattle.prevalence_store.specs.steps.Course.{Comes, Course}
+use Rattle.prevalence_store.specs.calls.Serve.{Advances, RefusesAt, Serves, ServesInPace, StaysRefused, StopsStrict}
 use Rattle.prevalence_store.specs.calls.Store.{StoreView}
 use Rattle.plist_state.specs.State.{WorldState}
 use Rattle.user_macros.specs.Functions.{Functions}
 
+-- an ending, with the place of a refusal of the reader
+abbrev pub ended_at : Place → Ending → Ended
+ended_at place End = ways.End
+ended_at place (Reader number) = ways.Unreadable number place
+ended_at place (Store number) = ways.Store number
+
+-- how `serve` tells of an end
+abbrev pub ending_of : Ended → Ending
+ending_of ways.End = End
+ending_of (ways.Unreadable number place) = Reader number
+ending_of (ways.Unaccepted number place) = Reader number
+ending_of (ways.Store number) = Store number
+
 -- Forms were answered, and the same ones of any text that goes on. Of what is left of the text the reader was fed all but these
--- last bytes.
-pub record GoesOn (functions : Functions) {D R : Type 0} (state : D → State) (pace later : Pace) (old new : StoreView D R) (world : WorldState) (mode : Mode) (text : List ℕ)
+-- last bytes. If the session is strict, none of the forms was refused.
+pub record GoesOn (functions : Functions) {D R : Type 0} (state : D → State) (strict : Bool) (course later : Course) (old new : StoreView D R) (world : WorldState) (mode : Mode) (text : List ℕ)
     (held written : Option (List ℕ)) (pending : Pending) (left : List ℕ) : Type 0 where
   pub forms : ℕ
   pub far : Progress
   pub advances : Advances functions state old new world mode text held written forms far
-  pub paced : Paces functions old.limit world far.taken pace later (fill_of old) (fill_of new)
+  pub paced : Paces functions old.limit world far.taken course.pace later.pace (fill_of old) (fill_of new)
+  pub comes : Comes course later forms text far.rest
+  pub accepted : strict ≡ true → far.refused ≡ []
   pub stays : (more : List ℕ) → after_forms functions forms world mode (text ++ more) ≡ Some (record far { rest = far.rest ++ more })
   pub bytes : List ℕ
   pub rest : far.rest ≡ bytes ++ left
@@ -42,21 +61,50 @@ module _ (functions : Functions) {D R : Type 0} (state : D → State) (pace : Pa
     pub paced : ServesInPace functions state pace old new world mode text held written ending serves
     pub stays : StaysEnded ending serves
 
-module _ (functions : Functions) {D R : Type 0} (state : D → State) (pace later : Pace) (old new : StoreView D R) (world : WorldState) (mode : Mode) (text : List ℕ) (held written : Option (List ℕ)) (pending : Pending) where
+module _ (functions : Functions) {D R : Type 0} (state : D → State) (strict : Bool) (course : Course) (old new : StoreView D R) (world : WorldState) (mode : Mode) (text : List ℕ) (held written : Option (List ℕ)) where
+  -- a session over the text, and how far its snapshots have come; if it is strict, what was answered was accepted
+  abbrev pub ServesStrict : Ending → Type 0
+  ServesStrict ending =
+      (served : Serves functions state old new world mode text held written ending)
+      × ServesInPace functions state course.pace old new world mode text held written ending served
+      × (strict ≡ true → served.answered.refused ≡ [])
+
+  -- the same, with the place of a refusal
+  abbrev pub EndsAt : Ended → Type 0
+  EndsAt ways.End = ServesStrict End
+  EndsAt (ways.Unreadable number place) =
+      (is : ServesStrict (Reader number)) × RefusesAt functions state old new world mode text held written course.pace course.forms course.bytes number is.0 place
+  EndsAt (ways.Unaccepted number place) =
+      (strict ≡ true) × StopsStrict functions state old new world mode text held written course.pace course.forms course.bytes number place
+  EndsAt (ways.Store number) = ServesStrict (Store number)
+
+  -- the session has ended, before the end of the text
+  abbrev pub HasEndedAt : Ended → Type 0
+  HasEndedAt ways.End = ⊥
+  HasEndedAt (ways.Unreadable number place) =
+      (is : HasEnded functions state course.pace old new world mode text held written (Reader number))
+      × (strict ≡ true → is.serves.answered.refused ≡ [])
+      × RefusesAt functions state old new world mode text held written course.pace course.forms course.bytes number is.serves place
+  HasEndedAt (ways.Unaccepted number place) =
+      (strict ≡ true) × StopsStrict functions state old new world mode text held written course.pace course.forms course.bytes number place
+  HasEndedAt (ways.Store number) =
+      (is : HasEnded functions state course.pace old new world mode text held written (Store number)) × (strict ≡ true → is.serves.answered.refused ≡ [])
+
+module _ (functions : Functions) {D R : Type 0} (state : D → State) (strict : Bool) (course later : Course) (old new : StoreView D R) (world : WorldState) (mode : Mode) (text : List ℕ) (held written : Option (List ℕ)) (pending : Pending) where
   -- The session goes on; or it has ended, whatever follows the text.
-  abbrev pub Answers : Option Ending → Type 0
-  Answers None = GoesOn functions state pace later old new world mode text held written pending []
-  Answers (Some ending) = (more : List ℕ) → HasEnded functions state pace old new world mode (text ++ more) held written ending
+  abbrev pub Answers : Option Ended → Type 0
+  Answers None = GoesOn functions state strict course later old new world mode text held written pending []
+  Answers (Some ended) = (more : List ℕ) → HasEndedAt functions state strict course old new world mode (text ++ more) held written ended
 
   -- What a piece comes to, if the text ends with it: so many bytes of it are done with, and those after them are left; or the
   -- session has ended.
-  abbrev pub ComesTo : List ℕ → Result ℕ Ending → Type 0
-  ComesTo piece (Ok count) = GoesOn functions state pace later old new world mode text held written pending (drop count piece)
-  ComesTo piece (Err ending) = Answers (Some ending)
+  abbrev pub ComesTo : List ℕ → Result ℕ Ended → Type 0
+  ComesTo piece (Ok count) = GoesOn functions state strict course later old new world mode text held written pending (drop count piece)
+  ComesTo piece (Err ended) = Answers (Some ended)
 
 -- Of so many bytes some are done with; or none, if what was pending before them is a form, and the first of them follows it. Before
 -- and after it so many bytes are pending.
-abbrev pub MovesOn : (before after many : ℕ) → Result ℕ Ending → Type 0
+abbrev pub MovesOn : (before after many : ℕ) → Result ℕ Ended → Type 0
 MovesOn before after many (Ok count) =
     (count ≤ many) × (after ≤ before + count) × ((0 < count) ⊎ ((0 < before) × (after ≡ 0)))
-MovesOn before after many (Err ending) = Unit {0}
+MovesOn before after many (Err ended) = Unit {0}

@@ -1,15 +1,18 @@
 // The answer to a form, and to a refusal of the reader.
-ghost use Rattle.std.specs.Prelude.{◌≡◌, ℕ, List, Some, IsSome, IfOk, IfErr, OnOk, true};
+ghost use Rattle.std.specs.Prelude.{◌≡◌, ◌≤◌, ◌<◌, ◌+◌, ◌^◌, ℕ, List, Some, IsSome, IfOk, IfErr, OnOk, true};
 ghost use Rattle.lisp_object.specs.Datum.{object_of, is_proper};
 ghost use Rattle.lisp_object.specs.declared.refusal.TheConstants.{LOG_FULL};
 ghost use Rattle.plist_state.specs.State.{WorldState};
-ghost use Rattle.prevalence_store.specs.steps.Answer.{AnswersFault, AnswersForm, BeginsWith, FitsForm, IsFormOf, TriesForm, is_logged};
+ghost use Rattle.prevalence_store.specs.steps.Answer.{AnswersFault, AnswersForm, AnswersRead, BeginsWith, FitsForm, IsFormOf, TriesForm, answered_of, was_logged};
 ghost use Rattle.prevalence_store.specs.steps.Output.{IsLine, IsStop};
+ghost use Rattle.prevalence_store.specs.steps.Course.{course_of};
 ghost use Rattle.prevalence_store.specs.steps.Schedule.{pace_of};
 
 use crate::failure::Failure;
 use crate::mode::Mode;
-use crate::outcome::Ending;
+use crate::outcome::{Ended, Ending, Wanted};
+use crate::session::course::Course;
+use crate::session::input::ReadForm;
 use crate::session::output::{line_of_answer, line_of_refusal, write_line};
 use crate::session::schedule::Schedule;
 use crate::store::Store;
@@ -19,6 +22,27 @@ use lisp_object::Datum;
 use lisp_object::refusal::{LOG_FULL, NO_MEMORY, OUTPUT};
 use std::io::Write;
 use user_macros::MacroFunctions;
+
+/// What became of a form that was answered.
+#[derive(Clone, Copy)]
+pub(crate) enum Answered {
+    /// It was accepted; `logged` if it was.
+    Accepted { logged: bool },
+    /// Its evaluation was refused, with this number.
+    Refused(u16),
+}
+
+impl Answered {
+    /// Whether the form was logged.
+    pub(crate) fn is_logged(self) -> bool
+        ensures { result ≡ was_logged self }
+    {
+        match self {
+            Answered::Accepted { logged } => logged,
+            Answered::Refused(_) => false,
+        }
+    }
+}
 
 impl<D: Disk, R: MacroFunctions> Store<D, R> {
     // Answers a refusal of the reader, and ends the session.
@@ -35,8 +59,47 @@ impl<D: Disk, R: MacroFunctions> Store<D, R> {
         }
     }
 
-    // Answers a form that was read, and takes a snapshot if one is due after it. Gives the number of the fault that ends the
-    // session in it.
+    // Answers a form that was read, and passes over its bytes. Gives how the session has ended, if it has: in a fault, or, if it
+    // is strict, as the form was refused.
+    pub(crate) fn answer_read<W: Write>(
+        &mut self,
+        writer: &mut W,
+        wanted: Wanted,
+        course: &mut Course,
+        form: &ReadForm,
+    ) -> Result<(), Ended>
+        requires form { IsFormOf R.Meaning.functions self.old.world wanted.mode form.now.datum form.now.own.items }
+        requires order { form.now.start < form.now.next }
+        requires forms { (course_of course.old).forms ≤ (course_of course.old).bytes }
+        requires room { (course_of course.old).bytes + form.now.next < 2 ^ 63 }
+        ensures answers { (w : WorldState) → self.old.world ≡ Some w → (text : List ℕ) (next : ℕ)
+            → (begins : BeginsWith R.Meaning.functions w wanted.mode text (object_of form.now.datum) form.now.own.items next)
+            → begins.start ≡ form.now.start
+            → AnswersRead R.Meaning.functions D.state (course_of course.old) (course_of course.new) self.old self.new w wanted
+            text (W.contents writer.old) (W.contents writer.new) form.now.start form.now.next result }
+        ensures forms { (course_of course.new).forms ≤ (course_of course.new).bytes }
+        ensures bytes { (course_of course.new).bytes ≤ (course_of course.old).bytes + form.now.next }
+        ensures honest { (D.state self.new.disk).honest ≡ (D.state self.old.disk).honest }
+        ensures macros { self.new.macros ≡ self.old.macros }
+    {
+        let own = form.own.as_slice();
+        match self.answer_form(writer, wanted.mode, &mut course.schedule, &form.datum, own) {
+            Err(number) => Err(Ended::Store(number)),
+            Ok(answered) => {
+                let place = course.place(form.start, form.start);
+                course.pass(form.next);
+                if wanted.strict {
+                    if let Answered::Refused(number) = answered {
+                        return Err(Ended::Unaccepted(number, place));
+                    }
+                }
+                Ok(())
+            }
+        }
+    }
+
+    // Answers a form that was read, and takes a snapshot if one is due after it. Gives what became of it, or the number of the
+    // fault that ends the session in it.
     pub(crate) fn answer_form<W: Write>(
         &mut self,
         writer: &mut W,
@@ -44,7 +107,7 @@ impl<D: Disk, R: MacroFunctions> Store<D, R> {
         schedule: &mut Schedule,
         datum: &Datum,
         own: &[u8],
-    ) -> Option<u16>
+    ) -> Result<Answered, u16>
         requires form { IsFormOf R.Meaning.functions self.old.world mode datum.now own.now }
         ensures answers { (w : WorldState) → self.old.world ≡ Some w → (text : List ℕ) (next : ℕ)
             → BeginsWith R.Meaning.functions w mode text (object_of datum.now) own.now next
@@ -54,20 +117,23 @@ impl<D: Disk, R: MacroFunctions> Store<D, R> {
         ensures macros { self.new.macros ≡ self.old.macros }
     {
         match self.fit_form(writer, mode, datum, own) {
-            Ok(wrote) => self.renew_after_form(schedule, wrote),
-            Err(number) => Some(number),
+            Ok(answered) => match self.renew_after_form(schedule, answered.is_logged()) {
+                None => Ok(answered),
+                Some(number) => Err(number),
+            },
+            Err(number) => Err(number),
         }
     }
 
-    // Answers a form that was read. If the half has no room for it, it takes a snapshot, and tries once more. Gives whether
-    // the form was logged, or the number of the fault that ends the session in it.
+    // Answers a form that was read. If the half has no room for it, it takes a snapshot, and tries once more. Gives what
+    // became of the form, or the number of the fault that ends the session in it.
     fn fit_form<W: Write>(
         &mut self,
         writer: &mut W,
         mode: Mode,
         datum: &Datum,
         own: &[u8],
-    ) -> Result<bool, u16>
+    ) -> Result<Answered, u16>
         requires form { IsFormOf R.Meaning.functions self.old.world mode datum.now own.now }
         ensures fits { (w : WorldState) → self.old.world ≡ Some w → (text : List ℕ) (next : ℕ)
             → BeginsWith R.Meaning.functions w mode text (object_of datum.now) own.now next
@@ -78,7 +144,7 @@ impl<D: Disk, R: MacroFunctions> Store<D, R> {
         ensures macros { self.new.macros ≡ self.old.macros }
     {
         match self.try_form(writer, mode, datum, own) {
-            Ok(wrote) => Ok(wrote),
+            Ok(answered) => Ok(answered),
             Err(number) => {
                 if number != LOG_FULL {
                     return Err(number);
@@ -92,15 +158,15 @@ impl<D: Disk, R: MacroFunctions> Store<D, R> {
         }
     }
 
-    // Evaluates a form that was read, logs it if it writes, and answers it. Gives whether it was logged, or the number of
-    // the fault that ends the session in it; with 64 nothing was done.
+    // Evaluates a form that was read, logs it if it writes, and answers it. Gives what became of it, or the number of the
+    // fault that ends the session in it; with 64 nothing was done.
     fn try_form<W: Write>(
         &mut self,
         writer: &mut W,
         mode: Mode,
         datum: &Datum,
         own: &[u8],
-    ) -> Result<bool, u16>
+    ) -> Result<Answered, u16>
         requires form { IsFormOf R.Meaning.functions self.old.world mode datum.now own.now }
         ensures tries { (w : WorldState) → self.old.world ≡ Some w → (text : List ℕ) (next : ℕ)
             → BeginsWith R.Meaning.functions w mode text (object_of datum.now) own.now next
@@ -121,7 +187,7 @@ impl<D: Disk, R: MacroFunctions> Store<D, R> {
         };
         // what is answered is stored: a line comes after its record
         match write_line(writer, line.as_slice()) {
-            Ok(()) => Ok(was_logged(&answer)),
+            Ok(()) => Ok(answer_given(&answer)),
             Err(_) => Err(OUTPUT),
         }
     }
@@ -138,12 +204,16 @@ impl<D: Disk, R> Store<D, R> {
     }
 }
 
-// Whether a form was logged.
-fn was_logged(answer: &Result<Evaluated, Failure>) -> bool
-    ensures { result ≡ is_logged answer.now }
+// What became of a form that has a line.
+fn answer_given(answer: &Result<Evaluated, Failure>) -> Answered
+    ensures { result ≡ answered_of answer.now }
 {
     match answer {
-        Ok(evaluated) => evaluated.wrote,
-        Err(_) => false,
+        Ok(evaluated) => Answered::Accepted {
+            logged: evaluated.wrote,
+        },
+        Err(Failure::Refused(number)) => Answered::Refused(*number),
+        // these end the session, and have no line
+        Err(_) => Answered::Accepted { logged: false },
     }
 }

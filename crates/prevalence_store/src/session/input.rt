@@ -4,7 +4,7 @@ ghost use Rattle.plist_state.specs.State.{WorldState};
 ghost use Rattle.form_reader.specs.Reader.{fed, begun, limits_of, IsAfter, Steps, BeginsLater, IsOutcome, IsSoundStep};
 ghost use Rattle.prevalence_store.specs.meaning.Acceptance.{between, form_limits, read_in, setting_in, table_in};
 ghost use Rattle.user_macros.specs.Functions.{Functions, are_registered};
-ghost use Rattle.prevalence_store.specs.steps.Input.{IsPending, IsSoundFed, Feeds, Finishes, FeedsPart};
+ghost use Rattle.prevalence_store.specs.steps.Input.{IsPending, IsSoundFed, IsWithin, Feeds, Finishes, FeedsPart};
 
 use crate::mode::Mode;
 use crate::setting::{base_in, package_in, readtable_in};
@@ -24,19 +24,34 @@ pub(crate) struct Pending {
     dropped: usize,
 }
 
+/// A form that was read.
+#[derive(Drop)]
+pub(crate) struct ReadForm {
+    pub(crate) datum: Datum,
+    /// Its own text.
+    pub(crate) own: Vec<u8>,
+    /// Where this begins among the bytes since the last form.
+    pub(crate) start: usize,
+    /// Where what follows it begins.
+    pub(crate) next: usize,
+}
+
 /// What bytes more, or the end of the input, are to what is pending.
 #[derive(Drop)]
 pub(crate) enum Fed {
     /// There is no form yet; at the end, there is none.
     Nothing,
-    /// A form, and its own text. If `left`, the last byte is the first of what follows it.
+    /// A form. If `left`, the last byte is the first of what follows it.
     Form {
-        datum: Datum,
-        own: Vec<u8>,
+        form: ReadForm,
         left: bool,
     },
-    /// The number of a refusal.
-    Refused(u16),
+    /// A refusal: its number, where what was open began among the bytes since the last form, and its place among them.
+    Refused {
+        number: u16,
+        start: usize,
+        at: usize,
+    },
 }
 
 /// What a piece of the input is to what is pending, up to the first byte that decides something.
@@ -118,6 +133,7 @@ impl Pending {
             → IfOk result (Feeds R.Meaning.functions world.now.0 mode self.new
             (bytes ++ byte ∷ [])) }
         ensures sound { IfOk result IsSoundFed }
+        ensures within { IfOk result (IsWithin (fed self.old.reader + 1)) }
         ensures count { fed self.new.reader ≤ fed self.old.reader + 1 }
     {
         self.text.push(byte)?;
@@ -126,7 +142,11 @@ impl Pending {
                 self.discard(alloc)?;
                 Ok(Fed::Nothing)
             }
-            Advance::Refused { code, at: _ } => Ok(Fed::Refused(code)),
+            Advance::Refused { code, at } => Ok(Fed::Refused {
+                number: code,
+                start: self.dropped,
+                at,
+            }),
             Advance::Form {
                 datum,
                 start,
@@ -137,7 +157,13 @@ impl Pending {
                 let left = next - self.dropped < self.text.len();
                 self.text.clear();
                 self.dropped = 0;
-                Ok(Fed::Form { datum, own, left })
+                let form = ReadForm {
+                    datum,
+                    own,
+                    start,
+                    next,
+                };
+                Ok(Fed::Form { form, left })
             }
         }
     }
@@ -185,6 +211,7 @@ impl Pending {
             → IsPending R.Meaning.functions world.now.0 mode self bytes
             → IfOk result (Finishes R.Meaning.functions world.now.0 mode bytes) }
         ensures sound { IfOk result IsSoundFed }
+        ensures within { IfOk result (IsWithin (fed self.reader)) }
     {
         let Pending {
             reader,
@@ -193,16 +220,25 @@ impl Pending {
         } = self;
         match finish_in(reader, world, macros, mode)? {
             ReadOutcome::Empty => Ok(Fed::Nothing),
-            ReadOutcome::Refused { code, at: _ } => Ok(Fed::Refused(code)),
+            ReadOutcome::Refused { code, at } => Ok(Fed::Refused {
+                number: code,
+                start: dropped,
+                at,
+            }),
             ReadOutcome::Form {
                 datum,
                 start,
                 end,
-                ..
+                next,
             } => {
                 let own = own_text(alloc, text.as_slice(), dropped, start, end)?;
-                let left = false;
-                Ok(Fed::Form { datum, own, left })
+                let form = ReadForm {
+                    datum,
+                    own,
+                    start,
+                    next,
+                };
+                Ok(Fed::Form { form, left: false })
             }
         }
     }

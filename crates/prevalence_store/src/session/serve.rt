@@ -3,16 +3,16 @@ ghost use Rattle.std.specs.Prelude.{◌≡◌, ◌≤◌, ◌<◌, ◌+◌, ◌^
 ghost use Rattle.lisp_object.specs.declared.refusal.TheConstants.{REOPEN};
 ghost use Rattle.plist_state.specs.State.{WorldState};
 ghost use Rattle.form_reader.specs.Reader.{fed};
-ghost use Rattle.prevalence_store.specs.calls.Serve.{Serves, ServesInPace, ServesInput};
-ghost use Rattle.prevalence_store.specs.steps.Input.{AwaitsMore, IsPending, IsSoundFed, Feeds, FeedsPart, Finishes};
-ghost use Rattle.prevalence_store.specs.steps.Schedule.{pace_of};
-ghost use Rattle.prevalence_store.specs.steps.Serve.{Answers, ComesTo, MovesOn};
+ghost use Rattle.prevalence_store.specs.calls.Serve.{ServesInput, ServesWanted};
+ghost use Rattle.prevalence_store.specs.steps.Input.{AwaitsMore, IsPending, IsSoundFed, IsWithin, Feeds, FeedsPart, Finishes};
+ghost use Rattle.prevalence_store.specs.steps.Course.{course_of};
+ghost use Rattle.prevalence_store.specs.steps.Serve.{Answers, ComesTo, EndsAt, MovesOn};
 ghost use Rattle.user_macros.specs.Functions.{are_registered};
 
 use crate::mode::Mode;
-use crate::outcome::Ending;
+use crate::outcome::{Ended, Ending, Wanted};
+use crate::session::course::Course;
 use crate::session::input::{Fed, FedPiece, Pending};
-use crate::session::schedule::Schedule;
 use crate::store::Store;
 use disk_trait::Disk;
 use lisp_object::refusal::{INPUT, NO_MEMORY, REOPEN};
@@ -57,29 +57,62 @@ impl<D: Disk, R: MacroFunctions> Store<D, R> {
         ensures honest { (D.state self.new.disk).honest ≡ (D.state self.old.disk).honest }
         ensures macros { self.new.macros ≡ self.old.macros }
     {
+        let wanted = Wanted {
+            mode,
+            snapshot_every,
+            strict: false,
+        };
+        match self.serve_wanted(reader, writer, wanted) {
+            Ended::End => Ending::End,
+            // the second of them never comes, as the session is not strict
+            Ended::Unreadable(number, _) | Ended::Unaccepted(number, _) => Ending::Reader(number),
+            Ended::Store(number) => Ending::Store(number),
+        }
+    }
+
+    /// The same, as it is wanted: with the place of a refusal of the reader, counted in the input; and, if it is strict, the
+    /// first form whose evaluation is refused ends the session once it is answered. What the session has read after that form is
+    /// let go.
+    pub fn serve_wanted<I: Read, W: Write>(
+        &mut self,
+        reader: &mut I,
+        writer: &mut W,
+        wanted: Wanted,
+    ) -> Ended
+        requires answers { R.answers self.old.macros }
+        requires whole { are_registered R.Meaning.functions (R.functions self.old.macros) ≡ true }
+        ensures reopen { self.old.world ≡ None
+            → (result ≡ Ended.Store REOPEN) × (self.new ≡ self.old)
+            × (reader.new ≡ reader.old) × (writer.new ≡ writer.old) }
+        ensures serves { (world : WorldState) → self.old.world ≡ Some world
+            → ServesWanted R.Meaning.functions D.state wanted self.old self.new world
+            (I.remaining reader.old) (I.remaining reader.new) (W.contents writer.old) (W.contents writer.new) result }
+        ensures honest { (D.state self.new.disk).honest ≡ (D.state self.old.disk).honest }
+        ensures macros { self.new.macros ≡ self.old.macros }
+    {
         if !self.is_open() {
-            return Ending::Store(REOPEN);
+            return Ended::Store(REOPEN);
         }
         let mut pending = Pending::new(self.alloc);
-        let mut schedule = Schedule::new(snapshot_every);
+        let mut course = Course::new(wanted.snapshot_every);
         let mut buffer = [0u8; 4096];
         let mut reads = 0;
         'reads: while reads < MOST_READS {
             reads += 1;
             let count = match reader.read(&mut buffer) {
                 Ok(count) => count,
-                Err(_) => return Ending::Store(INPUT),
+                Err(_) => return Ended::Store(INPUT),
             };
             if count == 0 {
-                return self.answer_end(pending, writer, mode, &mut schedule);
+                return self.answer_end(pending, writer, wanted, &mut course);
             }
             let piece = &buffer[..count];
-            match self.answer_piece(&mut pending, writer, mode, &mut schedule, piece) {
-                Some(ending) => return ending,
+            match self.answer_piece(&mut pending, writer, wanted, &mut course, piece) {
+                Some(ended) => return ended,
                 None => {}
             }
         }
-        Ending::Store(INPUT)
+        Ended::Store(INPUT)
     }
 
     // Answers what these bytes decide, with those that are pending.
@@ -87,27 +120,30 @@ impl<D: Disk, R: MacroFunctions> Store<D, R> {
         &mut self,
         pending: &mut Pending,
         writer: &mut W,
-        mode: Mode,
-        schedule: &mut Schedule,
+        wanted: Wanted,
+        course: &mut Course,
         piece: &[u8],
-    ) -> Option<Ending>
+    ) -> Option<Ended>
         requires answers { R.answers self.old.macros }
         requires whole { are_registered R.Meaning.functions (R.functions self.old.macros) ≡ true }
-        requires pending { AwaitsMore R.Meaning.functions self.old.world mode pending.old }
-        requires count { fed pending.old.reader + length piece.now ≤ 2 ^ 63 }
+        requires pending { AwaitsMore R.Meaning.functions self.old.world wanted.mode pending.old }
+        requires forms { (course_of course.old).forms ≤ (course_of course.old).bytes }
+        requires count { (course_of course.old).bytes + fed pending.old.reader + length piece.now < 2 ^ 63 }
         ensures answers { (w : WorldState) → self.old.world ≡ Some w → (bytes : List ℕ)
-            → IsPending R.Meaning.functions w mode pending.old bytes
-            → Answers R.Meaning.functions D.state (pace_of schedule.old) (pace_of schedule.new) self.old self.new w mode
+            → IsPending R.Meaning.functions w wanted.mode pending.old bytes
+            → Answers R.Meaning.functions D.state wanted.strict (course_of course.old) (course_of course.new) self.old self.new w wanted.mode
             (bytes ++ piece.now) (W.contents writer.old) (W.contents writer.new) pending.new result }
-        ensures count { fed pending.new.reader ≤ fed pending.old.reader + length piece.now }
+        ensures forms { (course_of course.new).forms ≤ (course_of course.new).bytes }
+        ensures count { (course_of course.new).bytes + fed pending.new.reader
+            ≤ (course_of course.old).bytes + fed pending.old.reader + length piece.now }
         ensures honest { (D.state self.new.disk).honest ≡ (D.state self.old.disk).honest }
         ensures macros { self.new.macros ≡ self.old.macros }
     {
         let mut rest = piece;
         'forms: while !rest.is_empty() {
-            match self.answer_next(pending, writer, mode, schedule, rest) {
+            match self.answer_next(pending, writer, wanted, course, rest) {
                 Ok(count) => rest = &rest[count..],
-                Err(ending) => return Some(ending),
+                Err(ended) => return Some(ended),
             }
         }
         None
@@ -119,39 +155,45 @@ impl<D: Disk, R: MacroFunctions> Store<D, R> {
         &mut self,
         pending: &mut Pending,
         writer: &mut W,
-        mode: Mode,
-        schedule: &mut Schedule,
+        wanted: Wanted,
+        course: &mut Course,
         piece: &[u8],
-    ) -> Result<usize, Ending>
+    ) -> Result<usize, Ended>
         requires answers { R.answers self.old.macros }
         requires whole { are_registered R.Meaning.functions (R.functions self.old.macros) ≡ true }
-        requires pending { AwaitsMore R.Meaning.functions self.old.world mode pending.old }
+        requires pending { AwaitsMore R.Meaning.functions self.old.world wanted.mode pending.old }
         requires some { 0 < length piece.now }
-        requires count { fed pending.old.reader + length piece.now ≤ 2 ^ 63 }
+        requires forms { (course_of course.old).forms ≤ (course_of course.old).bytes }
+        requires count { (course_of course.old).bytes + fed pending.old.reader + length piece.now < 2 ^ 63 }
         ensures answers { (w : WorldState) → self.old.world ≡ Some w → (bytes : List ℕ)
-            → IsPending R.Meaning.functions w mode pending.old bytes
-            → ComesTo R.Meaning.functions D.state (pace_of schedule.old) (pace_of schedule.new) self.old self.new w mode
+            → IsPending R.Meaning.functions w wanted.mode pending.old bytes
+            → ComesTo R.Meaning.functions D.state wanted.strict (course_of course.old) (course_of course.new) self.old self.new w wanted.mode
             (bytes ++ piece.now) (W.contents writer.old) (W.contents writer.new) pending.new piece.now result }
         ensures some { MovesOn (fed pending.old.reader) (fed pending.new.reader)
             (length piece.now) result }
-        ensures count { fed pending.new.reader ≤ fed pending.old.reader + length piece.now }
+        ensures forms { (course_of course.new).forms ≤ (course_of course.new).bytes }
+        ensures count { IfOk result (λ count. (course_of course.new).bytes + fed pending.new.reader
+            ≤ (course_of course.old).bytes + fed pending.old.reader + count) }
+        ensures most { (course_of course.new).bytes + fed pending.new.reader
+            ≤ (course_of course.old).bytes + fed pending.old.reader + length piece.now }
         ensures honest { (D.state self.new.disk).honest ≡ (D.state self.old.disk).honest }
         ensures macros { self.new.macros ≡ self.old.macros }
     {
-        let FedPiece { fed, count } = match self.feed(pending, mode, piece) {
+        let FedPiece { fed, count } = match self.feed(pending, wanted.mode, piece) {
             Ok(part) => part,
-            Err(_) => return Err(Ending::Store(NO_MEMORY)),
+            Err(_) => return Err(Ended::Store(NO_MEMORY)),
         };
         match fed {
             Fed::Nothing => Ok(count),
-            Fed::Refused(number) => Err(self.answer_fault(writer, number)),
-            Fed::Form { datum, own, left } => {
-                match self.answer_form(writer, mode, schedule, &datum, own.as_slice()) {
-                    Some(number) => Err(Ending::Store(number)),
-                    None => {
-                        // the byte after the form is read again, as the world is read that the form left
-                        if left { Ok(count - 1) } else { Ok(count) }
-                    }
+            Fed::Refused { number, start, at } => {
+                let place = course.place(start, at);
+                Err(self.answer_fault(writer, number).at(place))
+            }
+            Fed::Form { form, left } => {
+                match self.answer_read(writer, wanted, course, &form) {
+                    // the byte after the form is read again, as the world is read that the form left
+                    Ok(()) => { if left { Ok(count - 1) } else { Ok(count) } }
+                    Err(ended) => Err(ended),
                 }
             }
         }
@@ -180,35 +222,35 @@ impl<D: Disk, R: MacroFunctions> Store<D, R> {
         &mut self,
         pending: Pending,
         writer: &mut W,
-        mode: Mode,
-        schedule: &mut Schedule,
-    ) -> Ending
+        wanted: Wanted,
+        course: &mut Course,
+    ) -> Ended
         requires answers { R.answers self.old.macros }
         requires whole { are_registered R.Meaning.functions (R.functions self.old.macros) ≡ true }
-        requires pending { AwaitsMore R.Meaning.functions self.old.world mode pending }
-        requires count { fed pending.reader ≤ 2 ^ 63 }
-        ensures serves { (w : WorldState) → self.old.world ≡ Some w → (bytes : List ℕ)
-            → IsPending R.Meaning.functions w mode pending bytes
-            → (served : Serves R.Meaning.functions D.state self.old self.new w mode
-            bytes (W.contents writer.old) (W.contents writer.new) result)
-            × ServesInPace R.Meaning.functions D.state (pace_of schedule.old) self.old self.new w mode
-            bytes (W.contents writer.old) (W.contents writer.new) result served }
+        requires pending { AwaitsMore R.Meaning.functions self.old.world wanted.mode pending }
+        requires forms { (course_of course.old).forms ≤ (course_of course.old).bytes }
+        requires count { (course_of course.old).bytes + fed pending.reader < 2 ^ 63 }
+        ensures ends { (w : WorldState) → self.old.world ≡ Some w → (bytes : List ℕ)
+            → IsPending R.Meaning.functions w wanted.mode pending bytes
+            → EndsAt R.Meaning.functions D.state wanted.strict (course_of course.old) self.old self.new w wanted.mode
+            bytes (W.contents writer.old) (W.contents writer.new) result }
         ensures honest { (D.state self.new.disk).honest ≡ (D.state self.old.disk).honest }
         ensures macros { self.new.macros ≡ self.old.macros }
     {
-        let last = match self.finish(pending, mode) {
+        let last = match self.finish(pending, wanted.mode) {
             Ok(last) => last,
-            Err(_) => return Ending::Store(NO_MEMORY),
+            Err(_) => return Ended::Store(NO_MEMORY),
         };
         match last {
-            Fed::Nothing => Ending::End,
-            Fed::Refused(number) => self.answer_fault(writer, number),
-            Fed::Form { datum, own, .. } => {
-                match self.answer_form(writer, mode, schedule, &datum, own.as_slice()) {
-                    Some(number) => Ending::Store(number),
-                    None => Ending::End,
-                }
+            Fed::Nothing => Ended::End,
+            Fed::Refused { number, start, at } => {
+                let place = course.place(start, at);
+                self.answer_fault(writer, number).at(place)
             }
+            Fed::Form { form, .. } => match self.answer_read(writer, wanted, course, &form) {
+                Ok(()) => Ended::End,
+                Err(ended) => ended,
+            },
         }
     }
 
@@ -222,6 +264,7 @@ impl<D: Disk, R: MacroFunctions> Store<D, R> {
             → IsPending R.Meaning.functions w mode pending bytes
             → IfOk result (Finishes R.Meaning.functions w mode bytes) }
         ensures sound { IfOk result IsSoundFed }
+        ensures within { IfOk result (IsWithin (fed pending.reader)) }
     {
         pending.finish(self.alloc, &self.world, &self.macros, mode)
     }

@@ -1,29 +1,29 @@
-use Rattle.std.proofs.Common.{◌≡◌, ◌++◌, ◌∷◌, [], ℕ, Bool, true, false, cond, List, refl, sym, ap, ◌∙◌, map}
+use Rattle.std.proofs.Common.{◌≡◌, ◌++◌, ◌∷◌, [], Bool, true, false, cond, List, refl, sym, ap, ◌∙◌, map}
 use Rattle.std.specs.Prelude.{bytes_eq}
 use Rattle.std.specs.List.{list_any}
-use Rattle.std.specs.Global.{Vec}
+use Rattle.package_sets.specs.declared.name.KeptName.{KeptName}
 use Rattle.std.proofs.lemmas.List.{map-append}
 use Rattle.package_sets.specs.Kept.{Name}
 use Rattle.package_sets.specs.Changes.{with_name, number_in}
 use Rattle.package_sets.proofs.Places.{any-map, position_or_len-map}
 use Rattle.package_sets.proofs.names.Names.intern.Goals as goal
 
-abbrev items : List (Vec ℕ) → List Name
-items ks = map (λ k. k.items) ks
+abbrev items : List KeptName → List Name
+items ks = map (λ k. k.bytes.items) ks
 
-inserted : (ks : List (Vec ℕ)) (n : Vec ℕ) → items (cond (list_any (λ k. bytes_eq n.items k.items) ks) ks (ks ++ n ∷ [])) ≡ with_name (items ks) n.items
-inserted ks n = either (list_any (λ k. bytes_eq n.items k.items) ks) ∙ ap (λ b. cond b (items ks) (items ks ++ n.items ∷ [])) (sym (any-map (λ k. k.items) (bytes_eq n.items) ks))
+inserted : (ks : List KeptName) (n : KeptName) → items (cond (list_any (λ k. bytes_eq n.bytes.items k.bytes.items) ks) ks (ks ++ n ∷ [])) ≡ with_name (items ks) n.bytes.items
+inserted ks n = either (list_any (λ k. bytes_eq n.bytes.items k.bytes.items) ks) ∙ ap (λ b. cond b (items ks) (items ks ++ n.bytes.items ∷ [])) (sym (any-map (λ k. k.bytes.items) (bytes_eq n.bytes.items) ks))
   where
-    either : (b : Bool) → items (cond b ks (ks ++ n ∷ [])) ≡ cond b (items ks) (items ks ++ n.items ∷ [])
+    either : (b : Bool) → items (cond b ks (ks ++ n ∷ [])) ≡ cond b (items ks) (items ks ++ n.bytes.items ∷ [])
     either true = refl
-    either false = map-append (λ k. k.items) ks (n ∷ [])
+    either false = map-append (λ k. k.bytes.items) ks (n ∷ [])
 
 pub returns-clause-ok : goal.returns-clause-ok
 returns-clause-ok c =
-    ap items c.in-Ok.ensures.keys ∙ inserted c.self.inside.set.keys c.in_ok-name.name
-    ∙ (λ i. with_name (c.self.view_is i) (c.in_ok-name.ensures.items i))
+    ap items c.in-Ok.ensures.keys ∙ inserted c.self.inside.set.keys (record { bytes = c.in_ok-bytes.bytes })
+    ∙ (λ i. with_name (c.self.view_is i) (c.in_ok-bytes.ensures.items i))
 
 pub returns-clause-number : goal.returns-clause-number
 returns-clause-number c =
-    c.in-Ok.ensures.index ∙ sym (position_or_len-map (λ k. k.items) (bytes_eq c.in_ok-name.name.items) c.self.inside.set.keys)
-    ∙ (λ i. number_in (c.self.view_is i) (c.in_ok-name.ensures.items i))
+    c.in-Ok.ensures.index ∙ sym (position_or_len-map (λ k. k.bytes.items) (bytes_eq c.in_ok-bytes.bytes.items) c.self.inside.set.keys)
+    ∙ (λ i. number_in (c.self.view_is i) (c.in_ok-bytes.ensures.items i))

@@ -1,6 +1,6 @@
-use Rattle.std.proofs.Common.{◌≡◌, ◌++◌, ◌∷◌, [], ℕ, sym, ap, ◌∙◌, map, position, if◌then◌else◌}
+use Rattle.std.proofs.Common.{◌≡◌, ◌++◌, ◌∷◌, [], sym, ap, ◌∙◌, map, position, if◌then◌else◌}
 use Rattle.std.specs.Prelude.{bytes_eq, None}
-use Rattle.std.specs.Global.{Vec}
+use Rattle.package_sets.specs.declared.name.KeptName.{KeptName}
 use Rattle.std.proofs.lemmas.List.{map-append}
 use Rattle.package_sets.proofs.Places.{position-map, none_any}
 use Rattle.package_sets.proofs.names.Names.push.Goals as goal
@@ -8,10 +8,10 @@ use Rattle.package_sets.proofs.names.Names.push.Goals as goal
 pub returns-clause-ok : goal.returns-clause-ok
 returns-clause-ok c =
     let ks = c.self.inside.set.keys in
-    let n = c.in_ok-name.name in
-    let test = λ (k : Vec ℕ). bytes_eq n.items k.items in
-    let same : n.items ≡ c.args.name.now = c.in_ok-name.ensures.items in
-    let none : position test ks ≡ None = sym (position-map (λ k. k.items) (bytes_eq n.items) ks) ∙ (λ i. position (bytes_eq (same i)) (c.self.view_is i)) ∙ c.requires in
-    ap (map (λ k. k.items)) (c.in_default.ensures.keys ∙ ap (λ b. if b then ks else ks ++ n ∷ []) (none_any test ks none))
-    ∙ map-append (λ k. k.items) ks (n ∷ [])
+    let n : KeptName = record { bytes = c.in_ok-bytes.bytes } in
+    let test = λ (k : KeptName). bytes_eq n.bytes.items k.bytes.items in
+    let same : n.bytes.items ≡ c.args.name.now = c.in_ok-bytes.ensures.items in
+    let none : position test ks ≡ None = sym (position-map (λ k. k.bytes.items) (bytes_eq n.bytes.items) ks) ∙ (λ i. position (bytes_eq (same i)) (c.self.view_is i)) ∙ c.requires in
+    ap (map (λ k. k.bytes.items)) (c.in_default.ensures.keys ∙ ap (λ b. if b then ks else ks ++ n ∷ []) (none_any test ks none))
+    ∙ map-append (λ k. k.bytes.items) ks (n ∷ [])
     ∙ (λ i. c.self.view_is i ++ same i ∷ [])

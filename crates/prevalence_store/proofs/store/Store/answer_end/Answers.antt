@@ -1,72 +1,83 @@
-use Rattle.std.proofs.Common.{refl, sym, subst}
+use Rattle.std.proofs.Common.{refl, sym, subst, ◌∙◌, arith}
+use Rattle.form_reader.specs.Reader.{fed}
 use Rattle.lisp_object.specs.Datum.{object_of}
-use Rattle.prevalence_store.specs.steps.Input.{Finishes, IsSoundFed}
 use Rattle.prevalence_store.specs.declared.session.input.Fed.{Fed}
-use Rattle.prevalence_store.specs.steps.Schedule.{pace_of}
-use Rattle.prevalence_store.proofs.steps.Pieces.{ended_form, last_begins}
-use Rattle.prevalence_store.proofs.steps.Pacing.{done_paced, fault_paced, no_memory_paced}
-use Rattle.prevalence_store.proofs.steps.Endings.{done, fault_answered, no_memory}
+use Rattle.prevalence_store.specs.steps.Course.{course_of}
+use Rattle.prevalence_store.specs.steps.Input.{Finishes, IsSoundFed, IsWithin}
+use Rattle.prevalence_store.specs.steps.Serve.{EndsAt}
+use Rattle.prevalence_store.proofs.steps.EndedAt.{done_at_end, fault_at_end, memory_at_end, read_at_end}
+use Rattle.prevalence_store.proofs.steps.Pieces.{ended_form, last_begins, last_start}
 use Rattle.prevalence_store.proofs.store.Store.answer_end.Goals as goal
 
-pub returns-in-Err-clause-serves : goal.returns-in-Err-clause-serves
-returns-in-Err-clause-serves g c = λ w known bytes p.
-    let functions = g.R.Meaning.Meaning.functions in
-    let held = g.W.Write.contents c.args.writer.now in (
-      no_memory functions g.D.Disk.state g.met.D.Disk.sound c.args.self.now c.args.self.now w c.args.mode bytes held held known refl refl,
-      no_memory_paced functions g.D.Disk.state g.met.D.Disk.sound c.args.self.now c.args.self.now w c.args.mode bytes held held known refl refl (pace_of c.args.schedule.now),
-    )
+pub returns-in-Err-clause-ends : goal.returns-in-Err-clause-ends
+returns-in-Err-clause-ends g c = λ w known bytes p.
+    memory_at_end g.R.Meaning.Meaning.functions g.D.Disk.state g.met.D.Disk.sound c.args.wanted.strict (course_of c.args.course.now) c.args.self.now w c.args.wanted.mode bytes (g.W.Write.contents c.args.writer.now) known
 
-pub returns-in-Nothing-clause-serves : goal.returns-in-Nothing-clause-serves
-returns-in-Nothing-clause-serves g c = λ w known bytes p.
+pub returns-in-Nothing-clause-ends : goal.returns-in-Nothing-clause-ends
+returns-in-Nothing-clause-ends g c = λ w known bytes p.
     let functions = g.R.Meaning.Meaning.functions in
+    done_at_end functions g.D.Disk.state g.met.D.Disk.sound c.args.wanted.strict (course_of c.args.course.now) c.args.self.now w c.args.wanted.mode bytes (g.W.Write.contents c.args.writer.now) known
+    (sym (subst (λ (f : Fed). Finishes functions w c.args.wanted.mode bytes f) c.in-Nothing.is (c.in-Ok.ensures.finishes w known bytes p)))
+
+pub place-place-requires-clause-start : goal.place-place-requires-clause-start
+place-place-requires-clause-start g c = let within = subst (λ (given : Fed). IsWithin (fed c.args.pending.reader) given) c.in-Refused.is c.in-Ok.ensures.within in omega (arith, within.0, c.requires.count)
+
+pub place-place-requires-clause-at : goal.place-place-requires-clause-at
+place-place-requires-clause-at g c = let within = subst (λ (given : Fed). IsWithin (fed c.args.pending.reader) given) c.in-Refused.is c.in-Ok.ensures.within in omega (arith, within.1, c.requires.count)
+
+pub returns-in-Refused-clause-ends : goal.returns-in-Refused-clause-ends
+returns-in-Refused-clause-ends g c = λ w known bytes p.
+    let functions = g.R.Meaning.Meaning.functions in
+    let f = c.in-Refused in
     let held = g.W.Write.contents c.args.writer.now in
-    let nothing_left = sym (subst (λ (f : Fed). Finishes functions w c.args.mode bytes f) c.in-Nothing.is (c.in-Ok.ensures.finishes w known bytes p)) in (
-      done functions g.D.Disk.state g.met.D.Disk.sound c.args.self.now c.args.self.now w c.args.mode bytes held held known refl refl nothing_left,
-      done_paced functions g.D.Disk.state g.met.D.Disk.sound c.args.self.now c.args.self.now w c.args.mode bytes held held known refl refl nothing_left (pace_of c.args.schedule.now),
-    )
+    let written = g.W.Write.contents c.answer_fault.new.writer in
+    let course = course_of c.args.course.now in
+    let told = subst (λ (fed : Fed). Finishes functions w c.args.wanted.mode bytes fed) f.is (c.in-Ok.ensures.finishes w known bytes p) in
+    let within = subst (λ (given : Fed). IsWithin (fed c.args.pending.reader) given) f.is c.in-Ok.ensures.within in
+    let place = c.place-place.ensures in
+    subst (λ ended. EndsAt functions g.D.Disk.state c.args.wanted.strict course c.args.self.now c.answer_fault.new.self w c.args.wanted.mode bytes held written ended) (sym c.at.ensures)
+    (fault_at_end functions g.D.Disk.state g.met.D.Disk.sound c.args.wanted.strict course c.args.self.now c.answer_fault.new.self w c.args.wanted.mode bytes held written f.number f.at known told
+    c.answer_fault.ensures.same f.start c.place-place.result place.0 place.1 place.2 (let count = p.count in omega (arith, within.0, count)) c.answer_fault.result c.answer_fault.ensures.answers)
 
-pub returns-in-Refused-clause-serves : goal.returns-in-Refused-clause-serves
-returns-in-Refused-clause-serves g c = λ w known bytes p.
-    let functions = g.R.Meaning.Meaning.functions in
-    let told = subst (λ (f : Fed). Finishes functions w c.args.mode bytes f) c.in-Refused.is (c.in-Ok.ensures.finishes w known bytes p) in (
-      fault_answered functions g.D.Disk.state g.met.D.Disk.sound c.args.self.now c.answer_fault.new.self w c.args.mode bytes
-          (g.W.Write.contents c.args.writer.now) (g.W.Write.contents c.answer_fault.new.writer) known c.in-Refused.number told.0 told.1
-          c.answer_fault.ensures.same c.answer_fault.result c.answer_fault.ensures.answers,
-      fault_paced functions g.D.Disk.state g.met.D.Disk.sound c.args.self.now c.answer_fault.new.self w c.args.mode bytes
-          (g.W.Write.contents c.args.writer.now) (g.W.Write.contents c.answer_fault.new.writer) known c.in-Refused.number told.0 told.1
-          c.answer_fault.ensures.same c.answer_fault.result c.answer_fault.ensures.answers (pace_of c.args.schedule.now),
-    )
+pub answer_read-requires : goal.answer_read-requires
+answer_read-requires g c =
+    let f = c.in-Form in
+    let within = subst (λ (given : Fed). IsWithin (fed c.args.pending.reader) given) f.is c.in-Ok.ensures.within in record {
+      form = record {
+        known = c.requires.pending.known;
+        read = λ w known.
+            let functions = g.R.Meaning.Meaning.functions in
+            let p = c.requires.pending.some w known in
+            let last = (subst (λ (fed : Fed). Finishes functions w c.args.wanted.mode p.0 fed) f.is (c.in-Ok.ensures.finishes w known p.0 p.1)).0 in
+            (p.0, (_, last_begins functions w c.args.wanted.mode p.0 (object_of f.form.datum) f.form.own.items last f.form.own.items refl));
+        proper = (subst IsSoundFed f.is c.in-Ok.ensures.sound).0;
+        sound = (subst IsSoundFed f.is c.in-Ok.ensures.sound).1;
+      };
+      order = within.0;
+      forms = c.requires.forms;
+      room = omega (arith, within.1, c.requires.count);
+    }
 
-pub answer_form-requires : goal.answer_form-requires
-answer_form-requires g c = record {
-  form = record {
-    known = c.requires.pending.known;
-    read = λ w known.
-        let functions = g.R.Meaning.Meaning.functions in
-        let p = c.requires.pending.some w known in
-        let f = c.in-Form in
-        let last = subst (λ (fed : Fed). Finishes functions w c.args.mode p.0 fed) f.is (c.in-Ok.ensures.finishes w known p.0 p.1) in
-        (p.0, (_, last_begins functions w c.args.mode p.0 (object_of f.datum) f.own.items last c.as_slice.result.now c.as_slice.ensures.value));
-    proper = (subst IsSoundFed c.in-Form.is c.in-Ok.ensures.sound).0;
-    sound = (subst IsSoundFed c.in-Form.is c.in-Ok.ensures.sound).1;
-  };
-}
-
-pub returns-in-Some-clause-serves : goal.returns-in-Some-clause-serves
-returns-in-Some-clause-serves g c = λ w known bytes p.
+pub returns-clause-ends : goal.returns-clause-ends
+returns-clause-ends g c = λ w known bytes p.
     let functions = g.R.Meaning.Meaning.functions in
     let f = c.in-Form in
-    let last = subst (λ (fed : Fed). Finishes functions w c.args.mode bytes fed) f.is (c.in-Ok.ensures.finishes w known bytes p) in
-    let stops = c.in-Some.ensures.answers w known bytes _
-    (last_begins functions w c.args.mode bytes (object_of f.datum) f.own.items last c.as_slice.result.now c.as_slice.ensures.value) in
-    (stops.0.serves, stops.1)
+    let last = subst (λ (fed : Fed). Finishes functions w c.args.wanted.mode bytes fed) f.is (c.in-Ok.ensures.finishes w known bytes p) in
+    let within = subst (λ (given : Fed). IsWithin (fed c.args.pending.reader) given) f.is c.in-Ok.ensures.within in
+    read_at_end functions g.D.Disk.state c.args.wanted (course_of c.args.course.now) (course_of c.answer_read.new.course) c.args.self.now c.answer_read.new.self w bytes
+    (g.W.Write.contents c.args.writer.now) (g.W.Write.contents c.answer_read.new.writer) f.form.start f.form.next c.in-Err-answer_read.ended
+    (c.in-Err-answer_read.ensures.answers w known bytes _
+    (last_begins functions w c.args.wanted.mode bytes (object_of f.form.datum) f.form.own.items last.0 f.form.own.items refl)
+    (last_start functions w c.args.wanted.mode bytes (object_of f.form.datum) f.form.own.items last.0 f.form.own.items refl ∙ last.1))
+    (let count = p.count in omega (arith, within.0, within.1, count))
 
-pub returns-clause-serves : goal.returns-clause-serves
-returns-clause-serves g c = λ w known bytes p.
+pub returns-in-Ok-answer_read-clause-ends : goal.returns-in-Ok-answer_read-clause-ends
+returns-in-Ok-answer_read-clause-ends g c = λ w known bytes p.
     let functions = g.R.Meaning.Meaning.functions in
     let f = c.in-Form in
-    let last = subst (λ (fed : Fed). Finishes functions w c.args.mode bytes fed) f.is (c.in-Ok.ensures.finishes w known bytes p) in
-    let answered = c.in-None.ensures.answers w known bytes _
-    (last_begins functions w c.args.mode bytes (object_of f.datum) f.own.items last c.as_slice.result.now c.as_slice.ensures.value) in
-    ended_form functions w c.args.mode bytes (object_of f.datum) f.own.items last g.D.Disk.state (pace_of c.args.schedule.now) (pace_of c.answer_form.new.schedule) c.args.self.now c.answer_form.new.self
-    (g.W.Write.contents c.args.writer.now) (g.W.Write.contents c.answer_form.new.writer) answered
+    let last = subst (λ (fed : Fed). Finishes functions w c.args.wanted.mode bytes fed) f.is (c.in-Ok.ensures.finishes w known bytes p) in
+    let passed = c.in-Ok-answer_read.ensures.answers w known bytes _
+    (last_begins functions w c.args.wanted.mode bytes (object_of f.form.datum) f.form.own.items last.0 f.form.own.items refl)
+    (last_start functions w c.args.wanted.mode bytes (object_of f.form.datum) f.form.own.items last.0 f.form.own.items refl ∙ last.1) in
+    ended_form functions w c.args.wanted.mode bytes (object_of f.form.datum) f.form.own.items last.0 g.D.Disk.state c.args.wanted refl (course_of c.args.course.now) (course_of c.answer_read.new.course) c.args.self.now c.answer_read.new.self
+    (g.W.Write.contents c.args.writer.now) (g.W.Write.contents c.answer_read.new.writer) f.form.start f.form.next passed.0 passed.1 passed.2

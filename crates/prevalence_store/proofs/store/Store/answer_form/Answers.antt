@@ -1,13 +1,33 @@
-use Rattle.prevalence_store.specs.steps.Schedule.{pace_of}
-use Rattle.prevalence_store.proofs.steps.Renewing.{renewal_after}
+use Rattle.std.proofs.Common.{Bool, Option, None, Some, ℕ, subst}
+use Rattle.prevalence_store.specs.steps.Schedule.{RenewsAfterForm, pace_of}
+use Rattle.prevalence_store.proofs.steps.Renewing.{not_renewed_after, renewed_after}
 use Rattle.prevalence_store.proofs.store.Store.answer_form.Goals as goal
 
-pub returns-in-Ok-clause-answers : goal.returns-in-Ok-clause-answers
-returns-in-Ok-clause-answers g c = λ w known text next begins.
+pub returns-in-None-clause-answers : goal.returns-in-None-clause-answers
+returns-in-None-clause-answers g c = λ w known text next begins.
     let functions = g.R.Meaning.Meaning.functions in
-    renewal_after functions g.D.Disk.state g.met.D.Disk.sound c.args.self.now c.fit_form.new.self c.renew_after_form.new.self w c.args.mode text
+    let mid = c.fit_form.new.self in
+    let new = c.renew_after_form.new.self in
+    let pace = pace_of c.args.schedule.now in
+    let later = pace_of c.renew_after_form.new.schedule in
+    renewed_after functions g.D.Disk.state g.met.D.Disk.sound c.args.self.now mid new w c.args.mode text
     (g.W.Write.contents c.args.writer.now) (g.W.Write.contents c.fit_form.new.writer) c.fit_form.ensures.honest
-    c.in-Ok.wrote (c.in-Ok.ensures.fits w known text next begins) (pace_of c.args.schedule.now) (pace_of c.renew_after_form.new.schedule) c.renew_after_form.result c.renew_after_form.ensures.renews
+    c.in-Ok.answered (c.in-Ok.ensures.fits w known text next begins) pace later
+    (λ v left. subst (λ (b : Bool). RenewsAfterForm functions g.D.Disk.state mid new v b pace later None) c.is_logged.ensures
+    (subst (λ (r : Option ℕ). RenewsAfterForm functions g.D.Disk.state mid new v c.is_logged.result pace later r) c.in-None.is (c.renew_after_form.ensures.renews v left)))
+
+pub returns-in-Some-clause-answers : goal.returns-in-Some-clause-answers
+returns-in-Some-clause-answers g c = λ w known text next begins.
+    let functions = g.R.Meaning.Meaning.functions in
+    let mid = c.fit_form.new.self in
+    let new = c.renew_after_form.new.self in
+    let pace = pace_of c.args.schedule.now in
+    let later = pace_of c.renew_after_form.new.schedule in
+    not_renewed_after functions g.D.Disk.state g.met.D.Disk.sound c.args.self.now mid new w c.args.mode text
+    (g.W.Write.contents c.args.writer.now) (g.W.Write.contents c.fit_form.new.writer) c.fit_form.ensures.honest
+    c.in-Ok.answered (c.in-Ok.ensures.fits w known text next begins) pace later c.in-Some.number
+    (λ v left. subst (λ (b : Bool). RenewsAfterForm functions g.D.Disk.state mid new v b pace later (Some c.in-Some.number)) c.is_logged.ensures
+    (subst (λ (r : Option ℕ). RenewsAfterForm functions g.D.Disk.state mid new v c.is_logged.result pace later r) c.in-Some.is (c.renew_after_form.ensures.renews v left)))
 
 pub returns-in-Err-clause-answers : goal.returns-in-Err-clause-answers
 returns-in-Err-clause-answers g c = λ w known text next begins.

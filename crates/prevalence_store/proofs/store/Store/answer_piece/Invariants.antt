@@ -3,7 +3,7 @@ use Rattle.plist_state.specs.State.{WorldState}
 use Rattle.form_reader.specs.Reader.{fed}
 use Rattle.prevalence_store.specs.steps.Input.{IsPending}
 use Rattle.prevalence_store.specs.steps.Serve.{GoesOn}
-use Rattle.prevalence_store.specs.steps.Schedule.{pace_of}
+use Rattle.prevalence_store.specs.steps.Course.{course_of}
 use Rattle.prevalence_store.proofs.steps.Pieces.{to_take}
 use Rattle.prevalence_store.proofs.store.Store.answer_piece.Given as goal
 
@@ -13,10 +13,11 @@ invariant-forms g l = record {
   known : IsSome l.self.world;
   honest : (g.D.Disk.state l.self.disk).honest ≡ (g.D.Disk.state l.fn.self.disk).honest;
   macros : l.self.macros ≡ l.fn.self.macros;
-  count : fed l.pending.reader + length l.rest ≤ fed l.fn.pending.reader + length l.piece;
+  forms : (course_of l.course).forms ≤ (course_of l.course).bytes;
+  count : (course_of l.course).bytes + fed l.pending.reader + length l.rest ≤ (course_of l.fn.course).bytes + fed l.fn.pending.reader + length l.piece;
   goes : (w : WorldState) → l.fn.self.world ≡ Some w → (bytes : List ℕ)
-      → IsPending g.R.Meaning.Meaning.functions w l.mode l.fn.pending bytes
-      → GoesOn g.R.Meaning.Meaning.functions g.D.Disk.state (pace_of l.fn.schedule) (pace_of l.schedule) l.fn.self l.self w l.mode (bytes ++ l.piece)
+      → IsPending g.R.Meaning.Meaning.functions w l.wanted.mode l.fn.pending bytes
+      → GoesOn g.R.Meaning.Meaning.functions g.D.Disk.state l.wanted.strict (course_of l.fn.course) (course_of l.course) l.fn.self l.self w l.wanted.mode (bytes ++ l.piece)
       (g.W.Write.contents l.fn.writer) (g.W.Write.contents l.writer) l.pending l.rest;
 }
 

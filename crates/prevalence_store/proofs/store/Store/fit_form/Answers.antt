@@ -8,7 +8,7 @@ pub returns-in-Ok-clause-fits : goal.returns-in-Ok-clause-fits
 returns-in-Ok-clause-fits g c = λ w known text next begins.
     let functions = g.R.Meaning.Meaning.functions in
     fits_at_once functions g.D.Disk.state g.met.D.Disk.sound c.args.self.now c.try_form.new.self c.try_form.new.self w c.args.mode text
-    (g.W.Write.contents c.args.writer.now) (g.W.Write.contents c.try_form.new.writer) c.try_form.ensures.honest c.in-Ok.wrote (c.in-Ok.ensures.tries w known text next begins)
+    (g.W.Write.contents c.args.writer.now) (g.W.Write.contents c.try_form.new.writer) c.try_form.ensures.honest c.in-Ok.answered (c.in-Ok.ensures.tries w known text next begins)
 
 pub returns-then-number-ne-LOG_FULL-clause-fits : goal.returns-then-number-ne-LOG_FULL-clause-fits
 returns-then-number-ne-LOG_FULL-clause-fits g c = λ w known text next begins.

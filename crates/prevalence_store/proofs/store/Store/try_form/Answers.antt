@@ -52,7 +52,7 @@ returns-in-Ok-write_line-clause-tries g c = λ w known text next begins.
     known begins.start begins.stop next (object_of c.args.datum.now) begins.reads c.args.own.now begins.is_own c.take_form-answer.result c.in-Ok.line.items
     e.takes c.in-Ok.ensures.line
     (subst (Writes (g.W.Write.contents c.args.writer.now) (g.W.Write.contents c.write_line.new.writer)) c.as_slice.ensures.value c.in-Ok-write_line.ensures.whole)
-    c.was_logged.result c.was_logged.ensures
+    c.answer_given.result c.answer_given.ensures
 
 pub returns-in-Ok-write_line-clause-known : goal.returns-in-Ok-write_line-clause-known
 returns-in-Ok-write_line-clause-known g c =

@@ -3,6 +3,7 @@ use Rattle.std.proofs.lemmas.List.{take_more}
 use Rattle.prevalence_store.specs.steps.Input.{Feeds}
 use Rattle.prevalence_store.specs.declared.session.input.Fed.{Fed}
 use Rattle.prevalence_store.proofs.steps.Pendings.{piece_more}
+use Rattle.prevalence_store.proofs.steps.Places.{within_more}
 use Rattle.prevalence_store.proofs.session.input.Pending.feed.Goals as goal
 
 pub bytes-preserved : goal.bytes-preserved
@@ -40,6 +41,7 @@ returns-in_default g c =
         within = omega arith;
         all = λ nothing. absurd (c.in_default.not-Nothing nothing);
         sound = c.in_ok-fed.ensures.sound;
+        places = within_more _ _ c.in_ok-fed.fed (omega arith) c.in_ok-fed.ensures.within;
         pending = omega arith;
       };
       count = omega arith;

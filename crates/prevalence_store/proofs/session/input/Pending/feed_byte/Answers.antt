@@ -1,5 +1,5 @@
 use Rattle.std.proofs.Common.{◌∷◌, [], ◌++◌, refl, ◌∙◌, arith}
-use Rattle.prevalence_store.proofs.steps.Pendings.{fed_places, has_form, kept_count, kept_more, dropped_within}
+use Rattle.prevalence_store.proofs.steps.Pendings.{fed_places, has_form, has_refusal, kept_count, kept_more, dropped_within, refused_within}
 use Rattle.prevalence_store.proofs.session.input.Pending.feed_byte.Goals as goal
 
 pub own_text-requires-clause-order : goal.own_text-requires-clause-order
@@ -33,3 +33,22 @@ returns-in_ok-own-in-Form-clause-feeds g c = λ bytes p.
     (omega (arith, kept_count functions w c.args.mode c.args.self.now bytes p, c.len.ensures, c.in_ok-push.ensures.len, c.args.self.now.text.ok.0))
     (c.in_ok-own-in-Form.ensures (bytes ++ c.args.byte ∷ [])
     (c.as_slice.ensures.value ∙ c.in_ok-push.ensures.items ∙ kept_more c.args.self.now.text.items bytes c.args.byte c.args.self.now.dropped (dropped_within functions w c.args.mode c.args.self.now bytes p) p.kept))
+
+pub returns-in-Refused-clause-feeds : goal.returns-in-Refused-clause-feeds
+returns-in-Refused-clause-feeds g c = λ bytes p.
+    has_refusal g.R.Meaning.Meaning.functions c.args.world.now.0 c.args.mode c.args.self.now bytes p c.args.byte c.step_in.new.reader c.in_ok-step_in.field-0 c.in-Refused.code c.in-Refused.at c.in-Refused.is
+    (c.in_ok-step_in.ensures.steps bytes p.after)
+
+pub returns-in-Refused-clause-within : goal.returns-in-Refused-clause-within
+returns-in-Refused-clause-within g c =
+    let p = c.requires.pending in
+    refused_within g.R.Meaning.Meaning.functions c.args.world.now.0 c.args.mode c.args.self.now p.0 p.1 c.args.byte c.step_in.new.reader c.in_ok-step_in.field-0 c.in-Refused.code c.in-Refused.at c.in-Refused.is
+    (c.in_ok-step_in.ensures.steps p.0 p.1.after)
+
+pub returns-in_ok-own-in-Form-clause-within : goal.returns-in_ok-own-in-Form-clause-within
+returns-in_ok-own-in-Form-clause-within g c =
+    let p = c.requires.pending in
+    let f = c.in-Form in
+    let places = fed_places g.R.Meaning.Meaning.functions c.args.world.now.0 c.args.mode c.args.self.now p.0 p.1 c.args.byte c.step_in.new.reader c.in_ok-step_in.field-0 f.datum f.start f.end f.next f.is
+    (c.in_ok-step_in.ensures.steps p.0 p.1.after) c.in_ok-step_in.ensures.begun in
+    (omega (arith, places.order, places.after), omega (arith, places.within, p.1.count))

@@ -1,8 +1,8 @@
-use Rattle.std.proofs.Common.{arith}
+use Rattle.std.proofs.Common.{arith, ◌∙◌}
 use Rattle.lisp_object.specs.Datum.{object_of}
 use Rattle.prevalence_store.specs.meaning.Acceptance.{read_in}
-use Rattle.prevalence_store.proofs.calls.Executing.{form_read}
-use Rattle.prevalence_store.proofs.steps.Pendings.{kept_count, last_places}
+use Rattle.prevalence_store.proofs.calls.Executing.{form_places, form_read}
+use Rattle.prevalence_store.proofs.steps.Pendings.{kept_count, last_form, last_places}
 use Rattle.prevalence_store.proofs.session.input.Pending.finish.Goals as goal
 
 pub own_text-requires-clause-kept : goal.own_text-requires-clause-kept
@@ -32,3 +32,21 @@ own_text-requires-clause-within g c =
     let read = form_read _ (read_in functions w c.args.mode p.0) f.datum f.start f.end f.next (c.in_ok-finish_in.ensures p.0 p.1.after) f.is in
     let places = last_places functions w c.args.mode c.args.self p.0 p.1 (object_of f.datum) f.start f.end f.next read.0 in
     omega (arith, places.2, kept_count functions w c.args.mode c.args.self p.0 p.1, c.as_slice.ensures.len, c.args.self.text.ok.0)
+
+pub returns-clause-finishes : goal.returns-clause-finishes
+returns-clause-finishes g c = λ bytes p.
+    let functions = g.R.Meaning.Meaning.functions in
+    let w = c.args.world.now.0 in
+    let f = c.in-Form in
+    let read = form_read _ (read_in functions w c.args.mode bytes) f.datum f.start f.end f.next (c.in_ok-finish_in.ensures bytes p.after) f.is in
+    last_form functions w c.args.mode c.args.self bytes p (object_of f.datum) c.in_ok-own-in-Form.own.items f.start f.end f.next read.0 (c.in_ok-own-in-Form.ensures bytes (c.as_slice.ensures.value ∙ p.kept))
+
+pub returns-clause-within : goal.returns-clause-within
+returns-clause-within g c =
+    let functions = g.R.Meaning.Meaning.functions in
+    let w = c.args.world.now.0 in
+    let p = c.requires.pending in
+    let f = c.in-Form in
+    let read = form_read _ (read_in functions w c.args.mode p.0) f.datum f.start f.end f.next (c.in_ok-finish_in.ensures p.0 p.1.after) f.is in
+    let places = form_places functions w c.args.mode p.0 (object_of f.datum) f.start f.end f.next read.0 in
+    (omega (arith, places.0, places.1), omega (arith, places.2, p.1.count))

@@ -1,0 +1,222 @@
+-- How a session ends at what was read: at no memory, at a refusal of the reader, and in a form.
+use Rattle.std.proofs.Common.{◌≡◌, ℕ, ◌+◌, ◌≤◌, Bool, true, List, [], ◌++◌, length, Option, Some, Ok, Err, inl, inr, refl, sym, ap, subst, ◌∙◌, append_assoc, length-append, arith}
+use Rattle.disk_trait.specs.Disk.{State, IsHonest, IsSound}
+use Rattle.lisp_object.specs.Object.{Object}
+use Rattle.lisp_object.specs.declared.refusal.TheConstants.{NO_MEMORY}
+use Rattle.lisp_reading.specs.Reading.{empty, refused}
+use Rattle.plist_state.specs.State.{WorldState}
+use Rattle.prevalence_store.specs.declared.mode.Mode.{Mode}
+use Rattle.prevalence_store.specs.declared.outcome.Ended.{Ended}
+use Rattle.prevalence_store.specs.declared.outcome.Ended.TheVariants as ways
+use Rattle.prevalence_store.specs.declared.outcome.Ending.{Ending}
+use Rattle.prevalence_store.specs.declared.outcome.Ending.TheVariants.{End, Reader, Store}
+use Rattle.prevalence_store.specs.declared.outcome.Place.{Place}
+use Rattle.prevalence_store.specs.declared.outcome.Wanted.{Wanted}
+use Rattle.prevalence_store.specs.declared.session.answer.Answered.{Answered}
+use Rattle.prevalence_store.specs.declared.session.answer.Answered.TheVariants.{Accepted, Refused}
+use Rattle.prevalence_store.specs.declared.session.input.Pending.{Pending}
+use Rattle.prevalence_store.specs.meaning.Acceptance.{read_in}
+use Rattle.prevalence_store.specs.meaning.Answers.{Progress, begun}
+use Rattle.prevalence_store.specs.calls.Pace.{Paces, fill_of}
+use Rattle.prevalence_store.specs.calls.Serve.{IsUnaccepted, ServesInPace, StopsStrict}
+use Rattle.prevalence_store.specs.calls.Store.{StoreView}
+use Rattle.prevalence_store.specs.steps.Answer.{AnswersFault, AnswersForm, AnswersRead, BeginsWith, PassesForm, StopsInForm, TellsForm}
+use Rattle.prevalence_store.specs.steps.Course.{Course, pass}
+use Rattle.prevalence_store.specs.steps.Input.{HasRefusal}
+use Rattle.prevalence_store.specs.steps.Serve.{Answers, EndsAt, HasEndedAt, ended_at}
+use Rattle.prevalence_store.proofs.steps.Places.{place_at_once}
+use Rattle.prevalence_store.proofs.steps.Endings.{done, fault_answered, no_memory, nothing}
+use Rattle.prevalence_store.proofs.steps.Pacing.{done_paced, fault_paced, no_memory_paced}
+use Rattle.user_macros.specs.Functions.{Functions}
+
+-- what was not refused, as it is told
+pub tells_accepted : (functions : Functions) (w : WorldState) (mode : Mode) (text : List ℕ) (far : Progress) (answered : Answered) → ((number : ℕ) → answered ≡ Refused number → ⊥) → TellsForm functions w mode text far answered → far.refused ≡ []
+tells_accepted functions w mode text far (Accepted logged) other tells = tells
+tells_accepted functions w mode text far (Refused number) other tells = absurd (other number refl)
+
+module _ (functions : Functions) {D R : Type 0} (state : D → State) where
+  -- the session ended before any answer, whatever follows the text
+  pub ends_at_once : (strict : Bool) (course : Course) (old new : StoreView D R) (w : WorldState) (mode : Mode) (text : List ℕ) (a b : Option (List ℕ)) (number : ℕ)
+      → (stops : StopsInForm functions state old new w mode text a b number) × ServesInPace functions state course.pace old new w mode text a b (Store number) stops.serves
+      → HasEndedAt functions state strict course old new w mode text a b (ways.Store number)
+  ends_at_once strict course old new w mode text a b number is =
+      (record { serves = is.0.serves; paced = is.1; stays = λ output all. let one = is.0.in_form output in absurd (omega arith) }, λ is_strict. is.0.accepted)
+
+  -- the reader refused the text, whatever follows it
+  pub fault_ended : (sound : (d : D) → IsHonest (state d) → IsSound (state d)) (strict : Bool) (course later : Course) (old new : StoreView D R) (w : WorldState) (mode : Mode) (text : List ℕ) (a b : Option (List ℕ)) (pending : Pending)
+      (number : ℕ) → old.world ≡ Some w → (refuses : HasRefusal functions w mode text number) → new ≡ old → (start : ℕ) (place : Place) → place.forms ≡ course.forms → place.start ≡ course.bytes + start
+      → place.at ≡ course.bytes + refuses.at → start ≤ length text → (ending : Ending) → AnswersFault number a b ending
+      → Answers functions state strict course later old new w mode text a b pending (Some (ended_at place ending))
+  unfolding fault_answered nothing
+  fault_ended sound strict course later old new w mode text a b pending number known refuses same start place forms_is start_is at_is within ending answers more = by_ending ending answers where
+    still : (others : List ℕ) → read_in functions w mode ((text ++ more) ++ others) ≡ refused number refuses.at
+    still others = ap (read_in functions w mode) (append_assoc text more others) ∙ refuses.reads (more ++ others)
+
+    longer_within : start ≤ length (text ++ more)
+    longer_within = let many = length-append text more in omega arith
+
+    by_ending : (e : Ending) → AnswersFault number a b e → HasEndedAt functions state strict course old new w mode (text ++ more) a b (ended_at place e)
+    by_ending End is = absurd is
+    by_ending (Reader code) is = (
+      record {
+        serves = fault_answered functions state sound old new w mode (text ++ more) a b known number refuses.at (refuses.reads more) same (Reader code) is;
+        paced = fault_paced functions state sound old new w mode (text ++ more) a b known number refuses.at (refuses.reads more) same (Reader code) is course.pace;
+        stays = λ others. (refl, (refuses.at, still others ∙ ap (λ n. refused n refuses.at) (sym is.0)));
+      },
+      λ is_strict. refl,
+      (refuses.at, refuses.reads more ∙ ap (λ n. refused n refuses.at) (sym is.0), place_at_once course (text ++ more) start refuses.at place forms_is start_is at_is longer_within),
+    )
+    by_ending (Store code) (inl full) = (
+      record {
+        serves = fault_answered functions state sound old new w mode (text ++ more) a b known number refuses.at (refuses.reads more) same (Store code) (inl full);
+        paced = fault_paced functions state sound old new w mode (text ++ more) a b known number refuses.at (refuses.reads more) same (Store code) (inl full) course.pace;
+        stays = λ output all. (number, λ others. (refl, (refuses.at, still others)));
+      },
+      λ is_strict. refl,
+    )
+    by_ending (Store code) (inr memory) = (
+      record {
+        serves = fault_answered functions state sound old new w mode (text ++ more) a b known number refuses.at (refuses.reads more) same (Store code) (inr memory);
+        paced = fault_paced functions state sound old new w mode (text ++ more) a b known number refuses.at (refuses.reads more) same (Store code) (inr memory) course.pace;
+        stays = λ output all. (number, λ others. (refl, (refuses.at, still others)));
+      },
+      λ is_strict. refl,
+    )
+
+  -- there is no memory for what was read
+  pub memory_ended : (sound : (d : D) → IsHonest (state d) → IsSound (state d)) (strict : Bool) (course : Course) (old : StoreView D R) (w : WorldState) (mode : Mode) (text : List ℕ) (held : Option (List ℕ)) → old.world ≡ Some w
+      → HasEndedAt functions state strict course old old w mode text held held (ways.Store NO_MEMORY)
+  unfolding no_memory nothing
+  memory_ended sound strict course old w mode text held known = (
+    record {
+      serves = no_memory functions state sound old old w mode text held held known refl refl;
+      paced = no_memory_paced functions state sound old old w mode text held held known refl refl course.pace;
+      stays = λ output. absurd (omega arith);
+    },
+    λ is_strict. refl,
+  )
+
+  pub memory_at_end : (sound : (d : D) → IsHonest (state d) → IsSound (state d)) (strict : Bool) (course : Course) (old : StoreView D R) (w : WorldState) (mode : Mode) (text : List ℕ) (held : Option (List ℕ)) → old.world ≡ Some w
+      → EndsAt functions state strict course old old w mode text held held (ways.Store NO_MEMORY)
+  unfolding no_memory nothing
+  memory_at_end sound strict course old w mode text held known = (
+    no_memory functions state sound old old w mode text held held known refl refl,
+    no_memory_paced functions state sound old old w mode text held held known refl refl course.pace,
+    λ is_strict. refl,
+  )
+
+  -- nothing is left at the end of the input
+  pub done_at_end : (sound : (d : D) → IsHonest (state d) → IsSound (state d)) (strict : Bool) (course : Course) (old : StoreView D R) (w : WorldState) (mode : Mode) (text : List ℕ) (held : Option (List ℕ)) → old.world ≡ Some w
+      → empty ≡ read_in functions w mode text → EndsAt functions state strict course old old w mode text held held ways.End
+  unfolding done nothing
+  done_at_end sound strict course old w mode text held known none = (
+    done functions state sound old old w mode text held held known refl refl none,
+    done_paced functions state sound old old w mode text held held known refl refl none course.pace,
+    λ is_strict. refl,
+  )
+
+  -- the reader refuses the text at the end of the input
+  pub fault_at_end : (sound : (d : D) → IsHonest (state d) → IsSound (state d)) (strict : Bool) (course : Course) (old new : StoreView D R) (w : WorldState) (mode : Mode) (text : List ℕ) (a b : Option (List ℕ)) (number at : ℕ)
+      → old.world ≡ Some w → (reads : read_in functions w mode text ≡ refused number at) → new ≡ old → (start : ℕ) (place : Place) → place.forms ≡ course.forms → place.start ≡ course.bytes + start → place.at ≡ course.bytes + at
+      → start ≤ length text → (ending : Ending) → AnswersFault number a b ending → EndsAt functions state strict course old new w mode text a b (ended_at place ending)
+  unfolding fault_answered nothing
+  fault_at_end sound strict course old new w mode text a b number at known reads same start place forms_is start_is at_is within End answers = absurd answers
+  fault_at_end sound strict course old new w mode text a b number at known reads same start place forms_is start_is at_is within (Reader code) answers = (
+    (
+      fault_answered functions state sound old new w mode text a b known number at reads same (Reader code) answers,
+      fault_paced functions state sound old new w mode text a b known number at reads same (Reader code) answers course.pace,
+      λ is_strict. refl,
+    ),
+    (at, reads ∙ ap (λ n. refused n at) (sym answers.0), place_at_once course text start at place forms_is start_is at_is within),
+  )
+  fault_at_end sound strict course old new w mode text a b number at known reads same start place forms_is start_is at_is within (Store code) (inl full) = (
+    fault_answered functions state sound old new w mode text a b known number at reads same (Store code) (inl full),
+    fault_paced functions state sound old new w mode text a b known number at reads same (Store code) (inl full) course.pace,
+    λ is_strict. refl,
+  )
+  fault_at_end sound strict course old new w mode text a b number at known reads same start place forms_is start_is at_is within (Store code) (inr memory) = (
+    fault_answered functions state sound old new w mode text a b known number at reads same (Store code) (inr memory),
+    fault_paced functions state sound old new w mode text a b known number at reads same (Store code) (inr memory) course.pace,
+    λ is_strict. refl,
+  )
+
+  -- the form that the text begins with was refused, and the session is strict
+  strict_stops : (wanted : Wanted) (course later : Course) (old new : StoreView D R) (w : WorldState) (text : List ℕ) (a b : Option (List ℕ)) (start next number : ℕ) (place : Place)
+      → AnswersRead functions state course later old new w wanted text a b start next (Err (ways.Unaccepted number place)) → start ≤ length text
+      → StopsStrict functions state old new w wanted.mode text a b course.pace course.forms course.bytes number place
+  strict_stops wanted course later old new w text a b start next number place (is_strict, passes, refuses, forms_is, start_is, at_is) within = record {
+    forms = 1;
+    far = passes.far;
+    advances = passes.advances;
+    later = later.pace;
+    paced = passes.paced;
+    accepted = 0;
+    one_more = refl;
+    before = begun w text;
+    before_is = refl;
+    none_refused = refl;
+    start = start;
+    refuses = refuses;
+    is_place = place_at_once course text start start place forms_is start_is at_is within;
+    begins = start_is ∙ sym at_is;
+  }
+
+  -- the session ended in the form that the text begins with
+  pub read_ended : (wanted : Wanted) (course later : Course) (old new : StoreView D R) (w : WorldState) (text : List ℕ) (a b : Option (List ℕ)) (start next : ℕ) (ended : Ended)
+      → AnswersRead functions state course later old new w wanted text a b start next (Err ended) → start ≤ length text → HasEndedAt functions state wanted.strict course old new w wanted.mode text a b ended
+  read_ended wanted course later old new w text a b start next ways.End is within = absurd is
+  read_ended wanted course later old new w text a b start next (ways.Unreadable number place) is within = absurd is
+  read_ended wanted course later old new w text a b start next (ways.Unaccepted number place) is within = (is.0, strict_stops wanted course later old new w text a b start next number place is within)
+  read_ended wanted course later old new w text a b start next (ways.Store number) is within = ends_at_once wanted.strict course old new w wanted.mode text a b number is
+
+  pub read_at_end : (wanted : Wanted) (course later : Course) (old new : StoreView D R) (w : WorldState) (text : List ℕ) (a b : Option (List ℕ)) (start next : ℕ) (ended : Ended)
+      → AnswersRead functions state course later old new w wanted text a b start next (Err ended) → start ≤ length text → EndsAt functions state wanted.strict course old new w wanted.mode text a b ended
+  read_at_end wanted course later old new w text a b start next ways.End is within = absurd is
+  read_at_end wanted course later old new w text a b start next (ways.Unreadable number place) is within = absurd is
+  read_at_end wanted course later old new w text a b start next (ways.Unaccepted number place) is within = (is.0, strict_stops wanted course later old new w text a b start next number place is within)
+  read_at_end wanted course later old new w text a b start next (ways.Store number) is within = (is.0.serves, is.1, λ is_strict. is.0.accepted)
+
+  -- a form that was passed, by its offsets in the text
+  pub at_starts : (course later : Course) (old new : StoreView D R) (w : WorldState) (wanted : Wanted) (text : List ℕ) (a b : Option (List ℕ)) (start next from to : ℕ) (refusals : List ℕ) → from ≡ start → to ≡ next
+      → PassesForm functions state course later old new w wanted text a b start next refusals → PassesForm functions state course later old new w wanted text a b from to refusals
+  at_starts course later old new w wanted text a b start next from to refusals start_is next_is passes = record {
+    far = passes.far;
+    advances = passes.advances;
+    paced = passes.paced;
+    forms = passes.forms;
+    bytes = passes.bytes ∙ ap (λ n. course.bytes + n) (sym next_is);
+    refused_are = passes.refused_are;
+  }
+
+  -- a form that was answered, and whose bytes were passed
+  pub passes_form : (course mid later : Course) (old new : StoreView D R) (w : WorldState) (wanted : Wanted) (text : List ℕ) (a b : Option (List ℕ)) (start next : ℕ) (answered : Answered)
+      → AnswersForm functions state old new w wanted.mode course.pace mid.pace text a b (Ok answered) → mid.forms ≡ course.forms → mid.bytes ≡ course.bytes → later ≡ pass next mid
+      → (far : Progress) × PassesForm functions state course later old new w wanted text a b start next far.refused × TellsForm functions w wanted.mode text far answered
+  passes_form course mid later old new w wanted text a b start next answered is forms bytes passed = (
+    is.0,
+    record {
+      far = is.0;
+      advances = is.1;
+      paced = subst (λ (k : Course). Paces functions old.limit w is.0.taken course.pace k.pace (fill_of old) (fill_of new)) (sym passed) is.2;
+      forms = ap (λ (k : Course). k.forms) passed ∙ ap (λ n. n + 1) forms;
+      bytes = ap (λ (k : Course). k.bytes) passed ∙ ap (λ n. n + next) bytes;
+      refused_are = refl;
+    },
+    is.3,
+  )
+
+  -- it was refused where it begins
+  pub refused_there : (course later : Course) (old new : StoreView D R) (w : WorldState) (wanted : Wanted) (text : List ℕ) (a b : Option (List ℕ)) (x : Object) (own : List ℕ) (start next number : ℕ) (far : Progress) (place : Place)
+      → wanted.strict ≡ true → (passes : PassesForm functions state course later old new w wanted text a b start next far.refused) → TellsForm functions w wanted.mode text far (Refused number)
+      → (n : ℕ) (begins : BeginsWith functions w wanted.mode text x own n) → begins.start ≡ start → place.forms ≡ course.forms → place.start ≡ course.bytes + start → place.at ≡ course.bytes + start
+      → AnswersRead functions state course later old new w wanted text a b start next (Err (ways.Unaccepted number place))
+  refused_there course later old new w wanted text a b x own start next number far place strict passes tells n begins start_is forms_is first_is at_is =
+      let told = tells.1 in
+      let same : told.0 ≡ begins.start = let one = sym told.1.reads ∙ begins.reads in cc in (
+        strict,
+        subst (λ l. PassesForm functions state course later old new w wanted text a b start next l) tells.0 passes,
+        subst (λ k. IsUnaccepted functions w wanted.mode text number k) (same ∙ start_is) told.1,
+        forms_is,
+        first_is,
+        at_is,
+      )

@@ -1,0 +1,67 @@
+use Rattle.std.proofs.Common.{◌≤◌, arith, refl, subst, sym}
+use Rattle.lisp_object.specs.Datum.{object_of}
+use Rattle.prevalence_store.specs.declared.session.answer.Answered.{Answered}
+use Rattle.prevalence_store.specs.steps.Answer.{TellsForm}
+use Rattle.prevalence_store.specs.steps.Course.{Course, course_of}
+use Rattle.prevalence_store.specs.steps.Schedule.{pace_of}
+use Rattle.prevalence_store.proofs.steps.EndedAt.{passes_form, refused_there, tells_accepted}
+use Rattle.prevalence_store.proofs.steps.Pieces.{begins_as}
+use Rattle.prevalence_store.proofs.store.Store.answer_read.Goals as goal
+
+pub returns-in-Err-clause-answers : goal.returns-in-Err-clause-answers
+returns-in-Err-clause-answers g c = λ w known text next begins start_is.
+    c.in-Err.ensures.answers w known text next
+    (begins_as g.R.Meaning.Meaning.functions w c.args.wanted.mode text (object_of c.args.form.now.datum) c.args.form.now.own.items c.as_slice-own.result.now next begins c.as_slice-own.ensures.value)
+
+pub returns-in-Refused-clause-answers : goal.returns-in-Refused-clause-answers
+returns-in-Refused-clause-answers g c = λ w known text next begins start_is.
+    let functions = g.R.Meaning.Meaning.functions in
+    let course = course_of c.args.course.now in
+    let mid : Course = record { pace = pace_of c.answer_form.new.schedule; forms = course.forms; bytes = course.bytes } in
+    let later = course_of c.pass.new.self in
+    let held = g.W.Write.contents c.args.writer.now in
+    let written = g.W.Write.contents c.answer_form.new.writer in
+    let it = c.args.form.now in
+    let again = begins_as functions w c.args.wanted.mode text (object_of it.datum) it.own.items c.as_slice-own.result.now next begins c.as_slice-own.ensures.value in
+    let passed = passes_form functions g.D.Disk.state course mid later c.args.self.now c.answer_form.new.self w c.args.wanted text held written it.start it.next c.in-Ok.answered
+    (c.in-Ok.ensures.answers w known text next again) refl refl c.pass.ensures in
+    let place = c.place-place.ensures in
+    refused_there functions g.D.Disk.state course later c.args.self.now c.answer_form.new.self w c.args.wanted text held written (object_of it.datum) it.own.items it.start it.next c.in-Refused.number passed.0 c.place-place.result
+    c.if-wanted.true passed.1 (subst (λ (a : Answered). TellsForm functions w c.args.wanted.mode text passed.0 a) c.in-Refused.is passed.2) next begins start_is place.0 place.1 place.2
+
+pub returns-in_default-clause-answers : goal.returns-in_default-clause-answers
+returns-in_default-clause-answers g c = λ w known text next begins start_is.
+    let functions = g.R.Meaning.Meaning.functions in
+    let course = course_of c.args.course.now in
+    let mid : Course = record { pace = pace_of c.answer_form.new.schedule; forms = course.forms; bytes = course.bytes } in
+    let later = course_of c.pass.new.self in
+    let held = g.W.Write.contents c.args.writer.now in
+    let written = g.W.Write.contents c.answer_form.new.writer in
+    let it = c.args.form.now in
+    let again = begins_as functions w c.args.wanted.mode text (object_of it.datum) it.own.items c.as_slice-own.result.now next begins c.as_slice-own.ensures.value in
+    let passed = passes_form functions g.D.Disk.state course mid later c.args.self.now c.answer_form.new.self w c.args.wanted text held written it.start it.next c.in-Ok.answered
+    (c.in-Ok.ensures.answers w known text next again) refl refl c.pass.ensures in
+    (passed.0.refused, passed.1, λ strict. tells_accepted functions w c.args.wanted.mode text passed.0 c.in-Ok.answered (λ number is. c.in_default.not-Refused number is) passed.2)
+
+pub returns-else-wanted-clause-answers : goal.returns-else-wanted-clause-answers
+returns-else-wanted-clause-answers g c = λ w known text next begins start_is.
+    let functions = g.R.Meaning.Meaning.functions in
+    let course = course_of c.args.course.now in
+    let mid : Course = record { pace = pace_of c.answer_form.new.schedule; forms = course.forms; bytes = course.bytes } in
+    let later = course_of c.pass.new.self in
+    let held = g.W.Write.contents c.args.writer.now in
+    let written = g.W.Write.contents c.answer_form.new.writer in
+    let it = c.args.form.now in
+    let again = begins_as functions w c.args.wanted.mode text (object_of it.datum) it.own.items c.as_slice-own.result.now next begins c.as_slice-own.ensures.value in
+    let passed = passes_form functions g.D.Disk.state course mid later c.args.self.now c.answer_form.new.self w c.args.wanted text held written it.start it.next c.in-Ok.answered
+    (c.in-Ok.ensures.answers w known text next again) refl refl c.pass.ensures in
+    (passed.0.refused, passed.1, λ strict. let lax = c.if-wanted.false in absurd (cc))
+
+pub returns-in-Refused-clause-forms : goal.returns-in-Refused-clause-forms
+returns-in-Refused-clause-forms g c = subst (λ (k : Course). k.forms ≤ k.bytes) (sym c.pass.ensures) (omega (arith, c.requires.forms, c.requires.order))
+
+pub returns-in_default-clause-forms : goal.returns-in_default-clause-forms
+returns-in_default-clause-forms g c = subst (λ (k : Course). k.forms ≤ k.bytes) (sym c.pass.ensures) (omega (arith, c.requires.forms, c.requires.order))
+
+pub returns-else-wanted-clause-forms : goal.returns-else-wanted-clause-forms
+returns-else-wanted-clause-forms g c = subst (λ (k : Course). k.forms ≤ k.bytes) (sym c.pass.ensures) (omega (arith, c.requires.forms, c.requires.order))
