@@ -29,9 +29,9 @@ fn told_of(alloc: Global, strict: bool, most: usize, input: &[u8]) -> Result<Vec
     told(alloc, MemoryDisk::new(alloc), &calls)
 }
 
-/// Whether this session has this text, in pieces of 1, 7 and 4,096 bytes.
+/// Whether this session has this text, byte by byte and in one piece.
 fn is_told(alloc: Global, strict: bool, input: &[u8], wanted: &[u8]) -> Result<bool, Trouble> {
-    for most in [1, 7, 4_096] {
+    for most in [1, 4_096] {
         if told_of(alloc, strict, most, input)?.as_slice() != wanted {
             return Ok(false);
         }
