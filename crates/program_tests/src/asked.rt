@@ -1,13 +1,14 @@
 //! Calls of a store over a disk, one after the other, and the text of what they gave. No function here has a clause: so what
 //! the calls ensure is in no test.
 
+use crate::broken::{Kept, Pieces};
 use crate::by_name::ByName;
 use crate::files::{AMPLE, Trouble};
 use disk_trait::{Disk, MemoryDisk};
 use lisp_object::Datum;
-use prevalence_store::{Ending, Mode, Outcome, Step, Store};
+use prevalence_store::{Ended, Ending, Mode, Outcome, Place, Step, Store, Wanted};
 use std::alloc::Global;
-use std::io::{Error, Read, Result as IoResult, Write};
+use std::io::Write;
 use store_commands::{SixFunctions, write_half_line};
 
 /// A call of an open store, and the lines of it in the text.
@@ -15,6 +16,9 @@ use store_commands::{SixFunctions, write_half_line};
 pub enum Ask<'a> {
     /// A session: its answers, and `end`, `reader N` or `store N`.
     Serve(Serving<'a>),
+    /// A session that is strict or not, and tells where it ended: its answers, and `end`, `store N`, or `reader N` or `strict N`
+    /// with the forms before it and the places where it starts and is refused, as in `reader 4 forms 1 start 2 at 2`.
+    Wanted(bool, Serving<'a>),
     /// A form in this mode: `accepted 7` for an integer, `accepted` for another value, or `refused N`.
     Form(Mode, &'a [u8]),
     /// A snapshot: `snapshotted`, or `refused N`.
@@ -63,50 +67,6 @@ pub fn form(text: &[u8]) -> Ask<'_> {
     Ask::Form(Mode::Current, text)
 }
 
-/// Gives its text in pieces of at most so many bytes, and fails after so many reads.
-#[derive(Drop)]
-struct Pieces<'a> {
-    rest: &'a [u8],
-    most: usize,
-    reads: u64,
-}
-
-impl Read for Pieces<'_> {
-    fn read(&mut self, buf: &mut [u8]) -> IoResult<usize> {
-        if self.reads == 0 {
-            return Err(Error::other("no more reads"));
-        }
-        self.reads -= 1;
-        let count = buf.len().min(self.most).min(self.rest.len());
-        buf[..count].copy_from_slice(&self.rest[..count]);
-        self.rest = &self.rest[count..];
-        Ok(count)
-    }
-}
-
-/// Keeps so many bytes, and then fails.
-#[derive(Drop)]
-struct Kept {
-    text: Vec<u8>,
-    room: usize,
-}
-
-impl Write for Kept {
-    fn write(&mut self, buf: &[u8]) -> IoResult<usize> {
-        if self.room == 0 {
-            return Err(Error::other("no more room"));
-        }
-        let count = buf.len().min(self.room);
-        self.text.write_all(&buf[..count])?;
-        self.room -= count;
-        Ok(count)
-    }
-
-    fn flush(&mut self) -> IoResult<()> {
-        Ok(())
-    }
-}
-
 /// A line of a word and a number.
 fn number_line(text: &mut Vec<u8>, word: &str, number: i128) -> Result<(), Trouble> {
     match writeln!(text, "{word} {number}") {
@@ -124,6 +84,25 @@ fn ending_line(text: &mut Vec<u8>, ending: Ending) -> Result<(), Trouble> {
     }
 }
 
+/// The line of a refusal that ended a session, with its place.
+fn place_line(text: &mut Vec<u8>, word: &str, number: u16, place: Place) -> Result<(), Trouble> {
+    let Place { forms, start, at } = place;
+    match writeln!(text, "{word} {number} forms {forms} start {start} at {at}") {
+        Ok(()) => Ok(()),
+        Err(_) => Err(Trouble::Memory),
+    }
+}
+
+/// The line of how a session ended that tells where.
+fn ended_line(text: &mut Vec<u8>, ended: Ended) -> Result<(), Trouble> {
+    match ended {
+        Ended::End => Ok(text.extend_from_slice(b"end\n")?),
+        Ended::Unreadable(number, place) => place_line(text, "reader", number, place),
+        Ended::Unaccepted(number, place) => place_line(text, "strict", number, place),
+        Ended::Store(number) => number_line(text, "store", i128::from(number)),
+    }
+}
+
 /// The line of what a form or a snapshot gave.
 fn outcome_line(text: &mut Vec<u8>, outcome: &Outcome) -> Result<(), Trouble> {
     match outcome {
@@ -134,23 +113,46 @@ fn outcome_line(text: &mut Vec<u8>, outcome: &Outcome) -> Result<(), Trouble> {
     }
 }
 
+/// The reader and the writer of a session.
+fn streams(alloc: Global, session: Serving<'_>) -> (Pieces<'_>, Kept) {
+    let reader = Pieces {
+        rest: session.input,
+        most: session.most,
+        reads: session.reads,
+    };
+    let writer = Kept {
+        text: Vec::new(alloc),
+        room: session.room,
+    };
+    (reader, writer)
+}
+
 /// How a session ends, and what it writes.
 fn serve<D: Disk>(
     alloc: Global,
     store: &mut Store<D, ByName>,
     session: Serving<'_>,
 ) -> (Ending, Vec<u8>) {
-    let mut reader = Pieces {
-        rest: session.input,
-        most: session.most,
-        reads: session.reads,
-    };
-    let mut writer = Kept {
-        text: Vec::new(alloc),
-        room: session.room,
-    };
+    let (mut reader, mut writer) = streams(alloc, session);
     let ending = store.serve(&mut reader, &mut writer, session.mode, session.every);
     (ending, writer.text)
+}
+
+/// How a session ends that tells where, and what it writes.
+fn serve_wanted<D: Disk>(
+    alloc: Global,
+    store: &mut Store<D, ByName>,
+    strict: bool,
+    session: Serving<'_>,
+) -> (Ended, Vec<u8>) {
+    let (mut reader, mut writer) = streams(alloc, session);
+    let wanted = Wanted {
+        mode: session.mode,
+        snapshot_every: session.every,
+        strict,
+    };
+    let ended = store.serve_wanted(&mut reader, &mut writer, wanted);
+    (ended, writer.text)
 }
 
 /// The lines of a session, and that of its end.
@@ -163,6 +165,19 @@ fn session_lines<D: Disk>(
     let (ending, answers) = serve(alloc, store, session);
     text.extend_from_slice(answers.as_slice())?;
     ending_line(text, ending)
+}
+
+/// The same of a session that tells where it ended.
+fn wanted_lines<D: Disk>(
+    alloc: Global,
+    store: &mut Store<D, ByName>,
+    strict: bool,
+    session: Serving<'_>,
+    text: &mut Vec<u8>,
+) -> Result<(), Trouble> {
+    let (ended, answers) = serve_wanted(alloc, store, strict, session);
+    text.extend_from_slice(answers.as_slice())?;
+    ended_line(text, ended)
 }
 
 fn execute<D: Disk>(store: &mut Store<D, ByName>, mode: Mode, form: &[u8]) -> Outcome {
@@ -232,6 +247,7 @@ fn ask_one<D: Disk>(
 ) -> Result<(), Trouble> {
     match call {
         Ask::Serve(session) => session_lines(alloc, store, session, text),
+        Ask::Wanted(strict, session) => wanted_lines(alloc, store, strict, session, text),
         Ask::Form(mode, form) => form_line(store, mode, form, text),
         Ask::Snapshot => snapshot_line(store, text),
         Ask::Run(steps) => run(store, steps, text),

@@ -8,7 +8,8 @@
 //!
 //! - `asked` calls a store, `by_name` has the macro functions, `files` the bytes of disks, `broken` streams that fail
 //! - `rows`, `evaluation`, `read_base`, `sessions`, `refusals`: what forms are answered
-//! - `calls`, `silent`, `turns`, `snapshots`, `callers`: the calls of a store
+//! - `calls`, `silent`, `turns`, `snapshots`, `callers`: the calls of a store; `wanted`: a session that is strict, and tells where
+//!   it ended
 //! - `campaign`: a device that stops at each of its calls in turn, and each kind of crash after that; `stopped`: what exactly is
 //!   left of one form or snapshot; `altered`: files that were altered; `memory`: a macro function that finds no memory
 //! - `versions`: files of version 1; `upgrades`: the command that makes files of version 2 of them
@@ -69,5 +70,7 @@ mod turns;
 mod upgrades;
 #[cfg(test)]
 mod versions;
+#[cfg(test)]
+mod wanted;
 #[cfg(test)]
 mod words;
