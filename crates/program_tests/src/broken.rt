@@ -54,11 +54,12 @@ impl Read for Pieces<'_> {
     }
 }
 
-/// Keeps so many bytes, and then fails.
+/// Keeps so many bytes, and then fails. It notes that it found no memory.
 #[derive(Drop)]
 pub struct Kept {
     pub text: Vec<u8>,
     pub room: usize,
+    pub is_short: bool,
 }
 
 impl Write for Kept {
@@ -67,7 +68,10 @@ impl Write for Kept {
             return Err(Error::other("no more room"));
         }
         let count = buf.len().min(self.room);
-        self.text.write_all(&buf[..count])?;
+        if self.text.extend_from_slice(&buf[..count]).is_err() {
+            self.is_short = true;
+            return Err(Error::other("no memory"));
+        }
         self.room -= count;
         Ok(count)
     }

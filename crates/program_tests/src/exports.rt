@@ -6,9 +6,9 @@ use std::fs;
 use std::test::Fail;
 
 /// What a command over a folder writes.
-fn written(rt: &HostRuntime, folder: &str, words: &'static str) -> Result<Vec<u8>, AllocError> {
+fn written(rt: &HostRuntime, folder: &str, words: &'static str) -> Result<Vec<u8>, Fail> {
     let words = words_of(rt.alloc(), folder, words)?;
-    Ok(run(rt, Lack::Nothing, words.as_slice(), b"").output)
+    Ok(run(rt, Lack::Nothing, words.as_slice(), b"")?.output)
 }
 
 /// Whether a text has a line that is a refusal.

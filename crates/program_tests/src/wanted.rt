@@ -1,7 +1,7 @@
 //! A session that tells where it ended, and is strict or not.
 
 use crate::asked::{Ask, Serving, asked, session, told};
-use crate::files::{AMPLE, Trouble};
+use crate::files::{AMPLE, Trouble, asked_in_memory, unfailed};
 use disk_trait::{FuseDisk, MemoryDisk};
 use prevalence_store::Mode;
 use std::alloc::Global;
@@ -45,11 +45,11 @@ type Row = (&'static [u8], &'static [u8]);
 /// Sessions that are the same, whether they are strict or not: the reader refuses something, or nothing is refused.
 const READ: [Row; 9] = [
     (b"", b"end\nNIL\nend\n"),
+    (b"(SETF (GET 'A 'B) 7)\n(GET 'A 'B)", b"7\n7\nend\n7\nend\n"),
     (
-        b"(SETF (GET 'A 'B) 7)\n(GET 'A 'B)",
-        b"7\n7\nend\n7\nend\n",
+        b")",
+        b"! 4 STRAY-CLOSE\nreader 4 forms 0 start 0 at 0\nNIL\nend\n",
     ),
-    (b")", b"! 4 STRAY-CLOSE\nreader 4 forms 0 start 0 at 0\nNIL\nend\n"),
     (
         b"(SETF (GET 'A 'B) 7)\n  (LIST 1 1.5) 8",
         b"7\n! 7 FLOAT-TOKEN\nreader 7 forms 1 start 23 at 34\n7\nend\n",
@@ -118,9 +118,15 @@ fn refusal_of(alloc: Global, row: &str) -> Result<Refusal, Fail> {
     let (number, rest) = row.split_once(' ').unwrap_or((row, ""));
     let (name, form) = rest.split_once(' ').unwrap_or((rest, ""));
     let mut input = Vec::new(alloc);
-    writeln!(input, "(SETF (GET 'A 'B) 7)\n;;\n  {form} (SETF (GET 'A 'B) 8)")?;
+    writeln!(
+        input,
+        "(SETF (GET 'A 'B) 7)\n;;\n  {form} (SETF (GET 'A 'B) 8)"
+    )?;
     let mut strict = Vec::new(alloc);
-    writeln!(strict, "7\n! {number} {name}\nstrict {number} forms 1 start 26 at 26\n7\nend")?;
+    writeln!(
+        strict,
+        "7\n! {number} {name}\nstrict {number} forms 1 start 26 at 26\n7\nend"
+    )?;
     let mut lax = Vec::new(alloc);
     writeln!(lax, "7\n! {number} {name}\n8\nend\n8\nend")?;
     Ok(Refusal { input, strict, lax })
@@ -130,8 +136,10 @@ fn refusal_of(alloc: Global, row: &str) -> Result<Refusal, Fail> {
 fn is_refused(alloc: Global, row: &str) -> Result<bool, Fail> {
     let Refusal { input, strict, lax } = refusal_of(alloc, row)?;
     let input = input.as_slice();
-    Ok(is_told(alloc, true, input, strict.as_slice())?
-        && is_told(alloc, false, input, lax.as_slice())?)
+    Ok(
+        is_told(alloc, true, input, strict.as_slice())?
+            && is_told(alloc, false, input, lax.as_slice())?,
+    )
 }
 
 #[test]
@@ -173,10 +181,34 @@ const BROKEN: [Broken; 5] = [
         AMPLE,
         b"1\n2\n3\nend\nhalf B generation 2 records 1\n",
     ),
-    (0, 1, usize::MAX, AMPLE, b"1\n2\n3\nstore 67\nhalf A generation 1 records 3\n"),
-    (0, u64::MAX, 3, AMPLE, b"1\n2store 68\nhalf A generation 1 records 2\n"),
-    (0, u64::MAX, usize::MAX, 202, b"1\n2\n3\nend\nhalf A generation 3 records 1\n"),
-    (0, u64::MAX, usize::MAX, 154, b"store 64\nhalf B generation 2 records 0\n"),
+    (
+        0,
+        1,
+        usize::MAX,
+        AMPLE,
+        b"1\n2\n3\nstore 67\nhalf A generation 1 records 3\n",
+    ),
+    (
+        0,
+        u64::MAX,
+        3,
+        AMPLE,
+        b"1\n2store 68\nhalf A generation 1 records 2\n",
+    ),
+    (
+        0,
+        u64::MAX,
+        usize::MAX,
+        202,
+        b"1\n2\n3\nend\nhalf A generation 3 records 1\n",
+    ),
+    (
+        0,
+        u64::MAX,
+        usize::MAX,
+        154,
+        b"store 64\nhalf B generation 2 records 0\n",
+    ),
 ];
 
 /// Whether a strict session of a row has its text.
@@ -191,7 +223,7 @@ fn is_broken(alloc: Global, row: Broken) -> Result<bool, Trouble> {
         room,
     };
     let calls = [Ask::Wanted(true, session), Ask::Half];
-    let (text, _disk) = asked(alloc, MemoryDisk::new(alloc), limit, &calls)?;
+    let (text, _disk) = asked_in_memory(alloc, MemoryDisk::new(alloc), limit, &calls)?;
     Ok(text.as_slice() == wanted)
 }
 
@@ -199,7 +231,8 @@ fn is_broken(alloc: Global, row: Broken) -> Result<bool, Trouble> {
 fn with_calls(alloc: Global, calls: u64) -> Result<Vec<u8>, Trouble> {
     let disk = FuseDisk::new(MemoryDisk::new(alloc), calls);
     let session = Ask::Wanted(true, in_pieces(4_096, THREE));
-    let (text, _disk) = asked(alloc, disk, AMPLE, &[session, session])?;
+    let (text, disk) = asked(alloc, disk, AMPLE, &[session, session])?;
+    let _disk = unfailed(disk.into_inner())?;
     Ok(text)
 }
 
@@ -211,7 +244,7 @@ fn stopped(alloc: Global) -> Result<Vec<u8>, Trouble> {
             return Ok(text);
         }
     }
-    Err(Trouble::Device)
+    Err(Trouble::Endless)
 }
 
 #[test]
